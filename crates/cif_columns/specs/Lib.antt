@@ -1,0 +1,9 @@
+pub mod Activities
+pub mod Day
+pub mod DaysRun
+pub mod Digits
+pub mod Field
+pub mod Line
+pub mod Stp
+pub mod Text
+pub mod Time
