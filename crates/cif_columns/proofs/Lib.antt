@@ -5,3 +5,4 @@ pub mod Texts
 pub mod Parts
 pub mod TextOrder
 pub mod Codes
+pub mod DayDigits

@@ -7,3 +7,4 @@ pub mod Line
 pub mod Stp
 pub mod Text
 pub mod Time
+pub mod DayDigits

@@ -17,7 +17,7 @@ mod uid;
 pub use activities::Activities;
 pub use day::Day;
 pub use days_run::DaysRun;
-pub use field::{Field, field_at};
+pub use field::{Field, column_at, columns_at, field_at, text_at, uid_at};
 pub use line::Line;
 pub use line_builder::LineBuilder;
 pub use refusal::Refusal;

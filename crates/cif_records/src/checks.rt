@@ -1,0 +1,96 @@
+//! The checks that record kinds share.
+ghost use Rattle.std.specs.Prelude.{◌≡◌, ◌≤◌, ◌+◌, ◌∷◌, [], Some, IfOk};
+ghost use Rattle.cif_columns.specs.Day.{yymmdd_in};
+ghost use Rattle.cif_columns.specs.Field.{StandsIn, columns, columns_from, date, indicator, weekdays};
+ghost use Rattle.cif_records.specs.Checks.{IsJudged, identity_refusal, transaction_refusal, date_refusal, dates_refusal, last_date_refusal, days_refusal, letter_refusal};
+
+use cif_columns::{Day, DaysRun, Line, Refusal, Stp, column_at, columns_at, field_at};
+
+/// Whether columns 1 and 2 are the identity of a kind.
+pub(crate) fn check_identity(line: &Line, letters: &[u8; 2]) -> Result<(), Refusal>
+    ensures { IsJudged (identity_refusal letters.now line.now) (λ _. columns 1 2 line.now ≡ letters.now) result }
+{
+    if columns_at::<2>(line, 1) == *letters {
+        Ok(())
+    } else {
+        Err(Refusal::UnknownRecord)
+    }
+}
+
+/// Whether column 3 is the transaction type of a full extract, `N`.
+pub(crate) fn check_transaction(line: &Line) -> Result<(), Refusal>
+    ensures { IsJudged (transaction_refusal line.now) (λ _. columns 3 3 line.now ≡ 78 ∷ []) result }
+{
+    if columns_at(line, 3) == *b"N" {
+        Ok(())
+    } else {
+        Err(Refusal::NotFull)
+    }
+}
+
+/// The first and the last date of a record.
+#[derive(Clone, Copy)]
+pub(crate) struct Dates {
+    pub(crate) first: Day,
+    pub(crate) last: Day,
+    ghost in_order: { first ≤ last },
+}
+
+/// The dates in the twelve columns of a line from `at` on, counted from 1.
+pub(crate) fn dates_at(line: &Line, at: usize) -> Result<Dates, Refusal>
+    requires from_one { 1 ≤ at }
+    requires within { at ≤ 69 }
+    ensures { IsJudged (dates_refusal (columns_from at 6 line.now) (columns_from (at + 6) 6 line.now))
+        (λ dates. StandsIn (columns_from at 6 line.now) (date dates.first)
+        × StandsIn (columns_from (at + 6) 6 line.now) (date dates.last)) result }
+{
+    let first = date_at(line, at)?;
+    let last = last_date_at(line, at + 6)?;
+    if first <= last {
+        Ok(Dates { first, last })
+    } else {
+        Err(Refusal::DatesReversed)
+    }
+}
+
+/// The date in the six columns of a line from `at` on, counted from 1.
+fn date_at(line: &Line, at: usize) -> Result<Day, Refusal>
+    requires from_one { 1 ≤ at }
+    requires within { at ≤ 75 }
+    ensures judged { IsJudged (date_refusal (columns_from at 6 line.now))
+        (λ day. StandsIn (columns_from at 6 line.now) (date day)) result }
+    ensures exact { IfOk result (λ day. yymmdd_in (columns_from at 6 line.now) ≡ Some day) }
+{
+    field_at(line, at).ok_or(Refusal::BadDate)
+}
+
+/// The last date in the six columns of a line from `at` on, counted from 1.
+fn last_date_at(line: &Line, at: usize) -> Result<Day, Refusal>
+    requires from_one { 1 ≤ at }
+    requires within { at ≤ 75 }
+    ensures judged { IsJudged (last_date_refusal (columns_from at 6 line.now))
+        (λ day. StandsIn (columns_from at 6 line.now) (date day)) result }
+    ensures exact { IfOk result (λ day. yymmdd_in (columns_from at 6 line.now) ≡ Some day) }
+{
+    if columns_at(line, at) == *b"999999" {
+        return Err(Refusal::OpenEnd);
+    }
+    date_at(line, at)
+}
+
+/// The mask in the seven columns of a line from `at` on, counted from 1.
+pub(crate) fn days_at(line: &Line, at: usize) -> Result<DaysRun, Refusal>
+    requires from_one { 1 ≤ at }
+    requires within { at ≤ 74 }
+    ensures { IsJudged (days_refusal (columns_from at 7 line.now))
+        (λ days. StandsIn (columns_from at 7 line.now) (weekdays days)) result }
+{
+    field_at(line, at).ok_or(Refusal::BadDays)
+}
+
+/// The indicator in column 80.
+pub(crate) fn letter_of(line: &Line) -> Result<Stp, Refusal>
+    ensures { IsJudged (letter_refusal line.now) (λ letter. StandsIn (columns 80 80 line.now) (indicator letter)) result }
+{
+    Stp::read(column_at(line, 80)).ok_or(Refusal::BadStp)
+}

@@ -1,0 +1,15 @@
+//! The records of the CIF timetable format, read from a line and written to one.
+#![tactic(auto)]
+
+mod assoc_body;
+mod assoc_key;
+mod association;
+mod checks;
+mod kind;
+mod trailer;
+
+pub use assoc_body::AssocBody;
+pub use assoc_key::AssocKey;
+pub use association::Association;
+pub use kind::{Kind, kind_of};
+pub use trailer::Trailer;
