@@ -1,9 +1,12 @@
 pub mod Activities
+pub mod Clock
 pub mod Day
 pub mod DaysRun
 pub mod Digits
 pub mod Field
 pub mod Line
+pub mod PublicTime
 pub mod Stp
 pub mod Text
-pub mod Time
+pub mod Uid
+pub mod WorkTime
