@@ -7,7 +7,7 @@ use Rattle.jiff_core.specs.Calendar.{day_count, days_from_civil}
 use Rattle.jiff_core.proofs.SignedLemmas.{signed_arith}
 use Rattle.jiff_core.proofs.MarchLemmas.{day_count-early}
 use Rattle.jiff_core.proofs.CalendarLemmas.{day_count-lt_year, days_from_civil-day_count, day_count-day, day_count-next_month, day_count-next_year, day_count-last_of_year, days_in_month_bounds}
-use Rattle.cif_columns.specs.Day.{IsDay, IsDated, IsYymmdd, IsDdmmyy, year_of}
+use Rattle.cif_columns.specs.Day.{IsDay, IsDated, StandsInYymmdd, StandsInDdmmyy, year_of}
 use Rattle.cif_columns.specs.DayDigits.{CalendarDate, next_date, date_of, yymmdd_of, ddmmyy_of}
 use Rattle.cif_columns.specs.Digits.{two_digits}
 use Rattle.cif_columns.proofs.Dates.{number_is_day, one_yymmdd, one_ddmmyy}
@@ -120,13 +120,13 @@ dated n h =
     }
 
 -- and so are its digits
-pub yymmdd_of_names : (n : ℕ) → IsDay n → IsYymmdd (yymmdd_of n) n
+pub stands-yymmdd_of : (n : ℕ) → IsDay n → StandsInYymmdd (yymmdd_of n) n
 unfolding yymmdd_of
-yymmdd_of_names n h = record { yy = _; month = _; day = _; spelled = refl; dated = dated n h }
+stands-yymmdd_of n h = record { yy = _; month = _; day = _; spelled = refl; dated = dated n h }
 
-pub ddmmyy_of_names : (n : ℕ) → IsDay n → IsDdmmyy (ddmmyy_of n) n
+pub stands-ddmmyy_of : (n : ℕ) → IsDay n → StandsInDdmmyy (ddmmyy_of n) n
 unfolding ddmmyy_of
-ddmmyy_of_names n h = record { yy = _; month = _; day = _; spelled = refl; dated = dated n h }
+stands-ddmmyy_of n h = record { yy = _; month = _; day = _; spelled = refl; dated = dated n h }
 
 -- a day that digits name is one of the hundred years
 is_day : (yy month day n : ℕ) → IsDated yy month day n → IsDay n
@@ -134,13 +134,15 @@ is_day yy month day n h =
     let years : (1960 ≤ year_of yy) × (year_of yy ≤ 2059) = (let short = h.year in grind (arith, nat_tests)) in
     number_is_day h.date n (rw h.on.0 (omega (arith, signed_arith), omega (arith, signed_arith))) h.number
 
--- and they are the digits that counting gives
-pub yymmdd_is : (columns : List ℕ) (n : ℕ) → IsYymmdd columns n → (columns ≡ yymmdd_of n) × IsDay n
-yymmdd_is columns n h =
-    let day = is_day _ _ _ n h.dated in
-    (one_yymmdd columns (yymmdd_of n) n h (yymmdd_of_names n day), day)
+pub is_day-yymmdd : (columns : List ℕ) (n : ℕ) → StandsInYymmdd columns n → IsDay n
+is_day-yymmdd columns n h = is_day _ _ _ n h.dated
 
-pub ddmmyy_is : (columns : List ℕ) (n : ℕ) → IsDdmmyy columns n → (columns ≡ ddmmyy_of n) × IsDay n
-ddmmyy_is columns n h =
-    let day = is_day _ _ _ n h.dated in
-    (one_ddmmyy columns (ddmmyy_of n) n h (ddmmyy_of_names n day), day)
+pub is_day-ddmmyy : (columns : List ℕ) (n : ℕ) → StandsInDdmmyy columns n → IsDay n
+is_day-ddmmyy columns n h = is_day _ _ _ n h.dated
+
+-- and they are the digits that counting gives
+pub yymmdd_of-stands : (columns : List ℕ) (n : ℕ) → StandsInYymmdd columns n → columns ≡ yymmdd_of n
+yymmdd_of-stands columns n h = one_yymmdd columns (yymmdd_of n) n h (stands-yymmdd_of n (is_day-yymmdd columns n h))
+
+pub ddmmyy_of-stands : (columns : List ℕ) (n : ℕ) → StandsInDdmmyy columns n → columns ≡ ddmmyy_of n
+ddmmyy_of-stands columns n h = one_ddmmyy columns (ddmmyy_of n) n h (stands-ddmmyy_of n (is_day-ddmmyy columns n h))

@@ -1,7 +1,9 @@
 pub mod Dates
+pub mod DayColumns
 pub mod DigitsLemmas
 pub mod Masks
 pub mod Texts
+pub mod Times
 pub mod Parts
 pub mod TextOrder
 pub mod Codes

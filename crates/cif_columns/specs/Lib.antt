@@ -1,10 +1,13 @@
 pub mod Activities
+pub mod Clock
 pub mod Day
+pub mod DayDigits
 pub mod DaysRun
 pub mod Digits
 pub mod Field
 pub mod Line
+pub mod PublicTime
 pub mod Stp
 pub mod Text
-pub mod Time
-pub mod DayDigits
+pub mod Uid
+pub mod WorkTime

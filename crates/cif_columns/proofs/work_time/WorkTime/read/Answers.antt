@@ -1,0 +1,6 @@
+use Rattle.std.proofs.Common.{sym, ◌∙◌}
+use Rattle.cif_columns.proofs.Times.{work-stands}
+use Rattle.cif_columns.proofs.work_time.WorkTime.read.Goals as goal
+
+pub returns-then-is_work_time-clause-found : goal.returns-then-is_work_time-clause-found
+returns-then-is_work_time-clause-found c = work-stands _ c.told-columns (sym c.is_work_time.ensures ∙ c.if-is_work_time.true)

@@ -1,0 +1,23 @@
+-- Hours and minutes, which working and public times share.
+use Rattle.std.specs.Prelude.{◌≡◌, ℕ, ◌+◌, ◌-◌, ◌*◌, ◌<◌, Bool, ◌&&◌, ◌==◌, nat_lt, List, ◌++◌}
+use Rattle.std.specs.Char.{is_ascii_digit}
+use Rattle.std.specs.List.{list_all}
+use Rattle.cif_columns.specs.Digits.{two_digits}
+
+-- HHMM: two digits of an hour up to 23 and two of a minute up to 59
+pub record IsHourMinute (columns : List ℕ) : Type 0 where
+  pub hour : ℕ
+  pub minute : ℕ
+  pub hour_in : hour < 24
+  pub minute_in : minute < 60
+  pub spelled : columns ≡ two_digits hour ++ two_digits minute
+
+-- whether these four columns are an hour and a minute
+abbrev pub is_clock : ℕ → ℕ → ℕ → ℕ → Bool
+is_clock a b c d =
+    (is_ascii_digit a && is_ascii_digit b && is_ascii_digit c && is_ascii_digit d)
+    && nat_lt ((a - 48) * 10 + (b - 48)) 24 && nat_lt ((c - 48) * 10 + (d - 48)) 60
+
+-- whether all columns are spaces
+abbrev pub is_blank : List ℕ → Bool
+is_blank columns = list_all (λ c. c == 32) columns

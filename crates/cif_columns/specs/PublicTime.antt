@@ -1,0 +1,22 @@
+-- Public times: four columns as they stand.
+use Rattle.std.specs.Prelude.{◌≡◌, ℕ, Bool, ◌||◌, ◌⊎◌, List, replicate, Option, Some, None, slice_index, if◌then◌else◌}
+use Rattle.cif_columns.specs.Clock.{IsHourMinute, is_clock, is_blank}
+
+-- four spaces, or an hour and a minute
+abbrev pub IsPublicTime : List ℕ → Type 0
+IsPublicTime columns = (columns ≡ replicate 4 32) ⊎ IsHourMinute columns
+
+-- the columns are the public time
+pub record StandsIn (columns time : List ℕ) : Type 0 where
+  pub same : columns ≡ time
+  pub form : IsPublicTime columns
+
+-- whether four columns are a public time
+abbrev pub is_public_time : List ℕ → Bool
+is_public_time columns =
+    is_blank columns
+    || is_clock (slice_index columns 0) (slice_index columns 1) (slice_index columns 2) (slice_index columns 3)
+
+-- the public time in four columns
+abbrev pub public_time_in : List ℕ → Option (List ℕ)
+public_time_in columns = if is_public_time columns then Some columns else None
