@@ -1,20 +1,29 @@
-//! The columns of the timetable's lines: days, masks, letters, texts and the lines themselves.
+//! Lines of eighty columns, read from any source and written to any sink, and the values that
+//! stand in their columns.
 #![tactic(auto)]
 
 mod activities;
+mod ahead;
 mod clock;
 mod day;
 mod days_run;
 mod digits;
 mod field;
+mod first_line;
 mod line;
 mod line_builder;
+mod line_fault;
+mod line_reader;
 mod public_time;
+mod read_device;
 mod refusal;
+mod sink;
+mod source;
 mod stp;
 mod text;
 mod uid;
 mod work_time;
+mod write_device;
 
 pub use activities::Activities;
 pub use day::Day;
@@ -22,9 +31,15 @@ pub use days_run::DaysRun;
 pub use field::{Field, column_at, columns_at, field_at, text_at, uid_at};
 pub use line::Line;
 pub use line_builder::LineBuilder;
+pub use line_fault::LineFault;
+pub use line_reader::{LineReader, MAX_LINES};
 pub use public_time::PublicTime;
+pub use read_device::ReadDevice;
 pub use refusal::Refusal;
+pub use sink::{Sink, WriteFault};
+pub use source::{ReadFault, Source};
 pub use stp::Stp;
 pub use text::{Text, order_of_columns};
 pub use uid::Uid;
 pub use work_time::WorkTime;
+pub use write_device::WriteDevice;
