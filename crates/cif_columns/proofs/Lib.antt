@@ -5,6 +5,7 @@ pub mod DayDigits
 pub mod DecidedLines
 pub mod DigitsLemmas
 pub mod FeedPlaces
+pub mod FieldLaws
 pub mod FoundInHeld
 pub mod HeldBytes
 pub mod LineAnswers

@@ -1,15 +1,9 @@
 -- What a chain of checks says.
-use Rattle.std.proofs.Common.{◌≡◌, ◌<◌, ◌≤◌, ℕ, List, [], ◌∷◌, Option, Some, None, is_some, IfSome, Result, Ok, Err, sym, ap, ◌∙◌, nat_le, true, false, arith}
-use Rattle.std.specs.Prelude.{slice_index}
-use Rattle.std.specs.Option.{ok_or}
+use Rattle.std.proofs.Common.{◌≡◌, ◌≤◌, ℕ, List, Option, Some, None, Result, Ok, Err, nat_le, true, arith}
 use Rattle.std.proofs.lemmas.Bool.Decides.{nat_tests}
 use Rattle.cif_columns.specs.declared.refusal.Refusal.{Refusal}
-use Rattle.cif_columns.specs.declared.refusal.Refusal.TheVariants.{DatesReversed, BadStp}
-use Rattle.cif_columns.specs.declared.stp.Stp.{Stp}
 use Rattle.cif_columns.specs.Day.{yymmdd_in}
-use Rattle.cif_columns.specs.Field.{StandsIn, indicator}
-use Rattle.cif_columns.specs.Stp.{letter, stp_in}
-use Rattle.cif_records.specs.Checks.{IsJudged, unless, last_date_refusal, dates_refusal}
+use Rattle.cif_records.specs.Checks.{IsJudged, last_date_refusal, dates_refusal}
 
 -- the exit of a check that refused
 pub judged_err : {T : Type 0} (P : T → Type 0) (refusal : Option Refusal) (result : Result T Refusal) (why : Refusal) → result ≡ Err why → refusal ≡ Some why → IsJudged refusal P result
@@ -29,17 +23,3 @@ pub dates_judged : (first last : List ℕ) (m n : ℕ) → yymmdd_in first ≡ S
 dates_judged first last m n a b c h =
     let test : nat_le m n ≡ true = grind (arith, nat_tests) in
     rw (b, a, c, test)
-
--- and where the second is before the first
-pub dates_reversed : (first last : List ℕ) (m n : ℕ) → yymmdd_in first ≡ Some m → last_date_refusal last ≡ None → yymmdd_in last ≡ Some n → n < m → dates_refusal first last ≡ Some DatesReversed
-dates_reversed first last m n a b c h =
-    let test : nat_le m n ≡ false = grind (arith, nat_tests) in
-    rw (b, a, c, test)
-
--- the letter of a column
-pub letter_judged : (columns : List ℕ) (column : ℕ) (found : Option Stp) (result : Result Stp Refusal) (refusal : Option Refusal) → columns ≡ column ∷ [] → found ≡ stp_in column → IfSome found (λ stp. column ≡ letter stp)
-    → refusal ≡ unless (is_some (stp_in (slice_index columns 0))) BadStp → result ≡ ok_or found BadStp → IsJudged refusal (λ stp. StandsIn columns (indicator stp)) result
-letter_judged columns column (Some stp) result refusal one exact stands is given =
-    rw given (is ∙ ap (λ c. unless (is_some (stp_in (slice_index c 0))) BadStp) one ∙ ap (λ s. unless (is_some s) BadStp) (sym exact), one ∙ ap (λ c. c ∷ []) stands)
-letter_judged columns column None result refusal one exact stands is given =
-    rw given (is ∙ ap (λ c. unless (is_some (stp_in (slice_index c 0))) BadStp) one ∙ ap (λ s. unless (is_some s) BadStp) (sym exact))

@@ -1,1 +1,3 @@
+pub mod Associations
+pub mod Headers
 pub mod Judging

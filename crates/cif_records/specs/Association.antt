@@ -1,37 +1,35 @@
 -- AA: an association of two trains, its columns, and the reasons to refuse one.
-use Rattle.std.specs.Prelude.{ℕ, List, [], ◌∷◌, Option, codes}
+use Rattle.std.specs.Prelude.{ℕ, Bool, List, [], ◌∷◌, Option, codes}
 use Rattle.cif_columns.specs.Field.{Row, row, columns, AllStandIn, exactly, text, date, weekdays, indicator, spare}
 use Rattle.cif_columns.specs.declared.refusal.Refusal.{Refusal}
+use Rattle.cif_columns.specs.declared.stp.Stp.{Stp}
 use Rattle.cif_records.specs.AssocBody.{of_body}
 use Rattle.cif_records.specs.Checks.{first_of, identity_refusal, transaction_refusal, dates_refusal, days_refusal, letter_refusal}
-use Rattle.cif_records.specs.declared.association.Association.{Association}
+use Rattle.cif_records.specs.declared.assoc_body.AssocBody.{AssocBody}
+use Rattle.cif_records.specs.declared.assoc_key.AssocKey.{AssocKey}
 
 -- the columns of an association
-abbrev pub association_table : Association → List Row
-association_table r =
+abbrev pub association_table : AssocKey → ℕ → ℕ → List Bool → Stp → Option AssocBody → List Row
+association_table key first last days letter body =
     row 1 2 (exactly (codes "AA"))
     ∷ row 3 3 (exactly (codes "N"))
-    ∷ row 4 9 (exactly r.key.base)
-    ∷ row 10 15 (exactly r.key.associated)
-    ∷ row 16 21 (date r.first)
-    ∷ row 22 27 (date r.last)
-    ∷ row 28 34 (weekdays r.days)
-    ∷ row 35 36 (of_body r.body (λ b. text b.category))
-    ∷ row 37 37 (of_body r.body (λ b. text b.date_indicator))
-    ∷ row 38 44 (text r.key.location)
-    ∷ row 45 45 (text r.key.base_suffix)
-    ∷ row 46 46 (text r.key.associated_suffix)
-    ∷ row 47 47 (of_body r.body (λ b. text b.diagram))
-    ∷ row 48 48 (of_body r.body (λ b. text b.kind))
+    ∷ row 4 9 (exactly key.base)
+    ∷ row 10 15 (exactly key.associated)
+    ∷ row 16 21 (date first)
+    ∷ row 22 27 (date last)
+    ∷ row 28 34 (weekdays days)
+    ∷ row 35 36 (of_body body (λ b. text b.category))
+    ∷ row 37 37 (of_body body (λ b. text b.date_indicator))
+    ∷ row 38 44 (text key.location)
+    ∷ row 45 45 (text key.base_suffix)
+    ∷ row 46 46 (text key.associated_suffix)
+    ∷ row 47 47 (of_body body (λ b. text b.diagram))
+    ∷ row 48 48 (of_body body (λ b. text b.kind))
     ∷ row 49 79 spare
-    ∷ row 80 80 (indicator r.letter)
+    ∷ row 80 80 (indicator letter)
     ∷ []
 
--- the line spells the association
-abbrev pub SpellsAssociation : List ℕ → Association → Type 0
-SpellsAssociation line r = AllStandIn line (association_table r)
-
--- the first reason to refuse the line as an association
+-- the first reason to refuse a line as an association
 unfoldable pub association_refusal : List ℕ → Option Refusal
 association_refusal line = first_of (
     identity_refusal (codes "AA") line

@@ -1,6 +1,9 @@
-pub mod Bodies
-pub mod Kind
-pub mod Checks
 pub mod AssocBody
 pub mod Association
+pub mod Bodies
+pub mod Checks
+pub mod Header
+pub mod Kind
+pub mod SpellsAssociation
+pub mod SpellsHeader
 pub mod Trailer

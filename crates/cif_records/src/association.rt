@@ -1,9 +1,9 @@
 //! An association of two trains.
-ghost use Rattle.std.specs.Prelude.{◌≡◌, ◌≤◌, ◌++◌, Some, None, Ok, IfOk, MatchResult, is_some};
-ghost use Rattle.cif_columns.specs.DaysRun.{days_of};
-ghost use Rattle.cif_columns.specs.Field.{StandsIn, Fits, columns, text, plain_columns, plain_line};
-ghost use Rattle.cif_columns.specs.Text.{text_of};
-ghost use Rattle.cif_records.specs.AssocBody.{SpellsBody};
+ghost use Rattle.std.specs.Prelude.{◌≡◌, ◌+◌, ◌≤◌, ◌++◌, length, Some, Ok, is_some};
+ghost use Rattle.std.specs.Option.{option_copied};
+ghost use Rattle.cif_columns.specs.Field.{StandsIn, AllStandIn, Fits, AllFit, columns, text, plain_columns, plain_line};
+ghost use Rattle.cif_records.specs.AssocBody.{SpellsBody, of_body};
+ghost use Rattle.cif_records.specs.Association.{association_table, association_refusal};
 ghost use Rattle.cif_records.specs.Bodies.{has_body};
 ghost use Rattle.cif_records.specs.Checks.{IsJudged};
 
@@ -33,7 +33,7 @@ pub struct Association {
 
 impl Association {
     ghost use Rattle.cif_records.specs.declared.association.Association.{Association};
-    ghost use Rattle.cif_records.specs.Association.{SpellsAssociation, association_table, association_refusal};
+    ghost use Rattle.cif_records.specs.SpellsAssociation.{SpellsAssociation, table_of};
 
     /// The association that the line spells, or the first reason in column order why it spells
     /// none: UnknownRecord (columns 1 to 2), NotFull (column 3), BadDate, OpenEnd and DatesReversed
@@ -61,6 +61,107 @@ impl Association {
             letter,
             body: body_at(line, letter),
         })
+    }
+
+    /// The plain line: spare columns are spaces, and texts stand at the left.
+    pub fn write(&self) -> Line
+        ensures plain { result ≡ plain_line (table_of self.now) }
+        ensures again { SpellsAssociation result self.now }
+    {
+        line_of(
+            &self.key,
+            self.first,
+            self.last,
+            self.days,
+            self.letter,
+            self.body.as_ref(),
+        )
+    }
+}
+
+/// The plain line of a permanent association.
+pub fn permanent_association(
+    key: &AssocKey,
+    body: &AssocBody,
+    first: Day,
+    last: Day,
+    days: DaysRun,
+) -> Line
+    requires { first ≤ last }
+    ensures plain { result ≡ plain_line (association_table key.now first last days Stp.P (Some body.now)) }
+    ensures again { AllStandIn result (association_table key.now first last days Stp.P (Some body.now)) }
+{
+    line_of(key, first, last, days, Stp::P, Some(body))
+}
+
+fn line_of(
+    key: &AssocKey,
+    first: Day,
+    last: Day,
+    days: DaysRun,
+    letter: Stp,
+    body: Option<&AssocBody>,
+) -> Line
+    ensures plain { result ≡ plain_line (association_table key.now first last days letter (option_copied body.entry)) }
+    ensures fits { AllFit (association_table key.now first last days letter (option_copied body.entry)) }
+{
+    let mut line = LineBuilder::new();
+    line.put_columns(b"AA");
+    line.put_columns(b"N");
+    key.base.put_on(&mut line);
+    key.associated.put_on(&mut line);
+    first.put_on(&mut line);
+    last.put_on(&mut line);
+    days.put_on(&mut line);
+    put_category(body, &mut line);
+    key.location.put_on(&mut line);
+    key.base_suffix.put_on(&mut line);
+    key.associated_suffix.put_on(&mut line);
+    put_kinds(body, &mut line);
+    line.put_spare::<31>();
+    letter.put_on(&mut line);
+    line.finish()
+}
+
+/// Columns 35 to 37, which are spare where there is no body.
+fn put_category(body: Option<&AssocBody>, line: &mut LineBuilder)
+    requires { length line.old + 3 ≤ 80 }
+    ensures columns { line.new ≡ line.old ++ plain_columns 2 (of_body (option_copied body.entry) (λ b. text b.category))
+        ++ plain_columns 1 (of_body (option_copied body.entry) (λ b. text b.date_indicator)) }
+    ensures width { length line.new ≡ length line.old + 3 }
+    ensures category { Fits 2 (of_body (option_copied body.entry) (λ b. text b.category)) }
+    ensures date_indicator { Fits 1 (of_body (option_copied body.entry) (λ b. text b.date_indicator)) }
+{
+    match body {
+        Some(body) => {
+            body.category.put_on(line);
+            body.date_indicator.put_on(line);
+        }
+        None => {
+            line.put_spare::<2>();
+            line.put_spare::<1>();
+        }
+    }
+}
+
+/// Columns 47 to 48, which are spare where there is no body.
+fn put_kinds(body: Option<&AssocBody>, line: &mut LineBuilder)
+    requires { length line.old + 2 ≤ 80 }
+    ensures columns { line.new ≡ line.old ++ plain_columns 1 (of_body (option_copied body.entry) (λ b. text b.diagram))
+        ++ plain_columns 1 (of_body (option_copied body.entry) (λ b. text b.kind)) }
+    ensures width { length line.new ≡ length line.old + 2 }
+    ensures diagram { Fits 1 (of_body (option_copied body.entry) (λ b. text b.diagram)) }
+    ensures kind { Fits 1 (of_body (option_copied body.entry) (λ b. text b.kind)) }
+{
+    match body {
+        Some(body) => {
+            body.diagram.put_on(line);
+            body.kind.put_on(line);
+        }
+        None => {
+            line.put_spare::<1>();
+            line.put_spare::<1>();
+        }
     }
 }
 

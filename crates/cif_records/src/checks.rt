@@ -4,7 +4,7 @@ ghost use Rattle.cif_columns.specs.Day.{yymmdd_in};
 ghost use Rattle.cif_columns.specs.Field.{StandsIn, columns, columns_from, date, indicator, weekdays};
 ghost use Rattle.cif_records.specs.Checks.{IsJudged, identity_refusal, transaction_refusal, date_refusal, dates_refusal, last_date_refusal, days_refusal, letter_refusal};
 
-use cif_columns::{Day, DaysRun, Line, Refusal, Stp, column_at, columns_at, field_at};
+use cif_columns::{Day, DaysRun, Line, Refusal, Stp, columns_at, field_at};
 
 /// Whether columns 1 and 2 are the identity of a kind.
 pub(crate) fn check_identity(line: &Line, letters: &[u8; 2]) -> Result<(), Refusal>
@@ -92,5 +92,5 @@ pub(crate) fn days_at(line: &Line, at: usize) -> Result<DaysRun, Refusal>
 pub(crate) fn letter_of(line: &Line) -> Result<Stp, Refusal>
     ensures { IsJudged (letter_refusal line.now) (λ letter. StandsIn (columns 80 80 line.now) (indicator letter)) result }
 {
-    Stp::read(column_at(line, 80)).ok_or(Refusal::BadStp)
+    field_at(line, 80).ok_or(Refusal::BadStp)
 }

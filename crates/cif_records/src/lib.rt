@@ -5,11 +5,13 @@ mod assoc_body;
 mod assoc_key;
 mod association;
 mod checks;
+mod header;
 mod kind;
 mod trailer;
 
 pub use assoc_body::AssocBody;
 pub use assoc_key::AssocKey;
-pub use association::Association;
+pub use association::{Association, permanent_association};
+pub use header::Header;
 pub use kind::{Kind, kind_of};
 pub use trailer::Trailer;

@@ -1,0 +1,34 @@
+-- One value stands in columns of a kind of field.
+use Rattle.std.proofs.Common.{◌≡◌, ℕ, List, Bool, [], ◌∷◌, Some, sym, ap, ◌∙◌, refl}
+use Rattle.cif_columns.specs.Field.{StandsIn, exactly, text, date, weekdays, indicator}
+use Rattle.cif_columns.specs.Stp.{letter, stp_in}
+use Rattle.cif_columns.specs.declared.stp.Stp.{Stp}
+use Rattle.cif_columns.specs.declared.stp.Stp.TheVariants.{P, N, O, C}
+use Rattle.cif_columns.proofs.DayColumns.{yymmdd_in-stands}
+use Rattle.cif_columns.proofs.Masks.{one_mask}
+use Rattle.cif_columns.proofs.Texts.{one_text}
+
+pub one_exactly : (columns a b : List ℕ) → StandsIn columns (exactly a) → StandsIn columns (exactly b) → a ≡ b
+one_exactly columns a b p q = sym p ∙ q
+
+pub one_text_value : (columns a b : List ℕ) → StandsIn columns (text a) → StandsIn columns (text b) → a ≡ b
+one_text_value columns a b p q = one_text columns a b p q
+
+pub one_date_value : (columns : List ℕ) (a b : ℕ) → StandsIn columns (date a) → StandsIn columns (date b) → a ≡ b
+one_date_value columns a b p q = let same = sym (yymmdd_in-stands columns a p) ∙ yymmdd_in-stands columns b q in cc
+
+pub one_weekdays : (columns : List ℕ) (a b : List Bool) → StandsIn columns (weekdays a) → StandsIn columns (weekdays b) → a ≡ b
+one_weekdays columns a b p q = one_mask columns a b p q
+
+-- a letter is that of its indicator
+pub stp_in-letter : (stp : Stp) → stp_in (letter stp) ≡ Some stp
+stp_in-letter P = refl
+stp_in-letter N = refl
+stp_in-letter O = refl
+stp_in-letter C = refl
+
+one_letter : (a b : Stp) → letter a ≡ letter b → a ≡ b
+one_letter a b h = let same = sym (stp_in-letter a) ∙ ap stp_in h ∙ stp_in-letter b in cc
+
+pub one_indicator : (columns : List ℕ) (a b : Stp) → StandsIn columns (indicator a) → StandsIn columns (indicator b) → a ≡ b
+one_indicator columns a b p q = let same = sym p ∙ q in one_letter a b (cc)

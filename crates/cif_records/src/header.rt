@@ -1,0 +1,93 @@
+//! The header of an extract.
+ghost use Rattle.std.specs.Prelude.{◌≡◌, ◌+◌, ◌≤◌, Some, Ok, codes};
+ghost use Rattle.std.proofs.Props.{props};
+ghost use Rattle.cif_columns.specs.Day.{ddmmyy_in};
+ghost use Rattle.cif_columns.specs.Field.{columns, columns_from, plain_line};
+ghost use Rattle.cif_columns.specs.Line.{ArePrintable};
+ghost use Rattle.cif_records.specs.Checks.{IsJudged};
+ghost use Rattle.cif_records.specs.Header.{IsFull, full_refusal, header_date_refusal, header_refusal, header_table, kept};
+
+use crate::checks::check_identity;
+use cif_columns::{Day, Line, LineBuilder, Refusal, columns_at};
+
+/// A record `HD` of a full extract (the CIF End User Specification): where the extract comes from,
+/// and the window of dates that it speaks of.
+#[derive(Clone, Copy, Debug, PartialEq, Eq)]
+pub struct Header {
+    /// Columns 3 to 60, as they stand. Column 47, the update indicator, is `F`.
+    pub columns: [u8; 58],
+    /// Columns 49 to 54: the user extract start date, by day, month and year.
+    pub first: Day,
+    /// Columns 55 to 60: the user extract end date, by day, month and year.
+    pub last: Day,
+    ghost printable: { ArePrintable columns },
+    ghost full: { IsFull columns },
+    ghost first_stands: { ddmmyy_in (kept 49 54 columns) ≡ Some first } by { Prim.hlevel props },
+    ghost last_stands: { ddmmyy_in (kept 55 60 columns) ≡ Some last } by { Prim.hlevel props },
+    ghost in_order: { first ≤ last },
+}
+
+impl Header {
+    ghost use Rattle.cif_records.specs.declared.header.Header.{Header};
+    ghost use Rattle.cif_records.specs.SpellsHeader.{SpellsHeader};
+
+    /// The header that the line spells, or the first reason in column order why it spells none:
+    /// UnknownRecord (columns 1 to 2), NotFull (column 47), BadDate and DatesReversed (columns 49
+    /// to 60).
+    pub fn read(line: &Line) -> Result<Header, Refusal>
+        ensures exact { IsJudged (header_refusal line.now) (SpellsHeader line.now) result }
+        ensures only { (h : Header) → SpellsHeader line.now h → result ≡ Ok h }
+    {
+        Header::fields_of(line)
+    }
+
+    fn fields_of(line: &Line) -> Result<Header, Refusal>
+        ensures { IsJudged (header_refusal line.now) (SpellsHeader line.now) result }
+    {
+        check_identity(line, b"HD")?;
+        check_full(line)?;
+        let first = date_at(line, 49)?;
+        let last = date_at(line, 55)?;
+        if last < first {
+            return Err(Refusal::DatesReversed);
+        }
+        Ok(Header {
+            columns: columns_at(line, 3),
+            first,
+            last,
+        })
+    }
+
+    /// The plain line: columns 61 to 80 are spaces.
+    pub fn write(&self) -> Line
+        ensures plain { result ≡ plain_line (header_table self.now.columns) }
+        ensures again { SpellsHeader result self.now }
+    {
+        let mut line = LineBuilder::new();
+        line.put_columns(b"HD");
+        line.put_columns(&self.columns);
+        line.put_spare::<20>();
+        line.finish()
+    }
+}
+
+/// Whether column 47 is the update indicator of a full extract, `F`.
+fn check_full(line: &Line) -> Result<(), Refusal>
+    ensures { IsJudged (full_refusal line.now) (λ _. columns 47 47 line.now ≡ codes "F") result }
+{
+    if columns_at(line, 47) == *b"F" {
+        Ok(())
+    } else {
+        Err(Refusal::NotFull)
+    }
+}
+
+/// The date in the six columns of a line from `at` on, by day, month and year.
+fn date_at(line: &Line, at: usize) -> Result<Day, Refusal>
+    requires from_one { 1 ≤ at }
+    requires within { at ≤ 75 }
+    ensures { IsJudged (header_date_refusal (columns_from at 6 line.now))
+        (λ day. ddmmyy_in (columns_from at 6 line.now) ≡ Some day) result }
+{
+    Day::from_ddmmyy(&columns_at(line, at)).ok_or(Refusal::BadDate)
+}
