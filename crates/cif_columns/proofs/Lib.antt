@@ -11,3 +11,6 @@ pub mod HeldBytes
 pub mod DecidedLines
 pub mod FoundInHeld
 pub mod LineAnswers
+pub mod TrialPieces
+pub mod WholeLines
+pub mod GivenLinesLaws

@@ -5,8 +5,10 @@ pub mod Day
 pub mod DaysRun
 pub mod Devices
 pub mod Digits
+pub mod End
 pub mod Field
 pub mod FirstLine
+pub mod GivenLines
 pub mod Line
 pub mod LineReader
 pub mod Refusal
@@ -15,3 +17,5 @@ pub mod Source
 pub mod Stp
 pub mod Text
 pub mod Time
+pub mod TrialReader
+pub mod TrialWriter

@@ -19,6 +19,8 @@ mod source;
 mod stp;
 mod text;
 mod time;
+mod trial_reader;
+mod trial_writer;
 mod uid;
 mod write_device;
 
@@ -37,5 +39,10 @@ pub use source::{ReadFault, Source};
 pub use stp::Stp;
 pub use text::{Text, order_of_columns};
 pub use time::WorkTime;
+pub use trial_reader::{End, TrialReader};
+pub use trial_writer::TrialWriter;
 pub use uid::Uid;
 pub use write_device::WriteDevice;
+
+#[cfg(test)]
+mod stream_tests;
