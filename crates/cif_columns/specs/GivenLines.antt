@@ -27,7 +27,8 @@ abbrev pub KnownGiven : Option (List ℕ) → List (List ℕ) → Option (List �
 KnownGiven start lines rest = IfSome start (λ bytes. IsSomeAnd rest (λ others. HasGiven bytes lines others))
 
 -- The reader reads on within this limit. These are the lines that it has given so far of the bytes that were left at the start.
-pub record IsReading {R : Type 0} (remaining : R → Option (List ℕ)) (start : Option (List ℕ)) (max : ℕ) (reader : LineReader) (source : Source R) (lines : List (List ℕ)) : Type 0 where
+pub record IsReading {R : Type 0} (remaining : R → Option (List ℕ)) (start : Option (List ℕ)) (max : ℕ) (reader : LineReader)
+    (source : Source R) (lines : List (List ℕ)) : Type 0 where
   pub reads_on : past reader ≡ Reading
   pub same_limit : limit reader ≡ max
   pub counted : given reader ≡ length lines

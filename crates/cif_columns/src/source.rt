@@ -6,7 +6,7 @@ ghost use Rattle.std.specs.Io.KnownBytes.{ReadConsumes};
 use crate::read_device::ReadDevice;
 use thiserror::Error;
 
-/// The source's reader has failed, in this read or in an earlier one.
+/// The source's reader has failed, in this read or an earlier one.
 #[derive(Clone, Copy, Debug, PartialEq, Eq, Error)]
 #[error("the input can't be read")]
 pub struct ReadFault;
@@ -55,7 +55,8 @@ impl<R: ReadDevice> Source<R> {
             (R.remaining (reader_of self.new)) result buf.new }
 
         // A fault comes only where the reader has erred, and where it errs a fault comes.
-        ensures errors { source_failed self.old ≡ false → TellsErrors (R.read_errors (reader_of self.old))
+        ensures errors { source_failed self.old ≡ false
+            → TellsErrors (R.read_errors (reader_of self.old))
             (R.read_errors (reader_of self.new)) result }
 
         // After a failure each read fails, and the reader isn't touched.

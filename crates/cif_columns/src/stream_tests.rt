@@ -1,4 +1,5 @@
-//! What the clauses of the streams leave open: whole runs over devices that cut, end, fail or go on.
+//! What the clauses of the streams leave open: whole runs over devices that cut, end, fail or go
+//! on.
 ghost use Rattle.std.specs.Prelude.{◌≡◌, ◌≤◌, ℕ, List, length, IfSome, IfOk, IfErr};
 ghost use Rattle.cif_columns.specs.Source.{reader_of};
 ghost use Rattle.cif_columns.specs.GivenLines.{AreAllLines, AreLinesToFault};
@@ -74,7 +75,8 @@ fn step_of<R: ReadDevice>(lines: &mut LineReader, source: &mut Source<R>) -> Ste
     }
 }
 
-// The first two steps where the reader gives the header's columns and `more`, and then fails or ends.
+// The first two steps where the reader gives the header's columns and `more`, and then fails or
+// ends.
 fn steps_after_columns(
     alloc: Global,
     more: &[u8],

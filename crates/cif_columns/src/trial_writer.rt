@@ -28,7 +28,8 @@ pub struct TrialWriter {
 impl TrialWriter {
     ghost use Rattle.cif_columns.specs.TrialWriter.{write_calls};
 
-    /// A writer that hasn't been written to. After its bytes it answers 0 if `zero`, and else fails.
+    /// A writer that hasn't been written to. After its bytes it answers 0 if `zero`, and else
+    /// fails.
     pub fn new(takes: usize, zero: bool) -> Self
         requires { takes ≤ 2048 }
         ensures bytes { ⟦<TrialWriter as Write>⟧.contents result ≡ Some [] }
