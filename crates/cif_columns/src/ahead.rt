@@ -73,7 +73,8 @@ impl Ahead {
             → length (held_bytes self.old) < length (held_bytes self.new) }
         ensures end { result ≡ Ok false → (held_bytes self.new ≡ held_bytes self.old)
             × IsAtEnd (R.remaining (reader_of source.new)) }
-        ensures going { OnOk result (source_failed source.new ≡ source_failed source.old) }
+        ensures going { OnOk result ((source_failed source.old ≡ false)
+            × (source_failed source.new ≡ false)) }
         ensures err { OnErr result (held_bytes self.new ≡ held_bytes self.old) }
         ensures failed { IsErr result → IsTrue (source_failed source.new) }
         ensures errors { source_failed source.old ≡ false
@@ -145,6 +146,7 @@ impl Ahead {
             → R.read_errors (reader_of source.new) ≡ R.read_errors (reader_of source.old) }
         ensures going { result ≢ Found.Failed
             → source_failed source.new ≡ source_failed source.old }
+        ensures ended { result ≡ Found.End → source_failed source.old ≡ false }
     {
         loop {
             if let Some(found) = self.decided(is_full) {
@@ -184,7 +186,8 @@ fn read_after<R: ReadDevice>(
     ensures end { IfOk result (λ n. n ≡ 0 → IsAtEnd (R.remaining (reader_of source.new))) }
     ensures err { OnErr result (Keeps (R.remaining (reader_of source.old))
         (R.remaining (reader_of source.new))) }
-    ensures going { OnOk result (source_failed source.new ≡ source_failed source.old) }
+    ensures going { OnOk result ((source_failed source.old ≡ false)
+        × (source_failed source.new ≡ false)) }
     ensures failed { IsErr result → IsTrue (source_failed source.new) }
     ensures errors { source_failed source.old ≡ false
         → TellsErrors (R.read_errors (reader_of source.old))

@@ -76,11 +76,14 @@ impl LineReader {
             Answers (limit self.old) (given self.old) bytes result
             (left R.remaining self.new source.new)) }
 
-        // A source that fails is reported where the bytes before the failure decide nothing.
+        // A source that fails is reported where the bytes before the failure decide nothing. One
+        // that has failed has no end.
         ensures failed { past self.old ≡ Reading → result ≡ Err LineFault.Read
             → source_failed source.new ≡ true }
         ensures undecided { past self.old ≡ Reading → result ≡ Err LineFault.Read
             → DecidesNothing (limit self.old) (given self.old) (held self.new) }
+        ensures endless { past self.old ≡ Reading → result ≡ Ok None
+            → source_failed source.old ≡ false }
         ensures going { result ≢ Err LineFault.Read
             → source_failed source.new ≡ source_failed source.old }
 

@@ -1,5 +1,5 @@
 //! A reader that isn't read again once it has failed.
-ghost use Rattle.std.specs.Prelude.{◌≡◌, ◌↔◌, false, IsTrue, IsErr};
+ghost use Rattle.std.specs.Prelude.{◌≡◌, ◌↔◌, false, IsTrue, IsErr, OnOk};
 ghost use Rattle.std.specs.Io.{ReadsAtMost};
 ghost use Rattle.std.specs.Io.KnownBytes.{ReadConsumes};
 
@@ -50,6 +50,7 @@ impl<R: ReadDevice> Source<R> {
     /// Reads once. The first error is the last: from then on the reader isn't touched.
     pub fn read(&mut self, buf: &mut [u8]) -> Result<usize, ReadFault>
         ensures failed { IsTrue (source_failed self.new) ↔ IsErr result }
+        ensures going { OnOk result ((source_failed self.old ≡ false) × (source_failed self.new ≡ false)) }
         ensures bound { ReadsAtMost result buf.new }
         ensures bytes { ReadConsumes (R.remaining (reader_of self.old))
             (R.remaining (reader_of self.new)) result buf.new }

@@ -70,7 +70,8 @@ impl Write for TrialWriter {
         ensures bound { WritesAtMost result buf.now }
         ensures bytes { WriteAppends (⟦<TrialWriter as Write>⟧.contents self.old)
             (⟦<TrialWriter as Write>⟧.contents self.new) result buf.now }
-        ensures fine { IfOk result (λ n. 0 < n → self.new.failures ≡ self.old.failures) }
+        ensures fine { IfOk result (λ n. (n ≡ 0 → length buf.now ≡ 0)
+            → self.new.failures ≡ self.old.failures) }
         ensures stuck { IfOk result (λ n. n ≡ 0 → 0 < length buf.now
             → OneError (told_count self.old.failures) (told_count self.new.failures)) }
         ensures errors { IsErr result
