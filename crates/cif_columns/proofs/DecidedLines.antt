@@ -104,7 +104,7 @@ module _ (p more : List ℕ) where
 
 -- ---- the contents, one by one
 
-parts_some : (p : ℕ → Bool) (bytes : List ℕ) → (first : List ℕ) × (others : List (List ℕ)) × (slice_split p bytes ≡ first ∷ others)
+pub parts_some : (p : ℕ → Bool) (bytes : List ℕ) → (first : List ℕ) × (others : List (List ℕ)) × (slice_split p bytes ≡ first ∷ others)
 parts_some p [] = ([], [], refl)
 parts_some p (x ∷ xs) = at (p x) (parts_some p xs)
   where

@@ -7,6 +7,7 @@ pub mod DigitsLemmas
 pub mod FeedPlaces
 pub mod FieldLaws
 pub mod FoundInHeld
+pub mod GivenLinesLaws
 pub mod HeldBytes
 pub mod LineAnswers
 pub mod Masks
@@ -15,3 +16,5 @@ pub mod PrintableBytes
 pub mod TextOrder
 pub mod Texts
 pub mod Times
+pub mod TrialPieces
+pub mod WholeLines

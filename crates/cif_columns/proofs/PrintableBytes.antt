@@ -1,12 +1,11 @@
 -- Printable bytes by the test and by the fact.
-use Rattle.std.proofs.Common.{◌≡◌, ℕ, ◌≤◌, true, List, length, cond, Option, Some, None, IsSome, Result, Ok, Err, sym, ap, ◌∙◌, arith, refl, eq-eqb, nat_eq, false, Bool}
+use Rattle.std.proofs.Common.{◌≡◌, ℕ, true, List, length, cond, Option, Some, None, IsSome, IsTrue, ◌↔◌, Ok, Err, sym, ap, ◌∙◌, arith, refl, eq-eqb, false, Bool}
 use Rattle.std.proofs.lemmas.Bool.Decides.{nat_tests}
 use Rattle.std.proofs.lemmas.List.Sums.{AllPass-from_list_all, list_all-from_AllPass}
 use Rattle.std.specs.List.{list_all}
 use Rattle.std.specs.Option.{SomeIff, ok_or}
-use Rattle.cif_columns.specs.declared.refusal.Refusal.{Refusal}
 use Rattle.cif_columns.specs.declared.refusal.Refusal.TheVariants.{BadLength, BadByte}
-use Rattle.cif_columns.specs.Line.{IsPrintable, ArePrintable, IsLine}
+use Rattle.cif_columns.specs.Line.{IsPrintable, ArePrintable}
 use Rattle.cif_columns.specs.FirstLine.{is_printable, line_of}
 
 test_true : (b : ℕ) → IsPrintable b → is_printable b ≡ true
@@ -14,6 +13,15 @@ test_true b h = grind (arith, nat_tests)
 
 test_fact : (b : ℕ) → is_printable b ≡ true → IsPrintable b
 test_fact b h = (grind (arith, nat_tests), grind (arith, nat_tests))
+
+-- a test with the same answer
+pub same_test : (r : Bool) (b : ℕ) → IsTrue r ↔ IsPrintable b → r ≡ is_printable b
+same_test true b h = sym (test_true b (h.0 refl))
+same_test false b h = at (is_printable b) refl
+  where
+    at : (t : Bool) → t ≡ is_printable b → false ≡ t
+    at true e = h.1 (test_fact b (sym e))
+    at false e = refl
 
 pub printable_true : (xs : List ℕ) → ArePrintable xs → list_all is_printable xs ≡ true
 printable_true xs h = list_all-from_AllPass is_printable xs (λ k d lt. test_true _ (h k d lt))

@@ -1,9 +1,9 @@
 -- The contents of bytes, the lines among them, and why a content is no line.
-use Rattle.std.specs.Prelude.{◌≡◌, ◌≢◌, ◌⊎◌, ℕ, ◌+◌, ◌<◌, ◌≤◌, List, [], ◌∷◌, ◌++◌, length, All}
+use Rattle.std.specs.Prelude.{◌≡◌, ◌≢◌, ◌⊎◌, ℕ, ◌<◌, ◌≤◌, List, [], ◌∷◌, ◌++◌, length, All}
 use Rattle.std.specs.Str.Lines.{lines}
 use Rattle.cif_columns.specs.declared.refusal.Refusal.{Refusal}
 use Rattle.cif_columns.specs.declared.refusal.Refusal.TheVariants.{BadLength, BadByte, TooManyLines}
-use Rattle.cif_columns.specs.Line.{ArePrintable, IsLine}
+use Rattle.cif_columns.specs.Line.{ArePrintable}
 
 -- The parts between line feeds, as `str::lines` gives them: an empty last part doesn't count, and a part that a line
 -- feed follows loses one carriage return at its end.

@@ -7,8 +7,10 @@ pub mod DayDigits
 pub mod DaysRun
 pub mod Devices
 pub mod Digits
+pub mod End
 pub mod Field
 pub mod FirstLine
+pub mod GivenLines
 pub mod Line
 pub mod LineReader
 pub mod PublicTime
@@ -17,5 +19,7 @@ pub mod Sink
 pub mod Source
 pub mod Stp
 pub mod Text
+pub mod TrialReader
+pub mod TrialWriter
 pub mod Uid
 pub mod WorkTime

@@ -22,7 +22,7 @@ pub(crate) enum Found {
     Failed,
 }
 
-// `buf[start..end]` is read and not yet given.
+/// The bytes that are read and not yet given: `buf[start..end]`.
 #[derive(Drop)]
 pub(crate) struct Ahead {
     buf: [u8; AHEAD],
@@ -69,13 +69,16 @@ impl Ahead {
         requires { length (held_bytes self.old) < 82 }
         ensures bytes { Keeps (known_left R.remaining self.old source.old)
             (known_left R.remaining self.new source.new) }
-        ensures more { result ≡ Ok true → length (held_bytes self.old) < length (held_bytes self.new) }
+        ensures more { result ≡ Ok true
+            → length (held_bytes self.old) < length (held_bytes self.new) }
         ensures end { result ≡ Ok false → (held_bytes self.new ≡ held_bytes self.old)
             × IsAtEnd (R.remaining (reader_of source.new)) }
-        ensures going { OnOk result (source_failed source.new ≡ source_failed source.old) }
+        ensures going { OnOk result ((source_failed source.old ≡ false)
+            × (source_failed source.new ≡ false)) }
         ensures err { OnErr result (held_bytes self.new ≡ held_bytes self.old) }
         ensures failed { IsErr result → IsTrue (source_failed source.new) }
-        ensures errors { source_failed source.old ≡ false → TellsErrors (R.read_errors (reader_of source.old))
+        ensures errors { source_failed source.old ≡ false
+            → TellsErrors (R.read_errors (reader_of source.old))
             (R.read_errors (reader_of source.new)) result }
     {
         self.to_front();
@@ -90,7 +93,8 @@ impl Ahead {
 
     // What the held bytes decide, if they do.
     fn decided(&mut self, is_full: bool) -> Option<Found>
-        ensures found { IfSome result (λ found. Decides is_full (held_bytes self.old) found (held_bytes self.new)) }
+        ensures found { IfSome result (λ found.
+            Decides is_full (held_bytes self.old) found (held_bytes self.new)) }
         ensures decided { IsSome result → is_decided is_full (held_bytes self.old) ≡ true }
         ensures none { IfNone result (is_decided is_full (held_bytes self.old) ≡ false) }
         ensures kept { IfNone result (held_bytes self.new ≡ held_bytes self.old) }
@@ -132,13 +136,17 @@ impl Ahead {
         ensures found { IfSome (known_left R.remaining self.old source.old) (λ bytes.
             Finds is_full bytes result (known_left R.remaining self.new source.new)) }
         ensures not_full { IfNext result (is_full ≡ false) }
-        ensures undecided { result ≡ Found.Failed → is_decided is_full (held_bytes self.new) ≡ false }
+        ensures undecided { result ≡ Found.Failed
+            → is_decided is_full (held_bytes self.new) ≡ false }
         ensures failed { result ≡ Found.Failed → source_failed source.new ≡ true }
-        ensures erred { result ≡ Found.Failed → source_failed source.old ≡ false → OneError (R.read_errors (reader_of source.old))
+        ensures erred { result ≡ Found.Failed → source_failed source.old ≡ false
+            → OneError (R.read_errors (reader_of source.old))
             (R.read_errors (reader_of source.new)) }
-        ensures fine { result ≢ Found.Failed → source_failed source.old ≡ false → R.read_errors (reader_of source.new)
-            ≡ R.read_errors (reader_of source.old) }
-        ensures going { result ≢ Found.Failed → source_failed source.new ≡ source_failed source.old }
+        ensures fine { result ≢ Found.Failed → source_failed source.old ≡ false
+            → R.read_errors (reader_of source.new) ≡ R.read_errors (reader_of source.old) }
+        ensures going { result ≢ Found.Failed
+            → source_failed source.new ≡ source_failed source.old }
+        ensures ended { result ≡ Found.End → source_failed source.old ≡ false }
     {
         loop {
             if let Some(found) = self.decided(is_full) {
@@ -178,9 +186,11 @@ fn read_after<R: ReadDevice>(
     ensures end { IfOk result (λ n. n ≡ 0 → IsAtEnd (R.remaining (reader_of source.new))) }
     ensures err { OnErr result (Keeps (R.remaining (reader_of source.old))
         (R.remaining (reader_of source.new))) }
-    ensures going { OnOk result (source_failed source.new ≡ source_failed source.old) }
+    ensures going { OnOk result ((source_failed source.old ≡ false)
+        × (source_failed source.new ≡ false)) }
     ensures failed { IsErr result → IsTrue (source_failed source.new) }
-    ensures errors { source_failed source.old ≡ false → TellsErrors (R.read_errors (reader_of source.old))
+    ensures errors { source_failed source.old ≡ false
+        → TellsErrors (R.read_errors (reader_of source.old))
         (R.read_errors (reader_of source.new)) result }
 {
     source.read(&mut buf[at..])

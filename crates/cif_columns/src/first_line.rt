@@ -7,18 +7,20 @@ ghost use Rattle.cif_columns.specs.FirstLine.{is_line_feed, is_printable, has_li
 use crate::line::Line;
 use crate::refusal::Refusal;
 
+/// A decided line, or why it is none, and how many bytes it takes with its ending.
 pub(crate) struct FirstLine {
     pub(crate) line: Result<Line, Refusal>,
     pub(crate) taken: usize,
 }
 
-/// The first line of the bytes, where it is decided, and how many bytes it takes.
+/// The first line of the bytes, where whatever follows them it is known.
 #[tactic(auto, unfolding(crate::specs::FirstLine::first_line, crate::specs::FirstLine::is_decided, crate::specs::FirstLine::after_content, crate::specs::FirstLine::first_content))]
 pub(crate) fn first_line_of(bytes: &[u8], is_full: bool) -> Option<FirstLine>
     ensures decided { IsSome result ↔ IsTrue (is_decided is_full bytes.now) }
     ensures line { IfSome result (λ first. first.line ≡ first_line is_full bytes.now) }
     ensures within { IfSome result (λ first. first.taken ≤ length bytes.now) }
-    ensures rest { IfSome result (λ first. IsOk first.line → drop first.taken bytes.now ≡ after_content bytes.now) }
+    ensures rest { IfSome result (λ first. IsOk first.line
+        → drop first.taken bytes.now ≡ after_content bytes.now) }
     ensures ended { IfSome result (λ first. IsOk first.line → IsTrue (has_line_feed bytes.now)) }
 {
     if is_full {
@@ -63,7 +65,8 @@ fn plain_line(bytes: &[u8]) -> Option<Line>
 fn line_feed(bytes: &[u8]) -> Option<usize>
     ensures found { IfSome result (λ at. at ≡ position_or_len is_line_feed bytes.now) }
     ensures within { IfSome result (λ at. at < length bytes.now) }
-    ensures none { IfNone result (min 82 (length bytes.now) ≤ position_or_len is_line_feed bytes.now) }
+    ensures none { IfNone result (min 82 (length bytes.now)
+        ≤ position_or_len is_line_feed bytes.now) }
 {
     position(&bytes[..bytes.len().min(82)])
 }

@@ -21,6 +21,8 @@ mod sink;
 mod source;
 mod stp;
 mod text;
+mod trial_reader;
+mod trial_writer;
 mod uid;
 mod work_time;
 mod write_device;
@@ -40,6 +42,11 @@ pub use sink::{Sink, WriteFault};
 pub use source::{ReadFault, Source};
 pub use stp::Stp;
 pub use text::{Text, order_of_columns};
+pub use trial_reader::{End, TrialReader};
+pub use trial_writer::TrialWriter;
 pub use uid::Uid;
 pub use work_time::WorkTime;
 pub use write_device::WriteDevice;
+
+#[cfg(test)]
+mod stream_tests;

@@ -24,8 +24,8 @@ enum Past {
 
 /// Gives the lines of one source one by one, and keeps what it has read ahead of them.
 ///
-/// A line is eighty bytes from a space to a tilde, and ends at a line feed, at a carriage return and a
-/// line feed, or at the end of the input. Nothing is allocated.
+/// A line is eighty bytes from a space to a tilde, and ends at a line feed, at a carriage return
+/// and a line feed, or at the end of the input. Nothing is allocated.
 #[derive(Drop)]
 pub struct LineReader {
     ahead: Ahead,
@@ -65,26 +65,33 @@ impl LineReader {
 
     /// The next line of what is held and of what the source still gives.
     ///
-    /// The source is read only where the held bytes decide no line, and then once: a line is decided
-    /// by its line feed, by 82 bytes with none, by its first byte if it is one too many, and by the
-    /// end of the input.
+    /// The source is read only while the held bytes decide no line, each time once. A line is
+    /// decided by its line feed, by 82 bytes with none, by its first byte if it is one too many,
+    /// and by the end of the input.
     pub fn next<R: ReadDevice>(&mut self, source: &mut Source<R>) -> Result<Option<Line>, LineFault>
-        // The answer is the first line of the bytes that are left, and the bytes after it are left then.
-        ensures answer { past self.old ≡ Reading → IfSome (left R.remaining self.old source.old) (λ bytes.
-            Answers (limit self.old) (given self.old) bytes result (left R.remaining self.new source.new)) }
+        // The answer is the first line of the bytes that are left, and the bytes after it are left
+        // then.
+        ensures answer { past self.old ≡ Reading
+            → IfSome (left R.remaining self.old source.old) (λ bytes.
+            Answers (limit self.old) (given self.old) bytes result
+            (left R.remaining self.new source.new)) }
 
-        // A source that fails is reported where the bytes before the failure decide nothing.
+        // A source that fails is reported where the bytes before the failure decide nothing. One
+        // that has failed has no end.
         ensures failed { past self.old ≡ Reading → result ≡ Err LineFault.Read
             → source_failed source.new ≡ true }
         ensures undecided { past self.old ≡ Reading → result ≡ Err LineFault.Read
             → DecidesNothing (limit self.old) (given self.old) (held self.new) }
+        ensures endless { past self.old ≡ Reading → result ≡ Ok None
+            → source_failed source.old ≡ false }
         ensures going { result ≢ Err LineFault.Read
             → source_failed source.new ≡ source_failed source.old }
 
         // A read fault comes only where the reader has erred, and then it comes.
         ensures erred { past self.old ≡ Reading → source_failed source.old ≡ false
             → result ≡ Err LineFault.Read
-            → OneError (R.read_errors (reader_of source.old)) (R.read_errors (reader_of source.new)) }
+            → OneError (R.read_errors (reader_of source.old))
+            (R.read_errors (reader_of source.new)) }
         ensures fine { past self.old ≡ Reading → source_failed source.old ≡ false
             → result ≢ Err LineFault.Read
             → R.read_errors (reader_of source.new) ≡ R.read_errors (reader_of source.old) }

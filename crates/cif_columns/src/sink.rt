@@ -5,7 +5,7 @@ ghost use Rattle.std.specs.Io.KnownBytes.{Appends, Keeps};
 use crate::write_device::WriteDevice;
 use thiserror::Error;
 
-/// The sink's writer has failed, or has taken none of some bytes, in this call or in an earlier one.
+/// The sink's writer has failed, or has taken none of some bytes, in this call or an earlier one.
 #[derive(Clone, Copy, Debug, PartialEq, Eq, Error)]
 #[error("the output can't be written")]
 pub struct WriteFault;
@@ -46,17 +46,19 @@ impl<W: WriteDevice> Sink<W> {
         self.failed
     }
 
-    /// Writes all the bytes, or fails after a front of them. The first failure is the last: from then
-    /// on the writer isn't touched.
+    /// Writes all the bytes, or fails after a front of them. The first failure is the last: from
+    /// then on the writer isn't touched.
     pub fn write_all(&mut self, bytes: &[u8]) -> Result<(), WriteFault>
         ensures failed { IsTrue (sink_failed self.new) ↔ IsErr result }
+        ensures going { OnOk result ((sink_failed self.old ≡ false) × (sink_failed self.new ≡ false)) }
         ensures ok { OnOk result (Appends (W.contents (writer_of self.old))
             (W.contents (writer_of self.new)) bytes.now) }
         ensures err { OnErr result (AppendsFront (W.contents (writer_of self.old))
             (W.contents (writer_of self.new)) bytes.now) }
 
         // A fault comes only where the writer has erred or taken nothing, and then it comes.
-        ensures errors { sink_failed self.old ≡ false → TellsErrors (W.write_errors (writer_of self.old))
+        ensures errors { sink_failed self.old ≡ false
+            → TellsErrors (W.write_errors (writer_of self.old))
             (W.write_errors (writer_of self.new)) result }
 
         // After a failure each call fails, and the writer isn't touched.
@@ -82,10 +84,12 @@ impl<W: WriteDevice> Sink<W> {
     /// Hands on what the writer holds back. A failure is the last, as in `write_all`.
     pub fn flush(&mut self) -> Result<(), WriteFault>
         ensures failed { IsTrue (sink_failed self.new) ↔ IsErr result }
+        ensures going { OnOk result ((sink_failed self.old ≡ false) × (sink_failed self.new ≡ false)) }
         ensures bytes { Keeps (W.contents (writer_of self.old)) (W.contents (writer_of self.new)) }
 
         // A fault comes only where the writer has erred, and where it errs a fault comes.
-        ensures errors { sink_failed self.old ≡ false → TellsErrors (W.write_errors (writer_of self.old))
+        ensures errors { sink_failed self.old ≡ false
+            → TellsErrors (W.write_errors (writer_of self.old))
             (W.write_errors (writer_of self.new)) result }
 
         // After a failure each call fails, and the writer isn't touched.

@@ -1,12 +1,12 @@
 //! A reader that isn't read again once it has failed.
-ghost use Rattle.std.specs.Prelude.{◌≡◌, ◌↔◌, false, IsTrue, IsErr};
+ghost use Rattle.std.specs.Prelude.{◌≡◌, ◌↔◌, false, IsTrue, IsErr, OnOk};
 ghost use Rattle.std.specs.Io.{ReadsAtMost};
 ghost use Rattle.std.specs.Io.KnownBytes.{ReadConsumes};
 
 use crate::read_device::ReadDevice;
 use thiserror::Error;
 
-/// The source's reader has failed, in this read or in an earlier one.
+/// The source's reader has failed, in this read or an earlier one.
 #[derive(Clone, Copy, Debug, PartialEq, Eq, Error)]
 #[error("the input can't be read")]
 pub struct ReadFault;
@@ -50,12 +50,14 @@ impl<R: ReadDevice> Source<R> {
     /// Reads once. The first error is the last: from then on the reader isn't touched.
     pub fn read(&mut self, buf: &mut [u8]) -> Result<usize, ReadFault>
         ensures failed { IsTrue (source_failed self.new) ↔ IsErr result }
+        ensures going { OnOk result ((source_failed self.old ≡ false) × (source_failed self.new ≡ false)) }
         ensures bound { ReadsAtMost result buf.new }
         ensures bytes { ReadConsumes (R.remaining (reader_of self.old))
             (R.remaining (reader_of self.new)) result buf.new }
 
         // A fault comes only where the reader has erred, and where it errs a fault comes.
-        ensures errors { source_failed self.old ≡ false → TellsErrors (R.read_errors (reader_of self.old))
+        ensures errors { source_failed self.old ≡ false
+            → TellsErrors (R.read_errors (reader_of self.old))
             (R.read_errors (reader_of self.new)) result }
 
         // After a failure each read fails, and the reader isn't touched.

@@ -21,7 +21,8 @@ pub trait WriteDevice: Write {
         ensures bound { WritesAtMost result bytes.now }
         ensures bytes { WriteAppends (Self.contents self.old) (Self.contents self.new)
             result bytes.now }
-        ensures fine { IfOk result (λ n. 0 < n → write_errors self.new ≡ write_errors self.old) }
+        ensures fine { IfOk result (λ n. (n ≡ 0 → length bytes.now ≡ 0)
+            → write_errors self.new ≡ write_errors self.old) }
         ensures stuck { IfOk result (λ n. n ≡ 0 → 0 < length bytes.now
             → OneError (write_errors self.old) (write_errors self.new)) }
         ensures errors { IsErr result → OneError (write_errors self.old) (write_errors self.new) };

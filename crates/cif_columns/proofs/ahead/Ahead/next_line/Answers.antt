@@ -1,4 +1,4 @@
-use Rattle.std.proofs.Common.{Ok, length, arith, ap, refl, ◌∙◌}
+use Rattle.std.proofs.Common.{Ok, length, arith, ap, refl, sym, ◌∙◌}
 use Rattle.std.proofs.KnownBytes.{Keeps-trans}
 use Rattle.cif_columns.specs.Ahead.{held_bytes}
 use Rattle.cif_columns.proofs.DecidedLines.{undecided_short}
@@ -20,7 +20,7 @@ loop-found-smaller g c =
 pub loop-found-preserved : goal.loop-found-preserved
 loop-found-preserved g c = record {
   same_bytes = Keeps-trans _ _ _ c.loop-found.invariant.same_bytes (rw (← c.in_default.ensures.kept) c.in-Ok-true.ensures.bytes);
-  same_state = c.in-Ok-true.ensures.going ∙ c.loop-found.invariant.same_state;
+  same_state = c.in-Ok-true.ensures.going.1 ∙ sym c.in-Ok-true.ensures.going.0 ∙ c.loop-found.invariant.same_state;
   same_errors = λ fine. c.in-Ok-true.ensures.errors (c.loop-found.invariant.same_state ∙ fine) ∙ c.loop-found.invariant.same_errors fine;
 }
 

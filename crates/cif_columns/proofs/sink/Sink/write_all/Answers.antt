@@ -12,4 +12,4 @@ loop-rest-preserved g c =
     let (done, split, going, appended, errors) = c.loop-rest.invariant in
     let rest = c.loop-rest.rest.now in
     let n = c.in-Ok.n in
-    (done ++ take n rest, moves_front _ done rest n split, going, Appends-trans _ _ _ _ _ appended c.in-Ok.ensures.bytes, c.in-Ok.ensures.fine (omega arith) ∙ errors)
+    (done ++ take n rest, moves_front _ done rest n split, going, Appends-trans _ _ _ _ _ appended c.in-Ok.ensures.bytes, c.in-Ok.ensures.fine (λ none. absurd (omega arith)) ∙ errors)

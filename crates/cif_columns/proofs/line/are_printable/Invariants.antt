@@ -1,0 +1,7 @@
+use Rattle.std.proofs.Common.{◌≡◌, take}
+use Rattle.std.specs.List.{list_all}
+use Rattle.cif_columns.specs.FirstLine.{is_printable}
+use Rattle.cif_columns.proofs.line.are_printable.Given as goal
+
+abbrev pub invariant-loop-b : goal.invariant-loop-b
+invariant-loop-b l = l.all ≡ list_all is_printable (take l.b-index l.bytes)

@@ -1,0 +1,69 @@
+-- The lines that a `LineReader` gives of bytes, one after another, and how that ends.
+use Rattle.std.specs.Prelude.{◌≡◌, ◌⊎◌, ℕ, ◌+◌, ◌≤◌, List, [], ◌∷◌, ◌++◌, length, All, Option, IfSome, IsSomeAnd}
+use Rattle.cif_columns.specs.declared.line_fault.LineFault.{LineFault}
+use Rattle.cif_columns.specs.declared.line_fault.LineFault.TheVariants.{Refused, Read}
+use Rattle.cif_columns.specs.declared.line_reader.LineReader.{LineReader}
+use Rattle.cif_columns.specs.declared.line_reader.Past.TheVariants.{Reading}
+use Rattle.cif_columns.specs.declared.refusal.Refusal.{Refusal}
+use Rattle.cif_columns.specs.declared.source.Source.{Source}
+use Rattle.cif_columns.specs.Contents.{contents_of, HasLineReason, DecidesNothing}
+use Rattle.cif_columns.specs.Line.{IsLine}
+use Rattle.cif_columns.specs.LineReader.{given, limit, past, left}
+
+-- bytes that end with a line feed, or that nothing follows: their last line doesn't go on
+abbrev pub EndsLine : List ℕ → List ℕ → Type 0
+EndsLine bytes after = ((front : List ℕ) × (bytes ≡ front ++ 10 ∷ [])) ⊎ (after ≡ [])
+
+-- the bytes are these whole lines, each with its ending, and then what is left
+pub record HasGiven (bytes : List ℕ) (lines : List (List ℕ)) (rest : List ℕ) : Type 0 where
+  pub whole : List ℕ
+  pub parts : bytes ≡ whole ++ rest
+  pub ended : (whole ≡ []) ⊎ EndsLine whole rest
+  pub contents : contents_of whole ≡ lines
+  pub are_lines : All IsLine lines
+
+-- the same, where the bytes at the start are known, and with them what is left
+abbrev pub KnownGiven : Option (List ℕ) → List (List ℕ) → Option (List ℕ) → Type 0
+KnownGiven start lines rest = IfSome start (λ bytes. IsSomeAnd rest (λ others. HasGiven bytes lines others))
+
+-- The reader reads on within this limit. These are the lines that it has given so far of the bytes that were left at the start.
+pub record IsReading {R : Type 0} (remaining : R → Option (List ℕ)) (start : Option (List ℕ)) (max : ℕ) (reader : LineReader)
+    (source : Source R) (lines : List (List ℕ)) : Type 0 where
+  pub reads_on : past reader ≡ Reading
+  pub same_limit : limit reader ≡ max
+  pub counted : given reader ≡ length lines
+  pub known : KnownGiven start lines (left remaining reader source)
+
+-- the contents of the bytes are these lines, at most max
+pub record AreAllLines (max : ℕ) (bytes : List ℕ) (lines : List (List ℕ)) : Type 0 where
+  pub contents : contents_of bytes ≡ lines
+  pub are_lines : All IsLine lines
+  pub within : length lines ≤ max
+
+-- the contents of the bytes begin with these lines, at most max, and the next is refused, with its number and the reason
+pub record AreLinesToRefusal (max : ℕ) (bytes : List ℕ) (lines : List (List ℕ)) (number : ℕ) (why : Refusal) : Type 0 where
+  pub content : List ℕ
+  pub others : List (List ℕ)
+  pub contents : contents_of bytes ≡ lines ++ content ∷ others
+  pub are_lines : All IsLine lines
+  pub within : length lines ≤ max
+  pub next : number ≡ length lines + 1
+  pub reason : HasLineReason max number content why
+
+-- Of the bytes the source gave some before it failed. These are whole lines, at most max, and then pending bytes, which
+-- decide no line.
+pub record AreLinesToFailure (max : ℕ) (bytes : List ℕ) (lines : List (List ℕ)) : Type 0 where
+  pub whole : List ℕ
+  pub pending : List ℕ
+  pub unread : List ℕ
+  pub parts : bytes ≡ (whole ++ pending) ++ unread
+  pub contents : contents_of whole ≡ lines
+  pub seen : contents_of (whole ++ pending) ≡ lines ++ contents_of pending
+  pub are_lines : All IsLine lines
+  pub within : length lines ≤ max
+  pub undecided : DecidesNothing max (length lines) pending
+
+-- the lines that were given of the bytes before this fault
+abbrev pub AreLinesToFault : ℕ → List ℕ → List (List ℕ) → LineFault → Type 0
+AreLinesToFault max bytes lines (Refused number why) = AreLinesToRefusal max bytes lines number why
+AreLinesToFault max bytes lines Read = AreLinesToFailure max bytes lines
