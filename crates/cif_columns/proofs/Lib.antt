@@ -1,6 +1,7 @@
 pub mod Dates
 pub mod DayColumns
 pub mod DigitsLemmas
+pub mod Letters
 pub mod Masks
 pub mod Texts
 pub mod Times
