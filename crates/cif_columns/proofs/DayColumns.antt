@@ -1,5 +1,6 @@
 -- The six digits that name a day, and the day that six digits name.
-use Rattle.std.proofs.Common.{Bool, ◌≡◌, ℕ, zero, suc, ◌+◌, ◌*◌, ◌/◌, ◌%◌, ◌<◌, true, false, cond, List, [], ◌∷◌, ◌++◌, length, get_or, Option, Some, None, refl, sym, ap, ◌∙◌, arith, rules}
+use Rattle.std.proofs.Common.{Bool, ◌≡◌, ℕ, zero, suc, ◌+◌, ◌*◌, ◌/◌, ◌%◌, ◌<◌, true, false, cond, List, [], ◌∷◌, ◌++◌, length, get_or}
+use Rattle.std.proofs.Common.{Option, Some, None, refl, sym, ap, ◌∙◌, arith, rules}
 use Rattle.std.proofs.lemmas.Bool.Decides.{nat_tests}
 use Rattle.std.proofs.lemmas.Slice.Eq.{text_from_reads}
 use Rattle.jiff_core.proofs.CalendarLemmas.{days_in_month_bounds}
@@ -17,7 +18,8 @@ small_parts yy month day n h =
 
 -- ---- what stands in columns is found there
 
-day_from_all : (a b c : Option ℕ) (yy month day n : ℕ) → a ≡ Some yy → b ≡ Some month → c ≡ Some day → day_number yy month day ≡ Some n → day_from a b c ≡ Some n
+day_from_all : (a b c : Option ℕ) (yy month day n : ℕ) → a ≡ Some yy → b ≡ Some month → c ≡ Some day
+    → day_number yy month day ≡ Some n → day_from a b c ≡ Some n
 day_from_all a b c yy month day n p q r h = rw (p, q, r) h
 
 pub yymmdd_in-stands : (columns : List ℕ) (n : ℕ) → StandsInYymmdd columns n → yymmdd_in columns ≡ Some n
@@ -25,14 +27,27 @@ unfolding yymmdd_in
 yymmdd_in-stands columns n s =
     let small = small_parts s.yy s.month s.day n s.dated in
     rw s.spelled
-    (day_from_all _ _ _ s.yy s.month s.day n (number_in-two_digits s.yy s.dated.year) (number_in-two_digits s.month small.0) (number_in-two_digits s.day small.1) (day_number-dated s.yy s.month s.day n s.dated))
+    (day_from_all _ _ _ s.yy s.month s.day n (number_in-two_digits s.yy s.dated.year)
+    (number_in-two_digits s.month small.0) (number_in-two_digits s.day small.1) (day_number-dated s.yy s.month s.day n s.dated))
 
 pub ddmmyy_in-stands : (columns : List ℕ) (n : ℕ) → StandsInDdmmyy columns n → ddmmyy_in columns ≡ Some n
 unfolding ddmmyy_in
 ddmmyy_in-stands columns n s =
     let small = small_parts s.yy s.month s.day n s.dated in
     rw s.spelled
-    (day_from_all _ _ _ s.yy s.month s.day n (number_in-two_digits s.yy s.dated.year) (number_in-two_digits s.month small.0) (number_in-two_digits s.day small.1) (day_number-dated s.yy s.month s.day n s.dated))
+    (day_from_all _ _ _ s.yy s.month s.day n (number_in-two_digits s.yy s.dated.year)
+    (number_in-two_digits s.month small.0) (number_in-two_digits s.day small.1) (day_number-dated s.yy s.month s.day n s.dated))
+
+-- one day stands in columns
+pub one_in_yymmdd : (columns : List ℕ) (m n : ℕ) → StandsInYymmdd columns m → StandsInYymmdd columns n → m ≡ n
+one_in_yymmdd columns m n s t =
+    let found : Some m ≡ Some n = sym (yymmdd_in-stands columns m s) ∙ yymmdd_in-stands columns n t in
+    cc
+
+pub one_in_ddmmyy : (columns : List ℕ) (m n : ℕ) → StandsInDdmmyy columns m → StandsInDdmmyy columns n → m ≡ n
+one_in_ddmmyy columns m n s t =
+    let found : Some m ≡ Some n = sym (ddmmyy_in-stands columns m s) ∙ ddmmyy_in-stands columns n t in
+    cc
 
 -- ---- what is found in six columns stands there
 
@@ -52,7 +67,8 @@ parts_from (Some yy) (Some month) None n h = cc
 parts_from (Some yy) (Some month) (Some day) n h =
     record { yy = yy; month = month; day = day; year_is = refl; month_is = refl; day_is = refl; number = h }
 
-six : (xs : List ℕ) → length xs ≡ 6 → xs ≡ get_or xs 0 0 ∷ get_or xs 1 0 ∷ get_or xs 2 0 ∷ get_or xs 3 0 ∷ get_or xs 4 0 ∷ get_or xs 5 0 ∷ []
+six : (xs : List ℕ) → length xs ≡ 6
+    → xs ≡ get_or xs 0 0 ∷ get_or xs 1 0 ∷ get_or xs 2 0 ∷ get_or xs 3 0 ∷ get_or xs 4 0 ∷ get_or xs 5 0 ∷ []
 six xs h = text_from_reads xs _ h (search rules)
 
 pub stands-yymmdd_in : (columns : List ℕ) (n : ℕ) → length columns ≡ 6 → yymmdd_in columns ≡ Some n → StandsInYymmdd columns n

@@ -9,6 +9,7 @@ pub mod FieldLaws
 pub mod FoundInHeld
 pub mod GivenLinesLaws
 pub mod HeldBytes
+pub mod Letters
 pub mod LineAnswers
 pub mod Masks
 pub mod Parts

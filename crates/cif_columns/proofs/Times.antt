@@ -1,5 +1,6 @@
 -- What the form of a time says of its columns, and that the tests of it are right.
-use Rattle.std.proofs.Common.{Bool, ◌&&◌, ◌||◌, ◌≡◌, ℕ, ◌+◌, ◌-◌, ◌*◌, ◌/◌, ◌%◌, ◌<◌, ◌≤◌, ◌⊎◌, inl, inr, true, false, nat_eq, nat_lt, List, [], ◌∷◌, length, get_or, replicate, Some, None, refl, sym, ap, arith, rules, cond, subst}
+use Rattle.std.proofs.Common.{Bool, ◌&&◌, ◌||◌, ◌≡◌, ℕ, ◌+◌, ◌-◌, ◌*◌, ◌/◌, ◌%◌, ◌<◌, ◌≤◌, ◌⊎◌, inl, inr, true, false, nat_eq, nat_lt}
+use Rattle.std.proofs.Common.{List, [], ◌∷◌, length, get_or, replicate, Some, None, refl, sym, ap, arith, rules, cond, subst}
 use Rattle.std.proofs.lemmas.Bool.Decides.{nat_tests}
 use Rattle.std.proofs.lemmas.List.Elements.{All-nil, All-cons, All-append, All-replicate}
 use Rattle.std.proofs.lemmas.Slice.Eq.{text_from_reads}
@@ -44,7 +45,8 @@ hour_minute a b c d h =
     }
 
 -- an hour and a minute pass the test
-pub is_clock-digits : (hour minute : ℕ) → hour < 24 → minute < 60 → is_clock (48 + hour / 10) (48 + hour % 10) (48 + minute / 10) (48 + minute % 10) ≡ true
+pub is_clock-digits : (hour minute : ℕ) → hour < 24 → minute < 60
+    → is_clock (48 + hour / 10) (48 + hour % 10) (48 + minute / 10) (48 + minute % 10) ≡ true
 is_clock-digits hour minute h m =
     let a : is_ascii_digit (48 + hour / 10) ≡ true = digit_is (hour / 10) (omega arith) in
     let b : is_ascii_digit (48 + hour % 10) ≡ true = digit_is (hour % 10) (omega arith) in
@@ -99,7 +101,9 @@ and_true false b h k = cc
 
 -- ---- public times
 
-public_form : (b t : Bool) (columns : List ℕ) → length columns ≡ 4 → is_blank columns ≡ b → is_clock (get_or columns 0 0) (get_or columns 1 0) (get_or columns 2 0) (get_or columns 3 0) ≡ t → b || t ≡ true → public.IsPublicTime columns
+public_form : (b t : Bool) (columns : List ℕ) → length columns ≡ 4 → is_blank columns ≡ b
+    → is_clock (get_or columns 0 0) (get_or columns 1 0) (get_or columns 2 0) (get_or columns 3 0) ≡ t → b || t ≡ true
+    → public.IsPublicTime columns
 public_form true t columns width blank clock h =
     inl (rw width at (blank_is columns blank))
 public_form false true columns width blank clock h =
@@ -122,14 +126,17 @@ pub public_time_in-stands : (columns time : List ℕ) → public.StandsIn column
 public_time_in-stands columns time s = chosen_at _ columns time (public_passes columns s.form) s.same
 
 -- what is found in four columns stands there
-pub stands-public_time_in : (columns time : List ℕ) → length columns ≡ 4 → public.public_time_in columns ≡ Some time → public.StandsIn columns time
+pub stands-public_time_in : (columns time : List ℕ) → length columns ≡ 4 → public.public_time_in columns ≡ Some time
+    → public.StandsIn columns time
 stands-public_time_in columns time width e =
     let both = found_at (public.is_public_time columns) columns time e in
     record { same = both.1; form = (public-stands columns width both.0).form }
 
 -- ---- working times
 
-work_form : (b t m : Bool) (columns : List ℕ) → length columns ≡ 5 → is_blank columns ≡ b → is_clock (get_or columns 0 0) (get_or columns 1 0) (get_or columns 2 0) (get_or columns 3 0) ≡ t → nat_eq (get_or columns 4 0) 32 || nat_eq (get_or columns 4 0) 72 ≡ m → b || (t && m) ≡ true → work.IsWorkTime columns
+work_form : (b t m : Bool) (columns : List ℕ) → length columns ≡ 5 → is_blank columns ≡ b
+    → is_clock (get_or columns 0 0) (get_or columns 1 0) (get_or columns 2 0) (get_or columns 3 0) ≡ t
+    → nat_eq (get_or columns 4 0) 32 || nat_eq (get_or columns 4 0) 72 ≡ m → b || (t && m) ≡ true → work.IsWorkTime columns
 work_form true t m columns width blank clock mark h =
     inl (rw width at (blank_is columns blank))
 work_form false true true columns width blank clock mark h =
@@ -195,4 +202,5 @@ pub work_printable : (columns : List ℕ) → work.IsWorkTime columns → ArePri
 work_printable columns (inl blank) = rw blank (All-replicate IsPrintable 5 32 (omega arith, omega arith))
 work_printable columns (inr timed) =
     rw timed.spelled
-    (All-append IsPrintable timed.clock (timed.half ∷ []) (clock_printable timed.clock timed.time) (All-cons IsPrintable timed.half [] (mark_printable timed.half timed.mark) (All-nil IsPrintable)))
+    (All-append IsPrintable timed.clock (timed.half ∷ []) (clock_printable timed.clock timed.time)
+    (All-cons IsPrintable timed.half [] (mark_printable timed.half timed.mark) (All-nil IsPrintable)))

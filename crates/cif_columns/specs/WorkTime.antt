@@ -1,5 +1,6 @@
 -- Working times: five columns as they stand.
-use Rattle.std.specs.Prelude.{◌≡◌, ℕ, Bool, ◌&&◌, ◌||◌, ◌==◌, ◌⊎◌, List, [], ◌∷◌, ◌++◌, replicate, Option, Some, None, slice_index, if◌then◌else◌}
+use Rattle.std.specs.Prelude.{◌≡◌, ℕ, Bool, ◌&&◌, ◌||◌, ◌==◌, ◌⊎◌, List, [], ◌∷◌, ◌++◌, replicate, Option, Some, None, slice_index}
+use Rattle.std.specs.Prelude.{if◌then◌else◌}
 use Rattle.cif_columns.specs.Clock.{IsHourMinute, is_clock, is_blank}
 
 -- an hour and a minute, and then a space, or `H` for half a minute more

@@ -28,7 +28,7 @@ mod work_time;
 mod write_device;
 
 pub use activities::Activities;
-pub use day::Day;
+pub use day::{Day, order_of_days};
 pub use days_run::DaysRun;
 pub use field::{Field, columns_at, field_at, text_at, uid_at};
 pub use line::Line;
@@ -41,12 +41,14 @@ pub use refusal::Refusal;
 pub use sink::{Sink, WriteFault};
 pub use source::{ReadFault, Source};
 pub use stp::Stp;
-pub use text::{Text, order_of_columns};
+pub use text::{Text, order_of_columns, order_of_texts};
 pub use trial_reader::{End, TrialReader};
 pub use trial_writer::TrialWriter;
-pub use uid::Uid;
+pub use uid::{Uid, order_of_uids};
 pub use work_time::WorkTime;
 pub use write_device::WriteDevice;
 
 #[cfg(test)]
 mod stream_tests;
+#[cfg(test)]
+mod value_tests;

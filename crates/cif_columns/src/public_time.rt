@@ -1,7 +1,8 @@
 //! Public times.
 ghost use Rattle.std.specs.Prelude.{◌≡◌, ℕ, List, length, Some, IfSome};
 ghost use Rattle.cif_columns.specs.Line.{ArePrintable};
-ghost use Rattle.cif_columns.specs.PublicTime.{StandsIn, is_public_time as is_time, public_time_in};
+ghost use Rattle.cif_columns.specs.PublicTime.{StandsIn, is_public_time as is_time};
+ghost use Rattle.cif_columns.specs.PublicTime.{public_time_in};
 
 use crate::clock::{is_blank, is_hhmm};
 use std::marker::Model;
