@@ -1,0 +1,29 @@
+-- Records with keys: a list of pairs of a key and the terms of one of its records.
+use Rattle.std.specs.Prelude.{◌≡◌, ℕ, List, map, Some, Contains, slice_get}
+use Rattle.std.specs.declared.cmp.Ordering.{Ordering}
+use Rattle.std.specs.declared.cmp.Ordering.TheVariants.{Less}
+use Rattle.cif_calendar.specs.Terms.{Terms, Records}
+use Rattle.cif_calendar.specs.Clash.{IsClearFrom, IsFirstClash}
+
+-- the entries of a list, each with its key
+abbrev pub keyed : {E K B : Type 0} → (E → K) → (E → Terms B) → List E → List (K × Terms B)
+keyed key terms entries = map (λ e. (key e, terms e)) entries
+
+-- the records of key k
+abbrev pub of_key : {K B : Type 0} → List (K × Terms B) → K → Records B
+of_key entries k r = Contains entries (k, r)
+
+-- the members are the positions of the records of key k
+pub record ArePositionsOf {K B : Type 0} (entries : List (K × Terms B)) (k : K) (members : List ℕ) : Type 0 where
+  pub found : (i : ℕ) → Contains members i → (r : Terms B) × (slice_get entries i ≡ Some (k, r))
+  pub all : (i : ℕ) (r : Terms B) → slice_get entries i ≡ Some (k, r) → Contains members i
+
+-- No key has a clash on a day from `first` to `last`.
+pub record AreClear {K B : Type 0} (entries : List (K × Terms B)) (first last : ℕ) : Type 0 where
+  pub key : (k : K) → IsClearFrom (of_key entries k) first last
+
+-- Key k, on day d, has the first clash from `first` to `last`: no key before k has one, and k has none before d.
+pub record IsFirstClashOf {K B : Type 0} (cmp : K → K → Ordering) (entries : List (K × Terms B)) (first last : ℕ)
+    (k : K) (d : ℕ) : Type 0 where
+  pub clash : IsFirstClash (of_key entries k) first last d
+  pub clear_before : (j : K) → cmp j k ≡ Less → IsClearFrom (of_key entries j) first last
