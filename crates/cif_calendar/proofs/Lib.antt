@@ -1,3 +1,5 @@
 pub mod Sets
 pub mod Winning
 pub mod Meaning
+pub mod SayTheSame
+pub mod DayByDay
