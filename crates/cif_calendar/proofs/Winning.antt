@@ -29,14 +29,14 @@ pub terms_at : {X Y : Type 0} (f : X → Y) (xs : List X) (i : ℕ) (x : X) → 
 terms_at f xs i x below is = slice_get-map f xs i ∙ ap (λ o. option_map f o) (slice_get_read xs (length xs) i x refl below is)
 
 -- `more` has the records of `records`, and r
-record IsWith {B : Type 0} (records : Records B) (r : Terms B) (more : Records B) : Type 0 where
-  kept : (s : Terms B) → records s → more s
-  added : more r
-  only : (s : Terms B) → more s → records s ⊎ (r ≡ s)
+pub record IsWith {B : Type 0} (records : Records B) (r : Terms B) (more : Records B) : Type 0 where
+  pub kept : (s : Terms B) → records s → more s
+  pub added : more r
+  pub only : (s : Terms B) → more s → records s ⊎ (r ≡ s)
 
 module _ {B : Type 0} (ys zs : Records B) (d : ℕ) (r : Terms B) (a : IsWith ys r zs) where
   -- a winner stays one, where the new record does not apply or is not before it
-  wins-keeps : (t : Terms B) → (Applies r d → letter t.letter ≤ letter r.letter) → Wins ys d t → Wins zs d t
+  pub wins-keeps : (t : Terms B) → (Applies r d → letter t.letter ≤ letter r.letter) → Wins ys d t → Wins zs d t
   wins-keeps t later w = record {
     listed = a.kept t w.listed;
     applies = w.applies;
@@ -47,7 +47,7 @@ module _ {B : Type 0} (ys zs : Records B) (d : ℕ) (r : Terms B) (a : IsWith ys
   }
 
   -- the new record wins, where no record that applies is before it
-  wins-new : Applies r d → ((s : Terms B) → ys s → Applies s d → letter r.letter ≤ letter s.letter) → Wins zs d r
+  pub wins-new : Applies r d → ((s : Terms B) → ys s → Applies s d → letter r.letter ≤ letter s.letter) → Wins zs d r
   wins-new on before = record {
     listed = a.added;
     applies = on;
@@ -82,7 +82,7 @@ module _ {B : Type 0} (ys zs : Records B) (d : ℕ) (r : Terms B) (a : IsWith ys
     undisputed = λ s v. ⊎_elim (λ old. absurd (none.none s old v.applies)) (λ e. ap (λ (q : Terms B). q.body) e) (a.only s v.listed);
   }
 
-  none-keeps : (Applies r d → ⊥) → NoneApplies ys d → NoneApplies zs d
+  pub none-keeps : (Applies r d → ⊥) → NoneApplies ys d → NoneApplies zs d
   none-keeps off none = record {
     none = λ s in' on. ⊎_elim
         (λ old. none.none s old on)

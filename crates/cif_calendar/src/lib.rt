@@ -6,3 +6,6 @@ mod winner;
 
 pub use entry::Entry;
 pub use winner::{BodiesDiffer, winner_on};
+
+#[cfg(test)]
+mod tests;
