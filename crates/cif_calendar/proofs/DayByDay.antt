@@ -36,7 +36,8 @@ one_day-day d e b r o a =
     let unfinished : e ≤ r.last = a.unfinished in omega arith
 
 module _ {K B : Type 0} (entries out : List (K × Terms B)) (first last : ℕ)
-    (lawful : (k : K) → AreLawful (of_key entries k)) (clear : AreClear entries first last) (by_day : IsDayByDay entries first last out) where
+    (lawful : (k : K) → AreLawful (of_key entries k)) (clear : AreClear entries first last)
+    (by_day : IsDayByDay entries first last out) where
   -- a record that is told has letter P and a body
   told-letter : (k : K) (r : Terms B) → of_key out k r → r.letter ≡ P
   told-letter k r in' = (by_day.only k r in').form.letter
@@ -79,7 +80,8 @@ module _ {K B : Type 0} (entries out : List (K × Terms B)) (first last : ℕ)
   body-was k d b runs = told-runs k d runs.winner b runs.wins.listed runs.wins.applies runs.body
 
   -- a winner with a body among lawful records is no cancellation
-  winner-runs : (k : K) (d : ℕ) (r : Terms B) (o : Option B) → o ≡ r.body → first ≤ d → d ≤ last → NothingRuns (of_key out k) d → Wins (of_key entries k) d r → r.letter ≡ C
+  winner-runs : (k : K) (d : ℕ) (r : Terms B) (o : Option B) → o ≡ r.body → first ≤ d → d ≤ last → NothingRuns (of_key out k) d →
+      Wins (of_key entries k) d r → r.letter ≡ C
   winner-runs k d r None e from upto n w = ((lawful k).cancelled r w.listed).0 (none-body r.body e)
   winner-runs k d r (Some b) e from upto n w =
       absurd (nothing-body (of_key out k) d b (day_by_day-lawful k) n

@@ -19,12 +19,14 @@ pub at-contains : {X : Type 0} (xs : List X) (x : X) → Contains xs x → (i : 
 at-contains xs x c = (c.0, slice_get-get_or xs c.0 x c.1 ∙ ap Some c.2)
 
 module _ {E K B : Type 0} (key : E → K) (terms : E → Terms B) where
-  terms-found : (o : Option E) (k : K) (r : Terms B) → option_map {U = K × Terms B} (λ e. (key e, terms e)) o ≡ Some (k, r) → option_map terms o ≡ Some r
+  terms-found : (o : Option E) (k : K) (r : Terms B) → option_map {U = K × Terms B} (λ e. (key e, terms e)) o ≡ Some (k, r) →
+      option_map terms o ≡ Some r
   terms-found None k r e = absurd (cc)
   terms-found (Some x) k r e = ap (λ (q : Option (K × Terms B)). option_map (λ p. p.1) q) e
 
   -- the terms at a position, where the key and the terms stand
-  pub terms_at-keyed : (es : List E) (i : ℕ) (k : K) (r : Terms B) → slice_get (keyed key terms es) i ≡ Some (k, r) → slice_get (map terms es) i ≡ Some r
+  pub terms_at-keyed : (es : List E) (i : ℕ) (k : K) (r : Terms B) → slice_get (keyed key terms es) i ≡ Some (k, r) →
+      slice_get (map terms es) i ≡ Some r
   terms_at-keyed es i k r e =
       slice_get-map terms es i ∙ terms-found (slice_get es i) k r (sym (slice_get-map (λ x. (key x, terms x)) es i) ∙ e)
 
@@ -48,5 +50,6 @@ module _ {E K B : Type 0} (key : E → K) (terms : E → Terms B) where
     pub clash-of_key : (d : ℕ) → IsClash (IsChosen (map terms es) members) d → IsClash (of_key (keyed key terms es) k) d
     clash-of_key d c = IsClash-same _ _ positions-records d c
 
-    pub source-of_key : (d : ℕ) (o : Option ℕ) → IsSource (map terms es) members d o → Runs (of_key (keyed key terms es) k) d (body_at (map terms es) o)
+    pub source-of_key : (d : ℕ) (o : Option ℕ) → IsSource (map terms es) members d o →
+        Runs (of_key (keyed key terms es) k) d (body_at (map terms es) o)
     source-of_key d o s = Runs-same _ _ positions-records d (body_at (map terms es) o) (Runs-from_source (map terms es) members d o s)

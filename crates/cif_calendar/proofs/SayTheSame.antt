@@ -15,7 +15,8 @@ module _ {K B : Type 0} where
     same = λ k d o from upto. ((e.same k d o from upto).1, (e.same k d o from upto).0);
   }
 
-  pub SameMeaning-trans : (xs ys zs : List (K × Terms B)) (first last : ℕ) → SameMeaning xs ys first last → SameMeaning ys zs first last → SameMeaning xs zs first last
+  pub SameMeaning-trans : (xs ys zs : List (K × Terms B)) (first last : ℕ) → SameMeaning xs ys first last →
+      SameMeaning ys zs first last → SameMeaning xs zs first last
   SameMeaning-trans xs ys zs first last e f = record {
     same = λ k d o from upto. (
       λ h. (f.same k d o from upto).0 ((e.same k d o from upto).0 h),
@@ -24,7 +25,8 @@ module _ {K B : Type 0} where
   }
 
   -- a list says what another does that has the same records for each key
-  pub SameMeaning-from_records : (xs ys : List (K × Terms B)) (first last : ℕ) → ((k : K) → SameRecords (of_key xs k) (of_key ys k)) → SameMeaning xs ys first last
+  pub SameMeaning-from_records : (xs ys : List (K × Terms B)) (first last : ℕ) → ((k : K) → SameRecords (of_key xs k) (of_key ys k)) →
+      SameMeaning xs ys first last
   SameMeaning-from_records xs ys first last e = record {
     same = λ k d o from upto. (
       Runs-same (of_key xs k) (of_key ys k) (e k) d o,
@@ -33,6 +35,7 @@ module _ {K B : Type 0} where
   }
 
   -- the order of a list, and how often it has a record, say nothing
-  pub SameMeaning-from_members : (xs ys : List (K × Terms B)) (first last : ℕ) → ((x : K × Terms B) → Contains xs x ↔ Contains ys x) → SameMeaning xs ys first last
+  pub SameMeaning-from_members : (xs ys : List (K × Terms B)) (first last : ℕ) → ((x : K × Terms B) → Contains xs x ↔ Contains ys x) →
+      SameMeaning xs ys first last
   SameMeaning-from_members xs ys first last e =
       SameMeaning-from_records xs ys first last (λ k. record { same = λ r. e (k, r) })

@@ -1,10 +1,12 @@
 -- On each day something runs, or nothing does.
-use Rattle.std.proofs.Common.{◌≡◌, ℕ, ◌<◌, ◌≤◌, List, [], ◌∷◌, Option, None, Some, Bool, true, false, arith, refl, sym, ◌∙◌, ap, subst, ⊎_elim, inl, inr}
+use Rattle.std.proofs.Common.{◌≡◌, ℕ, ◌<◌, ◌≤◌, List, [], ◌∷◌, Option, None, Some, Bool, true, false, arith, refl, sym, ◌∙◌, ap, subst}
+use Rattle.std.proofs.Common.{⊎_elim, inl, inr}
 use Rattle.std.specs.Prelude.{Contains, slice_get, ◌⊎◌}
 use Rattle.std.specs.Option.{is_some}
 use Rattle.std.proofs.lemmas.Bool.{cases_lt}
 use Rattle.std.proofs.lemmas.Option.{same_Some}
-use Rattle.std.proofs.lemmas.List.Elements.{Contains-append_left, Contains-append_right, Contains-append_cases, Contains-push, Contains-push_cases}
+use Rattle.std.proofs.lemmas.List.Elements.{Contains-append_left, Contains-append_right, Contains-append_cases, Contains-push}
+use Rattle.std.proofs.lemmas.List.Elements.{Contains-push_cases}
 use Rattle.cif_columns.specs.Stp.{letter}
 use Rattle.cif_columns.specs.declared.stp.Stp.{Stp}
 use Rattle.cif_columns.specs.declared.stp.Stp.TheVariants.{P, N, O, C}
@@ -80,7 +82,8 @@ first : (i : ℕ) (members : List ℕ) → Contains (i ∷ members) i
 first i members = Contains-append_left (i ∷ []) members i (Contains-push [] i)
 
 -- a position more chooses no record more, or the one that stands there
-winner-more : {B : Type 0} (xs : List (Terms B)) (i : ℕ) (members : List ℕ) (d : ℕ) (o : Option (Terms B)) → slice_get xs i ≡ o → HasWinner (IsChosen xs members) d → HasWinner (IsChosen xs (i ∷ members)) d
+winner-more : {B : Type 0} (xs : List (Terms B)) (i : ℕ) (members : List ℕ) (d : ℕ) (o : Option (Terms B)) → slice_get xs i ≡ o →
+    HasWinner (IsChosen xs members) d → HasWinner (IsChosen xs (i ∷ members)) d
 winner-more xs i members d None at h =
     winner-same (IsChosen xs members) (IsChosen xs (i ∷ members)) d (record {
       same = λ s. (
@@ -111,8 +114,10 @@ least-letter N h = absurd (omega arith)
 least-letter O h = absurd (omega arith)
 least-letter P h = absurd (omega arith)
 
-winner-decides : {B : Type 0} (records : Records B) (d : ℕ) (t : Terms B) → AreLawful records → Wins records d t → (o : Option B) → t.body ≡ o → (p : Option B) × Runs records d p
-winner-decides {B} records d t l w (Some b) e = (Some b, let runs : Runs records d (Some b) = record { winner = t; wins = w; body = e } in runs)
+winner-decides : {B : Type 0} (records : Records B) (d : ℕ) (t : Terms B) → AreLawful records → Wins records d t → (o : Option B) →
+    t.body ≡ o → (p : Option B) × Runs records d p
+winner-decides {B} records d t l w (Some b) e =
+    (Some b, let runs : Runs records d (Some b) = record { winner = t; wins = w; body = e } in runs)
 winner-decides {B} records d t l w None e =
     let none : t.letter ≡ C = (l.cancelled t w.listed).0 (ap is_some e) in
     let runs : Runs records d None = record {
@@ -120,8 +125,11 @@ winner-decides {B} records d t l w None e =
     } in (None, runs)
 
 -- on each day a body runs among the chosen records, or nothing does
-pub Runs-total : {B : Type 0} (xs : List (Terms B)) (members : List ℕ) (d : ℕ) → AreLawful (IsChosen xs members) → (o : Option B) × Runs (IsChosen xs members) d o
-Runs-total {B} xs members d l = ⊎_elim
-    (λ none. let runs : Runs (IsChosen xs members) d None = record { cancelled = λ r w. absurd (none.none r w.listed w.applies) } in (None, runs))
+pub Runs-exists : {B : Type 0} (xs : List (Terms B)) (members : List ℕ) (d : ℕ) → AreLawful (IsChosen xs members) →
+    (o : Option B) × Runs (IsChosen xs members) d o
+Runs-exists {B} xs members d l = ⊎_elim
+    (λ none. let runs : Runs (IsChosen xs members) d None = record {
+      cancelled = λ r w. absurd (none.none r w.listed w.applies);
+    } in (None, runs))
     (λ w. winner-decides (IsChosen xs members) d w.0 l w.1 w.0.body refl)
     (winner-or-none xs members d)

@@ -1,5 +1,6 @@
 -- One more member: who leads afterwards.
-use Rattle.std.proofs.Common.{◌≡◌, ℕ, ◌<◌, ◌≤◌, List, [], ◌∷◌, ◌++◌, Some, Bool, false, refl, length, get_or, map, ap, subst, sym, ◌∙◌, arith, ⊎_elim, inl, inr}
+use Rattle.std.proofs.Common.{◌≡◌, ℕ, ◌<◌, ◌≤◌, List, [], ◌∷◌, ◌++◌, Some, Bool, false, refl, length, get_or, map, ap, subst, sym, ◌∙◌}
+use Rattle.std.proofs.Common.{arith, ⊎_elim, inl, inr}
 use Rattle.std.proofs.lemmas.Bool.{false≢true}
 use Rattle.std.specs.Prelude.{IsTrue, slice_get, ◌⊎◌}
 use Rattle.std.proofs.lemmas.List.Elements.{Contains-append_left, Contains-push, Contains-push_cases}
@@ -25,7 +26,8 @@ pub level : (a b : ℕ) → (a < b → ⊥) → (b < a → ⊥) → b ≡ a
 level a b h k = omega arith
 
 -- what an index reads, as a look-up among the terms
-pub terms_at : {X Y : Type 0} (f : X → Y) (xs : List X) (i : ℕ) (x : X) → i < length xs → x ≡ get_or xs i x → slice_get (map f xs) i ≡ Some (f x)
+pub terms_at : {X Y : Type 0} (f : X → Y) (xs : List X) (i : ℕ) (x : X) → i < length xs → x ≡ get_or xs i x →
+    slice_get (map f xs) i ≡ Some (f x)
 terms_at f xs i x below is = slice_get-map f xs i ∙ ap (λ o. option_map f o) (slice_get_read xs (length xs) i x refl below is)
 
 -- `more` has the records of `records`, and r
@@ -91,7 +93,8 @@ module _ {B : Type 0} (ys zs : Records B) (d : ℕ) (r : Terms B) (a : IsWith ys
   }
 
   -- the leader stays, where the new record does not apply, or is after it, or has its body
-  leads-keeps : (t : Terms B) → (Applies r d → letter t.letter ≤ letter r.letter) → (Applies r d → (letter t.letter < letter r.letter) ⊎ (r.body ≡ t.body)) → Leads ys d t → Leads zs d t
+  leads-keeps : (t : Terms B) → (Applies r d → letter t.letter ≤ letter r.letter) → (Applies r d →
+      (letter t.letter < letter r.letter) ⊎ (r.body ≡ t.body)) → Leads ys d t → Leads zs d t
   leads-keeps t later like l = record {
     wins = wins-keeps t later l.wins;
     undisputed = λ s v. ⊎_elim (λ old. l.undisputed s old)
@@ -151,27 +154,43 @@ module _ {B : Type 0} (xs : List (Terms B)) (d i : ℕ) (r : Terms B) (at : slic
   step-first on h = (r, stands_at-new, leads-first _ _ d r chosen-with on h)
 
   -- the winner that a standing names, at l
-  pub step-takes : (l : ℕ) (t : Terms B) → slice_get xs l ≡ Some t → Applies r d → letter r.letter < letter t.letter → Stands xs members d (Leader l) ⊎ Stands xs members d (Disputed l) → Stands xs (members ++ i ∷ []) d (Leader i)
+  pub step-takes : (l : ℕ) (t : Terms B) → slice_get xs l ≡ Some t → Applies r d → letter r.letter < letter t.letter →
+      Stands xs members d (Leader l) ⊎ Stands xs members d (Disputed l) → Stands xs (members ++ i ∷ []) d (Leader i)
   step-takes l t at_l on before h =
       let w : Wins (IsChosen xs members) d t = ⊎_elim
-      (λ (k : Stands xs members d (Leader l)). subst (λ (q : Terms B). Wins (IsChosen xs members) d q) (same_Some k.0 t (sym k.1.at ∙ at_l)) k.2.wins)
-      (λ (k : Stands xs members d (Disputed l)). subst (λ (q : Terms B). Wins (IsChosen xs members) d q) (same_Some k.0 t (sym k.1.at ∙ at_l)) k.2.wins) h in
+      (λ (k : Stands xs members d (Leader l)). subst (λ (q : Terms B). Wins (IsChosen xs members) d q)
+      (same_Some k.0 t (sym k.1.at ∙ at_l)) k.2.wins)
+      (λ (k : Stands xs members d (Disputed l)). subst (λ (q : Terms B). Wins (IsChosen xs members) d q)
+      (same_Some k.0 t (sym k.1.at ∙ at_l)) k.2.wins) h in
       (r, stands_at-new, leads-takes _ _ d r chosen-with t on before w)
 
-  pub step-keeps : (l : ℕ) (t : Terms B) → slice_get xs l ≡ Some t → letter t.letter ≤ letter r.letter → (letter t.letter < letter r.letter) ⊎ (r.body ≡ t.body) → Stands xs members d (Leader l) → Stands xs (members ++ i ∷ []) d (Leader l)
+  pub step-keeps : (l : ℕ) (t : Terms B) → slice_get xs l ≡ Some t → letter t.letter ≤ letter r.letter →
+      (letter t.letter < letter r.letter) ⊎ (r.body ≡ t.body) → Stands xs members d (Leader l) →
+      Stands xs (members ++ i ∷ []) d (Leader l)
   step-keeps l t at_l later like h =
       let e : h.0 ≡ t = same_Some h.0 t (sym h.1.at ∙ at_l) in
-      let lead : Leads (IsChosen xs members) d t = subst (λ (q : Terms B). Leads (IsChosen xs members) d q) e h.2 in
-      (t, stands_at-left l t (subst (λ (q : Terms B). StandsAt xs members l q) e h.1), leads-keeps _ _ d r chosen-with t (λ _. later) (λ _. like) lead)
+      let lead : Leads (IsChosen xs members) d t = subst (λ (q : Terms B). Leads (IsChosen xs members) d q) e h.2 in (
+        t,
+        stands_at-left l t (subst (λ (q : Terms B). StandsAt xs members l q) e h.1),
+        leads-keeps _ _ d r chosen-with t (λ _. later) (λ _. like) lead,
+      )
 
-  pub step-disputes : (l : ℕ) (t : Terms B) → slice_get xs l ≡ Some t → Applies r d → letter t.letter ≡ letter r.letter → (r.body ≡ t.body → ⊥) → Stands xs members d (Leader l) → Stands xs (members ++ i ∷ []) d (Disputed l)
+  pub step-disputes : (l : ℕ) (t : Terms B) → slice_get xs l ≡ Some t → Applies r d → letter t.letter ≡ letter r.letter →
+      (r.body ≡ t.body → ⊥) → Stands xs members d (Leader l) → Stands xs (members ++ i ∷ []) d (Disputed l)
   step-disputes l t at_l on same apart h =
       let e : h.0 ≡ t = same_Some h.0 t (sym h.1.at ∙ at_l) in
-      let lead : Leads (IsChosen xs members) d t = subst (λ (q : Terms B). Leads (IsChosen xs members) d q) e h.2 in
-      (t, stands_at-left l t (subst (λ (q : Terms B). StandsAt xs members l q) e h.1), disputed-new _ _ d r chosen-with t on same apart lead.wins)
+      let lead : Leads (IsChosen xs members) d t = subst (λ (q : Terms B). Leads (IsChosen xs members) d q) e h.2 in (
+        t,
+        stands_at-left l t (subst (λ (q : Terms B). StandsAt xs members l q) e h.1),
+        disputed-new _ _ d r chosen-with t on same apart lead.wins,
+      )
 
-  pub step-stays_disputed : (l : ℕ) (t : Terms B) → slice_get xs l ≡ Some t → letter t.letter ≤ letter r.letter → Stands xs members d (Disputed l) → Stands xs (members ++ i ∷ []) d (Disputed l)
+  pub step-stays_disputed : (l : ℕ) (t : Terms B) → slice_get xs l ≡ Some t → letter t.letter ≤ letter r.letter →
+      Stands xs members d (Disputed l) → Stands xs (members ++ i ∷ []) d (Disputed l)
   step-stays_disputed l t at_l later h =
       let e : h.0 ≡ t = same_Some h.0 t (sym h.1.at ∙ at_l) in
-      let lead : IsDisputed (IsChosen xs members) d t = subst (λ (q : Terms B). IsDisputed (IsChosen xs members) d q) e h.2 in
-      (t, stands_at-left l t (subst (λ (q : Terms B). StandsAt xs members l q) e h.1), disputed-keeps _ _ d r chosen-with t (λ _. later) lead)
+      let lead : IsDisputed (IsChosen xs members) d t = subst (λ (q : Terms B). IsDisputed (IsChosen xs members) d q) e h.2 in (
+        t,
+        stands_at-left l t (subst (λ (q : Terms B). StandsAt xs members l q) e h.1),
+        disputed-keeps _ _ d r chosen-with t (λ _. later) lead,
+      )

@@ -37,7 +37,13 @@ impl Entry for Record {
 
     ghost key = { λ e. e.key };
 
-    ghost terms = { λ e. record { first = e.first; last = e.last; days = e.days; letter = e.letter; body = e.body } };
+    ghost terms = { λ e. record {
+      first = e.first;
+      last = e.last;
+      days = e.days;
+      letter = e.letter;
+      body = e.body;
+    } };
 
     fn key(&self) -> &u8 {
         &self.key

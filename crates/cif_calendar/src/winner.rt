@@ -1,6 +1,7 @@
 //! The winner of one date.
 
-ghost use Rattle.std.specs.Prelude.{◌≡◌, ◌<◌, ◌↔◌, List, ℕ, ◌++◌, ◌∷◌, [], length, map, All, IsTrue, IfOk, OnOk, OnErr};
+ghost use Rattle.std.specs.Prelude.{◌≡◌, ◌<◌, ◌↔◌, List, ℕ, ◌++◌, ◌∷◌, [], length, map, All};
+ghost use Rattle.std.specs.Prelude.{IsTrue, IfSome, IfOk, OnOk, OnErr};
 ghost use Rattle.cif_columns.specs.Stp.{letter};
 ghost use Rattle.cif_calendar.specs.Applies.{Applies};
 ghost use Rattle.cif_calendar.specs.Clash.{IsClash, IsClear};
@@ -42,7 +43,8 @@ fn same_body<E: Entry>(one: &E, other: &E) -> bool
 }
 
 fn outranks<E: Entry>(one: &E, other: &E) -> bool
-    ensures { IsTrue result ↔ (letter (E.terms one.now).letter < letter (E.terms other.now).letter) }
+    ensures { IsTrue result ↔
+        (letter (E.terms one.now).letter < letter (E.terms other.now).letter) }
 {
     one.letter().write() < other.letter().write()
 }
@@ -107,6 +109,7 @@ pub fn winner_on<E: Entry>(
     day: Day,
 ) -> Result<Option<usize>, BodiesDiffer>
     requires positions { All (λ i. i < length entries.now) members.now }
+    ensures within { IfOk result (λ source. IfSome source (λ i. i < length entries.now)) }
     ensures clear { OnOk result (IsClear (IsChosen (map E.terms entries.now) members.now) day) }
     ensures source { IfOk result (IsSource (map E.terms entries.now) members.now day) }
     ensures clash { OnErr result (IsClash (IsChosen (map E.terms entries.now) members.now) day) }
