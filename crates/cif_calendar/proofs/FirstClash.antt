@@ -1,7 +1,8 @@
 -- A clash is what a clear day has not, and the first clash is one.
 use Rattle.std.proofs.Common.{◌≡◌, ℕ, ◌<◌, List, arith, refl, sym, ◌∙◌, ap, subst}
 use Rattle.std.specs.Cmp.{IsTotalOrder}
-use Rattle.std.specs.Ordering.{ordering_reverse}
+use Rattle.std.specs.Prelude.{Bool, IsTrue, ◌↔◌}
+use Rattle.std.specs.Ordering.{ordering_reverse, is_eq}
 use Rattle.std.specs.declared.cmp.Ordering.{Ordering}
 use Rattle.std.specs.declared.cmp.Ordering.TheVariants.{Less, Equal, Greater}
 use Rattle.cif_calendar.specs.Terms.{Terms, Records}
@@ -22,6 +23,11 @@ IsFirstClash-unique records first last d e p q =
     let not_before : d < e → ⊥ = λ h. clash-clear records d p.clash (q.clear_before d p.from h) in
     let not_after : e < d → ⊥ = λ h. clash-clear records e q.clash (p.clear_before e q.from h) in
     omega (arith, not_before, not_after)
+
+-- keys that compare equal are the same, by the laws of an entry's key
+pub same_key-cmp : {K : Type 0} (eq : K → K → Bool) (cmp : K → K → Ordering) → ((j k : K) → eq j k ≡ is_eq (cmp j k)) →
+    ((j k : K) → IsTrue (eq j k) ↔ (j ≡ k)) → (j k : K) → cmp j k ≡ Equal → j ≡ k
+same_key-cmp eq cmp matches same j k e = (same j k).0 (matches j k ∙ ap is_eq e)
 
 module _ {K B : Type 0} (cmp : K → K → Ordering) (total : IsTotalOrder cmp) (same : (j k : K) → cmp j k ≡ Equal → j ≡ k)
     (entries : List (K × Terms B)) (first last : ℕ) where

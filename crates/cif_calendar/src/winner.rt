@@ -68,9 +68,7 @@ fn consider<E: Entry>(entries: &[E], standing: Standing, i: usize, day: Day) -> 
             let best = &entries[leader];
             if outranks(entry, best) {
                 Standing::Leader(i)
-            } else if outranks(best, entry) {
-                standing
-            } else if same_body(entry, best) {
+            } else if outranks(best, entry) || same_body(entry, best) {
                 standing
             } else {
                 Standing::Disputed(leader)
