@@ -6,3 +6,4 @@ pub mod SayTheSame
 pub mod Positions
 pub mod FirstClash
 pub mod DayByDay
+pub mod Telling

@@ -15,11 +15,11 @@ pub record IsClash {B : Type 0} (records : Records B) (d : ℕ) : Type 0 where
   pub other_wins : Wins records d other
   pub bodies_differ : one.body ≢ other.body
 
--- No day from `first` to `last` has a clash.
+-- Every day from `first` to `last` is clear.
 pub record IsClearFrom {B : Type 0} (records : Records B) (first last : ℕ) : Type 0 where
   pub clear : (d : ℕ) → first ≤ d → d ≤ last → IsClear records d
 
--- Day d is the first from `first` to `last` that has a clash.
+-- Day d is the first from `first` to `last` with a clash: those before it are clear.
 pub record IsFirstClash {B : Type 0} (records : Records B) (first last d : ℕ) : Type 0 where
   pub from : first ≤ d
   pub upto : d ≤ last

@@ -5,7 +5,7 @@ use Rattle.std.specs.declared.cmp.Ordering.TheVariants.{Less}
 use Rattle.cif_calendar.specs.Terms.{Terms, Records}
 use Rattle.cif_calendar.specs.Clash.{IsClearFrom, IsFirstClash}
 
--- the entries of a list, each with its key
+-- each of the entries as its key and its terms
 abbrev pub keyed : {E K B : Type 0} → (E → K) → (E → Terms B) → List E → List (K × Terms B)
 keyed key terms entries = map (λ e. (key e, terms e)) entries
 
@@ -18,11 +18,12 @@ pub record ArePositionsOf {K B : Type 0} (entries : List (K × Terms B)) (k : K)
   pub found : (i : ℕ) → Contains members i → (r : Terms B) × (slice_get entries i ≡ Some (k, r))
   pub all : (i : ℕ) (r : Terms B) → slice_get entries i ≡ Some (k, r) → Contains members i
 
--- No key has a clash on a day from `first` to `last`.
+-- For each key, every day from `first` to `last` is clear.
 pub record AreClear {K B : Type 0} (entries : List (K × Terms B)) (first last : ℕ) : Type 0 where
   pub key : (k : K) → IsClearFrom (of_key entries k) first last
 
--- Key k, on day d, has the first clash from `first` to `last`: no key before k has one, and k has none before d.
+-- The first clash from `first` to `last` is that of key k on day d: each key before k is clear on all these days, and k
+-- on those before d. `cmp` is the order of the keys.
 pub record IsFirstClashOf {K B : Type 0} (cmp : K → K → Ordering) (entries : List (K × Terms B)) (first last : ℕ)
     (k : K) (d : ℕ) : Type 0 where
   pub clash : IsFirstClash (of_key entries k) first last d

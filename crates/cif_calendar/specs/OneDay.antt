@@ -24,7 +24,7 @@ pub record IsTold {K B : Type 0} (entries : List (K × Terms B)) (first last : �
   pub runs : BodyRuns (of_key entries k) day body
   pub form : IsOneDay day body r
 
--- The list has one record of one day for each key and each day from `first` to `last` on which a body runs, and no other.
+-- For each key and each day from `first` to `last` on which a body runs, `out` has its record of that day, and no other record.
 pub record IsDayByDay {K B : Type 0} (entries : List (K × Terms B)) (first last : ℕ) (out : List (K × Terms B)) : Type 0 where
   pub only : (k : K) (r : Terms B) → of_key out k r → IsTold entries first last k r
   pub all : (k : K) (d : ℕ) (b : B) → first ≤ d → d ≤ last → BodyRuns (of_key entries k) d b →

@@ -100,7 +100,8 @@ fn standing_on<E: Entry>(entries: &[E], members: &[usize], day: Day) -> Standing
 /// The position of a winner of the date among the entries at `members`; `None` where nothing runs.
 ///
 /// Hand in the positions of one key's records: all members are judged together, whatever their
-/// keys. A clash under a lower letter is no fault, so an `Err` means that the winners differ.
+/// keys. Which of several winners with one body is named is free. `Err` comes exactly where two
+/// winners have different bodies; a clash among records that do not win is no fault.
 pub fn winner_on<E: Entry>(
     entries: &[E],
     members: &[usize],
