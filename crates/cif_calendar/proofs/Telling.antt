@@ -1,6 +1,6 @@
 -- A list of one-day records grows by one key and one day at a time.
 use Rattle.std.proofs.Common.{◌≡◌, ℕ, ◌<◌, ◌≤◌, List, [], ◌∷◌, ◌++◌, sym, subst, arith, ⊎_elim}
-use Rattle.std.specs.Prelude.{Contains, ◌⊎◌}
+use Rattle.std.specs.Prelude.{◌⊎◌}
 use Rattle.std.proofs.lemmas.List.Elements.{Contains-append_left, Contains-push, Contains-push_cases}
 use Rattle.cif_calendar.specs.Terms.{Terms, AreLawful}
 use Rattle.cif_calendar.specs.Runs.{BodyRuns, NothingRuns}
@@ -36,7 +36,7 @@ module _ {K B : Type 0} (entries : List (K × Terms B)) (first last : ℕ) where
     all = λ j e b now runs. ⊎_elim
         (λ old. t.all j e b old runs)
         (λ new. let there : BodyRuns (of_key entries k) d b =
-            subst (λ f. BodyRuns (of_key entries k) f b) new.1 (subst (λ i. BodyRuns (of_key entries i) e b) new.0 runs) in
+        subst (λ f. BodyRuns (of_key entries k) f b) new.1 (subst (λ i. BodyRuns (of_key entries i) e b) new.0 runs) in
         absurd (nothing-body (of_key entries k) d b lawful none there))
         (too.only j e now);
   }
@@ -49,19 +49,19 @@ module _ {K B : Type 0} (entries : List (K × Terms B)) (first last : ℕ) where
     only = λ j s in'. ⊎_elim
         (λ old. t.only j s old)
         (λ (e : ◌≡◌ {A = K × Terms B} (k, r) (j, s)).
-            let told : IsTold entries first last k r = record { day = d; from = from; upto = upto; body = b; runs = runs; form = form } in
-            subst (λ (x : K × Terms B). IsTold entries first last x.0 x.1) e told)
+        let told : IsTold entries first last k r = record { day = d; from = from; upto = upto; body = b; runs = runs; form = form } in
+        subst (λ (x : K × Terms B). IsTold entries first last x.0 x.1) e told)
         (Contains-push_cases out (k, r) (j, s) in');
     all = λ j e c now there. ⊎_elim
         (λ old. let was = t.all j e c old there in (was.0, Contains-append_left out ((k, r) ∷ []) (j, was.0) was.1, was.2))
         (λ new.
-            let here : BodyRuns (of_key entries k) d c =
-            subst (λ f. BodyRuns (of_key entries k) f c) new.1 (subst (λ i. BodyRuns (of_key entries i) e c) new.0 there) in
-            let same : b ≡ c = body-unique (of_key entries k) d b c clear runs here in
-            let listed : of_key (out ++ (k, r) ∷ []) j r =
-            subst (λ i. of_key (out ++ (k, r) ∷ []) i r) (sym new.0) (Contains-push out (k, r)) in
-            let form_here : IsOneDay e c r = subst (λ f. IsOneDay f c r) (sym new.1) (subst (λ x. IsOneDay d x r) same form) in
-            (r, listed, form_here))
+        let here : BodyRuns (of_key entries k) d c =
+        subst (λ f. BodyRuns (of_key entries k) f c) new.1 (subst (λ i. BodyRuns (of_key entries i) e c) new.0 there) in
+        let same : b ≡ c = body-unique (of_key entries k) d b c clear runs here in
+        let listed : of_key (out ++ (k, r) ∷ []) j r =
+        subst (λ i. of_key (out ++ (k, r) ∷ []) i r) (sym new.0) (Contains-push out (k, r)) in
+        let form_here : IsOneDay e c r = subst (λ f. IsOneDay f c r) (sym new.1) (subst (λ x. IsOneDay d x r) same form) in
+        (r, listed, form_here))
         (too.only j e now);
   }
 
