@@ -1,0 +1,11 @@
+pub mod Applies
+pub mod Clash
+pub mod Keys
+pub mod Meaning
+pub mod OneDay
+pub mod Runs
+pub mod Source
+pub mod Standing
+pub mod Terms
+pub mod Week
+pub mod Wins

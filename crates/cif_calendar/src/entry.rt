@@ -1,0 +1,62 @@
+//! What a record of a timetable tells the calendar.
+
+ghost use Rattle.std.specs.Prelude.{◌≡◌, ◌≤◌, ◌↔◌, IsTrue, IsNone};
+ghost use Rattle.std.specs.Option.{option_copied};
+ghost use Rattle.cif_columns.specs.declared.stp.Stp.TheVariants.{C};
+ghost use Rattle.cif_calendar.specs.Terms.{Terms};
+
+use cif_columns::{Day, DaysRun, Stp};
+
+/// A record of a timetable: on some dates it says for one train, or one association, what runs.
+///
+/// All records of one key are read together: on each date the one with the least letter decides.
+/// Contracts see a record as its key and its terms, which are all that the rules read of it.
+pub trait Entry {
+    /// What the record is about: a train's UID, or the five fields that name an association.
+    type Key: Ord;
+
+    /// What runs on the record's dates. Two bodies that are equal are the same thing to run.
+    type Body: Eq;
+
+    // What the record is about.
+    ghost key: { Self → Self.Key };
+
+    // Its dates, its letter and what runs.
+    ghost terms: { Self → Terms Self.Body };
+
+    /// What the record is about.
+    fn key(&self) -> &Self::Key
+        ensures { result.now ≡ key self.now };
+
+    /// The first date on which the record may apply.
+    fn first(&self) -> Day
+        ensures { result ≡ (terms self.now).first };
+
+    /// The last date on which the record may apply, never before the first.
+    fn last(&self) -> Day
+        ensures { result ≡ (terms self.now).last };
+
+    /// The weekdays on which the record applies, between its first and its last date.
+    fn days(&self) -> DaysRun
+        ensures { result ≡ (terms self.now).days };
+
+    /// Whether the record is permanent, new, an overlay or a cancellation.
+    fn letter(&self) -> Stp
+        ensures { result ≡ (terms self.now).letter };
+
+    /// What runs; `None` for a cancellation, and for no other record.
+    fn body(&self) -> Option<&Self::Body>
+        ensures { option_copied result ≡ (terms self.now).body };
+
+    // Keys that compare equal are the same key; that their order is total is a law of `Ord`.
+    ghost same_key: { (a b : Self.Key) → IsTrue (Self.Key.eq a b) ↔ (a ≡ b) };
+
+    // Bodies that compare equal are the same body.
+    ghost same_body: { (a b : Self.Body) → IsTrue (Self.Body.eq a b) ↔ (a ≡ b) };
+
+    // The first date is not after the last.
+    ghost dates_ordered: { (e : Self) → (terms e).first ≤ (terms e).last };
+
+    // A cancellation has no body, and every other record has one.
+    ghost cancelled: { (e : Self) → IsNone (terms e).body ↔ ((terms e).letter ≡ C) };
+}
