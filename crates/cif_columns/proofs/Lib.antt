@@ -5,3 +5,9 @@ pub mod Texts
 pub mod Parts
 pub mod TextOrder
 pub mod Codes
+pub mod PrintableBytes
+pub mod FeedPlaces
+pub mod HeldBytes
+pub mod DecidedLines
+pub mod FoundInHeld
+pub mod LineAnswers

@@ -1,9 +1,17 @@
 pub mod Activities
+pub mod Ahead
+pub mod Contents
 pub mod Day
 pub mod DaysRun
+pub mod Devices
 pub mod Digits
 pub mod Field
+pub mod FirstLine
 pub mod Line
+pub mod LineReader
+pub mod Refusal
+pub mod Sink
+pub mod Source
 pub mod Stp
 pub mod Text
 pub mod Time

@@ -1,0 +1,42 @@
+-- Printable bytes by the test and by the fact.
+use Rattle.std.proofs.Common.{◌≡◌, ℕ, ◌≤◌, true, List, length, cond, Option, Some, None, IsSome, Result, Ok, Err, sym, ap, ◌∙◌, arith, refl, eq-eqb, nat_eq, false, Bool}
+use Rattle.std.proofs.lemmas.Bool.Decides.{nat_tests}
+use Rattle.std.proofs.lemmas.List.Sums.{AllPass-from_list_all, list_all-from_AllPass}
+use Rattle.std.specs.List.{list_all}
+use Rattle.std.specs.Option.{SomeIff, ok_or}
+use Rattle.cif_columns.specs.declared.refusal.Refusal.{Refusal}
+use Rattle.cif_columns.specs.declared.refusal.Refusal.TheVariants.{BadLength, BadByte}
+use Rattle.cif_columns.specs.Line.{IsPrintable, ArePrintable, IsLine}
+use Rattle.cif_columns.specs.FirstLine.{is_printable, line_of}
+
+test_true : (b : ℕ) → IsPrintable b → is_printable b ≡ true
+test_true b h = grind (arith, nat_tests)
+
+test_fact : (b : ℕ) → is_printable b ≡ true → IsPrintable b
+test_fact b h = (grind (arith, nat_tests), grind (arith, nat_tests))
+
+pub printable_true : (xs : List ℕ) → ArePrintable xs → list_all is_printable xs ≡ true
+printable_true xs h = list_all-from_AllPass is_printable xs (λ k d lt. test_true _ (h k d lt))
+
+pub printable_fact : (xs : List ℕ) → list_all is_printable xs ≡ true → ArePrintable xs
+printable_fact xs h = λ k d lt. test_fact _ (AllPass-from_list_all is_printable xs h k d lt)
+
+-- what a line that was found tells of the test
+pub tested : (line : Option (List ℕ)) (xs : List ℕ) → SomeIff line (ArePrintable xs) xs → IsSome line → list_all is_printable xs ≡ true
+tested (Some line) xs h found = printable_true xs h.0
+tested None xs h found = absurd (cc)
+
+-- eighty bytes as a line
+pub line_of-eighty : (line : Option (List ℕ)) (xs : List ℕ) → length xs ≡ 80 → SomeIff line (ArePrintable xs) xs
+    → ok_or line BadByte ≡ line_of xs
+line_of-eighty (Some line) xs width h =
+    ap Ok h.1
+    ∙ sym (ap (λ b. cond b (cond (list_all is_printable xs) (Ok xs) (Err BadByte)) (Err BadLength)) (eq-eqb (length xs) 80 width)
+    ∙ ap (λ b. cond b (Ok xs) (Err BadByte)) (printable_true xs h.0))
+line_of-eighty None xs width h = at (list_all is_printable xs) refl
+  where
+    at : (b : Bool) → b ≡ list_all is_printable xs → Err BadByte ≡ line_of xs
+    at true e = absurd (h (printable_fact xs (sym e)))
+    at false e =
+        sym (ap (λ b. cond b (cond (list_all is_printable xs) (Ok xs) (Err BadByte)) (Err BadLength)) (eq-eqb (length xs) 80 width)
+        ∙ ap (λ b. cond b (Ok xs) (Err BadByte)) (sym e))

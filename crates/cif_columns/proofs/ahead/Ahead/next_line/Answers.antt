@@ -1,0 +1,31 @@
+use Rattle.std.proofs.Common.{Ok, length, arith, ap, refl, ◌∙◌}
+use Rattle.std.proofs.KnownBytes.{Keeps-trans}
+use Rattle.cif_columns.specs.Ahead.{held_bytes}
+use Rattle.cif_columns.proofs.DecidedLines.{undecided_short}
+use Rattle.cif_columns.proofs.FoundInHeld.{found_more, decided_not_full, found_not_full}
+use Rattle.cif_columns.proofs.ahead.Ahead.next_line.Goals as goal
+
+pub returns-in-Some-clause-found : goal.returns-in-Some-clause-found
+returns-in-Some-clause-found g c =
+    found_more c.args.is_full _ (g.R.Read.remaining c.loop-found.source.reader) (held_bytes c.loop-found.self) (held_bytes c.decided.new.self) c.in-Some.found
+    c.loop-found.invariant.same_bytes (c.in-Some.ensures.decided refl) c.in-Some.ensures.found
+
+pub fill-requires : goal.fill-requires
+fill-requires g c = rw c.in_default.ensures.kept (undecided_short _ _ c.in_default.ensures.none)
+
+pub loop-found-smaller : goal.loop-found-smaller
+loop-found-smaller g c =
+    omega (arith, c.in-Ok-true.ensures.more (ap Ok c.in-Ok-true.field-0-test), ap length c.in_default.ensures.kept, undecided_short _ _ c.in_default.ensures.none)
+
+pub loop-found-preserved : goal.loop-found-preserved
+loop-found-preserved g c = record {
+  same_bytes = Keeps-trans _ _ _ c.loop-found.invariant.same_bytes (rw (← c.in_default.ensures.kept) c.in-Ok-true.ensures.bytes);
+  same_state = c.in-Ok-true.ensures.going ∙ c.loop-found.invariant.same_state;
+  same_errors = λ fine. c.in-Ok-true.ensures.errors (c.loop-found.invariant.same_state ∙ fine) ∙ c.loop-found.invariant.same_errors fine;
+}
+
+pub returns-in-Some-clause-not_full : goal.returns-in-Some-clause-not_full
+returns-in-Some-clause-not_full g c = decided_not_full _ _ _ _ c.in-Some.ensures.found
+
+pub returns-in-Ok-false-clause-not_full : goal.returns-in-Ok-false-clause-not_full
+returns-in-Ok-false-clause-not_full g c = found_not_full _ _ _ _ c.last.ensures.found

@@ -1,0 +1,37 @@
+-- What is read ahead of the lines, and what is found first in it.
+use Rattle.std.specs.Prelude.{◌≡◌, ℕ, ◌<◌, Bool, true, List, [], length, slice_range, Option, Some, Ok, Err}
+use Rattle.std.specs.Io.KnownBytes.{prepend_known}
+use Rattle.cif_columns.specs.declared.ahead.Ahead.{Ahead}
+use Rattle.cif_columns.specs.declared.ahead.Found.{Found}
+use Rattle.cif_columns.specs.declared.ahead.Found.TheVariants.{Next, End, Refused, Failed}
+use Rattle.cif_columns.specs.declared.source.Source.{Source}
+use Rattle.cif_columns.specs.FirstLine.{first_line, after_content, has_line_feed}
+
+-- the bytes that are read and not yet given
+abbrev pub held_bytes : Ahead → List ℕ
+held_bytes a = slice_range a.buf a.start a.end
+
+-- the bytes that are held, and then those that the reader has left, where they are known
+abbrev pub known_left : {R : Type 0} → (R → Option (List ℕ)) → Ahead → Source R → Option (List ℕ)
+known_left remaining a s = prepend_known (held_bytes a) (remaining s.reader)
+
+-- what the held bytes decide, and what is held after it
+abbrev pub Decides : Bool → List ℕ → Found → List ℕ → Type 0
+Decides is_full held (Next line) rest = (first_line is_full held ≡ Ok line) × (rest ≡ after_content held) × (has_line_feed held ≡ true)
+Decides is_full held End rest = ⊥
+Decides is_full held (Refused why) rest = first_line is_full held ≡ Err why
+Decides is_full held Failed rest = ⊥
+
+-- what stands first in bytes, and what is left after it
+abbrev pub Finds : Bool → List ℕ → Found → Option (List ℕ) → Type 0
+Finds is_full bytes (Next line) rest = (0 < length bytes) × (first_line is_full bytes ≡ Ok line) × (rest ≡ Some (after_content bytes))
+Finds is_full bytes End rest = (bytes ≡ []) × (rest ≡ Some [])
+Finds is_full bytes (Refused why) rest = (0 < length bytes) × (first_line is_full bytes ≡ Err why)
+Finds is_full bytes Failed rest = rest ≡ Some bytes
+
+-- a fact for where a line was found
+abbrev pub IfNext : Found → Type 0 → Type 0
+IfNext (Next line) P = P
+IfNext End P = Unit {0}
+IfNext (Refused why) P = Unit {0}
+IfNext Failed P = Unit {0}

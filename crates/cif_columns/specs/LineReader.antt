@@ -1,0 +1,61 @@
+-- What a clause reads of a `LineReader`, and what a `next` answers.
+use Rattle.std.specs.Prelude.{◌≡◌, ℕ, ◌+◌, ◌<◌, List, [], ◌∷◌, Option, None, Some, Result, Ok, Err}
+use Rattle.cif_columns.specs.declared.line.Line.{Line}
+use Rattle.cif_columns.specs.declared.line_reader.LineReader.{LineReader}
+use Rattle.cif_columns.specs.declared.line_fault.LineFault.{LineFault}
+use Rattle.cif_columns.specs.declared.line_fault.LineFault.TheVariants.{Refused, Read}
+use Rattle.cif_columns.specs.declared.line_reader.Past.{Past}
+use Rattle.cif_columns.specs.declared.line_reader.Past.TheVariants.{Reading, Ended, Faulted}
+use Rattle.cif_columns.specs.declared.refusal.Refusal.{Refusal}
+use Rattle.cif_columns.specs.declared.source.Source.{Source}
+use Rattle.cif_columns.specs.Ahead.{held_bytes, known_left}
+use Rattle.cif_columns.specs.Contents.{contents_of, StandsFirst, HasLineReason}
+use Rattle.cif_columns.specs.Line.{IsLine}
+
+-- the bytes that are held: read, and not yet given
+abbrev pub held : LineReader → List ℕ
+held r = held_bytes r.ahead
+
+-- how many lines were given
+abbrev pub given : LineReader → ℕ
+given r = r.given
+
+-- how many lines there may be
+abbrev pub limit : LineReader → ℕ
+limit r = r.limit
+
+-- what the calls so far came to
+abbrev pub past : LineReader → Past
+past r = r.past
+
+-- what a call's answer comes to
+abbrev pub past_of : Result (Option Line) LineFault → Past
+past_of (Ok (Some line)) = Reading
+past_of (Ok None) = Ended
+past_of (Err fault) = Faulted fault
+
+-- the bytes that are left: those held, and then those that the reader has left, where these are known
+abbrev pub left : {R : Type 0} → (R → Option (List ℕ)) → LineReader → Source R → Option (List ℕ)
+left remaining r s = known_left remaining r.ahead s
+
+-- after so many lines of at most max the line stands first in the bytes, and rest after it
+pub record IsNextLine (max count : ℕ) (bytes line rest : List ℕ) : Type 0 where
+  pub room : count < max
+  pub is_line : IsLine line
+  pub stands : StandsFirst bytes line rest
+  pub contents : contents_of bytes ≡ line ∷ contents_of rest
+
+-- after so many lines of at most max the first content of the bytes is no line, and its number and the reason
+pub record IsNextRefusal (max count : ℕ) (bytes : List ℕ) (number : ℕ) (why : Refusal) : Type 0 where
+  pub next : number ≡ count + 1
+  pub content : List ℕ
+  pub others : List (List ℕ)
+  pub contents : contents_of bytes ≡ content ∷ others
+  pub reason : HasLineReason max number content why
+
+-- what a call answers after so many lines of at most max, where these bytes are left, and what is left after it
+abbrev pub Answers : ℕ → ℕ → List ℕ → Result (Option Line) LineFault → Option (List ℕ) → Type 0
+Answers max count bytes (Ok (Some line)) after = (rest : List ℕ) × (after ≡ Some rest) × IsNextLine max count bytes line rest
+Answers max count bytes (Ok None) after = (bytes ≡ []) × (after ≡ Some [])
+Answers max count bytes (Err (Refused number why)) after = IsNextRefusal max count bytes number why
+Answers max count bytes (Err Read) after = after ≡ Some bytes

@@ -1,0 +1,187 @@
+//! The bytes that are read ahead of the lines.
+ghost use Rattle.std.specs.Prelude.{◌≡◌, ◌+◌, ◌<◌, ◌≤◌, ◌↔◌, ℕ, List, [], length, take, drop, slice_range, true, false, Some, Ok, Err, IfOk, OnOk, OnErr, IfSome, IfNone, IsSome, IsTrue, IsErr, ◌≢◌};
+ghost use Rattle.std.specs.Io.KnownBytes.{Keeps, Consumes, IsAtEnd};
+ghost use Rattle.cif_columns.specs.FirstLine.{is_decided};
+ghost use Rattle.cif_columns.specs.Devices.{TellsErrors, OneError};
+ghost use Rattle.cif_columns.specs.Source.{reader_of, source_failed};
+
+use crate::first_line::{FirstLine, first_line_of, line_of_content};
+use crate::line::Line;
+use crate::read_device::ReadDevice;
+use crate::refusal::Refusal;
+use crate::source::{ReadFault, Source};
+
+// A read gives about a hundred lines. The buffer lies on the stack.
+const AHEAD: usize = 8192;
+
+/// What was found where a line should begin.
+pub(crate) enum Found {
+    Next(Line),
+    End,
+    Refused(Refusal),
+    Failed,
+}
+
+// `buf[start..end]` is read and not yet given.
+#[derive(Drop)]
+pub(crate) struct Ahead {
+    buf: [u8; AHEAD],
+    start: usize,
+    end: usize,
+    ghost ordered: { start ≤ end },
+    ghost in_bounds: { end ≤ 8192 },
+}
+
+impl Ahead {
+    ghost use Rattle.cif_columns.specs.Ahead.{held_bytes, known_left};
+
+    pub(crate) fn new() -> Self
+        ensures { held_bytes result ≡ [] }
+    {
+        Ahead {
+            buf: [0; AHEAD],
+            start: 0,
+            end: 0,
+        }
+    }
+
+    fn as_slice(&self) -> &[u8]
+        ensures { result.now ≡ held_bytes self.now }
+    {
+        &self.buf[self.start..self.end]
+    }
+
+    // Moves the bytes to the front, where they are few.
+    fn to_front(&mut self)
+        requires { length (held_bytes self.old) < 82 }
+        ensures bytes { held_bytes self.new ≡ held_bytes self.old }
+        ensures start { self.new.start ≡ 0 }
+        ensures end { self.new.end ≡ length (held_bytes self.old) }
+    {
+        let len = self.end - self.start;
+        move_to_front(&mut self.buf, self.start, len);
+        self.start = 0;
+        self.end = len;
+    }
+
+    // Reads once, and returns whether any bytes came.
+    fn fill<R: ReadDevice>(&mut self, source: &mut Source<R>) -> Result<bool, ReadFault>
+        requires { length (held_bytes self.old) < 82 }
+        ensures bytes { Keeps (known_left R.remaining self.old source.old)
+            (known_left R.remaining self.new source.new) }
+        ensures more { result ≡ Ok true → length (held_bytes self.old) < length (held_bytes self.new) }
+        ensures end { result ≡ Ok false → (held_bytes self.new ≡ held_bytes self.old)
+            × IsAtEnd (R.remaining (reader_of source.new)) }
+        ensures going { OnOk result (source_failed source.new ≡ source_failed source.old) }
+        ensures err { OnErr result (held_bytes self.new ≡ held_bytes self.old) }
+        ensures failed { IsErr result → IsTrue (source_failed source.new) }
+        ensures errors { source_failed source.old ≡ false → TellsErrors (R.read_errors (reader_of source.old))
+            (R.read_errors (reader_of source.new)) result }
+    {
+        self.to_front();
+        let n = read_after(source, &mut self.buf, self.end)?;
+        self.end += n;
+        Ok(n > 0)
+    }
+}
+
+impl Ahead {
+    ghost use Rattle.cif_columns.specs.Ahead.{held_bytes, known_left, Decides, Finds, IfNext};
+
+    // What the held bytes decide, if they do.
+    fn decided(&mut self, is_full: bool) -> Option<Found>
+        ensures found { IfSome result (λ found. Decides is_full (held_bytes self.old) found (held_bytes self.new)) }
+        ensures decided { IsSome result → is_decided is_full (held_bytes self.old) ≡ true }
+        ensures none { IfNone result (is_decided is_full (held_bytes self.old) ≡ false) }
+        ensures kept { IfNone result (held_bytes self.new ≡ held_bytes self.old) }
+    {
+        let FirstLine { line, taken } = first_line_of(self.as_slice(), is_full)?;
+        match line {
+            Ok(line) => {
+                self.start += taken;
+                Some(Found::Next(line))
+            }
+            Err(why) => Some(Found::Refused(why)),
+        }
+    }
+
+    // What the held bytes are, where no others follow.
+    fn last(&mut self, is_full: bool) -> Found
+        requires { is_decided is_full (held_bytes self.old) ≡ false }
+        ensures found { Finds is_full (held_bytes self.old) result (Some (held_bytes self.new)) }
+        ensures going { result ≢ Found.Failed }
+    {
+        if self.as_slice().is_empty() {
+            return Found::End;
+        }
+        match line_of_content(self.as_slice()) {
+            Ok(line) => {
+                self.start = self.end;
+                Found::Next(line)
+            }
+            Err(why) => Found::Refused(why),
+        }
+    }
+
+    /// What stands first in the held bytes and those that the source gives after them.
+    pub(crate) fn next_line<R: ReadDevice>(
+        &mut self,
+        is_full: bool,
+        source: &mut Source<R>,
+    ) -> Found
+        ensures found { IfSome (known_left R.remaining self.old source.old) (λ bytes.
+            Finds is_full bytes result (known_left R.remaining self.new source.new)) }
+        ensures not_full { IfNext result (is_full ≡ false) }
+        ensures undecided { result ≡ Found.Failed → is_decided is_full (held_bytes self.new) ≡ false }
+        ensures failed { result ≡ Found.Failed → source_failed source.new ≡ true }
+        ensures erred { result ≡ Found.Failed → source_failed source.old ≡ false → OneError (R.read_errors (reader_of source.old))
+            (R.read_errors (reader_of source.new)) }
+        ensures fine { result ≢ Found.Failed → source_failed source.old ≡ false → R.read_errors (reader_of source.new)
+            ≡ R.read_errors (reader_of source.old) }
+        ensures going { result ≢ Found.Failed → source_failed source.new ≡ source_failed source.old }
+    {
+        loop {
+            if let Some(found) = self.decided(is_full) {
+                return found;
+            }
+            match self.fill(source) {
+                Ok(true) => {}
+                Ok(false) => return self.last(is_full),
+                Err(_) => return Found::Failed,
+            }
+        }
+    }
+}
+
+// Moves `len` bytes from `from` to the front.
+fn move_to_front(buf: &mut [u8], from: usize, len: usize)
+    requires few { len < 82 }
+    requires within { from + len ≤ length buf.old }
+    ensures { take len buf.new ≡ take len (drop from buf.old) }
+{
+    let mut few = [0; 82];
+    few[..len].copy_from_slice(&buf[from..from + len]);
+    buf[..len].copy_from_slice(&few[..len]);
+}
+
+// Reads once to what stands from `at` on.
+fn read_after<R: ReadDevice>(
+    source: &mut Source<R>,
+    buf: &mut [u8],
+    at: usize,
+) -> Result<usize, ReadFault>
+    requires { at < length buf.old }
+    ensures front { take at buf.new ≡ take at buf.old }
+    ensures fits { IfOk result (λ n. at + n ≤ length buf.new) }
+    ensures bytes { IfOk result (λ n. Consumes (R.remaining (reader_of source.old))
+        (R.remaining (reader_of source.new)) (take n (drop at buf.new))) }
+    ensures end { IfOk result (λ n. n ≡ 0 → IsAtEnd (R.remaining (reader_of source.new))) }
+    ensures err { OnErr result (Keeps (R.remaining (reader_of source.old))
+        (R.remaining (reader_of source.new))) }
+    ensures going { OnOk result (source_failed source.new ≡ source_failed source.old) }
+    ensures failed { IsErr result → IsTrue (source_failed source.new) }
+    ensures errors { source_failed source.old ≡ false → TellsErrors (R.read_errors (reader_of source.old))
+        (R.read_errors (reader_of source.new)) result }
+{
+    source.read(&mut buf[at..])
+}

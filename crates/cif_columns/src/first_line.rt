@@ -1,0 +1,94 @@
+//! The first line of bytes that may go on.
+ghost use Rattle.std.specs.Prelude.{◌≡◌, ◌↔◌, ◌+◌, ◌<◌, ◌≤◌, ℕ, List, length, take, drop, min, nat_le, IsTrue, IsOk, IsSome, IfSome, IfNone, Some, Ok};
+ghost use Rattle.std.specs.List.{list_all, position, position_or_len};
+ghost use Rattle.std.specs.Str.Lines.{strip_carriage_return};
+ghost use Rattle.cif_columns.specs.FirstLine.{is_line_feed, is_printable, has_line_feed, line_of, first_line, is_decided, after_content};
+
+use crate::line::Line;
+use crate::refusal::Refusal;
+
+pub(crate) struct FirstLine {
+    pub(crate) line: Result<Line, Refusal>,
+    pub(crate) taken: usize,
+}
+
+/// The first line of the bytes, where it is decided, and how many bytes it takes.
+#[tactic(auto, unfolding(crate::specs::FirstLine::first_line, crate::specs::FirstLine::is_decided, crate::specs::FirstLine::after_content, crate::specs::FirstLine::first_content))]
+pub(crate) fn first_line_of(bytes: &[u8], is_full: bool) -> Option<FirstLine>
+    ensures decided { IsSome result ↔ IsTrue (is_decided is_full bytes.now) }
+    ensures line { IfSome result (λ first. first.line ≡ first_line is_full bytes.now) }
+    ensures within { IfSome result (λ first. first.taken ≤ length bytes.now) }
+    ensures rest { IfSome result (λ first. IsOk first.line → drop first.taken bytes.now ≡ after_content bytes.now) }
+    ensures ended { IfSome result (λ first. IsOk first.line → IsTrue (has_line_feed bytes.now)) }
+{
+    if is_full {
+        if bytes.is_empty() {
+            return None;
+        }
+        let line = Err(Refusal::TooManyLines);
+        return Some(FirstLine { line, taken: 0 });
+    }
+    if let Some(line) = plain_line(bytes) {
+        let line = Ok(line);
+        return Some(FirstLine { line, taken: 81 });
+    }
+    if let Some(at) = line_feed(bytes) {
+        let line = line_of_content(stripped(&bytes[..at]));
+        return Some(FirstLine {
+            line,
+            taken: at + 1,
+        });
+    }
+    if bytes.len() < 82 {
+        return None;
+    }
+    let line = Err(Refusal::BadLength);
+    Some(FirstLine { line, taken: 0 })
+}
+
+// The line that 80 bytes and a line feed are.
+fn plain_line(bytes: &[u8]) -> Option<Line>
+    ensures line { IfSome result (λ line. line ≡ take 80 bytes.now) }
+    ensures printable { IfSome result (λ line. IsTrue (list_all is_printable (take 80 bytes.now))) }
+    ensures length { IfSome result (λ line. 80 < length bytes.now) }
+    ensures ended { IfSome result (λ line. position_or_len is_line_feed bytes.now ≡ 80) }
+{
+    if bytes.len() <= 80 || bytes[80] != b'\n' {
+        return None;
+    }
+    Line::of(*bytes.first_chunk::<80>()?)
+}
+
+// Where the first line feed is, if it is among the first 82 bytes.
+fn line_feed(bytes: &[u8]) -> Option<usize>
+    ensures found { IfSome result (λ at. at ≡ position_or_len is_line_feed bytes.now) }
+    ensures within { IfSome result (λ at. at < length bytes.now) }
+    ensures none { IfNone result (min 82 (length bytes.now) ≤ position_or_len is_line_feed bytes.now) }
+{
+    position(&bytes[..bytes.len().min(82)])
+}
+
+// Where the first line feed is.
+fn position(bytes: &[u8]) -> Option<usize>
+    ensures { result ≡ position is_line_feed bytes.now }
+{
+    bytes.iter().position(|b| *b == b'\n')
+}
+
+// The bytes without the one carriage return at their end.
+fn stripped(bytes: &[u8]) -> &[u8]
+    ensures { result.now ≡ strip_carriage_return bytes.now }
+{
+    match bytes {
+        [front @ .., b'\r'] => front,
+        _ => bytes,
+    }
+}
+
+/// A content as a line, or why it is none.
+pub(crate) fn line_of_content(content: &[u8]) -> Result<Line, Refusal>
+    ensures { result ≡ line_of content.now }
+{
+    let bytes = content.as_array::<80>().ok_or(Refusal::BadLength)?;
+    Line::of(*bytes).ok_or(Refusal::BadByte)
+}
