@@ -2,7 +2,6 @@
 #![tactic(auto)]
 
 mod command_line;
-mod devices;
 mod job;
 mod normalise;
 mod program;

@@ -1,6 +1,5 @@
 //! A stand-in: copies its input.
-use crate::devices::{ReadDevice, ReadFault, Sink, Source, WriteDevice, WriteFault};
-use cif_columns::Refusal;
+use cif_columns::{ReadDevice, ReadFault, Refusal, Sink, Source, WriteDevice, WriteFault};
 use std::alloc::Global;
 
 /// How many records an answer has.

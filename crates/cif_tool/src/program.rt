@@ -3,10 +3,10 @@
 //! What a device gives and takes is no part of a contract: what is said here, the rows of `tests/`
 //! show over the built program.
 use crate::command_line::job_of;
-use crate::devices::{MAX_LINES, ReadDevice, Sink, Source, WriteDevice};
 use crate::job::{Job, JobFault};
 use crate::normalise::{Fault, normalise, report};
 use crate::status::status;
+use cif_columns::{MAX_LINES, ReadDevice, Sink, Source, WriteDevice};
 use std::alloc::Global;
 use std::env::Env;
 use std::io::{BufWriter, ErrorKind};
