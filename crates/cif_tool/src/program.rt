@@ -17,7 +17,7 @@ use std::{env, fs, io};
 const OUTPUT_BUFFER: usize = 65_536;
 
 const NOT_TEXT: &str =
-    "error: invalid UTF-8 was detected in one or more arguments\n\nFor more information, try '--help'.";
+    "error: an argument is no text in UTF-8\n\nFor more information, try '--help'.";
 
 /// Does what the words of the process ask for, and returns the status to exit with. Fault lines go
 /// to `errors`; that one can't be written changes no status.
