@@ -2,6 +2,9 @@
 //!
 //! What a device gives and takes is no part of a contract: what is said here, the rows of `tests/`
 //! show over the built program.
+ghost use Rattle.std.specs.Prelude.{◌≡◌};
+ghost use Rattle.cif_tool.specs.Status.{status_of};
+
 use crate::command_line::job_of;
 use crate::devices::{MAX_LINES, ReadDevice, Sink, Source, WriteDevice};
 use crate::job::{Job, JobFault};
@@ -51,7 +54,9 @@ fn words_of<R: Env + AllocGlobal>(rt: &R) -> io::Result<Vec<String>> {
 }
 
 /// Names the fault, and returns its status.
-fn reported<E: Print>(errors: &E, fault: &Fault) -> u8 {
+fn reported<E: Print>(errors: &E, fault: &Fault) -> u8
+    ensures { result ≡ status_of fault.now }
+{
     let mut sink = Sink::new(io::writer(errors));
     let _ = report(fault, &mut sink);
     status(fault)
