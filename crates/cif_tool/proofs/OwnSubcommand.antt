@@ -1,5 +1,6 @@
 -- Where `clap` takes the words of `cif`, it enters a subcommand of the program's own.
-use Rattle.std.proofs.Common.{◌≡◌, ◌∙◌, Bool, true, false, refl, sym, List, [], ◌∷◌, ◌||◌, ◌&&◌, not, Option, Some, None, is_some, option_map, if◌then◌else◌, codes, true≢false}
+use Rattle.std.proofs.Common.{◌≡◌, ◌∙◌, Bool, true, false, refl, sym, List, [], ◌∷◌, ◌||◌, ◌&&◌, not, Option, Some, None, is_some}
+use Rattle.std.proofs.Common.{option_map, if◌then◌else◌, codes, true≢false}
 use Rattle.std.specs.Prelude.{IfSome, IsSomeAnd, find}
 use Rattle.std.specs.List.{list_any}
 use Rattle.std.specs.Option.{option_map_or}
@@ -27,7 +28,8 @@ abbrev TakenHas : (Text × List Row → Type 0) → Shape → Type 0
 TakenHas Q s = (name : Text) → IsNotHelp name → answers_to name (label_of s) ≡ true → (words : List Text)
     → level_fault s [] nothing_held words false [] ≡ [] → Q (rows_at s words)
 
-passes_by : {X : Type 0} (P : X → Type 0) (x : X) (o : Option X) (b : Bool) → (b ≡ true → P x) → IfSome o P → IfSome (if b then Some x else o) P
+passes_by : {X : Type 0} (P : X → Type 0) (x : X) (o : Option X) (b : Bool) → (b ≡ true → P x) → IfSome o P
+    → IfSome (if b then Some x else o) P
 passes_by P x o true here rest = here refl
 passes_by P x o false here rest = rest
 
@@ -35,7 +37,8 @@ found_passes : {X : Type 0} (P : X → Type 0) (p : X → Bool) (xs : List X) �
 found_passes P p [] each = tt
 found_passes P p (x ∷ xs) each = passes_by P x (find p xs) (p x) each.0 (found_passes P p xs each.1)
 
-named_holds : (Q : Text × List Row → Type 0) (name : Text) (words : List Text) → IsNotHelp name → (subs : List Shape) → Each (TakenHas Q) subs
+named_holds : (Q : Text × List Row → Type 0) (name : Text) (words : List Text) → IsNotHelp name → (subs : List Shape)
+    → Each (TakenHas Q) subs
     → Each (λ s. answers_to name (label_of s) ≡ true → level_fault s [] nothing_held words false [] ≡ [] → Q (rows_at s words)) subs
 named_holds Q name words on [] each = tt
 named_holds Q name words on (s ∷ rest) each = (λ is. each.0 name on is words, named_holds Q name words on rest each.1)
@@ -46,12 +49,14 @@ picked_holds : (Q : Text × List Row → Type 0) (o : Option Shape) (words : Lis
 picked_holds Q None words h e = tt
 picked_holds Q (Some s) words h e = h e
 
-entered_holds : (Q : Text × List Row → Type 0) (a : App) (stop : Option (Text × List Text)) → Each (TakenHas Q) a.subs → IsOn stop → entered_fault a stop ≡ []
+entered_holds : (Q : Text × List Row → Type 0) (a : App) (stop : Option (Text × List Text)) → Each (TakenHas Q) a.subs
+    → IsOn stop → entered_fault a stop ≡ []
     → IfSome (entered a stop) Q
 entered_holds Q a None each on e = tt
 entered_holds Q a (Some p) each on e =
     picked_holds Q (find (λ s. answers_to p.0 (label_of s)) a.subs) p.1
-    (found_passes (λ s. level_fault s [] nothing_held p.1 false [] ≡ [] → Q (rows_at s p.1)) _ a.subs (named_holds Q p.0 p.1 on a.subs each)) e
+    (found_passes (λ s. level_fault s [] nothing_held p.1 false [] ≡ [] → Q (rows_at s p.1)) _ a.subs
+    (named_holds Q p.0 p.1 on a.subs each)) e
 
 wants_subcommand : (help wanted argument : Bool) → wanted ≡ true → check_kinds help wanted argument ≡ [] → ⊥
 wants_subcommand true wanted argument needs e = cc
@@ -73,7 +78,8 @@ level_has s names h words has below needs e =
     let three = later_passes (settle_fault s.rules s.args_override_self end) _ two in
     checked_has s (finished s.rules end) has needs (later_passes (defaults_fault (settled s.rules end).rows s.rules) _ three)
 
-enters : (a : App) (words : List Text) → (built a).top.subcommand_required ≡ true → fault_of a words ≡ [] → is_some (subcommand_of a words) ≡ true
+enters : (a : App) (words : List Text) → (built a).top.subcommand_required ≡ true → fault_of a words ≡ []
+    → is_some (subcommand_of a words) ≡ true
 enters a words needs e =
     let top = (built a).top in
     let given = argument_words a words in
@@ -99,7 +105,8 @@ takes_own Q a words needs helps each e =
     let on = walk_on top (names_of (built a)) helps given (walk_from nothing_held)
     (first_passes (walk_fault top (names_of (built a)) (walk_from nothing_held) given) _ e) tt in
     both_of (subcommand_of a words) Q (enters a words needs e)
-    (entered_holds Q (built a) (stop_after (built a).top.rules (names_of (built a)) (argument_words a words)) each on (below_passes a words e))
+    (entered_holds Q (built a) (stop_after (built a).top.rules (names_of (built a)) (argument_words a words)) each on
+    (below_passes a words e))
 
 or_true : (b : Bool) → (b || false) ≡ true → b ≡ true
 or_true true e = refl

@@ -1,7 +1,10 @@
 //! The command line of `cif`, and what its words ask for.
-ghost use Rattle.std.specs.Prelude.{◌≡◌, ◌≢◌, ◌⊎◌, IfOk, IfErr, IsSomeAnd, [], codes, false, map, option_map, string_bytes};
-ghost use Rattle.clap.specs.Words.{FailsBy, app_of, first_of, found_of, kind_of, rows_of, rule_of, subcommand_rows_of};
-ghost use Rattle.cif_tool.specs.CommandLine.{IsCommand, chosen, cif, faults_of, normalise, optional};
+ghost use Rattle.std.specs.Prelude.{◌≡◌, ◌≢◌, ◌⊎◌, IfOk, IfErr, IsSomeAnd, codes, false, map};
+ghost use Rattle.std.specs.Prelude.{option_map, string_bytes};
+ghost use Rattle.clap.specs.Words.{FailsBy, app_of, first_of, found_of, kind_of, rows_of, rule_of};
+ghost use Rattle.clap.specs.Words.{subcommand_rows_of};
+ghost use Rattle.cif_tool.specs.CommandLine.{IsCommand, chosen, cif, faults_of};
+ghost use Rattle.cif_tool.specs.CommandLine.{normalise, optional};
 ghost use Rattle.cif_tool.specs.Job.{Asks, IsChosen, IsTaken};
 ghost use Rattle.cif_tool.specs.JobFault.{IsFaultOf};
 
@@ -54,7 +57,8 @@ fn matches_of<'a>(alloc: Global, words: &'a [String]) -> Result<ArgMatches<'a>, 
 // ---- what the matches hold
 
 fn word_of<'a>(matches: &ArgMatches<'a>, id: &str) -> Option<&'a str>
-    ensures { option_map (λ word. word.now) result ≡ first_of id.now (rows_of (found_of matches.now)) }
+    ensures { option_map (λ word. word.now) result
+        ≡ first_of id.now (rows_of (found_of matches.now)) }
 {
     matches.get_str(id)
 }
@@ -73,7 +77,8 @@ fn file_of(alloc: Global, matches: &ArgMatches<'_>) -> Result<Option<String>, Al
 // ---- the jobs
 
 fn normalise_job(alloc: Global, matches: &ArgMatches<'_>) -> Result<Job, JobFault>
-    ensures ok { IfOk result (λ job. IsChosen job (codes "normalise", rows_of (found_of matches.now))) }
+    ensures ok { IfOk result (λ job. IsChosen job
+        (codes "normalise", rows_of (found_of matches.now))) }
     ensures err { IfErr result (λ fault. fault ≡ JobFault.Memory) }
 {
     Ok(Job::Normalise {

@@ -2,6 +2,9 @@
 //!
 //! What a device gives and takes is no part of a contract: what is said here, the rows of `tests/`
 //! show over the built program.
+ghost use Rattle.std.specs.Prelude.{◌≡◌};
+ghost use Rattle.cif_tool.specs.Status.{status_of};
+
 use crate::command_line::job_of;
 use crate::job::{Job, JobFault};
 use crate::normalise::{Fault, normalise, report};
@@ -17,7 +20,7 @@ use std::{env, fs, io};
 const OUTPUT_BUFFER: usize = 65_536;
 
 const NOT_TEXT: &str =
-    "error: invalid UTF-8 was detected in one or more arguments\n\nFor more information, try '--help'.";
+    "error: an argument is no text in UTF-8\n\nFor more information, try '--help'.";
 
 /// Does what the words of the process ask for, and returns the status to exit with. Fault lines go
 /// to `errors`; that one can't be written changes no status.
@@ -51,7 +54,9 @@ fn words_of<R: Env + AllocGlobal>(rt: &R) -> io::Result<Vec<String>> {
 }
 
 /// Names the fault, and returns its status.
-fn reported<E: Print>(errors: &E, fault: &Fault) -> u8 {
+fn reported<E: Print>(errors: &E, fault: &Fault) -> u8
+    ensures { result ≡ status_of fault.now }
+{
     let mut sink = Sink::new(io::writer(errors));
     let _ = report(fault, &mut sink);
     status(fault)

@@ -4,8 +4,8 @@ ghost use Rattle.cif_tool.specs.Status.{status_of};
 
 use crate::normalise::Fault;
 
-/// The status that the program exits with: 3 where the input is refused, 4 where a device failed or
-/// a growth was refused.
+/// The status that the program exits with: 3 where the input is refused, 4 where a device failed
+/// or a growth was refused.
 pub fn status(fault: &Fault) -> u8
     ensures { result ≡ status_of fault.now }
 {
