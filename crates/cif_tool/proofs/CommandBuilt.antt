@@ -1,0 +1,44 @@
+-- A command that is built call by call is the one that the definition says.
+use Rattle.std.proofs.Common.{◌≡◌, ◌∙◌, Some, true, false, refl, ap, ap₂, ◌||◌}
+use Rattle.std.specs.Borrow.{Bor}
+use Rattle.clap.specs.Words.{AddsSubcommand, App, Text, app_of, is_simple, is_simple_and_free, new_app, with_subcommand}
+use Rattle.clap.specs.Simple.{app_of_fields}
+use Rattle.clap.specs.declared.Command.{Command}
+use Rattle.clap.specs.declared.Command.TheViews.{out-Command}
+use Rattle.cif_tool.specs.CommandLine.{IsCommand, cif, program}
+
+-- `clap` says exactly what it makes of the command's words
+pub is_simple_cif : is_simple cif ≡ true
+unfolding cif
+is_simple_cif = refl
+
+-- and which kinds of error they have
+pub is_free_cif : is_simple_and_free cif ≡ true
+unfolding cif
+is_free_cif = refl
+
+abbrev telling : App → App
+telling a = record a { top = record a.top { has_version = true } }
+
+abbrev requiring : App → App
+requiring a = record a { top = record a.top { subcommand_required = true } }
+
+-- the program's own settings, in the order of their calls
+pub program_made : (name : Text) (text : Bor Text) (new named versioned about requires : Command)
+    → app_of new ≡ new_app name → (out-Command new).has_globals ≡ false
+    → out-Command named ≡ record (out-Command new) { bin_name = (out-Command named).bin_name }
+    → out-Command versioned ≡ record (out-Command named) { version = Some text }
+    → out-Command about ≡ record (out-Command versioned) { about = (out-Command about).about }
+    → out-Command requires ≡ record (out-Command about) { subcommand_required = true } → IsCommand (program name) requires
+program_made name text new named versioned about requires made none n v a r = record {
+  app = ap app_of_fields r ∙ ap requiring (ap app_of_fields a ∙ (ap app_of_fields v ∙ ap telling (ap app_of_fields n ∙ made)));
+  local = ap (λ f. f.has_globals) r ∙ ap (λ f. f.has_globals) a ∙ ap (λ f. f.has_globals) v ∙ ap (λ f. f.has_globals) n ∙ none;
+}
+
+-- one more subcommand
+pub subcommand_added : (a s : App) (old sub new : Command) → IsCommand a old → IsCommand s sub → AddsSubcommand old sub new
+    → IsCommand (with_subcommand a s.top) new
+subcommand_added a s old sub new is_old is_sub added = record {
+  app = added.shape is_sub.local ∙ ap₂ with_subcommand is_old.app (ap (λ (x : App). x.top) is_sub.app);
+  local = added.globals ∙ ap₂ (λ x y. x || y) is_old.local is_sub.local;
+}

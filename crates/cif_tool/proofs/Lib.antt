@@ -1,0 +1,4 @@
+pub mod CommandBuilt
+pub mod FirstFault
+pub mod HelpNotEntered
+pub mod OwnSubcommand

@@ -1,0 +1,4 @@
+pub mod CommandLine
+pub mod Job
+pub mod JobFault
+pub mod Status

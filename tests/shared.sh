@@ -1,0 +1,94 @@
+# What the runners of tests/ share. A runner sources this file and then calls `begin`.
+# It needs a POSIX shell, cmp and sed.
+
+# begin PATH_TO_CIF: names the program, and a folder for what it writes
+begin() {
+    cif=$(cd "$(dirname "$1")" && pwd)/$(basename "$1")
+    if [ ! -x "$cif" ]; then
+        echo "$cif can't be run" >&2
+        exit 2
+    fi
+    work=${TMPDIR:-/tmp}/cif-tests.$$
+    mkdir -m 700 "$work" || exit 2
+    trap 'rm -rf "$work"' 0
+    trap 'exit 2' 1 2 15
+    passed=0
+    failed=0
+}
+
+# in_row FOLDER COMMAND..: runs the command in the folder of a row, with the row's words after it;
+# leaves $work/stdout, $work/stderr and $status, and in $work/told what a preloaded library says
+in_row() {
+    row=$1
+    shift
+    while IFS= read -r word || [ -n "$word" ]; do
+        set -- "$@" "$word"
+    done < "$row/args"
+    input=/dev/null
+    if [ -e "$row/stdin" ]; then
+        input=$row/stdin
+    fi
+    (cd "$row" && exec "$@") < "$input" > "$work/stdout" 2> "$work/stderr" 9> "$work/told"
+    status=$?
+}
+
+# same WANT GOT: whether the two files have the same bytes; a WANT that isn't there is any text
+same() {
+    [ ! -e "$1" ] || cmp -s "$1" "$2"
+}
+
+# answers FOLDER: whether $work/stdout, $work/stderr and $status are those of the folder
+answers() {
+    echo "$status" > "$work/status"
+    same "$1/stdout" "$work/stdout" && same "$1/stderr" "$work/stderr" && same "$1/status" "$work/status"
+}
+
+# shown FILE LINE: the line and the next, between bars, with a ? for each byte that can't be printed
+shown() {
+    LC_ALL=C sed -n -e "$2,$(($2 + 1)){" -e 's/[^ -~]/?/g' -e 's/^/    |/' -e 's/$/|/' -e p -e '}' "$1"
+}
+
+# told_apart NAME WANT GOT: prints where the two files first differ, if they do
+told_apart() {
+    if same "$2" "$3"; then
+        return
+    fi
+    line=$(cmp "$2" "$3" 2>&1 | sed -n 's/.*line \([0-9][0-9]*\).*/\1/p')
+    line=${line:-1}
+    echo "  $1, from line $line: wanted (of $(wc -c < "$2") bytes)"
+    shown "$2" "$line"
+    echo "  $1, from line $line: got (of $(wc -c < "$3") bytes)"
+    shown "$3" "$line"
+}
+
+# differences FOLDER: prints how $work/stdout, $work/stderr and $status differ from the folder's
+differences() {
+    told_apart status "$1/status" "$work/status"
+    told_apart stdout "$1/stdout" "$work/stdout"
+    told_apart stderr "$1/stderr" "$work/stderr"
+}
+
+pass() {
+    passed=$((passed + 1))
+}
+
+fail() {
+    failed=$((failed + 1))
+}
+
+# end: prints the counts; the status is 0 if all passed and some ran
+end() {
+    echo "$passed passed, $failed failed"
+    [ "$failed" -eq 0 ] && [ "$passed" -gt 0 ]
+}
+
+# preload SOURCE: builds a library from the C file, which includes nothing, with the compiler of the
+# kit that proves the program; names it in $library
+preload() {
+    compiler=$(dirname "$(rt doc)")/toolchain/bin/clang
+    library=$work/$(basename "$1" .c).so
+    if ! "$compiler" -shared -fPIC -O1 -nostdlib --ld-path="$(dirname "$compiler")/ld.lld" -o "$library" "$1"; then
+        echo "$1 can't be built" >&2
+        exit 2
+    fi
+}
