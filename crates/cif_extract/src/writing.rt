@@ -1,0 +1,81 @@
+//! Records as plain lines, each with a line feed.
+ghost use Rattle.std.specs.Prelude.{◌≡◌, ◌↔◌, ◌≤◌, ◌++◌, ◌∷◌, [], false, Some, IsTrue, IsErr, OnOk, OnErr};
+ghost use Rattle.std.specs.Io.KnownBytes.{Appends};
+ghost use Rattle.cif_columns.specs.Devices.{TellsErrors};
+ghost use Rattle.cif_columns.specs.Field.{plain_line};
+ghost use Rattle.cif_columns.specs.Sink.{AppendsFront, sink_failed, writer_of};
+ghost use Rattle.cif_columns.specs.declared.stp.Stp.TheVariants.{P};
+ghost use Rattle.cif_records.specs.Association.{association_table};
+ghost use Rattle.cif_records.specs.Header.{header_table};
+ghost use Rattle.cif_records.specs.Trailer.{trailer_table};
+
+use cif_columns::{Day, DaysRun, Line, Sink, WriteDevice, WriteFault};
+use cif_records::{AssocBody, AssocKey, Header, Trailer, permanent_association};
+
+/// Appends a line and a line feed.
+fn write_line<W: WriteDevice>(line: &Line, sink: &mut Sink<W>) -> Result<(), WriteFault>
+    ensures ok { OnOk result (Appends (W.contents (writer_of sink.old)) (W.contents (writer_of sink.new))
+        (line.now ++ 10 ∷ [])) }
+    ensures err { OnErr result (AppendsFront (W.contents (writer_of sink.old))
+        (W.contents (writer_of sink.new)) (line.now ++ 10 ∷ [])) }
+    ensures failed { IsTrue (sink_failed sink.new) ↔ IsErr result }
+    ensures errors { sink_failed sink.old ≡ false → TellsErrors (W.write_errors (writer_of sink.old))
+        (W.write_errors (writer_of sink.new)) result }
+    ensures untouched { IsTrue (sink_failed sink.old) → sink.new ≡ sink.old }
+{
+    let mut text = [b'\n'; 81];
+    text[..80].copy_from_slice(line.bytes());
+    sink.write_all(&text)
+}
+
+/// Appends the plain line of the header and a line feed.
+pub fn write_head<W: WriteDevice>(header: &Header, sink: &mut Sink<W>) -> Result<(), WriteFault>
+    ensures ok { OnOk result (Appends (W.contents (writer_of sink.old)) (W.contents (writer_of sink.new))
+        (plain_line (header_table header.now.columns) ++ 10 ∷ [])) }
+    ensures err { OnErr result (AppendsFront (W.contents (writer_of sink.old))
+        (W.contents (writer_of sink.new)) (plain_line (header_table header.now.columns) ++ 10 ∷ [])) }
+    ensures failed { IsTrue (sink_failed sink.new) ↔ IsErr result }
+    ensures errors { sink_failed sink.old ≡ false → TellsErrors (W.write_errors (writer_of sink.old))
+        (W.write_errors (writer_of sink.new)) result }
+    ensures untouched { IsTrue (sink_failed sink.old) → sink.new ≡ sink.old }
+{
+    write_line(&header.write(), sink)
+}
+
+/// Appends the plain line of a permanent association and a line feed: transaction type `N`, letter
+/// `P`.
+pub fn write_association<W: WriteDevice>(
+    key: &AssocKey,
+    body: &AssocBody,
+    first: Day,
+    last: Day,
+    days: DaysRun,
+    sink: &mut Sink<W>,
+) -> Result<(), WriteFault>
+    requires { first ≤ last }
+    ensures ok { OnOk result (Appends (W.contents (writer_of sink.old)) (W.contents (writer_of sink.new))
+        (plain_line (association_table key.now first last days P (Some body.now)) ++ 10 ∷ [])) }
+    ensures err { OnErr result (AppendsFront (W.contents (writer_of sink.old))
+        (W.contents (writer_of sink.new))
+        (plain_line (association_table key.now first last days P (Some body.now)) ++ 10 ∷ [])) }
+    ensures failed { IsTrue (sink_failed sink.new) ↔ IsErr result }
+    ensures errors { sink_failed sink.old ≡ false → TellsErrors (W.write_errors (writer_of sink.old))
+        (W.write_errors (writer_of sink.new)) result }
+    ensures untouched { IsTrue (sink_failed sink.old) → sink.new ≡ sink.old }
+{
+    write_line(&permanent_association(key, body, first, last, days), sink)
+}
+
+/// Appends the plain line of the trailer and a line feed.
+pub fn write_trailer<W: WriteDevice>(sink: &mut Sink<W>) -> Result<(), WriteFault>
+    ensures ok { OnOk result (Appends (W.contents (writer_of sink.old)) (W.contents (writer_of sink.new))
+        (plain_line trailer_table ++ 10 ∷ [])) }
+    ensures err { OnErr result (AppendsFront (W.contents (writer_of sink.old))
+        (W.contents (writer_of sink.new)) (plain_line trailer_table ++ 10 ∷ [])) }
+    ensures failed { IsTrue (sink_failed sink.new) ↔ IsErr result }
+    ensures errors { sink_failed sink.old ≡ false → TellsErrors (W.write_errors (writer_of sink.old))
+        (W.write_errors (writer_of sink.new)) result }
+    ensures untouched { IsTrue (sink_failed sink.old) → sink.new ≡ sink.old }
+{
+    write_line(&Trailer.write(), sink)
+}
