@@ -22,7 +22,7 @@ none_given : (bytes : List ℕ) → HasGiven bytes [] bytes
 none_given bytes = record { whole = []; parts = refl; ended = inl refl; contents = refl; are_lines = λ k d below. absurd (omega arith) }
 
 -- the contents of the bytes are the lines that were given and the contents of the rest
-contents_given : (bytes : List ℕ) (ls : List (List ℕ)) (rest : List ℕ) → HasGiven bytes ls rest → contents_of bytes ≡ ls ++ contents_of rest
+pub contents_given : (bytes : List ℕ) (ls : List (List ℕ)) (rest : List ℕ) → HasGiven bytes ls rest → contents_of bytes ≡ ls ++ contents_of rest
 contents_given bytes ls rest so_far =
     ap lines so_far.parts ∙ lines_whole so_far.whole rest so_far.ended ∙ ap (λ l. l ++ lines rest) so_far.contents
 

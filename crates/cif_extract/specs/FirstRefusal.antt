@@ -1,5 +1,5 @@
 -- The first refused line of an input, and its reason.
-use Rattle.std.specs.Prelude.{◌≡◌, ◌≢◌, ◌⊎◌, ℕ, ◌+◌, ◌<◌, ◌==◌, nat_lt, Bool, List, [], ◌∷◌, ◌++◌, length, All, Option, None, Some}
+use Rattle.std.specs.Prelude.{◌≡◌, ◌≢◌, ◌⊎◌, ℕ, ◌+◌, ◌<◌, ◌==◌, nat_lt, Bool, List, [], ◌∷◌, ◌++◌, length, All, take, slice_index_or, Option, None, Some}
 use Rattle.std.specs.List.{list_all}
 use Rattle.cif_columns.specs.Contents.{contents_of, DecidesNothing}
 use Rattle.cif_columns.specs.GivenLines.{AreLinesToFailure}
@@ -37,10 +37,9 @@ refusal_of rules max before content = first_of (
     ∷ kind_refusal rules before content (kind_in content)
     ∷ [])
 
--- there is no reason to refuse any of these contents
+-- there is no reason to refuse any of these contents, each after those before it
 pub record NoneRefused (rules : LineRules) (max : ℕ) (contents : List (List ℕ)) : Type 0 where
-  pub fine : (before : List (List ℕ)) (content : List ℕ) (after : List (List ℕ)) → contents ≡ before ++ content ∷ after
-      → refusal_of rules max before content ≡ None
+  pub fine : (k : ℕ) → k < length contents → refusal_of rules max (take k contents) (slice_index_or contents k []) ≡ None
 
 -- The content of this number, counted from 1, is the first of the contents that is refused, and why is its first reason.
 pub record IsRefusedLine (rules : LineRules) (max : ℕ) (contents : List (List ℕ)) (number : ℕ) (why : Refusal) : Type 0 where

@@ -1,3 +1,4 @@
 pub mod Associations
 pub mod Headers
+pub mod Identities
 pub mod Judging

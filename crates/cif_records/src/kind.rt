@@ -1,5 +1,6 @@
 //! The kinds of record.
 ghost use Rattle.std.specs.Prelude.{◌≡◌, find};
+ghost use Rattle.cif_columns.specs.Line.{IsLine};
 ghost use Rattle.cif_records.specs.Kind.{identity, is_identity, kind_in};
 
 use cif_columns::{Line, columns_at};
@@ -74,7 +75,8 @@ impl Kind {
 
 /// The kind that columns 1 and 2 of the line name; `None` where they name none of the twelve.
 pub fn kind_of(line: &Line) -> Option<Kind>
-    ensures { result ≡ kind_in line.now }
+    ensures kind { result ≡ kind_in line.now }
+    ensures line { IsLine line.now }
 {
     kind_among(&Kind::ALL, &columns_at(line, 1))
 }

@@ -1,0 +1,3 @@
+pub mod ReadFaults
+pub mod ReadingLaws
+pub mod Refusing

@@ -1,0 +1,4 @@
+pub mod AssociationRules
+pub mod Reading
+pub mod Role
+pub mod SpellsExtract
