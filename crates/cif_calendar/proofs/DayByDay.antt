@@ -4,7 +4,7 @@ use Rattle.std.specs.Prelude.{IsNone}
 use Rattle.cif_columns.specs.Stp.{letter}
 use Rattle.cif_columns.specs.declared.stp.Stp.TheVariants.{P, C}
 use Rattle.cif_calendar.specs.Terms.{Terms, AreLawful}
-use Rattle.cif_calendar.specs.Week.{weekday_of}
+use Rattle.cif_columns.specs.Day.{weekday_of}
 use Rattle.cif_calendar.specs.Applies.{Applies}
 use Rattle.cif_calendar.specs.Wins.{Wins}
 use Rattle.cif_calendar.specs.Runs.{Runs, BodyRuns, NothingRuns}

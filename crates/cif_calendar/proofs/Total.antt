@@ -11,7 +11,7 @@ use Rattle.cif_columns.specs.Stp.{letter}
 use Rattle.cif_columns.specs.declared.stp.Stp.{Stp}
 use Rattle.cif_columns.specs.declared.stp.Stp.TheVariants.{P, N, O, C}
 use Rattle.cif_calendar.specs.Terms.{Terms, Records, SameRecords, AreLawful}
-use Rattle.cif_calendar.specs.Week.{weekday_of}
+use Rattle.cif_columns.specs.Day.{weekday_of}
 use Rattle.cif_calendar.specs.Applies.{Applies}
 use Rattle.cif_calendar.specs.Wins.{Wins}
 use Rattle.cif_calendar.specs.Runs.{Runs}

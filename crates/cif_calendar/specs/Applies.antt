@@ -2,7 +2,7 @@
 use Rattle.std.specs.Prelude.{ℕ, ◌≤◌}
 use Rattle.cif_columns.specs.DaysRun.{RunsOn}
 use Rattle.cif_calendar.specs.Terms.{Terms}
-use Rattle.cif_calendar.specs.Week.{weekday_of}
+use Rattle.cif_columns.specs.Day.{weekday_of}
 
 -- The record applies on day d: from its first to its last day, both included, where the weekday is in its mask.
 pub record Applies {B : Type 0} (r : Terms B) (d : ℕ) : Type 0 where

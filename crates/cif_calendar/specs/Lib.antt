@@ -1,4 +1,5 @@
 pub mod Applies
+pub mod Bodied
 pub mod Clash
 pub mod Keys
 pub mod Meaning
@@ -7,5 +8,4 @@ pub mod Runs
 pub mod Source
 pub mod Standing
 pub mod Terms
-pub mod Week
 pub mod Wins

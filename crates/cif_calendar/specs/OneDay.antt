@@ -3,7 +3,7 @@ use Rattle.std.specs.Prelude.{◌≡◌, ℕ, ◌≤◌, List, Some, ◌↔◌}
 use Rattle.cif_columns.specs.DaysRun.{RunsOn}
 use Rattle.cif_columns.specs.declared.stp.Stp.TheVariants.{P}
 use Rattle.cif_calendar.specs.Terms.{Terms}
-use Rattle.cif_calendar.specs.Week.{weekday_of}
+use Rattle.cif_columns.specs.Day.{weekday_of}
 use Rattle.cif_calendar.specs.Runs.{BodyRuns}
 use Rattle.cif_calendar.specs.Keys.{of_key}
 

@@ -1,6 +1,7 @@
 //! Which record of a timetable wins on a date, and what runs.
 #![tactic(auto)]
 
+mod association_entry;
 mod entry;
 mod winner;
 
