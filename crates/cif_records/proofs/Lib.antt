@@ -1,3 +1,4 @@
 pub mod Associations
 pub mod Headers
 pub mod Judging
+pub mod Rows
