@@ -1,4 +1,5 @@
 pub mod Associations
 pub mod Headers
+pub mod Identities
 pub mod Judging
 pub mod Rows

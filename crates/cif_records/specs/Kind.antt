@@ -20,7 +20,7 @@ identity Cr = codes "CR"
 identity Lt = codes "LT"
 identity Zz = codes "ZZ"
 
--- the twelve kinds
+-- the twelve kinds, as `Kind::ALL` lists them
 abbrev pub kinds : List Kind
 kinds = Li ∷ Cr ∷ Lt ∷ Lo ∷ Bx ∷ Bs ∷ Aa ∷ Ti ∷ Hd ∷ Zz ∷ Ta ∷ Td ∷ []
 

@@ -1,0 +1,32 @@
+-- A kind is found by its identity, and by no other.
+use Rattle.std.proofs.Common.{◌≡◌, ℕ, Bool, true, false, cond, List, [], ◌∷◌, Some, IfSome, refl, sym, find}
+use Rattle.std.specs.Cmp.Lexicographic.{bytes_decides}
+use Rattle.cif_records.specs.Kind.{identity, kinds, is_identity}
+use Rattle.cif_records.specs.declared.kind.Kind.{Kind}
+use Rattle.cif_records.specs.declared.kind.Kind.TheVariants.{Hd, Ti, Ta, Td, Aa, Bs, Bx, Lo, Li, Cr, Lt, Zz}
+
+-- the kind that is found has these letters
+pub found_kind : (letters : List ℕ) (among : List Kind) → IfSome (find (is_identity letters) among) (λ kind. letters ≡ identity kind)
+found_kind letters [] = tt
+found_kind letters (kind ∷ others) = at (is_identity letters kind) refl (found_kind letters others)
+  where
+    at : (b : Bool) → b ≡ is_identity letters kind
+        → IfSome (find (is_identity letters) others) (λ k. letters ≡ identity k)
+        → IfSome (cond b (Some kind) (find (is_identity letters) others)) (λ k. letters ≡ identity k)
+    at true e behind = sym ((bytes_decides (identity kind) letters).0 (sym e))
+    at false e behind = behind
+
+-- the kind with these letters is found
+pub only_kind : (letters : List ℕ) (kind : Kind) → letters ≡ identity kind → find (is_identity letters) kinds ≡ Some kind
+only_kind letters Hd e = rw e
+only_kind letters Ti e = rw e
+only_kind letters Ta e = rw e
+only_kind letters Td e = rw e
+only_kind letters Aa e = rw e
+only_kind letters Bs e = rw e
+only_kind letters Bx e = rw e
+only_kind letters Lo e = rw e
+only_kind letters Li e = rw e
+only_kind letters Cr e = rw e
+only_kind letters Lt e = rw e
+only_kind letters Zz e = rw e
