@@ -1,17 +1,16 @@
 -- The digits that counting gives are those that name the day.
 use Rattle.std.proofs.Common.{◌≡◌, ℕ, zero, suc, ◌+◌, ◌%◌, ◌<◌, ◌≤◌, Bool, true, false, cond, nat_lt, arith, refl, sym, ap, ◌∙◌, List}
-use Rattle.std.proofs.Common.{◌++◌, ℤ, pos, ◌+ℤ◌, ◌≤ℤ◌, subst}
+use Rattle.std.proofs.Common.{ℤ, pos, subst}
 use Rattle.std.proofs.lemmas.Bool.Decides.{nat_tests}
 use Rattle.jiff.specs.Types.{Date}
-use Rattle.jiff.specs.Words.{epoch_day, days_in_month}
-use Rattle.jiff_core.specs.Calendar.{day_count, days_from_civil}
+use Rattle.jiff.specs.Words.{days_in_month}
+use Rattle.jiff_core.specs.Calendar.{day_count}
 use Rattle.jiff_core.proofs.SignedLemmas.{signed_arith}
 use Rattle.jiff_core.proofs.MarchLemmas.{day_count-early}
 use Rattle.jiff_core.proofs.CalendarLemmas.{day_count-lt_year, days_from_civil-day_count, day_count-day, day_count-next_month}
 use Rattle.jiff_core.proofs.CalendarLemmas.{day_count-next_year, day_count-last_of_year, days_in_month_bounds}
 use Rattle.cif_columns.specs.Day.{IsDay, IsDated, StandsInYymmdd, StandsInDdmmyy, year_of}
 use Rattle.cif_columns.specs.DayDigits.{CalendarDate, next_date, date_of, yymmdd_of, ddmmyy_of}
-use Rattle.cif_columns.specs.Digits.{two_digits}
 use Rattle.cif_columns.proofs.Dates.{number_is_day, one_yymmdd, one_ddmmyy}
 
 day_count-1960 : day_count (pos 1960) 1 1 ≡ 4_368_300

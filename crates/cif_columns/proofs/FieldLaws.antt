@@ -1,5 +1,5 @@
 -- One value stands in columns of a kind of field.
-use Rattle.std.proofs.Common.{◌≡◌, ℕ, List, Bool, [], ◌∷◌, Some, sym, ap, ◌∙◌, refl}
+use Rattle.std.proofs.Common.{◌≡◌, ℕ, List, Bool, [], ◌∷◌, Some, sym, ◌∙◌, refl}
 use Rattle.cif_columns.specs.Field.{StandsIn, exactly, text, date, weekdays, indicator}
 use Rattle.cif_columns.specs.Stp.{letter, stp_in}
 use Rattle.cif_columns.specs.declared.stp.Stp.{Stp}
