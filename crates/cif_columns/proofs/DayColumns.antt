@@ -1,12 +1,10 @@
 -- The six digits that name a day, and the day that six digits name.
-use Rattle.std.proofs.Common.{Bool, ◌≡◌, ℕ, zero, suc, ◌+◌, ◌*◌, ◌/◌, ◌%◌, ◌<◌, true, false, cond, List, [], ◌∷◌, ◌++◌, length, get_or}
-use Rattle.std.proofs.Common.{Option, Some, None, refl, sym, ap, ◌∙◌, arith, rules}
-use Rattle.std.proofs.lemmas.Bool.Decides.{nat_tests}
+use Rattle.std.proofs.Common.{◌≡◌, ℕ, ◌<◌, List, [], ◌∷◌, length, get_or}
+use Rattle.std.proofs.Common.{Option, Some, None, refl, sym, ◌∙◌, arith, rules}
 use Rattle.std.proofs.lemmas.Slice.Eq.{text_from_reads}
 use Rattle.jiff_core.proofs.CalendarLemmas.{days_in_month_bounds}
-use Rattle.cif_columns.specs.Digits.{two_digits}
 use Rattle.cif_columns.specs.Day.{IsDated, StandsInYymmdd, StandsInDdmmyy, day_number, day_from, yymmdd_in, ddmmyy_in}
-use Rattle.cif_columns.proofs.Dates.{day_number-dated, is_dated-day_number, one_yymmdd, one_ddmmyy}
+use Rattle.cif_columns.proofs.Dates.{day_number-dated, is_dated-day_number}
 use Rattle.cif_columns.proofs.DigitsLemmas.{number_in-two_digits, two_digits-number_in}
 
 -- a date's month and day have two digits

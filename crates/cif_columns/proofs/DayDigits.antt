@@ -1,22 +1,28 @@
 -- The digits that counting gives are those that name the day.
-use Rattle.std.proofs.Common.{◌≡◌, ℕ, zero, suc, ◌+◌, ◌%◌, ◌<◌, ◌≤◌, Bool, true, false, cond, nat_lt, arith, refl, sym, ap, ◌∙◌, List, ◌++◌, ℤ, pos, ◌+ℤ◌, ◌≤ℤ◌, subst}
+use Rattle.std.proofs.Common.{◌≡◌, ℕ, zero, suc, ◌+◌, ◌%◌, ◌<◌, ◌≤◌, Bool, true, false, cond, nat_lt, arith, refl, sym, ap, ◌∙◌, List}
+use Rattle.std.proofs.Common.{ℤ, pos, subst}
 use Rattle.std.proofs.lemmas.Bool.Decides.{nat_tests}
 use Rattle.jiff.specs.Types.{Date}
-use Rattle.jiff.specs.Words.{epoch_day, days_in_month}
-use Rattle.jiff_core.specs.Calendar.{day_count, days_from_civil}
+use Rattle.jiff.specs.Words.{days_in_month}
+use Rattle.jiff_core.specs.Calendar.{day_count}
 use Rattle.jiff_core.proofs.SignedLemmas.{signed_arith}
 use Rattle.jiff_core.proofs.MarchLemmas.{day_count-early}
-use Rattle.jiff_core.proofs.CalendarLemmas.{day_count-lt_year, days_from_civil-day_count, day_count-day, day_count-next_month, day_count-next_year, day_count-last_of_year, days_in_month_bounds}
+use Rattle.jiff_core.proofs.CalendarLemmas.{day_count-lt_year, days_from_civil-day_count, day_count-day, day_count-next_month}
+use Rattle.jiff_core.proofs.CalendarLemmas.{day_count-next_year, day_count-last_of_year, days_in_month_bounds}
 use Rattle.cif_columns.specs.Day.{IsDay, IsDated, StandsInYymmdd, StandsInDdmmyy, year_of}
 use Rattle.cif_columns.specs.DayDigits.{CalendarDate, next_date, date_of, yymmdd_of, ddmmyy_of}
-use Rattle.cif_columns.specs.Digits.{two_digits}
 use Rattle.cif_columns.proofs.Dates.{number_is_day, one_yymmdd, one_ddmmyy}
 
 day_count-1960 : day_count (pos 1960) 1 1 ≡ 4_368_300
 day_count-1960 = day_count-early (pos 1960) 11959 1 1 refl (omega arith) (omega arith) (omega arith)
 
 day_count-2059 : day_count (pos 2059) 12 31 ≡ 4_404_824
-day_count-2059 = omega (arith, day_count-last_of_year (pos 2059), day_count-next_year (pos 2059) (pos 2060) (omega (arith, signed_arith)) (omega (arith, signed_arith)), day_count-early (pos 2060) 12059 1 1 refl (omega arith) (omega arith) (omega arith))
+day_count-2059 = omega (
+  arith,
+  day_count-last_of_year (pos 2059),
+  day_count-next_year (pos 2059) (pos 2060) (omega (arith, signed_arith)) (omega (arith, signed_arith)),
+  day_count-early (pos 2060) 12059 1 1 refl (omega arith) (omega arith) (omega arith),
+)
 
 -- the date of the day with number n
 pub record IsCounted (n : ℕ) (d : CalendarDate) : Type 0 where
@@ -38,7 +44,8 @@ next_counted n d h = at (nat_lt d.day (days_in_month (pos d.year) d.month)) (nat
     last_in_month e = let within = h.day_in.1 in grind (arith, nat_tests)
 
     at : (b c : Bool) → b ≡ nat_lt d.day (days_in_month (pos d.year) d.month) → c ≡ nat_lt d.month 12
-        → IsCounted (suc n) (cond b (record { year = d.year; month = d.month; day = d.day + 1 }) (cond c (record { year = d.year; month = d.month + 1; day = 1 }) (record { year = d.year + 1; month = 1; day = 1 })))
+        → IsCounted (suc n) (cond b (record { year = d.year; month = d.month; day = d.day + 1 })
+        (cond c (record { year = d.year; month = d.month + 1; day = 1 }) (record { year = d.year + 1; month = 1; day = 1 })))
     at true c e f =
         let before : d.day < days_in_month (pos d.year) d.month = grind (arith, nat_tests) in
         record {
@@ -54,20 +61,32 @@ next_counted n d h = at (nat_lt d.day (days_in_month (pos d.year) d.month)) (nat
           from = h.from;
           month_in = (omega arith, omega arith);
           day_in = (omega arith, omega (arith, days_in_month_bounds (pos d.year) (d.month + 1)));
-          count = omega (arith, h.count, last, day_count-day y d.month d.day 1 h.day_in.0 (omega arith), day_count-next_month y d.month h.month_in.0);
+          count = omega (
+            arith,
+            h.count,
+            last,
+            day_count-day y d.month d.day 1 h.day_in.0 (omega arith),
+            day_count-next_month y d.month h.month_in.0,
+          );
         }
     at false false e f =
         let last = last_in_month (sym e) in
         let within = h.month_in.1 in
         let month : d.month ≡ 12 = grind (arith, nat_tests) in
         let day : d.day ≡ 31 = last ∙ december d.year d.month month in
-        let here : day_count y 12 31 ≡ 4_368_300 + n = subst (λ k. day_count y 12 k ≡ 4_368_300 + n) day (subst (λ m. day_count y m d.day ≡ 4_368_300 + n) month h.count) in
+        let here : day_count y 12 31 ≡ 4_368_300 + n =
+        subst (λ k. day_count y 12 k ≡ 4_368_300 + n) day (subst (λ m. day_count y m d.day ≡ 4_368_300 + n) month h.count) in
         let from = h.from in
         record {
           from = omega (arith, from);
           month_in = (omega arith, omega arith);
           day_in = (omega arith, omega (arith, days_in_month_bounds (pos (d.year + 1)) 1));
-          count = omega (arith, here, day_count-last_of_year y, day_count-next_year y (pos (d.year + 1)) (omega (arith, signed_arith)) (omega (arith, signed_arith)));
+          count = omega (
+            arith,
+            here,
+            day_count-last_of_year y,
+            day_count-next_year y (pos (d.year + 1)) (omega (arith, signed_arith)) (omega (arith, signed_arith)),
+          );
         }
 
 pub counted : (n : ℕ) → IsCounted n (date_of n)
@@ -91,7 +110,15 @@ below_year n d c h = at (nat_lt 2059 d.year) refl
     at false e = grind (arith, nat_tests)
     at true e =
         let later : 2059 < d.year = grind (arith, nat_tests) in
-        absurd (omega (arith, day_count-2059, c.count, h, day_count-lt_year (pos 2059) 12 31 (pos d.year) d.month d.day (omega (arith, signed_arith), (omega arith, omega arith), (omega arith, omega arith)) c.day_in.0 (omega (arith, signed_arith))))
+        absurd (omega (
+          arith,
+          day_count-2059,
+          c.count,
+          h,
+          day_count-lt_year (pos 2059) 12 31 (pos d.year) d.month d.day
+              (omega (arith, signed_arith), (omega arith, omega arith), (omega arith, omega arith))
+              c.day_in.0 (omega (arith, signed_arith)),
+        ))
 
 -- the same date as one of the library's
 calendar_date : (n : ℕ) (d : CalendarDate) → IsCounted n d → d.year ≤ 2059 → Date

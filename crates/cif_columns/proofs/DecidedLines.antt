@@ -1,5 +1,6 @@
 -- When the first line of bytes is known, whatever follows them.
-use Rattle.std.proofs.Common.{◌≡◌, ℕ, ◌+◌, ◌-◌, ◌<◌, ◌≤◌, Bool, true, false, not, cond, nat_eq, List, [], ◌∷◌, ◌++◌, length, take, drop, Ok, Err, refl, sym, ap, ◌∙◌, arith, length-append, length-take, ltb-false, drop_of_length-le, ne_eqb, ◌≢◌}
+use Rattle.std.proofs.Common.{◌≡◌, ℕ, ◌+◌, ◌-◌, ◌<◌, ◌≤◌, Bool, true, false, not, cond, nat_eq, List, [], ◌∷◌, ◌++◌, length, take, drop}
+use Rattle.std.proofs.Common.{Ok, Err, refl, sym, ap, ◌∙◌, arith, length-append, length-take, ltb-false, drop_of_length-le, ne_eqb, ◌≢◌}
 use Rattle.std.proofs.lemmas.Bool.Decides.{nat_tests}
 use Rattle.std.proofs.lemmas.Bool.{ltb-true}
 use Rattle.std.proofs.lemmas.List.{take-append-le, drop-append-le}
@@ -7,7 +8,8 @@ use Rattle.std.specs.List.{slice_index, list_all, slice_split, onto_first, befor
 use Rattle.std.specs.Str.Lines.{strip_carriage_return, lines, lines_of_parts}
 use Rattle.std.proofs.lemmas.List.Splits.{slice_split_first}
 use Rattle.cif_columns.specs.declared.refusal.Refusal.TheVariants.{TooManyLines, BadLength, BadByte}
-use Rattle.cif_columns.specs.FirstLine.{has_line_feed, first_content, after_content, line_of, first_line, is_decided, is_printable, is_line_feed}
+use Rattle.cif_columns.specs.FirstLine.{has_line_feed, first_content, after_content, line_of, first_line, is_decided, is_printable}
+use Rattle.cif_columns.specs.FirstLine.{is_line_feed}
 use Rattle.cif_columns.proofs.FeedPlaces.{place, place-append_in, place-append_out}
 
 -- ---- the parts of a decision
@@ -37,7 +39,8 @@ decided_some f p d = grind (arith, nat_tests)
 pub last_line : (f : Bool) (p : List ℕ) → is_decided f p ≡ false → 0 < length p → first_line f p ≡ line_of p
 unfolding first_line first_content
 last_line f p d some =
-    ap (λ b. cond b (Err TooManyLines) (line_of (cond (has_line_feed p) (strip_carriage_return (take (place p) p)) p))) (undecided_not_full f p d some)
+    ap (λ b. cond b (Err TooManyLines) (line_of (cond (has_line_feed p) (strip_carriage_return (take (place p) p)) p)))
+    (undecided_not_full f p d some)
     ∙ ap (λ b. line_of (cond b (strip_carriage_return (take (place p) p)) p)) (undecided_no_feed f p d)
 
 pub last_after : (f : Bool) (p : List ℕ) → is_decided f p ≡ false → after_content p ≡ []
@@ -71,7 +74,8 @@ module _ (p more : List ℕ) where
       ∙ ap (λ b. cond b (strip_carriage_return (take (place p) p)) p) (sym h)
 
   bad_length : (c : List ℕ) → 80 < length c → line_of c ≡ Err BadLength
-  bad_length c h = let ne : length c ≢ 80 = omega arith in ap (λ b. cond b (cond (list_all is_printable c) (Ok c) (Err BadByte)) (Err BadLength)) (ne_eqb (length c) 80 ne)
+  bad_length c h = let ne : length c ≢ 80 = omega arith in
+      ap (λ b. cond b (cond (list_all is_printable c) (Ok c) (Err BadByte)) (Err BadLength)) (ne_eqb (length c) 80 ne)
 
   stripped_long : (l : List ℕ) → length l ≤ length (strip_carriage_return l) + 1
   stripped_long l = at (nat_eq (slice_index l (length l - 1)) 13)
@@ -84,7 +88,8 @@ module _ (p more : List ℕ) where
   unfolding first_content
   long_content q long far = at (has_line_feed q) (stripped_long (take (place q) q))
     where
-      at : (b : Bool) → length (take (place q) q) ≤ length (strip_carriage_return (take (place q) q)) + 1 → 80 < length (cond b (strip_carriage_return (take (place q) q)) q)
+      at : (b : Bool) → length (take (place q) q) ≤ length (strip_carriage_return (take (place q) q)) + 1
+          → 80 < length (cond b (strip_carriage_return (take (place q) q)) q)
       at true h = omega (arith, h, length-take (place q) q)
       at false h = omega arith
 
@@ -108,7 +113,8 @@ pub parts_some : (p : ℕ → Bool) (bytes : List ℕ) → (first : List ℕ) ×
 parts_some p [] = ([], [], refl)
 parts_some p (x ∷ xs) = at (p x) (parts_some p xs)
   where
-    at : (b : Bool) → (first : List ℕ) × (others : List (List ℕ)) × (slice_split p xs ≡ first ∷ others) → (first : List ℕ) × (others : List (List ℕ)) × (cond b ([] ∷ slice_split p xs) (onto_first x (slice_split p xs)) ≡ first ∷ others)
+    at : (b : Bool) → (first : List ℕ) × (others : List (List ℕ)) × (slice_split p xs ≡ first ∷ others)
+        → (first : List ℕ) × (others : List (List ℕ)) × (cond b ([] ∷ slice_split p xs) (onto_first x (slice_split p xs)) ≡ first ∷ others)
     at true h = ([], slice_split p xs, refl)
     at false h = (x ∷ h.0, h.1, ap (onto_first x) h.2)
 
@@ -128,7 +134,8 @@ pub contents_first : (bytes : List ℕ) → 0 < length bytes → lines bytes ≡
 unfolding first_content after_content
 contents_first bytes some = at (has_line_feed bytes) refl
   where
-    at : (b : Bool) → b ≡ has_line_feed bytes → lines bytes ≡ cond b (strip_carriage_return (before_first is_line_feed bytes)) bytes ∷ lines (after_first is_line_feed bytes)
+    at : (b : Bool) → b ≡ has_line_feed bytes
+        → lines bytes ≡ cond b (strip_carriage_return (before_first is_line_feed bytes)) bytes ∷ lines (after_first is_line_feed bytes)
     at true e =
         let rest = after_first is_line_feed bytes in
         let split = slice_split_first is_line_feed bytes 0 (ltb-true (place bytes) (length bytes) (sym e)) in

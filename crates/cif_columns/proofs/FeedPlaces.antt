@@ -1,5 +1,7 @@
 -- Where the first line feed of bytes stands, in a front of them and in more of them.
-use Rattle.std.proofs.Common.{◌≡◌, ℕ, zero, suc, ◌+◌, ◌<◌, ◌≤◌, min, Bool, true, false, not, cond, nat_lt, List, [], ◌∷◌, ◌++◌, length, take, refl, sym, ap, ◌∙◌, arith, get_or, Option, Some, None, IsSome, IfSome, IfNone, ◌&&◌, eq-eqb, length-take, ltb-false}
+use Rattle.std.proofs.Common.{◌≡◌, ℕ, zero, suc, ◌+◌, ◌<◌, ◌≤◌, min, Bool, true, false, not, cond, nat_lt, List, [], ◌∷◌, ◌++◌, length}
+use Rattle.std.proofs.Common.{take, refl, sym, ap, ◌∙◌, arith, get_or, Option, Some, None, IsSome, IfSome, IfNone, ◌&&◌, eq-eqb}
+use Rattle.std.proofs.Common.{length-take, ltb-false}
 use Rattle.std.proofs.lemmas.Grind.{common_steps}
 use Rattle.std.proofs.lemmas.Bool.Decides.{nat_tests}
 use Rattle.std.proofs.lemmas.Option.{cond_some}
@@ -28,7 +30,8 @@ pub place-append_in : (xs ys : List ℕ) → place xs < length xs → place (xs 
 place-append_in [] ys h = absurd (omega arith)
 place-append_in (x ∷ xs) ys h = at (not (is_line_feed x)) (place-append_in xs ys) h
   where
-    at : (b : Bool) → (place xs < length xs → place (xs ++ ys) ≡ place xs) → cond b (1 + place xs) 0 < length (x ∷ xs) → cond b (1 + place (xs ++ ys)) 0 ≡ cond b (1 + place xs) 0
+    at : (b : Bool) → (place xs < length xs → place (xs ++ ys) ≡ place xs) → cond b (1 + place xs) 0 < length (x ∷ xs)
+        → cond b (1 + place (xs ++ ys)) 0 ≡ cond b (1 + place xs) 0
     at true more h = ap (λ n. 1 + n) (more (omega arith))
     at false more h = refl
 
@@ -36,7 +39,8 @@ pub place-append_out : (xs ys : List ℕ) → length xs ≤ place xs → length 
 place-append_out [] ys h = omega arith
 place-append_out (x ∷ xs) ys h = at (not (is_line_feed x)) (place-append_out xs ys) h
   where
-    at : (b : Bool) → (length xs ≤ place xs → length xs ≤ place (xs ++ ys)) → length (x ∷ xs) ≤ cond b (1 + place xs) 0 → length (x ∷ xs) ≤ cond b (1 + place (xs ++ ys)) 0
+    at : (b : Bool) → (length xs ≤ place xs → length xs ≤ place (xs ++ ys)) → length (x ∷ xs) ≤ cond b (1 + place xs) 0
+        → length (x ∷ xs) ≤ cond b (1 + place (xs ++ ys)) 0
     at true more h = omega (arith, more (omega arith))
     at false more h = absurd (omega arith)
 
@@ -53,7 +57,8 @@ place-printable n [] h p e = absurd (omega arith)
 place-printable zero (x ∷ xs) h p e = ap (λ b. cond (not b) (1 + place xs) 0) (eq-eqb x 10 e)
 place-printable (suc n) (x ∷ xs) h p e =
     let both = and_parts (is_printable x) (list_all is_printable (take n xs)) p in
-    ap (λ b. cond b (1 + place xs) 0) (printable_no_feed x both.0) ∙ ap (λ m. 1 + m) (place-printable n xs (omega arith) both.1 e) ∙ omega arith
+    ap (λ b. cond b (1 + place xs) 0) (printable_no_feed x both.0) ∙ ap (λ m. 1 + m) (place-printable n xs (omega arith) both.1 e)
+    ∙ omega arith
 
 -- what a search of a front finds, and what it tells where it finds none
 module _ (xs : List ℕ) (m : ℕ) (within : m ≤ length xs) where

@@ -1,10 +1,10 @@
 -- One value stands in columns of a kind of field.
-use Rattle.std.proofs.Common.{◌≡◌, ℕ, List, Bool, [], ◌∷◌, Some, sym, ap, ◌∙◌, refl}
+use Rattle.std.proofs.Common.{◌≡◌, ℕ, List, Bool, [], ◌∷◌, Some, sym, ◌∙◌, refl}
 use Rattle.cif_columns.specs.Field.{StandsIn, exactly, text, date, weekdays, indicator}
 use Rattle.cif_columns.specs.Stp.{letter, stp_in}
 use Rattle.cif_columns.specs.declared.stp.Stp.{Stp}
-use Rattle.cif_columns.specs.declared.stp.Stp.TheVariants.{P, N, O, C}
 use Rattle.cif_columns.proofs.DayColumns.{yymmdd_in-stands}
+use Rattle.cif_columns.proofs.Letters.{stp_in-stands, one_indicator as one_letter}
 use Rattle.cif_columns.proofs.Masks.{one_mask}
 use Rattle.cif_columns.proofs.Texts.{one_text}
 
@@ -20,15 +20,11 @@ one_date_value columns a b p q = let same = sym (yymmdd_in-stands columns a p) �
 pub one_weekdays : (columns : List ℕ) (a b : List Bool) → StandsIn columns (weekdays a) → StandsIn columns (weekdays b) → a ≡ b
 one_weekdays columns a b p q = one_mask columns a b p q
 
--- a letter is that of its indicator
+-- the indicator of an indicator's letter
 pub stp_in-letter : (stp : Stp) → stp_in (letter stp) ≡ Some stp
-stp_in-letter P = refl
-stp_in-letter N = refl
-stp_in-letter O = refl
-stp_in-letter C = refl
-
-one_letter : (a b : Stp) → letter a ≡ letter b → a ≡ b
-one_letter a b h = let same = sym (stp_in-letter a) ∙ ap stp_in h ∙ stp_in-letter b in cc
+stp_in-letter stp = stp_in-stands (letter stp) stp refl
 
 pub one_indicator : (columns : List ℕ) (a b : Stp) → StandsIn columns (indicator a) → StandsIn columns (indicator b) → a ≡ b
-one_indicator columns a b p q = let same = sym p ∙ q in one_letter a b (cc)
+one_indicator columns a b p q =
+    let same : letter a ∷ [] ≡ letter b ∷ [] = sym p ∙ q in
+    one_letter (letter a) a b refl (cc)

@@ -1,5 +1,6 @@
 -- What is found in the held bytes is found in all that is left.
-use Rattle.std.proofs.Common.{◌≡◌, ℕ, Bool, true, false, List, ◌++◌, length, Option, Some, None, IfSome, Ok, refl, sym, ap, ◌∙◌, arith, subst, length-append, append-nil}
+use Rattle.std.proofs.Common.{◌≡◌, ℕ, Bool, true, false, List, ◌++◌, length, Option, Some, None, IfSome, Ok, refl, sym, ap, ◌∙◌, arith}
+use Rattle.std.proofs.Common.{subst, length-append, append-nil}
 use Rattle.std.specs.Io.KnownBytes.{Keeps, IsAtEnd, prepend_known}
 use Rattle.cif_columns.specs.declared.ahead.Found.{Found}
 use Rattle.cif_columns.specs.declared.ahead.Found.TheVariants.{Next, End, Refused, Failed}
@@ -13,7 +14,8 @@ kept_left (Some x) None k = absurd k
 kept_left (Some x) (Some y) k = ap Some k
 
 module _ (is_full : Bool) where
-  pub found_more : (a rem : Option (List ℕ)) (held rest : List ℕ) (found : Found) → Keeps a (prepend_known held rem) → is_decided is_full held ≡ true
+  pub found_more : (a rem : Option (List ℕ)) (held rest : List ℕ) (found : Found) → Keeps a (prepend_known held rem)
+      → is_decided is_full held ≡ true
       → Decides is_full held found rest → IfSome a (λ bytes. Finds is_full bytes found (prepend_known rest rem))
   found_more None rem held rest found k d f = tt
   found_more (Some x) None held rest found k d f = absurd k
@@ -50,7 +52,8 @@ decided_not_full f held rest End d = tt
 decided_not_full f held rest (Refused why) d = tt
 decided_not_full f held rest Failed d = tt
 
-pub found_not_full : (f : Bool) (bytes : List ℕ) (rest : Option (List ℕ)) (found : Found) → Finds f bytes found rest → IfNext found (f ≡ false)
+pub found_not_full : (f : Bool) (bytes : List ℕ) (rest : Option (List ℕ)) (found : Found) → Finds f bytes found rest
+    → IfNext found (f ≡ false)
 found_not_full f bytes rest (Next line) d = line_not_full f bytes line d.1
 found_not_full f bytes rest End d = tt
 found_not_full f bytes rest (Refused why) d = tt

@@ -1,5 +1,6 @@
 -- A run of `next`: one step for each answer.
-use Rattle.std.proofs.Common.{◌≡◌, ℕ, ◌+◌, ◌≤◌, List, [], ◌∷◌, ◌++◌, length, Option, None, Some, IfSome, IsSomeAnd, Ok, Err, refl, sym, ap, ◌∙◌, arith, subst, append_assoc, append-nil, length-append}
+use Rattle.std.proofs.Common.{◌≡◌, ℕ, ◌+◌, ◌≤◌, List, [], ◌∷◌, ◌++◌, length, Option, None, Some, IfSome, IsSomeAnd, Ok, Err, refl, sym, ap}
+use Rattle.std.proofs.Common.{◌∙◌, arith, subst, append_assoc, append-nil, length-append}
 use Rattle.std.proofs.lemmas.List.Elements.{All-push}
 use Rattle.std.specs.Io.KnownBytes.{prepend_known}
 use Rattle.std.specs.Str.Lines.{lines}
@@ -12,7 +13,8 @@ use Rattle.cif_columns.specs.declared.source.Source.{Source}
 use Rattle.cif_columns.specs.Contents.{contents_of, HasLineReason, DecidesNothing}
 use Rattle.cif_columns.specs.Line.{IsLine}
 use Rattle.cif_columns.specs.LineReader.{held, given, limit, past, left, IsNextLine, Answers}
-use Rattle.cif_columns.specs.GivenLines.{HasGiven, KnownGiven, IsReading, AreAllLines, AreLinesToRefusal, AreLinesToFailure, AreLinesToFault, EndsLine}
+use Rattle.cif_columns.specs.GivenLines.{HasGiven, KnownGiven, IsReading, AreAllLines, AreLinesToRefusal, AreLinesToFailure}
+use Rattle.cif_columns.specs.GivenLines.{AreLinesToFault, EndsLine}
 use Rattle.cif_columns.proofs.WholeLines.{lines_whole, piece_of, ends_after, ends_before, lines_piece}
 use mathlib.Core.Logic.{◌⊎◌, inl, inr}
 
@@ -22,26 +24,31 @@ none_given : (bytes : List ℕ) → HasGiven bytes [] bytes
 none_given bytes = record { whole = []; parts = refl; ended = inl refl; contents = refl; are_lines = λ k d below. absurd (omega arith) }
 
 -- the contents of the bytes are the lines that were given and the contents of the rest
-pub contents_given : (bytes : List ℕ) (ls : List (List ℕ)) (rest : List ℕ) → HasGiven bytes ls rest → contents_of bytes ≡ ls ++ contents_of rest
+pub contents_given : (bytes : List ℕ) (ls : List (List ℕ)) (rest : List ℕ) → HasGiven bytes ls rest
+    → contents_of bytes ≡ ls ++ contents_of rest
 contents_given bytes ls rest so_far =
     ap lines so_far.parts ∙ lines_whole so_far.whole rest so_far.ended ∙ ap (λ l. l ++ lines rest) so_far.contents
 
-one_more : (max count : ℕ) (bytes : List ℕ) (ls : List (List ℕ)) (rest line rest' : List ℕ) → HasGiven bytes ls rest → IsNextLine max count rest line rest'
+one_more : (max count : ℕ) (bytes : List ℕ) (ls : List (List ℕ)) (rest line rest' : List ℕ) → HasGiven bytes ls rest
+    → IsNextLine max count rest line rest'
     → HasGiven bytes (ls ++ line ∷ []) rest'
 one_more max count bytes ls rest line rest' so_far next =
     let (piece, parts, ended) = piece_of rest line rest' next.stands in
     let one = lines_piece piece rest' line ended (ap lines (sym parts) ∙ next.contents) in
-    let front : (so_far.whole ≡ []) ⊎ EndsLine so_far.whole (piece ++ rest') = subst (λ l. (so_far.whole ≡ []) ⊎ EndsLine so_far.whole l) parts so_far.ended in
+    let front : (so_far.whole ≡ []) ⊎ EndsLine so_far.whole (piece ++ rest') =
+    subst (λ l. (so_far.whole ≡ []) ⊎ EndsLine so_far.whole l) parts so_far.ended in
     record {
       whole = so_far.whole ++ piece;
       parts = so_far.parts ∙ ap (λ l. so_far.whole ++ l) parts ∙ sym (append_assoc so_far.whole piece rest');
       ended = inr (ends_after so_far.whole piece rest' ended);
-      contents = lines_whole so_far.whole piece (ends_before so_far.whole piece rest' front) ∙ ap (λ l. l ++ lines piece) so_far.contents ∙ ap (λ l. ls ++ l) one;
+      contents = lines_whole so_far.whole piece (ends_before so_far.whole piece rest' front) ∙ ap (λ l. l ++ lines piece) so_far.contents
+          ∙ ap (λ l. ls ++ l) one;
       are_lines = All-push IsLine ls line so_far.are_lines next.is_line;
     }
 
 -- the bytes that are held are a front of those that are left
-held_front : (hold rest : List ℕ) (remaining : Option (List ℕ)) → prepend_known hold remaining ≡ Some rest → (unread : List ℕ) × (rest ≡ hold ++ unread)
+held_front : (hold rest : List ℕ) (remaining : Option (List ℕ)) → prepend_known hold remaining ≡ Some rest
+    → (unread : List ℕ) × (rest ≡ hold ++ unread)
 held_front hold rest None e = absurd (cc)
 held_front hold rest (Some unread) e =
     let same : hold ++ unread ≡ rest = cc in
@@ -56,7 +63,8 @@ known_so (Some bytes) P Q f h = f bytes h
 
 module _ {R : Type 0} (remaining : R → Option (List ℕ)) where
   -- a new reader
-  pub reading_starts : (max : ℕ) (reader : LineReader) (source : Source R) → held reader ≡ [] → given reader ≡ 0 → limit reader ≡ max → past reader ≡ Reading
+  pub reading_starts : (max : ℕ) (reader : LineReader) (source : Source R) → held reader ≡ [] → given reader ≡ 0 → limit reader ≡ max
+      → past reader ≡ Reading
       → IsReading remaining (remaining source.reader) max reader source []
   reading_starts max reader source empty zero same going = record {
     reads_on = going;
@@ -69,14 +77,16 @@ module _ {R : Type 0} (remaining : R → Option (List ℕ)) where
       at None rest e = tt
       at (Some bytes) rest e = subst (λ r. IsSomeAnd r (λ others. HasGiven bytes [] others)) (sym e) (none_given bytes)
 
-  module _ (start : Option (List ℕ)) (max : ℕ) (reader : LineReader) (source : Source R) (ls : List (List ℕ)) (so_far : IsReading remaining start max reader source ls) where
+  module _ (start : Option (List ℕ)) (max : ℕ) (reader : LineReader) (source : Source R) (ls : List (List ℕ))
+      (so_far : IsReading remaining start max reader source ls) where
     within : length ls ≤ max
     within = omega (arith, so_far.counted, so_far.same_limit, reader.counted)
 
     module _ (reader' : LineReader) (source' : Source R) where
       -- a line more
       pub reading_line : (line : List ℕ)
-          → (past reader ≡ Reading → IfSome (left remaining reader source) (λ bytes. Answers (limit reader) (given reader) bytes (Ok (Some line)) (left remaining reader' source')))
+          → (past reader ≡ Reading → IfSome (left remaining reader source)
+          (λ bytes. Answers (limit reader) (given reader) bytes (Ok (Some line)) (left remaining reader' source')))
           → past reader' ≡ Reading → limit reader' ≡ limit reader → given reader' ≡ given reader + 1
           → IsReading remaining start max reader' source' (ls ++ line ∷ [])
       reading_line line answer going same more = record {
@@ -96,7 +106,8 @@ module _ {R : Type 0} (remaining : R → Option (List ℕ)) where
               (one_more (limit reader) (given reader) bytes ls rest line next.0 known next.2)
 
       -- the end of the input
-      pub reading_ends : (past reader ≡ Reading → IfSome (left remaining reader source) (λ bytes. Answers (limit reader) (given reader) bytes (Ok None) (left remaining reader' source')))
+      pub reading_ends : (past reader ≡ Reading → IfSome (left remaining reader source)
+          (λ bytes. Answers (limit reader) (given reader) bytes (Ok None) (left remaining reader' source')))
           → IfSome start (λ bytes. AreAllLines max bytes ls)
       reading_ends answer = at start (left remaining reader source) so_far.known (answer so_far.reads_on)
         where
@@ -113,12 +124,14 @@ module _ {R : Type 0} (remaining : R → Option (List ℕ)) where
 
       -- a refusal
       pub reading_refuses : (number : ℕ) (why : Refusal)
-          → (past reader ≡ Reading → IfSome (left remaining reader source) (λ bytes. Answers (limit reader) (given reader) bytes (Err (Refused number why)) (left remaining reader' source')))
+          → (past reader ≡ Reading → IfSome (left remaining reader source)
+          (λ bytes. Answers (limit reader) (given reader) bytes (Err (Refused number why)) (left remaining reader' source')))
           → IfSome start (λ bytes. AreLinesToRefusal max bytes ls number why)
       reading_refuses number why answer = at start (left remaining reader source) so_far.known (answer so_far.reads_on)
         where
           at : (start rest : Option (List ℕ)) → KnownGiven start ls rest
-              → IfSome rest (λ bytes. Answers (limit reader) (given reader) bytes (Err (Refused number why)) (left remaining reader' source'))
+              → IfSome rest (λ bytes. Answers (limit reader) (given reader) bytes (Err (Refused number why))
+              (left remaining reader' source'))
               → IfSome start (λ bytes. AreLinesToRefusal max bytes ls number why)
           at None rest known next = tt
           at (Some bytes) None known next = absurd known
@@ -133,7 +146,8 @@ module _ {R : Type 0} (remaining : R → Option (List ℕ)) where
           }
 
       -- a failure of the source
-      pub reading_fails : (past reader ≡ Reading → IfSome (left remaining reader source) (λ bytes. Answers (limit reader) (given reader) bytes (Err Read) (left remaining reader' source')))
+      pub reading_fails : (past reader ≡ Reading → IfSome (left remaining reader source)
+          (λ bytes. Answers (limit reader) (given reader) bytes (Err Read) (left remaining reader' source')))
           → DecidesNothing (limit reader) (given reader) (held reader')
           → IfSome start (λ bytes. AreLinesToFailure max bytes ls)
       reading_fails answer undecided = at start (left remaining reader source) so_far.known (answer so_far.reads_on)
@@ -145,14 +159,16 @@ module _ {R : Type 0} (remaining : R → Option (List ℕ)) where
           at (Some bytes) None known next = absurd known
           at (Some bytes) (Some rest) known next =
               let (unread, parts) = held_front (held reader') rest (remaining source'.reader) next in
-              let front : (known.whole ≡ []) ⊎ EndsLine known.whole (held reader' ++ unread) = subst (λ l. (known.whole ≡ []) ⊎ EndsLine known.whole l) parts known.ended in
+              let front : (known.whole ≡ []) ⊎ EndsLine known.whole (held reader' ++ unread) =
+              subst (λ l. (known.whole ≡ []) ⊎ EndsLine known.whole l) parts known.ended in
               record {
                 whole = known.whole;
                 pending = held reader';
                 unread = unread;
                 parts = known.parts ∙ ap (λ l. known.whole ++ l) parts ∙ sym (append_assoc known.whole (held reader') unread);
                 contents = known.contents;
-                seen = lines_whole known.whole (held reader') (ends_before known.whole (held reader') unread front) ∙ ap (λ l. l ++ lines (held reader')) known.contents;
+                seen = lines_whole known.whole (held reader') (ends_before known.whole (held reader') unread front)
+                    ∙ ap (λ l. l ++ lines (held reader')) known.contents;
                 are_lines = known.are_lines;
                 within = within;
                 undecided = subst (λ m. DecidesNothing m (length ls) (held reader')) so_far.same_limit
@@ -161,7 +177,8 @@ module _ {R : Type 0} (remaining : R → Option (List ℕ)) where
 
       -- either fault
       pub reading_faults : (fault : LineFault)
-          → (past reader ≡ Reading → IfSome (left remaining reader source) (λ bytes. Answers (limit reader) (given reader) bytes (Err fault) (left remaining reader' source')))
+          → (past reader ≡ Reading → IfSome (left remaining reader source)
+          (λ bytes. Answers (limit reader) (given reader) bytes (Err fault) (left remaining reader' source')))
           → (fault ≡ Read → DecidesNothing (limit reader) (given reader) (held reader'))
           → IfSome start (λ bytes. AreLinesToFault max bytes ls fault)
       reading_faults (Refused number why) answer undecided = reading_refuses number why answer

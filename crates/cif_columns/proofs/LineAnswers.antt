@@ -1,5 +1,7 @@
 -- What stands first in bytes, in the words of the subject.
-use Rattle.std.proofs.Common.{◌≡◌, ℕ, suc, ◌+◌, ◌-◌, ◌<◌, ◌≤◌, Bool, true, false, cond, nat_eq, nat_lt, List, [], ◌∷◌, ◌++◌, length, take, drop, get_or, Option, None, Some, IfSome, Ok, Err, refl, sym, ap, ◌∙◌, subst, arith, append_assoc, take-append-drop, ltb-false, drop_of_length-le, drop-cons}
+use Rattle.std.proofs.Common.{◌≡◌, ℕ, suc, ◌+◌, ◌-◌, ◌<◌, ◌≤◌, Bool, true, false, cond, nat_eq, nat_lt, List, [], ◌∷◌, ◌++◌, length, take}
+use Rattle.std.proofs.Common.{drop, get_or, Option, None, Some, IfSome, Ok, Err, refl, sym, ap, ◌∙◌, subst, arith, append_assoc}
+use Rattle.std.proofs.Common.{take-append-drop, ltb-false, drop_of_length-le, drop-cons}
 use Rattle.std.proofs.lemmas.Bool.Decides.{nat_tests}
 use Rattle.std.proofs.lemmas.Bool.{ltb-true}
 use Rattle.std.proofs.lemmas.List.{nil_from_length}
@@ -13,7 +15,8 @@ use Rattle.cif_columns.specs.declared.refusal.Refusal.TheVariants.{BadLength, Ba
 use Rattle.cif_columns.specs.Ahead.{Finds}
 use Rattle.cif_columns.specs.Line.{IsLine}
 use Rattle.cif_columns.specs.Contents.{StandsFirst, HasLineReason, DecidesNothing}
-use Rattle.cif_columns.specs.FirstLine.{is_line_feed, is_printable, has_line_feed, first_content, after_content, line_of, first_line, is_decided}
+use Rattle.cif_columns.specs.FirstLine.{is_line_feed, is_printable, has_line_feed, first_content, after_content, line_of, first_line}
+use Rattle.cif_columns.specs.FirstLine.{is_decided}
 use Rattle.cif_columns.specs.LineReader.{IsNextLine, IsNextRefusal, Answers}
 use Rattle.cif_columns.proofs.FeedPlaces.{place}
 use Rattle.cif_columns.proofs.PrintableBytes.{printable_fact, printable_true}
@@ -44,7 +47,8 @@ is_equal x y h = grind (arith, nat_tests)
 stripped : (part line : List ℕ) → strip_carriage_return part ≡ line → (part ≡ line) ⊎ (part ≡ line ++ 13 ∷ [])
 stripped part line is = at (nat_eq (slice_index part (length part - 1)) 13) refl is
   where
-    at : (r : Bool) → r ≡ nat_eq (slice_index part (length part - 1)) 13 → cond r (take (length part - 1) part) part ≡ line → (part ≡ line) ⊎ (part ≡ line ++ 13 ∷ [])
+    at : (r : Bool) → r ≡ nat_eq (slice_index part (length part - 1)) 13 → cond r (take (length part - 1) part) part ≡ line
+        → (part ≡ line) ⊎ (part ≡ line ++ 13 ∷ [])
     at true w is = inr (last_return part (is_equal _ 13 (sym w)) ∙ ap (λ l. l ++ 13 ∷ []) is)
     at false w is = inl is
 
@@ -81,7 +85,8 @@ line_ok content line is = at (nat_eq (length content) 80) (list_all is_printable
     at true false ew ep is = absurd (cc)
     at false p ew ep is = absurd (cc)
 
-line_err : (max number : ℕ) → number ≤ max → (content : List ℕ) (why : Refusal) → line_of content ≡ Err why → HasLineReason max number content why
+line_err : (max number : ℕ) → number ≤ max → (content : List ℕ) (why : Refusal) → line_of content ≡ Err why
+    → HasLineReason max number content why
 line_err max number within content why is = at (nat_eq (length content) 80) (list_all is_printable content) refl refl is
   where
     at : (w p : Bool) → w ≡ nat_eq (length content) 80 → p ≡ list_all is_printable content
@@ -111,7 +116,8 @@ one_too_many true bytes why e is = cc
 one_too_many false bytes why e is = absurd (cc)
 
 module _ (max count : ℕ) (within : count ≤ max) where
-  next_line : (bytes line : List ℕ) → 0 < length bytes → first_line (nat_eq count max) bytes ≡ Ok line → IsNextLine max count bytes line (after_content bytes)
+  next_line : (bytes line : List ℕ) → 0 < length bytes → first_line (nat_eq count max) bytes ≡ Ok line
+      → IsNextLine max count bytes line (after_content bytes)
   next_line bytes line some is =
       let room = line_not_full (nat_eq count max) bytes line is in
       let found = line_ok (first_content bytes) line (sym (with_room (nat_eq count max) bytes room) ∙ is) in
@@ -122,7 +128,8 @@ module _ (max count : ℕ) (within : count ≤ max) where
         contents = contents_first bytes some ∙ ap (λ l. l ∷ lines (after_content bytes)) found.0;
       }
 
-  next_refusal : (bytes : List ℕ) (why : Refusal) → 0 < length bytes → first_line (nat_eq count max) bytes ≡ Err why → IsNextRefusal max count bytes (count + 1) why
+  next_refusal : (bytes : List ℕ) (why : Refusal) → 0 < length bytes → first_line (nat_eq count max) bytes ≡ Err why
+      → IsNextRefusal max count bytes (count + 1) why
   next_refusal bytes why some is = record {
     next = refl;
     content = first_content bytes;
@@ -144,7 +151,8 @@ module _ (max count : ℕ) (within : count ≤ max) where
   line_answered None after line found = tt
   line_answered (Some b) after line found = (after_content b, found.2, next_line b line found.0 found.1)
 
-  pub refusal_answered : (bytes after : Option (List ℕ)) (why : Refusal) → IfSome bytes (λ b. Finds (nat_eq count max) b (Refused why) after)
+  pub refusal_answered : (bytes after : Option (List ℕ)) (why : Refusal)
+      → IfSome bytes (λ b. Finds (nat_eq count max) b (Refused why) after)
       → IfSome bytes (λ b. Answers max count b (Err (fault.Refused (count + 1) why)) after)
   refusal_answered None after why found = tt
   refusal_answered (Some b) after why found = next_refusal b why found.0 found.1

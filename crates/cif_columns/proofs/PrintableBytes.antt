@@ -1,5 +1,6 @@
 -- Printable bytes by the test and by the fact.
-use Rattle.std.proofs.Common.{◌≡◌, ℕ, true, List, length, cond, Option, Some, None, IsSome, IsTrue, ◌↔◌, Ok, Err, sym, ap, ◌∙◌, arith, refl, eq-eqb, false, Bool}
+use Rattle.std.proofs.Common.{◌≡◌, ℕ, true, List, length, cond, Option, Some, None, IsSome, IsTrue, ◌↔◌, Ok, Err, sym, ap, ◌∙◌, arith}
+use Rattle.std.proofs.Common.{refl, eq-eqb, false, Bool}
 use Rattle.std.proofs.lemmas.Bool.Decides.{nat_tests}
 use Rattle.std.proofs.lemmas.List.Sums.{AllPass-from_list_all, list_all-from_AllPass}
 use Rattle.std.specs.List.{list_all}

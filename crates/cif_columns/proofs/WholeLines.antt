@@ -1,5 +1,6 @@
 -- Whole lines at the front of bytes: their contents come first.
-use Rattle.std.proofs.Common.{◌≡◌, ℕ, Bool, true, false, cond, List, [], ◌∷◌, ◌++◌, length, map, refl, sym, ap, ◌∙◌, arith, append_assoc, append-nil, length-append}
+use Rattle.std.proofs.Common.{◌≡◌, ℕ, Bool, true, false, cond, List, [], ◌∷◌, ◌++◌, length, map, refl, sym, ap, ◌∙◌, arith, append_assoc}
+use Rattle.std.proofs.Common.{append-nil, length-append}
 use Rattle.std.proofs.lemmas.List.{append_cancel_right, nil_from_length}
 use Rattle.std.specs.List.{slice_split, onto_first}
 use Rattle.std.specs.Str.Lines.{lines, lines_of_parts, strip_carriage_return}
@@ -9,11 +10,13 @@ use Rattle.cif_columns.specs.GivenLines.{EndsLine}
 use Rattle.cif_columns.proofs.DecidedLines.{parts_some}
 use mathlib.Core.Logic.{◌⊎◌, inl, inr, ⊎_elim}
 
-onto-append : (x : ℕ) (first : List ℕ) (others more : List (List ℕ)) → onto_first x ((first ∷ others) ++ more) ≡ onto_first x (first ∷ others) ++ more
+onto-append : (x : ℕ) (first : List ℕ) (others more : List (List ℕ))
+    → onto_first x ((first ∷ others) ++ more) ≡ onto_first x (first ∷ others) ++ more
 onto-append x first others more = refl
 
 -- a line feed splits its bytes
-split_at_feed : (front more : List ℕ) → slice_split is_line_feed (front ++ 10 ∷ more) ≡ slice_split is_line_feed front ++ slice_split is_line_feed more
+split_at_feed : (front more : List ℕ)
+    → slice_split is_line_feed (front ++ 10 ∷ more) ≡ slice_split is_line_feed front ++ slice_split is_line_feed more
 split_at_feed [] more = refl
 split_at_feed (x ∷ xs) more = at (is_line_feed x) (split_at_feed xs more) (parts_some is_line_feed xs)
   where
@@ -33,7 +36,8 @@ lines_of_parts-append [] last others = refl
 lines_of_parts-append (x ∷ []) last others = refl
 lines_of_parts-append (x ∷ y ∷ parts) last others = ap (λ l. strip_carriage_return x ∷ l) (lines_of_parts-append (y ∷ parts) last others)
 
-lines_to_feed : (front more : List ℕ) → lines (front ++ 10 ∷ more) ≡ map strip_carriage_return (slice_split is_line_feed front) ++ lines more
+lines_to_feed : (front more : List ℕ)
+    → lines (front ++ 10 ∷ more) ≡ map strip_carriage_return (slice_split is_line_feed front) ++ lines more
 lines_to_feed front more =
     let (last, others, is) = parts_some is_line_feed more in
     ap lines_of_parts (split_at_feed front more ∙ ap (λ l. slice_split is_line_feed front ++ l) is)
@@ -51,7 +55,8 @@ lines_whole whole more = ⊎_elim
     (λ none. ap (λ l. lines (l ++ more)) none ∙ ap (λ l. lines l ++ lines more) (sym none))
     (⊎_elim
     (λ fed. ap (λ l. lines (l ++ more)) fed.1 ∙ lines_after_feed fed.0 more ∙ ap (λ l. lines l ++ lines more) (sym fed.1))
-    (λ none. ap (λ l. lines (whole ++ l)) none ∙ ap lines (append-nil whole) ∙ sym (append-nil (lines whole)) ∙ ap (λ l. lines whole ++ lines l) (sym none)))
+    (λ none. ap (λ l. lines (whole ++ l)) none ∙ ap lines (append-nil whole) ∙ sym (append-nil (lines whole))
+    ∙ ap (λ l. lines whole ++ lines l) (sym none)))
 
 -- a line that stands first is a piece of the bytes, whose last line doesn't go on
 pub piece_of : (bytes line rest : List ℕ) → StandsFirst bytes line rest → (piece : List ℕ) × (bytes ≡ piece ++ rest) × EndsLine piece rest
@@ -81,4 +86,5 @@ ends_before whole front more = ⊎_elim
 
 -- the one line of a piece
 pub lines_piece : (piece rest line : List ℕ) → EndsLine piece rest → lines (piece ++ rest) ≡ line ∷ lines rest → lines piece ≡ line ∷ []
-lines_piece piece rest line ended is = append_cancel_right (lines piece) (line ∷ []) (lines rest) (sym (lines_whole piece rest (inr ended)) ∙ is)
+lines_piece piece rest line ended is = append_cancel_right (lines piece) (line ∷ []) (lines rest)
+    (sym (lines_whole piece rest (inr ended)) ∙ is)

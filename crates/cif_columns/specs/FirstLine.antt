@@ -5,6 +5,7 @@ use Rattle.std.specs.Str.Lines.{strip_carriage_return}
 use Rattle.cif_columns.specs.declared.refusal.Refusal.{Refusal}
 use Rattle.cif_columns.specs.declared.refusal.Refusal.TheVariants.{TooManyLines, BadLength, BadByte}
 
+-- whether the byte is a line feed
 abbrev pub is_line_feed : ℕ → Bool
 is_line_feed b = b == 10
 
@@ -12,6 +13,7 @@ is_line_feed b = b == 10
 abbrev pub is_printable : ℕ → Bool
 is_printable b = nat_le 32 b && nat_le b 126
 
+-- whether one of the bytes is a line feed
 abbrev pub has_line_feed : List ℕ → Bool
 has_line_feed bytes = nat_lt (position_or_len is_line_feed bytes) (length bytes)
 

@@ -1,7 +1,9 @@
 -- The numbers of the refusals.
 use Rattle.std.specs.Prelude.{ℕ}
 use Rattle.cif_columns.specs.declared.refusal.Refusal.{Refusal}
-use Rattle.cif_columns.specs.declared.refusal.Refusal.TheVariants.{BadLength, BadByte, UnknownRecord, OutOfOrder, NotFull, BadDate, OpenEnd, DatesReversed, BadDays, BankHoliday, BadStp, BadTime, Truncated, TooManyLines}
+use Rattle.cif_columns.specs.declared.refusal.Refusal.TheVariants.{BadLength, BadByte, UnknownRecord, OutOfOrder, NotFull, BadDate}
+use Rattle.cif_columns.specs.declared.refusal.Refusal.TheVariants.{OpenEnd, DatesReversed, BadDays, BankHoliday, BadStp, BadTime}
+use Rattle.cif_columns.specs.declared.refusal.Refusal.TheVariants.{Truncated, TooManyLines}
 
 -- the number of a refusal: first the reasons of one line in the order in which they are looked for, then those of the whole input
 abbrev pub number_of : Refusal → ℕ

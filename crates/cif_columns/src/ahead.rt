@@ -1,5 +1,7 @@
 //! The bytes that are read ahead of the lines.
-ghost use Rattle.std.specs.Prelude.{◌≡◌, ◌+◌, ◌<◌, ◌≤◌, ◌↔◌, ℕ, List, [], length, take, drop, slice_range, true, false, Some, Ok, Err, IfOk, OnOk, OnErr, IfSome, IfNone, IsSome, IsTrue, IsErr, ◌≢◌};
+ghost use Rattle.std.specs.Prelude.{◌≡◌, ◌+◌, ◌<◌, ◌≤◌, ◌↔◌, ℕ, List, [], length, take, drop};
+ghost use Rattle.std.specs.Prelude.{slice_range, true, false, Some, Ok, Err, IfOk, OnOk, OnErr};
+ghost use Rattle.std.specs.Prelude.{IfSome, IfNone, IsSome, IsTrue, IsErr, ◌≢◌};
 ghost use Rattle.std.specs.Io.KnownBytes.{Keeps, Consumes, IsAtEnd};
 ghost use Rattle.cif_columns.specs.FirstLine.{is_decided};
 ghost use Rattle.cif_columns.specs.Devices.{TellsErrors, OneError};

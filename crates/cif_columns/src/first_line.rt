@@ -1,8 +1,10 @@
 //! The first line of bytes that may go on.
-ghost use Rattle.std.specs.Prelude.{◌≡◌, ◌↔◌, ◌+◌, ◌<◌, ◌≤◌, ℕ, List, length, take, drop, min, nat_le, IsTrue, IsOk, IsSome, IfSome, IfNone, Some, Ok};
+ghost use Rattle.std.specs.Prelude.{◌≡◌, ◌↔◌, ◌+◌, ◌<◌, ◌≤◌, ℕ, List, length, take, drop, min};
+ghost use Rattle.std.specs.Prelude.{nat_le, IsTrue, IsOk, IsSome, IfSome, IfNone, Some, Ok};
 ghost use Rattle.std.specs.List.{list_all, position, position_or_len};
 ghost use Rattle.std.specs.Str.Lines.{strip_carriage_return};
-ghost use Rattle.cif_columns.specs.FirstLine.{is_line_feed, is_printable, has_line_feed, line_of, first_line, is_decided, after_content};
+ghost use Rattle.cif_columns.specs.FirstLine.{is_line_feed, is_printable, has_line_feed, line_of};
+ghost use Rattle.cif_columns.specs.FirstLine.{first_line, is_decided, after_content};
 
 use crate::line::Line;
 use crate::refusal::Refusal;

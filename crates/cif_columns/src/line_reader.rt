@@ -1,5 +1,6 @@
 //! Lines, one by one, from a source that gives its bytes in any pieces.
-ghost use Rattle.std.specs.Prelude.{◌≡◌, ◌≢◌, ◌+◌, ◌≤◌, true, false, [], Err, Ok, None, IfSome, OnOk, OnErr, IfOk, OnSome};
+ghost use Rattle.std.specs.Prelude.{◌≡◌, ◌≢◌, ◌+◌, ◌≤◌, true, false, [], Err, Ok, None, IfSome};
+ghost use Rattle.std.specs.Prelude.{OnOk, OnErr, IfOk, OnSome};
 ghost use Rattle.cif_columns.specs.Contents.{DecidesNothing};
 ghost use Rattle.cif_columns.specs.Devices.{OneError};
 ghost use Rattle.cif_columns.specs.Source.{reader_of, source_failed};
@@ -37,7 +38,8 @@ pub struct LineReader {
 }
 
 impl LineReader {
-    ghost use Rattle.cif_columns.specs.LineReader.{held, given, limit, past, past_of, left, Answers};
+    ghost use Rattle.cif_columns.specs.LineReader.{held, given, limit, past, past_of, left};
+    ghost use Rattle.cif_columns.specs.LineReader.{Answers};
     ghost use Rattle.cif_columns.specs.declared.line_reader.Past.TheVariants.{Reading};
 
     /// A reader that will give at most `max_lines` lines.

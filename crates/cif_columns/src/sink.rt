@@ -50,7 +50,8 @@ impl<W: WriteDevice> Sink<W> {
     /// then on the writer isn't touched.
     pub fn write_all(&mut self, bytes: &[u8]) -> Result<(), WriteFault>
         ensures failed { IsTrue (sink_failed self.new) ↔ IsErr result }
-        ensures going { OnOk result ((sink_failed self.old ≡ false) × (sink_failed self.new ≡ false)) }
+        ensures going { OnOk result ((sink_failed self.old ≡ false)
+            × (sink_failed self.new ≡ false)) }
         ensures ok { OnOk result (Appends (W.contents (writer_of self.old))
             (W.contents (writer_of self.new)) bytes.now) }
         ensures err { OnErr result (AppendsFront (W.contents (writer_of self.old))
@@ -84,7 +85,8 @@ impl<W: WriteDevice> Sink<W> {
     /// Hands on what the writer holds back. A failure is the last, as in `write_all`.
     pub fn flush(&mut self) -> Result<(), WriteFault>
         ensures failed { IsTrue (sink_failed self.new) ↔ IsErr result }
-        ensures going { OnOk result ((sink_failed self.old ≡ false) × (sink_failed self.new ≡ false)) }
+        ensures going { OnOk result ((sink_failed self.old ≡ false)
+            × (sink_failed self.new ≡ false)) }
         ensures bytes { Keeps (W.contents (writer_of self.old)) (W.contents (writer_of self.new)) }
 
         // A fault comes only where the writer has erred, and where it errs a fault comes.

@@ -50,7 +50,8 @@ impl<R: ReadDevice> Source<R> {
     /// Reads once. The first error is the last: from then on the reader isn't touched.
     pub fn read(&mut self, buf: &mut [u8]) -> Result<usize, ReadFault>
         ensures failed { IsTrue (source_failed self.new) ↔ IsErr result }
-        ensures going { OnOk result ((source_failed self.old ≡ false) × (source_failed self.new ≡ false)) }
+        ensures going { OnOk result ((source_failed self.old ≡ false)
+            × (source_failed self.new ≡ false)) }
         ensures bound { ReadsAtMost result buf.new }
         ensures bytes { ReadConsumes (R.remaining (reader_of self.old))
             (R.remaining (reader_of self.new)) result buf.new }

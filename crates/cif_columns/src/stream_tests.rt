@@ -20,7 +20,8 @@ const TRAILER: &[u8; 81] =
 
 // A header and a trailer.
 const TWO_LINES: &[u8; 162] =
-    b"HDTPS.UTEST01.PD2601040401262000DFTEST1       FA050126250126                    \nZZ                                                                              \n";
+    b"HDTPS.UTEST01.PD2601040401262000DFTEST1       FA050126250126                    \n\
+      ZZ                                                                              \n";
 
 /// How many lines the source has, or why it has no further line.
 fn count_lines<R: ReadDevice>(source: &mut Source<R>, max_lines: u64) -> Result<u64, LineFault>

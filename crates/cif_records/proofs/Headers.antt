@@ -35,12 +35,24 @@ Facts v = ArePrintable v.0 × IsFull v.0 × (ddmmyy_in (kept 49 54 v.0) ≡ Some
 
 same_header : (h k : Header) → h.columns ≡ k.columns → h ≡ k
 same_header h k e =
-    let first : h.first ≡ k.first = (let same : ◌≡◌ {A = Option ℕ} (Some h.first) (Some k.first) = sym h.first_stands ∙ ap (λ c. ddmmyy_in (kept 49 54 c)) e ∙ k.first_stands in cc) in
-    let last : h.last ≡ k.last = (let same : ◌≡◌ {A = Option ℕ} (Some h.last) (Some k.last) = sym h.last_stands ∙ ap (λ c. ddmmyy_in (kept 55 60 c)) e ∙ k.last_stands in cc) in
+    let first : h.first ≡ k.first = (let same : ◌≡◌ {A = Option ℕ} (Some h.first) (Some k.first) =
+    sym h.first_stands ∙ ap (λ c. ddmmyy_in (kept 49 54 c)) e ∙ k.first_stands in cc) in
+    let last : h.last ≡ k.last = (let same : ◌≡◌ {A = Option ℕ} (Some h.last) (Some k.last) =
+    sym h.last_stands ∙ ap (λ c. ddmmyy_in (kept 55 60 c)) e ∙ k.last_stands in cc) in
     let parts : ◌≡◌ {A = (v : List ℕ × ℕ × ℕ) × Facts v}
     ((h.columns, h.first, h.last), (h.printable, h.full, h.first_stands, h.last_stands, h.in_order))
-    ((k.columns, k.first, k.last), (k.printable, k.full, k.first_stands, k.last_stands, k.in_order)) = Σ_prop_path (λ v. hlevel props) (cc) in
-    ap (λ v. record { columns = v.0.0; first = v.0.1; last = v.0.2; printable = v.1.0; full = v.1.1; first_stands = v.1.2; last_stands = v.1.3; in_order = v.1.4 }) parts
+    ((k.columns, k.first, k.last), (k.printable, k.full, k.first_stands, k.last_stands, k.in_order)) =
+    Σ_prop_path (λ v. hlevel props) (cc) in
+    ap (λ v. record {
+      columns = v.0.0;
+      first = v.0.1;
+      last = v.0.2;
+      printable = v.1.0;
+      full = v.1.1;
+      first_stands = v.1.2;
+      last_stands = v.1.3;
+      in_order = v.1.4;
+    }) parts
 
 -- two headers that a line spells are one
 pub one_header : (line : List ℕ) (h k : Header) → SpellsHeader line h → SpellsHeader line k → h ≡ k
@@ -53,6 +65,7 @@ no_refusal line h p =
     let in_order = h.in_order in
     let test : nat_le h.first h.last ≡ true = grind (arith, nat_tests) in
     let full : columns 47 47 line ≡ codes "F" = sym (kept-47 line) ∙ ap (kept 47 47) p.1.0 ∙ h.full in
-    let first : ddmmyy_in (columns 49 54 line) ≡ Some h.first = ap ddmmyy_in (sym (kept-49 line) ∙ ap (kept 49 54) p.1.0) ∙ h.first_stands in
+    let first : ddmmyy_in (columns 49 54 line) ≡ Some h.first =
+    ap ddmmyy_in (sym (kept-49 line) ∙ ap (kept 49 54) p.1.0) ∙ h.first_stands in
     let last : ddmmyy_in (columns 55 60 line) ≡ Some h.last = ap ddmmyy_in (sym (kept-55 line) ∙ ap (kept 55 60) p.1.0) ∙ h.last_stands in
     rw (p.0, full, first, last, test)

@@ -1,18 +1,37 @@
--- A kind that a line's columns name has these columns as its identity.
-use Rattle.std.proofs.Common.{◌≡◌, ℕ, Bool, true, false, List, [], ◌∷◌, cond, Option, Some, None, refl, sym, ◌∙◌, find}
-use Rattle.std.specs.Cmp.Lexicographic.{bytes_decides}
+-- A kind is found by its identity, and by no other.
+use Rattle.std.proofs.Common.{◌≡◌, ℕ, Bool, true, false, cond, List, [], ◌∷◌, Some, IfSome, refl, sym, find, subst}
 use Rattle.cif_columns.specs.Field.{columns}
-use Rattle.cif_records.specs.Kind.{identity, is_identity, kind_in, kinds}
+use Rattle.std.specs.Cmp.Lexicographic.{bytes_decides}
+use Rattle.cif_records.specs.Kind.{identity, kinds, is_identity, kind_in}
 use Rattle.cif_records.specs.declared.kind.Kind.{Kind}
+use Rattle.cif_records.specs.declared.kind.Kind.TheVariants.{Hd, Ti, Ta, Td, Aa, Bs, Bx, Lo, Li, Cr, Lt, Zz}
 
-found : (p : Kind → Bool) (ks : List Kind) (k : Kind) → find p ks ≡ Some k → p k ≡ true
-found p [] k e = cc
-found p (x ∷ ks) k e = at (p x) refl e (found p ks k)
+-- the kind that is found has these letters
+pub found_kind : (letters : List ℕ) (among : List Kind) → IfSome (find (is_identity letters) among) (λ kind. letters ≡ identity kind)
+found_kind letters [] = tt
+found_kind letters (kind ∷ others) = at (is_identity letters kind) refl (found_kind letters others)
   where
-    at : (b : Bool) → b ≡ p x → cond b (Some x) (find p ks) ≡ Some k → (find p ks ≡ Some k → p k ≡ true) → p k ≡ true
-    at true is here later = let same : x ≡ k = cc in rw (← same) (sym is)
-    at false is there later = later there
+    at : (b : Bool) → b ≡ is_identity letters kind
+        → IfSome (find (is_identity letters) others) (λ k. letters ≡ identity k)
+        → IfSome (cond b (Some kind) (find (is_identity letters) others)) (λ k. letters ≡ identity k)
+    at true e behind = sym ((bytes_decides (identity kind) letters).0 (sym e))
+    at false e behind = behind
+
+-- the kind with these letters is found
+pub only_kind : (letters : List ℕ) (kind : Kind) → letters ≡ identity kind → find (is_identity letters) kinds ≡ Some kind
+only_kind letters Hd e = rw e
+only_kind letters Ti e = rw e
+only_kind letters Ta e = rw e
+only_kind letters Td e = rw e
+only_kind letters Aa e = rw e
+only_kind letters Bs e = rw e
+only_kind letters Bx e = rw e
+only_kind letters Lo e = rw e
+only_kind letters Li e = rw e
+only_kind letters Cr e = rw e
+only_kind letters Lt e = rw e
+only_kind letters Zz e = rw e
 
 -- what a kind's columns are
 pub identity-kind_in : (line : List ℕ) (k : Kind) → kind_in line ≡ Some k → columns 1 2 line ≡ identity k
-identity-kind_in line k e = sym ((bytes_decides (identity k) (columns 1 2 line)).0 (found (is_identity (columns 1 2 line)) kinds k e))
+identity-kind_in line k e = subst (λ found. IfSome found (λ kind. columns 1 2 line ≡ identity kind)) e (found_kind (columns 1 2 line) kinds)

@@ -6,20 +6,23 @@ use Rattle.cif_columns.specs.Day.{yymmdd_in}
 use Rattle.cif_records.specs.Checks.{IsJudged, last_date_refusal, dates_refusal}
 
 -- the exit of a check that refused
-pub judged_err : {T : Type 0} (P : T → Type 0) (refusal : Option Refusal) (result : Result T Refusal) (why : Refusal) → result ≡ Err why → refusal ≡ Some why → IsJudged refusal P result
+pub judged_err : {T : Type 0} (P : T → Type 0) (refusal : Option Refusal) (result : Result T Refusal) (why : Refusal)
+    → result ≡ Err why → refusal ≡ Some why → IsJudged refusal P result
 judged_err P refusal result why e h = rw e h
 
 none-some : (refusal : Option Refusal) (why : Refusal) → refusal ≡ None → refusal ≡ Some why → ⊥
 none-some refusal why e h = cc
 
 -- where a line spells at most one record, and no record where there is a reason to refuse it, a judged reading gives exactly the record
-pub only : {R : Type 0} (Spells : R → Type 0) (refusal : Option Refusal) (result : Result R Refusal) → ((r q : R) → Spells r → Spells q → r ≡ q)
+pub only : {R : Type 0} (Spells : R → Type 0) (refusal : Option Refusal) (result : Result R Refusal)
+    → ((r q : R) → Spells r → Spells q → r ≡ q)
     → ((r : R) → Spells r → refusal ≡ None) → IsJudged refusal Spells result → (r : R) → Spells r → result ≡ Ok r
 only Spells refusal (Ok q) one fine judged r h = let same = one q r judged.1 h in cc
 only Spells refusal (Err why) one fine judged r h = absurd (none-some refusal why (fine r h) judged)
 
 -- two dates that name days, the second no open end and not before the first
-pub dates_judged : (first last : List ℕ) (m n : ℕ) → yymmdd_in first ≡ Some m → last_date_refusal last ≡ None → yymmdd_in last ≡ Some n → m ≤ n → dates_refusal first last ≡ None
+pub dates_judged : (first last : List ℕ) (m n : ℕ) → yymmdd_in first ≡ Some m → last_date_refusal last ≡ None
+    → yymmdd_in last ≡ Some n → m ≤ n → dates_refusal first last ≡ None
 dates_judged first last m n a b c h =
     let test : nat_le m n ≡ true = grind (arith, nat_tests) in
     rw (b, a, c, test)

@@ -2,3 +2,4 @@ pub mod Associations
 pub mod Headers
 pub mod Identities
 pub mod Judging
+pub mod Rows

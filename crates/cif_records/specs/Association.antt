@@ -1,6 +1,6 @@
 -- AA: an association of two trains, its columns, and the reasons to refuse one.
 use Rattle.std.specs.Prelude.{ℕ, Bool, List, [], ◌∷◌, Option, codes}
-use Rattle.cif_columns.specs.Field.{Row, row, columns, AllStandIn, exactly, text, date, weekdays, indicator, spare}
+use Rattle.cif_columns.specs.Field.{Row, row, columns, exactly, text, date, weekdays, indicator, spare}
 use Rattle.cif_columns.specs.declared.refusal.Refusal.{Refusal}
 use Rattle.cif_columns.specs.declared.stp.Stp.{Stp}
 use Rattle.cif_records.specs.AssocBody.{of_body}

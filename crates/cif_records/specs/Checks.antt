@@ -1,5 +1,6 @@
 -- The reasons to refuse a line's fields, in column order.
-use Rattle.std.specs.Prelude.{◌≡◌, ℕ, Bool, true, not, List, [], ◌∷◌, Option, Some, None, is_some, Result, Ok, Err, nat_le, codes, slice_index, if◌then◌else◌}
+use Rattle.std.specs.Prelude.{◌≡◌, ℕ, Bool, true, not, List, [], ◌∷◌, Option, Some, None, is_some, Result, Ok, Err, nat_le, codes}
+use Rattle.std.specs.Prelude.{slice_index, if◌then◌else◌}
 use Rattle.std.specs.Option.{option_or}
 use Rattle.std.specs.Str.{bytes_eq}
 use Rattle.cif_columns.specs.Day.{yymmdd_in}
@@ -7,7 +8,8 @@ use Rattle.cif_columns.specs.DaysRun.{days_of}
 use Rattle.cif_columns.specs.Field.{columns}
 use Rattle.cif_columns.specs.Stp.{stp_in}
 use Rattle.cif_columns.specs.declared.refusal.Refusal.{Refusal}
-use Rattle.cif_columns.specs.declared.refusal.Refusal.TheVariants.{UnknownRecord, NotFull, BadDate, OpenEnd, DatesReversed, BadDays, BadStp}
+use Rattle.cif_columns.specs.declared.refusal.Refusal.TheVariants.{UnknownRecord, NotFull, BadDate, OpenEnd, DatesReversed, BadDays}
+use Rattle.cif_columns.specs.declared.refusal.Refusal.TheVariants.{BadStp}
 
 -- the reason, where the test fails
 abbrev pub unless : Bool → Refusal → Option Refusal

@@ -1,5 +1,5 @@
 -- The kinds of record, by columns 1 and 2.
-use Rattle.std.specs.Prelude.{ℕ, Bool, List, [], ◌∷◌, Option, Some, None, codes, if◌then◌else◌, find, option_map}
+use Rattle.std.specs.Prelude.{ℕ, Bool, List, [], ◌∷◌, Option, codes, find}
 use Rattle.std.specs.Str.{bytes_eq}
 use Rattle.cif_columns.specs.Field.{columns}
 use Rattle.cif_records.specs.declared.kind.Kind.{Kind}
@@ -20,7 +20,7 @@ identity Cr = codes "CR"
 identity Lt = codes "LT"
 identity Zz = codes "ZZ"
 
--- the twelve kinds
+-- the twelve kinds, as `Kind::ALL` lists them
 abbrev pub kinds : List Kind
 kinds = Li ∷ Cr ∷ Lt ∷ Lo ∷ Bx ∷ Bs ∷ Aa ∷ Ti ∷ Hd ∷ Zz ∷ Ta ∷ Td ∷ []
 

@@ -1,5 +1,5 @@
 -- ZZ: the trailer.
-use Rattle.std.specs.Prelude.{ℕ, List, [], ◌∷◌, codes}
+use Rattle.std.specs.Prelude.{List, [], ◌∷◌, codes}
 use Rattle.cif_columns.specs.Field.{Row, row, exactly, spare}
 
 -- the columns of a trailer

@@ -1,7 +1,8 @@
 //! An association of two trains.
 ghost use Rattle.std.specs.Prelude.{◌≡◌, ◌+◌, ◌≤◌, ◌++◌, length, Some, Ok, is_some};
 ghost use Rattle.std.specs.Option.{option_copied};
-ghost use Rattle.cif_columns.specs.Field.{StandsIn, AllStandIn, Fits, AllFit, columns, text, plain_columns, plain_line};
+ghost use Rattle.cif_columns.specs.Field.{StandsIn, AllStandIn, Fits, AllFit, columns, text};
+ghost use Rattle.cif_columns.specs.Field.{plain_columns, plain_line};
 ghost use Rattle.cif_records.specs.AssocBody.{SpellsBody, of_body};
 ghost use Rattle.cif_records.specs.Association.{association_table, association_refusal};
 ghost use Rattle.cif_records.specs.Bodies.{has_body};
@@ -39,12 +40,14 @@ impl Association {
     /// none: UnknownRecord (columns 1 to 2), NotFull (column 3), BadDate, OpenEnd and DatesReversed
     /// (columns 16 to 27), BadDays (columns 28 to 34), BadStp (column 80).
     pub fn read(line: &Line) -> Result<Association, Refusal>
-        ensures exact { IsJudged (association_refusal line.now) (SpellsAssociation line.now) result }
+        ensures exact { IsJudged (association_refusal line.now) (SpellsAssociation line.now)
+            result }
         ensures only { (r : Association) → SpellsAssociation line.now r → result ≡ Ok r }
     {
         Association::fields_of(line)
     }
 
+    /// What `read` gives, without the law that no other association is spelled.
     fn fields_of(line: &Line) -> Result<Association, Refusal>
         ensures { IsJudged (association_refusal line.now) (SpellsAssociation line.now) result }
     {
@@ -88,12 +91,15 @@ pub fn permanent_association(
     days: DaysRun,
 ) -> Line
     requires { first ≤ last }
-    ensures plain { result ≡ plain_line (association_table key.now first last days Stp.P (Some body.now)) }
-    ensures again { AllStandIn result (association_table key.now first last days Stp.P (Some body.now)) }
+    ensures plain { result
+        ≡ plain_line (association_table key.now first last days Stp.P (Some body.now)) }
+    ensures again { AllStandIn result
+        (association_table key.now first last days Stp.P (Some body.now)) }
 {
     line_of(key, first, last, days, Stp::P, Some(body))
 }
 
+/// The plain line of an association with these fields.
 fn line_of(
     key: &AssocKey,
     first: Day,
@@ -102,8 +108,10 @@ fn line_of(
     letter: Stp,
     body: Option<&AssocBody>,
 ) -> Line
-    ensures plain { result ≡ plain_line (association_table key.now first last days letter (option_copied body.entry)) }
-    ensures fits { AllFit (association_table key.now first last days letter (option_copied body.entry)) }
+    ensures plain { result ≡ plain_line
+        (association_table key.now first last days letter (option_copied body.entry)) }
+    ensures fits { AllFit
+        (association_table key.now first last days letter (option_copied body.entry)) }
 {
     let mut line = LineBuilder::new();
     line.put_columns(b"AA");
@@ -126,11 +134,13 @@ fn line_of(
 /// Columns 35 to 37, which are spare where there is no body.
 fn put_category(body: Option<&AssocBody>, line: &mut LineBuilder)
     requires { length line.old + 3 ≤ 80 }
-    ensures columns { line.new ≡ line.old ++ plain_columns 2 (of_body (option_copied body.entry) (λ b. text b.category))
+    ensures columns { line.new ≡ line.old
+        ++ plain_columns 2 (of_body (option_copied body.entry) (λ b. text b.category))
         ++ plain_columns 1 (of_body (option_copied body.entry) (λ b. text b.date_indicator)) }
     ensures width { length line.new ≡ length line.old + 3 }
     ensures category { Fits 2 (of_body (option_copied body.entry) (λ b. text b.category)) }
-    ensures date_indicator { Fits 1 (of_body (option_copied body.entry) (λ b. text b.date_indicator)) }
+    ensures date_indicator { Fits 1
+        (of_body (option_copied body.entry) (λ b. text b.date_indicator)) }
 {
     match body {
         Some(body) => {
@@ -147,7 +157,8 @@ fn put_category(body: Option<&AssocBody>, line: &mut LineBuilder)
 /// Columns 47 to 48, which are spare where there is no body.
 fn put_kinds(body: Option<&AssocBody>, line: &mut LineBuilder)
     requires { length line.old + 2 ≤ 80 }
-    ensures columns { line.new ≡ line.old ++ plain_columns 1 (of_body (option_copied body.entry) (λ b. text b.diagram))
+    ensures columns { line.new ≡ line.old
+        ++ plain_columns 1 (of_body (option_copied body.entry) (λ b. text b.diagram))
         ++ plain_columns 1 (of_body (option_copied body.entry) (λ b. text b.kind)) }
     ensures width { length line.new ≡ length line.old + 2 }
     ensures diagram { Fits 1 (of_body (option_copied body.entry) (λ b. text b.diagram)) }

@@ -1,14 +1,18 @@
 //! The checks that record kinds share.
 ghost use Rattle.std.specs.Prelude.{◌≡◌, ◌≤◌, ◌+◌, ◌∷◌, [], Some, IfOk};
 ghost use Rattle.cif_columns.specs.Day.{yymmdd_in};
-ghost use Rattle.cif_columns.specs.Field.{StandsIn, columns, columns_from, date, indicator, weekdays};
-ghost use Rattle.cif_records.specs.Checks.{IsJudged, identity_refusal, transaction_refusal, date_refusal, dates_refusal, last_date_refusal, days_refusal, letter_refusal};
+ghost use Rattle.cif_columns.specs.Field.{StandsIn, columns, columns_from, date, indicator};
+ghost use Rattle.cif_columns.specs.Field.{weekdays};
+ghost use Rattle.cif_records.specs.Checks.{IsJudged, identity_refusal, transaction_refusal};
+ghost use Rattle.cif_records.specs.Checks.{date_refusal, dates_refusal, last_date_refusal};
+ghost use Rattle.cif_records.specs.Checks.{days_refusal, letter_refusal};
 
 use cif_columns::{Day, DaysRun, Line, Refusal, Stp, columns_at, field_at};
 
 /// Whether columns 1 and 2 are the identity of a kind.
 pub(crate) fn check_identity(line: &Line, letters: &[u8; 2]) -> Result<(), Refusal>
-    ensures { IsJudged (identity_refusal letters.now line.now) (λ _. columns 1 2 line.now ≡ letters.now) result }
+    ensures { IsJudged (identity_refusal letters.now line.now)
+        (λ _. columns 1 2 line.now ≡ letters.now) result }
 {
     if columns_at::<2>(line, 1) == *letters {
         Ok(())
@@ -40,7 +44,8 @@ pub(crate) struct Dates {
 pub(crate) fn dates_at(line: &Line, at: usize) -> Result<Dates, Refusal>
     requires from_one { 1 ≤ at }
     requires within { at ≤ 69 }
-    ensures { IsJudged (dates_refusal (columns_from at 6 line.now) (columns_from (at + 6) 6 line.now))
+    ensures { IsJudged
+        (dates_refusal (columns_from at 6 line.now) (columns_from (at + 6) 6 line.now))
         (λ dates. StandsIn (columns_from at 6 line.now) (date dates.first)
         × StandsIn (columns_from (at + 6) 6 line.now) (date dates.last)) result }
 {
@@ -90,7 +95,8 @@ pub(crate) fn days_at(line: &Line, at: usize) -> Result<DaysRun, Refusal>
 
 /// The indicator in column 80.
 pub(crate) fn letter_of(line: &Line) -> Result<Stp, Refusal>
-    ensures { IsJudged (letter_refusal line.now) (λ letter. StandsIn (columns 80 80 line.now) (indicator letter)) result }
+    ensures { IsJudged (letter_refusal line.now)
+        (λ letter. StandsIn (columns 80 80 line.now) (indicator letter)) result }
 {
     field_at(line, 80).ok_or(Refusal::BadStp)
 }

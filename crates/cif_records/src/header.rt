@@ -5,7 +5,8 @@ ghost use Rattle.cif_columns.specs.Day.{ddmmyy_in};
 ghost use Rattle.cif_columns.specs.Field.{columns, columns_from, plain_line};
 ghost use Rattle.cif_columns.specs.Line.{ArePrintable};
 ghost use Rattle.cif_records.specs.Checks.{IsJudged};
-ghost use Rattle.cif_records.specs.Header.{IsFull, full_refusal, header_date_refusal, header_refusal, header_table, kept};
+ghost use Rattle.cif_records.specs.Header.{IsFull, full_refusal, header_date_refusal};
+ghost use Rattle.cif_records.specs.Header.{header_refusal, header_table, kept};
 
 use crate::checks::check_identity;
 use cif_columns::{Day, Line, LineBuilder, Refusal, columns_at};
@@ -41,6 +42,7 @@ impl Header {
         Header::fields_of(line)
     }
 
+    /// What `read` gives, without the law that no other header is spelled.
     fn fields_of(line: &Line) -> Result<Header, Refusal>
         ensures { IsJudged (header_refusal line.now) (SpellsHeader line.now) result }
     {

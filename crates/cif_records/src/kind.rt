@@ -1,5 +1,7 @@
 //! The kinds of record.
-ghost use Rattle.std.specs.Prelude.{◌≡◌, find};
+ghost use Rattle.std.specs.Prelude.{◌≡◌, find, IfSome, Some};
+ghost use Rattle.cif_columns.specs.Field.{columns};
+ghost use Rattle.cif_records.specs.declared.kind.Kind.{Kind};
 ghost use Rattle.cif_columns.specs.Line.{IsLine};
 ghost use Rattle.cif_records.specs.Kind.{identity, is_identity, kind_in};
 
@@ -76,6 +78,8 @@ impl Kind {
 /// The kind that columns 1 and 2 of the line name; `None` where they name none of the twelve.
 pub fn kind_of(line: &Line) -> Option<Kind>
     ensures kind { result ≡ kind_in line.now }
+    ensures found { IfSome result (λ kind. columns 1 2 line.now ≡ identity kind) }
+    ensures only { (kind : Kind) → columns 1 2 line.now ≡ identity kind → result ≡ Some kind }
     ensures line { IsLine line.now }
 {
     kind_among(&Kind::ALL, &columns_at(line, 1))

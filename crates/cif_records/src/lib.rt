@@ -15,3 +15,6 @@ pub use association::{Association, permanent_association};
 pub use header::Header;
 pub use kind::{Kind, kind_of};
 pub use trailer::Trailer;
+
+#[cfg(test)]
+mod tests;

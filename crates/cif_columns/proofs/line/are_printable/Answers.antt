@@ -10,8 +10,10 @@ loop-b-preserved c =
     let i = c.loop-b.b-index in
     let bytes = c.args.bytes.now in
     let below : i < length bytes = omega arith in
-    let here : c.is_printable-all.result ≡ is_printable (get_or bytes i 0) = same_test c.is_printable-all.result (get_or bytes i 0) c.is_printable-all.ensures in
-    ap (λ b. c.loop-b.all && b) here ∙ ap (λ b. b && is_printable (get_or bytes i 0)) c.loop-b.invariant ∙ sym (list_all_more is_printable bytes i 0 below)
+    let here : c.is_printable-all.result ≡ is_printable (get_or bytes i 0) =
+    same_test c.is_printable-all.result (get_or bytes i 0) c.is_printable-all.ensures in
+    ap (λ b. c.loop-b.all && b) here ∙ ap (λ b. b && is_printable (get_or bytes i 0)) c.loop-b.invariant
+    ∙ sym (list_all_more is_printable bytes i 0 below)
 
 pub returns : goal.returns
 returns c =

@@ -10,7 +10,8 @@ returns-in-Ok-clause-found c =
     let taken = c.in_ok-line.field-0.taken in
     let is_ok : IsOk c.in_ok-line.field-0.line = rw c.in-Ok.is in
     let held = c.as_slice.ensures in
-    let within : this.start + taken ≤ this.end = omega (arith, first.within, ap length held, range_length this.buf this.start this.end, this.ordered) in
+    let within : this.start + taken ≤ this.end =
+    omega (arith, first.within, ap length held, range_length this.buf this.start this.end, this.ordered) in
     let rest = range_rest this.buf this.start this.end taken within in (
       ap (first_line c.args.is_full) (sym held) ∙ sym first.line ∙ c.in-Ok.is,
       rest ∙ ap (drop taken) (sym held) ∙ first.rest is_ok ∙ ap after_content held,

@@ -7,7 +7,8 @@ use Rattle.cif_columns.proofs.ahead.Ahead.next_line.Goals as goal
 
 pub returns-in-Some-clause-found : goal.returns-in-Some-clause-found
 returns-in-Some-clause-found g c =
-    found_more c.args.is_full _ (g.R.Read.remaining c.loop-found.source.reader) (held_bytes c.loop-found.self) (held_bytes c.decided.new.self) c.in-Some.found
+    found_more c.args.is_full _ (g.R.Read.remaining c.loop-found.source.reader) (held_bytes c.loop-found.self)
+    (held_bytes c.decided.new.self) c.in-Some.found
     c.loop-found.invariant.same_bytes (c.in-Some.ensures.decided refl) c.in-Some.ensures.found
 
 pub fill-requires : goal.fill-requires
@@ -15,7 +16,12 @@ fill-requires g c = rw c.in_default.ensures.kept (undecided_short _ _ c.in_defau
 
 pub loop-found-smaller : goal.loop-found-smaller
 loop-found-smaller g c =
-    omega (arith, c.in-Ok-true.ensures.more (ap Ok c.in-Ok-true.field-0-test), ap length c.in_default.ensures.kept, undecided_short _ _ c.in_default.ensures.none)
+    omega (
+      arith,
+      c.in-Ok-true.ensures.more (ap Ok c.in-Ok-true.field-0-test),
+      ap length c.in_default.ensures.kept,
+      undecided_short _ _ c.in_default.ensures.none,
+    )
 
 pub loop-found-preserved : goal.loop-found-preserved
 loop-found-preserved g c = record {

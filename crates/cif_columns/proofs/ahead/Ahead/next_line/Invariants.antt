@@ -7,7 +7,8 @@ abbrev pub invariant-loop-found : goal.invariant-loop-found
 invariant-loop-found g l = record {
   same_bytes : Keeps (known_left g.R.Read.remaining l.initial.self l.initial.source) (known_left g.R.Read.remaining l.self l.source);
   same_state : l.source.failed ≡ l.initial.source.failed;
-  same_errors : l.initial.source.failed ≡ false → g.R.ReadDevice.read_errors l.source.reader ≡ g.R.ReadDevice.read_errors l.initial.source.reader;
+  same_errors : l.initial.source.failed ≡ false
+      → g.R.ReadDevice.read_errors l.source.reader ≡ g.R.ReadDevice.read_errors l.initial.source.reader;
 }
 
 abbrev pub decreases-loop-found : goal.decreases-loop-found

@@ -8,5 +8,6 @@ returns-clause-bytes c =
     let give = c.give-n.ensures in
     let given = simp take_rest at give.given in
     let none = simp take_rest at give.none in
-    let consumed = piece_consumed c.args.self.now.bytes.now c.give-n.new.buf c.if-self.at c.give-n.result given none (Unit {0}) c.args.self.now.end in
+    let consumed = piece_consumed c.args.self.now.bytes.now c.give-n.new.buf c.if-self.at c.give-n.result given none
+    (Unit {0}) c.args.self.now.end in
     elim c.if-self.branch [ then-self w ↦ rw (← w.at-is) consumed | else-self+in-Again w ↦ rw w.in-Again.is (tt, λ _ _. tt) ]

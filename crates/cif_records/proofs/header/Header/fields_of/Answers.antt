@@ -1,4 +1,4 @@
-use Rattle.std.proofs.Common.{◌≡◌, ◌≤◌, ◌<◌, nat_le, true, false, arith, ap, sym, ◌∙◌}
+use Rattle.std.proofs.Common.{◌≡◌, ◌≤◌, ◌<◌, nat_le, None, true, false, arith, ap, sym, ◌∙◌}
 use Rattle.std.proofs.lemmas.Bool.Decides.{nat_tests}
 use Rattle.std.proofs.lemmas.Result.{err_from_is_err_and}
 use Rattle.cif_columns.specs.Day.{ddmmyy_in}
@@ -29,14 +29,28 @@ pub returns-in_err-last : goal.returns-in_err-last
 unfolding header_refusal
 returns-in_err-last c =
     let p = err_from_is_err_and c.from_residual-in_err-last.result c.from_residual-in_err-last.ensures.1 in
-    judged_err _ _ _ p.0 p.1 (rw (c.in_ok-check_identity.ensures.0, c.in_ok-check_full.ensures.0, c.in_ok-first.ensures.0, c.in_err-last.ensures, p.2))
+    judged_err _ _ _ p.0 p.1 (rw (
+      c.in_ok-check_identity.ensures.0,
+      c.in_ok-check_full.ensures.0,
+      c.in_ok-first.ensures.0,
+      c.in_err-last.ensures,
+      p.2,
+    ))
 
 pub returns-then-lt : goal.returns-then-lt
 unfolding header_refusal
 returns-then-lt c =
     let reversed : c.in_ok-last.last < c.in_ok-first.first = grind (arith, nat_tests) in
     let test : nat_le c.in_ok-first.first c.in_ok-last.last ≡ false = grind (arith, nat_tests) in
-    rw (c.in_ok-check_identity.ensures.0, c.in_ok-check_full.ensures.0, c.in_ok-first.ensures.0, c.in_ok-last.ensures.0, c.in_ok-first.ensures.1, c.in_ok-last.ensures.1, test)
+    rw (
+      c.in_ok-check_identity.ensures.0,
+      c.in_ok-check_full.ensures.0,
+      c.in_ok-first.ensures.0,
+      c.in_ok-last.ensures.0,
+      c.in_ok-first.ensures.1,
+      c.in_ok-last.ensures.1,
+      test,
+    )
 
 pub invariant_of-result : goal.invariant_of-result
 invariant_of-result c =
@@ -54,7 +68,14 @@ pub returns : goal.returns
 unfolding header_refusal
 returns c =
     let in_order : c.in_ok-first.first ≤ c.in_ok-last.last = grind (arith, nat_tests) in
-    let test : nat_le c.in_ok-first.first c.in_ok-last.last ≡ true = grind (arith, nat_tests) in (
-      rw (c.in_ok-check_identity.ensures.0, c.in_ok-check_full.ensures.0, c.in_ok-first.ensures.0, c.in_ok-last.ensures.0, c.in_ok-first.ensures.1, c.in_ok-last.ensures.1, test),
-      (c.in_ok-check_identity.ensures.1, (sym c.columns_at.ensures.value, (tt, tt))),
-    )
+    let test : nat_le c.in_ok-first.first c.in_ok-last.last ≡ true = grind (arith, nat_tests) in
+    let none : header_refusal c.args.line.now ≡ None = rw (
+      c.in_ok-check_identity.ensures.0,
+      c.in_ok-check_full.ensures.0,
+      c.in_ok-first.ensures.0,
+      c.in_ok-last.ensures.0,
+      c.in_ok-first.ensures.1,
+      c.in_ok-last.ensures.1,
+      test,
+    ) in
+    (none, (c.in_ok-check_identity.ensures.1, (sym c.columns_at.ensures.value, (tt, tt))))
