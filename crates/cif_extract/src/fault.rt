@@ -2,7 +2,7 @@
 ghost use Rattle.std.specs.Prelude.{◌≡◌};
 
 use crate::Clash;
-use cif_columns::{LineFault, Refusal};
+use cif_columns::{LineFault, Refusal, WriteFault};
 
 /// Why a job on an extract isn't done.
 #[derive(Debug, Drop, PartialEq, Eq)]
@@ -56,5 +56,15 @@ impl From<LineFault> for Fault {
             LineFault::Refused { line, why } => Fault::Refused { line, why },
             LineFault::Read => Fault::Read,
         }
+    }
+}
+
+impl From<WriteFault> for Fault {
+    ghost use Rattle.cif_extract.specs.declared.fault.Fault.TheVariants.{Write};
+
+    ghost from_gives = { λ _ fault. fault ≡ Write };
+
+    fn from(_fault: WriteFault) -> Fault {
+        Fault::Write
     }
 }

@@ -1,4 +1,11 @@
 pub mod CommandBuilt
+pub mod DailyKeys
+pub mod DailySteps
+pub mod DailyTelling
+pub mod DailyWhole
 pub mod FirstFault
 pub mod HelpNotEntered
 pub mod OwnSubcommand
+pub mod ReadFaults
+pub mod ReadingLaws
+pub mod Refusing

@@ -1,4 +1,10 @@
+pub mod AssociationRules
 pub mod CommandLine
+pub mod Daily
 pub mod Job
 pub mod JobFault
+pub mod Planned
+pub mod Reading
+pub mod Role
+pub mod SpellsExtract
 pub mod Status

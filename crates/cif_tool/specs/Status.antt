@@ -1,7 +1,7 @@
 -- The statuses of faults.
 use Rattle.std.specs.Prelude.{ℕ}
-use Rattle.cif_tool.specs.declared.normalise.Fault.{Fault}
-use Rattle.cif_tool.specs.declared.normalise.Fault.TheVariants.{Refused, Ambiguous, WindowsDiffer, OutsideWindow, Read, Write, Memory}
+use Rattle.cif_extract.specs.declared.fault.Fault.{Fault}
+use Rattle.cif_extract.specs.declared.fault.Fault.TheVariants.{Refused, Ambiguous, WindowsDiffer, OutsideWindow, WindowReversed, Read, Write, Memory}
 
 -- a refusal of the input is 3; a failed device, and want of memory, is 4
 abbrev pub status_of : Fault → ℕ
@@ -9,6 +9,7 @@ status_of (Refused line why) = 3
 status_of (Ambiguous clash) = 3
 status_of WindowsDiffer = 3
 status_of OutsideWindow = 3
+status_of WindowReversed = 3
 status_of Read = 4
 status_of Write = 4
 status_of Memory = 4

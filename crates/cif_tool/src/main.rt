@@ -2,9 +2,13 @@
 #![tactic(auto)]
 
 mod command_line;
+mod daily;
+mod extract;
 mod job;
 mod normalise;
 mod program;
+mod reading;
+mod report;
 mod status;
 
 use std::process::ExitCode;

@@ -1,8 +1,18 @@
-//! A stand-in: copies its input.
-use cif_columns::{ReadDevice, ReadFault, Refusal, Sink, Source, WriteDevice, WriteFault};
+//! The canonical extract of an extract of associations, one record a date.
+ghost use Rattle.std.specs.Prelude.{◌≡◌, ◌<◌, ◌≤◌, All, false, length};
+ghost use Rattle.cif_columns.specs.Source.{source_failed};
+ghost use Rattle.cif_columns.specs.declared.line_reader.TheConstants.{MAX_LINES};
+ghost use Rattle.cif_tool.specs.Daily.{IsWithin};
+
+use crate::daily::{DailyFault, OneDayRecord, daily_records};
+use crate::extract::Extract;
+use crate::reading::read_extract;
+use cif_columns::{DaysRun, ReadDevice, Sink, Source, WriteDevice, WriteFault};
+use cif_extract::{Clash, Fault, write_association, write_head, write_trailer};
+use cif_records::Association;
 use std::alloc::Global;
 
-/// How many records an answer has.
+/// How many records were written, by kind.
 #[derive(Clone, Copy, Debug, PartialEq, Eq)]
 pub struct Counts {
     pub tiplocs: u64,
@@ -10,73 +20,74 @@ pub struct Counts {
     pub schedules: u64,
 }
 
-#[derive(Clone, Copy, Debug, PartialEq, Eq)]
-pub enum Clash {
-    Association,
-    Train,
-}
-
-#[derive(Clone, Copy, Debug, PartialEq, Eq)]
-pub enum Fault {
-    Refused { line: u64, why: Refusal },
-    Ambiguous(Clash),
-    WindowsDiffer,
-    OutsideWindow,
-    Read,
-    Write,
-    Memory,
-}
-
-impl From<ReadFault> for Fault {
-    fn from(_fault: ReadFault) -> Fault {
-        Fault::Read
-    }
-}
-
-impl From<WriteFault> for Fault {
-    fn from(_fault: WriteFault) -> Fault {
-        Fault::Write
-    }
-}
-
+/// Reads an extract of a header, associations and a trailer, of at most `max_lines` lines, and
+/// writes the extract that says the same by one permanent record for each association key and each
+/// date of the window on which a body holds, rising by key and date.
+///
+/// Nothing is written before the whole input is accepted. Refused names the first refused line;
+/// Ambiguous the first clash, by key and then date.
 pub fn normalise<R: ReadDevice, W: WriteDevice>(
-    _alloc: Global,
+    alloc: Global,
     source: &mut Source<R>,
     sink: &mut Sink<W>,
-    _max_lines: u64,
-) -> Result<Counts, Fault> {
-    let mut buf = [0u8; 4096];
-    for read in 0..u64::MAX {
-        let n = source.read(&mut buf)?;
-        if n == 0 && read == 0 {
-            return Err(Fault::Refused {
-                line: 1,
-                why: Refusal::Truncated,
-            });
-        }
-        if n == 0 || n > buf.len() {
-            break;
-        }
-        sink.write_all(&buf[..n])?;
+    max_lines: u64,
+) -> Result<Counts, Fault>
+    requires within { max_lines ≤ MAX_LINES }
+    requires going { source_failed source.old ≡ false }
+{
+    let extract = read_extract(alloc, source, max_lines)?;
+    let header = &extract.header;
+    let entries = extract.associations.as_slice();
+    match daily_records(alloc, entries, header.first, header.last) {
+        Ok(plan) => write_plan(&extract, plan.as_slice(), sink),
+        Err(fault) => Err(daily_fault(entries, fault)),
     }
-    sink.flush()?;
+}
+
+/// Why there is no plan of records, as a fault of the extract.
+fn daily_fault(associations: &[Association], fault: DailyFault) -> Fault
+    requires { IsWithin (length associations.now) fault }
+{
+    match fault {
+        DailyFault::Clash { member, day } => {
+            Fault::Ambiguous(Clash::Association(associations[member].key.copy(), day))
+        }
+        DailyFault::Memory => Fault::Memory,
+    }
+}
+
+/// Writes the header, the planned records and the trailer.
+fn write_plan<W: WriteDevice>(
+    extract: &Extract,
+    plan: &[OneDayRecord],
+    sink: &mut Sink<W>,
+) -> Result<Counts, Fault>
+    requires { All (λ item. item.source < length extract.now.associations.items) plan.now }
+{
+    write_head(&extract.header, sink)?;
+    for item in plan {
+        write_item(extract, *item, sink)?;
+    }
+    write_trailer(sink)?;
     Ok(Counts {
         tiplocs: 0,
-        associations: 0,
+        associations: plan.len() as u64,
         schedules: 0,
     })
 }
 
-pub fn report<W: WriteDevice>(fault: &Fault, sink: &mut Sink<W>) -> Result<(), WriteFault> {
-    let line = match fault {
-        Fault::Refused { line: _, why: _ } => "cif: line 1: Truncated\n",
-        Fault::Ambiguous(Clash::Association) => "cif: Ambiguous: association\n",
-        Fault::Ambiguous(Clash::Train) => "cif: Ambiguous: train\n",
-        Fault::WindowsDiffer => "cif: WindowsDiffer\n",
-        Fault::OutsideWindow => "cif: OutsideWindow\n",
-        Fault::Read => "cif: ReadFault\n",
-        Fault::Write => "cif: WriteFault\n",
-        Fault::Memory => "cif: Memory\n",
-    };
-    sink.write_all(line.as_bytes())
+/// Writes the permanent record of one day.
+fn write_item<W: WriteDevice>(
+    extract: &Extract,
+    item: OneDayRecord,
+    sink: &mut Sink<W>,
+) -> Result<(), WriteFault>
+    requires { item.source < length extract.now.associations.items }
+{
+    let association = &extract.associations[item.source];
+    let days = DaysRun::only(item.day.weekday());
+    match &association.body {
+        Some(body) => write_association(&association.key, body, item.day, item.day, days, sink),
+        None => Ok(()),
+    }
 }

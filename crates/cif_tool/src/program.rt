@@ -7,9 +7,11 @@ ghost use Rattle.cif_tool.specs.Status.{status_of};
 
 use crate::command_line::job_of;
 use crate::job::{Job, JobFault};
-use crate::normalise::{Fault, normalise, report};
+use crate::normalise::normalise;
+use crate::report::report;
 use crate::status::status;
 use cif_columns::{MAX_LINES, ReadDevice, Sink, Source, WriteDevice};
+use cif_extract::Fault;
 use std::alloc::Global;
 use std::env::Env;
 use std::io::{BufWriter, ErrorKind};

@@ -2,7 +2,7 @@
 ghost use Rattle.std.specs.Prelude.{◌≡◌};
 ghost use Rattle.cif_tool.specs.Status.{status_of};
 
-use crate::normalise::Fault;
+use cif_extract::Fault;
 
 /// The status that the program exits with: 3 where the input is refused, 4 where a device failed
 /// or a growth was refused.
@@ -13,7 +13,8 @@ pub fn status(fault: &Fault) -> u8
         Fault::Refused { line: _, why: _ }
         | Fault::Ambiguous(_)
         | Fault::WindowsDiffer
-        | Fault::OutsideWindow => 3,
+        | Fault::OutsideWindow
+        | Fault::WindowReversed => 3,
         Fault::Read | Fault::Write | Fault::Memory => 4,
     }
 }

@@ -5,11 +5,11 @@ ghost use Rattle.cif_columns.specs.Source.{reader_of, source_failed};
 ghost use Rattle.cif_extract.specs.FirstRefusal.{refusal_of};
 ghost use Rattle.cif_columns.specs.Line.{IsLine};
 ghost use Rattle.cif_records.specs.Kind.{kind_in};
-ghost use Rattle.cif_first.specs.AssociationRules.{rules, start, inside, ended};
-ghost use Rattle.cif_first.specs.Role.{role_of, judged};
-ghost use Rattle.cif_first.specs.SpellsExtract.{SpellBytes};
+ghost use Rattle.cif_tool.specs.AssociationRules.{rules, start, inside, ended};
+ghost use Rattle.cif_tool.specs.Role.{role_of, judged};
+ghost use Rattle.cif_tool.specs.SpellsExtract.{SpellBytes};
 ghost use Rattle.cif_columns.specs.declared.line_reader.TheConstants.{MAX_LINES};
-ghost use Rattle.cif_first.specs.Reading.{IsReadFault, IsUnended, BeginsWith, GoesOnWith};
+ghost use Rattle.cif_tool.specs.Reading.{IsReadFault, IsUnended, BeginsWith, GoesOnWith};
 
 use crate::extract::Extract;
 use cif_columns::{Line, LineReader, ReadDevice, Refusal, Source};
@@ -33,7 +33,7 @@ enum Stop {
 }
 
 impl From<Refusal> for Stop {
-    ghost use Rattle.cif_first.specs.declared.reading.Stop.TheVariants.{Refused};
+    ghost use Rattle.cif_tool.specs.declared.reading.Stop.TheVariants.{Refused};
 
     ghost from_gives = { λ why stop. stop ≡ Refused why };
 
@@ -43,7 +43,7 @@ impl From<Refusal> for Stop {
 }
 
 impl From<AllocError> for Stop {
-    ghost use Rattle.cif_first.specs.declared.reading.Stop.TheVariants.{Memory};
+    ghost use Rattle.cif_tool.specs.declared.reading.Stop.TheVariants.{Memory};
 
     ghost from_gives = { λ _ stop. stop ≡ Memory };
 
@@ -53,7 +53,7 @@ impl From<AllocError> for Stop {
 }
 
 impl Stop {
-    ghost use Rattle.cif_first.specs.Reading.{stop_fault};
+    ghost use Rattle.cif_tool.specs.Reading.{stop_fault};
 
     fn at(self, line: u64) -> Fault
         ensures { result ≡ stop_fault line self }
@@ -66,7 +66,7 @@ impl Stop {
 }
 
 impl Reading {
-    ghost use Rattle.cif_first.specs.Reading.{IsRead};
+    ghost use Rattle.cif_tool.specs.Reading.{IsRead};
 
     /// What one line more comes to.
     fn with_line(self, alloc: Global, line: &Line) -> Result<Reading, Stop>
@@ -85,8 +85,8 @@ impl Reading {
 }
 
 impl Reading {
-    ghost use Rattle.cif_first.specs.Reading.{IsRead};
-    ghost use Rattle.cif_first.specs.SpellsExtract.{SpellsExtract};
+    ghost use Rattle.cif_tool.specs.Reading.{IsRead};
+    ghost use Rattle.cif_tool.specs.SpellsExtract.{SpellsExtract};
 
     /// The extract, where these are all lines.
     fn finished(self, lines: u64) -> Result<Extract, Fault>

@@ -6,7 +6,7 @@ use Rattle.cif_records.specs.SpellsAssociation.{SpellsAssociation}
 use Rattle.cif_records.specs.SpellsHeader.{SpellsHeader}
 use Rattle.cif_records.specs.Trailer.{trailer_table}
 use Rattle.cif_records.specs.declared.association.Association.{Association}
-use Rattle.cif_first.specs.declared.extract.Extract.{Extract}
+use Rattle.cif_tool.specs.declared.extract.Extract.{Extract}
 
 -- each line spells its association
 abbrev pub AllSpell : List (List ℕ) → List Association → Type 0

@@ -9,16 +9,16 @@ use Rattle.cif_records.specs.Trailer.{trailer_table}
 use Rattle.cif_records.specs.declared.association.Association.{Association as AssociationRecord}
 use Rattle.cif_records.specs.declared.kind.Kind.{Kind}
 use Rattle.cif_records.specs.declared.kind.Kind.TheVariants.{Hd, Ti, Ta, Td, Aa, Bs, Bx, Lo, Li, Cr, Lt, Zz}
-use Rattle.cif_first.specs.AssociationRules.{place_from, start, inside, ended, rules}
-use Rattle.cif_first.specs.Reading.{IsRead, IsInside, HasRead, BeginsWith, GoesOnWith}
-use Rattle.cif_first.specs.Role.{role_of, judged}
-use Rattle.cif_first.specs.SpellsExtract.{AllSpell, SpellsExtract}
-use Rattle.cif_first.specs.declared.extract.Extract.{Extract}
-use Rattle.cif_first.specs.declared.reading.Reading.{Reading}
-use Rattle.cif_first.specs.declared.reading.Reading.TheVariants.{Start, Inside, Ended}
-use Rattle.cif_first.specs.declared.reading.Role.TheVariants.{Header, Association, Trailer}
+use Rattle.cif_tool.specs.AssociationRules.{place_from, start, inside, ended, rules}
+use Rattle.cif_tool.specs.Reading.{IsRead, IsInside, HasRead, BeginsWith, GoesOnWith}
+use Rattle.cif_tool.specs.Role.{role_of, judged}
+use Rattle.cif_tool.specs.SpellsExtract.{AllSpell, SpellsExtract}
+use Rattle.cif_tool.specs.declared.extract.Extract.{Extract}
+use Rattle.cif_tool.specs.declared.reading.Reading.{Reading}
+use Rattle.cif_tool.specs.declared.reading.Reading.TheVariants.{Start, Inside, Ended}
+use Rattle.cif_tool.specs.declared.reading.Role.TheVariants.{Header, Association, Trailer}
 use Rattle.cif_records.proofs.Identities.{identity-kind_in}
-use Rattle.cif_first.proofs.Refusing.{refusal_is_judged, none_refused-more, place_from-more}
+use Rattle.cif_tool.proofs.Refusing.{refusal_is_judged, none_refused-more, place_from-more}
 
 is_header : (kind : Option Kind) → role_of kind ≡ Header → kind ≡ Some Hd
 is_header None e = cc

@@ -1,8 +1,8 @@
 use Rattle.std.proofs.Common.{◌≡◌, ◌-◌, ℕ, List, false}
 use Rattle.cif_columns.specs.GivenLines.{IsReading}
 use Rattle.cif_columns.specs.LineReader.{given, limit}
-use Rattle.cif_first.specs.Reading.{IsRead}
-use Rattle.cif_first.proofs.reading.read_extract.Given as goal
+use Rattle.cif_tool.specs.Reading.{IsRead}
+use Rattle.cif_tool.proofs.reading.read_extract.Given as goal
 
 abbrev pub invariant-loop-line : goal.invariant-loop-line
 invariant-loop-line g l = (ls : List (List ℕ)) × IsReading g.R.Read.remaining (g.R.Read.remaining l.fn.source.reader) l.max_lines l.lines l.source ls

@@ -6,9 +6,9 @@ use Rattle.cif_records.specs.Association.{association_refusal}
 use Rattle.cif_records.specs.Header.{header_refusal}
 use Rattle.cif_records.specs.declared.kind.Kind.{Kind}
 use Rattle.cif_records.specs.declared.kind.Kind.TheVariants.{Hd, Aa, Zz}
-use Rattle.cif_first.specs.AssociationRules.{Place, start, inside, ended}
-use Rattle.cif_first.specs.declared.reading.Role.{Role}
-use Rattle.cif_first.specs.declared.reading.Role.TheVariants.{Header, Association, Trailer, Unknown}
+use Rattle.cif_tool.specs.AssociationRules.{Place, start, inside, ended}
+use Rattle.cif_tool.specs.declared.reading.Role.{Role}
+use Rattle.cif_tool.specs.declared.reading.Role.TheVariants.{Header, Association, Trailer, Unknown}
 
 -- what a line of this kind is
 abbrev pub role_of : Option Kind → Role

@@ -25,14 +25,14 @@ use Rattle.cif_records.specs.Kind.{is_identity, kind_in, kinds}
 use Rattle.cif_records.specs.SpellsAssociation.{SpellsAssociation}
 use Rattle.cif_records.specs.declared.association.Association.{Association as AssociationRecord}
 use Rattle.cif_records.specs.declared.kind.Kind.TheVariants.{Hd, Aa, Zz}
-use Rattle.cif_first.specs.AssociationRules.{rules}
-use Rattle.cif_first.specs.Reading.{IsRead, IsReadFault, IsUnended, stop_fault}
-use Rattle.cif_first.specs.SpellsExtract.{AllSpell}
-use Rattle.cif_first.specs.declared.extract.Extract.{Extract}
-use Rattle.cif_first.specs.declared.reading.Reading.{Reading}
-use Rattle.cif_first.specs.declared.reading.Reading.TheVariants.{Start, Inside, Ended}
-use Rattle.cif_first.specs.declared.reading.Stop.{Stop}
-use Rattle.cif_first.specs.declared.reading.Stop.TheVariants as stop
+use Rattle.cif_tool.specs.AssociationRules.{rules}
+use Rattle.cif_tool.specs.Reading.{IsRead, IsReadFault, IsUnended, stop_fault}
+use Rattle.cif_tool.specs.SpellsExtract.{AllSpell}
+use Rattle.cif_tool.specs.declared.extract.Extract.{Extract}
+use Rattle.cif_tool.specs.declared.reading.Reading.{Reading}
+use Rattle.cif_tool.specs.declared.reading.Reading.TheVariants.{Start, Inside, Ended}
+use Rattle.cif_tool.specs.declared.reading.Stop.{Stop}
+use Rattle.cif_tool.specs.declared.reading.Stop.TheVariants as stop
 
 no_bytes : (content : List ℕ) → (list_all is_printable content ≡ true → ⊥) → list_all is_printable content ≡ false
 no_bytes content h = at (list_all is_printable content) h

@@ -8,15 +8,15 @@ use Rattle.cif_records.specs.Header.{header_refusal}
 use Rattle.cif_records.specs.SpellsAssociation.{SpellsAssociation}
 use Rattle.cif_records.specs.declared.association.Association.{Association as AssociationRecord}
 use Rattle.cif_records.specs.SpellsHeader.{SpellsHeader}
-use Rattle.cif_first.specs.AssociationRules.{rules, place_from, start, inside, ended}
-use Rattle.cif_first.specs.SpellsExtract.{AllSpell, SpellsExtract}
-use Rattle.cif_first.specs.declared.extract.Extract.{Extract}
-use Rattle.cif_first.specs.declared.reading.Reading.{Reading}
-use Rattle.cif_first.specs.declared.reading.Reading.TheVariants.{Start, Inside, Ended}
-use Rattle.cif_first.specs.declared.reading.Role.{Role}
-use Rattle.cif_first.specs.declared.reading.Role.TheVariants.{Header, Association, Trailer}
-use Rattle.cif_first.specs.declared.reading.Stop.{Stop}
-use Rattle.cif_first.specs.declared.reading.Stop.TheVariants as stop
+use Rattle.cif_tool.specs.AssociationRules.{rules, place_from, start, inside, ended}
+use Rattle.cif_tool.specs.SpellsExtract.{AllSpell, SpellsExtract}
+use Rattle.cif_tool.specs.declared.extract.Extract.{Extract}
+use Rattle.cif_tool.specs.declared.reading.Reading.{Reading}
+use Rattle.cif_tool.specs.declared.reading.Reading.TheVariants.{Start, Inside, Ended}
+use Rattle.cif_tool.specs.declared.reading.Role.{Role}
+use Rattle.cif_tool.specs.declared.reading.Role.TheVariants.{Header, Association, Trailer}
+use Rattle.cif_tool.specs.declared.reading.Stop.{Stop}
+use Rattle.cif_tool.specs.declared.reading.Stop.TheVariants as stop
 
 -- a header and associations, and no trailer yet
 pub record IsInside (lines : List (List ℕ)) (extract : Extract) : Type 0 where

@@ -1,16 +1,20 @@
 use Rattle.std.proofs.Common.{◌≡◌, ◌+◌, ◌<◌, ◌∙◌, ℕ, List, length, [], ◌++◌, ◌∷◌, Err, Ok, ap, refl, arith, length-append}
 use Rattle.cif_columns.proofs.GivenLinesLaws.{reading_starts, reading_line, reading_ends, reading_faults}
 use Rattle.cif_columns.specs.LineReader.{given}
-use Rattle.cif_first.specs.AssociationRules.{rules}
-use Rattle.cif_first.proofs.Refusing.{none_refused-none}
-use Rattle.cif_first.proofs.ReadFaults.{at_fault, at_line, at_stop, finished_fault, not_read}
-use Rattle.cif_first.proofs.reading.read_extract.Goals as goal
+use Rattle.cif_tool.specs.AssociationRules.{rules}
+use Rattle.cif_tool.proofs.Refusing.{none_refused-none}
+use Rattle.cif_tool.proofs.ReadFaults.{at_fault, at_line, at_stop, finished_fault, not_read}
+use Rattle.cif_tool.proofs.reading.read_extract.Goals as goal
 
 pub loop-line-init : goal.loop-line-init
 loop-line-init g c =
-    let new = c.new-lines.ensures in
-    ([], reading_starts g.R.Read.remaining c.args.max_lines c.new-lines.result c.args.source.now new.held new.given new.limit new.past,
-    record { read = refl; fine = none_refused-none rules c.args.max_lines }, c.requires.going, refl)
+    let new = c.new-lines.ensures in (
+      [],
+      reading_starts g.R.Read.remaining c.args.max_lines c.new-lines.result c.args.source.now new.held new.given new.limit new.past,
+      record { read = refl; fine = none_refused-none rules c.args.max_lines },
+      c.requires.going,
+      refl,
+    )
 
 pub loop-line-preserved : goal.loop-line-preserved
 loop-line-preserved g c =
@@ -19,12 +23,13 @@ loop-line-preserved g c =
     let is = c.in-Ok-Some.field-0-is in
     let line = c.in-Ok-Some.line in
     let more : given c.next.new.self ≡ given c.loop-line.lines + 1 = rw is at next.counted in
-    let room : length ls < c.args.max_lines = omega (arith, more, so_far.counted, so_far.same_limit, next.limit, c.next.new.self.counted) in
-    (ls ++ line ∷ [],
-    reading_line g.R.Read.remaining _ _ _ _ ls so_far c.next.new.self c.next.new.source line (rw is at next.answer) (next.past ∙ rw is) next.limit more,
-    c.in-Ok.ensures.ok c.args.max_lines ls room read,
-    next.going (λ e. cc) ∙ going,
-    next.fine so_far.reads_on going (λ e. cc) ∙ same)
+    let room : length ls < c.args.max_lines = omega (arith, more, so_far.counted, so_far.same_limit, next.limit, c.next.new.self.counted) in (
+      ls ++ line ∷ [],
+      reading_line g.R.Read.remaining _ _ _ _ ls so_far c.next.new.self c.next.new.source line (rw is at next.answer) (next.past ∙ rw is) next.limit more,
+      c.in-Ok.ensures.ok c.args.max_lines ls room read,
+      next.going (λ e. cc) ∙ going,
+      next.fine so_far.reads_on going (λ e. cc) ∙ same,
+    )
 
 pub returns-in-Err-with_line-clause-fault : goal.returns-in-Err-with_line-clause-fault
 returns-in-Err-with_line-clause-fault g c =

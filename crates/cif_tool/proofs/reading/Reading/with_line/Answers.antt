@@ -1,20 +1,20 @@
 use Rattle.std.proofs.Common.{◌≡◌, ◌<◌, ℕ, List, [], ◌∷◌, ◌++◌, length, ap, ◌∙◌, Some}
 use Rattle.std.proofs.lemmas.Result.{IfOk-weaker}
 use Rattle.cif_records.specs.Kind.{kind_in}
-use Rattle.cif_first.specs.AssociationRules.{place_from, start}
-use Rattle.cif_first.specs.Reading.{BeginsWith, GoesOnWith, IsRead}
-use Rattle.cif_first.specs.declared.reading.Reading.{Reading}
-use Rattle.cif_first.specs.Role.{role_of, judged}
-use Rattle.cif_first.proofs.ReadingLaws.{begins, goes_on}
-use Rattle.cif_first.proofs.Refusing.{refusal_is_judged}
-use Rattle.cif_first.proofs.reading.Reading.with_line.Goals as goal
+use Rattle.cif_tool.specs.AssociationRules.{place_from, start}
+use Rattle.cif_tool.specs.Reading.{BeginsWith, GoesOnWith, IsRead}
+use Rattle.cif_tool.specs.declared.reading.Reading.{Reading}
+use Rattle.cif_tool.specs.Role.{role_of, judged}
+use Rattle.cif_tool.proofs.ReadingLaws.{begins, goes_on}
+use Rattle.cif_tool.proofs.Refusing.{refusal_is_judged}
+use Rattle.cif_tool.proofs.reading.Reading.with_line.Goals as goal
 
 pub returns-in-Start-clause-ok : goal.returns-in-Start-clause-ok
 returns-in-Start-clause-ok c =
     let role = c.role_of-role.ensures in
     let line = c.args.line.now in
     let step : (after : Reading) → BeginsWith c.role_of-role.result line after → (max : ℕ) (lines : List (List ℕ)) → length lines < max → IsRead max lines c.args.self → IsRead max (lines ++ line ∷ []) after =
-        λ after b max lines room h. begins max lines line role.line room after (rw c.in-Start.is at h) (rw role.role at b) in
+    λ after b max lines room h. begins max lines line role.line room after (rw c.in-Start.is at h) (rw role.role at b) in
     IfOk-weaker _ _ _ step c.after_start.ensures.ok
 
 pub returns-in-Start-clause-refused : goal.returns-in-Start-clause-refused
@@ -30,7 +30,7 @@ returns-in-Inside-clause-ok c =
     let role = c.role_of-role.ensures in
     let line = c.args.line.now in
     let step : (after : Reading) → GoesOnWith c.in-Inside.extract c.role_of-role.result line after → (max : ℕ) (lines : List (List ℕ)) → length lines < max → IsRead max lines c.args.self → IsRead max (lines ++ line ∷ []) after =
-        λ after b max lines room h. goes_on max lines line role.line room c.in-Inside.extract after (rw c.in-Inside.is at h) (rw role.role at b) in
+    λ after b max lines room h. goes_on max lines line role.line room c.in-Inside.extract after (rw c.in-Inside.is at h) (rw role.role at b) in
     IfOk-weaker _ _ _ step c.after_inside.ensures.ok
 
 pub returns-in-Inside-clause-refused : goal.returns-in-Inside-clause-refused

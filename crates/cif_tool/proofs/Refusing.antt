@@ -15,8 +15,8 @@ use Rattle.cif_records.specs.Checks.{first_of, unless}
 use Rattle.cif_records.specs.Kind.{kind_in}
 use Rattle.cif_records.specs.declared.kind.Kind.{Kind}
 use Rattle.cif_records.specs.declared.kind.Kind.TheVariants.{Hd, Ti, Ta, Td, Aa, Bs, Bx, Lo, Li, Cr, Lt, Zz}
-use Rattle.cif_first.specs.AssociationRules.{Place, start, inside, ended, place_from, place_after, is_known, may_stand, fields_refusal, rules}
-use Rattle.cif_first.specs.Role.{role_of, judged}
+use Rattle.cif_tool.specs.AssociationRules.{Place, start, inside, ended, place_from, place_after, is_known, may_stand, fields_refusal, rules}
+use Rattle.cif_tool.specs.Role.{role_of, judged}
 
 -- a line that isn't one too many is refused by its kind and its fields alone
 line_refusal : (rules : LineRules) (max : ℕ) (before : List (List ℕ)) (line : List ℕ) → IsLine line → length before < max

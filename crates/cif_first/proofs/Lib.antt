@@ -1,3 +1,0 @@
-pub mod ReadFaults
-pub mod ReadingLaws
-pub mod Refusing

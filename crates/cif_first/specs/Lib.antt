@@ -1,4 +1,0 @@
-pub mod AssociationRules
-pub mod Reading
-pub mod Role
-pub mod SpellsExtract
