@@ -1,6 +1,7 @@
 //! The canonical extract of an extract of associations, one record a date.
-ghost use Rattle.std.specs.Prelude.{◌≡◌, ◌<◌, ◌≤◌, All, false, length};
-ghost use Rattle.cif_columns.specs.Source.{source_failed};
+ghost use Rattle.std.specs.Prelude.{◌≡◌, ◌≢◌, ◌<◌, ◌≤◌, All, Err, IfErr, true, false, length};
+ghost use Rattle.cif_columns.specs.Devices.{OneError};
+ghost use Rattle.cif_columns.specs.Source.{reader_of, source_failed};
 ghost use Rattle.cif_columns.specs.declared.line_reader.TheConstants.{MAX_LINES};
 ghost use Rattle.cif_tool.specs.Daily.{IsWithin};
 
@@ -34,6 +35,13 @@ pub fn normalise<R: ReadDevice, W: WriteDevice>(
 ) -> Result<Counts, Fault>
     requires within { max_lines ≤ MAX_LINES }
     requires going { source_failed source.old ≡ false }
+    ensures unwritten { result ≢ Err Fault.Write → IfErr result (λ fault. sink.new ≡ sink.old) }
+    ensures failed { result ≡ Err Fault.Read → source_failed source.new ≡ true }
+    ensures erred { result ≡ Err Fault.Read
+        → OneError (R.read_errors (reader_of source.old)) (R.read_errors (reader_of source.new)) }
+    ensures fine { result ≢ Err Fault.Read → source_failed source.new ≡ false }
+    ensures no_errors { result ≢ Err Fault.Read
+        → R.read_errors (reader_of source.new) ≡ R.read_errors (reader_of source.old) }
 {
     let extract = read_extract(alloc, source, max_lines)?;
     let header = &extract.header;
@@ -47,6 +55,8 @@ pub fn normalise<R: ReadDevice, W: WriteDevice>(
 /// Why there is no plan of records, as a fault of the extract.
 fn daily_fault(associations: &[Association], fault: DailyFault) -> Fault
     requires { IsWithin (length associations.now) fault }
+    ensures read { result ≢ Fault.Read }
+    ensures write { result ≢ Fault.Write }
 {
     match fault {
         DailyFault::Clash { member, day } => {
@@ -63,6 +73,7 @@ fn write_plan<W: WriteDevice>(
     sink: &mut Sink<W>,
 ) -> Result<Counts, Fault>
     requires { All (λ item. item.source < length extract.now.associations.items) plan.now }
+    ensures { IfErr result (λ fault. fault ≡ Fault.Write) }
 {
     write_head(&extract.header, sink)?;
     for item in plan {
