@@ -5,7 +5,9 @@ pub mod DailyTelling
 pub mod DailyWhole
 pub mod FirstFault
 pub mod HelpNotEntered
+pub mod Normalising
 pub mod OwnSubcommand
 pub mod ReadFaults
 pub mod ReadingLaws
 pub mod Refusing
+pub mod Writing

@@ -120,8 +120,8 @@ module _ (max : ℕ) (lines : List (List ℕ)) (line : List ℕ) (is_line : IsLi
             middle = h.read.middle;
             last = line;
             parts = ap (λ ls. ls ++ line ∷ []) h.read.parts;
-            header = rw g.1 h.read.header;
-            associations = rw g.1 h.read.associations;
+            first = rw g.1 h.read.header;
+            between = rw g.1 h.read.associations;
             trailer = (identity-kind_in line Zz kind, (tt, tt));
           };
           place = place_from-more start lines line ∙ rw kind;

@@ -1,8 +1,10 @@
 pub mod AssociationRules
 pub mod CommandLine
 pub mod Daily
+pub mod ExtractText
 pub mod Job
 pub mod JobFault
+pub mod Normalised
 pub mod Planned
 pub mod Reading
 pub mod Role

@@ -29,7 +29,7 @@ pub record IsInside (lines : List (List ℕ)) (extract : Extract) : Type 0 where
 
 -- the whole extract
 pub record IsEnded (lines : List (List ℕ)) (extract : Extract) : Type 0 where
-  pub spelled : SpellsExtract lines extract
+  pub spelled : SpellsExtract lines extract.header extract.associations.items
   pub place : place_from start lines ≡ ended
 
 -- what the lines so far came to

@@ -1,16 +1,21 @@
 //! The canonical extract of an extract of associations, one record a date.
-ghost use Rattle.std.specs.Prelude.{◌≡◌, ◌≢◌, ◌<◌, ◌≤◌, All, Err, IfErr, true, false, length};
-ghost use Rattle.cif_columns.specs.Devices.{OneError};
+ghost use Rattle.std.specs.Prelude.{◌≡◌, ◌≢◌, ◌≤◌, ◌↔◌, ◌∷◌, [], Err, IfErr, IfOk, IfSome, IsErr, IsTrue};
+ghost use Rattle.std.specs.Prelude.{ℕ, All, OnErr, OnOk, false, true, length};
+ghost use Rattle.std.specs.Io.KnownBytes.{Appends};
+ghost use Rattle.cif_columns.specs.Devices.{OneError, TellsErrors};
+ghost use Rattle.cif_columns.specs.Sink.{AppendsFront, sink_failed, writer_of};
 ghost use Rattle.cif_columns.specs.Source.{reader_of, source_failed};
 ghost use Rattle.cif_columns.specs.declared.line_reader.TheConstants.{MAX_LINES};
-ghost use Rattle.cif_tool.specs.Daily.{IsWithin};
+ghost use Rattle.cif_tool.specs.Daily.{HasBody, IsDailyFault, IsWithin, told_by};
+ghost use Rattle.cif_tool.specs.ExtractText.{entries_text, told_text};
+ghost use Rattle.cif_tool.specs.Normalised.{HasWritten, HasWrittenFront, IsClashFault};
+ghost use Rattle.cif_tool.specs.Normalised.{IsNormaliseFault, said_by};
 
 use crate::daily::{DailyFault, OneDayRecord, daily_records};
-use crate::extract::Extract;
 use crate::reading::read_extract;
 use cif_columns::{DaysRun, ReadDevice, Sink, Source, WriteDevice, WriteFault};
 use cif_extract::{Clash, Fault, write_association, write_head, write_trailer};
-use cif_records::Association;
+use cif_records::{AssocKey, Association, Header};
 use std::alloc::Global;
 
 /// How many records were written, by kind.
@@ -35,26 +40,48 @@ pub fn normalise<R: ReadDevice, W: WriteDevice>(
 ) -> Result<Counts, Fault>
     requires within { max_lines ≤ MAX_LINES }
     requires going { source_failed source.old ≡ false }
+    ensures ok { IfSome (R.remaining (reader_of source.old)) (λ bytes. IfOk result
+        (HasWritten ⟦<AssocKey as Ord>⟧.cmp max_lines bytes
+        (W.contents (writer_of sink.old)) (W.contents (writer_of sink.new)))) }
+    ensures fault { IfSome (R.remaining (reader_of source.old)) (λ bytes. IfErr result
+        (IsNormaliseFault ⟦<AssocKey as Ord>⟧.cmp max_lines bytes)) }
+
+    // Nothing is written where the input is at fault, and a front of the output where the sink is.
     ensures unwritten { result ≢ Err Fault.Write → IfErr result (λ fault. sink.new ≡ sink.old) }
+    ensures front { result ≡ Err Fault.Write → IfSome (R.remaining (reader_of source.old)) (λ bytes.
+        HasWrittenFront ⟦<AssocKey as Ord>⟧.cmp max_lines bytes
+        (W.contents (writer_of sink.old)) (W.contents (writer_of sink.new))) }
+
+    // Read comes where the source has failed, and Write where the sink has.
     ensures failed { result ≡ Err Fault.Read → source_failed source.new ≡ true }
     ensures erred { result ≡ Err Fault.Read
         → OneError (R.read_errors (reader_of source.old)) (R.read_errors (reader_of source.new)) }
     ensures fine { result ≢ Err Fault.Read → source_failed source.new ≡ false }
     ensures no_errors { result ≢ Err Fault.Read
         → R.read_errors (reader_of source.new) ≡ R.read_errors (reader_of source.old) }
+    ensures untouched { IsTrue (sink_failed sink.old) → sink.new ≡ sink.old }
+    ensures sink_failed { result ≡ Err Fault.Write → sink_failed sink.new ≡ true }
+    ensures sink_fine { IfOk result (λ _. sink_failed sink.new ≡ false) }
+    ensures write_erred { sink_failed sink.old ≡ false → result ≡ Err Fault.Write
+        → OneError (W.write_errors (writer_of sink.old)) (W.write_errors (writer_of sink.new)) }
+    ensures no_write_errors { result ≢ Err Fault.Write
+        → W.write_errors (writer_of sink.new) ≡ W.write_errors (writer_of sink.old) }
 {
     let extract = read_extract(alloc, source, max_lines)?;
     let header = &extract.header;
-    let entries = extract.associations.as_slice();
-    match daily_records(alloc, entries, header.first, header.last) {
-        Ok(plan) => write_plan(&extract, plan.as_slice(), sink),
-        Err(fault) => Err(daily_fault(entries, fault)),
+    let associations = extract.associations.as_slice();
+    match daily_records(alloc, associations, header.first, header.last) {
+        Ok(plan) => Ok(write_plan(header, associations, plan.as_slice(), sink)?),
+        Err(fault) => Err(daily_fault(associations, fault)),
     }
 }
 
 /// Why there is no plan of records, as a fault of the extract.
 fn daily_fault(associations: &[Association], fault: DailyFault) -> Fault
     requires { IsWithin (length associations.now) fault }
+    ensures clash { (first last : ℕ)
+        → IsDailyFault ⟦<AssocKey as Ord>⟧.cmp (said_by associations.now) first last fault
+        → IsClashFault ⟦<AssocKey as Ord>⟧.cmp associations.now first last result }
     ensures read { result ≢ Fault.Read }
     ensures write { result ≢ Fault.Write }
 {
@@ -68,17 +95,28 @@ fn daily_fault(associations: &[Association], fault: DailyFault) -> Fault
 
 /// Writes the header, the planned records and the trailer.
 fn write_plan<W: WriteDevice>(
-    extract: &Extract,
+    header: &Header,
+    associations: &[Association],
     plan: &[OneDayRecord],
     sink: &mut Sink<W>,
-) -> Result<Counts, Fault>
-    requires { All (λ item. item.source < length extract.now.associations.items) plan.now }
-    ensures { IfErr result (λ fault. fault ≡ Fault.Write) }
+) -> Result<Counts, WriteFault>
+    requires { All (λ item. HasBody (said_by associations.now) item.source) plan.now }
+    ensures ok { OnOk result (Appends (W.contents (writer_of sink.old))
+        (W.contents (writer_of sink.new))
+        (told_text header.now (told_by (said_by associations.now) plan.now))) }
+    ensures err { OnErr result (AppendsFront (W.contents (writer_of sink.old))
+        (W.contents (writer_of sink.new))
+        (told_text header.now (told_by (said_by associations.now) plan.now))) }
+    ensures counts { IfOk result (λ counts. (counts.tiplocs ≡ 0)
+        × (counts.associations ≡ length plan.now) × (counts.schedules ≡ 0)) }
+    ensures failed { IsTrue (sink_failed sink.new) ↔ IsErr result }
+    ensures going { OnOk result (sink_failed sink.old ≡ false) }
+    ensures errors { sink_failed sink.old ≡ false → TellsErrors (W.write_errors (writer_of sink.old))
+        (W.write_errors (writer_of sink.new)) result }
+    ensures untouched { IsTrue (sink_failed sink.old) → sink.new ≡ sink.old }
 {
-    write_head(&extract.header, sink)?;
-    for item in plan {
-        write_item(extract, *item, sink)?;
-    }
+    write_head(header, sink)?;
+    write_items(associations, plan, sink)?;
     write_trailer(sink)?;
     Ok(Counts {
         tiplocs: 0,
@@ -87,18 +125,51 @@ fn write_plan<W: WriteDevice>(
     })
 }
 
+/// Writes the planned records.
+fn write_items<W: WriteDevice>(
+    associations: &[Association],
+    plan: &[OneDayRecord],
+    sink: &mut Sink<W>,
+) -> Result<(), WriteFault>
+    requires sources { All (λ item. HasBody (said_by associations.now) item.source) plan.now }
+    requires going { sink_failed sink.old ≡ false }
+    ensures ok { OnOk result (Appends (W.contents (writer_of sink.old))
+        (W.contents (writer_of sink.new))
+        (entries_text (told_by (said_by associations.now) plan.now))) }
+    ensures err { OnErr result (AppendsFront (W.contents (writer_of sink.old))
+        (W.contents (writer_of sink.new))
+        (entries_text (told_by (said_by associations.now) plan.now))) }
+    ensures failed { IsTrue (sink_failed sink.new) ↔ IsErr result }
+    ensures errors { TellsErrors (W.write_errors (writer_of sink.old))
+        (W.write_errors (writer_of sink.new)) result }
+{
+    for item in plan {
+        write_item(associations, *item, sink)?;
+    }
+    Ok(())
+}
+
 /// Writes the permanent record of one day.
 fn write_item<W: WriteDevice>(
-    extract: &Extract,
+    associations: &[Association],
     item: OneDayRecord,
     sink: &mut Sink<W>,
 ) -> Result<(), WriteFault>
-    requires { item.source < length extract.now.associations.items }
+    requires { HasBody (said_by associations.now) item.source }
+    ensures ok { OnOk result (Appends (W.contents (writer_of sink.old))
+        (W.contents (writer_of sink.new))
+        (entries_text (told_by (said_by associations.now) (item ∷ [])))) }
+    ensures err { OnErr result (AppendsFront (W.contents (writer_of sink.old))
+        (W.contents (writer_of sink.new))
+        (entries_text (told_by (said_by associations.now) (item ∷ [])))) }
+    ensures failed { IsTrue (sink_failed sink.new) ↔ IsErr result }
+    ensures errors { sink_failed sink.old ≡ false → TellsErrors (W.write_errors (writer_of sink.old))
+        (W.write_errors (writer_of sink.new)) result }
 {
-    let association = &extract.associations[item.source];
+    let association = &associations[item.source];
     let days = DaysRun::only(item.day.weekday());
     match &association.body {
         Some(body) => write_association(&association.key, body, item.day, item.day, days, sink),
-        None => Ok(()),
+        None => unreachable!(),
     }
 }

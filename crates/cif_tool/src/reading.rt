@@ -91,7 +91,8 @@ impl Reading {
     /// The extract, where these are all lines.
     fn finished(self, lines: u64) -> Result<Extract, Fault>
         requires { lines < 2 ^ 32 }
-        ensures ok { IfOk result (λ extract. (max : ℕ) (ls : List (List ℕ)) → IsRead max ls self → SpellsExtract ls extract) }
+        ensures ok { IfOk result (λ extract. (max : ℕ) (ls : List (List ℕ)) → IsRead max ls self
+            → SpellsExtract ls extract.header extract.associations.items) }
         ensures truncated { IfErr result (λ fault. (fault ≡ Fault.Refused (lines + 1) Refusal.Truncated) × IsUnended self) }
     {
         match self {
@@ -192,9 +193,11 @@ pub fn read_extract<R: ReadDevice>(
     requires within { max_lines ≤ MAX_LINES }
     requires going { source_failed source.old ≡ false }
     ensures ok { IfSome (R.remaining (reader_of source.old)) (λ bytes.
-        IfOk result (SpellBytes max_lines bytes)) }
+        IfOk result (λ extract.
+        SpellBytes max_lines bytes extract.header extract.associations.items)) }
     ensures fault { IfSome (R.remaining (reader_of source.old)) (λ bytes.
         IfErr result (IsReadFault max_lines bytes)) }
+    ensures never_write { result ≢ Err Fault.Write }
     ensures failed { result ≡ Err Fault.Read → source_failed source.new ≡ true }
     ensures erred { result ≡ Err Fault.Read
         → OneError (R.read_errors (reader_of source.old)) (R.read_errors (reader_of source.new)) }
