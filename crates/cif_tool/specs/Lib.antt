@@ -5,6 +5,7 @@ pub mod Job
 pub mod JobFault
 pub mod Planned
 pub mod Reading
+pub mod Report
 pub mod Role
 pub mod SpellsExtract
 pub mod Status
