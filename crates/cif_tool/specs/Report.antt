@@ -9,7 +9,8 @@ use Rattle.cif_columns.specs.declared.refusal.Refusal.TheVariants.{Truncated, To
 use Rattle.cif_extract.specs.declared.clash.Clash.{Clash}
 use Rattle.cif_extract.specs.declared.clash.Clash.TheVariants.{Association, Train}
 use Rattle.cif_extract.specs.declared.fault.Fault.{Fault}
-use Rattle.cif_extract.specs.declared.fault.Fault.TheVariants.{Refused, Ambiguous, WindowsDiffer, OutsideWindow, WindowReversed, Read, Write, Memory}
+use Rattle.cif_extract.specs.declared.fault.Fault.TheVariants.{Refused, Ambiguous, WindowsDiffer, OutsideWindow, WindowReversed}
+use Rattle.cif_extract.specs.declared.fault.Fault.TheVariants.{Read, Write, Memory}
 use Rattle.cif_records.specs.declared.assoc_key.AssocKey.{AssocKey}
 
 -- the name of a refusal
