@@ -7,6 +7,7 @@ pub mod JobFault
 pub mod Normalised
 pub mod Planned
 pub mod Reading
+pub mod Report
 pub mod Role
 pub mod SpellsExtract
 pub mod Status

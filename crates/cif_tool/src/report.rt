@@ -1,60 +1,141 @@
 //! The lines that name faults.
+ghost use Rattle.std.specs.Prelude.{◌≡◌, ◌+◌, ◌≤◌, ◌++◌, ◌↔◌, length, false};
+ghost use Rattle.std.specs.Prelude.{IsTrue, IsErr, OnOk, OnErr};
+ghost use Rattle.std.specs.Io.KnownBytes.{Appends};
+ghost use Rattle.arrayvec.specs.ArrayVec.{array_vec_len};
+ghost use Rattle.cif_columns.specs.Devices.{TellsErrors};
+ghost use Rattle.cif_columns.specs.Sink.{AppendsFront, sink_failed, writer_of};
+ghost use Rattle.cif_tool.specs.Report.{fault_line, fault_text, clash_text, key_text};
+ghost use Rattle.cif_tool.specs.Report.{bracketed, name_of};
+
+use arrayvec::ArrayVec;
 use cif_columns::{Refusal, Sink, WriteDevice, WriteFault};
 use cif_extract::{Clash, Fault};
+use cif_records::AssocKey;
 use itoa::Buffer;
 
+/// The bytes of the longest line: that of associations that clash.
+const LONGEST: usize = 70;
+
 /// Appends the line that names the fault: `cif: `, what it is, and a line feed.
-pub fn report<W: WriteDevice>(fault: &Fault, sink: &mut Sink<W>) -> Result<(), WriteFault> {
+pub fn report<W: WriteDevice>(fault: &Fault, sink: &mut Sink<W>) -> Result<(), WriteFault>
+    ensures ok { OnOk result (Appends (W.contents (writer_of sink.old))
+        (W.contents (writer_of sink.new)) (fault_line fault.now)) }
+    ensures err { OnErr result (AppendsFront (W.contents (writer_of sink.old))
+        (W.contents (writer_of sink.new)) (fault_line fault.now)) }
+    ensures failed { IsTrue (sink_failed sink.new) ↔ IsErr result }
+    ensures errors { sink_failed sink.old ≡ false
+        → TellsErrors (W.write_errors (writer_of sink.old))
+        (W.write_errors (writer_of sink.new)) result }
+    ensures untouched { IsTrue (sink_failed sink.old) → sink.new ≡ sink.old }
+{
+    sink.write_all(line_of(fault).as_slice())
+}
+
+/// The line that names the fault.
+#[tactic(auto, unfolding(crate::specs::Report::fault_line))]
+fn line_of(fault: &Fault) -> ArrayVec<u8, LONGEST>
+    ensures { result.items ≡ fault_line fault.now }
+{
+    let mut line = ArrayVec::new();
+    append(&mut line, b"cif: ");
+    append_fault(&mut line, fault);
+    append(&mut line, b"\n");
+    line
+}
+
+/// Appends what the fault is.
+#[tactic(auto, unfolding(crate::specs::Report::fault_text))]
+fn append_fault(line: &mut ArrayVec<u8, LONGEST>, fault: &Fault)
+    requires { array_vec_len line.old + 64 ≤ LONGEST }
+    ensures text { line.new.items ≡ line.old.items ++ fault_text fault.now }
+    ensures len { array_vec_len line.new ≤ array_vec_len line.old + 64 }
+{
     match fault {
-        Fault::Refused { line, why } => {
-            sink.write_all(b"cif: line ")?;
-            sink.write_all(Buffer::new().format(*line).as_bytes())?;
-            sink.write_all(b": ")?;
-            sink.write_all(refusal_name(*why).as_bytes())?;
+        Fault::Refused { line: number, why } => {
+            append(line, b"line ");
+            append(line, Buffer::new().format(*number).as_bytes());
+            append(line, b": ");
+            append(line, refusal_name(*why).as_bytes());
         }
         Fault::Ambiguous(clash) => {
-            sink.write_all(b"cif: Ambiguous: ")?;
-            report_clash(clash, sink)?;
+            append(line, b"Ambiguous: ");
+            append_clash(line, clash);
         }
-        Fault::WindowsDiffer => sink.write_all(b"cif: WindowsDiffer")?,
-        Fault::OutsideWindow => sink.write_all(b"cif: OutsideWindow")?,
-        Fault::WindowReversed => sink.write_all(b"cif: WindowReversed")?,
-        Fault::Read => sink.write_all(b"cif: ReadFault")?,
-        Fault::Write => sink.write_all(b"cif: WriteFault")?,
-        Fault::Memory => sink.write_all(b"cif: Memory")?,
+        Fault::WindowsDiffer => append(line, b"WindowsDiffer"),
+        Fault::OutsideWindow => append(line, b"OutsideWindow"),
+        Fault::WindowReversed => append(line, b"WindowReversed"),
+        Fault::Read => append(line, b"ReadFault"),
+        Fault::Write => append(line, b"WriteFault"),
+        Fault::Memory => append(line, b"Memory"),
     }
-    sink.write_all(b"\n")
 }
 
-/// The key and the date of a clash, each field by its written columns.
-fn report_clash<W: WriteDevice>(clash: &Clash, sink: &mut Sink<W>) -> Result<(), WriteFault> {
-    let day = match clash {
+/// Appends what clashes, and on which date.
+#[tactic(auto, unfolding(crate::specs::Report::clash_text))]
+fn append_clash(line: &mut ArrayVec<u8, LONGEST>, clash: &Clash)
+    requires { array_vec_len line.old + 53 ≤ LONGEST }
+    ensures text { line.new.items ≡ line.old.items ++ clash_text clash.now }
+    ensures len { array_vec_len line.new ≤ array_vec_len line.old + 53 }
+{
+    match clash {
         Clash::Association(key, day) => {
-            sink.write_all(b"association ")?;
-            report_field(&key.base.write(), sink)?;
-            report_field(&key.associated.write(), sink)?;
-            report_field(&key.location.write(), sink)?;
-            report_field(&key.base_suffix.write(), sink)?;
-            report_field(&key.associated_suffix.write(), sink)?;
-            *day
+            append(line, b"association ");
+            append_key(line, key);
+            append(line, b" on ");
+            append(line, &day.to_yymmdd());
         }
         Clash::Train(uid, day) => {
-            sink.write_all(b"train ")?;
-            report_field(&uid.write(), sink)?;
-            *day
+            append(line, b"train ");
+            append_columns(line, &uid.write());
+            append(line, b" on ");
+            append(line, &day.to_yymmdd());
         }
-    };
-    sink.write_all(b" on ")?;
-    sink.write_all(&day.to_yymmdd())
+    }
 }
 
-fn report_field<W: WriteDevice>(columns: &[u8], sink: &mut Sink<W>) -> Result<(), WriteFault> {
-    sink.write_all(b"[")?;
-    sink.write_all(columns)?;
-    sink.write_all(b"]")
+/// Appends each field of the key between brackets.
+#[tactic(auto, unfolding(crate::specs::Report::key_text))]
+fn append_key(line: &mut ArrayVec<u8, LONGEST>, key: &AssocKey)
+    requires { array_vec_len line.old + 31 ≤ LONGEST }
+    ensures text { line.new.items ≡ line.old.items ++ key_text key.now }
+    ensures len { array_vec_len line.new ≡ array_vec_len line.old + 31 }
+{
+    append_columns(line, &key.base.write());
+    append_columns(line, &key.associated.write());
+    append_columns(line, &key.location.write());
+    append_columns(line, &key.base_suffix.write());
+    append_columns(line, &key.associated_suffix.write());
 }
 
-fn refusal_name(why: Refusal) -> &'static str {
+/// Appends the columns between brackets.
+fn append_columns(line: &mut ArrayVec<u8, LONGEST>, columns: &[u8])
+    requires { array_vec_len line.old + length columns.now + 2 ≤ LONGEST }
+    ensures text { line.new.items ≡ line.old.items ++ bracketed columns.now }
+    ensures len { array_vec_len line.new ≡ array_vec_len line.old + length columns.now + 2 }
+{
+    append(line, b"[");
+    append(line, columns);
+    append(line, b"]");
+}
+
+/// Appends the bytes.
+fn append(line: &mut ArrayVec<u8, LONGEST>, bytes: &[u8])
+    requires { array_vec_len line.old + length bytes.now ≤ LONGEST }
+    ensures text { line.new.items ≡ line.old.items ++ bytes.now }
+    ensures len { array_vec_len line.new ≡ array_vec_len line.old + length bytes.now }
+{
+    match line.try_extend_from_slice(bytes) {
+        Ok(()) => {}
+        Err(_) => unreachable!(),
+    }
+}
+
+/// The name of the refusal.
+fn refusal_name(why: Refusal) -> &'static str
+    ensures name { result.now ≡ name_of why }
+    ensures len { length result.now ≤ 13 }
+{
     match why {
         Refusal::BadLength => "BadLength",
         Refusal::BadByte => "BadByte",
