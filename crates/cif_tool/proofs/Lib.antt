@@ -1,3 +1,4 @@
+pub mod Accepting
 pub mod CommandBuilt
 pub mod DailyKeys
 pub mod DailySteps

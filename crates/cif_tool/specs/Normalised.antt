@@ -9,7 +9,7 @@ use Rattle.cif_calendar.specs.OneDay.{IsDayByDay}
 use Rattle.cif_columns.specs.Sink.{AppendsFront}
 use Rattle.cif_extract.specs.declared.clash.Clash.TheVariants.{Association as OfAssociation}
 use Rattle.cif_extract.specs.declared.fault.Fault.{Fault}
-use Rattle.cif_extract.specs.declared.fault.Fault.TheVariants.{Ambiguous, Write, Memory}
+use Rattle.cif_extract.specs.declared.fault.Fault.TheVariants.{Ambiguous, Read, Write, Memory}
 use Rattle.cif_records.specs.declared.assoc_body.AssocBody.{AssocBody}
 use Rattle.cif_records.specs.declared.assoc_key.AssocKey.{AssocKey}
 use Rattle.cif_records.specs.declared.association.Association.{Association}
@@ -78,3 +78,14 @@ abbrev pub IsNormaliseFault : (AssocKey → AssocKey → Ordering) → ℕ → L
 IsNormaliseFault order max bytes (Ambiguous (OfAssociation key day)) = HasFirstClash order max bytes key day
 IsNormaliseFault order max bytes Write = ⊤
 IsNormaliseFault order max bytes fault = IsReadFault max bytes fault
+
+-- a device failed, or memory was refused
+abbrev pub IsOfMachine : Fault → Type 0
+IsOfMachine Read = ⊤
+IsOfMachine Write = ⊤
+IsOfMachine Memory = ⊤
+IsOfMachine _ = ⊥
+
+-- where the bytes are accepted, the fault says nothing of them
+abbrev pub IsFairTo : ℕ → List ℕ → Fault → Type 0
+IsFairTo max bytes fault = (header : Header) (associations : List Association) → IsAccepted max bytes header associations → IsOfMachine fault

@@ -8,7 +8,7 @@ ghost use Rattle.cif_columns.specs.Source.{reader_of, source_failed};
 ghost use Rattle.cif_columns.specs.declared.line_reader.TheConstants.{MAX_LINES};
 ghost use Rattle.cif_tool.specs.Daily.{HasBody, IsDailyFault, IsWithin, told_by};
 ghost use Rattle.cif_tool.specs.ExtractText.{entries_text, told_text};
-ghost use Rattle.cif_tool.specs.Normalised.{HasWritten, HasWrittenFront, IsClashFault};
+ghost use Rattle.cif_tool.specs.Normalised.{HasWritten, HasWrittenFront, IsClashFault, IsFairTo};
 ghost use Rattle.cif_tool.specs.Normalised.{IsNormaliseFault, said_by};
 
 use crate::daily::{DailyFault, OneDayRecord, daily_records};
@@ -45,6 +45,8 @@ pub fn normalise<R: ReadDevice, W: WriteDevice>(
         (W.contents (writer_of sink.old)) (W.contents (writer_of sink.new)))) }
     ensures fault { IfSome (R.remaining (reader_of source.old)) (λ bytes. IfErr result
         (IsNormaliseFault ⟦<AssocKey as Ord>⟧.cmp max_lines bytes)) }
+    ensures fair { IfSome (R.remaining (reader_of source.old)) (λ bytes. IfErr result
+        (IsFairTo max_lines bytes)) }
 
     // Nothing is written where the input is at fault, and a front of the output where the sink is.
     ensures unwritten { result ≢ Err Fault.Write → IfErr result (λ fault. sink.new ≡ sink.old) }
