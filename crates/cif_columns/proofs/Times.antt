@@ -177,7 +177,7 @@ stands-work_time_in columns time width e =
 digit_printable : (d : ℕ) → d < 10 → IsPrintable (48 + d)
 digit_printable d h = (omega arith, omega arith)
 
-digits_printable : (n : ℕ) → n < 100 → ArePrintable (two_digits n)
+pub digits_printable : (n : ℕ) → n < 100 → ArePrintable (two_digits n)
 digits_printable n h =
     All-cons IsPrintable (48 + n / 10) ((48 + n % 10) ∷ []) (digit_printable (n / 10) (omega arith))
     (All-cons IsPrintable (48 + n % 10) [] (digit_printable (n % 10) (omega arith)) (All-nil IsPrintable))

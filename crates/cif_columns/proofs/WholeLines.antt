@@ -36,7 +36,7 @@ lines_of_parts-append [] last others = refl
 lines_of_parts-append (x ∷ []) last others = refl
 lines_of_parts-append (x ∷ y ∷ parts) last others = ap (λ l. strip_carriage_return x ∷ l) (lines_of_parts-append (y ∷ parts) last others)
 
-lines_to_feed : (front more : List ℕ)
+pub lines_to_feed : (front more : List ℕ)
     → lines (front ++ 10 ∷ more) ≡ map strip_carriage_return (slice_split is_line_feed front) ++ lines more
 lines_to_feed front more =
     let (last, others, is) = parts_some is_line_feed more in

@@ -63,21 +63,21 @@ same_association r q a b c d e f =
     }) parts
 
 -- what the table of an association says of a line, by the names of the fields
-record Parts (line : List ℕ) (r : Association) : Type 0 where
-  identity : columns 1 2 line ≡ codes "AA"
-  transaction : columns 3 3 line ≡ codes "N"
-  base : columns 4 9 line ≡ r.key.base
-  associated : columns 10 15 line ≡ r.key.associated
-  first : StandsIn (columns 16 21 line) (date r.first)
-  last : StandsIn (columns 22 27 line) (date r.last)
-  days : StandsIn (columns 28 34 line) (weekdays r.days)
-  location : StandsIn (columns 38 44 line) (text r.key.location)
-  base_suffix : StandsIn (columns 45 45 line) (text r.key.base_suffix)
-  associated_suffix : StandsIn (columns 46 46 line) (text r.key.associated_suffix)
-  letter : StandsIn (columns 80 80 line) (indicator r.letter)
-  body : SpellsBody line r.body
+pub record Parts (line : List ℕ) (r : Association) : Type 0 where
+  pub identity : columns 1 2 line ≡ codes "AA"
+  pub transaction : columns 3 3 line ≡ codes "N"
+  pub base : columns 4 9 line ≡ r.key.base
+  pub associated : columns 10 15 line ≡ r.key.associated
+  pub first : StandsIn (columns 16 21 line) (date r.first)
+  pub last : StandsIn (columns 22 27 line) (date r.last)
+  pub days : StandsIn (columns 28 34 line) (weekdays r.days)
+  pub location : StandsIn (columns 38 44 line) (text r.key.location)
+  pub base_suffix : StandsIn (columns 45 45 line) (text r.key.base_suffix)
+  pub associated_suffix : StandsIn (columns 46 46 line) (text r.key.associated_suffix)
+  pub letter : StandsIn (columns 80 80 line) (indicator r.letter)
+  pub body : SpellsBody line r.body
 
-parts_of : (line : List ℕ) (r : Association) → SpellsAssociation line r → Parts line r
+pub parts_of : (line : List ℕ) (r : Association) → SpellsAssociation line r → Parts line r
 parts_of line r p = record {
   identity = p.0;
   transaction = p.1.0;

@@ -33,7 +33,7 @@ use Rattle.cif_tool.proofs.DailyKeys.{one-key}
 use Rattle.cif_tool.proofs.DailyTelling.{told-entry}
 use Rattle.cif_tool.proofs.DailyWhole.{has-key, within-entries}
 
-abbrev terms_of : Association → Terms AssocBody
+abbrev pub terms_of : Association → Terms AssocBody
 terms_of a = record { first = a.first; last = a.last; days = a.days; letter = a.letter; body = a.body }
 
 -- the first clash is that of the key of the association which a fault names

@@ -1,5 +1,5 @@
 -- What `normalise` writes of an input, and why it writes nothing.
-use Rattle.std.specs.Prelude.{◌≡◌, ℕ, ⊤, List, Option, AllPairs, length}
+use Rattle.std.specs.Prelude.{◌≡◌, ℕ, ◌+◌, ⊤, List, Option, AllPairs, length}
 use Rattle.std.specs.Io.KnownBytes.{Appends}
 use Rattle.std.specs.declared.cmp.Ordering.{Ordering}
 use Rattle.cif_calendar.specs.Terms.{Terms}
@@ -41,7 +41,8 @@ pub record IsOneRecordADate (order : AssocKey → AssocKey → Ordering) (first 
 abbrev pub counts_of : List Association → Counts
 counts_of associations = record { tiplocs = 0; associations = length associations; schedules = 0 }
 
--- The bytes are accepted, and the text is that of the extract which says the same by one record a date; the counts are its.
+-- The bytes are accepted. The text is that of the extract which says the same by one record a date; it is accepted again, as
+-- that extract, and the counts are its.
 pub record IsNormalised (order : AssocKey → AssocKey → Ordering) (max : ℕ) (bytes text : List ℕ) (counts : Counts) : Type 0 where
   pub header : Header
   pub input : List Association
@@ -49,6 +50,7 @@ pub record IsNormalised (order : AssocKey → AssocKey → Ordering) (max : ℕ)
   pub output : List Association
   pub normal : IsOneRecordADate order header.first header.last input output
   pub plain : text ≡ extract_text header output
+  pub again : IsAccepted (length output + 2) (extract_text header output) header output
   pub counted : counts ≡ counts_of output
 
 -- the bytes are accepted, and a writer has got the whole text
