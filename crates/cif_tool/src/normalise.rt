@@ -39,7 +39,6 @@ pub fn normalise<R: ReadDevice, W: WriteDevice>(
     max_lines: u64,
 ) -> Result<Counts, Fault>
     requires within { max_lines ≤ MAX_LINES }
-    requires going { source_failed source.old ≡ false }
     ensures ok { IfSome (R.remaining (reader_of source.old)) (λ bytes. IfOk result
         (HasWritten ⟦<AssocKey as Ord>⟧.cmp max_lines bytes
         (W.contents (writer_of sink.old)) (W.contents (writer_of sink.new)))) }
@@ -56,10 +55,10 @@ pub fn normalise<R: ReadDevice, W: WriteDevice>(
 
     // Read comes where the source has failed, and Write where the sink has.
     ensures failed { result ≡ Err Fault.Read → source_failed source.new ≡ true }
-    ensures erred { result ≡ Err Fault.Read
+    ensures going { result ≢ Err Fault.Read → source_failed source.new ≡ source_failed source.old }
+    ensures erred { source_failed source.old ≡ false → result ≡ Err Fault.Read
         → OneError (R.read_errors (reader_of source.old)) (R.read_errors (reader_of source.new)) }
-    ensures fine { result ≢ Err Fault.Read → source_failed source.new ≡ false }
-    ensures no_errors { result ≢ Err Fault.Read
+    ensures fine { source_failed source.old ≡ false → result ≢ Err Fault.Read
         → R.read_errors (reader_of source.new) ≡ R.read_errors (reader_of source.old) }
     ensures untouched { IsTrue (sink_failed sink.old) → sink.new ≡ sink.old }
     ensures sink_failed { result ≡ Err Fault.Write → sink_failed sink.new ≡ true }

@@ -191,7 +191,6 @@ pub fn read_extract<R: ReadDevice>(
     max_lines: u64,
 ) -> Result<Extract, Fault>
     requires within { max_lines ≤ MAX_LINES }
-    requires going { source_failed source.old ≡ false }
     ensures ok { IfSome (R.remaining (reader_of source.old)) (λ bytes.
         IfOk result (λ extract.
         SpellBytes max_lines bytes extract.header extract.associations.items)) }
@@ -199,10 +198,10 @@ pub fn read_extract<R: ReadDevice>(
         IfErr result (IsReadFault max_lines bytes)) }
     ensures never_write { result ≢ Err Fault.Write }
     ensures failed { result ≡ Err Fault.Read → source_failed source.new ≡ true }
-    ensures erred { result ≡ Err Fault.Read
+    ensures going { result ≢ Err Fault.Read → source_failed source.new ≡ source_failed source.old }
+    ensures erred { source_failed source.old ≡ false → result ≡ Err Fault.Read
         → OneError (R.read_errors (reader_of source.old)) (R.read_errors (reader_of source.new)) }
-    ensures fine { result ≢ Err Fault.Read → source_failed source.new ≡ false }
-    ensures no_errors { result ≢ Err Fault.Read
+    ensures fine { source_failed source.old ≡ false → result ≢ Err Fault.Read
         → R.read_errors (reader_of source.new) ≡ R.read_errors (reader_of source.old) }
 {
     let mut lines = LineReader::new(max_lines);

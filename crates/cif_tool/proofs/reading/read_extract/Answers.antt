@@ -12,8 +12,8 @@ loop-line-init g c =
       [],
       reading_starts g.R.Read.remaining c.args.max_lines c.new-lines.result c.args.source.now new.held new.given new.limit new.past,
       record { read = refl; fine = none_refused-none rules c.args.max_lines },
-      c.requires.going,
       refl,
+      λ healthy. refl,
     )
 
 pub loop-line-preserved : goal.loop-line-preserved
@@ -28,7 +28,7 @@ loop-line-preserved g c =
       reading_line g.R.Read.remaining _ _ _ _ ls so_far c.next.new.self c.next.new.source line (rw is at next.answer) (next.past ∙ rw is) next.limit more,
       c.in-Ok.ensures.ok c.args.max_lines ls room read,
       next.going (λ e. cc) ∙ going,
-      next.fine so_far.reads_on going (λ e. cc) ∙ same,
+      λ healthy. next.fine so_far.reads_on (going ∙ healthy) (λ e. cc) ∙ same healthy,
     )
 
 pub returns-in-Err-with_line-clause-fault : goal.returns-in-Err-with_line-clause-fault
@@ -63,14 +63,14 @@ returns-in-Err-clause-fault g c =
     (at_fault _ c.args.max_lines ls read.fine c.in-Err.fault
     (reading_faults g.R.Read.remaining _ _ _ _ ls so_far c.next.new.self c.next.new.source c.in-Err.fault next.answer (λ e. next.undecided so_far.reads_on (ap Err e))))
 
-pub returns-in-Err-clause-fine : goal.returns-in-Err-clause-fine
-returns-in-Err-clause-fine g c ne =
+pub returns-in-Err-clause-going : goal.returns-in-Err-clause-going
+returns-in-Err-clause-going g c ne =
     let (ls, so_far, read, going, same) = c.loop-line.invariant in
     let next = c.in-Err.ensures in
     next.going (λ e. not_read c.in-Err.fault c.from.result c.from.ensures (λ is. ne (ap Err is)) (cc e)) ∙ going
 
-pub returns-in-Err-clause-no_errors : goal.returns-in-Err-clause-no_errors
-returns-in-Err-clause-no_errors g c ne =
+pub returns-in-Err-clause-fine : goal.returns-in-Err-clause-fine
+returns-in-Err-clause-fine g c healthy ne =
     let (ls, so_far, read, going, same) = c.loop-line.invariant in
     let next = c.in-Err.ensures in
-    next.fine so_far.reads_on going (λ e. not_read c.in-Err.fault c.from.result c.from.ensures (λ is. ne (ap Err is)) (cc e)) ∙ same
+    next.fine so_far.reads_on (going ∙ healthy) (λ e. not_read c.in-Err.fault c.from.result c.from.ensures (λ is. ne (ap Err is)) (cc e)) ∙ same healthy
