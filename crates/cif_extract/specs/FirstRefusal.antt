@@ -1,7 +1,7 @@
 -- The first refused line of an input, and its reason.
 use Rattle.std.specs.Prelude.{◌≡◌, ◌≢◌, ◌⊎◌, ℕ, ◌+◌, ◌<◌, ◌==◌, nat_lt, Bool, List, [], ◌∷◌, ◌++◌, length, All, take, slice_index_or, Option, None, Some}
 use Rattle.std.specs.List.{list_all}
-use Rattle.cif_columns.specs.Contents.{contents_of, DecidesNothing}
+use Rattle.cif_columns.specs.Contents.{contents_of}
 use Rattle.cif_columns.specs.GivenLines.{AreLinesToFailure}
 use Rattle.cif_columns.specs.FirstLine.{is_printable}
 use Rattle.cif_columns.specs.declared.refusal.Refusal.{Refusal}

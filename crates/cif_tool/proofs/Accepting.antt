@@ -1,12 +1,12 @@
 -- No line of an accepted extract is refused, and bytes spell at most one extract.
-use Rattle.std.proofs.Common.{◌≡◌, ℕ, zero, suc, ◌+◌, ◌<◌, ◌≤◌, List, [], ◌∷◌, ◌++◌, length, take, drop, get_or, Option, Some, None, refl, sym, ap, ◌∙◌, arith, subst}
-use Rattle.std.proofs.Common.{append_assoc, append-nil, length-append, ⊎_elim, codes}
+use Rattle.std.proofs.Common.{◌≡◌, ℕ, ◌+◌, ◌<◌, ◌≤◌, List, [], ◌∷◌, ◌++◌, length, take, drop, get_or, Option, Some, None, refl, sym, ap, ◌∙◌, arith, subst}
+use Rattle.std.proofs.Common.{append_assoc, append-nil, length-append, ⊎_elim}
 use Rattle.std.specs.Prelude.{All, IfErr, Result, Err}
 use Rattle.std.specs.declared.cmp.Ordering.{Ordering}
 use Rattle.std.proofs.Math.Seq.{get_or-append_seam, take-append_seam}
 use Rattle.std.proofs.lemmas.List.{get_or_append_left}
 use Rattle.std.proofs.lemmas.List.Elements.{All-head, All-tail}
-use Rattle.cif_columns.specs.Field.{AllStandIn, columns}
+use Rattle.cif_columns.specs.Field.{columns}
 use Rattle.cif_columns.specs.Line.{IsLine}
 use Rattle.cif_columns.specs.Contents.{contents_of}
 use Rattle.cif_columns.specs.declared.refusal.Refusal.{Refusal}
@@ -15,10 +15,8 @@ use Rattle.cif_extract.specs.FirstRefusal.{NoneRefused, IsRefusedLine, IsTruncat
 use Rattle.cif_extract.specs.declared.clash.Clash.TheVariants.{Association as OfAssociation, Train}
 use Rattle.cif_extract.specs.declared.fault.Fault.{Fault}
 use Rattle.cif_extract.specs.declared.fault.Fault.TheVariants.{Refused, Ambiguous, WindowsDiffer, OutsideWindow, WindowReversed, Read, Write, Memory}
-use Rattle.cif_records.specs.Kind.{kind_in, identity}
-use Rattle.cif_records.specs.SpellsAssociation.{SpellsAssociation}
+use Rattle.cif_records.specs.Kind.{kind_in}
 use Rattle.cif_records.specs.SpellsHeader.{SpellsHeader}
-use Rattle.cif_records.specs.Trailer.{trailer_table}
 use Rattle.cif_records.specs.declared.assoc_key.AssocKey.{AssocKey}
 use Rattle.cif_records.specs.declared.association.Association.{Association}
 use Rattle.cif_records.specs.declared.header.Header.{Header}
@@ -27,8 +25,8 @@ use Rattle.cif_records.specs.declared.kind.Kind.TheVariants.{Hd, Aa, Zz}
 use Rattle.cif_records.proofs.Associations.{one_association, no_refusal}
 use Rattle.cif_records.proofs.Headers.{one_header, no_refusal as no_header_refusal}
 use Rattle.cif_records.proofs.Identities.{only_kind}
-use Rattle.cif_tool.specs.AssociationRules.{Place, start, inside, ended, place_from, place_after, rules}
-use Rattle.cif_tool.specs.Normalised.{said_by, IsAccepted, IsNormaliseFault, IsFairTo}
+use Rattle.cif_tool.specs.AssociationRules.{Place, start, inside, place_from, place_after, rules}
+use Rattle.cif_tool.specs.Normalised.{said_by, IsNormaliseFault, IsFairTo}
 use Rattle.cif_tool.specs.Reading.{IsReadFault}
 use Rattle.cif_tool.specs.Role.{role_of, judged}
 use Rattle.cif_tool.specs.SpellsExtract.{AllSpell, SpellsExtract, SpellBytes}

@@ -1,7 +1,7 @@
 -- A plan grows by one key and one day at a time.
-use Rattle.std.proofs.Common.{◌≡◌, ℕ, zero, suc, ◌+◌, ◌<◌, ◌≤◌, List, [], ◌∷◌, ◌++◌, Option, None, Some, Bool, true, false, map, length, get_or, refl, sym, ◌∙◌, ap, subst, arith}
+use Rattle.std.proofs.Common.{◌≡◌, ℕ, zero, suc, ◌+◌, ◌<◌, ◌≤◌, List, [], ◌∷◌, ◌++◌, Option, None, Some, true, false, map, length, get_or, refl, sym, ◌∙◌, ap, subst, arith}
 use Rattle.std.proofs.Common.{⊎_elim, inl, inr}
-use Rattle.std.specs.Prelude.{◌⊎◌, ◌↔◌, Contains, AllPairs, replicate, slice_set, slice_get, IsSome, IsNone, filter_map, option_map}
+use Rattle.std.specs.Prelude.{◌⊎◌, ◌↔◌, Contains, AllPairs, replicate, slice_set, IsSome, IsNone, option_map}
 use Rattle.std.specs.List.{cons_option}
 use Rattle.std.specs.Option.{is_some}
 use Rattle.std.specs.declared.cmp.Ordering.{Ordering}
@@ -11,7 +11,7 @@ use Rattle.std.proofs.lemmas.Option.{same_Some}
 use Rattle.std.proofs.lemmas.List.Elements.{All-nil, All-push, All-weaker, All-contains_itself, Contains-push_cases, filter_map-append, Contains-append_left, Contains-append_right, Contains-append_cases, Contains-get_or}
 use Rattle.std.proofs.lemmas.List.Quantifiers.{all_pairs_push}
 use Rattle.cif_columns.specs.Day.{weekday_of}
-use Rattle.cif_columns.specs.DaysRun.{RunsOn, only_on}
+use Rattle.cif_columns.specs.DaysRun.{RunsOn}
 use Rattle.cif_columns.specs.declared.stp.Stp.TheVariants.{C}
 use Rattle.cif_calendar.specs.Terms.{Terms, AreLawful}
 use Rattle.cif_calendar.specs.Wins.{Wins}
@@ -22,7 +22,7 @@ use Rattle.cif_calendar.specs.Source.{IsChosen, IsWinnerAt}
 use Rattle.cif_calendar.specs.OneDay.{IsOneDay}
 use Rattle.cif_calendar.proofs.Sets.{Wins-same}
 use Rattle.cif_calendar.proofs.Positions.{AreLawful-of_key, positions-records, clear-of_key, clash-of_key, source-of_key, terms_at-keyed}
-use Rattle.cif_calendar.proofs.Telling.{Tells, IsDoneToo, tells-skip, tells-push}
+use Rattle.cif_calendar.proofs.Telling.{Tells, tells-skip, tells-push}
 use Rattle.cif_tool.specs.declared.daily.OneDayRecord.{OneDayRecord}
 use Rattle.cif_tool.specs.Daily.{one_day, told, told_by, IsBefore, HasBody}
 use Rattle.cif_tool.specs.declared.daily.DailyFault.{DailyFault}

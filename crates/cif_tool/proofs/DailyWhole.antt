@@ -1,7 +1,7 @@
 -- A plan is made key by key, over positions in the order of their keys.
-use Rattle.std.proofs.Common.{◌≡◌, ℕ, zero, suc, ◌+◌, ◌<◌, ◌≤◌, List, [], ◌∷◌, ◌++◌, Option, Some, None, Bool, true, false, map, take, drop, length, get_or, refl, sym, ◌∙◌, ap, subst, arith}
-use Rattle.std.proofs.Common.{⊎_elim, inl, inr}
-use Rattle.std.specs.Prelude.{◌⊎◌, Contains, All, slice_get, option_map}
+use Rattle.std.proofs.Common.{◌≡◌, ℕ, zero, suc, ◌+◌, ◌<◌, ◌≤◌, List, [], ◌++◌, Option, Some, None, false, map, take, drop, length, get_or, refl, sym, ◌∙◌, ap, subst, arith}
+use Rattle.std.proofs.Common.{⊎_elim}
+use Rattle.std.specs.Prelude.{Contains, All, slice_get, option_map}
 use Rattle.std.specs.List.{range_with_len}
 use Rattle.std.specs.List.Sorted.{IsSortedBy}
 use Rattle.std.specs.Option.{option_cmp}
@@ -10,11 +10,11 @@ use Rattle.std.specs.Cmp.{IsTotalOrder}
 use Rattle.std.specs.Cmp.Lexicographic.{options_total}
 use Rattle.std.specs.declared.cmp.Ordering.{Ordering}
 use Rattle.std.specs.declared.cmp.Ordering.TheVariants.{Less, Equal, Greater}
-use Rattle.std.proofs.lemmas.Bool.{cases_lt, false≢true}
+use Rattle.std.proofs.lemmas.Bool.{cases_lt}
 use Rattle.std.proofs.lemmas.Option.{slice_get-map, slice_get_within}
-use Rattle.std.proofs.lemmas.List.{length-map, length-take-le}
+use Rattle.std.proofs.lemmas.List.{length-map}
 use Rattle.std.proofs.lemmas.List.FromFn.{length-range_with_len, get_or-range_with_len}
-use Rattle.std.proofs.lemmas.List.Elements.{All-weaker, All-contains, Contains-append_cases}
+use Rattle.std.proofs.lemmas.List.Elements.{All-weaker, Contains-append_cases}
 use Rattle.std.proofs.lemmas.List.Sorted.{ranks_by, sorted_far}
 use Rattle.cif_calendar.specs.Terms.{Terms}
 use Rattle.cif_calendar.specs.Clash.{IsClear}
@@ -25,7 +25,7 @@ use Rattle.cif_calendar.proofs.Winning.{terms_at}
 use Rattle.cif_tool.specs.declared.daily.OneDayRecord.{OneDayRecord}
 use Rattle.cif_tool.specs.declared.daily.DailyFault.{DailyFault}
 use Rattle.cif_tool.specs.declared.daily.DailyFault.TheVariants.{Clash, Memory}
-use Rattle.cif_tool.specs.Daily.{told_by, HasBody, IsDailyPlan, IsClashAt, IsDailyFault, IsWithin}
+use Rattle.cif_tool.specs.Daily.{told_by, HasBody, IsDailyPlan, IsDailyFault, IsWithin}
 use Rattle.cif_tool.specs.Planned.{HasKey, AnyHasKey, IsRising, IsFirstRun, IsPlanned, KeysDone, AddsKey, IsKeyFault}
 use Rattle.cif_tool.proofs.DailyKeys.{one-key, some-key, members-key, turn, order-after, not-before, rising-after, whole-after}
 use Rattle.cif_tool.proofs.DailySteps.{planned-nothing}

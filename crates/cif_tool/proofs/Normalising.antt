@@ -1,5 +1,5 @@
 -- The records that a plan tells, as associations, and what is written of them.
-use Rattle.std.proofs.Common.{◌≡◌, ℕ, zero, suc, ◌+◌, ◌<◌, ◌≤◌, true, false, replicate, List, [], ◌∷◌, ◌++◌, Option, Some, length, map, get_or, sym, ◌∙◌, ap, refl, subst, arith}
+use Rattle.std.proofs.Common.{◌≡◌, ℕ, suc, ◌+◌, ◌<◌, ◌≤◌, true, false, replicate, List, [], ◌∷◌, ◌++◌, Option, Some, length, map, sym, ◌∙◌, ap, refl, subst, arith}
 use Rattle.std.proofs.Common.{append_assoc, append-nil, length-append}
 use Rattle.std.proofs.lemmas.List.{get_or_append_left, length-map, length-set}
 use Rattle.std.proofs.lemmas.List.Elements.{All-nil, All-cons, All-head, All-tail, All-append, All-contains, All-weaker}
@@ -39,7 +39,7 @@ use Rattle.cif_records.specs.declared.association.Association.{Association}
 use Rattle.cif_records.specs.declared.header.Header.{Header}
 use Rattle.cif_tool.specs.Daily.{HasBody, IsBefore, IsDailyPlan, told_by}
 use Rattle.cif_tool.specs.ExtractText.{extract_text, told_text}
-use Rattle.cif_tool.specs.Normalised.{said_by, IsAccepted, IsOneRecordADate, IsNormalised, IsClashFault, IsNormaliseFault, HasWritten, HasWrittenFront, counts_of}
+use Rattle.cif_tool.specs.Normalised.{said_by, IsNormalised, IsClashFault, IsNormaliseFault, HasWritten, HasWrittenFront, counts_of}
 use Rattle.cif_tool.specs.SpellsExtract.{SpellBytes}
 use Rattle.cif_tool.specs.declared.daily.OneDayRecord.{OneDayRecord}
 use Rattle.cif_tool.specs.declared.normalise.Counts.{Counts}

@@ -1,18 +1,16 @@
 -- A reading that goes on with a line.
-use Rattle.std.proofs.Common.{◌≡◌, ℕ, ◌+◌, ◌<◌, List, [], ◌∷◌, ◌++◌, length, Option, Some, None, refl, sym, ap, ◌∙◌, subst}
+use Rattle.std.proofs.Common.{◌≡◌, ℕ, ◌<◌, List, [], ◌∷◌, ◌++◌, length, Option, Some, None, refl, ap, ◌∙◌}
 use Rattle.cif_columns.specs.Line.{IsLine}
-use Rattle.cif_columns.specs.Field.{AllStandIn}
-use Rattle.cif_extract.specs.FirstRefusal.{NoneRefused, refusal_of}
+use Rattle.cif_extract.specs.FirstRefusal.{NoneRefused}
 use Rattle.cif_records.specs.Kind.{kind_in}
 use Rattle.cif_records.specs.SpellsAssociation.{SpellsAssociation}
-use Rattle.cif_records.specs.Trailer.{trailer_table}
 use Rattle.cif_records.specs.declared.association.Association.{Association as AssociationRecord}
 use Rattle.cif_records.specs.declared.kind.Kind.{Kind}
 use Rattle.cif_records.specs.declared.kind.Kind.TheVariants.{Hd, Ti, Ta, Td, Aa, Bs, Bx, Lo, Li, Cr, Lt, Zz}
-use Rattle.cif_tool.specs.AssociationRules.{place_from, start, inside, ended, rules}
-use Rattle.cif_tool.specs.Reading.{IsRead, IsInside, HasRead, BeginsWith, GoesOnWith}
+use Rattle.cif_tool.specs.AssociationRules.{place_from, start, rules}
+use Rattle.cif_tool.specs.Reading.{IsRead, BeginsWith, GoesOnWith}
 use Rattle.cif_tool.specs.Role.{role_of, judged}
-use Rattle.cif_tool.specs.SpellsExtract.{AllSpell, SpellsExtract}
+use Rattle.cif_tool.specs.SpellsExtract.{AllSpell}
 use Rattle.cif_tool.specs.declared.extract.Extract.{Extract}
 use Rattle.cif_tool.specs.declared.reading.Reading.{Reading}
 use Rattle.cif_tool.specs.declared.reading.Reading.TheVariants.{Start, Inside, Ended}

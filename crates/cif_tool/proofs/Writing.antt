@@ -1,7 +1,6 @@
 -- What is written, piece by piece.
-use Rattle.std.proofs.Common.{◌≡◌, ℕ, ◌+◌, ◌<◌, List, [], ◌∷◌, ◌++◌, Option, Some, None, take, drop, length, get_or, sym, ◌∙◌, ap, refl, subst}
-use Rattle.std.proofs.Common.{append_assoc, append-nil, take-append-drop, OnOk, OnErr, Result, Ok, Err}
-use Rattle.std.specs.Prelude.{slice_get}
+use Rattle.std.proofs.Common.{◌≡◌, ℕ, ◌+◌, ◌<◌, List, [], ◌∷◌, ◌++◌, Option, Some, take, drop, length, get_or, sym, ◌∙◌, ap, refl, subst}
+use Rattle.std.proofs.Common.{append_assoc, append-nil, take-append-drop, OnErr, Result, Ok, Err}
 use Rattle.std.specs.Io.KnownBytes.{Appends}
 use Rattle.std.proofs.KnownBytes.{Appends-trans, Appends-nil}
 use Rattle.std.proofs.lemmas.Grind.{flat_map-append}
@@ -16,7 +15,7 @@ use Rattle.cif_columns.specs.Field.{plain_line}
 use Rattle.cif_columns.specs.Sink.{AppendsFront}
 use Rattle.cif_columns.specs.declared.stp.Stp.TheVariants.{P}
 use Rattle.cif_calendar.specs.Terms.{Terms}
-use Rattle.cif_calendar.specs.Keys.{keyed, IsFirstClashOf}
+use Rattle.cif_calendar.specs.Keys.{IsFirstClashOf}
 use Rattle.cif_calendar.proofs.Winning.{terms_at}
 use Rattle.cif_records.specs.Association.{association_table}
 use Rattle.cif_records.specs.Header.{header_table}
@@ -25,7 +24,7 @@ use Rattle.cif_records.specs.declared.assoc_body.AssocBody.{AssocBody}
 use Rattle.cif_records.specs.declared.assoc_key.AssocKey.{AssocKey}
 use Rattle.cif_records.specs.declared.association.Association.{Association}
 use Rattle.cif_records.specs.declared.header.Header.{Header}
-use Rattle.cif_tool.specs.Daily.{HasBody, IsClashAt, told, told_by, one_day}
+use Rattle.cif_tool.specs.Daily.{HasBody, IsClashAt, told, told_by}
 use Rattle.cif_tool.specs.ExtractText.{extract_text, line_text, entries_text, told_text}
 use Rattle.cif_tool.specs.Normalised.{said_by}
 use Rattle.cif_tool.specs.declared.daily.OneDayRecord.{OneDayRecord}

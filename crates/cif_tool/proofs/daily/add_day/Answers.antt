@@ -1,4 +1,4 @@
-use Rattle.std.proofs.Common.{List, map, sym, subst, refl, Some, None}
+use Rattle.std.proofs.Common.{List, map, sym, subst, refl}
 use Rattle.std.proofs.lemmas.List.Elements.{Contains-get_or}
 use Rattle.std.proofs.lemmas.Result.{on_ok_weaker}
 use Rattle.cif_calendar.specs.Keys.{keyed}

@@ -1,8 +1,6 @@
-use Rattle.std.proofs.Common.{◌≡◌, ◌<◌, ◌+◌, ℕ, Err, sym, subst, arith}
-use Rattle.std.specs.Prelude.{IfErr}
+use Rattle.std.proofs.Common.{◌≡◌, ◌<◌, ◌+◌, ℕ, sym, subst, arith}
 use Rattle.std.proofs.lemmas.Result.{err_from_is_err_and}
 use Rattle.cif_calendar.specs.Keys.{keyed}
-use Rattle.cif_tool.specs.Planned.{IsKeyFault}
 use Rattle.cif_tool.proofs.DailySteps.{IsKeyPlanned, key-goes_on, key-ends, key-faults}
 use Rattle.cif_tool.proofs.daily.add_key.Goals as goal
 

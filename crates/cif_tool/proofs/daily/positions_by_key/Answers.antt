@@ -1,4 +1,4 @@
-use Rattle.std.proofs.Common.{◌≡◌, ◌<◌, List, ℕ, map, length, sym, subst, ap, rules}
+use Rattle.std.proofs.Common.{◌<◌, List, ℕ, map, length, sym, subst, rules}
 use Rattle.std.specs.Prelude.{Contains, slice_get}
 use Rattle.std.specs.Option.{option_cmp}
 use Rattle.std.specs.Ordering.{is_lt}

@@ -1,4 +1,4 @@
-use Rattle.std.proofs.Common.{◌≡◌, length, ap, sym, ◌∙◌, subst}
+use Rattle.std.proofs.Common.{length, ap, sym, ◌∙◌, subst}
 use Rattle.cif_records.specs.declared.association.Association.{Association}
 use Rattle.cif_tool.specs.Daily.{IsDailyFault, IsWithin}
 use Rattle.cif_tool.proofs.Writing.{clash-key}

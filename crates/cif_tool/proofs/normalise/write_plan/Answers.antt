@@ -1,4 +1,3 @@
-use Rattle.std.proofs.Common.{◌≡◌}
 use Rattle.cif_columns.specs.Sink.{writer_of}
 use Rattle.cif_tool.specs.Daily.{told_by}
 use Rattle.cif_tool.specs.Normalised.{said_by}

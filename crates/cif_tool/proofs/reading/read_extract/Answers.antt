@@ -1,4 +1,4 @@
-use Rattle.std.proofs.Common.{◌≡◌, ◌+◌, ◌<◌, ◌∙◌, ℕ, List, length, [], ◌++◌, ◌∷◌, Err, Ok, ap, refl, arith, length-append}
+use Rattle.std.proofs.Common.{◌≡◌, ◌+◌, ◌<◌, ◌∙◌, length, [], ◌++◌, ◌∷◌, Err, Ok, ap, refl, arith}
 use Rattle.cif_columns.proofs.GivenLinesLaws.{reading_starts, reading_line, reading_ends, reading_faults}
 use Rattle.cif_columns.specs.LineReader.{given}
 use Rattle.cif_tool.specs.AssociationRules.{rules}
