@@ -1,5 +1,6 @@
 -- A plain line is a line, a line feed ends it, and what a line says fits its columns.
-use Rattle.std.proofs.Common.{◌≡◌, ℕ, ◌+◌, ◌-◌, ◌%◌, ◌<◌, ◌≤◌, Bool, true, false, cond, nat_eq, List, [], ◌∷◌, ◌++◌, length, map, replicate, drop, length-take}
+use Rattle.std.proofs.Common.{◌≡◌, ℕ, ◌+◌, ◌-◌, ◌%◌, ◌<◌, ◌≤◌, Bool, true, false, cond, nat_eq, List, [], ◌∷◌, ◌++◌, length, map, replicate}
+use Rattle.std.proofs.Common.{drop, length-take}
 use Rattle.std.proofs.Common.{get_or, refl, ap, ◌∙◌, arith, subst, length-append}
 use Rattle.std.proofs.lemmas.Bool.Decides.{nat_tests}
 use Rattle.std.proofs.lemmas.List.{length-drop, get_or_append_left, get_or-append_right}
@@ -86,7 +87,8 @@ no_feed x h = let low = h.0 in grind (arith, nat_tests)
 unsplit : (xs : List ℕ) → ArePrintable xs → slice_split is_line_feed xs ≡ xs ∷ []
 unsplit [] h = refl
 unsplit (x ∷ xs) h =
-    ap (λ b. cond b ([] ∷ slice_split is_line_feed xs) (onto_first x (slice_split is_line_feed xs))) (no_feed x (All-head IsPrintable x xs h))
+    ap (λ b. cond b ([] ∷ slice_split is_line_feed xs) (onto_first x (slice_split is_line_feed xs)))
+    (no_feed x (All-head IsPrintable x xs h))
     ∙ ap (onto_first x) (unsplit xs (All-tail IsPrintable x xs h))
 
 unstripped : (xs : List ℕ) → IsLine xs → strip_carriage_return xs ≡ xs
@@ -107,15 +109,18 @@ lines-line line more h =
 -- ---- what stands in a line fits its columns
 
 part-printable : (front part back whole : List ℕ) → whole ≡ front ++ part ++ back → ArePrintable whole → ArePrintable part
-part-printable front part back whole is h = λ k d lt. subst IsPrintable (at k d lt) (subst ArePrintable is h (length front + k) d (within k lt))
+part-printable front part back whole is h = λ k d lt. subst IsPrintable (at k d lt)
+    (subst ArePrintable is h (length front + k) d (within k lt))
   where
     within : (k : ℕ) → k < length part → length front + k < length (front ++ part ++ back)
     within k lt = omega (arith, lt, length-append (front ++ part) back, length-append front part)
 
     at : (k d : ℕ) → k < length part → get_or (front ++ part ++ back) (length front + k) d ≡ get_or part k d
     at k d lt =
-        get_or_append_left (front ++ part) back d (length front + k) (let z : length front + k < length (front ++ part) = omega (arith, lt, length-append front part) in z)
-        ∙ get_or-append_right front part (length front) (length front + k) d refl (let z : length front ≤ length front + k = omega arith in z)
+        get_or_append_left (front ++ part) back d (length front + k)
+        (let z : length front + k < length (front ++ part) = omega (arith, lt, length-append front part) in z)
+        ∙ get_or-append_right front part (length front) (length front + k) d refl (let z : length front ≤ length front + k = omega arith in
+        z)
         ∙ ap (λ i. get_or part i d) (let z : length front + k - length front ≡ k = omega arith in z)
 
 -- a text that stands in columns of a line fits so many
@@ -123,14 +128,21 @@ pub fits-text : (columns value : List ℕ) → ArePrintable columns → StandsIn
 fits-text columns value h s =
     let long : length columns ≡ length (replicate s.before 32 ++ value ++ replicate s.after 32) = ap length s.spelled in (
       (let z : length value ≤ length columns =
-          omega (arith, long, length-append (replicate s.before 32 ++ value) (replicate s.after 32), length-append (replicate s.before 32) value) in z),
+          omega (
+            arith,
+            long,
+            length-append (replicate s.before 32 ++ value) (replicate s.after 32),
+            length-append
+                (replicate s.before 32) value,
+          ) in z),
       record { trimmed = s.trimmed; printable = part-printable (replicate s.before 32) value (replicate s.after 32) columns s.spelled h },
     )
 
 -- so many columns of a line, from one to another
 module _ (from to : ℕ) (line : List ℕ) (h : IsLine line) (start : 1 ≤ from) (some : from ≤ to) (within : to ≤ 80) where
   pub length-columns : length (columns from to line) ≡ to + 1 - from
-  length-columns = let wide = h.width in omega (arith, wide, length-take (to - (from - 1)) (drop (from - 1) line), length-drop (from - 1) line)
+  length-columns = let wide = h.width in
+      omega (arith, wide, length-take (to - (from - 1)) (drop (from - 1) line), length-drop (from - 1) line)
 
   printable-columns : ArePrintable (columns from to line)
   printable-columns = All-take IsPrintable (to - (from - 1)) (drop (from - 1) line) (All-drop IsPrintable (from - 1) line h.printable)

@@ -4,7 +4,8 @@ use Rattle.cif_columns.specs.Refusal.{number_of as refusal_number}
 use Rattle.cif_columns.specs.declared.line_fault.LineFault.{LineFault}
 use Rattle.cif_columns.specs.declared.line_fault.LineFault.TheVariants as line_fault
 use Rattle.cif_extract.specs.declared.fault.Fault.{Fault}
-use Rattle.cif_extract.specs.declared.fault.Fault.TheVariants.{Refused, Ambiguous, WindowsDiffer, OutsideWindow, WindowReversed, Read, Write, Memory}
+use Rattle.cif_extract.specs.declared.fault.Fault.TheVariants.{Refused, Ambiguous, WindowsDiffer, OutsideWindow, WindowReversed, Read}
+use Rattle.cif_extract.specs.declared.fault.Fault.TheVariants.{Write, Memory}
 
 -- the number of a fault
 abbrev pub number_of : Fault → ℕ

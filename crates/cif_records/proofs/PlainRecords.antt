@@ -25,7 +25,8 @@ use Rattle.cif_records.proofs.Rows.{◌&◌}
 module _ (line : List ℕ) (is_line : IsLine line) where
   fits-header : (h : Header) → SpellsHeader line h → AllFit (header_table h.columns)
   fits-header h p =
-      (refl, printable_fact (codes "HD") refl) & fits-exactly_at 3 60 line is_line (omega arith) (omega arith) (omega arith) h.columns p.1.0 & tt & tt
+      (refl, printable_fact (codes "HD") refl) & fits-exactly_at 3 60 line is_line (omega arith) (omega arith)
+      (omega arith) h.columns p.1.0 & tt & tt
 
   fits-permanent : (r : Association) (b : AssocBody) (first last : ℕ) (days : List Bool) → SpellsAssociation line r → r.body ≡ Some b →
       IsDay first → IsDay last → length days ≡ 7 → AllFit (association_table r.key first last days P (Some b))
@@ -53,7 +54,8 @@ module _ (line : List ℕ) (is_line : IsLine line) where
       (ap ddmmyy_in (sym (ap (kept 55 60) (sym p.1.0) ∙ kept-55 line)) ∙ h.last_stands))
 
   -- the plain line of a header that a line spells
-  pub plain-header : (h : Header) → SpellsHeader line h → IsLine (plain_line (header_table h.columns)) × SpellsHeader (plain_line (header_table h.columns)) h
+  pub plain-header : (h : Header) → SpellsHeader line h → IsLine (plain_line (header_table h.columns))
+      × SpellsHeader (plain_line (header_table h.columns)) h
   plain-header h p =
       let fits = fits-header h p in
       (line-plain_line (header_table h.columns) refl fits, stands-plain_line (header_table h.columns) refl fits)

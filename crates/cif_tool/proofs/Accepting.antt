@@ -1,5 +1,6 @@
 -- No line of an accepted extract is refused, and bytes spell at most one extract.
-use Rattle.std.proofs.Common.{◌≡◌, ℕ, ◌+◌, ◌<◌, ◌≤◌, List, [], ◌∷◌, ◌++◌, length, take, drop, get_or, Option, Some, None, refl, sym, ap, ◌∙◌, arith, subst}
+use Rattle.std.proofs.Common.{◌≡◌, ℕ, ◌+◌, ◌<◌, ◌≤◌, List, [], ◌∷◌, ◌++◌, length, take, drop, get_or, Option, Some, None, refl, sym, ap}
+use Rattle.std.proofs.Common.{◌∙◌, arith, subst}
 use Rattle.std.proofs.Common.{append_assoc, append-nil, length-append, ⊎_elim}
 use Rattle.std.specs.Prelude.{All, IfErr, Result, Err}
 use Rattle.std.specs.declared.cmp.Ordering.{Ordering}
@@ -14,7 +15,8 @@ use Rattle.cif_calendar.specs.Keys.{AreClear, IsFirstClashOf}
 use Rattle.cif_extract.specs.FirstRefusal.{NoneRefused, IsRefusedLine, IsTruncated, IsFirstRefusal, refusal_of}
 use Rattle.cif_extract.specs.declared.clash.Clash.TheVariants.{Association as OfAssociation, Train}
 use Rattle.cif_extract.specs.declared.fault.Fault.{Fault}
-use Rattle.cif_extract.specs.declared.fault.Fault.TheVariants.{Refused, Ambiguous, WindowsDiffer, OutsideWindow, WindowReversed, Read, Write, Memory}
+use Rattle.cif_extract.specs.declared.fault.Fault.TheVariants.{Refused, Ambiguous, WindowsDiffer, OutsideWindow, WindowReversed, Read}
+use Rattle.cif_extract.specs.declared.fault.Fault.TheVariants.{Write, Memory}
 use Rattle.cif_records.specs.Kind.{kind_in}
 use Rattle.cif_records.specs.SpellsHeader.{SpellsHeader}
 use Rattle.cif_records.specs.declared.assoc_key.AssocKey.{AssocKey}
@@ -54,16 +56,19 @@ with_associations max front (line ∷ middle) [] room are_lines spells so_far = 
 with_associations max front (line ∷ middle) (r ∷ rs) room are_lines spells so_far =
     let kind = only_kind (columns 1 2 line) Aa spells.0.0 in
     subst (IsOpen max) (append_assoc front (line ∷ []) middle)
-    (with_associations max (front ++ line ∷ []) middle rs (let z : length (front ++ line ∷ []) + length middle ≤ max = omega (arith, room, length-append front (line ∷ [])) in z)
+    (with_associations max (front ++ line ∷ []) middle rs
+    (let z : length (front ++ line ∷ []) + length middle ≤ max = omega (arith, room, length-append front (line ∷ [])) in z)
     (All-tail IsLine line middle are_lines) spells.1
     (record {
-      fine = next_fine max front line Aa inside (All-head IsLine line middle are_lines) (let z : length front < max = omega (arith, room) in z) kind so_far.place
+      fine = next_fine max front line Aa inside (All-head IsLine line middle are_lines)
+          (let z : length front < max = omega (arith, room) in z) kind so_far.place
           (no_refusal line r spells.0) so_far.fine;
       place = place_from-more start front line ∙ ap place_after kind;
     }))
 
 -- none of the lines of an extract is refused
-spelled_fine : (max : ℕ) (lines : List (List ℕ)) (header : Header) (associations : List Association) → length lines ≤ max → All IsLine lines →
+spelled_fine : (max : ℕ) (lines : List (List ℕ)) (header : Header) (associations : List Association) → length lines ≤ max →
+    All IsLine lines →
     SpellsExtract lines header associations → NoneRefused rules max lines
 spelled_fine max lines header associations room are_lines s =
     let at = subst (All IsLine) s.parts are_lines in
@@ -71,17 +76,22 @@ spelled_fine max lines header associations room are_lines s =
     let long = length-append (s.head ∷ s.middle) (s.last ∷ []) in
     let head_kind = only_kind (columns 1 2 s.head) Hd s.first.0 in
     let opened : IsOpen max (s.head ∷ []) = record {
-      fine = next_fine max [] s.head Hd start (at 0 s.head (let z : 0 < length ((s.head ∷ s.middle) ++ s.last ∷ []) = omega (arith, long) in z))
-          (let z : 0 < max = omega (arith, few, long) in z) head_kind refl (no_header_refusal s.head header s.first) (none_refused-none rules max);
+      fine = next_fine max [] s.head Hd start
+          (at 0 s.head (let z : 0 < length ((s.head ∷ s.middle) ++ s.last ∷ []) = omega (arith, long) in z))
+          (let z : 0 < max = omega (arith, few, long) in z) head_kind refl (no_header_refusal s.head header s.first)
+          (none_refused-none rules max);
       place = ap place_after head_kind;
     } in
-    let before = with_associations max (s.head ∷ []) s.middle associations (let z : 1 + length s.middle ≤ max = omega (arith, few, long) in z)
+    let before = with_associations max (s.head ∷ []) s.middle associations (let z : 1 + length s.middle ≤ max = omega (arith, few, long) in
+    z)
     (All-tail IsLine s.head s.middle (All-front s.head s.middle s.last at)) s.between opened in
     subst (NoneRefused rules max) (sym s.parts)
-    (next_fine max (s.head ∷ s.middle) s.last Zz inside (All-last s.head s.middle s.last at) (let z : length (s.head ∷ s.middle) < max = omega (arith, few, long) in z)
+    (next_fine max (s.head ∷ s.middle) s.last Zz inside (All-last s.head s.middle s.last at)
+    (let z : length (s.head ∷ s.middle) < max = omega (arith, few, long) in z)
     (only_kind (columns 1 2 s.last) Zz s.trailer.0) before.place refl before.fine)
   where
-    All-front : (head : List ℕ) (middle : List (List ℕ)) (last : List ℕ) → All IsLine ((head ∷ middle) ++ last ∷ []) → All IsLine (head ∷ middle)
+    All-front : (head : List ℕ) (middle : List (List ℕ)) (last : List ℕ) → All IsLine ((head ∷ middle) ++ last ∷ []) →
+        All IsLine (head ∷ middle)
     All-front head middle last h = λ k d lt.
         subst IsLine (get_or_append_left (head ∷ middle) (last ∷ []) d k lt)
         (h k d (let z : k < length ((head ∷ middle) ++ last ∷ []) = omega (arith, lt, length-append (head ∷ middle) (last ∷ [])) in z))
@@ -89,7 +99,9 @@ spelled_fine max lines header associations room are_lines s =
     All-last : (head : List ℕ) (middle : List (List ℕ)) (last : List ℕ) → All IsLine ((head ∷ middle) ++ last ∷ []) → IsLine last
     All-last head middle last h =
         subst IsLine (get_or-append_seam (head ∷ middle) last [] [])
-        (h (length (head ∷ middle)) [] (let z : length (head ∷ middle) < length ((head ∷ middle) ++ last ∷ []) = omega (arith, length-append (head ∷ middle) (last ∷ [])) in z))
+        (h (length (head ∷ middle)) []
+        (let z : length (head ∷ middle) < length ((head ∷ middle) ++ last ∷ []) = omega
+        (arith, length-append (head ∷ middle) (last ∷ [])) in z))
 
 none-some : (o : Option Refusal) (why : Refusal) → o ≡ None → o ≡ Some why → ⊥
 none-some o why e h = cc
@@ -100,11 +112,13 @@ fine-refused : (max : ℕ) (contents : List (List ℕ)) (number : ℕ) (why : Re
 fine-refused max contents number why none r =
     let fine = subst (NoneRefused rules max) r.parts none in
     let long = length-append r.before (r.content ∷ r.after) in
-    let here : refusal_of rules max (take (length r.before) (r.before ++ r.content ∷ r.after)) (get_or (r.before ++ r.content ∷ r.after) (length r.before) []) ≡ None =
+    let here : refusal_of rules max (take (length r.before) (r.before ++ r.content ∷ r.after))
+    (get_or (r.before ++ r.content ∷ r.after) (length r.before) []) ≡ None =
     fine.fine (length r.before) (let z : length r.before < length (r.before ++ r.content ∷ r.after) = omega (arith, long) in z) in
     none-some _ why
     (ap (λ b. refusal_of rules max b r.content) (sym (take-append_seam r.before (r.content ∷ r.after)))
-    ∙ ap (refusal_of rules max (take (length r.before) (r.before ++ r.content ∷ r.after))) (sym (get_or-append_seam r.before r.content r.after []))
+    ∙ ap (refusal_of rules max (take (length r.before) (r.before ++ r.content ∷ r.after)))
+    (sym (get_or-append_seam r.before r.content r.after []))
     ∙ here) r.reason
 
 -- and an extract is whole
@@ -113,7 +127,8 @@ spelled-truncated : (max : ℕ) (lines : List (List ℕ)) (header : Header) (ass
 spelled-truncated max lines header associations number why s t =
     let all = subst (All (λ content. kind_in content ≡ Some Zz → ⊥)) s.parts t.no_trailer in
     let long = length-append (s.head ∷ s.middle) (s.last ∷ []) in
-    all (length (s.head ∷ s.middle)) [] (let z : length (s.head ∷ s.middle) < length ((s.head ∷ s.middle) ++ s.last ∷ []) = omega (arith, long) in z)
+    all (length (s.head ∷ s.middle)) [] (let z : length (s.head ∷ s.middle) < length ((s.head ∷ s.middle) ++ s.last ∷ []) = omega
+    (arith, long) in z)
     (ap kind_in (get_or-append_seam (s.head ∷ s.middle) s.last [] []) ∙ only_kind (columns 1 2 s.last) Zz s.trailer.0)
 
 -- bytes that spell an extract have no refused line
@@ -155,7 +170,8 @@ same_extract lines others h k xs ys e p q =
     )
 
 -- and so do bytes
-pub one_extract : (max : ℕ) (bytes : List ℕ) (h k : Header) (xs ys : List Association) → SpellBytes max bytes h xs → SpellBytes max bytes k ys →
+pub one_extract : (max : ℕ) (bytes : List ℕ) (h k : Header) (xs ys : List Association) → SpellBytes max bytes h xs →
+    SpellBytes max bytes k ys →
     (h ≡ k) × (xs ≡ ys)
 one_extract max bytes h k xs ys p q = same_extract p.lines q.lines h k xs ys (sym p.all.contents ∙ q.all.contents) p.spelled q.spelled
 
@@ -165,10 +181,12 @@ clear-clash : (order : AssocKey → AssocKey → Ordering) (xs : List Associatio
 clear-clash order xs first last key day clear c =
     let first_clash = c.clash in
     let clash = first_clash.clash in
-    clash.bodies_differ (((clear.key key).clear day first_clash.from first_clash.upto).agree clash.one clash.other clash.one_wins clash.other_wins)
+    clash.bodies_differ (((clear.key key).clear day first_clash.from first_clash.upto).agree clash.one clash.other clash.one_wins
+    clash.other_wins)
 
 -- a fault that says anything of the bytes isn't given where they are accepted
-pub fair : (order : AssocKey → AssocKey → Ordering) (max : ℕ) (bytes : List ℕ) (fault : Fault) → IsNormaliseFault order max bytes fault → IsFairTo max bytes fault
+pub fair : (order : AssocKey → AssocKey → Ordering) (max : ℕ) (bytes : List ℕ) (fault : Fault) → IsNormaliseFault order max bytes fault →
+    IsFairTo max bytes fault
 fair order max bytes (Refused number why) f h xs a = absurd (spelled-refused max bytes h xs number why a.spelled f)
 fair order max bytes (Ambiguous (OfAssociation key day)) f h xs a =
     let same = one_extract max bytes f.header h f.associations xs f.spelled a.spelled in

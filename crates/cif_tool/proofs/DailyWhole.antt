@@ -1,5 +1,6 @@
 -- A plan is made key by key, over positions in the order of their keys.
-use Rattle.std.proofs.Common.{◌≡◌, ℕ, zero, suc, ◌+◌, ◌<◌, ◌≤◌, List, [], ◌++◌, Option, Some, None, false, map, take, drop, length, get_or, refl, sym, ◌∙◌, ap, subst, arith}
+use Rattle.std.proofs.Common.{◌≡◌, ℕ, zero, suc, ◌+◌, ◌<◌, ◌≤◌, List, [], ◌++◌, Option, Some, None, false, map, take, drop, length, get_or}
+use Rattle.std.proofs.Common.{refl, sym, ◌∙◌, ap, subst, arith}
 use Rattle.std.proofs.Common.{⊎_elim}
 use Rattle.std.specs.Prelude.{Contains, All, slice_get, option_map}
 use Rattle.std.specs.List.{range_with_len}
@@ -75,7 +76,8 @@ module _ {E K B : Type 0} (key : E → K) (terms : E → Terms B) where
   rising-from_sort cmp total es positions sorted = record {
     pairs = λ i j d lt below a b p q.
         let le : i ≤ j = omega arith in
-        let far : is_lt (option_cmp cmp (slice_get (map key es) (get_or positions j d)) (slice_get (map key es) (get_or positions i d))) ≡ false =
+        let far : is_lt (option_cmp cmp (slice_get (map key es) (get_or positions j d))
+        (slice_get (map key es) (get_or positions i d))) ≡ false =
         sorted_far _ (ranks_by (options_total total) (λ i. slice_get (map key es) i)) positions sorted i j d le below in
         let there : slice_get (map key es) (get_or positions j d) ≡ Some b = key_at es (get_or positions j d) b q in
         let here : slice_get (map key es) (get_or positions i d) ≡ Some a = key_at es (get_or positions i d) a p in
@@ -204,7 +206,8 @@ module _ {K B : Type 0} (cmp : K → K → Ordering) (total : IsTotalOrder cmp) 
         IsDailyFault cmp es first last fault
     made-faults Memory f = tt
     made-faults (Clash m d) f =
-        let has = members-key cmp total same es made.before rest n run made.rising within made.order made.whole leader.0 leader.1 m f.named in
+        let has = members-key cmp total same es made.before rest n run made.rising within made.order made.whole leader.0 leader.1 m f.named
+        in
         record {
           entry = (leader.0, has.terms);
           at = has.at;

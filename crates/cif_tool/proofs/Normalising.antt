@@ -1,5 +1,6 @@
 -- The records that a plan tells, as associations, and what is written of them.
-use Rattle.std.proofs.Common.{◌≡◌, ℕ, suc, ◌+◌, ◌<◌, ◌≤◌, true, false, replicate, List, [], ◌∷◌, ◌++◌, Option, Some, length, map, sym, ◌∙◌, ap, refl, subst, arith}
+use Rattle.std.proofs.Common.{◌≡◌, ℕ, suc, ◌+◌, ◌<◌, ◌≤◌, true, false, replicate, List, [], ◌∷◌, ◌++◌, Option, Some, length, map, sym, ◌∙◌}
+use Rattle.std.proofs.Common.{ap, refl, subst, arith}
 use Rattle.std.proofs.Common.{append_assoc, append-nil, length-append}
 use Rattle.std.proofs.lemmas.List.{get_or_append_left, length-map, length-set}
 use Rattle.std.proofs.lemmas.List.Elements.{All-nil, All-cons, All-head, All-tail, All-append, All-contains, All-weaker}
@@ -32,7 +33,8 @@ use Rattle.cif_calendar.specs.Meaning.{SameMeaning}
 use Rattle.cif_calendar.specs.OneDay.{IsDayByDay}
 use Rattle.cif_extract.specs.declared.clash.Clash.TheVariants.{Association as OfAssociation, Train}
 use Rattle.cif_extract.specs.declared.fault.Fault.{Fault}
-use Rattle.cif_extract.specs.declared.fault.Fault.TheVariants.{Refused, Ambiguous, WindowsDiffer, OutsideWindow, WindowReversed, Read, Write, Memory}
+use Rattle.cif_extract.specs.declared.fault.Fault.TheVariants.{Refused, Ambiguous, WindowsDiffer, OutsideWindow, WindowReversed, Read}
+use Rattle.cif_extract.specs.declared.fault.Fault.TheVariants.{Write, Memory}
 use Rattle.cif_records.specs.declared.assoc_body.AssocBody.{AssocBody}
 use Rattle.cif_records.specs.declared.assoc_key.AssocKey.{AssocKey}
 use Rattle.cif_records.specs.declared.association.Association.{Association}
@@ -85,12 +87,23 @@ module _ (entries : List (AssocKey × Terms AssocBody)) (plain_entries : All IsP
   output_of (item ∷ plan) sources days =
       let here : HasBody entries item.source = All-head (λ (i : OneDayRecord). HasBody entries i.source) item plan sources in
       let rest =
-      output_of plan (All-tail (λ (i : OneDayRecord). HasBody entries i.source) item plan sources) (All-tail (λ (i : OneDayRecord). IsDay i.day) item plan days) in
+      output_of plan (All-tail (λ (i : OneDayRecord). HasBody entries i.source) item plan sources)
+      (All-tail (λ (i : OneDayRecord). IsDay i.day) item plan days) in
       let found = told-body entries item here in
-      let entry : IsPlainEntry here.entry = All-contains IsPlainEntry entries here.entry plain_entries (contains-at entries item.source here.entry here.at) in
+      let entry : IsPlainEntry here.entry = All-contains IsPlainEntry entries here.entry plain_entries
+      (contains-at entries item.source here.entry here.at) in
       record {
         output = association_of here.entry.0 item.day found.0 ∷ rest.output;
-        said = ap (λ others. (here.entry.0, record { first = item.day; last = item.day; days = only_on (weekday_of item.day); letter = P; body = Some found.0 }) ∷ others) rest.said
+        said = ap (λ others. (
+          here.entry.0,
+          record {
+            first = item.day;
+            last = item.day;
+            days = only_on (weekday_of item.day);
+            letter = P;
+            body = Some found.0;
+          },
+        ) ∷ others) rest.said
             ∙ sym (ap (λ o. cons_option o (told_by entries plan)) found.2);
         count = ap suc rest.count;
         plain = All-cons IsPlain (association_of here.entry.0 item.day found.0) rest.output
@@ -98,7 +111,8 @@ module _ (entries : List (AssocKey × Terms AssocBody)) (plain_entries : All IsP
       }
 
 -- what lines spell has plain lines
-plain-entries : (middle : List (List ℕ)) (associations : List Association) → AllSpell middle associations → All IsLine middle → All IsPlainEntry (said_by associations)
+plain-entries : (middle : List (List ℕ)) (associations : List Association) → AllSpell middle associations → All IsLine middle →
+    All IsPlainEntry (said_by associations)
 plain-entries [] [] spelled are_lines = All-nil IsPlainEntry
 plain-entries [] (r ∷ rs) spelled are_lines = absurd spelled
 plain-entries (line ∷ middle) [] spelled are_lines = absurd spelled
@@ -121,7 +135,8 @@ plain-lines : (output : List Association) → All IsPlain output → All IsLine 
 unfolding plain_of
 plain-lines [] plain = All-nil IsLine
 plain-lines (a ∷ output) plain =
-    All-cons IsLine (plain_line (table_of a)) (map plain_of output) (All-head IsPlain a output plain).0 (plain-lines output (All-tail IsPlain a output plain))
+    All-cons IsLine (plain_line (table_of a)) (map plain_of output) (All-head IsPlain a output plain).0
+    (plain-lines output (All-tail IsPlain a output plain))
 
 text-line : (table : List Row) (more : List ℕ) → IsLine (plain_line table) → lines (line_text table ++ more) ≡ plain_line table ∷ lines more
 unfolding line_text
@@ -148,12 +163,14 @@ spelled-text header output is_line spells plain =
     record {
       lines = (head ∷ middle) ++ last ∷ [];
       all = record {
-        contents = text-line (header_table header.columns) (flat_map (λ a. line_text (table_of a)) output ++ line_text trailer_table) is_line
+        contents = text-line (header_table header.columns) (flat_map (λ a. line_text (table_of a)) output ++ line_text trailer_table)
+            is_line
             ∙ ap (λ ls. head ∷ ls) (text-lines output (line_text trailer_table) plain
             ∙ ap (λ ls. middle ++ ls) (ap lines (sym (append-nil (line_text trailer_table))) ∙ text-line trailer_table [] plain-trailer.0));
         are_lines = All-append IsLine (head ∷ middle) (last ∷ []) (All-cons IsLine head middle is_line (plain-lines output plain))
             (All-cons IsLine last [] plain-trailer.0 (All-nil IsLine));
-        within = (let z : length ((head ∷ middle) ++ last ∷ []) ≤ length output + 2 = omega (arith, many, length-append (head ∷ middle) (last ∷ [])) in z);
+        within = (let z : length ((head ∷ middle) ++ last ∷ []) ≤ length output + 2 = omega
+            (arith, many, length-append (head ∷ middle) (last ∷ [])) in z);
       };
       spelled = record {
         head = head;
@@ -178,11 +195,14 @@ module _ (order : AssocKey → AssocKey → Ordering) (max : ℕ) (bytes : List 
       let is_line = All-head IsLine spelled.spelled.head spelled.spelled.middle are_lines in
       let upto : IsDay header.last = is_day-last spelled.spelled.head is_line header spelled.spelled.first in
       let out = output_of (said_by associations)
-      (plain-entries spelled.spelled.middle associations spelled.spelled.between (All-tail IsLine spelled.spelled.head spelled.spelled.middle are_lines))
-      plan p.sources (All-weaker (λ (item : OneDayRecord). (header.first ≤ item.day) × (item.day ≤ header.last)) (λ (item : OneDayRecord). IsDay item.day)
+      (plain-entries spelled.spelled.middle associations spelled.spelled.between
+      (All-tail IsLine spelled.spelled.head spelled.spelled.middle are_lines))
+      plan p.sources (All-weaker (λ (item : OneDayRecord). (header.first ≤ item.day) × (item.day ≤ header.last))
+      (λ (item : OneDayRecord). IsDay item.day)
       (λ item h. let within : item.day ≤ header.last = h.1 in omega (arith, within, upto)) plan p.days) in
       let own = plain-header spelled.spelled.head is_line header spelled.spelled.first in
-      let cancelled : (a : Association) → IsNone (terms_of a).body ↔ ((terms_of a).letter ≡ C) = λ a. cancelled-from_bodied a.letter a.body a.bodied in
+      let cancelled : (a : Association) →
+      IsNone (terms_of a).body ↔ ((terms_of a).letter ≡ C) = λ a. cancelled-from_bodied a.letter a.body a.bodied in
       record {
         header = header;
         input = associations;
@@ -203,19 +223,23 @@ module _ (order : AssocKey → AssocKey → Ordering) (max : ℕ) (bytes : List 
         counted = counts-are counts out.output none (many ∙ sym out.count) nothing;
       }
     where
-      counts-are : (c : Counts) (output : List Association) → c.tiplocs ≡ 0 → c.associations ≡ length output → c.schedules ≡ 0 → c ≡ counts_of output
+      counts-are : (c : Counts) (output : List Association) → c.tiplocs ≡ 0 → c.associations ≡ length output → c.schedules ≡ 0 →
+          c ≡ counts_of output
       counts-are c output x y z =
           let parts : ◌≡◌ {A = ℕ × ℕ × ℕ} (c.tiplocs, c.associations, c.schedules) (0, length output, 0) = cc in
           ap (λ v. record { tiplocs = v.0; associations = v.1; schedules = v.2 }) parts
 
   -- the whole text is written
-  pub has_written : (plan : List OneDayRecord) (counts : Counts) (old new : Option (List ℕ)) → IsDailyPlan order (said_by associations) header.first header.last plan →
+  pub has_written : (plan : List OneDayRecord) (counts : Counts) (old new : Option (List ℕ)) →
+      IsDailyPlan order (said_by associations) header.first header.last plan →
       counts.tiplocs ≡ 0 → counts.associations ≡ length plan → counts.schedules ≡ 0 →
       Appends old new (told_text header (told_by (said_by associations) plan)) → HasWritten order max bytes old new counts
-  has_written plan counts old new p none many nothing appended = (told_text header (told_by (said_by associations) plan), normalised plan counts p none many nothing, appended)
+  has_written plan counts old new p none many nothing
+      appended = (told_text header (told_by (said_by associations) plan), normalised plan counts p none many nothing, appended)
 
   -- a front of it is written
-  pub has_written_front : (plan : List OneDayRecord) (old new : Option (List ℕ)) → IsDailyPlan order (said_by associations) header.first header.last plan →
+  pub has_written_front : (plan : List OneDayRecord) (old new : Option (List ℕ)) →
+      IsDailyPlan order (said_by associations) header.first header.last plan →
       AppendsFront old new (told_text header (told_by (said_by associations) plan)) → HasWrittenFront order max bytes old new
   has_written_front plan old new p front = (
     told_text header (told_by (said_by associations) plan),
@@ -225,8 +249,10 @@ module _ (order : AssocKey → AssocKey → Ordering) (max : ℕ) (bytes : List 
   )
 
   -- what a clash says of the bytes
-  pub clash-normalise : (fault : Fault) → IsClashFault order associations header.first header.last fault → IsNormaliseFault order max bytes fault
-  clash-normalise (Ambiguous (OfAssociation key day)) h = record { header = header; associations = associations; spelled = spelled; clash = h }
+  pub clash-normalise : (fault : Fault) → IsClashFault order associations header.first header.last fault →
+      IsNormaliseFault order max bytes fault
+  clash-normalise (Ambiguous (OfAssociation key day)) h = record
+      { header = header; associations = associations; spelled = spelled; clash = h }
   clash-normalise (Ambiguous (Train uid day)) h = absurd h
   clash-normalise (Refused line why) h = absurd h
   clash-normalise WindowsDiffer h = absurd h

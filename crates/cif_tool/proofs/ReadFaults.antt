@@ -1,5 +1,6 @@
 -- Where a reading stops, and why.
-use Rattle.std.proofs.Common.{◌≡◌, ◌≢◌, ℕ, ◌+◌, Bool, true, false, nat_eq, nat_lt, List, [], ◌∷◌, ◌++◌, length, Option, Some, None, IfSome, IfErr, Result, Ok, Err, refl, sym, ap, ◌∙◌, arith, append_assoc, codes, find, inl, inr, ne_eqb}
+use Rattle.std.proofs.Common.{◌≡◌, ◌≢◌, ℕ, ◌+◌, Bool, true, false, nat_eq, nat_lt, List, [], ◌∷◌, ◌++◌, length, Option, Some, None, IfSome}
+use Rattle.std.proofs.Common.{IfErr, Result, Ok, Err, refl, sym, ap, ◌∙◌, arith, append_assoc, codes, find, inl, inr, ne_eqb}
 use Rattle.std.proofs.lemmas.Bool.Decides.{nat_tests}
 use Rattle.std.proofs.lemmas.List.Elements.{All-cons, All-nil}
 use Rattle.std.specs.List.{list_all}
@@ -41,7 +42,8 @@ no_bytes content h = at (list_all is_printable content) h
     at false h = refl
 
 -- the reason why a content is no line is its first reason
-line_reason : (rules : LineRules) (max : ℕ) (before : List (List ℕ)) (content : List ℕ) (number : ℕ) (why : Refusal) → number ≡ length before + 1
+line_reason : (rules : LineRules) (max : ℕ) (before : List (List ℕ)) (content : List ℕ) (number : ℕ) (why : Refusal) →
+    number ≡ length before + 1
     → HasLineReason max number content why → refusal_of rules max before content ≡ Some why
 unfolding refusal_of
 line_reason rules max before content number refusal.TooManyLines is h =
@@ -59,7 +61,8 @@ line_reason rules max before content number refusal.BadByte is h =
 line_reason rules max before content number _ is h = absurd h
 
 module _ (start : Option (List ℕ)) (max : ℕ) (ls : List (List ℕ)) (fine : NoneRefused rules max ls) where
-  pub at_fault : (line_fault : LineFault) → IfSome start (λ bytes. AreLinesToFault max bytes ls line_fault) → IfSome start (λ bytes. IsReadFault max bytes (of_line_fault line_fault))
+  pub at_fault : (line_fault : LineFault) → IfSome start (λ bytes. AreLinesToFault max bytes ls line_fault) →
+      IfSome start (λ bytes. IsReadFault max bytes (of_line_fault line_fault))
   at_fault (line_fault.Refused number why) h = known_so start _ _ (λ bytes r. inl (record {
     before = ls;
     content = r.content;
@@ -72,7 +75,8 @@ module _ (start : Option (List ℕ)) (max : ℕ) (ls : List (List ℕ)) (fine : 
   at_fault line_fault.Read h = known_so start _ _ (λ bytes r. record { lines = ls; given = r; fine = fine }) h
 
   -- a line that is refused
-  pub at_line : {R : Type 0} (remaining : R → Option (List ℕ)) (reader : LineReader) (source : Source R) (line : List ℕ) (number : ℕ) (why : Refusal)
+  pub at_line : {R : Type 0} (remaining : R → Option (List ℕ)) (reader : LineReader) (source : Source R) (line : List ℕ) (number : ℕ)
+      (why : Refusal)
       → IsReading remaining start max reader source (ls ++ line ∷ []) → number ≡ length ls + 1 → refusal_of rules max ls line ≡ Some why
       → IfSome start (λ bytes. IsFirstRefusal rules max bytes number why)
   at_line remaining reader source line number why so_far is reason = at start (left remaining reader source) so_far.known
@@ -90,7 +94,8 @@ module _ (start : Option (List ℕ)) (max : ℕ) (ls : List (List ℕ)) (fine : 
         reason = reason;
       })
 
-pub at_stop : (start : Option (List ℕ)) (max number : ℕ) (s : Stop) → ((why : Refusal) → s ≡ stop.Refused why → IfSome start (λ bytes. IsFirstRefusal rules max bytes number why))
+pub at_stop : (start : Option (List ℕ)) (max number : ℕ) (s : Stop) →
+    ((why : Refusal) → s ≡ stop.Refused why → IfSome start (λ bytes. IsFirstRefusal rules max bytes number why))
     → IfSome start (λ bytes. IsReadFault max bytes (stop_fault number s))
 at_stop start max number (stop.Refused why) h = h why refl
 at_stop None max number stop.Memory h = tt
@@ -109,11 +114,14 @@ IsNoTrailer content = kind_in content ≢ Some Zz
 no_trailers : (lines : List (List ℕ)) (rs : List AssociationRecord) → AllSpell lines rs → All (λ content. kind_in content ≢ Some Zz) lines
 no_trailers [] rs h = All-nil IsNoTrailer
 no_trailers (line ∷ lines) [] h = absurd h
-no_trailers (line ∷ lines) (r ∷ rs) h = All-cons IsNoTrailer line lines (λ e. let kind = association_kind line h.0.0 in cc) (no_trailers lines rs h.1)
+no_trailers (line ∷ lines) (r ∷ rs) h = All-cons IsNoTrailer line lines (λ e. let kind = association_kind line h.0.0 in
+    cc) (no_trailers lines rs h.1)
 
 -- the lines end without a trailer
-pub at_end : (start : Option (List ℕ)) (max : ℕ) (ls : List (List ℕ)) (reading : Reading) (number : ℕ) → IfSome start (λ bytes. AreAllLines max bytes ls)
-    → IsRead max ls reading → IsUnended reading → number ≡ length ls + 1 → IfSome start (λ bytes. IsFirstRefusal rules max bytes number refusal.Truncated)
+pub at_end : (start : Option (List ℕ)) (max : ℕ) (ls : List (List ℕ)) (reading : Reading) (number : ℕ) →
+    IfSome start (λ bytes. AreAllLines max bytes ls)
+    → IsRead max ls reading → IsUnended reading → number ≡ length ls + 1 →
+    IfSome start (λ bytes. IsFirstRefusal rules max bytes number refusal.Truncated)
 at_end start max ls reading number all h unended is = known_so start _ _ (λ bytes a. inr (record {
   fine = rw a.contents h.fine;
   no_trailer = rw a.contents (at reading h unended);
@@ -123,7 +131,8 @@ at_end start max ls reading number all h unended is = known_so start _ _ (λ byt
   where
     at : (reading : Reading) → IsRead max ls reading → IsUnended reading → All (λ content. kind_in content ≢ Some Zz) ls
     at Start h u = rw h.read (All-nil IsNoTrailer)
-    at (Inside extract) h u = rw h.read.parts (All-cons IsNoTrailer h.read.head h.read.middle (λ e. let kind = header_kind h.read.head h.read.header.0 in cc)
+    at (Inside extract) h u = rw h.read.parts
+        (All-cons IsNoTrailer h.read.head h.read.middle (λ e. let kind = header_kind h.read.head h.read.header.0 in cc)
         (no_trailers h.read.middle extract.associations.items h.read.associations))
     at (Ended extract) h u = absurd u
 
@@ -131,7 +140,8 @@ pub not_read : (l : LineFault) (f : Fault) → f ≡ of_line_fault l → (f ≡ 
 not_read l f is ne e = ne (is ∙ ap of_line_fault e)
 
 -- what is answered at the end of the input, where it is a fault
-pub finished_fault : (start : Option (List ℕ)) (max : ℕ) (ls : List (List ℕ)) (reading : Reading) (count : ℕ) (result : Result Extract Fault)
+pub finished_fault : (start : Option (List ℕ)) (max : ℕ) (ls : List (List ℕ)) (reading : Reading) (count : ℕ)
+    (result : Result Extract Fault)
     → IfSome start (λ bytes. AreAllLines max bytes ls) → IsRead max ls reading → count ≡ length ls
     → IfErr result (λ f. (f ≡ fault.Refused (count + 1) refusal.Truncated) × IsUnended reading)
     → IfSome start (λ bytes. IfErr result (IsReadFault max bytes))

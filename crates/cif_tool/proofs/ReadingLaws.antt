@@ -63,7 +63,8 @@ is_trailer (Some Cr) e = cc
 is_trailer (Some Lt) e = cc
 is_trailer (Some Zz) e = refl
 
-all_spell-more : (lines : List (List ℕ)) (rs : List AssociationRecord) (line : List ℕ) (r : AssociationRecord) → AllSpell lines rs → SpellsAssociation line r
+all_spell-more : (lines : List (List ℕ)) (rs : List AssociationRecord) (line : List ℕ) (r : AssociationRecord) → AllSpell lines rs →
+    SpellsAssociation line r
     → AllSpell (lines ++ line ∷ []) (rs ++ r ∷ [])
 all_spell-more [] [] line r h s = (s, tt)
 all_spell-more [] (q ∷ rs) line r h s = absurd h
@@ -71,11 +72,13 @@ all_spell-more (l ∷ lines) [] line r h s = absurd h
 all_spell-more (l ∷ lines) (q ∷ rs) line r h s = (h.0, all_spell-more lines rs line r h.1 s)
 
 module _ (max : ℕ) (lines : List (List ℕ)) (line : List ℕ) (is_line : IsLine line) (room : length lines < max) where
-  fine_more : NoneRefused rules max lines → judged (place_from start lines) (role_of (kind_in line)) line ≡ None → NoneRefused rules max (lines ++ line ∷ [])
+  fine_more : NoneRefused rules max lines → judged (place_from start lines) (role_of (kind_in line)) line ≡ None →
+      NoneRefused rules max (lines ++ line ∷ [])
   fine_more none fine = none_refused-more rules max lines line none (refusal_is_judged max lines line is_line room ∙ fine)
 
   -- the first line
-  pub begins : (after : Reading) → IsRead max lines Start → BeginsWith (role_of (kind_in line)) line after → IsRead max (lines ++ line ∷ []) after
+  pub begins : (after : Reading) → IsRead max lines Start → BeginsWith (role_of (kind_in line)) line after →
+      IsRead max (lines ++ line ∷ []) after
   begins Start h b = absurd b
   begins (Ended extract) h b = absurd b
   begins (Inside extract) h b =
@@ -94,7 +97,8 @@ module _ (max : ℕ) (lines : List (List ℕ)) (line : List ℕ) (is_line : IsLi
       }
 
   -- a line after the header and associations
-  pub goes_on : (before : Extract) (after : Reading) → IsRead max lines (Inside before) → GoesOnWith before (role_of (kind_in line)) line after → IsRead max (lines ++ line ∷ []) after
+  pub goes_on : (before : Extract) (after : Reading) → IsRead max lines (Inside before) →
+      GoesOnWith before (role_of (kind_in line)) line after → IsRead max (lines ++ line ∷ []) after
   goes_on before Start h g = absurd g
   goes_on before (Inside extract) h g =
       let kind = is_association (kind_in line) g.0 in

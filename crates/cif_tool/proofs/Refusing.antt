@@ -1,5 +1,6 @@
 -- Why a line is refused where it stands, and that none of a list is.
-use Rattle.std.proofs.Common.{◌≡◌, ℕ, ◌+◌, ◌<◌, true, nat_eq, nat_lt, List, [], ◌∷◌, ◌++◌, length, take, Option, Some, None, refl, ◌∙◌, arith, length-append, below_more, get_or}
+use Rattle.std.proofs.Common.{◌≡◌, ℕ, ◌+◌, ◌<◌, true, nat_eq, nat_lt, List, [], ◌∷◌, ◌++◌, length, take, Option, Some, None, refl, ◌∙◌}
+use Rattle.std.proofs.Common.{arith, length-append, below_more, get_or}
 use Rattle.std.proofs.lemmas.Bool.Decides.{nat_tests}
 use Rattle.std.proofs.Math.Seq.{get_or-append_seam, take-append_seam}
 use Rattle.std.proofs.lemmas.List.{get_or_append_left, take-append-le}
@@ -13,7 +14,8 @@ use Rattle.cif_records.specs.Checks.{first_of, unless}
 use Rattle.cif_records.specs.Kind.{kind_in}
 use Rattle.cif_records.specs.declared.kind.Kind.{Kind}
 use Rattle.cif_records.specs.declared.kind.Kind.TheVariants.{Hd, Ti, Ta, Td, Aa, Bs, Bx, Lo, Li, Cr, Lt, Zz}
-use Rattle.cif_tool.specs.AssociationRules.{Place, start, inside, ended, place_from, place_after, is_known, may_stand, fields_refusal, rules}
+use Rattle.cif_tool.specs.AssociationRules.{Place, start, inside, ended, place_from, place_after, is_known, may_stand, fields_refusal}
+use Rattle.cif_tool.specs.AssociationRules.{rules}
 use Rattle.cif_tool.specs.Role.{role_of, judged}
 
 -- a line that isn't one too many is refused by its kind and its fields alone
@@ -30,7 +32,8 @@ or_none None = refl
 or_none (Some x) = refl
 
 at_place : Place → List ℕ → Kind → Option Refusal
-at_place place line kind = first_of (unless (is_known kind) UnknownRecord ∷ unless (may_stand place kind) OutOfOrder ∷ fields_refusal kind line ∷ [])
+at_place place line kind = first_of
+    (unless (is_known kind) UnknownRecord ∷ unless (may_stand place kind) OutOfOrder ∷ fields_refusal kind line ∷ [])
 
 judged_at : (place : Place) (line : List ℕ) (kind : Kind) → at_place place line kind ≡ judged place (role_of (Some kind)) line
 unfolding at_place
@@ -53,7 +56,8 @@ judged_at place line Li = refl
 judged_at place line Cr = refl
 judged_at place line Lt = refl
 
-judged_kind : (before : List (List ℕ)) (line : List ℕ) (kind : Option Kind) → kind_refusal rules before line kind ≡ judged (place_from start before) (role_of kind) line
+judged_kind : (before : List (List ℕ)) (line : List ℕ) (kind : Option Kind) →
+    kind_refusal rules before line kind ≡ judged (place_from start before) (role_of kind) line
 unfolding at_place
 judged_kind before line None = refl
 judged_kind before line (Some kind) = judged_at (place_from start before) line kind
@@ -76,6 +80,7 @@ none_refused-more rules max lines line none fine = record { fine = λ k below. a
 pub none_refused-none : (rules : LineRules) (max : ℕ) → NoneRefused rules max []
 none_refused-none rules max = record { fine = λ k below. absurd (omega arith) }
 
-pub place_from-more : (place : Place) (lines : List (List ℕ)) (line : List ℕ) → place_from place (lines ++ line ∷ []) ≡ place_after (kind_in line)
+pub place_from-more : (place : Place) (lines : List (List ℕ)) (line : List ℕ) →
+    place_from place (lines ++ line ∷ []) ≡ place_after (kind_in line)
 place_from-more place [] line = refl
 place_from-more place (l ∷ lines) line = place_from-more (place_after (kind_in l)) lines line

@@ -36,7 +36,8 @@ abbrev pub terms_of : Association → Terms AssocBody
 terms_of a = record { first = a.first; last = a.last; days = a.days; letter = a.letter; body = a.body }
 
 -- the first clash is that of the key of the association which a fault names
-pub clash-key : (order : AssocKey → AssocKey → Ordering) (associations : List Association) (first last i day : ℕ) (a : Association) (k : AssocKey) →
+pub clash-key : (order : AssocKey → AssocKey → Ordering) (associations : List Association) (first last i day : ℕ) (a : Association)
+    (k : AssocKey) →
     i < length associations → a ≡ get_or associations i a → k ≡ a.key → IsClashAt order (said_by associations) first last i day →
     IsFirstClashOf order (said_by associations) first last k day
 clash-key order associations first last i day a k below is same h =
@@ -54,27 +55,35 @@ front-second a b c p q whole h =
     (p ++ h.0, h.1, ap (λ l. p ++ l) h.2 ∙ sym (append_assoc p h.0 h.1), Appends-trans a b c p h.0 whole h.3)
 
 -- what is written of an item is the plain line of what it tells
-pub item-text : (associations : List Association) (item : OneDayRecord) (a : Association) (body : AssocBody) (days : _) → item.source < length associations →
+pub item-text : (associations : List Association) (item : OneDayRecord) (a : Association) (body : AssocBody) (days : _) →
+    item.source < length associations →
     a ≡ get_or associations item.source a → a.body ≡ Some body → days ≡ only_on (weekday_of item.day) →
-    entries_text (told_by (said_by associations) (item ∷ [])) ≡ plain_line (association_table a.key item.day item.day days P (Some body)) ++ 10 ∷ []
+    entries_text (told_by (said_by associations) (item ∷ [])) ≡ plain_line
+    (association_table a.key item.day item.day days P (Some body)) ++ 10 ∷ []
 unfolding entries_text line_text
 item-text associations item a body days below is holds same =
     ap (λ o. entries_text (Rattle.std.specs.List.cons_option o []))
-    (told-entry (said_by associations) item a.key (terms_of a) body (terms_at (λ x. (x.key, terms_of x)) associations item.source a below is) holds)
+    (told-entry (said_by associations) item a.key (terms_of a) body
+    (terms_at (λ x. (x.key, terms_of x)) associations item.source a below is) holds)
     ∙ append-nil _
     ∙ ap (λ d. plain_line (association_table a.key item.day item.day d P (Some body)) ++ 10 ∷ []) (sym same)
 
 -- the position of an item is within
-pub item-within : (associations : List Association) (item : OneDayRecord) → HasBody (said_by associations) item.source → item.source < length associations
-item-within associations item h = within-entries (λ x. x.key) terms_of associations item.source (slice_get_within (said_by associations) item.source h.entry h.at)
+pub item-within : (associations : List Association) (item : OneDayRecord) → HasBody (said_by associations) item.source →
+    item.source < length associations
+item-within associations item h = within-entries (λ x. x.key) terms_of associations item.source
+    (slice_get_within (said_by associations) item.source h.entry h.at)
 
 -- the text of the records so far, and of one more item
-pub entries-more : (entries : List (AssocKey × Terms AssocBody)) (plan : List OneDayRecord) (n : ℕ) (item : OneDayRecord) → n < length plan →
+pub entries-more : (entries : List (AssocKey × Terms AssocBody)) (plan : List OneDayRecord) (n : ℕ) (item : OneDayRecord) →
+    n < length plan →
     item ≡ get_or plan n item →
-    entries_text (told_by entries (take (n + 1) plan)) ≡ entries_text (told_by entries (take n plan)) ++ entries_text (told_by entries (item ∷ []))
+    entries_text (told_by entries (take (n + 1) plan)) ≡ entries_text (told_by entries (take n plan)) ++ entries_text
+    (told_by entries (item ∷ []))
 unfolding entries_text
 entries-more entries plan n item below is =
-    ap (λ (p : List OneDayRecord). entries_text (told_by entries p)) (take_more plan n item below ∙ ap (λ (j : OneDayRecord). take n plan ++ j ∷ []) (sym is))
+    ap (λ (p : List OneDayRecord). entries_text (told_by entries p))
+    (take_more plan n item below ∙ ap (λ (j : OneDayRecord). take n plan ++ j ∷ []) (sym is))
     ∙ ap entries_text (filter_map-append (told entries) (take n plan) (item ∷ []))
     ∙ flat_map-append _ (told_by entries (take n plan)) (told_by entries (item ∷ []))
 
@@ -88,11 +97,13 @@ entries-front entries plan n =
     ∙ flat_map-append _ (told_by entries (take n plan)) (told_by entries (drop n plan))
 
 -- the text of an extract by what its associations say
-pub told-extract_text : (header : Header) (associations : List Association) → extract_text header associations ≡ told_text header (said_by associations)
+pub told-extract_text : (header : Header) (associations : List Association) →
+    extract_text header associations ≡ told_text header (said_by associations)
 unfolding entries_text
 told-extract_text header associations =
     ap (λ (between : List ℕ). line_text (header_table header.columns) ++ (between ++ line_text trailer_table))
-    (sym (flat_map-map (λ (e : AssocKey × Terms AssocBody). line_text (association_table e.0 e.1.first e.1.last e.1.days e.1.letter e.1.body))
+    (sym (flat_map-map (λ (e : AssocKey × Terms AssocBody). line_text
+    (association_table e.0 e.1.first e.1.last e.1.days e.1.letter e.1.body))
     (λ (a : Association). (a.key, terms_of a)) associations))
 
 head-text : (header : Header) → line_text (header_table header.columns) ≡ plain_line (header_table header.columns) ++ 10 ∷ []
@@ -108,18 +119,21 @@ module _ (header : Header) (entries : List (AssocKey × Terms AssocBody)) (a b c
   pub in-head : AppendsFront a b (plain_line (header_table header.columns) ++ 10 ∷ []) → AppendsFront a b (told_text header entries)
   in-head h = front-first a b _ _ (subst (AppendsFront a b) (sym (head-text header)) h)
 
-  pub in-entries : Appends a b (plain_line (header_table header.columns) ++ 10 ∷ []) → AppendsFront b c (entries_text entries) → AppendsFront a c (told_text header entries)
+  pub in-entries : Appends a b (plain_line (header_table header.columns) ++ 10 ∷ []) → AppendsFront b c (entries_text entries) →
+      AppendsFront a c (told_text header entries)
   in-entries h e = front-second a b c _ _ (subst (Appends a b) (sym (head-text header)) h) (front-first b c _ _ e)
 
   pub in-trailer : Appends a b (plain_line (header_table header.columns) ++ 10 ∷ []) → Appends b c (entries_text entries) →
       AppendsFront c d (plain_line trailer_table ++ 10 ∷ []) → AppendsFront a d (told_text header entries)
   in-trailer h e t =
-      front-second a b d _ _ (subst (Appends a b) (sym (head-text header)) h) (front-second b c d _ _ e (subst (AppendsFront c d) (sym trailer-text) t))
+      front-second a b d _ _ (subst (Appends a b) (sym (head-text header)) h)
+      (front-second b c d _ _ e (subst (AppendsFront c d) (sym trailer-text) t))
 
   pub whole : Appends a b (plain_line (header_table header.columns) ++ 10 ∷ []) → Appends b c (entries_text entries) →
       Appends c d (plain_line trailer_table ++ 10 ∷ []) → Appends a d (told_text header entries)
   whole h e t =
-      Appends-trans a b d _ _ (subst (Appends a b) (sym (head-text header)) h) (Appends-trans b c d _ _ e (subst (Appends c d) (sym trailer-text) t))
+      Appends-trans a b d _ _ (subst (Appends a b) (sym (head-text header)) h)
+      (Appends-trans b c d _ _ e (subst (Appends c d) (sym trailer-text) t))
 
 -- what holds anyway holds of an error
 pub of-error : {A E : Type 0} (r : Result A E) (Q : Type 0) → Q → OnErr r Q
@@ -134,11 +148,13 @@ entries-start a = Appends-nil a
 module _ (entries : List (AssocKey × Terms AssocBody)) (plan : List OneDayRecord) (n : ℕ) (item : OneDayRecord) (below : n < length plan)
     (is : item ≡ get_or plan n item) (a b c : Option (List ℕ)) (so_far : Appends a b (entries_text (told_by entries (take n plan)))) where
   -- one item more is written
-  pub entries-step : Appends b c (entries_text (told_by entries (item ∷ []))) → Appends a c (entries_text (told_by entries (take (n + 1) plan)))
+  pub entries-step : Appends b c (entries_text (told_by entries (item ∷ []))) →
+      Appends a c (entries_text (told_by entries (take (n + 1) plan)))
   entries-step more = subst (Appends a c) (sym (entries-more entries plan n item below is)) (Appends-trans a b c _ _ so_far more)
 
   -- a front of it is written
   pub entries-stop : AppendsFront b c (entries_text (told_by entries (item ∷ []))) → AppendsFront a c (entries_text (told_by entries plan))
   entries-stop front =
       subst (AppendsFront a c) (sym (entries-front entries plan (n + 1)))
-      (front-first a c _ _ (subst (AppendsFront a c) (sym (entries-more entries plan n item below is)) (front-second a b c _ _ so_far front)))
+      (front-first a c _ _ (subst (AppendsFront a c) (sym (entries-more entries plan n item below is))
+      (front-second a b c _ _ so_far front)))

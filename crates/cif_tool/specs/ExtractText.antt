@@ -23,7 +23,8 @@ extract_text header associations =
 
 -- the plain lines of records as their keys and terms
 unfoldable pub entries_text : List (AssocKey × Terms AssocBody) → List ℕ
-entries_text entries = flat_map (λ (e : AssocKey × Terms AssocBody). line_text (association_table e.0 e.1.first e.1.last e.1.days e.1.letter e.1.body)) entries
+entries_text entries = flat_map
+    (λ (e : AssocKey × Terms AssocBody). line_text (association_table e.0 e.1.first e.1.last e.1.days e.1.letter e.1.body)) entries
 
 -- the header, these records in their order, and the trailer
 abbrev pub told_text : Header → List (AssocKey × Terms AssocBody) → List ℕ

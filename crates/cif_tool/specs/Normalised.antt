@@ -64,7 +64,8 @@ HasWrittenFront order max bytes old new =
 
 -- the first clash of associations, by key and then day, is the one that the fault names
 abbrev pub IsClashFault : (AssocKey → AssocKey → Ordering) → List Association → ℕ → ℕ → Fault → Type 0
-IsClashFault order associations first last (Ambiguous (OfAssociation key day)) = IsFirstClashOf order (said_by associations) first last key day
+IsClashFault order associations first last (Ambiguous (OfAssociation key day)) = IsFirstClashOf order (said_by associations) first last key
+    day
 IsClashFault order associations first last Memory = ⊤
 IsClashFault order associations first last _ = ⊥
 
@@ -90,4 +91,5 @@ IsOfMachine _ = ⊥
 
 -- where the bytes are accepted, the fault says nothing of them
 abbrev pub IsFairTo : ℕ → List ℕ → Fault → Type 0
-IsFairTo max bytes fault = (header : Header) (associations : List Association) → IsAccepted max bytes header associations → IsOfMachine fault
+IsFairTo max bytes fault = (header : Header) (associations : List Association) → IsAccepted max bytes header associations →
+    IsOfMachine fault

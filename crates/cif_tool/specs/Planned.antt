@@ -1,5 +1,6 @@
 -- A plan that is made key by key and day by day: what it has so far.
-use Rattle.std.specs.Prelude.{◌≡◌, ℕ, ◌+◌, ◌<◌, ◌≤◌, ◌⊎◌, ⊤, List, ◌++◌, Some, All, AllPairs, Contains, slice_get, slice_index, length, false}
+use Rattle.std.specs.Prelude.{◌≡◌, ℕ, ◌+◌, ◌<◌, ◌≤◌, ◌⊎◌, ⊤, List, ◌++◌, Some, All, AllPairs, Contains, slice_get, slice_index, length}
+use Rattle.std.specs.Prelude.{false}
 use Rattle.std.specs.Ordering.{is_gt}
 use Rattle.std.specs.declared.cmp.Ordering.{Ordering}
 use Rattle.std.specs.declared.cmp.Ordering.TheVariants.{Less}

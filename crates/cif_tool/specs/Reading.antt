@@ -51,7 +51,8 @@ pub record IsRead (max : ℕ) (lines : List (List ℕ)) (reading : Reading) : Ty
 
 -- a header that the line spells begins an extract
 abbrev pub BeginsWith : Role → List ℕ → Reading → Type 0
-BeginsWith role line (Inside extract) = (role ≡ Header) × (header_refusal line ≡ None) × SpellsHeader line extract.header × (extract.associations.items ≡ [])
+BeginsWith role line (Inside extract) = (role ≡ Header) × (header_refusal line ≡ None) × SpellsHeader line extract.header
+    × (extract.associations.items ≡ [])
 BeginsWith role line Start = ⊥
 BeginsWith role line (Ended extract) = ⊥
 

@@ -1,7 +1,8 @@
 -- The statuses of faults.
 use Rattle.std.specs.Prelude.{ℕ}
 use Rattle.cif_extract.specs.declared.fault.Fault.{Fault}
-use Rattle.cif_extract.specs.declared.fault.Fault.TheVariants.{Refused, Ambiguous, WindowsDiffer, OutsideWindow, WindowReversed, Read, Write, Memory}
+use Rattle.cif_extract.specs.declared.fault.Fault.TheVariants.{Refused, Ambiguous, WindowsDiffer, OutsideWindow, WindowReversed, Read}
+use Rattle.cif_extract.specs.declared.fault.Fault.TheVariants.{Write, Memory}
 
 -- a refusal of the input is 3; a failed device, and want of memory, is 4
 abbrev pub status_of : Fault → ℕ

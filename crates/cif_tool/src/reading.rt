@@ -1,5 +1,6 @@
 //! Reading an extract of associations alone, line by line.
-ghost use Rattle.std.specs.Prelude.{◌≡◌, ◌≢◌, ◌+◌, ◌^◌, ◌<◌, ◌≤◌, ◌++◌, ◌∷◌, [], ℕ, List, length, true, false, Some, Err, IfOk, OnOk, IfErr, IfSome};
+ghost use Rattle.std.specs.Prelude.{◌≡◌, ◌≢◌, ◌+◌, ◌^◌, ◌<◌, ◌≤◌, ◌++◌, ◌∷◌, [], ℕ, List, length};
+ghost use Rattle.std.specs.Prelude.{true, false, Some, Err, IfOk, OnOk, IfErr, IfSome};
 ghost use Rattle.cif_columns.specs.Devices.{OneError};
 ghost use Rattle.cif_columns.specs.Source.{reader_of, source_failed};
 ghost use Rattle.cif_extract.specs.FirstRefusal.{refusal_of};

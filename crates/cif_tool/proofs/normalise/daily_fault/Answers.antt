@@ -8,4 +8,5 @@ pub returns-in-Clash-clause-clash : goal.returns-in-Clash-clause-clash
 returns-in-Clash-clause-clash c first last h =
     clash-key _ c.args.associations.now first last c.in-Clash.member c.in-Clash.day c.index-associations-member.result c.copy.result
     (subst (IsWithin (length c.args.associations.now)) c.in-Clash.is c.requires) c.index-associations-member.is
-    (c.copy.ensures ∙ ap (λ (a : Association). a.key) (sym c.index-associations-member.is)) (subst (IsDailyFault _ _ first last) c.in-Clash.is h)
+    (c.copy.ensures ∙ ap (λ (a : Association). a.key) (sym c.index-associations-member.is))
+    (subst (IsDailyFault _ _ first last) c.in-Clash.is h)

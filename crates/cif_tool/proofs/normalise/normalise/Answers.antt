@@ -15,8 +15,10 @@ returns-in_err-write_plan-in-Ok-clause-front g c e =
     let header = c.in_ok-extract.extract.header in
     let associations = c.as_slice-associations.result.now in
     known_so _ _ _ (λ bytes spelled.
-    has_written_front _ c.args.max_lines bytes header associations (subst (SpellBytes c.args.max_lines bytes header) (sym c.as_slice-associations.ensures.value) spelled)
-    c.as_slice.result.now _ _ (subst (IsDailyPlan _ (said_by associations) header.first header.last) (sym c.as_slice.ensures.value) c.in-Ok.ensures.plan)
+    has_written_front _ c.args.max_lines bytes header associations
+    (subst (SpellBytes c.args.max_lines bytes header) (sym c.as_slice-associations.ensures.value) spelled)
+    c.as_slice.result.now _ _
+    (subst (IsDailyPlan _ (said_by associations) header.first header.last) (sym c.as_slice.ensures.value) c.in-Ok.ensures.plan)
     c.in_err-write_plan-in-Ok.ensures.err) c.in_ok-extract.ensures.ok
 
 pub returns-in-Ok-clause-ok : goal.returns-in-Ok-clause-ok
@@ -25,8 +27,10 @@ returns-in-Ok-clause-ok g c =
     let associations = c.as_slice-associations.result.now in
     let counts = c.in_ok-write_plan-in-Ok.ensures.counts in
     known_so _ _ _ (λ bytes spelled.
-    has_written _ c.args.max_lines bytes header associations (subst (SpellBytes c.args.max_lines bytes header) (sym c.as_slice-associations.ensures.value) spelled)
-    c.as_slice.result.now _ _ _ (subst (IsDailyPlan _ (said_by associations) header.first header.last) (sym c.as_slice.ensures.value) c.in-Ok.ensures.plan)
+    has_written _ c.args.max_lines bytes header associations
+    (subst (SpellBytes c.args.max_lines bytes header) (sym c.as_slice-associations.ensures.value) spelled)
+    c.as_slice.result.now _ _ _
+    (subst (IsDailyPlan _ (said_by associations) header.first header.last) (sym c.as_slice.ensures.value) c.in-Ok.ensures.plan)
     counts.0 counts.1 counts.2 c.in_ok-write_plan-in-Ok.ensures.ok) c.in_ok-extract.ensures.ok
 
 pub returns-clause-fault : goal.returns-clause-fault
@@ -34,7 +38,8 @@ returns-clause-fault g c =
     let header = c.in_ok-extract.extract.header in
     let associations = c.as_slice-associations.result.now in
     known_so _ _ _ (λ bytes spelled.
-    clash-normalise _ c.args.max_lines bytes header associations (subst (SpellBytes c.args.max_lines bytes header) (sym c.as_slice-associations.ensures.value) spelled)
+    clash-normalise _ c.args.max_lines bytes header associations
+    (subst (SpellBytes c.args.max_lines bytes header) (sym c.as_slice-associations.ensures.value) spelled)
     c.daily_fault.result (c.daily_fault.ensures.clash header.first header.last c.in-Err.ensures.fault)) c.in_ok-extract.ensures.ok
 
 pub returns-in_err-extract-clause-fair : goal.returns-in_err-extract-clause-fair

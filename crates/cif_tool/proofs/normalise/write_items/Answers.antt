@@ -14,14 +14,18 @@ loop-item-init g c = record {
 pub returns-in_err-write_item-clause-err : goal.returns-in_err-write_item-clause-err
 returns-in_err-write_item-clause-err g c =
     of-error c.from_residual.result _
-    (entries-stop (said_by c.args.associations.now) c.args.plan.now c.loop-item.item-index c.item-item.result c.loop-item-test.true c.item-item.is
-    (g.W.Write.contents (writer_of c.args.sink.now)) (g.W.Write.contents (writer_of c.loop-item.sink)) (g.W.Write.contents (writer_of c.write_item.new.sink))
+    (entries-stop (said_by c.args.associations.now) c.args.plan.now c.loop-item.item-index c.item-item.result c.loop-item-test.true
+    c.item-item.is
+    (g.W.Write.contents (writer_of c.args.sink.now)) (g.W.Write.contents (writer_of c.loop-item.sink))
+    (g.W.Write.contents (writer_of c.write_item.new.sink))
     c.loop-item.invariant.written c.in_err-write_item.ensures.err)
 
 pub loop-item-preserved : goal.loop-item-preserved
 loop-item-preserved g c = record {
-  written = entries-step (said_by c.args.associations.now) c.args.plan.now c.loop-item.item-index c.item-item.result c.loop-item-test.true c.item-item.is
-      (g.W.Write.contents (writer_of c.args.sink.now)) (g.W.Write.contents (writer_of c.loop-item.sink)) (g.W.Write.contents (writer_of c.write_item.new.sink))
+  written = entries-step (said_by c.args.associations.now) c.args.plan.now c.loop-item.item-index c.item-item.result c.loop-item-test.true
+      c.item-item.is
+      (g.W.Write.contents (writer_of c.args.sink.now)) (g.W.Write.contents (writer_of c.loop-item.sink))
+      (g.W.Write.contents (writer_of c.write_item.new.sink))
       c.loop-item.invariant.written c.in_ok-write_item.ensures.ok;
   going = search rules;
   errors = c.in_ok-write_item.ensures.errors c.loop-item.invariant.going ∙ c.loop-item.invariant.errors;

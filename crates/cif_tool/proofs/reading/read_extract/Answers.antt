@@ -23,9 +23,11 @@ loop-line-preserved g c =
     let is = c.in-Ok-Some.field-0-is in
     let line = c.in-Ok-Some.line in
     let more : given c.next.new.self ≡ given c.loop-line.lines + 1 = rw is at next.counted in
-    let room : length ls < c.args.max_lines = omega (arith, more, so_far.counted, so_far.same_limit, next.limit, c.next.new.self.counted) in (
+    let room : length ls < c.args.max_lines = omega (arith, more, so_far.counted, so_far.same_limit, next.limit, c.next.new.self.counted)
+    in (
       ls ++ line ∷ [],
-      reading_line g.R.Read.remaining _ _ _ _ ls so_far c.next.new.self c.next.new.source line (rw is at next.answer) (next.past ∙ rw is) next.limit more,
+      reading_line g.R.Read.remaining _ _ _ _ ls so_far c.next.new.self c.next.new.source line (rw is at next.answer)
+          (next.past ∙ rw is) next.limit more,
       c.in-Ok.ensures.ok c.args.max_lines ls room read,
       next.going (λ e. cc) ∙ going,
       λ healthy. next.fine so_far.reads_on (going ∙ healthy) (λ e. cc) ∙ same healthy,
@@ -39,11 +41,13 @@ returns-in-Err-with_line-clause-fault g c =
     let line = c.in-Ok-Some.line in
     let more : given c.next.new.self ≡ given c.loop-line.lines + 1 = rw is at next.counted in
     let room : length ls < c.args.max_lines = omega (arith, more, so_far.counted, so_far.same_limit, next.limit, c.next.new.self.counted) in
-    let now = reading_line g.R.Read.remaining _ _ _ _ ls so_far c.next.new.self c.next.new.source line (rw is at next.answer) (next.past ∙ rw is) next.limit more in
+    let now = reading_line g.R.Read.remaining _ _ _ _ ls so_far c.next.new.self c.next.new.source line (rw is at next.answer)
+    (next.past ∙ rw is) next.limit more in
     let number : c.line_number.result ≡ length ls + 1 = omega (arith, c.line_number.ensures, more, so_far.counted) in
     rw c.at.ensures
     (at_stop _ c.args.max_lines c.line_number.result c.in-Err-with_line.stop
-    (λ why e. at_line _ c.args.max_lines ls read.fine g.R.Read.remaining c.next.new.self c.next.new.source line c.line_number.result why now number
+    (λ why e. at_line _ c.args.max_lines ls read.fine g.R.Read.remaining c.next.new.self c.next.new.source line c.line_number.result why
+    now number
     (c.in-Err-with_line.ensures.refused why (ap Err e) c.args.max_lines ls room read)))
 
 pub returns-in-Ok-None-clause-fault : goal.returns-in-Ok-None-clause-fault
@@ -53,7 +57,8 @@ returns-in-Ok-None-clause-fault g c =
     let is = c.in-Ok-None.field-0-is in
     let all = reading_ends g.R.Read.remaining _ _ _ _ ls so_far c.next.new.self c.next.new.source (rw is at next.answer) in
     let number : c.line_number-in-Ok-None.result ≡ length ls = c.line_number-in-Ok-None.ensures ∙ next.ended (ap Ok is) ∙ so_far.counted in
-    finished_fault _ c.args.max_lines ls c.loop-line.reading c.line_number-in-Ok-None.result c.finished.result all read number c.finished.ensures.truncated
+    finished_fault _ c.args.max_lines ls c.loop-line.reading c.line_number-in-Ok-None.result c.finished.result all read number
+    c.finished.ensures.truncated
 
 pub returns-in-Err-clause-fault : goal.returns-in-Err-clause-fault
 returns-in-Err-clause-fault g c =
@@ -61,7 +66,8 @@ returns-in-Err-clause-fault g c =
     let next = c.in-Err.ensures in
     rw c.from.ensures
     (at_fault _ c.args.max_lines ls read.fine c.in-Err.fault
-    (reading_faults g.R.Read.remaining _ _ _ _ ls so_far c.next.new.self c.next.new.source c.in-Err.fault next.answer (λ e. next.undecided so_far.reads_on (ap Err e))))
+    (reading_faults g.R.Read.remaining _ _ _ _ ls so_far c.next.new.self c.next.new.source c.in-Err.fault next.answer
+    (λ e. next.undecided so_far.reads_on (ap Err e))))
 
 pub returns-in-Err-clause-going : goal.returns-in-Err-clause-going
 returns-in-Err-clause-going g c ne =
@@ -73,4 +79,5 @@ pub returns-in-Err-clause-fine : goal.returns-in-Err-clause-fine
 returns-in-Err-clause-fine g c healthy ne =
     let (ls, so_far, read, going, same) = c.loop-line.invariant in
     let next = c.in-Err.ensures in
-    next.fine so_far.reads_on (going ∙ healthy) (λ e. not_read c.in-Err.fault c.from.result c.from.ensures (λ is. ne (ap Err is)) (cc e)) ∙ same healthy
+    next.fine so_far.reads_on (going ∙ healthy) (λ e. not_read c.in-Err.fault c.from.result c.from.ensures (λ is. ne (ap Err is)) (cc e))
+    ∙ same healthy

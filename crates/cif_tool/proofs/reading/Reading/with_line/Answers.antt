@@ -13,7 +13,8 @@ pub returns-in-Start-clause-ok : goal.returns-in-Start-clause-ok
 returns-in-Start-clause-ok c =
     let role = c.role_of-role.ensures in
     let line = c.args.line.now in
-    let step : (after : Reading) → BeginsWith c.role_of-role.result line after → (max : ℕ) (lines : List (List ℕ)) → length lines < max → IsRead max lines c.args.self → IsRead max (lines ++ line ∷ []) after =
+    let step : (after : Reading) → BeginsWith c.role_of-role.result line after → (max : ℕ) (lines : List (List ℕ)) → length lines < max →
+    IsRead max lines c.args.self → IsRead max (lines ++ line ∷ []) after =
     λ after b max lines room h. begins max lines line role.line room after (rw c.in-Start.is at h) (rw role.role at b) in
     IfOk-weaker _ _ _ step c.after_start.ensures.ok
 
@@ -29,8 +30,10 @@ pub returns-in-Inside-clause-ok : goal.returns-in-Inside-clause-ok
 returns-in-Inside-clause-ok c =
     let role = c.role_of-role.ensures in
     let line = c.args.line.now in
-    let step : (after : Reading) → GoesOnWith c.in-Inside.extract c.role_of-role.result line after → (max : ℕ) (lines : List (List ℕ)) → length lines < max → IsRead max lines c.args.self → IsRead max (lines ++ line ∷ []) after =
-    λ after b max lines room h. goes_on max lines line role.line room c.in-Inside.extract after (rw c.in-Inside.is at h) (rw role.role at b) in
+    let step : (after : Reading) → GoesOnWith c.in-Inside.extract c.role_of-role.result line after → (max : ℕ) (lines : List (List ℕ)) →
+    length lines < max → IsRead max lines c.args.self → IsRead max (lines ++ line ∷ []) after =
+    λ after b max lines room h. goes_on max lines line role.line room c.in-Inside.extract after (rw c.in-Inside.is at h)
+    (rw role.role at b) in
     IfOk-weaker _ _ _ step c.after_inside.ensures.ok
 
 pub returns-in-Inside-clause-refused : goal.returns-in-Inside-clause-refused
