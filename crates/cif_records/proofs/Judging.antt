@@ -10,7 +10,8 @@ pub judged_err : {T : Type 0} (P : T → Type 0) (refusal : Option Refusal) (res
     → result ≡ Err why → refusal ≡ Some why → IsJudged refusal P result
 judged_err P refusal result why e h = rw e h
 
-none-some : (refusal : Option Refusal) (why : Refusal) → refusal ≡ None → refusal ≡ Some why → ⊥
+-- a reason is there or not
+pub none-some : (refusal : Option Refusal) (why : Refusal) → refusal ≡ None → refusal ≡ Some why → ⊥
 none-some refusal why e h = cc
 
 -- where a line spells at most one record, and no record where there is a reason to refuse it, a judged reading gives exactly the record

@@ -1,5 +1,5 @@
 -- No line of an accepted extract is refused, and bytes spell at most one extract.
-use Rattle.std.proofs.Common.{◌≡◌, ℕ, ◌+◌, ◌<◌, ◌≤◌, List, [], ◌∷◌, ◌++◌, length, take, drop, get_or, Option, Some, None, refl, sym, ap}
+use Rattle.std.proofs.Common.{◌≡◌, ℕ, ◌+◌, ◌<◌, ◌≤◌, List, [], ◌∷◌, ◌++◌, length, take, drop, get_or, Some, None, refl, sym, ap}
 use Rattle.std.proofs.Common.{◌∙◌, arith, subst}
 use Rattle.std.proofs.Common.{append_assoc, append-nil, length-append, ⊎_elim}
 use Rattle.std.specs.Prelude.{All, IfErr, Result, Err}
@@ -27,6 +27,7 @@ use Rattle.cif_records.specs.declared.kind.Kind.TheVariants.{Hd, Aa, Zz}
 use Rattle.cif_records.proofs.Associations.{one_association, no_refusal}
 use Rattle.cif_records.proofs.Headers.{one_header, no_refusal as no_header_refusal}
 use Rattle.cif_records.proofs.Identities.{only_kind}
+use Rattle.cif_records.proofs.Judging.{none-some}
 use Rattle.cif_tool.specs.AssociationRules.{Place, start, inside, place_from, place_after, rules}
 use Rattle.cif_tool.specs.Normalised.{said_by, IsNormaliseFault, IsFairTo}
 use Rattle.cif_tool.specs.Reading.{IsReadFault}
@@ -66,6 +67,11 @@ with_associations max front (line ∷ middle) (r ∷ rs) room are_lines spells s
       place = place_from-more start front line ∙ ap place_after kind;
     }))
 
+-- what holds of all elements holds of those in front
+pub All-front : {X : Type 0} (Q : X → Type 0) (xs ys : List X) → All Q (xs ++ ys) → All Q xs
+All-front Q xs ys h = λ k d lt.
+    subst Q (get_or_append_left xs ys d k lt) (h k d (let z : k < length (xs ++ ys) = omega (arith, lt, length-append xs ys) in z))
+
 -- none of the lines of an extract is refused
 spelled_fine : (max : ℕ) (lines : List (List ℕ)) (header : Header) (associations : List Association) → length lines ≤ max →
     All IsLine lines →
@@ -84,27 +90,18 @@ spelled_fine max lines header associations room are_lines s =
     } in
     let before = with_associations max (s.head ∷ []) s.middle associations (let z : 1 + length s.middle ≤ max = omega (arith, few, long) in
     z)
-    (All-tail IsLine s.head s.middle (All-front s.head s.middle s.last at)) s.between opened in
+    (All-tail IsLine s.head s.middle (All-front IsLine (s.head ∷ s.middle) (s.last ∷ []) at)) s.between opened in
     subst (NoneRefused rules max) (sym s.parts)
     (next_fine max (s.head ∷ s.middle) s.last Zz inside (All-last s.head s.middle s.last at)
     (let z : length (s.head ∷ s.middle) < max = omega (arith, few, long) in z)
     (only_kind (columns 1 2 s.last) Zz s.trailer.0) before.place refl before.fine)
   where
-    All-front : (head : List ℕ) (middle : List (List ℕ)) (last : List ℕ) → All IsLine ((head ∷ middle) ++ last ∷ []) →
-        All IsLine (head ∷ middle)
-    All-front head middle last h = λ k d lt.
-        subst IsLine (get_or_append_left (head ∷ middle) (last ∷ []) d k lt)
-        (h k d (let z : k < length ((head ∷ middle) ++ last ∷ []) = omega (arith, lt, length-append (head ∷ middle) (last ∷ [])) in z))
-
     All-last : (head : List ℕ) (middle : List (List ℕ)) (last : List ℕ) → All IsLine ((head ∷ middle) ++ last ∷ []) → IsLine last
     All-last head middle last h =
         subst IsLine (get_or-append_seam (head ∷ middle) last [] [])
         (h (length (head ∷ middle)) []
         (let z : length (head ∷ middle) < length ((head ∷ middle) ++ last ∷ []) = omega
         (arith, length-append (head ∷ middle) (last ∷ [])) in z))
-
-none-some : (o : Option Refusal) (why : Refusal) → o ≡ None → o ≡ Some why → ⊥
-none-some o why e h = cc
 
 -- where none of the contents is refused, no line is the first that is
 fine-refused : (max : ℕ) (contents : List (List ℕ)) (number : ℕ) (why : Refusal) → NoneRefused rules max contents →

@@ -1,8 +1,8 @@
 -- The records that a plan tells, as associations, and what is written of them.
-use Rattle.std.proofs.Common.{◌≡◌, ℕ, suc, ◌+◌, ◌<◌, ◌≤◌, true, false, replicate, List, [], ◌∷◌, ◌++◌, Option, Some, length, map, sym, ◌∙◌}
+use Rattle.std.proofs.Common.{◌≡◌, ℕ, suc, ◌+◌, ◌≤◌, true, false, replicate, List, [], ◌∷◌, ◌++◌, Option, Some, length, map, sym, ◌∙◌}
 use Rattle.std.proofs.Common.{ap, refl, subst, arith}
 use Rattle.std.proofs.Common.{append_assoc, append-nil, length-append}
-use Rattle.std.proofs.lemmas.List.{get_or_append_left, length-map, length-set}
+use Rattle.std.proofs.lemmas.List.{length-map, length-set}
 use Rattle.std.proofs.lemmas.List.Elements.{All-nil, All-cons, All-head, All-tail, All-append, All-contains, All-weaker}
 use Rattle.std.specs.Prelude.{All, AllPairs, IsNone, ◌↔◌}
 use Rattle.std.specs.List.{cons_option, flat_map}
@@ -45,6 +45,7 @@ use Rattle.cif_tool.specs.Normalised.{said_by, IsNormalised, IsClashFault, IsNor
 use Rattle.cif_tool.specs.SpellsExtract.{SpellBytes}
 use Rattle.cif_tool.specs.declared.daily.OneDayRecord.{OneDayRecord}
 use Rattle.cif_tool.specs.declared.normalise.Counts.{Counts}
+use Rattle.cif_tool.proofs.Accepting.{All-front}
 use Rattle.cif_tool.proofs.DailyTelling.{told-body, plan-meaning, plan-clear}
 use Rattle.cif_tool.proofs.Writing.{told-extract_text, terms_of}
 
@@ -60,10 +61,6 @@ association_of key day body = record {
   in_order = (let same : day ≤ day = omega arith in same);
   bodied = refl;
 }
-
-All-front : {X : Type 0} (Q : X → Type 0) (xs ys : List X) → All Q (xs ++ ys) → All Q xs
-All-front Q xs ys h = λ k d lt.
-    subst Q (get_or_append_left xs ys d k lt) (h k d (let z : k < length (xs ++ ys) = omega (arith, lt, length-append xs ys) in z))
 
 -- the plain line of an association is a line and spells it
 abbrev pub IsPlain : Association → Type 0
