@@ -1,4 +1,5 @@
 pub mod AssocBody
+pub mod AssocKey
 pub mod Association
 pub mod Bodies
 pub mod Checks

@@ -1,5 +1,5 @@
 //! What an association is about.
-ghost use Rattle.std.specs.Prelude.{◌≡◌};
+ghost use Rattle.std.specs.Prelude.{◌≡◌, ◌↔◌, IsTrue};
 
 use cif_columns::{Text, Uid};
 
@@ -21,6 +21,9 @@ pub struct AssocKey {
 }
 
 impl AssocKey {
+    ghost use Rattle.cif_records.specs.declared.assoc_key.AssocKey.{AssocKey};
+    ghost use Rattle.cif_records.specs.AssocKey.{key_cmp};
+
     /// The same key.
     pub fn copy(&self) -> AssocKey
         ensures { result ≡ self.now }
@@ -33,4 +36,11 @@ impl AssocKey {
             associated_suffix: self.associated_suffix.copy(),
         }
     }
+
+    /// A law for proofs: keys are equal where their fields are, and ordered by their fields, each by
+    /// its bytes.
+    pub fn order_of_keys()
+        ensures equality { (a b : AssocKey) → IsTrue (⟦<AssocKey as PartialEq>⟧.eq a b) ↔ (a ≡ b) }
+        ensures order { (a b : AssocKey) → ⟦<AssocKey as Ord>⟧.cmp a b ≡ key_cmp a b }
+    {}
 }
