@@ -46,13 +46,13 @@ one_more max count bytes ls rest line rest' so_far next =
       are_lines = All-push IsLine ls line so_far.are_lines next.is_line;
     }
 
--- the bytes that are held are a front of those that are left
+-- the bytes that are held are a front of those that are left, and the others are those that the reader has
 held_front : (hold rest : List ℕ) (remaining : Option (List ℕ)) → prepend_known hold remaining ≡ Some rest
-    → (unread : List ℕ) × (rest ≡ hold ++ unread)
+    → (unread : List ℕ) × (remaining ≡ Some unread) × (rest ≡ hold ++ unread)
 held_front hold rest None e = absurd (cc)
 held_front hold rest (Some unread) e =
     let same : hold ++ unread ≡ rest = cc in
-    (unread, sym same)
+    (unread, refl, sym same)
 
 -- what is said of known bytes follows from what is known of them
 pub known_so : (start : Option (List ℕ)) (P Q : List ℕ → Type 0) → ((bytes : List ℕ) → P bytes → Q bytes) → IfSome start P → IfSome start Q
@@ -149,22 +149,21 @@ module _ {R : Type 0} (remaining : R → Option (List ℕ)) where
       pub reading_fails : (past reader ≡ Reading → IfSome (left remaining reader source)
           (λ bytes. Answers (limit reader) (given reader) bytes (Err Read) (left remaining reader' source')))
           → DecidesNothing (limit reader) (given reader) (held reader')
-          → IfSome start (λ bytes. AreLinesToFailure max bytes ls)
+          → IfSome start (λ bytes. IsSomeAnd (remaining source'.reader) (λ unread. AreLinesToFailure max bytes unread ls))
       reading_fails answer undecided = at start (left remaining reader source) so_far.known (answer so_far.reads_on)
         where
           at : (start rest : Option (List ℕ)) → KnownGiven start ls rest
               → IfSome rest (λ bytes. Answers (limit reader) (given reader) bytes (Err Read) (left remaining reader' source'))
-              → IfSome start (λ bytes. AreLinesToFailure max bytes ls)
+              → IfSome start (λ bytes. IsSomeAnd (remaining source'.reader) (λ unread. AreLinesToFailure max bytes unread ls))
           at None rest known next = tt
           at (Some bytes) None known next = absurd known
           at (Some bytes) (Some rest) known next =
-              let (unread, parts) = held_front (held reader') rest (remaining source'.reader) next in
+              let (unread, is, parts) = held_front (held reader') rest (remaining source'.reader) next in
               let front : (known.whole ≡ []) ⊎ EndsLine known.whole (held reader' ++ unread) =
               subst (λ l. (known.whole ≡ []) ⊎ EndsLine known.whole l) parts known.ended in
-              record {
+              subst (λ r. IsSomeAnd r (λ others. AreLinesToFailure max bytes others ls)) (sym is) (record {
                 whole = known.whole;
                 pending = held reader';
-                unread = unread;
                 parts = known.parts ∙ ap (λ l. known.whole ++ l) parts ∙ sym (append_assoc known.whole (held reader') unread);
                 contents = known.contents;
                 seen = lines_whole known.whole (held reader') (ends_before known.whole (held reader') unread front)
@@ -173,13 +172,13 @@ module _ {R : Type 0} (remaining : R → Option (List ℕ)) where
                 within = within;
                 undecided = subst (λ m. DecidesNothing m (length ls) (held reader')) so_far.same_limit
                     (subst (λ n. DecidesNothing (limit reader) n (held reader')) so_far.counted undecided);
-              }
+              })
 
       -- either fault
       pub reading_faults : (fault : LineFault)
           → (past reader ≡ Reading → IfSome (left remaining reader source)
           (λ bytes. Answers (limit reader) (given reader) bytes (Err fault) (left remaining reader' source')))
           → (fault ≡ Read → DecidesNothing (limit reader) (given reader) (held reader'))
-          → IfSome start (λ bytes. AreLinesToFault max bytes ls fault)
+          → IfSome start (λ bytes. AreLinesToFault max bytes (remaining source'.reader) ls fault)
       reading_faults (Refused number why) answer undecided = reading_refuses number why answer
       reading_faults Read answer undecided = reading_fails answer (undecided refl)

@@ -50,12 +50,11 @@ pub record AreLinesToRefusal (max : ℕ) (bytes : List ℕ) (lines : List (List 
   pub next : number ≡ length lines + 1
   pub reason : HasLineReason max number content why
 
--- Of the bytes the source gave some before it failed. These are whole lines, at most max, and then pending bytes, which
--- decide no line.
-pub record AreLinesToFailure (max : ℕ) (bytes : List ℕ) (lines : List (List ℕ)) : Type 0 where
+-- Of the bytes the source gave all but those unread before it failed. What it gave are whole lines, at most max, and then
+-- pending bytes, which decide no line.
+pub record AreLinesToFailure (max : ℕ) (bytes unread : List ℕ) (lines : List (List ℕ)) : Type 0 where
   pub whole : List ℕ
   pub pending : List ℕ
-  pub unread : List ℕ
   pub parts : bytes ≡ (whole ++ pending) ++ unread
   pub contents : contents_of whole ≡ lines
   pub seen : contents_of (whole ++ pending) ≡ lines ++ contents_of pending
@@ -63,7 +62,7 @@ pub record AreLinesToFailure (max : ℕ) (bytes : List ℕ) (lines : List (List 
   pub within : length lines ≤ max
   pub undecided : DecidesNothing max (length lines) pending
 
--- the lines that were given of the bytes before this fault
-abbrev pub AreLinesToFault : ℕ → List ℕ → List (List ℕ) → LineFault → Type 0
-AreLinesToFault max bytes lines (Refused number why) = AreLinesToRefusal max bytes lines number why
-AreLinesToFault max bytes lines Read = AreLinesToFailure max bytes lines
+-- the lines that were given of the bytes before this fault, where `after` is what the reader has left then
+abbrev pub AreLinesToFault : ℕ → List ℕ → Option (List ℕ) → List (List ℕ) → LineFault → Type 0
+AreLinesToFault max bytes after lines (Refused number why) = AreLinesToRefusal max bytes lines number why
+AreLinesToFault max bytes after lines Read = IsSomeAnd after (λ unread. AreLinesToFailure max bytes unread lines)

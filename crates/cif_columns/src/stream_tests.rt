@@ -29,7 +29,8 @@ fn count_lines<R: ReadDevice>(source: &mut Source<R>, max_lines: u64) -> Result<
     ensures all { IfSome (R.remaining (reader_of source.old)) (λ bytes. IfOk result (λ count.
         (lines : List (List ℕ)) × (count ≡ length lines) × AreAllLines max_lines bytes lines)) }
     ensures fault { IfSome (R.remaining (reader_of source.old)) (λ bytes. IfErr result (λ fault.
-        (lines : List (List ℕ)) × AreLinesToFault max_lines bytes lines fault)) }
+        (lines : List (List ℕ))
+        × AreLinesToFault max_lines bytes (R.remaining (reader_of source.new)) lines fault)) }
 {
     let mut lines = LineReader::new(max_lines);
     loop {

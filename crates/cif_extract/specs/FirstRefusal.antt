@@ -64,9 +64,9 @@ abbrev pub IsFirstRefusal : LineRules → ℕ → List ℕ → ℕ → Refusal �
 IsFirstRefusal rules max bytes number why =
     IsRefusedLine rules max (contents_of bytes) number why ⊎ IsTruncated rules max (contents_of bytes) number why
 
--- A source failed before a refused line was decided: of these bytes it gave some. They are whole lines, none of them refused,
--- and then pending bytes, which decide no line.
-pub record IsCutBeforeRefusal (rules : LineRules) (max : ℕ) (bytes : List ℕ) : Type 0 where
+-- A source failed before a refused line was decided: of these bytes it gave all but those unread. What it gave are whole lines,
+-- none of them refused, and then pending bytes, which decide no line.
+pub record IsCutBeforeRefusal (rules : LineRules) (max : ℕ) (bytes unread : List ℕ) : Type 0 where
   pub lines : List (List ℕ)
-  pub given : AreLinesToFailure max bytes lines
+  pub given : AreLinesToFailure max bytes unread lines
   pub fine : NoneRefused rules max lines

@@ -1,9 +1,8 @@
 -- No line of an accepted extract is refused, and bytes spell at most one extract.
-use Rattle.std.proofs.Common.{◌≡◌, ℕ, ◌+◌, ◌<◌, ◌≤◌, List, [], ◌∷◌, ◌++◌, length, take, drop, get_or, Some, None, refl, sym, ap}
+use Rattle.std.proofs.Common.{◌≡◌, ℕ, ◌+◌, ◌<◌, ◌≤◌, List, [], ◌∷◌, ◌++◌, length, take, drop, get_or, Option, Some, None, refl, sym, ap}
 use Rattle.std.proofs.Common.{◌∙◌, arith, subst}
 use Rattle.std.proofs.Common.{append_assoc, append-nil, length-append, ⊎_elim}
 use Rattle.std.specs.Prelude.{All, IfErr, Result, Err}
-use Rattle.std.specs.declared.cmp.Ordering.{Ordering}
 use Rattle.std.proofs.Math.Seq.{get_or-append_seam, take-append_seam}
 use Rattle.std.proofs.lemmas.List.{get_or_append_left}
 use Rattle.std.proofs.lemmas.List.Elements.{All-head, All-tail}
@@ -17,6 +16,7 @@ use Rattle.cif_extract.specs.declared.clash.Clash.TheVariants.{Association as Of
 use Rattle.cif_extract.specs.declared.fault.Fault.{Fault}
 use Rattle.cif_extract.specs.declared.fault.Fault.TheVariants.{Refused, Ambiguous, WindowsDiffer, OutsideWindow, WindowReversed, Read}
 use Rattle.cif_extract.specs.declared.fault.Fault.TheVariants.{Write, Memory}
+use Rattle.cif_records.specs.AssocKey.{key_cmp}
 use Rattle.cif_records.specs.Kind.{kind_in}
 use Rattle.cif_records.specs.SpellsHeader.{SpellsHeader}
 use Rattle.cif_records.specs.declared.assoc_key.AssocKey.{AssocKey}
@@ -29,7 +29,7 @@ use Rattle.cif_records.proofs.Headers.{one_header, no_refusal as no_header_refus
 use Rattle.cif_records.proofs.Identities.{only_kind}
 use Rattle.cif_records.proofs.Judging.{none-some}
 use Rattle.cif_tool.specs.AssociationRules.{Place, start, inside, place_from, place_after, rules}
-use Rattle.cif_tool.specs.Normalised.{said_by, IsNormaliseFault, IsFairTo}
+use Rattle.cif_tool.specs.Normalised.{said_by, IsNormaliseFault, BlamesNoAccepted}
 use Rattle.cif_tool.specs.Reading.{IsReadFault}
 use Rattle.cif_tool.specs.Role.{role_of, judged}
 use Rattle.cif_tool.specs.SpellsExtract.{AllSpell, SpellsExtract, SpellBytes}
@@ -173,41 +173,40 @@ pub one_extract : (max : ℕ) (bytes : List ℕ) (h k : Header) (xs ys : List As
 one_extract max bytes h k xs ys p q = same_extract p.lines q.lines h k xs ys (sym p.all.contents ∙ q.all.contents) p.spelled q.spelled
 
 -- where all is clear there is no clash
-clear-clash : (order : AssocKey → AssocKey → Ordering) (xs : List Association) (first last : ℕ) (key : AssocKey) (day : ℕ) →
-    AreClear (said_by xs) first last → IsFirstClashOf order (said_by xs) first last key day → ⊥
-clear-clash order xs first last key day clear c =
+clear-clash : (xs : List Association) (first last : ℕ) (key : AssocKey) (day : ℕ) →
+    AreClear (said_by xs) first last → IsFirstClashOf key_cmp (said_by xs) first last key day → ⊥
+clear-clash xs first last key day clear c =
     let first_clash = c.clash in
     let clash = first_clash.clash in
-    clash.bodies_differ (((clear.key key).clear day first_clash.from first_clash.upto).agree clash.one clash.other clash.one_wins
-    clash.other_wins)
+    clash.bodies_differ
+    (((clear.key key).clear day first_clash.from first_clash.upto).agree clash.one clash.other clash.one_wins clash.other_wins)
 
 -- a fault that says anything of the bytes isn't given where they are accepted
-pub fair : (order : AssocKey → AssocKey → Ordering) (max : ℕ) (bytes : List ℕ) (fault : Fault) → IsNormaliseFault order max bytes fault →
-    IsFairTo max bytes fault
-fair order max bytes (Refused number why) f h xs a = absurd (spelled-refused max bytes h xs number why a.spelled f)
-fair order max bytes (Ambiguous (OfAssociation key day)) f h xs a =
-    let same = one_extract max bytes f.header h f.associations xs f.spelled a.spelled in
-    absurd (clear-clash order xs h.first h.last key day a.clear
-    (subst (λ (x : Header). IsFirstClashOf order (said_by xs) x.first x.last key day) same.0
-    (subst (λ (rs : List Association). IsFirstClashOf order (said_by rs) f.header.first f.header.last key day) same.1 f.clash)))
-fair order max bytes (Ambiguous (Train uid day)) f h xs a = absurd f
-fair order max bytes WindowsDiffer f h xs a = absurd f
-fair order max bytes OutsideWindow f h xs a = absurd f
-fair order max bytes WindowReversed f h xs a = absurd f
-fair order max bytes Read f h xs a = tt
-fair order max bytes Write f h xs a = tt
-fair order max bytes Memory f h xs a = tt
+module _ (max : ℕ) (bytes : List ℕ) (after : Option (List ℕ)) where
+  pub read-blames : (fault : Fault) → IsReadFault max bytes after fault → BlamesNoAccepted max bytes fault
+  read-blames (Refused number why) f h xs a = absurd (spelled-refused max bytes h xs number why a.spelled f)
+  read-blames (Ambiguous clash) f h xs a = absurd f
+  read-blames WindowsDiffer f h xs a = absurd f
+  read-blames OutsideWindow f h xs a = absurd f
+  read-blames WindowReversed f h xs a = absurd f
+  read-blames Read f h xs a = tt
+  read-blames Write f h xs a = tt
+  read-blames Memory f h xs a = tt
 
--- so it is of a fault in reading
-pub fair-read : (max : ℕ) (bytes : List ℕ) (fault : Fault) → IsReadFault max bytes fault → IsFairTo max bytes fault
-fair-read max bytes (Refused number why) f h xs a = absurd (spelled-refused max bytes h xs number why a.spelled f)
-fair-read max bytes (Ambiguous clash) f h xs a = absurd f
-fair-read max bytes WindowsDiffer f h xs a = absurd f
-fair-read max bytes OutsideWindow f h xs a = absurd f
-fair-read max bytes WindowReversed f h xs a = absurd f
-fair-read max bytes Read f h xs a = tt
-fair-read max bytes Write f h xs a = tt
-fair-read max bytes Memory f h xs a = tt
+  pub normalise-blames : (fault : Fault) → IsNormaliseFault max bytes after fault → BlamesNoAccepted max bytes fault
+  normalise-blames (Ambiguous (OfAssociation key day)) f h xs a =
+      let same = one_extract max bytes f.header h f.associations xs f.spelled a.spelled in
+      absurd (clear-clash xs h.first h.last key day a.clear
+      (subst (λ (x : Header). IsFirstClashOf key_cmp (said_by xs) x.first x.last key day) same.0
+      (subst (λ (rs : List Association). IsFirstClashOf key_cmp (said_by rs) f.header.first f.header.last key day) same.1 f.clash)))
+  normalise-blames (Ambiguous (Train uid day)) f h xs a = absurd f
+  normalise-blames (Refused number why) f h xs a = absurd (spelled-refused max bytes h xs number why a.spelled f)
+  normalise-blames WindowsDiffer f h xs a = absurd f
+  normalise-blames OutsideWindow f h xs a = absurd f
+  normalise-blames WindowReversed f h xs a = absurd f
+  normalise-blames Read f h xs a = tt
+  normalise-blames Write f h xs a = tt
+  normalise-blames Memory f h xs a = tt
 
 -- what is said of the error is said of the result
 pub if-error : {A E : Type 0} (P : E → Type 0) (r : Result A E) (e : E) → r ≡ Err e → P e → IfErr r P

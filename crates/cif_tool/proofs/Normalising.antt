@@ -14,6 +14,7 @@ use Rattle.cif_columns.proofs.PlainLines.{lines-line}
 use Rattle.cif_columns.specs.declared.stp.Stp.TheVariants.{C}
 use Rattle.cif_calendar.specs.Keys.{AreClear}
 use Rattle.cif_calendar.proofs.Positions.{contains-at}
+use Rattle.cif_records.specs.AssocKey.{key_cmp}
 use Rattle.cif_records.specs.Header.{header_table}
 use Rattle.cif_records.specs.SpellsAssociation.{SpellsAssociation, table_of}
 use Rattle.cif_records.specs.SpellsHeader.{SpellsHeader}
@@ -22,7 +23,6 @@ use Rattle.cif_records.proofs.PlainRecords.{plain-header, plain-permanent, plain
 use Rattle.cif_tool.specs.SpellsExtract.{AllSpell}
 use Rattle.cif_tool.specs.ExtractText.{line_text}
 use Rattle.std.specs.Io.KnownBytes.{Appends}
-use Rattle.std.specs.declared.cmp.Ordering.{Ordering}
 use Rattle.cif_columns.specs.Day.{weekday_of}
 use Rattle.cif_columns.specs.DaysRun.{only_on}
 use Rattle.cif_columns.specs.Sink.{AppendsFront}
@@ -180,12 +180,12 @@ spelled-text header output is_line spells plain =
       };
     }
 
-module _ (order : AssocKey → AssocKey → Ordering) (max : ℕ) (bytes : List ℕ) (header : Header) (associations : List Association)
+module _ (max : ℕ) (bytes : List ℕ) (header : Header) (associations : List Association)
     (spelled : SpellBytes max bytes header associations) where
   -- what is written where there is a plan
-  pub normalised : (plan : List OneDayRecord) (counts : Counts) → IsDailyPlan order (said_by associations) header.first header.last plan →
+  pub normalised : (plan : List OneDayRecord) (counts : Counts) → IsDailyPlan key_cmp (said_by associations) header.first header.last plan →
       counts.tiplocs ≡ 0 → counts.associations ≡ length plan → counts.schedules ≡ 0 →
-      IsNormalised order max bytes (told_text header (told_by (said_by associations) plan)) counts
+      IsNormalised max bytes (told_text header (told_by (said_by associations) plan)) counts
   normalised plan counts p none many nothing =
       let s = subst (λ ls. All IsLine ls) spelled.spelled.parts spelled.all.are_lines in
       let are_lines = All-front IsLine (spelled.spelled.head ∷ spelled.spelled.middle) (spelled.spelled.last ∷ []) s in
@@ -208,13 +208,13 @@ module _ (order : AssocKey → AssocKey → Ordering) (max : ℕ) (bytes : List 
         again = record {
           spelled = spelled-text header out.output own.0 own.1 out.plain;
           clear = subst (λ said. AreClear said header.first header.last) (sym out.said)
-              (plan-clear (λ (a : Association). a.key) terms_of cancelled order associations header.first header.last plan p);
+              (plan-clear (λ (a : Association). a.key) terms_of cancelled key_cmp associations header.first header.last plan p);
         };
         normal = record {
           same = subst (λ said. SameMeaning (said_by associations) said header.first header.last) (sym out.said)
-              (plan-meaning (λ (a : Association). a.key) terms_of cancelled order associations header.first header.last plan p);
+              (plan-meaning (λ (a : Association). a.key) terms_of cancelled key_cmp associations header.first header.last plan p);
           days = subst (IsDayByDay (said_by associations) header.first header.last) (sym out.said) p.tells;
-          rises = subst (AllPairs (IsBefore order)) (sym out.said) p.rises;
+          rises = subst (AllPairs (IsBefore key_cmp)) (sym out.said) p.rises;
         };
         plain = ap (told_text header) (sym out.said) ∙ sym (told-extract_text header out.output);
         counted = counts-are counts out.output none (many ∙ sym out.count) nothing;
@@ -228,16 +228,16 @@ module _ (order : AssocKey → AssocKey → Ordering) (max : ℕ) (bytes : List 
 
   -- the whole text is written
   pub has_written : (plan : List OneDayRecord) (counts : Counts) (old new : Option (List ℕ)) →
-      IsDailyPlan order (said_by associations) header.first header.last plan →
+      IsDailyPlan key_cmp (said_by associations) header.first header.last plan →
       counts.tiplocs ≡ 0 → counts.associations ≡ length plan → counts.schedules ≡ 0 →
-      Appends old new (told_text header (told_by (said_by associations) plan)) → HasWritten order max bytes old new counts
+      Appends old new (told_text header (told_by (said_by associations) plan)) → HasWritten max bytes old new counts
   has_written plan counts old new p none many nothing
       appended = (told_text header (told_by (said_by associations) plan), normalised plan counts p none many nothing, appended)
 
   -- a front of it is written
   pub has_written_front : (plan : List OneDayRecord) (old new : Option (List ℕ)) →
-      IsDailyPlan order (said_by associations) header.first header.last plan →
-      AppendsFront old new (told_text header (told_by (said_by associations) plan)) → HasWrittenFront order max bytes old new
+      IsDailyPlan key_cmp (said_by associations) header.first header.last plan →
+      AppendsFront old new (told_text header (told_by (said_by associations) plan)) → HasWrittenFront max bytes old new
   has_written_front plan old new p front = (
     told_text header (told_by (said_by associations) plan),
     record { tiplocs = 0; associations = length plan; schedules = 0 },
@@ -246,15 +246,15 @@ module _ (order : AssocKey → AssocKey → Ordering) (max : ℕ) (bytes : List 
   )
 
   -- what a clash says of the bytes
-  pub clash-normalise : (fault : Fault) → IsClashFault order associations header.first header.last fault →
-      IsNormaliseFault order max bytes fault
-  clash-normalise (Ambiguous (OfAssociation key day)) h = record
+  pub clash-normalise : (after : Option (List ℕ)) (fault : Fault) → IsClashFault associations header.first header.last fault →
+      IsNormaliseFault max bytes after fault
+  clash-normalise after (Ambiguous (OfAssociation key day)) h = record
       { header = header; associations = associations; spelled = spelled; clash = h }
-  clash-normalise (Ambiguous (Train uid day)) h = absurd h
-  clash-normalise (Refused line why) h = absurd h
-  clash-normalise WindowsDiffer h = absurd h
-  clash-normalise OutsideWindow h = absurd h
-  clash-normalise WindowReversed h = absurd h
-  clash-normalise Read h = absurd h
-  clash-normalise Write h = absurd h
-  clash-normalise Memory h = tt
+  clash-normalise after (Ambiguous (Train uid day)) h = absurd h
+  clash-normalise after (Refused line why) h = absurd h
+  clash-normalise after WindowsDiffer h = absurd h
+  clash-normalise after OutsideWindow h = absurd h
+  clash-normalise after WindowReversed h = absurd h
+  clash-normalise after Read h = absurd h
+  clash-normalise after Write h = absurd h
+  clash-normalise after Memory h = tt

@@ -1,5 +1,5 @@
 -- Where a reading stops, and why.
-use Rattle.std.proofs.Common.{◌≡◌, ◌≢◌, ℕ, ◌+◌, Bool, true, false, nat_eq, nat_lt, List, [], ◌∷◌, ◌++◌, length, Option, Some, None, IfSome}
+use Rattle.std.proofs.Common.{◌≡◌, ◌≢◌, ℕ, ◌+◌, Bool, true, false, nat_eq, nat_lt, List, [], ◌∷◌, ◌++◌, length, Option, Some, None, IfSome, IsSomeAnd}
 use Rattle.std.proofs.Common.{IfErr, Result, Ok, Err, refl, sym, ap, ◌∙◌, arith, append_assoc, codes, find, inl, inr, ne_eqb}
 use Rattle.std.proofs.lemmas.Bool.Decides.{nat_tests}
 use Rattle.std.proofs.lemmas.List.Elements.{All-cons, All-nil}
@@ -8,7 +8,7 @@ use Rattle.std.specs.Prelude.{All}
 use Rattle.cif_columns.specs.Contents.{contents_of, HasLineReason}
 use Rattle.cif_columns.specs.Field.{columns}
 use Rattle.cif_columns.specs.FirstLine.{is_printable}
-use Rattle.cif_columns.specs.GivenLines.{AreAllLines, AreLinesToFault, IsReading, KnownGiven}
+use Rattle.cif_columns.specs.GivenLines.{AreAllLines, AreLinesToFailure, AreLinesToFault, IsReading, KnownGiven}
 use Rattle.cif_columns.specs.LineReader.{left}
 use Rattle.cif_columns.specs.declared.line_fault.LineFault.{LineFault}
 use Rattle.cif_columns.specs.declared.line_fault.LineFault.TheVariants as line_fault
@@ -19,7 +19,7 @@ use Rattle.cif_columns.specs.declared.source.Source.{Source}
 use Rattle.cif_columns.proofs.GivenLinesLaws.{contents_given, known_so}
 use Rattle.cif_columns.proofs.PrintableBytes.{printable_fact}
 use Rattle.cif_extract.specs.Fault.{of_line_fault}
-use Rattle.cif_extract.specs.FirstRefusal.{LineRules, NoneRefused, refusal_of, IsFirstRefusal}
+use Rattle.cif_extract.specs.FirstRefusal.{LineRules, NoneRefused, refusal_of, IsFirstRefusal, IsCutBeforeRefusal}
 use Rattle.cif_extract.specs.declared.fault.Fault.{Fault}
 use Rattle.cif_extract.specs.declared.fault.Fault.TheVariants as fault
 use Rattle.cif_records.specs.Kind.{is_identity, kind_in, kinds}
@@ -61,9 +61,9 @@ line_reason rules max before content number refusal.BadByte is h =
 line_reason rules max before content number _ is h = absurd h
 
 module _ (start : Option (List ℕ)) (max : ℕ) (ls : List (List ℕ)) (fine : NoneRefused rules max ls) where
-  pub at_fault : (line_fault : LineFault) → IfSome start (λ bytes. AreLinesToFault max bytes ls line_fault) →
-      IfSome start (λ bytes. IsReadFault max bytes (of_line_fault line_fault))
-  at_fault (line_fault.Refused number why) h = known_so start _ _ (λ bytes r. inl (record {
+  pub at_fault : (after : Option (List ℕ)) (line_fault : LineFault) → IfSome start (λ bytes. AreLinesToFault max bytes after ls line_fault) →
+      IfSome start (λ bytes. IsReadFault max bytes after (of_line_fault line_fault))
+  at_fault after (line_fault.Refused number why) h = known_so start _ _ (λ bytes r. inl (record {
     before = ls;
     content = r.content;
     after = r.others;
@@ -72,7 +72,12 @@ module _ (start : Option (List ℕ)) (max : ℕ) (ls : List (List ℕ)) (fine : 
     numbered = r.next;
     reason = line_reason rules max ls r.content number why r.next r.reason;
   })) h
-  at_fault line_fault.Read h = known_so start _ _ (λ bytes r. record { lines = ls; given = r; fine = fine }) h
+  at_fault after line_fault.Read h = known_so start _ _ (λ bytes r. at bytes after r) h
+    where
+      at : (bytes : List ℕ) (after : Option (List ℕ)) → IsSomeAnd after (λ unread. AreLinesToFailure max bytes unread ls) →
+          IsSomeAnd after (IsCutBeforeRefusal rules max bytes)
+      at bytes None r = absurd r
+      at bytes (Some unread) r = record { lines = ls; given = r; fine = fine }
 
   -- a line that is refused
   pub at_line : {R : Type 0} (remaining : R → Option (List ℕ)) (reader : LineReader) (source : Source R) (line : List ℕ) (number : ℕ)
@@ -94,12 +99,12 @@ module _ (start : Option (List ℕ)) (max : ℕ) (ls : List (List ℕ)) (fine : 
         reason = reason;
       })
 
-pub at_stop : (start : Option (List ℕ)) (max number : ℕ) (s : Stop) →
+pub at_stop : (start after : Option (List ℕ)) (max number : ℕ) (s : Stop) →
     ((why : Refusal) → s ≡ stop.Refused why → IfSome start (λ bytes. IsFirstRefusal rules max bytes number why))
-    → IfSome start (λ bytes. IsReadFault max bytes (stop_fault number s))
-at_stop start max number (stop.Refused why) h = h why refl
-at_stop None max number stop.Memory h = tt
-at_stop (Some bytes) max number stop.Memory h = tt
+    → IfSome start (λ bytes. IsReadFault max bytes after (stop_fault number s))
+at_stop start after max number (stop.Refused why) h = h why refl
+at_stop None after max number stop.Memory h = tt
+at_stop (Some bytes) after max number stop.Memory h = tt
 
 association_kind : (line : List ℕ) → columns 1 2 line ≡ codes "AA" → kind_in line ≡ Some Aa
 association_kind line e = ap (λ letters. find (is_identity letters) kinds) e
@@ -140,11 +145,11 @@ pub not_read : (l : LineFault) (f : Fault) → f ≡ of_line_fault l → (f ≡ 
 not_read l f is ne e = ne (is ∙ ap of_line_fault e)
 
 -- what is answered at the end of the input, where it is a fault
-pub finished_fault : (start : Option (List ℕ)) (max : ℕ) (ls : List (List ℕ)) (reading : Reading) (count : ℕ)
+pub finished_fault : (start after : Option (List ℕ)) (max : ℕ) (ls : List (List ℕ)) (reading : Reading) (count : ℕ)
     (result : Result Extract Fault)
     → IfSome start (λ bytes. AreAllLines max bytes ls) → IsRead max ls reading → count ≡ length ls
     → IfErr result (λ f. (f ≡ fault.Refused (count + 1) refusal.Truncated) × IsUnended reading)
-    → IfSome start (λ bytes. IfErr result (IsReadFault max bytes))
-finished_fault start max ls reading count (Ok extract) all h is err = known_so start _ _ (λ bytes a. tt) all
-finished_fault start max ls reading count (Err f) all h is err =
+    → IfSome start (λ bytes. IfErr result (IsReadFault max bytes after))
+finished_fault start after max ls reading count (Ok extract) all h is err = known_so start _ _ (λ bytes a. tt) all
+finished_fault start after max ls reading count (Err f) all h is err =
     rw err.0 (at_end start max ls reading (count + 1) all h err.1 (ap (λ n. n + 1) is))

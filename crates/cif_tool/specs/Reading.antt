@@ -1,5 +1,5 @@
 -- What a reading has come to.
-use Rattle.std.specs.Prelude.{◌≡◌, ℕ, List, [], ◌∷◌, ◌++◌, None}
+use Rattle.std.specs.Prelude.{◌≡◌, ℕ, List, [], ◌∷◌, ◌++◌, Option, None, IsSomeAnd}
 use Rattle.cif_extract.specs.FirstRefusal.{NoneRefused, IsFirstRefusal, IsCutBeforeRefusal}
 use Rattle.cif_extract.specs.declared.fault.Fault.{Fault}
 use Rattle.cif_extract.specs.declared.fault.Fault.TheVariants.{Refused, Read, Memory}
@@ -68,9 +68,9 @@ abbrev pub stop_fault : ℕ → Stop → Fault
 stop_fault line (stop.Refused why) = Refused line why
 stop_fault line stop.Memory = Memory
 
--- why these bytes are no extract, or can't be read
-abbrev pub IsReadFault : ℕ → List ℕ → Fault → Type 0
-IsReadFault max bytes (Refused line why) = IsFirstRefusal rules max bytes line why
-IsReadFault max bytes Read = IsCutBeforeRefusal rules max bytes
-IsReadFault max bytes Memory = Unit {0}
-IsReadFault max bytes _ = ⊥
+-- why these bytes are no extract, or can't be read, where `after` is what the reader has left then
+abbrev pub IsReadFault : ℕ → List ℕ → Option (List ℕ) → Fault → Type 0
+IsReadFault max bytes after (Refused line why) = IsFirstRefusal rules max bytes line why
+IsReadFault max bytes after Read = IsSomeAnd after (IsCutBeforeRefusal rules max bytes)
+IsReadFault max bytes after Memory = Unit {0}
+IsReadFault max bytes after _ = ⊥

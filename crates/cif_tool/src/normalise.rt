@@ -6,16 +6,17 @@ ghost use Rattle.cif_columns.specs.Devices.{OneError, TellsErrors};
 ghost use Rattle.cif_columns.specs.Sink.{AppendsFront, sink_failed, writer_of};
 ghost use Rattle.cif_columns.specs.Source.{reader_of, source_failed};
 ghost use Rattle.cif_columns.specs.declared.line_reader.TheConstants.{MAX_LINES};
+ghost use Rattle.cif_records.specs.AssocKey.{key_cmp};
 ghost use Rattle.cif_tool.specs.Daily.{HasBody, IsDailyFault, IsWithin, told_by};
 ghost use Rattle.cif_tool.specs.ExtractText.{entries_text, told_text};
-ghost use Rattle.cif_tool.specs.Normalised.{HasWritten, HasWrittenFront, IsClashFault, IsFairTo};
-ghost use Rattle.cif_tool.specs.Normalised.{IsNormaliseFault, said_by};
+ghost use Rattle.cif_tool.specs.Normalised.{BlamesNoAccepted, HasWritten, HasWrittenFront};
+ghost use Rattle.cif_tool.specs.Normalised.{IsClashFault, IsNormaliseFault, said_by};
 
 use crate::daily::{DailyFault, OneDayRecord, daily_records};
 use crate::reading::read_extract;
 use cif_columns::{DaysRun, ReadDevice, Sink, Source, WriteDevice, WriteFault};
 use cif_extract::{Clash, Fault, write_association, write_head, write_trailer};
-use cif_records::{AssocKey, Association, Header};
+use cif_records::{Association, Header};
 use std::alloc::Global;
 
 /// How many records were written, by kind.
@@ -40,33 +41,40 @@ pub fn normalise<R: ReadDevice, W: WriteDevice>(
 ) -> Result<Counts, Fault>
     requires within { max_lines ≤ MAX_LINES }
     ensures ok { IfSome (R.remaining (reader_of source.old)) (λ bytes. IfOk result
-        (HasWritten ⟦<AssocKey as Ord>⟧.cmp max_lines bytes
+        (HasWritten max_lines bytes
         (W.contents (writer_of sink.old)) (W.contents (writer_of sink.new)))) }
     ensures fault { IfSome (R.remaining (reader_of source.old)) (λ bytes. IfErr result
-        (IsNormaliseFault ⟦<AssocKey as Ord>⟧.cmp max_lines bytes)) }
-    ensures fair { IfSome (R.remaining (reader_of source.old)) (λ bytes. IfErr result
-        (IsFairTo max_lines bytes)) }
+        (IsNormaliseFault max_lines bytes (R.remaining (reader_of source.new)))) }
+    ensures accepted { IfSome (R.remaining (reader_of source.old)) (λ bytes. IfErr result
+        (BlamesNoAccepted max_lines bytes)) }
 
-    // Nothing is written where the input is at fault, and a front of the output where the sink is.
+    // Nothing is written at a fault but Write, and at that a front of the output.
     ensures unwritten { result ≢ Err Fault.Write → IfErr result (λ fault. sink.new ≡ sink.old) }
     ensures front { result ≡ Err Fault.Write → IfSome (R.remaining (reader_of source.old)) (λ bytes.
-        HasWrittenFront ⟦<AssocKey as Ord>⟧.cmp max_lines bytes
+        HasWrittenFront max_lines bytes
         (W.contents (writer_of sink.old)) (W.contents (writer_of sink.new))) }
 
-    // Read comes where the source has failed, and Write where the sink has.
-    ensures failed { result ≡ Err Fault.Read → source_failed source.new ≡ true }
-    ensures going { result ≢ Err Fault.Read → source_failed source.new ≡ source_failed source.old }
-    ensures erred { source_failed source.old ≡ false → result ≡ Err Fault.Read
+    // Read comes only where the source has failed, and its reader has erred. Otherwise the source
+    // has failed or not as before, and no error is counted.
+    ensures read_failed { result ≡ Err Fault.Read → source_failed source.new ≡ true }
+    ensures read_going { result ≢ Err Fault.Read
+        → source_failed source.new ≡ source_failed source.old }
+    ensures read_erred { source_failed source.old ≡ false → result ≡ Err Fault.Read
         → OneError (R.read_errors (reader_of source.old)) (R.read_errors (reader_of source.new)) }
-    ensures fine { source_failed source.old ≡ false → result ≢ Err Fault.Read
+    ensures read_fine { source_failed source.old ≡ false → result ≢ Err Fault.Read
         → R.read_errors (reader_of source.new) ≡ R.read_errors (reader_of source.old) }
-    ensures untouched { IsTrue (sink_failed sink.old) → sink.new ≡ sink.old }
-    ensures sink_failed { result ≡ Err Fault.Write → sink_failed sink.new ≡ true }
-    ensures sink_fine { IfOk result (λ _. sink_failed sink.new ≡ false) }
+
+    // So it is with Write, the sink and its writer. A sink that has failed isn't touched.
+    ensures write_failed { result ≡ Err Fault.Write → sink_failed sink.new ≡ true }
+    ensures write_going { result ≢ Err Fault.Write → sink_failed sink.new ≡ sink_failed sink.old }
     ensures write_erred { sink_failed sink.old ≡ false → result ≡ Err Fault.Write
         → OneError (W.write_errors (writer_of sink.old)) (W.write_errors (writer_of sink.new)) }
-    ensures no_write_errors { result ≢ Err Fault.Write
+    ensures write_fine { result ≢ Err Fault.Write
         → W.write_errors (writer_of sink.new) ≡ W.write_errors (writer_of sink.old) }
+    ensures untouched { IsTrue (sink_failed sink.old) → sink.new ≡ sink.old }
+
+    // Nothing is done over a device that had failed before.
+    ensures done { OnOk result ((source_failed source.old ≡ false) × (sink_failed sink.old ≡ false)) }
 {
     let extract = read_extract(alloc, source, max_lines)?;
     let header = &extract.header;
@@ -81,8 +89,8 @@ pub fn normalise<R: ReadDevice, W: WriteDevice>(
 fn daily_fault(associations: &[Association], fault: DailyFault) -> Fault
     requires { IsWithin (length associations.now) fault }
     ensures clash { (first last : ℕ)
-        → IsDailyFault ⟦<AssocKey as Ord>⟧.cmp (said_by associations.now) first last fault
-        → IsClashFault ⟦<AssocKey as Ord>⟧.cmp associations.now first last result }
+        → IsDailyFault key_cmp (said_by associations.now) first last fault
+        → IsClashFault associations.now first last result }
     ensures read { result ≢ Fault.Read }
     ensures write { result ≢ Fault.Write }
 {

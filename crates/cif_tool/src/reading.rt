@@ -196,10 +196,11 @@ pub fn read_extract<R: ReadDevice>(
         IfOk result (λ extract.
         SpellBytes max_lines bytes extract.header extract.associations.items)) }
     ensures fault { IfSome (R.remaining (reader_of source.old)) (λ bytes.
-        IfErr result (IsReadFault max_lines bytes)) }
+        IfErr result (IsReadFault max_lines bytes (R.remaining (reader_of source.new)))) }
     ensures never_write { result ≢ Err Fault.Write }
     ensures failed { result ≡ Err Fault.Read → source_failed source.new ≡ true }
     ensures going { result ≢ Err Fault.Read → source_failed source.new ≡ source_failed source.old }
+    ensures endless { IfOk result (λ _. source_failed source.old ≡ false) }
     ensures erred { source_failed source.old ≡ false → result ≡ Err Fault.Read
         → OneError (R.read_errors (reader_of source.old)) (R.read_errors (reader_of source.new)) }
     ensures fine { source_failed source.old ≡ false → result ≢ Err Fault.Read

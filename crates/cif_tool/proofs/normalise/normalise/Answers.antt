@@ -2,11 +2,11 @@ use Rattle.std.proofs.Common.{Err, IfErr, ap, sym, ◌∙◌, subst}
 use Rattle.cif_columns.proofs.GivenLinesLaws.{known_so}
 use Rattle.cif_columns.specs.Source.{reader_of}
 use Rattle.cif_tool.specs.Daily.{IsDailyPlan}
-use Rattle.cif_tool.specs.Normalised.{said_by, IsFairTo}
+use Rattle.cif_tool.specs.Normalised.{said_by, BlamesNoAccepted}
 use Rattle.cif_tool.specs.Reading.{IsReadFault}
 use Rattle.cif_tool.specs.SpellsExtract.{SpellBytes}
 use Rattle.std.proofs.lemmas.Result.{err_from_is_err_and}
-use Rattle.cif_tool.proofs.Accepting.{fair, fair-read, if-error}
+use Rattle.cif_tool.proofs.Accepting.{read-blames, normalise-blames, if-error}
 use Rattle.cif_tool.proofs.Normalising.{has_written, has_written_front, clash-normalise}
 use Rattle.cif_tool.proofs.normalise.normalise.Goals as goal
 
@@ -15,7 +15,7 @@ returns-in_err-write_plan-in-Ok-clause-front g c e =
     let header = c.in_ok-extract.extract.header in
     let associations = c.as_slice-associations.result.now in
     known_so _ _ _ (λ bytes spelled.
-    has_written_front _ c.args.max_lines bytes header associations
+    has_written_front c.args.max_lines bytes header associations
     (subst (SpellBytes c.args.max_lines bytes header) (sym c.as_slice-associations.ensures.value) spelled)
     c.as_slice.result.now _ _
     (subst (IsDailyPlan _ (said_by associations) header.first header.last) (sym c.as_slice.ensures.value) c.in-Ok.ensures.plan)
@@ -27,7 +27,7 @@ returns-in-Ok-clause-ok g c =
     let associations = c.as_slice-associations.result.now in
     let counts = c.in_ok-write_plan-in-Ok.ensures.counts in
     known_so _ _ _ (λ bytes spelled.
-    has_written _ c.args.max_lines bytes header associations
+    has_written c.args.max_lines bytes header associations
     (subst (SpellBytes c.args.max_lines bytes header) (sym c.as_slice-associations.ensures.value) spelled)
     c.as_slice.result.now _ _ _
     (subst (IsDailyPlan _ (said_by associations) header.first header.last) (sym c.as_slice.ensures.value) c.in-Ok.ensures.plan)
@@ -38,18 +38,22 @@ returns-clause-fault g c =
     let header = c.in_ok-extract.extract.header in
     let associations = c.as_slice-associations.result.now in
     known_so _ _ _ (λ bytes spelled.
-    clash-normalise _ c.args.max_lines bytes header associations
+    clash-normalise c.args.max_lines bytes header associations
     (subst (SpellBytes c.args.max_lines bytes header) (sym c.as_slice-associations.ensures.value) spelled)
-    c.daily_fault.result (c.daily_fault.ensures.clash header.first header.last c.in-Err.ensures.fault)) c.in_ok-extract.ensures.ok
+    (g.R.Read.remaining (reader_of c.read_extract.new.source)) c.daily_fault.result (c.daily_fault.ensures.clash header.first header.last c.in-Err.ensures.fault)) c.in_ok-extract.ensures.ok
 
-pub returns-in_err-extract-clause-fair : goal.returns-in_err-extract-clause-fair
-returns-in_err-extract-clause-fair g c =
+pub returns-in_err-extract-clause-accepted : goal.returns-in_err-extract-clause-accepted
+returns-in_err-extract-clause-accepted g c =
     let p = err_from_is_err_and c.from_residual.result c.from_residual.ensures.1 in
-    known_so (g.R.Read.remaining (reader_of c.args.source.now)) (λ bytes. IsReadFault c.args.max_lines bytes c.in_err-extract.field-0.0)
-    (λ bytes. IfErr c.from_residual.result (IsFairTo c.args.max_lines bytes))
-    (λ bytes f. if-error (IsFairTo c.args.max_lines bytes) c.from_residual.result c.in_err-extract.field-0.0 (p.1 ∙ ap Err p.2)
-    (fair-read c.args.max_lines bytes c.in_err-extract.field-0.0 f)) c.in_err-extract.ensures.fault
+    let after = g.R.Read.remaining (reader_of c.read_extract.new.source) in
+    let fault = c.in_err-extract.field-0.0 in
+    known_so (g.R.Read.remaining (reader_of c.args.source.now)) (λ bytes. IsReadFault c.args.max_lines bytes after fault)
+    (λ bytes. IfErr c.from_residual.result (BlamesNoAccepted c.args.max_lines bytes))
+    (λ bytes f. if-error (BlamesNoAccepted c.args.max_lines bytes) c.from_residual.result fault (p.1 ∙ ap Err p.2)
+    (read-blames c.args.max_lines bytes after fault f)) c.in_err-extract.ensures.fault
 
-pub returns-clause-fair : goal.returns-clause-fair
-returns-clause-fair g c =
-    known_so _ _ _ (λ bytes f. fair _ c.args.max_lines bytes c.daily_fault.result f) (returns-clause-fault g c)
+pub returns-clause-accepted : goal.returns-clause-accepted
+returns-clause-accepted g c =
+    known_so _ _ _
+    (λ bytes f. normalise-blames c.args.max_lines bytes (g.R.Read.remaining (reader_of c.read_extract.new.source)) c.daily_fault.result f)
+    (returns-clause-fault g c)

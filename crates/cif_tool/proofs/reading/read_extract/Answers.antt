@@ -45,7 +45,7 @@ returns-in-Err-with_line-clause-fault g c =
     (next.past ∙ rw is) next.limit more in
     let number : c.line_number.result ≡ length ls + 1 = omega (arith, c.line_number.ensures, more, so_far.counted) in
     rw c.at.ensures
-    (at_stop _ c.args.max_lines c.line_number.result c.in-Err-with_line.stop
+    (at_stop _ (g.R.Read.remaining c.next.new.source.reader) c.args.max_lines c.line_number.result c.in-Err-with_line.stop
     (λ why e. at_line _ c.args.max_lines ls read.fine g.R.Read.remaining c.next.new.self c.next.new.source line c.line_number.result why
     now number
     (c.in-Err-with_line.ensures.refused why (ap Err e) c.args.max_lines ls room read)))
@@ -57,7 +57,7 @@ returns-in-Ok-None-clause-fault g c =
     let is = c.in-Ok-None.field-0-is in
     let all = reading_ends g.R.Read.remaining _ _ _ _ ls so_far c.next.new.self c.next.new.source (rw is at next.answer) in
     let number : c.line_number-in-Ok-None.result ≡ length ls = c.line_number-in-Ok-None.ensures ∙ next.ended (ap Ok is) ∙ so_far.counted in
-    finished_fault _ c.args.max_lines ls c.loop-line.reading c.line_number-in-Ok-None.result c.finished.result all read number
+    finished_fault _ (g.R.Read.remaining c.next.new.source.reader) c.args.max_lines ls c.loop-line.reading c.line_number-in-Ok-None.result c.finished.result all read number
     c.finished.ensures.truncated
 
 pub returns-in-Err-clause-fault : goal.returns-in-Err-clause-fault
@@ -65,7 +65,7 @@ returns-in-Err-clause-fault g c =
     let (ls, so_far, read, going, same) = c.loop-line.invariant in
     let next = c.in-Err.ensures in
     rw c.from.ensures
-    (at_fault _ c.args.max_lines ls read.fine c.in-Err.fault
+    (at_fault _ c.args.max_lines ls read.fine (g.R.Read.remaining c.next.new.source.reader) c.in-Err.fault
     (reading_faults g.R.Read.remaining _ _ _ _ ls so_far c.next.new.self c.next.new.source c.in-Err.fault next.answer
     (λ e. next.undecided so_far.reads_on (ap Err e))))
 
