@@ -2,7 +2,7 @@
 use Rattle.std.proofs.Common.{◌≡◌, ℕ, ◌+◌, ◌<◌, ◌≤◌, List, [], ◌∷◌, ◌++◌, length, take, drop, get_or, Option, Some, None, refl, sym, ap}
 use Rattle.std.proofs.Common.{◌∙◌, arith, subst}
 use Rattle.std.proofs.Common.{append_assoc, append-nil, length-append, ⊎_elim}
-use Rattle.std.specs.Prelude.{All, IfErr, Result, Err}
+use Rattle.std.specs.Prelude.{All}
 use Rattle.std.proofs.Math.Seq.{get_or-append_seam, take-append_seam}
 use Rattle.std.proofs.lemmas.List.{get_or_append_left}
 use Rattle.std.proofs.lemmas.List.Elements.{All-head, All-tail}
@@ -207,7 +207,3 @@ module _ (max : ℕ) (bytes : List ℕ) (after : Option (List ℕ)) where
   normalise-blames Read f h xs a = tt
   normalise-blames Write f h xs a = tt
   normalise-blames Memory f h xs a = tt
-
--- what is said of the error is said of the result
-pub if-error : {A E : Type 0} (P : E → Type 0) (r : Result A E) (e : E) → r ≡ Err e → P e → IfErr r P
-if-error P r e is h = rw is h

@@ -153,3 +153,7 @@ pub finished_fault : (start after : Option (List ℕ)) (max : ℕ) (ls : List (L
 finished_fault start after max ls reading count (Ok extract) all h is err = known_so start _ _ (λ bytes a. tt) all
 finished_fault start after max ls reading count (Err f) all h is err =
     rw err.0 (at_end start max ls reading (count + 1) all h err.1 (ap (λ n. n + 1) is))
+
+-- what is said of the error is said of the result
+pub if_error : {A E : Type 0} (P : E → Type 0) (r : Result A E) (e : E) → r ≡ Err e → P e → IfErr r P
+if_error P r e is h = rw is h

@@ -42,7 +42,8 @@ impl From<AllocError> for DailyFault {
     }
 }
 
-/// How the entries at two positions compare by their keys; a position without an entry is first.
+/// How the entries at two positions compare by their keys. A position without an entry is first: that
+/// the positions have entries isn't known to the closure of a sort.
 fn compare_keys<E: Entry>(entries: &[E], one: usize, other: usize) -> Ordering
     ensures { result ≡ option_cmp E.Key.cmp (slice_get (map E.key entries.now) one)
         (slice_get (map E.key entries.now) other) }

@@ -68,6 +68,7 @@ impl Stop {
 
 impl Reading {
     ghost use Rattle.cif_tool.specs.Reading.{IsRead};
+    ghost use Rattle.cif_tool.specs.SpellsExtract.{SpellsExtract};
 
     /// What one line more comes to.
     fn with_line(self, alloc: Global, line: &Line) -> Result<Reading, Stop>
@@ -83,11 +84,6 @@ impl Reading {
             Reading::Ended(_) => Err(Stop::Refused(after_trailer(role))),
         }
     }
-}
-
-impl Reading {
-    ghost use Rattle.cif_tool.specs.Reading.{IsRead};
-    ghost use Rattle.cif_tool.specs.SpellsExtract.{SpellsExtract};
 
     /// The extract, where these are all lines.
     fn finished(self, lines: u64) -> Result<Extract, Fault>
@@ -209,13 +205,12 @@ pub fn read_extract<R: ReadDevice>(
     let mut lines = LineReader::new(max_lines);
     let mut reading = Reading::Start;
     loop {
-        match lines.next(source) {
-            Ok(Some(line)) => match reading.with_line(alloc, &line) {
+        match lines.next(source)? {
+            Some(line) => match reading.with_line(alloc, &line) {
                 Ok(after) => reading = after,
                 Err(stop) => return Err(stop.at(lines.line_number())),
             },
-            Ok(None) => return reading.finished(lines.line_number()),
-            Err(fault) => return Err(Fault::from(fault)),
+            None => return reading.finished(lines.line_number()),
         }
     }
 }

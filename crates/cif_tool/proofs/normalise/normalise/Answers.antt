@@ -6,8 +6,9 @@ use Rattle.cif_tool.specs.Normalised.{said_by, BlamesNoAccepted}
 use Rattle.cif_tool.specs.Reading.{IsReadFault}
 use Rattle.cif_tool.specs.SpellsExtract.{SpellBytes}
 use Rattle.std.proofs.lemmas.Result.{err_from_is_err_and}
-use Rattle.cif_tool.proofs.Accepting.{read-blames, normalise-blames, if-error}
+use Rattle.cif_tool.proofs.Accepting.{read-blames, normalise-blames}
 use Rattle.cif_tool.proofs.Normalising.{has_written, has_written_front, clash-normalise}
+use Rattle.cif_tool.proofs.ReadFaults.{if_error}
 use Rattle.cif_tool.proofs.normalise.normalise.Goals as goal
 
 pub returns-in_err-write_plan-in-Ok-clause-front : goal.returns-in_err-write_plan-in-Ok-clause-front
@@ -49,7 +50,7 @@ returns-in_err-extract-clause-accepted g c =
     let fault = c.in_err-extract.field-0.0 in
     known_so (g.R.Read.remaining (reader_of c.args.source.now)) (λ bytes. IsReadFault c.args.max_lines bytes after fault)
     (λ bytes. IfErr c.from_residual.result (BlamesNoAccepted c.args.max_lines bytes))
-    (λ bytes f. if-error (BlamesNoAccepted c.args.max_lines bytes) c.from_residual.result fault (p.1 ∙ ap Err p.2)
+    (λ bytes f. if_error (BlamesNoAccepted c.args.max_lines bytes) c.from_residual.result fault (p.1 ∙ ap Err p.2)
     (read-blames c.args.max_lines bytes after fault f)) c.in_err-extract.ensures.fault
 
 pub returns-clause-accepted : goal.returns-clause-accepted

@@ -4,11 +4,11 @@ use Rattle.cif_columns.specs.LineReader.{given, limit}
 use Rattle.cif_tool.specs.Reading.{IsRead}
 use Rattle.cif_tool.proofs.reading.read_extract.Given as goal
 
-abbrev pub invariant-loop-line : goal.invariant-loop-line
-invariant-loop-line g l = (ls : List (List ℕ)) × IsReading g.R.Read.remaining (g.R.Read.remaining l.fn.source.reader) l.max_lines l.lines
+abbrev pub invariant-loop-reading : goal.invariant-loop-reading
+invariant-loop-reading g l = (ls : List (List ℕ)) × IsReading g.R.Read.remaining (g.R.Read.remaining l.fn.source.reader) l.max_lines l.lines
     l.source ls
     × IsRead l.max_lines ls l.reading × (l.source.failed ≡ l.fn.source.failed)
     × (l.fn.source.failed ≡ false → g.R.ReadDevice.read_errors l.source.reader ≡ g.R.ReadDevice.read_errors l.fn.source.reader)
 
-abbrev pub decreases-loop-line : goal.decreases-loop-line
-decreases-loop-line g l = limit l.lines - given l.lines
+abbrev pub decreases-loop-reading : goal.decreases-loop-reading
+decreases-loop-reading g l = limit l.lines - given l.lines
