@@ -8,6 +8,7 @@ use Rattle.cif_records.specs.declared.association.Association.{Association}
 abbrev pub table_of : Association → List Row
 table_of r = association_table r.key r.first r.last r.days r.letter r.body
 
--- the line spells the association: each of its values stands in its columns
+-- The line spells the association: each of its values stands in its columns. That the first date isn't after the last, and that
+-- there is no body exactly for a cancellation, are invariants of the type `Association`.
 abbrev pub SpellsAssociation : List ℕ → Association → Type 0
 SpellsAssociation line r = AllStandIn line (table_of r)

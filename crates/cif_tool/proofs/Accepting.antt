@@ -29,7 +29,7 @@ use Rattle.cif_records.proofs.Headers.{one_header, no_refusal as no_header_refus
 use Rattle.cif_records.proofs.Identities.{only_kind}
 use Rattle.cif_records.proofs.Judging.{none-some}
 use Rattle.cif_tool.specs.AssociationRules.{Place, start, inside, place_from, place_after, rules}
-use Rattle.cif_tool.specs.Normalised.{said_by, IsNormaliseFault, BlamesNoAccepted}
+use Rattle.cif_tool.specs.Normalised.{entries_of, IsNormaliseFault, BlamesNoAccepted}
 use Rattle.cif_tool.specs.Reading.{IsReadFault}
 use Rattle.cif_tool.specs.Role.{role_of, judged}
 use Rattle.cif_tool.specs.SpellsExtract.{AllSpell, SpellsExtract, SpellBytes}
@@ -174,7 +174,7 @@ one_extract max bytes h k xs ys p q = same_extract p.lines q.lines h k xs ys (sy
 
 -- where all is clear there is no clash
 clear-clash : (xs : List Association) (first last : ℕ) (key : AssocKey) (day : ℕ) →
-    AreClear (said_by xs) first last → IsFirstClashOf key_cmp (said_by xs) first last key day → ⊥
+    AreClear (entries_of xs) first last → IsFirstClashOf key_cmp (entries_of xs) first last key day → ⊥
 clear-clash xs first last key day clear c =
     let first_clash = c.clash in
     let clash = first_clash.clash in
@@ -197,8 +197,8 @@ module _ (max : ℕ) (bytes : List ℕ) (after : Option (List ℕ)) where
   normalise-blames (Ambiguous (OfAssociation key day)) f h xs a =
       let same = one_extract max bytes f.header h f.associations xs f.spelled a.spelled in
       absurd (clear-clash xs h.first h.last key day a.clear
-      (subst (λ (x : Header). IsFirstClashOf key_cmp (said_by xs) x.first x.last key day) same.0
-      (subst (λ (rs : List Association). IsFirstClashOf key_cmp (said_by rs) f.header.first f.header.last key day) same.1 f.clash)))
+      (subst (λ (x : Header). IsFirstClashOf key_cmp (entries_of xs) x.first x.last key day) same.0
+      (subst (λ (rs : List Association). IsFirstClashOf key_cmp (entries_of rs) f.header.first f.header.last key day) same.1 f.clash)))
   normalise-blames (Ambiguous (Train uid day)) f h xs a = absurd f
   normalise-blames (Refused number why) f h xs a = absurd (spelled-refused max bytes h xs number why a.spelled f)
   normalise-blames WindowsDiffer f h xs a = absurd f

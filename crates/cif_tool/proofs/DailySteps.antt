@@ -26,7 +26,7 @@ use Rattle.cif_calendar.proofs.Sets.{Wins-same}
 use Rattle.cif_calendar.proofs.Positions.{AreLawful-of_key, positions-records, clear-of_key, clash-of_key, source-of_key, terms_at-keyed}
 use Rattle.cif_calendar.proofs.Telling.{Tells, tells-skip, tells-push}
 use Rattle.cif_tool.specs.declared.daily.OneDayRecord.{OneDayRecord}
-use Rattle.cif_tool.specs.Daily.{one_day, told, told_by, IsBefore, HasBody}
+use Rattle.cif_tool.specs.Daily.{one_day, planned_entry, planned_entries, IsBefore, HasBody}
 use Rattle.cif_tool.specs.declared.daily.DailyFault.{DailyFault}
 use Rattle.cif_tool.specs.declared.daily.DailyFault.TheVariants.{Clash, Memory}
 use Rattle.cif_tool.specs.Planned.{IsPlanned, IsTurnOf, AnyHasKey, KeysDone, DaysDone, AddsDay, AddsKey, IsClashOfMembers, IsDayFault}
@@ -69,10 +69,10 @@ item_of source day = record { source = source; day = day }
 
 module _ {K B : Type 0} (es : List (K × Terms B)) where
   -- one item more tells one record more
-  pub told-push : (plan : List OneDayRecord) (i : OneDayRecord) (x : K × Terms B) → told es i ≡ Some x →
-      told_by es (plan ++ i ∷ []) ≡ told_by es plan ++ x ∷ []
-  told-push plan i x e =
-      filter_map-append (told es) plan (i ∷ []) ∙ ap (λ (o : Option (K × Terms B)). told_by es plan ++ cons_option o []) e
+  pub planned_entry-push : (plan : List OneDayRecord) (i : OneDayRecord) (x : K × Terms B) → planned_entry es i ≡ Some x →
+      planned_entries es (plan ++ i ∷ []) ≡ planned_entries es plan ++ x ∷ []
+  planned_entry-push plan i x e =
+      filter_map-append (planned_entry es) plan (i ∷ []) ∙ ap (λ (o : Option (K × Terms B)). planned_entries es plan ++ cons_option o []) e
 
 module _ {K B : Type 0} (cmp : K → K → Ordering) (es : List (K × Terms B)) (first last : ℕ) where
   pub planned-nothing : (done : K → ℕ → Type 0) → ((k : K) (d : ℕ) → done k d → ⊥) → IsPlanned cmp es first last done []
@@ -80,7 +80,7 @@ module _ {K B : Type 0} (cmp : K → K → Ordering) (es : List (K × Terms B)) 
     only = λ k r in'. absurd (let h : in'.0 < 0 = in'.1 in omega arith);
     all = λ k d b now runs. absurd (none k d now);
     clear = λ k d now. absurd (none k d now);
-    told_done = λ x in'. absurd (let h : in'.0 < 0 = in'.1 in omega arith);
+    planned_done = λ x in'. absurd (let h : in'.0 < 0 = in'.1 in omega arith);
     rises = λ i j d lt below. absurd (let h : j < 0 = below in omega arith);
     sources = All-nil _;
     days = All-nil _;
@@ -93,7 +93,7 @@ module _ {K B : Type 0} (cmp : K → K → Ordering) (es : List (K × Terms B)) 
     only = p.only;
     all = λ k d b now runs. p.all k d b (back k d now) runs;
     clear = λ k d now. p.clear k d (back k d now);
-    told_done = λ x in'. to x.0 x.1.first (p.told_done x in');
+    planned_done = λ x in'. to x.0 x.1.first (p.planned_done x in');
     rises = p.rises;
     sources = p.sources;
     days = p.days;
@@ -111,12 +111,12 @@ module _ {K B : Type 0} (cmp : K → K → Ordering) (es : List (K × Terms B)) 
       AreLawful (of_key es k) → IsClear (of_key es k) d → NothingRuns (of_key es k) d → IsPlanned cmp es first last done plan →
       IsPlanned cmp es first last more plan
   planned-skip done more plan k d one lawful clear none p =
-      let was : Tells es first last done (told_by es plan) = record { only = p.only; all = p.all } in
-      let tells = tells-skip es first last done more (told_by es plan) k d (record { only = one.only }) lawful none was in record {
+      let was : Tells es first last done (planned_entries es plan) = record { only = p.only; all = p.all } in
+      let tells = tells-skip es first last done more (planned_entries es plan) k d (record { only = one.only }) lawful none was in record {
         only = p.only;
         all = tells.all;
         clear = clear-more done more k d one clear p.clear;
-        told_done = λ x in'. one.kept x.0 x.1.first (p.told_done x in');
+        planned_done = λ x in'. one.kept x.0 x.1.first (p.planned_done x in');
         rises = p.rises;
         sources = p.sources;
         days = p.days;
@@ -125,30 +125,33 @@ module _ {K B : Type 0} (cmp : K → K → Ordering) (es : List (K × Terms B)) 
   -- a body runs, and its record is added
   pub planned-push : (done more : K → ℕ → Type 0) (plan : List OneDayRecord) (k : K) (d : ℕ) (b : B) (source : ℕ) →
       IsOneMore done k d more → first ≤ d → d ≤ last → IsClear (of_key es k) d → BodyRuns (of_key es k) d b → HasBody es source →
-      told es (item_of source d) ≡ Some (k, one_day d (Some b)) →
+      planned_entry es (item_of source d) ≡ Some (k, one_day d (Some b)) →
       ((j : K) (e : ℕ) → done j e → (cmp j k ≡ Less) ⊎ ((j ≡ k) × (e < d))) → IsPlanned cmp es first last done plan →
       IsPlanned cmp es first last more (plan ++ item_of source d ∷ [])
   planned-push done more plan k d b source one from upto clear runs has tells_it earlier p =
       let x : K × Terms B = (k, one_day d (Some b)) in
-      let e : told_by es (plan ++ item_of source d ∷ []) ≡ told_by es plan ++ x ∷ [] = told-push es plan (item_of source d) x tells_it in
-      let was : Tells es first last done (told_by es plan) = record { only = p.only; all = p.all } in
-      let grown : Tells es first last more (told_by es plan ++ x ∷ []) =
-      tells-push es first last done more (told_by es plan) k d b (one_day d (Some b)) (record { only = one.only }) from upto clear runs
+      let e : planned_entries es (plan ++ item_of source d ∷ []) ≡ planned_entries es plan ++ x ∷ [] = planned_entry-push es plan
+      (item_of source d) x tells_it in
+      let was : Tells es first last done (planned_entries es plan) = record { only = p.only; all = p.all } in
+      let grown : Tells es first last more (planned_entries es plan ++ x ∷ []) =
+      tells-push es first last done more (planned_entries es plan) k d b (one_day d (Some b)) (record { only = one.only }) from upto clear
+      runs
       (one_day-is d b) was in
-      let tells : Tells es first last more (told_by es (plan ++ item_of source d ∷ [])) =
+      let tells : Tells es first last more (planned_entries es (plan ++ item_of source d ∷ [])) =
       subst (λ (out : List (K × Terms B)). Tells es first last more out) (sym e) grown in
       record {
         only = tells.only;
         all = tells.all;
         clear = clear-more done more k d one clear p.clear;
-        told_done = λ y in'. ⊎_elim
-            (λ old. one.kept y.0 y.1.first (p.told_done y old))
+        planned_done = λ y in'. ⊎_elim
+            (λ old. one.kept y.0 y.1.first (p.planned_done y old))
             (λ new. subst (λ (z : K × Terms B). more z.0 z.1.first) new one.added)
-            (Contains-push_cases (told_by es plan) x y (subst (λ (out : List (K × Terms B)). Contains out y) e in'));
+            (Contains-push_cases (planned_entries es plan) x y (subst (λ (out : List (K × Terms B)). Contains out y) e in'));
         rises = subst (λ (out : List (K × Terms B)). AllPairs (IsBefore cmp) out) (sym e)
-            (all_pairs_push (IsBefore cmp) (told_by es plan) x p.rises
-            (All-weaker (Contains (told_by es plan)) (λ (y : K × Terms B). IsBefore cmp y x)
-            (λ y in'. earlier y.0 y.1.first (p.told_done y in')) (told_by es plan) (All-contains_itself (told_by es plan))));
+            (all_pairs_push (IsBefore cmp) (planned_entries es plan) x p.rises
+            (All-weaker (Contains (planned_entries es plan)) (λ (y : K × Terms B). IsBefore cmp y x)
+            (λ y in'. earlier y.0 y.1.first (p.planned_done y in')) (planned_entries es plan)
+            (All-contains_itself (planned_entries es plan))));
         sources = All-push (λ (i : OneDayRecord). HasBody es i.source) plan (item_of source d) p.sources has;
         days = All-push (λ (i : OneDayRecord). (first ≤ i.day) × (i.day ≤ last)) plan (item_of source d) p.days (from, upto);
       }
@@ -183,7 +186,7 @@ module _ {K B : Type 0} (cmp : K → K → Ordering) (es : List (K × Terms B)) 
 
   pub day-push : (before members : List ℕ) (k : K) (d : ℕ) (b : B) (source : ℕ) (plan : List OneDayRecord) → first ≤ d → d ≤ last →
       IsTurnOf cmp es before members k → IsClear (of_key es k) d → BodyRuns (of_key es k) d b → HasBody es source →
-      told es (item_of source d) ≡ Some (k, one_day d (Some b)) →
+      planned_entry es (item_of source d) ≡ Some (k, one_day d (Some b)) →
       IsPlanned cmp es first last (DaysDone es first last before k d) plan →
       IsPlanned cmp es first last (DaysDone es first last before k (d + 1)) (plan ++ item_of source d ∷ [])
   day-push before members k d b source plan from upto turn clear runs has tells_it p =
@@ -217,7 +220,7 @@ module _ {E K B : Type 0} (key : E → K) (terms : E → Terms B) (cancelled : (
         Wins-same _ _ (positions-records key terms es k members turn.positions) d s.winner s.wins in
         let runs : BodyRuns (of_key (keyed key terms es) k) d b.0 = record { winner = s.winner; wins = wins; body = b.1 } in
         let has : HasBody (keyed key terms es) i = record { entry = (k, found.0); at = found.1; body = ap is_some body } in
-        let tells_it : told (keyed key terms es) (item_of i d) ≡ Some (k, one_day d (Some b.0)) =
+        let tells_it : planned_entry (keyed key terms es) (item_of i d) ≡ Some (k, one_day d (Some b.0)) =
         ap (λ (o : Option (K × Terms B)). option_map (λ (entry : K × Terms B). (entry.0, one_day d entry.1.body)) o) found.1
         ∙ ap (λ (o : Option B). Some (k, one_day d o)) body in
         day-push cmp (keyed key terms es) first last before members k d b.0 i plan from upto turn

@@ -10,41 +10,42 @@ use Rattle.cif_calendar.specs.Meaning.{SameMeaning}
 use Rattle.cif_calendar.proofs.Positions.{AreLawful-of_key}
 use Rattle.cif_calendar.proofs.DayByDay.{day_by_day-meaning, day_by_day-clear}
 use Rattle.cif_tool.specs.declared.daily.OneDayRecord.{OneDayRecord}
-use Rattle.cif_tool.specs.Daily.{one_day, told, told_by, HasBody, IsDailyPlan}
-use Rattle.cif_tool.proofs.DailySteps.{told-push, the_body}
+use Rattle.cif_tool.specs.Daily.{one_day, planned_entry, planned_entries, HasBody, IsDailyPlan}
+use Rattle.cif_tool.proofs.DailySteps.{planned_entry-push, the_body}
 
 module _ {K B : Type 0} (es : List (K × Terms B)) where
   -- what an item tells, by the entry at its source
-  pub told-entry : (i : OneDayRecord) (k : K) (r : Terms B) (b : B) → slice_get es i.source ≡ Some (k, r) → r.body ≡ Some b →
-      told es i ≡ Some (k, one_day i.day (Some b))
-  told-entry i k r b at body =
+  pub planned_entry-entry : (i : OneDayRecord) (k : K) (r : Terms B) (b : B) → slice_get es i.source ≡ Some (k, r) → r.body ≡ Some b →
+      planned_entry es i ≡ Some (k, one_day i.day (Some b))
+  planned_entry-entry i k r b at body =
       ap (λ (o : Option (K × Terms B)). option_map (λ (entry : K × Terms B). (entry.0, one_day i.day entry.1.body)) o) at
       ∙ ap (λ (o : Option B). Some (k, one_day i.day o)) body
 
   -- an item whose source has a body tells a record
-  pub told-body : (i : OneDayRecord) (h : HasBody es i.source) →
-      (b : B) × (h.entry.1.body ≡ Some b) × (told es i ≡ Some (h.entry.0, one_day i.day (Some b)))
-  told-body i h =
-      let b = the_body h.entry.1.body h.body in (b.0, b.1, told-entry i h.entry.0 h.entry.1 b.0 h.at b.1)
+  pub planned_entry-body : (i : OneDayRecord) (h : HasBody es i.source) →
+      (b : B) × (h.entry.1.body ≡ Some b) × (planned_entry es i ≡ Some (h.entry.0, one_day i.day (Some b)))
+  planned_entry-body i h =
+      let b = the_body h.entry.1.body h.body in (b.0, b.1, planned_entry-entry i h.entry.0 h.entry.1 b.0 h.at b.1)
 
   -- the step of a loop over the plan
-  pub told_by-more : (plan : List OneDayRecord) (n : ℕ) (i : OneDayRecord) (x : K × Terms B) → n < length plan →
-      i ≡ get_or plan n i → told es i ≡ Some x → told_by es (take (n + 1) plan) ≡ told_by es (take n plan) ++ x ∷ []
-  told_by-more plan n i x below is tells =
-      ap (λ (p : List OneDayRecord). told_by es p)
+  pub planned_entries-more : (plan : List OneDayRecord) (n : ℕ) (i : OneDayRecord) (x : K × Terms B) → n < length plan →
+      i ≡ get_or plan n i → planned_entry es i ≡ Some x →
+      planned_entries es (take (n + 1) plan) ≡ planned_entries es (take n plan) ++ x ∷ []
+  planned_entries-more plan n i x below is tells =
+      ap (λ (p : List OneDayRecord). planned_entries es p)
       (take_more plan n i below ∙ ap (λ (j : OneDayRecord). take n plan ++ j ∷ []) (sym is))
-      ∙ told-push es (take n plan) i x tells
+      ∙ planned_entry-push es (take n plan) i x tells
 
 -- what a plan tells says what its entries say, and is clear
 module _ {E K B : Type 0} (key : E → K) (terms : E → Terms B) (cancelled : (e : E) → IsNone (terms e).body ↔ ((terms e).letter ≡ C))
     (cmp : K → K → Ordering) (entries : List E) (first last : ℕ) (plan : List OneDayRecord)
     (p : IsDailyPlan cmp (keyed key terms entries) first last plan) where
-  pub plan-meaning : SameMeaning (keyed key terms entries) (told_by (keyed key terms entries) plan) first last
+  pub plan-meaning : SameMeaning (keyed key terms entries) (planned_entries (keyed key terms entries) plan) first last
   plan-meaning =
-      day_by_day-meaning (keyed key terms entries) (told_by (keyed key terms entries) plan) first last
+      day_by_day-meaning (keyed key terms entries) (planned_entries (keyed key terms entries) plan) first last
       (λ k. AreLawful-of_key key terms cancelled entries k) p.clear p.tells
 
-  pub plan-clear : AreClear (told_by (keyed key terms entries) plan) first last
+  pub plan-clear : AreClear (planned_entries (keyed key terms entries) plan) first last
   plan-clear =
-      day_by_day-clear (keyed key terms entries) (told_by (keyed key terms entries) plan) first last
+      day_by_day-clear (keyed key terms entries) (planned_entries (keyed key terms entries) plan) first last
       (λ k. AreLawful-of_key key terms cancelled entries k) p.clear p.tells

@@ -26,7 +26,7 @@ use Rattle.cif_calendar.proofs.Winning.{terms_at}
 use Rattle.cif_tool.specs.declared.daily.OneDayRecord.{OneDayRecord}
 use Rattle.cif_tool.specs.declared.daily.DailyFault.{DailyFault}
 use Rattle.cif_tool.specs.declared.daily.DailyFault.TheVariants.{Clash, Memory}
-use Rattle.cif_tool.specs.Daily.{told_by, HasBody, IsDailyPlan, IsDailyFault, IsWithin}
+use Rattle.cif_tool.specs.Daily.{planned_entries, HasBody, IsDailyPlan, IsDailyFault, IsWithin}
 use Rattle.cif_tool.specs.Planned.{HasKey, AnyHasKey, IsRising, IsFirstRun, IsPlanned, KeysDone, AddsKey, IsKeyFault}
 use Rattle.cif_tool.proofs.DailyKeys.{one-key, some-key, members-key, turn, order-after, not-before, rising-after, whole-after}
 use Rattle.cif_tool.proofs.DailySteps.{planned-nothing}
@@ -158,13 +158,13 @@ module _ {K B : Type 0} (cmp : K → K → Ordering) (es : List (K × Terms B)) 
             (Contains-append_cases made.before [] f.0 (made.whole f.0 (k, r) f.1));
         has = record { terms = r; at = f.1 };
       } in
-      let tells : Tells es first last (KeysDone es first last made.before) (told_by es plan) =
+      let tells : Tells es first last (KeysDone es first last made.before) (planned_entries es plan) =
       record { only = made.planned.only; all = made.planned.all } in
       record {
         clear = AreClear-from_entries es first last (λ k r in'. record {
           clear = λ d from upto. made.planned.clear k d (done k r in', from, upto);
         });
-        tells = tells-all es first last (KeysDone es first last made.before) (told_by es plan)
+        tells = tells-all es first last (KeysDone es first last made.before) (planned_entries es plan)
             (λ k r d in' from upto. (done k r in', from, upto)) tells;
         rises = made.planned.rises;
         sources = made.planned.sources;

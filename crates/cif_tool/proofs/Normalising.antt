@@ -39,15 +39,15 @@ use Rattle.cif_records.specs.declared.assoc_body.AssocBody.{AssocBody}
 use Rattle.cif_records.specs.declared.assoc_key.AssocKey.{AssocKey}
 use Rattle.cif_records.specs.declared.association.Association.{Association}
 use Rattle.cif_records.specs.declared.header.Header.{Header}
-use Rattle.cif_tool.specs.Daily.{HasBody, IsBefore, IsDailyPlan, told_by}
-use Rattle.cif_tool.specs.ExtractText.{extract_text, told_text}
-use Rattle.cif_tool.specs.Normalised.{said_by, IsNormalised, IsClashFault, IsNormaliseFault, HasWritten, HasWrittenFront, counts_of}
+use Rattle.cif_tool.specs.Daily.{HasBody, IsBefore, IsDailyPlan, planned_entries}
+use Rattle.cif_tool.specs.ExtractText.{extract_text, planned_text}
+use Rattle.cif_tool.specs.Normalised.{entries_of, IsNormalised, IsClashFault, IsNormaliseFault, HasWritten, HasWrittenFront, counts_of}
 use Rattle.cif_tool.specs.SpellsExtract.{SpellBytes}
 use Rattle.cif_tool.specs.declared.daily.OneDayRecord.{OneDayRecord}
 use Rattle.cif_tool.specs.declared.normalise.Counts.{Counts}
 use Rattle.cif_tool.proofs.Accepting.{All-front}
-use Rattle.cif_tool.proofs.DailyTelling.{told-body, plan-meaning, plan-clear}
-use Rattle.cif_tool.proofs.Writing.{told-extract_text, terms_of}
+use Rattle.cif_tool.proofs.DailyTelling.{planned_entry-body, plan-meaning, plan-clear}
+use Rattle.cif_tool.proofs.Writing.{extract_text-planned, terms_of}
 
 -- the permanent association of one day
 abbrev association_of : AssocKey → ℕ → AssocBody → Association
@@ -74,7 +74,7 @@ module _ (entries : List (AssocKey × Terms AssocBody)) (plain_entries : All IsP
   -- the associations that a plan tells
   pub record IsOutput (plan : List OneDayRecord) : Type 0 where
     pub output : List Association
-    pub said : said_by output ≡ told_by entries plan
+    pub said : entries_of output ≡ planned_entries entries plan
     pub count : length output ≡ length plan
     pub plain : All IsPlain output
 
@@ -86,7 +86,7 @@ module _ (entries : List (AssocKey × Terms AssocBody)) (plain_entries : All IsP
       let rest =
       output_of plan (All-tail (λ (i : OneDayRecord). HasBody entries i.source) item plan sources)
       (All-tail (λ (i : OneDayRecord). IsDay i.day) item plan days) in
-      let found = told-body entries item here in
+      let found = planned_entry-body entries item here in
       let entry : IsPlainEntry here.entry = All-contains IsPlainEntry entries here.entry plain_entries
       (contains-at entries item.source here.entry here.at) in
       record {
@@ -101,7 +101,7 @@ module _ (entries : List (AssocKey × Terms AssocBody)) (plain_entries : All IsP
             body = Some found.0;
           },
         ) ∷ others) rest.said
-            ∙ sym (ap (λ o. cons_option o (told_by entries plan)) found.2);
+            ∙ sym (ap (λ o. cons_option o (planned_entries entries plan)) found.2);
         count = ap suc rest.count;
         plain = All-cons IsPlain (association_of here.entry.0 item.day found.0) rest.output
             (entry found.0 item.day found.1 (All-head (λ (i : OneDayRecord). IsDay i.day) item plan days)) rest.plain;
@@ -109,12 +109,12 @@ module _ (entries : List (AssocKey × Terms AssocBody)) (plain_entries : All IsP
 
 -- what lines spell has plain lines
 plain-entries : (middle : List (List ℕ)) (associations : List Association) → AllSpell middle associations → All IsLine middle →
-    All IsPlainEntry (said_by associations)
+    All IsPlainEntry (entries_of associations)
 plain-entries [] [] spelled are_lines = All-nil IsPlainEntry
 plain-entries [] (r ∷ rs) spelled are_lines = absurd spelled
 plain-entries (line ∷ middle) [] spelled are_lines = absurd spelled
 plain-entries (line ∷ middle) (r ∷ rs) spelled are_lines =
-    All-cons IsPlainEntry (r.key, terms_of r) (said_by rs)
+    All-cons IsPlainEntry (r.key, terms_of r) (entries_of rs)
     (λ body day holds is_day.
     plain-permanent line (All-head IsLine line middle are_lines) r body day day (only_on (weekday_of day)) spelled.0 holds is_day is_day
     (length-set (replicate 7 false) (weekday_of day) true))
@@ -183,15 +183,16 @@ spelled-text header output is_line spells plain =
 module _ (max : ℕ) (bytes : List ℕ) (header : Header) (associations : List Association)
     (spelled : SpellBytes max bytes header associations) where
   -- what is written where there is a plan
-  pub normalised : (plan : List OneDayRecord) (counts : Counts) → IsDailyPlan key_cmp (said_by associations) header.first header.last plan →
+  pub normalised : (plan : List OneDayRecord) (counts : Counts) →
+      IsDailyPlan key_cmp (entries_of associations) header.first header.last plan →
       counts.tiplocs ≡ 0 → counts.associations ≡ length plan → counts.schedules ≡ 0 →
-      IsNormalised max bytes (told_text header (told_by (said_by associations) plan)) counts
+      IsNormalised max bytes (planned_text header (planned_entries (entries_of associations) plan)) counts
   normalised plan counts p none many nothing =
       let s = subst (λ ls. All IsLine ls) spelled.spelled.parts spelled.all.are_lines in
       let are_lines = All-front IsLine (spelled.spelled.head ∷ spelled.spelled.middle) (spelled.spelled.last ∷ []) s in
       let is_line = All-head IsLine spelled.spelled.head spelled.spelled.middle are_lines in
       let upto : IsDay header.last = is_day-last spelled.spelled.head is_line header spelled.spelled.first in
-      let out = output_of (said_by associations)
+      let out = output_of (entries_of associations)
       (plain-entries spelled.spelled.middle associations spelled.spelled.between
       (All-tail IsLine spelled.spelled.head spelled.spelled.middle are_lines))
       plan p.sources (All-weaker (λ (item : OneDayRecord). (header.first ≤ item.day) × (item.day ≤ header.last))
@@ -211,12 +212,12 @@ module _ (max : ℕ) (bytes : List ℕ) (header : Header) (associations : List A
               (plan-clear (λ (a : Association). a.key) terms_of cancelled key_cmp associations header.first header.last plan p);
         };
         normal = record {
-          same = subst (λ said. SameMeaning (said_by associations) said header.first header.last) (sym out.said)
+          same = subst (λ said. SameMeaning (entries_of associations) said header.first header.last) (sym out.said)
               (plan-meaning (λ (a : Association). a.key) terms_of cancelled key_cmp associations header.first header.last plan p);
-          days = subst (IsDayByDay (said_by associations) header.first header.last) (sym out.said) p.tells;
+          days = subst (IsDayByDay (entries_of associations) header.first header.last) (sym out.said) p.tells;
           rises = subst (AllPairs (IsBefore key_cmp)) (sym out.said) p.rises;
         };
-        plain = ap (told_text header) (sym out.said) ∙ sym (told-extract_text header out.output);
+        plain = ap (planned_text header) (sym out.said) ∙ sym (extract_text-planned header out.output);
         counted = counts-are counts out.output none (many ∙ sym out.count) nothing;
       }
     where
@@ -228,18 +229,22 @@ module _ (max : ℕ) (bytes : List ℕ) (header : Header) (associations : List A
 
   -- the whole text is written
   pub has_written : (plan : List OneDayRecord) (counts : Counts) (old new : Option (List ℕ)) →
-      IsDailyPlan key_cmp (said_by associations) header.first header.last plan →
+      IsDailyPlan key_cmp (entries_of associations) header.first header.last plan →
       counts.tiplocs ≡ 0 → counts.associations ≡ length plan → counts.schedules ≡ 0 →
-      Appends old new (told_text header (told_by (said_by associations) plan)) → HasWritten max bytes old new counts
+      Appends old new (planned_text header (planned_entries (entries_of associations) plan)) → HasWritten max bytes old new counts
   has_written plan counts old new p none many nothing
-      appended = (told_text header (told_by (said_by associations) plan), normalised plan counts p none many nothing, appended)
+      appended = (
+        planned_text header (planned_entries (entries_of associations) plan),
+        normalised plan counts p none many nothing,
+        appended,
+      )
 
   -- a front of it is written
   pub has_written_front : (plan : List OneDayRecord) (old new : Option (List ℕ)) →
-      IsDailyPlan key_cmp (said_by associations) header.first header.last plan →
-      AppendsFront old new (told_text header (told_by (said_by associations) plan)) → HasWrittenFront max bytes old new
+      IsDailyPlan key_cmp (entries_of associations) header.first header.last plan →
+      AppendsFront old new (planned_text header (planned_entries (entries_of associations) plan)) → HasWrittenFront max bytes old new
   has_written_front plan old new p front = (
-    told_text header (told_by (said_by associations) plan),
+    planned_text header (planned_entries (entries_of associations) plan),
     record { tiplocs = 0; associations = length plan; schedules = 0 },
     normalised plan (record { tiplocs = 0; associations = length plan; schedules = 0 }) p refl refl refl,
     front,

@@ -1,5 +1,6 @@
 -- Where a reading stops, and why.
-use Rattle.std.proofs.Common.{◌≡◌, ◌≢◌, ℕ, ◌+◌, Bool, true, false, nat_eq, nat_lt, List, [], ◌∷◌, ◌++◌, length, Option, Some, None, IfSome, IsSomeAnd}
+use Rattle.std.proofs.Common.{◌≡◌, ◌≢◌, ℕ, ◌+◌, Bool, true, false, nat_eq, nat_lt, List, [], ◌∷◌, ◌++◌, length, Option, Some, None, IfSome}
+use Rattle.std.proofs.Common.{IsSomeAnd}
 use Rattle.std.proofs.Common.{IfErr, Result, Ok, Err, refl, sym, ap, ◌∙◌, arith, append_assoc, codes, find, inl, inr, ne_eqb}
 use Rattle.std.proofs.lemmas.Bool.Decides.{nat_tests}
 use Rattle.std.proofs.lemmas.List.Elements.{All-cons, All-nil}
@@ -61,7 +62,8 @@ line_reason rules max before content number refusal.BadByte is h =
 line_reason rules max before content number _ is h = absurd h
 
 module _ (start : Option (List ℕ)) (max : ℕ) (ls : List (List ℕ)) (fine : NoneRefused rules max ls) where
-  pub at_fault : (after : Option (List ℕ)) (line_fault : LineFault) → IfSome start (λ bytes. AreLinesToFault max bytes after ls line_fault) →
+  pub at_fault : (after : Option (List ℕ)) (line_fault : LineFault) →
+      IfSome start (λ bytes. AreLinesToFault max bytes after ls line_fault) →
       IfSome start (λ bytes. IsReadFault max bytes after (of_line_fault line_fault))
   at_fault after (line_fault.Refused number why) h = known_so start _ _ (λ bytes r. inl (record {
     before = ls;

@@ -24,12 +24,12 @@ use Rattle.cif_records.specs.declared.assoc_body.AssocBody.{AssocBody}
 use Rattle.cif_records.specs.declared.assoc_key.AssocKey.{AssocKey}
 use Rattle.cif_records.specs.declared.association.Association.{Association}
 use Rattle.cif_records.specs.declared.header.Header.{Header}
-use Rattle.cif_tool.specs.Daily.{HasBody, IsClashAt, told, told_by}
-use Rattle.cif_tool.specs.ExtractText.{extract_text, line_text, entries_text, told_text}
-use Rattle.cif_tool.specs.Normalised.{said_by}
+use Rattle.cif_tool.specs.Daily.{HasBody, IsClashAt, planned_entry, planned_entries}
+use Rattle.cif_tool.specs.ExtractText.{extract_text, line_text, entries_text, planned_text}
+use Rattle.cif_tool.specs.Normalised.{entries_of}
 use Rattle.cif_tool.specs.declared.daily.OneDayRecord.{OneDayRecord}
 use Rattle.cif_tool.proofs.DailyKeys.{one-key}
-use Rattle.cif_tool.proofs.DailyTelling.{told-entry}
+use Rattle.cif_tool.proofs.DailyTelling.{planned_entry-entry}
 use Rattle.cif_tool.proofs.DailyWhole.{has-key, within-entries}
 
 abbrev pub terms_of : Association → Terms AssocBody
@@ -38,11 +38,11 @@ terms_of a = record { first = a.first; last = a.last; days = a.days; letter = a.
 -- the first clash is that of the key of the association which a fault names
 pub clash-key : (order : AssocKey → AssocKey → Ordering) (associations : List Association) (first last i day : ℕ) (a : Association)
     (k : AssocKey) →
-    i < length associations → a ≡ get_or associations i a → k ≡ a.key → IsClashAt order (said_by associations) first last i day →
-    IsFirstClashOf order (said_by associations) first last k day
+    i < length associations → a ≡ get_or associations i a → k ≡ a.key → IsClashAt order (entries_of associations) first last i day →
+    IsFirstClashOf order (entries_of associations) first last k day
 clash-key order associations first last i day a k below is same h =
-    subst (λ j. IsFirstClashOf order (said_by associations) first last j day)
-    (one-key (said_by associations) i h.entry.0 a.key (record { terms = h.entry.1; at = h.at })
+    subst (λ j. IsFirstClashOf order (entries_of associations) first last j day)
+    (one-key (entries_of associations) i h.entry.0 a.key (record { terms = h.entry.1; at = h.at })
     (has-key (λ x. x.key) terms_of associations i a below is) ∙ sym same) h.clash
 
 -- a front of the first piece is a front of both
@@ -58,49 +58,50 @@ front-second a b c p q whole h =
 pub item-text : (associations : List Association) (item : OneDayRecord) (a : Association) (body : AssocBody) (days : _) →
     item.source < length associations →
     a ≡ get_or associations item.source a → a.body ≡ Some body → days ≡ only_on (weekday_of item.day) →
-    entries_text (told_by (said_by associations) (item ∷ [])) ≡ plain_line
+    entries_text (planned_entries (entries_of associations) (item ∷ [])) ≡ plain_line
     (association_table a.key item.day item.day days P (Some body)) ++ 10 ∷ []
 unfolding entries_text line_text
 item-text associations item a body days below is holds same =
     ap (λ o. entries_text (Rattle.std.specs.List.cons_option o []))
-    (told-entry (said_by associations) item a.key (terms_of a) body
+    (planned_entry-entry (entries_of associations) item a.key (terms_of a) body
     (terms_at (λ x. (x.key, terms_of x)) associations item.source a below is) holds)
     ∙ append-nil _
     ∙ ap (λ d. plain_line (association_table a.key item.day item.day d P (Some body)) ++ 10 ∷ []) (sym same)
 
 -- the position of an item is within
-pub item-within : (associations : List Association) (item : OneDayRecord) → HasBody (said_by associations) item.source →
+pub item-within : (associations : List Association) (item : OneDayRecord) → HasBody (entries_of associations) item.source →
     item.source < length associations
 item-within associations item h = within-entries (λ x. x.key) terms_of associations item.source
-    (slice_get_within (said_by associations) item.source h.entry h.at)
+    (slice_get_within (entries_of associations) item.source h.entry h.at)
 
 -- the text of the records so far, and of one more item
 pub entries-more : (entries : List (AssocKey × Terms AssocBody)) (plan : List OneDayRecord) (n : ℕ) (item : OneDayRecord) →
     n < length plan →
     item ≡ get_or plan n item →
-    entries_text (told_by entries (take (n + 1) plan)) ≡ entries_text (told_by entries (take n plan)) ++ entries_text
-    (told_by entries (item ∷ []))
+    entries_text (planned_entries entries (take (n + 1) plan)) ≡ entries_text (planned_entries entries (take n plan)) ++ entries_text
+    (planned_entries entries (item ∷ []))
 unfolding entries_text
 entries-more entries plan n item below is =
-    ap (λ (p : List OneDayRecord). entries_text (told_by entries p))
+    ap (λ (p : List OneDayRecord). entries_text (planned_entries entries p))
     (take_more plan n item below ∙ ap (λ (j : OneDayRecord). take n plan ++ j ∷ []) (sym is))
-    ∙ ap entries_text (filter_map-append (told entries) (take n plan) (item ∷ []))
-    ∙ flat_map-append _ (told_by entries (take n plan)) (told_by entries (item ∷ []))
+    ∙ ap entries_text (filter_map-append (planned_entry entries) (take n plan) (item ∷ []))
+    ∙ flat_map-append _ (planned_entries entries (take n plan)) (planned_entries entries (item ∷ []))
 
 -- the text of the records so far begins that of all
 pub entries-front : (entries : List (AssocKey × Terms AssocBody)) (plan : List OneDayRecord) (n : ℕ) →
-    entries_text (told_by entries plan) ≡ entries_text (told_by entries (take n plan)) ++ entries_text (told_by entries (drop n plan))
+    entries_text (planned_entries entries plan) ≡ entries_text (planned_entries entries (take n plan)) ++ entries_text
+    (planned_entries entries (drop n plan))
 unfolding entries_text
 entries-front entries plan n =
-    ap (λ (p : List OneDayRecord). entries_text (told_by entries p)) (sym (take-append-drop n plan))
-    ∙ ap entries_text (filter_map-append (told entries) (take n plan) (drop n plan))
-    ∙ flat_map-append _ (told_by entries (take n plan)) (told_by entries (drop n plan))
+    ap (λ (p : List OneDayRecord). entries_text (planned_entries entries p)) (sym (take-append-drop n plan))
+    ∙ ap entries_text (filter_map-append (planned_entry entries) (take n plan) (drop n plan))
+    ∙ flat_map-append _ (planned_entries entries (take n plan)) (planned_entries entries (drop n plan))
 
 -- the text of an extract by what its associations say
-pub told-extract_text : (header : Header) (associations : List Association) →
-    extract_text header associations ≡ told_text header (said_by associations)
+pub extract_text-planned : (header : Header) (associations : List Association) →
+    extract_text header associations ≡ planned_text header (entries_of associations)
 unfolding entries_text
-told-extract_text header associations =
+extract_text-planned header associations =
     ap (λ (between : List ℕ). line_text (header_table header.columns) ++ (between ++ line_text trailer_table))
     (sym (flat_map-map (λ (e : AssocKey × Terms AssocBody). line_text
     (association_table e.0 e.1.first e.1.last e.1.days e.1.letter e.1.body))
@@ -116,21 +117,21 @@ trailer-text = refl
 
 -- three pieces after one another: the header's line, the records' and the trailer's
 module _ (header : Header) (entries : List (AssocKey × Terms AssocBody)) (a b c d : Option (List ℕ)) where
-  pub in-head : AppendsFront a b (plain_line (header_table header.columns) ++ 10 ∷ []) → AppendsFront a b (told_text header entries)
+  pub in-head : AppendsFront a b (plain_line (header_table header.columns) ++ 10 ∷ []) → AppendsFront a b (planned_text header entries)
   in-head h = front-first a b _ _ (subst (AppendsFront a b) (sym (head-text header)) h)
 
   pub in-entries : Appends a b (plain_line (header_table header.columns) ++ 10 ∷ []) → AppendsFront b c (entries_text entries) →
-      AppendsFront a c (told_text header entries)
+      AppendsFront a c (planned_text header entries)
   in-entries h e = front-second a b c _ _ (subst (Appends a b) (sym (head-text header)) h) (front-first b c _ _ e)
 
   pub in-trailer : Appends a b (plain_line (header_table header.columns) ++ 10 ∷ []) → Appends b c (entries_text entries) →
-      AppendsFront c d (plain_line trailer_table ++ 10 ∷ []) → AppendsFront a d (told_text header entries)
+      AppendsFront c d (plain_line trailer_table ++ 10 ∷ []) → AppendsFront a d (planned_text header entries)
   in-trailer h e t =
       front-second a b d _ _ (subst (Appends a b) (sym (head-text header)) h)
       (front-second b c d _ _ e (subst (AppendsFront c d) (sym trailer-text) t))
 
   pub whole : Appends a b (plain_line (header_table header.columns) ++ 10 ∷ []) → Appends b c (entries_text entries) →
-      Appends c d (plain_line trailer_table ++ 10 ∷ []) → Appends a d (told_text header entries)
+      Appends c d (plain_line trailer_table ++ 10 ∷ []) → Appends a d (planned_text header entries)
   whole h e t =
       Appends-trans a b d _ _ (subst (Appends a b) (sym (head-text header)) h)
       (Appends-trans b c d _ _ e (subst (Appends c d) (sym trailer-text) t))
@@ -146,14 +147,16 @@ unfolding entries_text
 entries-start a = Appends-nil a
 
 module _ (entries : List (AssocKey × Terms AssocBody)) (plan : List OneDayRecord) (n : ℕ) (item : OneDayRecord) (below : n < length plan)
-    (is : item ≡ get_or plan n item) (a b c : Option (List ℕ)) (so_far : Appends a b (entries_text (told_by entries (take n plan)))) where
+    (is : item ≡ get_or plan n item) (a b c : Option (List ℕ))
+    (so_far : Appends a b (entries_text (planned_entries entries (take n plan)))) where
   -- one item more is written
-  pub entries-step : Appends b c (entries_text (told_by entries (item ∷ []))) →
-      Appends a c (entries_text (told_by entries (take (n + 1) plan)))
+  pub entries-step : Appends b c (entries_text (planned_entries entries (item ∷ []))) →
+      Appends a c (entries_text (planned_entries entries (take (n + 1) plan)))
   entries-step more = subst (Appends a c) (sym (entries-more entries plan n item below is)) (Appends-trans a b c _ _ so_far more)
 
   -- a front of it is written
-  pub entries-stop : AppendsFront b c (entries_text (told_by entries (item ∷ []))) → AppendsFront a c (entries_text (told_by entries plan))
+  pub entries-stop : AppendsFront b c (entries_text (planned_entries entries (item ∷ []))) →
+      AppendsFront a c (entries_text (planned_entries entries plan))
   entries-stop front =
       subst (AppendsFront a c) (sym (entries-front entries plan (n + 1)))
       (front-first a c _ _ (subst (AppendsFront a c) (sym (entries-more entries plan n item below is))

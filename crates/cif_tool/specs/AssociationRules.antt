@@ -21,7 +21,7 @@ pub data Place : Type 0 where
   inside : Place
   ended : Place
 
--- the place after a line of this kind
+-- the place after a line of this kind; a line of no kind is refused, so that nothing comes after it
 abbrev pub place_after : Option Kind → Place
 place_after None = inside
 place_after (Some Zz) = ended

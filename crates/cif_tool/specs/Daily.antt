@@ -1,4 +1,4 @@
--- Records of one day each, each planned as the entry that has its body and the day.
+-- A plan of records of one day each, each given by the position of an entry and a day.
 use Rattle.std.specs.Prelude.{◌≡◌, ℕ, ◌<◌, ◌≤◌, ◌⊎◌, ⊤, List, Option, Some, IsSome, All, AllPairs, slice_get, option_map, filter_map}
 use Rattle.std.specs.declared.cmp.Ordering.{Ordering}
 use Rattle.std.specs.declared.cmp.Ordering.TheVariants.{Less}
@@ -16,13 +16,14 @@ use Rattle.cif_tool.specs.declared.daily.DailyFault.TheVariants.{Clash, Memory}
 abbrev pub one_day : {B : Type 0} → ℕ → Option B → Terms B
 one_day day body = record { first = day; last = day; days = only_on (weekday_of day); letter = P; body = body }
 
--- what an item of a plan tells: the key and the body of the entry at its source, for the item's day alone
-abbrev pub told : {K B : Type 0} → List (K × Terms B) → OneDayRecord → Option (K × Terms B)
-told {K} {B} entries item = option_map (λ (entry : K × Terms B). (entry.0, one_day item.day entry.1.body)) (slice_get entries item.source)
+-- the record that an item of a plan stands for: the key and the body of the entry at its source, for the item's day alone
+abbrev pub planned_entry : {K B : Type 0} → List (K × Terms B) → OneDayRecord → Option (K × Terms B)
+planned_entry {K} {B} entries item = option_map (λ (entry : K × Terms B). (entry.0, one_day item.day entry.1.body))
+    (slice_get entries item.source)
 
--- what a plan tells, item by item
-abbrev pub told_by : {K B : Type 0} → List (K × Terms B) → List OneDayRecord → List (K × Terms B)
-told_by entries plan = filter_map (told entries) plan
+-- the records that a plan stands for, item by item
+abbrev pub planned_entries : {K B : Type 0} → List (K × Terms B) → List OneDayRecord → List (K × Terms B)
+planned_entries entries plan = filter_map (planned_entry entries) plan
 
 -- x's key is before y's, or it is the same key and x's day is before y's
 abbrev pub IsBefore : {K B : Type 0} → (K → K → Ordering) → K × Terms B → K × Terms B → Type 0
@@ -34,13 +35,13 @@ pub record HasBody {K B : Type 0} (entries : List (K × Terms B)) (position : �
   pub at : slice_get entries position ≡ Some entry
   pub body : IsSome entry.1.body
 
--- The entries are clear, and the plan tells what they say from `first` to `last`: one record for each key and each day on
+-- The entries are clear, and the plan's records say what they say from `first` to `last`: one record for each key and each day on
 -- which a body runs, by the keys' order and then by the days, none twice.
 pub record IsDailyPlan {K B : Type 0} (cmp : K → K → Ordering) (entries : List (K × Terms B)) (first last : ℕ)
     (plan : List OneDayRecord) : Type 0 where
   pub clear : AreClear entries first last
-  pub tells : IsDayByDay entries first last (told_by entries plan)
-  pub rises : AllPairs (IsBefore cmp) (told_by entries plan)
+  pub tells : IsDayByDay entries first last (planned_entries entries plan)
+  pub rises : AllPairs (IsBefore cmp) (planned_entries entries plan)
   pub sources : All (λ item. HasBody entries item.source) plan
   pub days : All (λ item. (first ≤ item.day) × (item.day ≤ last)) plan
 

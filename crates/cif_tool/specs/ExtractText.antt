@@ -21,11 +21,11 @@ abbrev pub extract_text : Header → List Association → List ℕ
 extract_text header associations =
     line_text (header_table header.columns) ++ (flat_map (λ a. line_text (table_of a)) associations ++ line_text trailer_table)
 
--- the plain lines of records as their keys and terms
+-- the plain lines of records that are given by their keys and terms
 unfoldable pub entries_text : List (AssocKey × Terms AssocBody) → List ℕ
 entries_text entries = flat_map
     (λ (e : AssocKey × Terms AssocBody). line_text (association_table e.0 e.1.first e.1.last e.1.days e.1.letter e.1.body)) entries
 
--- the header, these records in their order, and the trailer
-abbrev pub told_text : Header → List (AssocKey × Terms AssocBody) → List ℕ
-told_text header entries = line_text (header_table header.columns) ++ (entries_text entries ++ line_text trailer_table)
+-- the header, records given so in their order, and the trailer
+abbrev pub planned_text : Header → List (AssocKey × Terms AssocBody) → List ℕ
+planned_text header entries = line_text (header_table header.columns) ++ (entries_text entries ++ line_text trailer_table)

@@ -20,22 +20,22 @@ use Rattle.cif_tool.specs.Reading.{IsReadFault}
 use Rattle.cif_tool.specs.SpellsExtract.{SpellBytes}
 use Rattle.cif_tool.specs.declared.normalise.Counts.{Counts}
 
--- what associations say: the key and the terms of each
-abbrev pub said_by : List Association → List (AssocKey × Terms AssocBody)
-said_by = keyed (λ a. a.key) (λ a. record { first = a.first; last = a.last; days = a.days; letter = a.letter; body = a.body })
+-- associations as entries of the calendar: the key and the terms of each
+abbrev pub entries_of : List Association → List (AssocKey × Terms AssocBody)
+entries_of = keyed (λ a. a.key) (λ a. record { first = a.first; last = a.last; days = a.days; letter = a.letter; body = a.body })
 
 -- The bytes are at most max lines, which spell an extract of this header and these associations; on no day of its window do
 -- two winners of a key have different bodies.
 pub record IsAccepted (max : ℕ) (bytes : List ℕ) (header : Header) (associations : List Association) : Type 0 where
   pub spelled : SpellBytes max bytes header associations
-  pub clear : AreClear (said_by associations) header.first header.last
+  pub clear : AreClear (entries_of associations) header.first header.last
 
 -- The output says what the input says from `first` to `last`, by permanent records of one day each, which rise by key and
 -- then by day.
 pub record IsOneRecordADate (first last : ℕ) (input output : List Association) : Type 0 where
-  pub same : SameMeaning (said_by input) (said_by output) first last
-  pub days : IsDayByDay (said_by input) first last (said_by output)
-  pub rises : AllPairs (IsBefore key_cmp) (said_by output)
+  pub same : SameMeaning (entries_of input) (entries_of output) first last
+  pub days : IsDayByDay (entries_of input) first last (entries_of output)
+  pub rises : AllPairs (IsBefore key_cmp) (entries_of output)
 
 -- how many records an extract of these associations has, by kind
 abbrev pub counts_of : List Association → Counts
@@ -64,7 +64,8 @@ HasWrittenFront max bytes old new =
 
 -- the first clash of associations, by key and then day, is the one that the fault names
 abbrev pub IsClashFault : List Association → ℕ → ℕ → Fault → Type 0
-IsClashFault associations first last (Ambiguous (OfAssociation key day)) = IsFirstClashOf key_cmp (said_by associations) first last key day
+IsClashFault associations first last (Ambiguous (OfAssociation key day)) = IsFirstClashOf key_cmp (entries_of associations) first last key
+    day
 IsClashFault associations first last Memory = ⊤
 IsClashFault associations first last _ = ⊥
 
@@ -73,7 +74,7 @@ pub record HasFirstClash (max : ℕ) (bytes : List ℕ) (key : AssocKey) (day : 
   pub header : Header
   pub associations : List Association
   pub spelled : SpellBytes max bytes header associations
-  pub clash : IsFirstClashOf key_cmp (said_by associations) header.first header.last key day
+  pub clash : IsFirstClashOf key_cmp (entries_of associations) header.first header.last key day
 
 -- what a fault says of the bytes, where `after` is what the reader has left then
 abbrev pub IsNormaliseFault : ℕ → List ℕ → Option (List ℕ) → Fault → Type 0

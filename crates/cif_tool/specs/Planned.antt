@@ -1,4 +1,4 @@
--- A plan that is made key by key and day by day: what it has so far.
+-- A plan that is made key by key and day by day: what it has so far, for the contracts of the steps that make it.
 use Rattle.std.specs.Prelude.{◌≡◌, ℕ, ◌+◌, ◌<◌, ◌≤◌, ◌⊎◌, ⊤, List, ◌++◌, Some, All, AllPairs, Contains, slice_get, slice_index, length}
 use Rattle.std.specs.Prelude.{false}
 use Rattle.std.specs.Ordering.{is_gt}
@@ -12,7 +12,7 @@ use Rattle.cif_calendar.specs.OneDay.{IsOneDay, IsTold}
 use Rattle.cif_tool.specs.declared.daily.OneDayRecord.{OneDayRecord}
 use Rattle.cif_tool.specs.declared.daily.DailyFault.{DailyFault}
 use Rattle.cif_tool.specs.declared.daily.DailyFault.TheVariants.{Clash, Memory}
-use Rattle.cif_tool.specs.Daily.{told_by, IsBefore, HasBody}
+use Rattle.cif_tool.specs.Daily.{planned_entries, IsBefore, HasBody}
 
 -- at this position stands an entry of key k
 pub record HasKey {K B : Type 0} (entries : List (K × Terms B)) (position : ℕ) (k : K) : Type 0 where
@@ -48,12 +48,12 @@ pub record IsTurnOf {K B : Type 0} (cmp : K → K → Ordering) (entries : List 
 -- The plan tells what runs on the keys and days that are done, which are clear, and nothing else; it rises.
 pub record IsPlanned {K B : Type 0} (cmp : K → K → Ordering) (entries : List (K × Terms B)) (first last : ℕ)
     (done : K → ℕ → Type 0) (plan : List OneDayRecord) : Type 0 where
-  pub only : (k : K) (r : Terms B) → of_key (told_by entries plan) k r → IsTold entries first last k r
+  pub only : (k : K) (r : Terms B) → of_key (planned_entries entries plan) k r → IsTold entries first last k r
   pub all : (k : K) (d : ℕ) (b : B) → done k d → BodyRuns (of_key entries k) d b →
-      (r : Terms B) × of_key (told_by entries plan) k r × IsOneDay d b r
+      (r : Terms B) × of_key (planned_entries entries plan) k r × IsOneDay d b r
   pub clear : (k : K) (d : ℕ) → done k d → IsClear (of_key entries k) d
-  pub told_done : (x : K × Terms B) → Contains (told_by entries plan) x → done x.0 x.1.first
-  pub rises : AllPairs (IsBefore cmp) (told_by entries plan)
+  pub planned_done : (x : K × Terms B) → Contains (planned_entries entries plan) x → done x.0 x.1.first
+  pub rises : AllPairs (IsBefore cmp) (planned_entries entries plan)
   pub sources : All (λ item. HasBody entries item.source) plan
   pub days : All (λ item. (first ≤ item.day) × (item.day ≤ last)) plan
 
@@ -65,14 +65,14 @@ KeysDone entries first last before j e = AnyHasKey entries before j × (first �
 abbrev pub DaysDone : {K B : Type 0} → List (K × Terms B) → ℕ → ℕ → List ℕ → K → ℕ → K → ℕ → Type 0
 DaysDone entries first last before k d j e = KeysDone entries first last before j e ⊎ ((j ≡ k) × (first ≤ e) × (e < d))
 
--- the plan `new` has besides what `old` has the members' day
+-- where `old` is the plan up to a day of the members' key, `new` is the plan with that day
 pub record AddsDay {K B : Type 0} (cmp : K → K → Ordering) (entries : List (K × Terms B)) (members : List ℕ) (day : ℕ)
     (old new : List OneDayRecord) : Type 0 where
   pub adds : (first last : ℕ) (before : List ℕ) (k : K) → first ≤ day → day ≤ last → IsTurnOf cmp entries before members k →
       IsPlanned cmp entries first last (DaysDone entries first last before k day) old →
       IsPlanned cmp entries first last (DaysDone entries first last before k (day + 1)) new
 
--- the plan `new` has besides what `old` has the members' days
+-- where `old` is the plan up to the members' key, `new` is the plan with all days of that key
 pub record AddsKey {K B : Type 0} (cmp : K → K → Ordering) (entries : List (K × Terms B)) (first last : ℕ) (members : List ℕ)
     (old new : List OneDayRecord) : Type 0 where
   pub adds : (before : List ℕ) (k : K) → IsTurnOf cmp entries before members k →

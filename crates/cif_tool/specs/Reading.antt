@@ -1,4 +1,4 @@
--- What a reading has come to.
+-- What a reading has come to, for the contracts of the reader's own steps, and its faults.
 use Rattle.std.specs.Prelude.{◌≡◌, ℕ, List, [], ◌∷◌, ◌++◌, Option, None, IsSomeAnd}
 use Rattle.cif_extract.specs.FirstRefusal.{NoneRefused, IsFirstRefusal, IsCutBeforeRefusal}
 use Rattle.cif_extract.specs.declared.fault.Fault.{Fault}

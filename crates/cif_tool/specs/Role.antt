@@ -1,4 +1,4 @@
--- What a line is, and why it is refused where it stands.
+-- What a line is, and why it is refused where it stands: for the contracts of the reader's own steps.
 use Rattle.std.specs.Prelude.{ℕ, List, Option, None, Some}
 use Rattle.cif_columns.specs.declared.refusal.Refusal.{Refusal}
 use Rattle.cif_columns.specs.declared.refusal.Refusal.TheVariants.{UnknownRecord, OutOfOrder}

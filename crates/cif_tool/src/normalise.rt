@@ -7,10 +7,10 @@ ghost use Rattle.cif_columns.specs.Sink.{AppendsFront, sink_failed, writer_of};
 ghost use Rattle.cif_columns.specs.Source.{reader_of, source_failed};
 ghost use Rattle.cif_columns.specs.declared.line_reader.TheConstants.{MAX_LINES};
 ghost use Rattle.cif_records.specs.AssocKey.{key_cmp};
-ghost use Rattle.cif_tool.specs.Daily.{HasBody, IsDailyFault, IsWithin, told_by};
-ghost use Rattle.cif_tool.specs.ExtractText.{entries_text, told_text};
+ghost use Rattle.cif_tool.specs.Daily.{HasBody, IsDailyFault, IsWithin, planned_entries};
+ghost use Rattle.cif_tool.specs.ExtractText.{entries_text, planned_text};
 ghost use Rattle.cif_tool.specs.Normalised.{BlamesNoAccepted, HasWritten, HasWrittenFront};
-ghost use Rattle.cif_tool.specs.Normalised.{IsClashFault, IsNormaliseFault, said_by};
+ghost use Rattle.cif_tool.specs.Normalised.{IsClashFault, IsNormaliseFault, entries_of};
 
 use crate::daily::{DailyFault, OneDayRecord, daily_records};
 use crate::reading::read_extract;
@@ -89,7 +89,7 @@ pub fn normalise<R: ReadDevice, W: WriteDevice>(
 fn daily_fault(associations: &[Association], fault: DailyFault) -> Fault
     requires { IsWithin (length associations.now) fault }
     ensures clash { (first last : ℕ)
-        → IsDailyFault key_cmp (said_by associations.now) first last fault
+        → IsDailyFault key_cmp (entries_of associations.now) first last fault
         → IsClashFault associations.now first last result }
     ensures read { result ≢ Fault.Read }
     ensures write { result ≢ Fault.Write }
@@ -109,13 +109,13 @@ fn write_plan<W: WriteDevice>(
     plan: &[OneDayRecord],
     sink: &mut Sink<W>,
 ) -> Result<Counts, WriteFault>
-    requires { All (λ item. HasBody (said_by associations.now) item.source) plan.now }
+    requires { All (λ item. HasBody (entries_of associations.now) item.source) plan.now }
     ensures ok { OnOk result (Appends (W.contents (writer_of sink.old))
         (W.contents (writer_of sink.new))
-        (told_text header.now (told_by (said_by associations.now) plan.now))) }
+        (planned_text header.now (planned_entries (entries_of associations.now) plan.now))) }
     ensures err { OnErr result (AppendsFront (W.contents (writer_of sink.old))
         (W.contents (writer_of sink.new))
-        (told_text header.now (told_by (said_by associations.now) plan.now))) }
+        (planned_text header.now (planned_entries (entries_of associations.now) plan.now))) }
     ensures counts { IfOk result (λ counts. (counts.tiplocs ≡ 0)
         × (counts.associations ≡ length plan.now) × (counts.schedules ≡ 0)) }
     ensures failed { IsTrue (sink_failed sink.new) ↔ IsErr result }
@@ -140,14 +140,14 @@ fn write_items<W: WriteDevice>(
     plan: &[OneDayRecord],
     sink: &mut Sink<W>,
 ) -> Result<(), WriteFault>
-    requires sources { All (λ item. HasBody (said_by associations.now) item.source) plan.now }
+    requires sources { All (λ item. HasBody (entries_of associations.now) item.source) plan.now }
     requires going { sink_failed sink.old ≡ false }
     ensures ok { OnOk result (Appends (W.contents (writer_of sink.old))
         (W.contents (writer_of sink.new))
-        (entries_text (told_by (said_by associations.now) plan.now))) }
+        (entries_text (planned_entries (entries_of associations.now) plan.now))) }
     ensures err { OnErr result (AppendsFront (W.contents (writer_of sink.old))
         (W.contents (writer_of sink.new))
-        (entries_text (told_by (said_by associations.now) plan.now))) }
+        (entries_text (planned_entries (entries_of associations.now) plan.now))) }
     ensures failed { IsTrue (sink_failed sink.new) ↔ IsErr result }
     ensures errors { TellsErrors (W.write_errors (writer_of sink.old))
         (W.write_errors (writer_of sink.new)) result }
@@ -164,13 +164,13 @@ fn write_item<W: WriteDevice>(
     item: OneDayRecord,
     sink: &mut Sink<W>,
 ) -> Result<(), WriteFault>
-    requires { HasBody (said_by associations.now) item.source }
+    requires { HasBody (entries_of associations.now) item.source }
     ensures ok { OnOk result (Appends (W.contents (writer_of sink.old))
         (W.contents (writer_of sink.new))
-        (entries_text (told_by (said_by associations.now) (item ∷ [])))) }
+        (entries_text (planned_entries (entries_of associations.now) (item ∷ [])))) }
     ensures err { OnErr result (AppendsFront (W.contents (writer_of sink.old))
         (W.contents (writer_of sink.new))
-        (entries_text (told_by (said_by associations.now) (item ∷ [])))) }
+        (entries_text (planned_entries (entries_of associations.now) (item ∷ [])))) }
     ensures failed { IsTrue (sink_failed sink.new) ↔ IsErr result }
     ensures errors { sink_failed sink.old ≡ false → TellsErrors (W.write_errors (writer_of sink.old))
         (W.write_errors (writer_of sink.new)) result }

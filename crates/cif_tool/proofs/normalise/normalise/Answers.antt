@@ -2,7 +2,7 @@ use Rattle.std.proofs.Common.{Err, IfErr, ap, sym, ◌∙◌, subst}
 use Rattle.cif_columns.proofs.GivenLinesLaws.{known_so}
 use Rattle.cif_columns.specs.Source.{reader_of}
 use Rattle.cif_tool.specs.Daily.{IsDailyPlan}
-use Rattle.cif_tool.specs.Normalised.{said_by, BlamesNoAccepted}
+use Rattle.cif_tool.specs.Normalised.{entries_of, BlamesNoAccepted}
 use Rattle.cif_tool.specs.Reading.{IsReadFault}
 use Rattle.cif_tool.specs.SpellsExtract.{SpellBytes}
 use Rattle.std.proofs.lemmas.Result.{err_from_is_err_and}
@@ -19,7 +19,7 @@ returns-in_err-write_plan-in-Ok-clause-front g c e =
     has_written_front c.args.max_lines bytes header associations
     (subst (SpellBytes c.args.max_lines bytes header) (sym c.as_slice-associations.ensures.value) spelled)
     c.as_slice.result.now _ _
-    (subst (IsDailyPlan _ (said_by associations) header.first header.last) (sym c.as_slice.ensures.value) c.in-Ok.ensures.plan)
+    (subst (IsDailyPlan _ (entries_of associations) header.first header.last) (sym c.as_slice.ensures.value) c.in-Ok.ensures.plan)
     c.in_err-write_plan-in-Ok.ensures.err) c.in_ok-extract.ensures.ok
 
 pub returns-in-Ok-clause-ok : goal.returns-in-Ok-clause-ok
@@ -31,7 +31,7 @@ returns-in-Ok-clause-ok g c =
     has_written c.args.max_lines bytes header associations
     (subst (SpellBytes c.args.max_lines bytes header) (sym c.as_slice-associations.ensures.value) spelled)
     c.as_slice.result.now _ _ _
-    (subst (IsDailyPlan _ (said_by associations) header.first header.last) (sym c.as_slice.ensures.value) c.in-Ok.ensures.plan)
+    (subst (IsDailyPlan _ (entries_of associations) header.first header.last) (sym c.as_slice.ensures.value) c.in-Ok.ensures.plan)
     counts.0 counts.1 counts.2 c.in_ok-write_plan-in-Ok.ensures.ok) c.in_ok-extract.ensures.ok
 
 pub returns-clause-fault : goal.returns-clause-fault
@@ -41,7 +41,8 @@ returns-clause-fault g c =
     known_so _ _ _ (λ bytes spelled.
     clash-normalise c.args.max_lines bytes header associations
     (subst (SpellBytes c.args.max_lines bytes header) (sym c.as_slice-associations.ensures.value) spelled)
-    (g.R.Read.remaining (reader_of c.read_extract.new.source)) c.daily_fault.result (c.daily_fault.ensures.clash header.first header.last c.in-Err.ensures.fault)) c.in_ok-extract.ensures.ok
+    (g.R.Read.remaining (reader_of c.read_extract.new.source)) c.daily_fault.result
+    (c.daily_fault.ensures.clash header.first header.last c.in-Err.ensures.fault)) c.in_ok-extract.ensures.ok
 
 pub returns-in_err-extract-clause-accepted : goal.returns-in_err-extract-clause-accepted
 returns-in_err-extract-clause-accepted g c =

@@ -1,6 +1,6 @@
 use Rattle.std.proofs.Common.{rules, refl, ◌∙◌}
 use Rattle.cif_columns.specs.Sink.{writer_of}
-use Rattle.cif_tool.specs.Normalised.{said_by}
+use Rattle.cif_tool.specs.Normalised.{entries_of}
 use Rattle.cif_tool.proofs.Writing.{entries-start, entries-stop, entries-step, of-error}
 use Rattle.cif_tool.proofs.normalise.write_items.Goals as goal
 
@@ -14,7 +14,7 @@ loop-item-init g c = record {
 pub returns-in_err-write_item-clause-err : goal.returns-in_err-write_item-clause-err
 returns-in_err-write_item-clause-err g c =
     of-error c.from_residual.result _
-    (entries-stop (said_by c.args.associations.now) c.args.plan.now c.loop-item.item-index c.item-item.result c.loop-item-test.true
+    (entries-stop (entries_of c.args.associations.now) c.args.plan.now c.loop-item.item-index c.item-item.result c.loop-item-test.true
     c.item-item.is
     (g.W.Write.contents (writer_of c.args.sink.now)) (g.W.Write.contents (writer_of c.loop-item.sink))
     (g.W.Write.contents (writer_of c.write_item.new.sink))
@@ -22,7 +22,8 @@ returns-in_err-write_item-clause-err g c =
 
 pub loop-item-preserved : goal.loop-item-preserved
 loop-item-preserved g c = record {
-  written = entries-step (said_by c.args.associations.now) c.args.plan.now c.loop-item.item-index c.item-item.result c.loop-item-test.true
+  written = entries-step (entries_of c.args.associations.now) c.args.plan.now c.loop-item.item-index c.item-item.result
+      c.loop-item-test.true
       c.item-item.is
       (g.W.Write.contents (writer_of c.args.sink.now)) (g.W.Write.contents (writer_of c.loop-item.sink))
       (g.W.Write.contents (writer_of c.write_item.new.sink))

@@ -26,7 +26,8 @@ loop-reading-preserved g c =
     let is = c.in-Some.is in
     let line = c.in-Some.line in
     let more : given c.next.new.self ≡ given c.loop-reading.lines + 1 = rw is at next.counted in
-    let room : length ls < c.args.max_lines = omega (arith, more, so_far.counted, so_far.same_limit, next.limit, c.next.new.self.counted) in (
+    let room : length ls < c.args.max_lines = omega (arith, more, so_far.counted, so_far.same_limit, next.limit, c.next.new.self.counted)
+    in (
       ls ++ line ∷ [],
       reading_line g.R.Read.remaining _ _ _ _ ls so_far c.next.new.self c.next.new.source line (rw is at next.answer) (next.past ∙ rw is)
           next.limit more,
