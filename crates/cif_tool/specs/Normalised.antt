@@ -64,8 +64,8 @@ HasWrittenFront max bytes old new =
 
 -- the first clash of associations, by key and then day, is the one that the fault names
 abbrev pub IsClashFault : List Association → ℕ → ℕ → Fault → Type 0
-IsClashFault associations first last (Ambiguous (OfAssociation key day)) = IsFirstClashOf key_cmp (entries_of associations) first last key
-    day
+IsClashFault associations first last (Ambiguous (OfAssociation key day)) =
+    IsFirstClashOf key_cmp (entries_of associations) first last key day
 IsClashFault associations first last Memory = ⊤
 IsClashFault associations first last _ = ⊥
 
