@@ -35,6 +35,6 @@ returns-in-Err-clause-fault g c =
     let next = c.in-Err.ensures in
     known_so _ (λ bytes. AreLinesToFault c.args.max_lines bytes (g.R.Read.remaining c.next.new.source.reader) ls c.in-Err.fault)
     (λ bytes. (lines : List (List ℕ)) × AreLinesToFault c.args.max_lines bytes (g.R.Read.remaining c.next.new.source.reader) lines
-        c.in-Err.fault) (λ bytes h. (ls, h))
+    c.in-Err.fault) (λ bytes h. (ls, h))
     (reading_faults g.R.Read.remaining _ _ _ _ ls so_far c.next.new.self c.next.new.source c.in-Err.fault next.answer
     (λ e. next.undecided so_far.reads_on (ap Err e)))
