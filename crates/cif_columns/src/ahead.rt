@@ -7,7 +7,7 @@ ghost use Rattle.cif_columns.specs.FirstLine.{is_decided};
 ghost use Rattle.cif_columns.specs.Devices.{TellsErrors, OneError};
 ghost use Rattle.cif_columns.specs.Source.{reader_of, source_failed};
 
-use crate::first_line::{FirstLine, first_line_of, line_of_content};
+use crate::first_line::{FirstLine, first_line_of, first_plain_line, line_of_content};
 use crate::line::Line;
 use crate::read_device::ReadDevice;
 use crate::refusal::Refusal;
@@ -92,6 +92,29 @@ impl Ahead {
 
 impl Ahead {
     ghost use Rattle.cif_columns.specs.Ahead.{held_bytes, known_left, Decides, Finds, IfNext};
+
+    /// The line that stands first in the held bytes, if it is 80 bytes and a line feed. Most are, and
+    /// this gives them with few copies.
+    pub(crate) fn plain_line(&self, is_full: bool) -> Option<Line>
+        ensures found { IfSome result (λ line. Decides is_full (held_bytes self.now)
+            (Found.Next line) (drop 81 (held_bytes self.now))) }
+        ensures decided { IsSome result → is_decided is_full (held_bytes self.now) ≡ true }
+        ensures within { IsSome result → 81 ≤ length (held_bytes self.now) }
+        ensures not_full { IsSome result → is_full ≡ false }
+    {
+        if is_full {
+            return None;
+        }
+        first_plain_line(self.as_slice())
+    }
+
+    /// Passes over 80 bytes and a line feed.
+    pub(crate) fn pass_plain_line(&mut self)
+        requires { 81 ≤ length (held_bytes self.old) }
+        ensures { held_bytes self.new ≡ drop 81 (held_bytes self.old) }
+    {
+        self.start += 81;
+    }
 
     // What the held bytes decide, if they do.
     fn decided(&mut self, is_full: bool) -> Option<Found>

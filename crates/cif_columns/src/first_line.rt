@@ -1,6 +1,6 @@
 //! The first line of bytes that may go on.
 ghost use Rattle.std.specs.Prelude.{◌≡◌, ◌↔◌, ◌+◌, ◌<◌, ◌≤◌, ℕ, List, length, take, drop, min};
-ghost use Rattle.std.specs.Prelude.{nat_le, IsTrue, IsOk, IsSome, IfSome, IfNone, Some, Ok};
+ghost use Rattle.std.specs.Prelude.{false, true, nat_le, IsTrue, IsOk, IsSome, IfSome, IfNone, Some, Ok};
 ghost use Rattle.std.specs.List.{list_all, position, position_or_len};
 ghost use Rattle.std.specs.Str.Lines.{strip_carriage_return};
 ghost use Rattle.cif_columns.specs.FirstLine.{is_line_feed, is_printable, has_line_feed, line_of};
@@ -48,6 +48,18 @@ pub(crate) fn first_line_of(bytes: &[u8], is_full: bool) -> Option<FirstLine>
     }
     let line = Err(Refusal::BadLength);
     Some(FirstLine { line, taken: 0 })
+}
+
+/// The first line of the bytes, where that is 80 bytes and a line feed.
+#[tactic(auto, unfolding(crate::specs::FirstLine::first_line, crate::specs::FirstLine::is_decided, crate::specs::FirstLine::after_content, crate::specs::FirstLine::first_content))]
+pub(crate) fn first_plain_line(bytes: &[u8]) -> Option<Line>
+    ensures line { IfSome result (λ line. first_line false bytes.now ≡ Ok line) }
+    ensures decided { IsSome result → is_decided false bytes.now ≡ true }
+    ensures within { IsSome result → 81 ≤ length bytes.now }
+    ensures rest { IsSome result → drop 81 bytes.now ≡ after_content bytes.now }
+    ensures ended { IsSome result → has_line_feed bytes.now ≡ true }
+{
+    plain_line(bytes)
 }
 
 // The line that 80 bytes and a line feed are.

@@ -115,6 +115,11 @@ impl LineReader {
             Past::Faulted(fault) => return Err(fault),
         }
         let is_full = self.given == self.limit;
+        if let Some(line) = self.ahead.plain_line(is_full) {
+            self.ahead.pass_plain_line();
+            self.given += 1;
+            return Ok(Some(line));
+        }
         match self.ahead.next_line(is_full, source) {
             Found::Next(line) => {
                 self.given += 1;

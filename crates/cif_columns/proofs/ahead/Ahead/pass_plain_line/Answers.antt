@@ -1,0 +1,9 @@
+use Rattle.std.proofs.Common.{◌+◌, ◌≤◌, arith}
+use Rattle.cif_columns.proofs.HeldBytes.{range_length, range_rest}
+use Rattle.cif_columns.proofs.ahead.Ahead.pass_plain_line.Goals as goal
+
+pub returns : goal.returns
+returns c =
+    let this = c.args.self.now in
+    let within : this.start + 81 ≤ this.end = omega (arith, c.requires, range_length this.buf this.start this.end) in
+    range_rest this.buf this.start this.end 81 within
