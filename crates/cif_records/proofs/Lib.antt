@@ -1,4 +1,5 @@
 pub mod Associations
+pub mod Basics
 pub mod Changes
 pub mod Extras
 pub mod Headers
@@ -9,3 +10,4 @@ pub mod PlainRecords
 pub mod Rows
 pub mod Stops
 pub mod Termini
+pub mod Tiplocs

@@ -11,7 +11,7 @@ use Rattle.cif_columns.specs.Stp.{stp_in}
 use Rattle.cif_columns.specs.WorkTime.{work_time_in}
 use Rattle.cif_columns.specs.declared.refusal.Refusal.{Refusal}
 use Rattle.cif_columns.specs.declared.refusal.Refusal.TheVariants.{UnknownRecord, NotFull, BadDate, OpenEnd, DatesReversed, BadDays}
-use Rattle.cif_columns.specs.declared.refusal.Refusal.TheVariants.{BadStp, BadTime}
+use Rattle.cif_columns.specs.declared.refusal.Refusal.TheVariants.{BankHoliday, BadStp, BadTime}
 
 -- the reason, where the test fails
 abbrev pub unless : Bool → Refusal → Option Refusal
@@ -48,6 +48,10 @@ transaction_refusal line = unless (are (columns 3 3 line) (codes "N")) NotFull
 -- these columns are a mask of days
 abbrev pub days_refusal : List ℕ → Option Refusal
 days_refusal days = unless (is_some (days_of days)) BadDays
+
+-- column 29 says nothing of bank holidays
+abbrev pub bank_holiday_refusal : List ℕ → Option Refusal
+bank_holiday_refusal line = unless (are (columns 29 29 line) (codes " ")) BankHoliday
 
 -- column 80 is an indicator of short-term planning
 abbrev pub letter_refusal : List ℕ → Option Refusal

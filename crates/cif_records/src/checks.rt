@@ -5,7 +5,7 @@ ghost use Rattle.cif_columns.specs.Field.{StandsIn, columns, columns_from, date,
 ghost use Rattle.cif_columns.specs.Field.{public_time, weekdays, working_time};
 ghost use Rattle.cif_records.specs.Checks.{IsJudged, identity_refusal, transaction_refusal};
 ghost use Rattle.cif_records.specs.Checks.{date_refusal, dates_refusal, last_date_refusal};
-ghost use Rattle.cif_records.specs.Checks.{days_refusal, letter_refusal};
+ghost use Rattle.cif_records.specs.Checks.{bank_holiday_refusal, days_refusal, letter_refusal};
 ghost use Rattle.cif_records.specs.Checks.{public_time_refusal, work_time_refusal};
 
 use cif_columns::{Day, DaysRun, Line, PublicTime, Refusal, Stp, WorkTime, columns_at, field_at};
@@ -30,6 +30,18 @@ pub(crate) fn check_transaction(line: &Line) -> Result<(), Refusal>
         Ok(())
     } else {
         Err(Refusal::NotFull)
+    }
+}
+
+/// Whether column 29 is a space, so that no running on bank holidays is asked for.
+pub(crate) fn check_bank_holiday(line: &Line) -> Result<(), Refusal>
+    ensures { IsJudged (bank_holiday_refusal line.now)
+        (λ _. columns 29 29 line.now ≡ 32 ∷ []) result }
+{
+    if columns_at(line, 29) == *b" " {
+        Ok(())
+    } else {
+        Err(Refusal::BankHoliday)
     }
 }
 
