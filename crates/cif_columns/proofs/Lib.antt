@@ -15,6 +15,7 @@ pub mod Masks
 pub mod Parts
 pub mod PlainLines
 pub mod PrintableBytes
+pub mod TableLaws
 pub mod TextOrder
 pub mod Texts
 pub mod Times

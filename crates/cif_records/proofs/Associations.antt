@@ -1,23 +1,19 @@
 -- A line spells at most one association, and there is no reason to refuse a line that spells one.
-use Rattle.std.proofs.Common.{◌≡◌, ◌≤◌, ℕ, nat_le, Bool, true, false, List, Option, Some, None, is_some, refl, sym, ap, ◌∙◌, codes, arith}
-use Rattle.std.proofs.lemmas.Bool.Decides.{nat_tests}
+use Rattle.std.proofs.Common.{◌≡◌, ◌≤◌, ℕ, Bool, List, Option, Some, None, is_some, refl, sym, ap, ◌∙◌, codes}
 use Rattle.std.proofs.Props.{props}
-use Rattle.std.specs.Cmp.Lexicographic.{bytes_decides}
 use mathlib.Core.HLevel.{Σ_prop_path}
 use Rattle.cif_columns.specs.Field.{StandsIn, columns, date, indicator, text, weekdays}
-use Rattle.cif_columns.specs.Day.{StandsInYymmdd, yymmdd_in, day_number}
 use Rattle.cif_columns.specs.declared.stp.Stp.{Stp}
-use Rattle.cif_columns.proofs.DayColumns.{yymmdd_in-stands}
 use Rattle.cif_columns.proofs.FieldLaws.{one_date_value, one_indicator, one_text_value, one_weekdays, stp_in-letter}
 use Rattle.cif_columns.proofs.Masks.{days_of-stands}
 use Rattle.cif_records.specs.AssocBody.{SpellsBody}
 use Rattle.cif_records.specs.Association.{association_refusal}
 use Rattle.cif_records.specs.Bodies.{has_body}
-use Rattle.cif_records.specs.Checks.{are}
 use Rattle.cif_records.specs.SpellsAssociation.{SpellsAssociation}
 use Rattle.cif_records.specs.declared.assoc_body.AssocBody.{AssocBody}
 use Rattle.cif_records.specs.declared.assoc_key.AssocKey.{AssocKey}
 use Rattle.cif_records.specs.declared.association.Association.{Association}
+use Rattle.cif_records.proofs.Judging.{dates_fine}
 
 same_body : (line : List ℕ) (a b : Option AssocBody) → is_some a ≡ is_some b → SpellsBody line a → SpellsBody line b → a ≡ b
 same_body line None None e p q = refl
@@ -111,32 +107,15 @@ one_association line r q m n =
     same_association r q key (one_date_value _ _ _ a.first b.first) (one_date_value _ _ _ a.last b.last)
     (one_weekdays _ _ _ a.days b.days) same_letter (same_body line r.body q.body bodied a.body b.body)
 
-no_day : (columns : List ℕ) (n : ℕ) → columns ≡ codes "999999" → yymmdd_in columns ≡ Some n → ⊥
-unfolding yymmdd_in day_number
-no_day columns n e h = let nines : yymmdd_in (codes "999999") ≡ Some n = ap yymmdd_in (sym e) ∙ h in cc
-
--- columns in which a day stands are no open end
-pub no_open_end : (columns : List ℕ) (n : ℕ) → StandsInYymmdd columns n → are columns (codes "999999") ≡ false
-no_open_end columns n h = at (are columns (codes "999999")) refl
-  where
-    at : (b : Bool) → b ≡ are columns (codes "999999") → b ≡ false
-    at false e = refl
-    at true e = absurd (no_day columns n ((bytes_decides columns (codes "999999")).0 (sym e)) (yymmdd_in-stands columns n h))
-
 -- there is no reason to refuse a line that spells an association
 pub no_refusal : (line : List ℕ) (r : Association) → SpellsAssociation line r → association_refusal line ≡ None
 unfolding association_refusal
 no_refusal line r m =
     let p = parts_of line r m in
-    let in_order = r.in_order in
-    let test : nat_le r.first r.last ≡ true = grind (arith, nat_tests) in
     rw (
       p.identity,
       p.transaction,
-      no_open_end _ _ p.last,
-      yymmdd_in-stands _ _ p.first,
-      yymmdd_in-stands _ _ p.last,
-      test,
+      dates_fine _ _ _ _ p.first p.last r.in_order,
       days_of-stands _ _ p.days,
       p.letter,
       stp_in-letter r.letter,

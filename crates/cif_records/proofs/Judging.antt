@@ -1,9 +1,12 @@
 -- What a chain of checks says.
-use Rattle.std.proofs.Common.{◌≡◌, ◌≤◌, ℕ, List, Option, Some, None, Result, Ok, Err, nat_le, true, arith}
+use Rattle.std.proofs.Common.{◌≡◌, ◌≤◌, ℕ, Bool, List, Option, Some, None, Result, Ok, Err, nat_le, true, false, arith}
+use Rattle.std.proofs.Common.{refl, sym, ap, ◌∙◌, codes}
+use Rattle.std.specs.Cmp.Lexicographic.{bytes_decides}
 use Rattle.std.proofs.lemmas.Bool.Decides.{nat_tests}
 use Rattle.cif_columns.specs.declared.refusal.Refusal.{Refusal}
-use Rattle.cif_columns.specs.Day.{yymmdd_in}
-use Rattle.cif_records.specs.Checks.{IsJudged, last_date_refusal, dates_refusal}
+use Rattle.cif_columns.specs.Day.{StandsInYymmdd, yymmdd_in, day_number}
+use Rattle.cif_columns.proofs.DayColumns.{yymmdd_in-stands}
+use Rattle.cif_records.specs.Checks.{IsJudged, are, last_date_refusal, dates_refusal}
 
 -- the exit of a check that refused
 pub judged_err : {T : Type 0} (P : T → Type 0) (refusal : Option Refusal) (result : Result T Refusal) (why : Refusal)
@@ -27,3 +30,21 @@ pub dates_judged : (first last : List ℕ) (m n : ℕ) → yymmdd_in first ≡ S
 dates_judged first last m n a b c h =
     let test : nat_le m n ≡ true = grind (arith, nat_tests) in
     rw (b, a, c, test)
+
+no_day : (columns : List ℕ) (n : ℕ) → columns ≡ codes "999999" → yymmdd_in columns ≡ Some n → ⊥
+unfolding yymmdd_in day_number
+no_day columns n e h = let nines : yymmdd_in (codes "999999") ≡ Some n = ap yymmdd_in (sym e) ∙ h in cc
+
+-- columns in which a day stands are no open end
+pub no_open_end : (columns : List ℕ) (n : ℕ) → StandsInYymmdd columns n → are columns (codes "999999") ≡ false
+no_open_end columns n h = at (are columns (codes "999999")) refl
+  where
+    at : (b : Bool) → b ≡ are columns (codes "999999") → b ≡ false
+    at false e = refl
+    at true e = absurd (no_day columns n ((bytes_decides columns (codes "999999")).0 (sym e)) (yymmdd_in-stands columns n h))
+
+-- two dates that stand there, the second not before the first
+pub dates_fine : (first last : List ℕ) (m n : ℕ) → StandsInYymmdd first m → StandsInYymmdd last n → m ≤ n → dates_refusal first last ≡ None
+dates_fine first last m n a b c =
+    let whole : last_date_refusal last ≡ None = rw (no_open_end last n b, yymmdd_in-stands last n b) in
+    dates_judged first last m n (yymmdd_in-stands first m a) whole (yymmdd_in-stands last n b) c

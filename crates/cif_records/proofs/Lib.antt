@@ -1,6 +1,13 @@
 pub mod Associations
+pub mod Basics
+pub mod Changes
+pub mod Extras
 pub mod Headers
 pub mod Identities
 pub mod Judging
+pub mod Origins
 pub mod PlainRecords
 pub mod Rows
+pub mod Stops
+pub mod Termini
+pub mod Tiplocs

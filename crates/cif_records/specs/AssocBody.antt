@@ -1,12 +1,8 @@
 -- The body of an association in the columns of its line.
-use Rattle.std.specs.Prelude.{ℕ, List, Option, None, Some}
-use Rattle.cif_columns.specs.Field.{FieldValue, StandsIn, columns, text, spare}
+use Rattle.std.specs.Prelude.{ℕ, List, Option}
+use Rattle.cif_columns.specs.Field.{StandsIn, columns, text}
+use Rattle.cif_records.specs.Bodies.{of_body}
 use Rattle.cif_records.specs.declared.assoc_body.AssocBody.{AssocBody}
-
--- a column of the body, which is spare where there is none
-abbrev pub of_body : Option AssocBody → (AssocBody → FieldValue) → FieldValue
-of_body None value = spare
-of_body (Some body) value = value body
 
 -- the body, if there is one, stands in its columns
 pub record SpellsBody (line : List ℕ) (body : Option AssocBody) : Type 0 where

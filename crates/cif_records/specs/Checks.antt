@@ -6,10 +6,12 @@ use Rattle.std.specs.Str.{bytes_eq}
 use Rattle.cif_columns.specs.Day.{yymmdd_in}
 use Rattle.cif_columns.specs.DaysRun.{days_of}
 use Rattle.cif_columns.specs.Field.{columns}
+use Rattle.cif_columns.specs.PublicTime.{public_time_in}
 use Rattle.cif_columns.specs.Stp.{stp_in}
+use Rattle.cif_columns.specs.WorkTime.{work_time_in}
 use Rattle.cif_columns.specs.declared.refusal.Refusal.{Refusal}
 use Rattle.cif_columns.specs.declared.refusal.Refusal.TheVariants.{UnknownRecord, NotFull, BadDate, OpenEnd, DatesReversed, BadDays}
-use Rattle.cif_columns.specs.declared.refusal.Refusal.TheVariants.{BadStp}
+use Rattle.cif_columns.specs.declared.refusal.Refusal.TheVariants.{BankHoliday, BadStp, BadTime}
 
 -- the reason, where the test fails
 abbrev pub unless : Bool → Refusal → Option Refusal
@@ -47,9 +49,21 @@ transaction_refusal line = unless (are (columns 3 3 line) (codes "N")) NotFull
 abbrev pub days_refusal : List ℕ → Option Refusal
 days_refusal days = unless (is_some (days_of days)) BadDays
 
+-- column 29 says nothing of bank holidays
+abbrev pub bank_holiday_refusal : List ℕ → Option Refusal
+bank_holiday_refusal line = unless (are (columns 29 29 line) (codes " ")) BankHoliday
+
 -- column 80 is an indicator of short-term planning
 abbrev pub letter_refusal : List ℕ → Option Refusal
 letter_refusal line = unless (is_some (stp_in (slice_index (columns 80 80 line) 0))) BadStp
+
+-- these columns are a working time
+abbrev pub work_time_refusal : List ℕ → Option Refusal
+work_time_refusal time = unless (is_some (work_time_in time)) BadTime
+
+-- these columns are a public time
+abbrev pub public_time_refusal : List ℕ → Option Refusal
+public_time_refusal time = unless (is_some (public_time_in time)) BadTime
 
 -- a date that names no day
 abbrev pub date_refusal : List ℕ → Option Refusal

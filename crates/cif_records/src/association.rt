@@ -3,9 +3,9 @@ ghost use Rattle.std.specs.Prelude.{◌≡◌, ◌+◌, ◌≤◌, ◌++◌, len
 ghost use Rattle.std.specs.Option.{option_copied};
 ghost use Rattle.cif_columns.specs.Field.{StandsIn, AllStandIn, Fits, AllFit, columns, text};
 ghost use Rattle.cif_columns.specs.Field.{plain_columns, plain_line};
-ghost use Rattle.cif_records.specs.AssocBody.{SpellsBody, of_body};
+ghost use Rattle.cif_records.specs.AssocBody.{SpellsBody};
 ghost use Rattle.cif_records.specs.Association.{association_table, association_refusal};
-ghost use Rattle.cif_records.specs.Bodies.{has_body};
+ghost use Rattle.cif_records.specs.Bodies.{has_body, of_body};
 ghost use Rattle.cif_records.specs.Checks.{IsJudged};
 
 use crate::checks::{check_identity, check_transaction, dates_at, days_at, letter_of};

@@ -2,12 +2,13 @@
 ghost use Rattle.std.specs.Prelude.{◌≡◌, ◌≤◌, ◌+◌, ◌∷◌, [], Some, IfOk};
 ghost use Rattle.cif_columns.specs.Day.{yymmdd_in};
 ghost use Rattle.cif_columns.specs.Field.{StandsIn, columns, columns_from, date, indicator};
-ghost use Rattle.cif_columns.specs.Field.{weekdays};
+ghost use Rattle.cif_columns.specs.Field.{public_time, weekdays, working_time};
 ghost use Rattle.cif_records.specs.Checks.{IsJudged, identity_refusal, transaction_refusal};
 ghost use Rattle.cif_records.specs.Checks.{date_refusal, dates_refusal, last_date_refusal};
-ghost use Rattle.cif_records.specs.Checks.{days_refusal, letter_refusal};
+ghost use Rattle.cif_records.specs.Checks.{bank_holiday_refusal, days_refusal, letter_refusal};
+ghost use Rattle.cif_records.specs.Checks.{public_time_refusal, work_time_refusal};
 
-use cif_columns::{Day, DaysRun, Line, Refusal, Stp, columns_at, field_at};
+use cif_columns::{Day, DaysRun, Line, PublicTime, Refusal, Stp, WorkTime, columns_at, field_at};
 
 /// Whether columns 1 and 2 are the identity of a kind.
 pub(crate) fn check_identity(line: &Line, letters: &[u8; 2]) -> Result<(), Refusal>
@@ -29,6 +30,18 @@ pub(crate) fn check_transaction(line: &Line) -> Result<(), Refusal>
         Ok(())
     } else {
         Err(Refusal::NotFull)
+    }
+}
+
+/// Whether column 29 is a space, so that no running on bank holidays is asked for.
+pub(crate) fn check_bank_holiday(line: &Line) -> Result<(), Refusal>
+    ensures { IsJudged (bank_holiday_refusal line.now)
+        (λ _. columns 29 29 line.now ≡ 32 ∷ []) result }
+{
+    if columns_at(line, 29) == *b" " {
+        Ok(())
+    } else {
+        Err(Refusal::BankHoliday)
     }
 }
 
@@ -91,6 +104,26 @@ pub(crate) fn days_at(line: &Line, at: usize) -> Result<DaysRun, Refusal>
         (λ days. StandsIn (columns_from at 7 line.now) (weekdays days)) result }
 {
     field_at(line, at).ok_or(Refusal::BadDays)
+}
+
+/// The working time in the five columns of a line from `at` on, counted from 1.
+pub(crate) fn work_time_at(line: &Line, at: usize) -> Result<WorkTime, Refusal>
+    requires from_one { 1 ≤ at }
+    requires within { at ≤ 76 }
+    ensures { IsJudged (work_time_refusal (columns_from at 5 line.now))
+        (λ time. StandsIn (columns_from at 5 line.now) (working_time time)) result }
+{
+    field_at(line, at).ok_or(Refusal::BadTime)
+}
+
+/// The public time in the four columns of a line from `at` on, counted from 1.
+pub(crate) fn public_time_at(line: &Line, at: usize) -> Result<PublicTime, Refusal>
+    requires from_one { 1 ≤ at }
+    requires within { at ≤ 77 }
+    ensures { IsJudged (public_time_refusal (columns_from at 4 line.now))
+        (λ time. StandsIn (columns_from at 4 line.now) (public_time time)) result }
+{
+    field_at(line, at).ok_or(Refusal::BadTime)
 }
 
 /// The indicator in column 80.

@@ -4,16 +4,32 @@
 mod assoc_body;
 mod assoc_key;
 mod association;
+mod basic;
+mod change;
 mod checks;
+mod detail;
+mod extra;
 mod header;
 mod kind;
+mod origin;
+mod stop;
+mod terminus;
+mod tiploc;
 mod trailer;
 
 pub use assoc_body::AssocBody;
 pub use assoc_key::AssocKey;
 pub use association::{Association, permanent_association};
+pub use basic::Basic;
+pub use change::Change;
+pub use detail::Detail;
+pub use extra::Extra;
 pub use header::Header;
 pub use kind::{Kind, kind_of};
+pub use origin::Origin;
+pub use stop::Stop;
+pub use terminus::Terminus;
+pub use tiploc::Tiploc;
 pub use trailer::Trailer;
 
 #[cfg(test)]

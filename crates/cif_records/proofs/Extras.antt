@@ -1,0 +1,25 @@
+-- A line spells further details of a schedule in one way at most, and there is no reason to refuse a line that spells one.
+use Rattle.std.proofs.Common.{◌≡◌, ℕ, List, Option, None, refl, ap, get_or}
+use Rattle.cif_columns.specs.Field.{FieldValue}
+use Rattle.cif_columns.proofs.TableLaws.{one_table, columns_in}
+use Rattle.cif_records.specs.Extra.{extra_refusal}
+use Rattle.cif_records.specs.SpellsExtra.{SpellsExtra, table_of}
+use Rattle.cif_records.specs.declared.extra.Extra.{Extra}
+
+-- the record of a table's values
+abbrev extra_of : List (Option FieldValue) → Extra
+extra_of vs = record {
+  traction = columns_in (get_or vs 1 None);
+  uic = columns_in (get_or vs 2 None);
+  operator_code = columns_in (get_or vs 3 None);
+  timetable_code = columns_in (get_or vs 4 None);
+  reserved_a = columns_in (get_or vs 5 None);
+  reserved_b = columns_in (get_or vs 6 None);
+}
+
+pub one_extra : (line : List ℕ) (r q : Extra) → SpellsExtra line r → SpellsExtra line q → r ≡ q
+one_extra line r q p s = ap extra_of (one_table line (table_of r) (table_of q) refl p s)
+
+pub no_refusal : (line : List ℕ) (r : Extra) → SpellsExtra line r → extra_refusal line ≡ None
+unfolding extra_refusal
+no_refusal line r p = rw p.0

@@ -1,0 +1,42 @@
+-- A line spells a location on the way of a journey in one way at most, and there is no reason to refuse a line that spells one.
+use Rattle.std.proofs.Common.{◌≡◌, ℕ, List, Option, None, refl, ap, get_or}
+use Rattle.cif_columns.specs.Field.{FieldValue}
+use Rattle.cif_columns.proofs.TableLaws.{one_table, columns_in, codes_value}
+use Rattle.cif_columns.proofs.Times.{public_time_in-stands, work_time_in-stands}
+use Rattle.cif_records.specs.Stop.{stop_refusal}
+use Rattle.cif_records.specs.SpellsStop.{SpellsStop, table_of}
+use Rattle.cif_records.specs.declared.stop.Stop.{Stop}
+
+-- the record of a table's values
+abbrev stop_of : List (Option FieldValue) → Stop
+stop_of vs = record {
+  location = columns_in (get_or vs 1 None);
+  suffix = columns_in (get_or vs 2 None);
+  arrival = columns_in (get_or vs 3 None);
+  departure = columns_in (get_or vs 4 None);
+  pass = columns_in (get_or vs 5 None);
+  public_arrival = columns_in (get_or vs 6 None);
+  public_departure = columns_in (get_or vs 7 None);
+  platform = columns_in (get_or vs 8 None);
+  line = columns_in (get_or vs 9 None);
+  path = columns_in (get_or vs 10 None);
+  activities = codes_value (get_or vs 11 None);
+  engineering = columns_in (get_or vs 12 None);
+  pathing = columns_in (get_or vs 13 None);
+  performance = columns_in (get_or vs 14 None);
+}
+
+pub one_stop : (line : List ℕ) (r q : Stop) → SpellsStop line r → SpellsStop line q → r ≡ q
+one_stop line r q p s = ap stop_of (one_table line (table_of r) (table_of q) refl p s)
+
+pub no_refusal : (line : List ℕ) (r : Stop) → SpellsStop line r → stop_refusal line ≡ None
+unfolding stop_refusal
+no_refusal line r p =
+    rw (
+      p.0,
+      work_time_in-stands _ _ p.1.1.1.0,
+      work_time_in-stands _ _ p.1.1.1.1.0,
+      work_time_in-stands _ _ p.1.1.1.1.1.0,
+      public_time_in-stands _ _ p.1.1.1.1.1.1.0,
+      public_time_in-stands _ _ p.1.1.1.1.1.1.1.0,
+    )

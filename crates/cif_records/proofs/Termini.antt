@@ -1,0 +1,27 @@
+-- A line spells the last location of a journey in one way at most, and there is no reason to refuse a line that spells one.
+use Rattle.std.proofs.Common.{◌≡◌, ℕ, List, Option, None, refl, ap, get_or}
+use Rattle.cif_columns.specs.Field.{FieldValue}
+use Rattle.cif_columns.proofs.TableLaws.{one_table, columns_in, codes_value}
+use Rattle.cif_columns.proofs.Times.{public_time_in-stands, work_time_in-stands}
+use Rattle.cif_records.specs.Terminus.{terminus_refusal}
+use Rattle.cif_records.specs.SpellsTerminus.{SpellsTerminus, table_of}
+use Rattle.cif_records.specs.declared.terminus.Terminus.{Terminus}
+
+-- the record of a table's values
+abbrev terminus_of : List (Option FieldValue) → Terminus
+terminus_of vs = record {
+  location = columns_in (get_or vs 1 None);
+  suffix = columns_in (get_or vs 2 None);
+  arrival = columns_in (get_or vs 3 None);
+  public_arrival = columns_in (get_or vs 4 None);
+  platform = columns_in (get_or vs 5 None);
+  path = columns_in (get_or vs 6 None);
+  activities = codes_value (get_or vs 7 None);
+}
+
+pub one_terminus : (line : List ℕ) (r q : Terminus) → SpellsTerminus line r → SpellsTerminus line q → r ≡ q
+one_terminus line r q p s = ap terminus_of (one_table line (table_of r) (table_of q) refl p s)
+
+pub no_refusal : (line : List ℕ) (r : Terminus) → SpellsTerminus line r → terminus_refusal line ≡ None
+unfolding terminus_refusal
+no_refusal line r p = rw (p.0, work_time_in-stands _ _ p.1.1.1.0, public_time_in-stands _ _ p.1.1.1.1.0)

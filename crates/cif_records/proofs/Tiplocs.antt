@@ -1,0 +1,19 @@
+-- A line spells at most one location, and there is no reason to refuse a line that spells one.
+use Rattle.std.proofs.Common.{◌≡◌, ℕ, List, None, sym, ap, ◌∙◌}
+use Rattle.std.proofs.Props.{props}
+use mathlib.Core.HLevel.{Σ_prop_path}
+use Rattle.cif_columns.specs.Line.{ArePrintable}
+use Rattle.cif_records.specs.SpellsTiploc.{SpellsTiploc}
+use Rattle.cif_records.specs.Tiploc.{tiploc_refusal}
+use Rattle.cif_records.specs.declared.tiploc.Tiploc.{Tiploc}
+
+pub one_tiploc : (line : List ℕ) (t u : Tiploc) → SpellsTiploc line t → SpellsTiploc line u → t ≡ u
+one_tiploc line t u p q =
+    let same : t.columns ≡ u.columns = sym p.1.0 ∙ q.1.0 in
+    let parts : ◌≡◌ {A = (c : List ℕ) × ArePrintable c} (t.columns, t.printable) (u.columns, u.printable) =
+    Σ_prop_path (λ c. hlevel props) same in
+    ap (λ v. record { columns = v.0; printable = v.1 }) parts
+
+pub no_refusal : (line : List ℕ) (t : Tiploc) → SpellsTiploc line t → tiploc_refusal line ≡ None
+unfolding tiploc_refusal
+no_refusal line t p = rw p.0

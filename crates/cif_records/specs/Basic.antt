@@ -1,0 +1,43 @@
+-- BS: a basic schedule, its columns, and the reasons to refuse one.
+use Rattle.std.specs.Prelude.{ℕ, Bool, List, [], ◌∷◌, ◌++◌, Option, codes}
+use Rattle.cif_columns.specs.Field.{Row, row, columns, exactly, date, weekdays, indicator, spare}
+use Rattle.cif_columns.specs.declared.refusal.Refusal.{Refusal}
+use Rattle.cif_columns.specs.declared.stp.Stp.{Stp}
+use Rattle.cif_records.specs.Checks.{first_of, identity_refusal, transaction_refusal, dates_refusal, days_refusal}
+use Rattle.cif_records.specs.Checks.{bank_holiday_refusal, letter_refusal}
+use Rattle.cif_records.specs.Detail.{detail_rows}
+use Rattle.cif_records.specs.declared.detail.Detail.{Detail}
+
+-- columns 1 to 29
+abbrev pub basic_front : List ℕ → ℕ → ℕ → List Bool → List Row
+basic_front uid first last days =
+    row 1 2 (exactly (codes "BS"))
+    ∷ row 3 3 (exactly (codes "N"))
+    ∷ row 4 9 (exactly uid)
+    ∷ row 10 15 (date first)
+    ∷ row 16 21 (date last)
+    ∷ row 22 28 (weekdays days)
+    ∷ row 29 29 (exactly (codes " "))
+    ∷ []
+
+-- columns 79 and 80
+abbrev pub basic_back : Stp → List Row
+basic_back letter =
+    row 79 79 spare
+    ∷ row 80 80 (indicator letter)
+    ∷ []
+
+-- the columns of a basic schedule
+abbrev pub basic_table : List ℕ → ℕ → ℕ → List Bool → Stp → Option Detail → List Row
+basic_table uid first last days letter detail = basic_front uid first last days ++ (detail_rows detail ++ basic_back letter)
+
+-- the first reason to refuse a line as a basic schedule
+unfoldable pub basic_refusal : List ℕ → Option Refusal
+basic_refusal line = first_of (
+    identity_refusal (codes "BS") line
+    ∷ transaction_refusal line
+    ∷ dates_refusal (columns 10 15 line) (columns 16 21 line)
+    ∷ days_refusal (columns 22 28 line)
+    ∷ bank_holiday_refusal line
+    ∷ letter_refusal line
+    ∷ [])

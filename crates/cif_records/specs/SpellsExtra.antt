@@ -1,0 +1,21 @@
+-- When a line spells further details of a schedule.
+use Rattle.std.specs.Prelude.{ℕ, List, [], ◌∷◌, codes}
+use Rattle.cif_columns.specs.Field.{Row, row, AllStandIn, exactly, text, spare}
+use Rattle.cif_records.specs.declared.extra.Extra.{Extra}
+
+-- the columns of further details
+abbrev pub table_of : Extra → List Row
+table_of r =
+    row 1 2 (exactly (codes "BX"))
+    ∷ row 3 6 (text r.traction)
+    ∷ row 7 11 (text r.uic)
+    ∷ row 12 13 (text r.operator_code)
+    ∷ row 14 14 (text r.timetable_code)
+    ∷ row 15 22 (text r.reserved_a)
+    ∷ row 23 23 (text r.reserved_b)
+    ∷ row 24 80 spare
+    ∷ []
+
+-- the line spells it: each of its values stands in its columns
+abbrev pub SpellsExtra : List ℕ → Extra → Type 0
+SpellsExtra line r = AllStandIn line (table_of r)

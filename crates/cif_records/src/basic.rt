@@ -1,0 +1,111 @@
+//! The first record of a schedule.
+ghost use Rattle.std.specs.Prelude.{◌≡◌, ◌+◌, ◌≤◌, ◌++◌, length, Ok, is_some};
+ghost use Rattle.std.specs.Option.{option_copied};
+ghost use Rattle.cif_columns.specs.Field.{AllFit, AllStandIn, plain_line};
+ghost use Rattle.cif_records.specs.Basic.{basic_refusal};
+ghost use Rattle.cif_records.specs.Bodies.{has_body};
+ghost use Rattle.cif_records.specs.Checks.{IsJudged};
+ghost use Rattle.cif_records.specs.Detail.{detail_rows};
+
+use crate::Detail;
+use crate::checks::{
+    check_bank_holiday, check_identity, check_transaction, dates_at, days_at, letter_of,
+};
+use cif_columns::{Day, DaysRun, Field, Line, LineBuilder, Refusal, Stp, Uid, uid_at};
+
+/// A record `BS` (the CIF End User Specification): on which dates a schedule runs, or is cancelled.
+#[derive(Debug, Drop, PartialEq, Eq)]
+pub struct Basic {
+    /// Columns 4 to 9: the train's UID.
+    pub uid: Uid,
+    /// Columns 10 to 15: the first date, by year, month and day.
+    pub first: Day,
+    /// Columns 16 to 21: the last date.
+    pub last: Day,
+    /// Columns 22 to 28: the weekdays on which it applies.
+    pub days: DaysRun,
+    /// Column 80: the indicator of short-term planning.
+    pub letter: Stp,
+    /// Columns 30 to 78; absent exactly for a cancellation.
+    pub detail: Option<Detail>,
+    ghost in_order: { first ≤ last },
+    ghost bodied: { is_some detail ≡ has_body letter },
+}
+
+impl Basic {
+    ghost use Rattle.cif_records.specs.declared.basic.Basic.{Basic};
+    ghost use Rattle.cif_records.specs.SpellsBasic.{SpellsBasic, table_of};
+
+    /// The basic schedule that the line spells, or the first reason in column order why it spells
+    /// none: UnknownRecord (columns 1 to 2), NotFull (column 3), BadDate, OpenEnd and DatesReversed
+    /// (columns 10 to 21), BadDays (columns 22 to 28), BankHoliday (column 29), BadStp (column 80).
+    pub fn read(line: &Line) -> Result<Basic, Refusal>
+        ensures exact { IsJudged (basic_refusal line.now) (SpellsBasic line.now) result }
+        ensures only { (r : Basic) → SpellsBasic line.now r → result ≡ Ok r }
+    {
+        Basic::fields_of(line)
+    }
+
+    /// What `read` gives, without the law that no other is spelled.
+    fn fields_of(line: &Line) -> Result<Basic, Refusal>
+        ensures { IsJudged (basic_refusal line.now) (SpellsBasic line.now) result }
+    {
+        check_identity(line, b"BS")?;
+        check_transaction(line)?;
+        let dates = dates_at(line, 10)?;
+        let days = days_at(line, 22)?;
+        check_bank_holiday(line)?;
+        let letter = letter_of(line)?;
+        Ok(Basic {
+            uid: uid_at(line, 4),
+            first: dates.first,
+            last: dates.last,
+            days,
+            letter,
+            detail: detail_at(line, letter),
+        })
+    }
+
+    /// The plain line: spare columns are spaces, and texts stand at the left.
+    pub fn write(&self) -> Line
+        ensures plain { result ≡ plain_line (table_of self.now) }
+        ensures again { SpellsBasic result self.now }
+    {
+        let mut line = LineBuilder::new();
+        line.put_columns(b"BS");
+        line.put_columns(b"N");
+        self.uid.put_on(&mut line);
+        self.first.put_on(&mut line);
+        self.last.put_on(&mut line);
+        self.days.put_on(&mut line);
+        line.put_columns(b" ");
+        put_detail(self.detail.as_ref(), &mut line);
+        line.put_spare::<1>();
+        self.letter.put_on(&mut line);
+        line.finish()
+    }
+}
+
+/// The detail in columns 30 to 78, which a cancellation has not.
+fn detail_at(line: &Line, letter: Stp) -> Option<Detail>
+    ensures bodied { is_some result ≡ has_body letter }
+    ensures spells { AllStandIn line.now (detail_rows result) }
+{
+    match letter {
+        Stp::C => None,
+        Stp::N | Stp::O | Stp::P => Some(Detail::read(line)),
+    }
+}
+
+/// Columns 30 to 78, which are spare where there is no detail.
+fn put_detail(detail: Option<&Detail>, line: &mut LineBuilder)
+    requires { length line.old + 49 ≤ 80 }
+    ensures columns { line.new ≡ line.old ++ plain_line (detail_rows (option_copied detail.entry)) }
+    ensures width { length line.new ≡ length line.old + 49 }
+    ensures fits { AllFit (detail_rows (option_copied detail.entry)) }
+{
+    match detail {
+        Some(detail) => detail.put_on(line),
+        None => line.put_spare::<49>(),
+    }
+}

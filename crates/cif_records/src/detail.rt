@@ -1,0 +1,98 @@
+//! What a schedule says of its train.
+ghost use Rattle.std.specs.Prelude.{◌≡◌, ◌+◌, ◌≤◌, ◌++◌, length, Some};
+ghost use Rattle.cif_columns.specs.Field.{AllFit, AllStandIn, plain_line};
+ghost use Rattle.cif_records.specs.Detail.{detail_rows};
+
+use cif_columns::{Field, Line, LineBuilder, Text, text_at};
+
+/// The fields of a basic schedule that say what runs; a cancellation has none.
+#[derive(Debug, Drop, PartialEq, Eq)]
+pub struct Detail {
+    /// Column 30: the train status.
+    pub status: Text<1>,
+    /// Columns 31 to 32: the train category.
+    pub category: Text<2>,
+    /// Columns 33 to 36: the train identity.
+    pub identity: Text<4>,
+    /// Columns 37 to 40.
+    pub headcode: Text<4>,
+    /// Column 41: the course indicator.
+    pub course: Text<1>,
+    /// Columns 42 to 49: the train service code.
+    pub service_code: Text<8>,
+    /// Column 50: the business sector.
+    pub sector: Text<1>,
+    /// Columns 51 to 53: the power type.
+    pub power: Text<3>,
+    /// Columns 54 to 57: the timing load.
+    pub timing_load: Text<4>,
+    /// Columns 58 to 60: the speed.
+    pub speed: Text<3>,
+    /// Columns 61 to 66: the operating characteristics.
+    pub characteristics: Text<6>,
+    /// Column 67: the train class.
+    pub class: Text<1>,
+    /// Column 68.
+    pub sleepers: Text<1>,
+    /// Column 69.
+    pub reservations: Text<1>,
+    /// Column 70: the connection indicator.
+    pub connection: Text<1>,
+    /// Columns 71 to 74: the catering code.
+    pub catering: Text<4>,
+    /// Columns 75 to 78: the service branding.
+    pub branding: Text<4>,
+}
+
+impl Detail {
+    /// The detail in columns 30 to 78.
+    pub(crate) fn read(line: &Line) -> Detail
+        ensures { AllStandIn line.now (detail_rows (Some result)) }
+    {
+        Detail {
+            status: text_at(line, 30),
+            category: text_at(line, 31),
+            identity: text_at(line, 33),
+            headcode: text_at(line, 37),
+            course: text_at(line, 41),
+            service_code: text_at(line, 42),
+            sector: text_at(line, 50),
+            power: text_at(line, 51),
+            timing_load: text_at(line, 54),
+            speed: text_at(line, 58),
+            characteristics: text_at(line, 61),
+            class: text_at(line, 67),
+            sleepers: text_at(line, 68),
+            reservations: text_at(line, 69),
+            connection: text_at(line, 70),
+            catering: text_at(line, 71),
+            branding: text_at(line, 75),
+        }
+    }
+
+    /// Appends columns 30 to 78.
+    pub(crate) fn put_on(&self, line: &mut LineBuilder)
+        requires { length line.old + 49 ≤ 80 }
+        ensures columns { line.new ≡ line.old ++ plain_line (detail_rows (Some self.now)) }
+        ensures width { length line.new ≡ length line.old + 49 }
+        ensures fits { AllFit (detail_rows (Some self.now)) }
+    {
+        self.status.put_on(line);
+        self.category.put_on(line);
+        self.identity.put_on(line);
+        self.headcode.put_on(line);
+        self.course.put_on(line);
+        self.service_code.put_on(line);
+        self.sector.put_on(line);
+        self.power.put_on(line);
+        self.timing_load.put_on(line);
+        self.speed.put_on(line);
+        self.characteristics.put_on(line);
+        self.class.put_on(line);
+        self.sleepers.put_on(line);
+        self.reservations.put_on(line);
+        self.connection.put_on(line);
+        self.catering.put_on(line);
+        self.branding.put_on(line);
+    }
+}

@@ -1,0 +1,93 @@
+//! The first location of a journey.
+ghost use Rattle.std.specs.Prelude.{◌≡◌, Ok};
+ghost use Rattle.cif_columns.specs.Field.{plain_line};
+ghost use Rattle.cif_records.specs.Checks.{IsJudged};
+ghost use Rattle.cif_records.specs.Origin.{origin_refusal};
+
+use crate::checks::{check_identity, public_time_at, work_time_at};
+use cif_columns::{
+    Activities, Field, Line, LineBuilder, PublicTime, Refusal, Text, WorkTime, activities_at,
+    text_at,
+};
+
+/// A record `LO` (the CIF End User Specification): where a journey begins.
+#[derive(Debug, Drop, PartialEq, Eq)]
+pub struct Origin {
+    /// Columns 3 to 9: the TIPLOC.
+    pub location: Text<7>,
+    /// Column 10: which call at the location, where there is more than one.
+    pub suffix: Text<1>,
+    /// Columns 11 to 15: the scheduled departure.
+    pub departure: WorkTime,
+    /// Columns 16 to 19: the public departure.
+    pub public_departure: PublicTime,
+    /// Columns 20 to 22.
+    pub platform: Text<3>,
+    /// Columns 23 to 25: the line that is taken.
+    pub line: Text<3>,
+    /// Columns 26 to 27: the engineering allowance.
+    pub engineering: Text<2>,
+    /// Columns 28 to 29: the pathing allowance.
+    pub pathing: Text<2>,
+    /// Columns 30 to 41: the activity codes.
+    pub activities: Activities,
+    /// Columns 42 to 43: the performance allowance.
+    pub performance: Text<2>,
+}
+
+impl Origin {
+    ghost use Rattle.cif_records.specs.declared.origin.Origin.{Origin};
+    ghost use Rattle.cif_records.specs.SpellsOrigin.{SpellsOrigin, table_of};
+
+    /// The first location that the line spells, or the first reason in column order why it spells
+    /// none: UnknownRecord (columns 1 to 2), BadTime (columns 11 to 19).
+    pub fn read(line: &Line) -> Result<Origin, Refusal>
+        ensures exact { IsJudged (origin_refusal line.now) (SpellsOrigin line.now) result }
+        ensures only { (r : Origin) → SpellsOrigin line.now r → result ≡ Ok r }
+    {
+        Origin::fields_of(line)
+    }
+
+    /// What `read` gives, without the law that no other location is spelled.
+    fn fields_of(line: &Line) -> Result<Origin, Refusal>
+        ensures { IsJudged (origin_refusal line.now) (SpellsOrigin line.now) result }
+    {
+        check_identity(line, b"LO")?;
+        let departure = work_time_at(line, 11)?;
+        let public_departure = public_time_at(line, 16)?;
+        Ok(Origin {
+            location: text_at(line, 3),
+            suffix: text_at(line, 10),
+            departure,
+            public_departure,
+            platform: text_at(line, 20),
+            line: text_at(line, 23),
+            engineering: text_at(line, 26),
+            pathing: text_at(line, 28),
+            activities: activities_at(line, 30),
+            performance: text_at(line, 42),
+        })
+    }
+
+    /// The plain line: spare columns are spaces, texts stand at the left, and activity codes are
+    /// packed to the left.
+    pub fn write(&self) -> Line
+        ensures plain { result ≡ plain_line (table_of self.now) }
+        ensures again { SpellsOrigin result self.now }
+    {
+        let mut line = LineBuilder::new();
+        line.put_columns(b"LO");
+        self.location.put_on(&mut line);
+        self.suffix.put_on(&mut line);
+        self.departure.put_on(&mut line);
+        self.public_departure.put_on(&mut line);
+        self.platform.put_on(&mut line);
+        self.line.put_on(&mut line);
+        self.engineering.put_on(&mut line);
+        self.pathing.put_on(&mut line);
+        self.activities.put_on(&mut line);
+        self.performance.put_on(&mut line);
+        line.put_spare::<37>();
+        line.finish()
+    }
+}

@@ -1,0 +1,113 @@
+//! A location on the way of a journey.
+ghost use Rattle.std.specs.Prelude.{◌≡◌, Ok};
+ghost use Rattle.cif_columns.specs.Field.{plain_line};
+ghost use Rattle.cif_records.specs.Checks.{IsJudged};
+ghost use Rattle.cif_records.specs.Stop.{stop_refusal};
+
+use crate::checks::{check_identity, public_time_at, work_time_at};
+use cif_columns::{
+    Activities, Field, Line, LineBuilder, PublicTime, Refusal, Text, WorkTime, activities_at,
+    text_at,
+};
+
+/// A record `LI` (the CIF End User Specification): where a journey stops or passes. Which of its
+/// working times are there isn't checked.
+#[derive(Debug, Drop, PartialEq, Eq)]
+pub struct Stop {
+    /// Columns 3 to 9: the TIPLOC.
+    pub location: Text<7>,
+    /// Column 10: which call at the location, where there is more than one.
+    pub suffix: Text<1>,
+    /// Columns 11 to 15: the scheduled arrival.
+    pub arrival: WorkTime,
+    /// Columns 16 to 20: the scheduled departure.
+    pub departure: WorkTime,
+    /// Columns 21 to 25: the scheduled time of passing.
+    pub pass: WorkTime,
+    /// Columns 26 to 29: the public arrival.
+    pub public_arrival: PublicTime,
+    /// Columns 30 to 33: the public departure.
+    pub public_departure: PublicTime,
+    /// Columns 34 to 36.
+    pub platform: Text<3>,
+    /// Columns 37 to 39: the line that is taken on departure.
+    pub line: Text<3>,
+    /// Columns 40 to 42: the line that is taken on arrival.
+    pub path: Text<3>,
+    /// Columns 43 to 54: the activity codes.
+    pub activities: Activities,
+    /// Columns 55 to 56: the engineering allowance.
+    pub engineering: Text<2>,
+    /// Columns 57 to 58: the pathing allowance.
+    pub pathing: Text<2>,
+    /// Columns 59 to 60: the performance allowance.
+    pub performance: Text<2>,
+}
+
+impl Stop {
+    ghost use Rattle.cif_records.specs.declared.stop.Stop.{Stop};
+    ghost use Rattle.cif_records.specs.SpellsStop.{SpellsStop, table_of};
+
+    /// The location on the way that the line spells, or the first reason in column order why it spells
+    /// none: UnknownRecord (columns 1 to 2), BadTime (columns 11 to 33).
+    pub fn read(line: &Line) -> Result<Stop, Refusal>
+        ensures exact { IsJudged (stop_refusal line.now) (SpellsStop line.now) result }
+        ensures only { (r : Stop) → SpellsStop line.now r → result ≡ Ok r }
+    {
+        Stop::fields_of(line)
+    }
+
+    /// What `read` gives, without the law that no other is spelled.
+    fn fields_of(line: &Line) -> Result<Stop, Refusal>
+        ensures { IsJudged (stop_refusal line.now) (SpellsStop line.now) result }
+    {
+        check_identity(line, b"LI")?;
+        let arrival = work_time_at(line, 11)?;
+        let departure = work_time_at(line, 16)?;
+        let pass = work_time_at(line, 21)?;
+        let public_arrival = public_time_at(line, 26)?;
+        let public_departure = public_time_at(line, 30)?;
+        Ok(Stop {
+            location: text_at(line, 3),
+            suffix: text_at(line, 10),
+            arrival,
+            departure,
+            pass,
+            public_arrival,
+            public_departure,
+            platform: text_at(line, 34),
+            line: text_at(line, 37),
+            path: text_at(line, 40),
+            activities: activities_at(line, 43),
+            engineering: text_at(line, 55),
+            pathing: text_at(line, 57),
+            performance: text_at(line, 59),
+        })
+    }
+
+    /// The plain line: spare columns are spaces, texts stand at the left, and activity codes are
+    /// packed to the left.
+    pub fn write(&self) -> Line
+        ensures plain { result ≡ plain_line (table_of self.now) }
+        ensures again { SpellsStop result self.now }
+    {
+        let mut line = LineBuilder::new();
+        line.put_columns(b"LI");
+        self.location.put_on(&mut line);
+        self.suffix.put_on(&mut line);
+        self.arrival.put_on(&mut line);
+        self.departure.put_on(&mut line);
+        self.pass.put_on(&mut line);
+        self.public_arrival.put_on(&mut line);
+        self.public_departure.put_on(&mut line);
+        self.platform.put_on(&mut line);
+        self.line.put_on(&mut line);
+        self.path.put_on(&mut line);
+        self.activities.put_on(&mut line);
+        self.engineering.put_on(&mut line);
+        self.pathing.put_on(&mut line);
+        self.performance.put_on(&mut line);
+        line.put_spare::<20>();
+        line.finish()
+    }
+}

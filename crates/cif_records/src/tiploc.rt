@@ -1,0 +1,54 @@
+//! A location of the timetable.
+ghost use Rattle.std.specs.Prelude.{◌≡◌, Ok};
+ghost use Rattle.cif_columns.specs.Field.{plain_line};
+ghost use Rattle.cif_columns.specs.Line.{ArePrintable};
+ghost use Rattle.cif_records.specs.Checks.{IsJudged};
+ghost use Rattle.cif_records.specs.Tiploc.{tiploc_refusal, tiploc_table};
+
+use crate::checks::check_identity;
+use cif_columns::{Line, LineBuilder, Refusal, columns_at};
+
+/// A record `TI` (the CIF End User Specification): a location by its TIPLOC, and its other codes.
+#[derive(Clone, Copy, Debug, PartialEq, Eq)]
+pub struct Tiploc {
+    /// Columns 3 to 72, as they stand: the TIPLOC (3 to 9), capitals (10 to 11), NALCO (12 to 17),
+    /// NLC check (18), TPS description (19 to 44), STANOX (45 to 49), PO MCP code (50 to 53), CRS
+    /// code (54 to 56), description (57 to 72).
+    pub columns: [u8; 70],
+    ghost printable: { ArePrintable columns },
+}
+
+impl Tiploc {
+    ghost use Rattle.cif_records.specs.declared.tiploc.Tiploc.{Tiploc};
+    ghost use Rattle.cif_records.specs.SpellsTiploc.{SpellsTiploc};
+
+    /// The location that the line spells, or UnknownRecord (columns 1 to 2).
+    pub fn read(line: &Line) -> Result<Tiploc, Refusal>
+        ensures exact { IsJudged (tiploc_refusal line.now) (SpellsTiploc line.now) result }
+        ensures only { (t : Tiploc) → SpellsTiploc line.now t → result ≡ Ok t }
+    {
+        Tiploc::fields_of(line)
+    }
+
+    /// What `read` gives, without the law that no other is spelled.
+    fn fields_of(line: &Line) -> Result<Tiploc, Refusal>
+        ensures { IsJudged (tiploc_refusal line.now) (SpellsTiploc line.now) result }
+    {
+        check_identity(line, b"TI")?;
+        Ok(Tiploc {
+            columns: columns_at(line, 3),
+        })
+    }
+
+    /// The plain line: columns 73 to 80 are spaces.
+    pub fn write(&self) -> Line
+        ensures plain { result ≡ plain_line (tiploc_table self.now.columns) }
+        ensures again { SpellsTiploc result self.now }
+    {
+        let mut line = LineBuilder::new();
+        line.put_columns(b"TI");
+        line.put_columns(&self.columns);
+        line.put_spare::<8>();
+        line.finish()
+    }
+}
