@@ -154,7 +154,8 @@ contents_first bytes some = at (has_line_feed bytes) refl
         ∙ ap (λ l. bytes ∷ lines l) (sym none)
 
 -- what stands after the line feed behind 80 bytes
-pub plain_rest : {L : Type 0} (bytes : List ℕ) (line : Option L) → IfSome line (λ _. position_or_len is_line_feed bytes ≡ 80) → IsSome line →
+pub plain_rest : {L : Type 0} (bytes : List ℕ) (line : Option L) → IfSome line (λ _. position_or_len is_line_feed bytes ≡ 80) →
+    IsSome line →
     drop 81 bytes ≡ after_content bytes
 unfolding after_content
 plain_rest bytes None h some = absurd (cc)
