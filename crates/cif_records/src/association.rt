@@ -1,14 +1,16 @@
 //! An association of two trains.
-ghost use Rattle.std.specs.Prelude.{◌≡◌, ◌+◌, ◌≤◌, ◌++◌, length, Some, Ok, is_some};
+ghost use Rattle.std.specs.Prelude.{◌≡◌, ◌+◌, ◌≤◌, ◌++◌, length, Some, Ok, is_some, []};
 ghost use Rattle.std.specs.Option.{option_copied};
 ghost use Rattle.cif_columns.specs.Field.{StandsIn, AllStandIn, Fits, AllFit, columns, text};
 ghost use Rattle.cif_columns.specs.Field.{plain_columns, plain_line};
+ghost use Rattle.cif_columns.proofs.Parts.{put_all};
 ghost use Rattle.cif_records.specs.AssocBody.{SpellsBody};
 ghost use Rattle.cif_records.specs.Association.{association_table, association_refusal};
 ghost use Rattle.cif_records.specs.Bodies.{has_body, of_body};
 ghost use Rattle.cif_records.specs.Checks.{IsJudged};
 
-use crate::checks::{check_identity, check_transaction, dates_at, days_at, letter_of};
+use crate::checks::{Terms, check_identity, check_transaction, dates_at, days_at, letter_of};
+use crate::layout::{self, Layout};
 use crate::{AssocBody, AssocKey};
 use cif_columns::{Day, DaysRun, Field, Line, LineBuilder, Refusal, Stp, text_at, uid_at};
 
@@ -32,6 +34,63 @@ pub struct Association {
     ghost bodied: { is_some body ≡ has_body letter },
 }
 
+impl Layout for Association {
+    ghost use Rattle.std.specs.Prelude.{refl, ◌≡◌, codes};
+    ghost use Rattle.cif_columns.specs.Field.{StandsIn, columns, date, indicator, weekdays};
+
+    type Checked = Terms;
+
+    ghost table = { λ r. association_table r.key r.first r.last r.days r.letter r.body };
+
+    ghost refusal = { association_refusal };
+
+    ghost found = { λ line terms. (columns 1 2 line ≡ codes "AA")
+        × (columns 3 3 line ≡ codes "N")
+        × StandsIn (columns 16 21 line) (date terms.dates.first)
+        × StandsIn (columns 22 27 line) (date terms.dates.last)
+        × StandsIn (columns 28 34 line) (weekdays terms.days)
+        × StandsIn (columns 80 80 line) (indicator terms.letter) };
+
+    #[tactic(auto, unfolding(crate::specs::Association::association_refusal))]
+    fn check(line: &Line) -> Result<Terms, Refusal> {
+        check_identity(line, b"AA")?;
+        check_transaction(line)?;
+        let dates = dates_at(line, 16)?;
+        let days = days_at(line, 28)?;
+        let letter = letter_of(line)?;
+        Ok(Terms {
+            dates,
+            days,
+            letter,
+        })
+    }
+
+    fn with(line: &Line, terms: Terms) -> Association {
+        Association {
+            key: key_at(line),
+            first: terms.dates.first,
+            last: terms.dates.last,
+            days: terms.days,
+            letter: terms.letter,
+            body: body_at(line, terms.letter),
+        }
+    }
+
+    fn put_rows(&self, line: &mut LineBuilder) {
+        put_association(
+            &self.key,
+            self.first,
+            self.last,
+            self.days,
+            self.letter,
+            self.body.as_ref(),
+            line,
+        );
+    }
+
+    ghost whole = { λ r. refl };
+}
+
 impl Association {
     ghost use Rattle.cif_records.specs.declared.association.Association.{Association};
     ghost use Rattle.cif_records.specs.SpellsAssociation.{SpellsAssociation, table_of};
@@ -44,26 +103,7 @@ impl Association {
             result }
         ensures only { (r : Association) → SpellsAssociation line.now r → result ≡ Ok r }
     {
-        Association::fields_of(line)
-    }
-
-    /// What `read` gives, without the law that no other association is spelled.
-    fn fields_of(line: &Line) -> Result<Association, Refusal>
-        ensures { IsJudged (association_refusal line.now) (SpellsAssociation line.now) result }
-    {
-        check_identity(line, b"AA")?;
-        check_transaction(line)?;
-        let dates = dates_at(line, 16)?;
-        let days = days_at(line, 28)?;
-        let letter = letter_of(line)?;
-        Ok(Association {
-            key: key_at(line),
-            first: dates.first,
-            last: dates.last,
-            days,
-            letter,
-            body: body_at(line, letter),
-        })
+        layout::read(line)
     }
 
     /// The plain line: spare columns are spaces, and texts stand at the left.
@@ -71,14 +111,7 @@ impl Association {
         ensures plain { result ≡ plain_line (table_of self.now) }
         ensures again { SpellsAssociation result self.now }
     {
-        line_of(
-            &self.key,
-            self.first,
-            self.last,
-            self.days,
-            self.letter,
-            self.body.as_ref(),
-        )
+        layout::write(self)
     }
 }
 
@@ -96,39 +129,41 @@ pub fn permanent_association(
     ensures again { AllStandIn result
         (association_table key.now first last days Stp.P (Some body.now)) }
 {
-    line_of(key, first, last, days, Stp::P, Some(body))
+    let mut line = LineBuilder::new();
+    put_association(key, first, last, days, Stp::P, Some(body), &mut line);
+    line.finish()
 }
 
-/// The plain line of an association with these fields.
-fn line_of(
+/// Puts the plain columns of an association with these fields on an empty line.
+fn put_association(
     key: &AssocKey,
     first: Day,
     last: Day,
     days: DaysRun,
     letter: Stp,
     body: Option<&AssocBody>,
-) -> Line
-    ensures plain { result ≡ plain_line
+    line: &mut LineBuilder,
+)
+    requires { line.old ≡ [] }
+    ensures columns { line.new ≡ put_all []
         (association_table key.now first last days letter (option_copied body.entry)) }
     ensures fits { AllFit
         (association_table key.now first last days letter (option_copied body.entry)) }
 {
-    let mut line = LineBuilder::new();
     line.put_columns(b"AA");
     line.put_columns(b"N");
-    key.base.put_on(&mut line);
-    key.associated.put_on(&mut line);
-    first.put_on(&mut line);
-    last.put_on(&mut line);
-    days.put_on(&mut line);
-    put_category(body, &mut line);
-    key.location.put_on(&mut line);
-    key.base_suffix.put_on(&mut line);
-    key.associated_suffix.put_on(&mut line);
-    put_kinds(body, &mut line);
+    key.base.put_on(line);
+    key.associated.put_on(line);
+    first.put_on(line);
+    last.put_on(line);
+    days.put_on(line);
+    put_category(body, line);
+    key.location.put_on(line);
+    key.base_suffix.put_on(line);
+    key.associated_suffix.put_on(line);
+    put_kinds(body, line);
     line.put_spare::<31>();
-    letter.put_on(&mut line);
-    line.finish()
+    letter.put_on(line);
 }
 
 /// Columns 35 to 37, which are spare where there is no body.

@@ -2,15 +2,16 @@
 ghost use Rattle.std.specs.Prelude.{◌≡◌, ◌+◌, ◌≤◌, ◌++◌, length, Ok, is_some};
 ghost use Rattle.std.specs.Option.{option_copied};
 ghost use Rattle.cif_columns.specs.Field.{AllFit, AllStandIn, plain_line};
-ghost use Rattle.cif_records.specs.Basic.{basic_refusal};
+ghost use Rattle.cif_records.specs.Basic.{basic_refusal, basic_table};
 ghost use Rattle.cif_records.specs.Bodies.{has_body};
 ghost use Rattle.cif_records.specs.Checks.{IsJudged};
 ghost use Rattle.cif_records.specs.Detail.{detail_rows};
 
 use crate::Detail;
 use crate::checks::{
-    check_bank_holiday, check_identity, check_transaction, dates_at, days_at, letter_of,
+    Terms, check_bank_holiday, check_identity, check_transaction, dates_at, days_at, letter_of,
 };
+use crate::layout::{self, Layout};
 use cif_columns::{Day, DaysRun, Field, Line, LineBuilder, Refusal, Stp, Uid, uid_at};
 
 /// A record `BS` (the CIF End User Specification): on which dates a schedule runs, or is cancelled.
@@ -32,6 +33,66 @@ pub struct Basic {
     ghost bodied: { is_some detail ≡ has_body letter },
 }
 
+impl Layout for Basic {
+    ghost use Rattle.std.specs.Prelude.{refl, ◌≡◌, codes};
+    ghost use Rattle.cif_columns.specs.Field.{StandsIn, columns, date, indicator, weekdays};
+
+    type Checked = Terms;
+
+    ghost table = { λ r. basic_table r.uid r.first r.last r.days r.letter r.detail };
+
+    ghost refusal = { basic_refusal };
+
+    ghost found = { λ line terms. (columns 1 2 line ≡ codes "BS")
+        × (columns 3 3 line ≡ codes "N")
+        × StandsIn (columns 10 15 line) (date terms.dates.first)
+        × StandsIn (columns 16 21 line) (date terms.dates.last)
+        × StandsIn (columns 22 28 line) (weekdays terms.days)
+        × (columns 29 29 line ≡ codes " ")
+        × StandsIn (columns 80 80 line) (indicator terms.letter) };
+
+    #[tactic(auto, unfolding(crate::specs::Basic::basic_refusal))]
+    fn check(line: &Line) -> Result<Terms, Refusal> {
+        check_identity(line, b"BS")?;
+        check_transaction(line)?;
+        let dates = dates_at(line, 10)?;
+        let days = days_at(line, 22)?;
+        check_bank_holiday(line)?;
+        let letter = letter_of(line)?;
+        Ok(Terms {
+            dates,
+            days,
+            letter,
+        })
+    }
+
+    fn with(line: &Line, terms: Terms) -> Basic {
+        Basic {
+            uid: uid_at(line, 4),
+            first: terms.dates.first,
+            last: terms.dates.last,
+            days: terms.days,
+            letter: terms.letter,
+            detail: detail_at(line, terms.letter),
+        }
+    }
+
+    fn put_rows(&self, line: &mut LineBuilder) {
+        line.put_columns(b"BS");
+        line.put_columns(b"N");
+        self.uid.put_on(line);
+        self.first.put_on(line);
+        self.last.put_on(line);
+        self.days.put_on(line);
+        line.put_columns(b" ");
+        put_detail(self.detail.as_ref(), line);
+        line.put_spare::<1>();
+        self.letter.put_on(line);
+    }
+
+    ghost whole = { λ r. refl };
+}
+
 impl Basic {
     ghost use Rattle.cif_records.specs.declared.basic.Basic.{Basic};
     ghost use Rattle.cif_records.specs.SpellsBasic.{SpellsBasic, table_of};
@@ -43,27 +104,7 @@ impl Basic {
         ensures exact { IsJudged (basic_refusal line.now) (SpellsBasic line.now) result }
         ensures only { (r : Basic) → SpellsBasic line.now r → result ≡ Ok r }
     {
-        Basic::fields_of(line)
-    }
-
-    /// What `read` gives, without the law that no other is spelled.
-    fn fields_of(line: &Line) -> Result<Basic, Refusal>
-        ensures { IsJudged (basic_refusal line.now) (SpellsBasic line.now) result }
-    {
-        check_identity(line, b"BS")?;
-        check_transaction(line)?;
-        let dates = dates_at(line, 10)?;
-        let days = days_at(line, 22)?;
-        check_bank_holiday(line)?;
-        let letter = letter_of(line)?;
-        Ok(Basic {
-            uid: uid_at(line, 4),
-            first: dates.first,
-            last: dates.last,
-            days,
-            letter,
-            detail: detail_at(line, letter),
-        })
+        layout::read(line)
     }
 
     /// The plain line: spare columns are spaces, and texts stand at the left.
@@ -71,18 +112,7 @@ impl Basic {
         ensures plain { result ≡ plain_line (table_of self.now) }
         ensures again { SpellsBasic result self.now }
     {
-        let mut line = LineBuilder::new();
-        line.put_columns(b"BS");
-        line.put_columns(b"N");
-        self.uid.put_on(&mut line);
-        self.first.put_on(&mut line);
-        self.last.put_on(&mut line);
-        self.days.put_on(&mut line);
-        line.put_columns(b" ");
-        put_detail(self.detail.as_ref(), &mut line);
-        line.put_spare::<1>();
-        self.letter.put_on(&mut line);
-        line.finish()
+        layout::write(self)
     }
 }
 

@@ -5,6 +5,7 @@ ghost use Rattle.cif_records.specs.Checks.{IsJudged};
 ghost use Rattle.cif_records.specs.Change.{change_refusal};
 
 use crate::checks::check_identity;
+use crate::layout::{self, Layout};
 use cif_columns::{Field, Line, LineBuilder, Refusal, Text, text_at};
 
 /// A record `CR` (the CIF End User Specification): what is changed at the next location. That its
@@ -55,25 +56,26 @@ pub struct Change {
     pub reserved_a: Text<8>,
 }
 
-impl Change {
-    ghost use Rattle.cif_records.specs.declared.change.Change.{Change};
-    ghost use Rattle.cif_records.specs.SpellsChange.{SpellsChange, table_of};
+impl Layout for Change {
+    ghost use Rattle.std.specs.Prelude.{refl, ◌≡◌, codes};
+    ghost use Rattle.cif_columns.specs.Field.{columns};
+    ghost use Rattle.cif_records.specs.SpellsChange.{table_of};
 
-    /// The change that the line spells, or the first reason in column order why it spells
-    /// none: UnknownRecord (columns 1 to 2).
-    pub fn read(line: &Line) -> Result<Change, Refusal>
-        ensures exact { IsJudged (change_refusal line.now) (SpellsChange line.now) result }
-        ensures only { (r : Change) → SpellsChange line.now r → result ≡ Ok r }
-    {
-        Change::fields_of(line)
+    type Checked = ();
+
+    ghost table = { table_of };
+
+    ghost refusal = { change_refusal };
+
+    ghost found = { λ line checked. columns 1 2 line ≡ codes "CR" };
+
+    #[tactic(auto, unfolding(crate::specs::Change::change_refusal))]
+    fn check(line: &Line) -> Result<(), Refusal> {
+        check_identity(line, b"CR")
     }
 
-    /// What `read` gives, without the law that no other is spelled.
-    fn fields_of(line: &Line) -> Result<Change, Refusal>
-        ensures { IsJudged (change_refusal line.now) (SpellsChange line.now) result }
-    {
-        check_identity(line, b"CR")?;
-        Ok(Change {
+    fn with(line: &Line, _checked: ()) -> Change {
+        Change {
             location: text_at(line, 3),
             suffix: text_at(line, 10),
             category: text_at(line, 11),
@@ -95,7 +97,49 @@ impl Change {
             traction: text_at(line, 59),
             uic: text_at(line, 63),
             reserved_a: text_at(line, 68),
-        })
+        }
+    }
+
+    fn put_rows(&self, line: &mut LineBuilder) {
+        line.put_columns(b"CR");
+        self.location.put_on(line);
+        self.suffix.put_on(line);
+        self.category.put_on(line);
+        self.identity.put_on(line);
+        self.headcode.put_on(line);
+        self.course.put_on(line);
+        self.service_code.put_on(line);
+        self.sector.put_on(line);
+        self.power.put_on(line);
+        self.timing_load.put_on(line);
+        self.speed.put_on(line);
+        self.characteristics.put_on(line);
+        self.class.put_on(line);
+        self.sleepers.put_on(line);
+        self.reservations.put_on(line);
+        self.connection.put_on(line);
+        self.catering.put_on(line);
+        self.branding.put_on(line);
+        self.traction.put_on(line);
+        self.uic.put_on(line);
+        self.reserved_a.put_on(line);
+        line.put_spare::<5>();
+    }
+
+    ghost whole = { λ r. refl };
+}
+
+impl Change {
+    ghost use Rattle.cif_records.specs.declared.change.Change.{Change};
+    ghost use Rattle.cif_records.specs.SpellsChange.{SpellsChange, table_of};
+
+    /// The change that the line spells, or the first reason in column order why it spells
+    /// none: UnknownRecord (columns 1 to 2).
+    pub fn read(line: &Line) -> Result<Change, Refusal>
+        ensures exact { IsJudged (change_refusal line.now) (SpellsChange line.now) result }
+        ensures only { (r : Change) → SpellsChange line.now r → result ≡ Ok r }
+    {
+        layout::read(line)
     }
 
     /// The plain line: spare columns are spaces, texts stand at the left.
@@ -103,30 +147,6 @@ impl Change {
         ensures plain { result ≡ plain_line (table_of self.now) }
         ensures again { SpellsChange result self.now }
     {
-        let mut line = LineBuilder::new();
-        line.put_columns(b"CR");
-        self.location.put_on(&mut line);
-        self.suffix.put_on(&mut line);
-        self.category.put_on(&mut line);
-        self.identity.put_on(&mut line);
-        self.headcode.put_on(&mut line);
-        self.course.put_on(&mut line);
-        self.service_code.put_on(&mut line);
-        self.sector.put_on(&mut line);
-        self.power.put_on(&mut line);
-        self.timing_load.put_on(&mut line);
-        self.speed.put_on(&mut line);
-        self.characteristics.put_on(&mut line);
-        self.class.put_on(&mut line);
-        self.sleepers.put_on(&mut line);
-        self.reservations.put_on(&mut line);
-        self.connection.put_on(&mut line);
-        self.catering.put_on(&mut line);
-        self.branding.put_on(&mut line);
-        self.traction.put_on(&mut line);
-        self.uic.put_on(&mut line);
-        self.reserved_a.put_on(&mut line);
-        line.put_spare::<5>();
-        line.finish()
+        layout::write(self)
     }
 }

@@ -126,6 +126,21 @@ pub(crate) fn public_time_at(line: &Line, at: usize) -> Result<PublicTime, Refus
     field_at(line, at).ok_or(Refusal::BadTime)
 }
 
+/// The times of the first or the last location of a journey.
+#[derive(Clone, Copy)]
+pub(crate) struct EndTimes {
+    pub(crate) working: WorkTime,
+    pub(crate) public: PublicTime,
+}
+
+/// On which dates a record applies, and its indicator.
+#[derive(Clone, Copy)]
+pub(crate) struct Terms {
+    pub(crate) dates: Dates,
+    pub(crate) days: DaysRun,
+    pub(crate) letter: Stp,
+}
+
 /// The indicator in column 80.
 pub(crate) fn letter_of(line: &Line) -> Result<Stp, Refusal>
     ensures { IsJudged (letter_refusal line.now)

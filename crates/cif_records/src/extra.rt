@@ -5,6 +5,7 @@ ghost use Rattle.cif_records.specs.Checks.{IsJudged};
 ghost use Rattle.cif_records.specs.Extra.{extra_refusal};
 
 use crate::checks::check_identity;
+use crate::layout::{self, Layout};
 use cif_columns::{Field, Line, LineBuilder, Refusal, Text, text_at};
 
 /// A record `BX` (the CIF End User Specification): what else runs in a schedule.
@@ -24,6 +25,49 @@ pub struct Extra {
     pub reserved_b: Text<1>,
 }
 
+impl Layout for Extra {
+    ghost use Rattle.std.specs.Prelude.{refl, ◌≡◌, codes};
+    ghost use Rattle.cif_columns.specs.Field.{columns};
+    ghost use Rattle.cif_records.specs.SpellsExtra.{table_of};
+
+    type Checked = ();
+
+    ghost table = { table_of };
+
+    ghost refusal = { extra_refusal };
+
+    ghost found = { λ line checked. columns 1 2 line ≡ codes "BX" };
+
+    #[tactic(auto, unfolding(crate::specs::Extra::extra_refusal))]
+    fn check(line: &Line) -> Result<(), Refusal> {
+        check_identity(line, b"BX")
+    }
+
+    fn with(line: &Line, _checked: ()) -> Extra {
+        Extra {
+            traction: text_at(line, 3),
+            uic: text_at(line, 7),
+            operator_code: text_at(line, 12),
+            timetable_code: text_at(line, 14),
+            reserved_a: text_at(line, 15),
+            reserved_b: text_at(line, 23),
+        }
+    }
+
+    fn put_rows(&self, line: &mut LineBuilder) {
+        line.put_columns(b"BX");
+        self.traction.put_on(line);
+        self.uic.put_on(line);
+        self.operator_code.put_on(line);
+        self.timetable_code.put_on(line);
+        self.reserved_a.put_on(line);
+        self.reserved_b.put_on(line);
+        line.put_spare::<57>();
+    }
+
+    ghost whole = { λ r. refl };
+}
+
 impl Extra {
     ghost use Rattle.cif_records.specs.declared.extra.Extra.{Extra};
     ghost use Rattle.cif_records.specs.SpellsExtra.{SpellsExtra, table_of};
@@ -34,22 +78,7 @@ impl Extra {
         ensures exact { IsJudged (extra_refusal line.now) (SpellsExtra line.now) result }
         ensures only { (r : Extra) → SpellsExtra line.now r → result ≡ Ok r }
     {
-        Extra::fields_of(line)
-    }
-
-    /// What `read` gives, without the law that no other is spelled.
-    fn fields_of(line: &Line) -> Result<Extra, Refusal>
-        ensures { IsJudged (extra_refusal line.now) (SpellsExtra line.now) result }
-    {
-        check_identity(line, b"BX")?;
-        Ok(Extra {
-            traction: text_at(line, 3),
-            uic: text_at(line, 7),
-            operator_code: text_at(line, 12),
-            timetable_code: text_at(line, 14),
-            reserved_a: text_at(line, 15),
-            reserved_b: text_at(line, 23),
-        })
+        layout::read(line)
     }
 
     /// The plain line: spare columns are spaces, texts stand at the left.
@@ -57,15 +86,6 @@ impl Extra {
         ensures plain { result ≡ plain_line (table_of self.now) }
         ensures again { SpellsExtra result self.now }
     {
-        let mut line = LineBuilder::new();
-        line.put_columns(b"BX");
-        self.traction.put_on(&mut line);
-        self.uic.put_on(&mut line);
-        self.operator_code.put_on(&mut line);
-        self.timetable_code.put_on(&mut line);
-        self.reserved_a.put_on(&mut line);
-        self.reserved_b.put_on(&mut line);
-        line.put_spare::<57>();
-        line.finish()
+        layout::write(self)
     }
 }

@@ -8,7 +8,8 @@ ghost use Rattle.cif_records.specs.Checks.{IsJudged};
 ghost use Rattle.cif_records.specs.Header.{IsFull, full_refusal, header_date_refusal};
 ghost use Rattle.cif_records.specs.Header.{header_refusal, header_table, kept};
 
-use crate::checks::check_identity;
+use crate::checks::{Dates, check_identity};
+use crate::layout::{self, Layout};
 use cif_columns::{Day, Line, LineBuilder, Refusal, columns_at};
 
 /// A record `HD` of a full extract (the CIF End User Specification): where the extract comes from,
@@ -28,6 +29,52 @@ pub struct Header {
     ghost in_order: { first ≤ last },
 }
 
+impl Layout for Header {
+    ghost use Rattle.std.specs.Prelude.{refl, ◌≡◌, codes, Some};
+    ghost use Rattle.cif_columns.specs.Day.{ddmmyy_in};
+    ghost use Rattle.cif_columns.specs.Field.{columns};
+
+    type Checked = Dates;
+
+    ghost table = { λ h. header_table h.columns };
+
+    ghost refusal = { header_refusal };
+
+    ghost found = { λ line dates. (columns 1 2 line ≡ codes "HD")
+        × (columns 47 47 line ≡ codes "F")
+        × (ddmmyy_in (columns 49 54 line) ≡ Some dates.first)
+        × (ddmmyy_in (columns 55 60 line) ≡ Some dates.last) };
+
+    #[tactic(auto, unfolding(crate::specs::Header::header_refusal))]
+    fn check(line: &Line) -> Result<Dates, Refusal> {
+        check_identity(line, b"HD")?;
+        check_full(line)?;
+        let first = date_at(line, 49)?;
+        let last = date_at(line, 55)?;
+        if first <= last {
+            Ok(Dates { first, last })
+        } else {
+            Err(Refusal::DatesReversed)
+        }
+    }
+
+    fn with(line: &Line, dates: Dates) -> Header {
+        Header {
+            columns: columns_at(line, 3),
+            first: dates.first,
+            last: dates.last,
+        }
+    }
+
+    fn put_rows(&self, line: &mut LineBuilder) {
+        line.put_columns(b"HD");
+        line.put_columns(&self.columns);
+        line.put_spare::<20>();
+    }
+
+    ghost whole = { λ h. refl };
+}
+
 impl Header {
     ghost use Rattle.cif_records.specs.declared.header.Header.{Header};
     ghost use Rattle.cif_records.specs.SpellsHeader.{SpellsHeader};
@@ -39,25 +86,7 @@ impl Header {
         ensures exact { IsJudged (header_refusal line.now) (SpellsHeader line.now) result }
         ensures only { (h : Header) → SpellsHeader line.now h → result ≡ Ok h }
     {
-        Header::fields_of(line)
-    }
-
-    /// What `read` gives, without the law that no other header is spelled.
-    fn fields_of(line: &Line) -> Result<Header, Refusal>
-        ensures { IsJudged (header_refusal line.now) (SpellsHeader line.now) result }
-    {
-        check_identity(line, b"HD")?;
-        check_full(line)?;
-        let first = date_at(line, 49)?;
-        let last = date_at(line, 55)?;
-        if last < first {
-            return Err(Refusal::DatesReversed);
-        }
-        Ok(Header {
-            columns: columns_at(line, 3),
-            first,
-            last,
-        })
+        layout::read(line)
     }
 
     /// The plain line: columns 61 to 80 are spaces.
@@ -65,11 +94,7 @@ impl Header {
         ensures plain { result ≡ plain_line (header_table self.now.columns) }
         ensures again { SpellsHeader result self.now }
     {
-        let mut line = LineBuilder::new();
-        line.put_columns(b"HD");
-        line.put_columns(&self.columns);
-        line.put_spare::<20>();
-        line.finish()
+        layout::write(self)
     }
 }
 

@@ -11,6 +11,7 @@ mod detail;
 mod extra;
 mod header;
 mod kind;
+mod layout;
 mod origin;
 mod stop;
 mod terminus;

@@ -4,7 +4,8 @@ ghost use Rattle.cif_columns.specs.Field.{plain_line};
 ghost use Rattle.cif_records.specs.Checks.{IsJudged};
 ghost use Rattle.cif_records.specs.Origin.{origin_refusal};
 
-use crate::checks::{check_identity, public_time_at, work_time_at};
+use crate::checks::{EndTimes, check_identity, public_time_at, work_time_at};
+use crate::layout::{self, Layout};
 use cif_columns::{
     Activities, Field, Line, LineBuilder, PublicTime, Refusal, Text, WorkTime, activities_at,
     text_at,
@@ -35,6 +36,63 @@ pub struct Origin {
     pub performance: Text<2>,
 }
 
+impl Layout for Origin {
+    ghost use Rattle.std.specs.Prelude.{refl, ◌≡◌, codes};
+    ghost use Rattle.cif_columns.specs.Field.{StandsIn, columns, public_time, working_time};
+    ghost use Rattle.cif_records.specs.SpellsOrigin.{table_of};
+
+    type Checked = EndTimes;
+
+    ghost table = { table_of };
+
+    ghost refusal = { origin_refusal };
+
+    ghost found = { λ line times. (columns 1 2 line ≡ codes "LO")
+        × StandsIn (columns 11 15 line) (working_time times.working)
+        × StandsIn (columns 16 19 line) (public_time times.public) };
+
+    #[tactic(auto, unfolding(crate::specs::Origin::origin_refusal))]
+    fn check(line: &Line) -> Result<EndTimes, Refusal> {
+        check_identity(line, b"LO")?;
+        Ok(EndTimes {
+            working: work_time_at(line, 11)?,
+            public: public_time_at(line, 16)?,
+        })
+    }
+
+    fn with(line: &Line, times: EndTimes) -> Origin {
+        Origin {
+            location: text_at(line, 3),
+            suffix: text_at(line, 10),
+            departure: times.working,
+            public_departure: times.public,
+            platform: text_at(line, 20),
+            line: text_at(line, 23),
+            engineering: text_at(line, 26),
+            pathing: text_at(line, 28),
+            activities: activities_at(line, 30),
+            performance: text_at(line, 42),
+        }
+    }
+
+    fn put_rows(&self, line: &mut LineBuilder) {
+        line.put_columns(b"LO");
+        self.location.put_on(line);
+        self.suffix.put_on(line);
+        self.departure.put_on(line);
+        self.public_departure.put_on(line);
+        self.platform.put_on(line);
+        self.line.put_on(line);
+        self.engineering.put_on(line);
+        self.pathing.put_on(line);
+        self.activities.put_on(line);
+        self.performance.put_on(line);
+        line.put_spare::<37>();
+    }
+
+    ghost whole = { λ r. refl };
+}
+
 impl Origin {
     ghost use Rattle.cif_records.specs.declared.origin.Origin.{Origin};
     ghost use Rattle.cif_records.specs.SpellsOrigin.{SpellsOrigin, table_of};
@@ -45,28 +103,7 @@ impl Origin {
         ensures exact { IsJudged (origin_refusal line.now) (SpellsOrigin line.now) result }
         ensures only { (r : Origin) → SpellsOrigin line.now r → result ≡ Ok r }
     {
-        Origin::fields_of(line)
-    }
-
-    /// What `read` gives, without the law that no other location is spelled.
-    fn fields_of(line: &Line) -> Result<Origin, Refusal>
-        ensures { IsJudged (origin_refusal line.now) (SpellsOrigin line.now) result }
-    {
-        check_identity(line, b"LO")?;
-        let departure = work_time_at(line, 11)?;
-        let public_departure = public_time_at(line, 16)?;
-        Ok(Origin {
-            location: text_at(line, 3),
-            suffix: text_at(line, 10),
-            departure,
-            public_departure,
-            platform: text_at(line, 20),
-            line: text_at(line, 23),
-            engineering: text_at(line, 26),
-            pathing: text_at(line, 28),
-            activities: activities_at(line, 30),
-            performance: text_at(line, 42),
-        })
+        layout::read(line)
     }
 
     /// The plain line: spare columns are spaces, texts stand at the left, and activity codes are
@@ -75,19 +112,6 @@ impl Origin {
         ensures plain { result ≡ plain_line (table_of self.now) }
         ensures again { SpellsOrigin result self.now }
     {
-        let mut line = LineBuilder::new();
-        line.put_columns(b"LO");
-        self.location.put_on(&mut line);
-        self.suffix.put_on(&mut line);
-        self.departure.put_on(&mut line);
-        self.public_departure.put_on(&mut line);
-        self.platform.put_on(&mut line);
-        self.line.put_on(&mut line);
-        self.engineering.put_on(&mut line);
-        self.pathing.put_on(&mut line);
-        self.activities.put_on(&mut line);
-        self.performance.put_on(&mut line);
-        line.put_spare::<37>();
-        line.finish()
+        layout::write(self)
     }
 }

@@ -5,6 +5,7 @@ ghost use Rattle.cif_records.specs.Checks.{IsJudged};
 ghost use Rattle.cif_records.specs.Stop.{stop_refusal};
 
 use crate::checks::{check_identity, public_time_at, work_time_at};
+use crate::layout::{self, Layout};
 use cif_columns::{
     Activities, Field, Line, LineBuilder, PublicTime, Refusal, Text, WorkTime, activities_at,
     text_at,
@@ -44,37 +45,55 @@ pub struct Stop {
     pub performance: Text<2>,
 }
 
-impl Stop {
-    ghost use Rattle.cif_records.specs.declared.stop.Stop.{Stop};
-    ghost use Rattle.cif_records.specs.SpellsStop.{SpellsStop, table_of};
+/// The times of a location on the way.
+#[derive(Clone, Copy)]
+pub(crate) struct StopTimes {
+    arrival: WorkTime,
+    departure: WorkTime,
+    pass: WorkTime,
+    public_arrival: PublicTime,
+    public_departure: PublicTime,
+}
 
-    /// The location on the way that the line spells, or the first reason in column order why it spells
-    /// none: UnknownRecord (columns 1 to 2), BadTime (columns 11 to 33).
-    pub fn read(line: &Line) -> Result<Stop, Refusal>
-        ensures exact { IsJudged (stop_refusal line.now) (SpellsStop line.now) result }
-        ensures only { (r : Stop) → SpellsStop line.now r → result ≡ Ok r }
-    {
-        Stop::fields_of(line)
+impl Layout for Stop {
+    ghost use Rattle.std.specs.Prelude.{refl, ◌≡◌, codes};
+    ghost use Rattle.cif_columns.specs.Field.{StandsIn, columns, public_time, working_time};
+    ghost use Rattle.cif_records.specs.SpellsStop.{table_of};
+
+    type Checked = StopTimes;
+
+    ghost table = { table_of };
+
+    ghost refusal = { stop_refusal };
+
+    ghost found = { λ line times. (columns 1 2 line ≡ codes "LI")
+        × StandsIn (columns 11 15 line) (working_time times.arrival)
+        × StandsIn (columns 16 20 line) (working_time times.departure)
+        × StandsIn (columns 21 25 line) (working_time times.pass)
+        × StandsIn (columns 26 29 line) (public_time times.public_arrival)
+        × StandsIn (columns 30 33 line) (public_time times.public_departure) };
+
+    #[tactic(auto, unfolding(crate::specs::Stop::stop_refusal))]
+    fn check(line: &Line) -> Result<StopTimes, Refusal> {
+        check_identity(line, b"LI")?;
+        Ok(StopTimes {
+            arrival: work_time_at(line, 11)?,
+            departure: work_time_at(line, 16)?,
+            pass: work_time_at(line, 21)?,
+            public_arrival: public_time_at(line, 26)?,
+            public_departure: public_time_at(line, 30)?,
+        })
     }
 
-    /// What `read` gives, without the law that no other is spelled.
-    fn fields_of(line: &Line) -> Result<Stop, Refusal>
-        ensures { IsJudged (stop_refusal line.now) (SpellsStop line.now) result }
-    {
-        check_identity(line, b"LI")?;
-        let arrival = work_time_at(line, 11)?;
-        let departure = work_time_at(line, 16)?;
-        let pass = work_time_at(line, 21)?;
-        let public_arrival = public_time_at(line, 26)?;
-        let public_departure = public_time_at(line, 30)?;
-        Ok(Stop {
+    fn with(line: &Line, times: StopTimes) -> Stop {
+        Stop {
             location: text_at(line, 3),
             suffix: text_at(line, 10),
-            arrival,
-            departure,
-            pass,
-            public_arrival,
-            public_departure,
+            arrival: times.arrival,
+            departure: times.departure,
+            pass: times.pass,
+            public_arrival: times.public_arrival,
+            public_departure: times.public_departure,
             platform: text_at(line, 34),
             line: text_at(line, 37),
             path: text_at(line, 40),
@@ -82,7 +101,42 @@ impl Stop {
             engineering: text_at(line, 55),
             pathing: text_at(line, 57),
             performance: text_at(line, 59),
-        })
+        }
+    }
+
+    fn put_rows(&self, line: &mut LineBuilder) {
+        line.put_columns(b"LI");
+        self.location.put_on(line);
+        self.suffix.put_on(line);
+        self.arrival.put_on(line);
+        self.departure.put_on(line);
+        self.pass.put_on(line);
+        self.public_arrival.put_on(line);
+        self.public_departure.put_on(line);
+        self.platform.put_on(line);
+        self.line.put_on(line);
+        self.path.put_on(line);
+        self.activities.put_on(line);
+        self.engineering.put_on(line);
+        self.pathing.put_on(line);
+        self.performance.put_on(line);
+        line.put_spare::<20>();
+    }
+
+    ghost whole = { λ r. refl };
+}
+
+impl Stop {
+    ghost use Rattle.cif_records.specs.declared.stop.Stop.{Stop};
+    ghost use Rattle.cif_records.specs.SpellsStop.{SpellsStop, table_of};
+
+    /// The location on the way that the line spells, or the first reason in column order why it
+    /// spells none: UnknownRecord (columns 1 to 2), BadTime (columns 11 to 33).
+    pub fn read(line: &Line) -> Result<Stop, Refusal>
+        ensures exact { IsJudged (stop_refusal line.now) (SpellsStop line.now) result }
+        ensures only { (r : Stop) → SpellsStop line.now r → result ≡ Ok r }
+    {
+        layout::read(line)
     }
 
     /// The plain line: spare columns are spaces, texts stand at the left, and activity codes are
@@ -91,23 +145,6 @@ impl Stop {
         ensures plain { result ≡ plain_line (table_of self.now) }
         ensures again { SpellsStop result self.now }
     {
-        let mut line = LineBuilder::new();
-        line.put_columns(b"LI");
-        self.location.put_on(&mut line);
-        self.suffix.put_on(&mut line);
-        self.arrival.put_on(&mut line);
-        self.departure.put_on(&mut line);
-        self.pass.put_on(&mut line);
-        self.public_arrival.put_on(&mut line);
-        self.public_departure.put_on(&mut line);
-        self.platform.put_on(&mut line);
-        self.line.put_on(&mut line);
-        self.path.put_on(&mut line);
-        self.activities.put_on(&mut line);
-        self.engineering.put_on(&mut line);
-        self.pathing.put_on(&mut line);
-        self.performance.put_on(&mut line);
-        line.put_spare::<20>();
-        line.finish()
+        layout::write(self)
     }
 }

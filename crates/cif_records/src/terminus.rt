@@ -4,7 +4,8 @@ ghost use Rattle.cif_columns.specs.Field.{plain_line};
 ghost use Rattle.cif_records.specs.Checks.{IsJudged};
 ghost use Rattle.cif_records.specs.Terminus.{terminus_refusal};
 
-use crate::checks::{check_identity, public_time_at, work_time_at};
+use crate::checks::{EndTimes, check_identity, public_time_at, work_time_at};
+use crate::layout::{self, Layout};
 use cif_columns::{
     Activities, Field, Line, LineBuilder, PublicTime, Refusal, Text, WorkTime, activities_at,
     text_at,
@@ -29,6 +30,57 @@ pub struct Terminus {
     pub activities: Activities,
 }
 
+impl Layout for Terminus {
+    ghost use Rattle.std.specs.Prelude.{refl, ◌≡◌, codes};
+    ghost use Rattle.cif_columns.specs.Field.{StandsIn, columns, public_time, working_time};
+    ghost use Rattle.cif_records.specs.SpellsTerminus.{table_of};
+
+    type Checked = EndTimes;
+
+    ghost table = { table_of };
+
+    ghost refusal = { terminus_refusal };
+
+    ghost found = { λ line times. (columns 1 2 line ≡ codes "LT")
+        × StandsIn (columns 11 15 line) (working_time times.working)
+        × StandsIn (columns 16 19 line) (public_time times.public) };
+
+    #[tactic(auto, unfolding(crate::specs::Terminus::terminus_refusal))]
+    fn check(line: &Line) -> Result<EndTimes, Refusal> {
+        check_identity(line, b"LT")?;
+        Ok(EndTimes {
+            working: work_time_at(line, 11)?,
+            public: public_time_at(line, 16)?,
+        })
+    }
+
+    fn with(line: &Line, times: EndTimes) -> Terminus {
+        Terminus {
+            location: text_at(line, 3),
+            suffix: text_at(line, 10),
+            arrival: times.working,
+            public_arrival: times.public,
+            platform: text_at(line, 20),
+            path: text_at(line, 23),
+            activities: activities_at(line, 26),
+        }
+    }
+
+    fn put_rows(&self, line: &mut LineBuilder) {
+        line.put_columns(b"LT");
+        self.location.put_on(line);
+        self.suffix.put_on(line);
+        self.arrival.put_on(line);
+        self.public_arrival.put_on(line);
+        self.platform.put_on(line);
+        self.path.put_on(line);
+        self.activities.put_on(line);
+        line.put_spare::<43>();
+    }
+
+    ghost whole = { λ r. refl };
+}
+
 impl Terminus {
     ghost use Rattle.cif_records.specs.declared.terminus.Terminus.{Terminus};
     ghost use Rattle.cif_records.specs.SpellsTerminus.{SpellsTerminus, table_of};
@@ -39,25 +91,7 @@ impl Terminus {
         ensures exact { IsJudged (terminus_refusal line.now) (SpellsTerminus line.now) result }
         ensures only { (r : Terminus) → SpellsTerminus line.now r → result ≡ Ok r }
     {
-        Terminus::fields_of(line)
-    }
-
-    /// What `read` gives, without the law that no other is spelled.
-    fn fields_of(line: &Line) -> Result<Terminus, Refusal>
-        ensures { IsJudged (terminus_refusal line.now) (SpellsTerminus line.now) result }
-    {
-        check_identity(line, b"LT")?;
-        let arrival = work_time_at(line, 11)?;
-        let public_arrival = public_time_at(line, 16)?;
-        Ok(Terminus {
-            location: text_at(line, 3),
-            suffix: text_at(line, 10),
-            arrival,
-            public_arrival,
-            platform: text_at(line, 20),
-            path: text_at(line, 23),
-            activities: activities_at(line, 26),
-        })
+        layout::read(line)
     }
 
     /// The plain line: spare columns are spaces, texts stand at the left, and activity codes are
@@ -66,16 +100,6 @@ impl Terminus {
         ensures plain { result ≡ plain_line (table_of self.now) }
         ensures again { SpellsTerminus result self.now }
     {
-        let mut line = LineBuilder::new();
-        line.put_columns(b"LT");
-        self.location.put_on(&mut line);
-        self.suffix.put_on(&mut line);
-        self.arrival.put_on(&mut line);
-        self.public_arrival.put_on(&mut line);
-        self.platform.put_on(&mut line);
-        self.path.put_on(&mut line);
-        self.activities.put_on(&mut line);
-        line.put_spare::<43>();
-        line.finish()
+        layout::write(self)
     }
 }

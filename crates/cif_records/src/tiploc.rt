@@ -6,6 +6,7 @@ ghost use Rattle.cif_records.specs.Checks.{IsJudged};
 ghost use Rattle.cif_records.specs.Tiploc.{tiploc_refusal, tiploc_table};
 
 use crate::checks::check_identity;
+use crate::layout::{self, Layout};
 use cif_columns::{Line, LineBuilder, Refusal, columns_at};
 
 /// A record `TI` (the CIF End User Specification): a location by its TIPLOC, and its other codes.
@@ -18,6 +19,38 @@ pub struct Tiploc {
     ghost printable: { ArePrintable columns },
 }
 
+impl Layout for Tiploc {
+    ghost use Rattle.std.specs.Prelude.{refl, ◌≡◌, codes};
+    ghost use Rattle.cif_columns.specs.Field.{columns};
+
+    type Checked = ();
+
+    ghost table = { λ t. tiploc_table t.columns };
+
+    ghost refusal = { tiploc_refusal };
+
+    ghost found = { λ line checked. columns 1 2 line ≡ codes "TI" };
+
+    #[tactic(auto, unfolding(crate::specs::Tiploc::tiploc_refusal))]
+    fn check(line: &Line) -> Result<(), Refusal> {
+        check_identity(line, b"TI")
+    }
+
+    fn with(line: &Line, _checked: ()) -> Tiploc {
+        Tiploc {
+            columns: columns_at(line, 3),
+        }
+    }
+
+    fn put_rows(&self, line: &mut LineBuilder) {
+        line.put_columns(b"TI");
+        line.put_columns(&self.columns);
+        line.put_spare::<8>();
+    }
+
+    ghost whole = { λ t. refl };
+}
+
 impl Tiploc {
     ghost use Rattle.cif_records.specs.declared.tiploc.Tiploc.{Tiploc};
     ghost use Rattle.cif_records.specs.SpellsTiploc.{SpellsTiploc};
@@ -27,17 +60,7 @@ impl Tiploc {
         ensures exact { IsJudged (tiploc_refusal line.now) (SpellsTiploc line.now) result }
         ensures only { (t : Tiploc) → SpellsTiploc line.now t → result ≡ Ok t }
     {
-        Tiploc::fields_of(line)
-    }
-
-    /// What `read` gives, without the law that no other is spelled.
-    fn fields_of(line: &Line) -> Result<Tiploc, Refusal>
-        ensures { IsJudged (tiploc_refusal line.now) (SpellsTiploc line.now) result }
-    {
-        check_identity(line, b"TI")?;
-        Ok(Tiploc {
-            columns: columns_at(line, 3),
-        })
+        layout::read(line)
     }
 
     /// The plain line: columns 73 to 80 are spaces.
@@ -45,10 +68,6 @@ impl Tiploc {
         ensures plain { result ≡ plain_line (tiploc_table self.now.columns) }
         ensures again { SpellsTiploc result self.now }
     {
-        let mut line = LineBuilder::new();
-        line.put_columns(b"TI");
-        line.put_columns(&self.columns);
-        line.put_spare::<8>();
-        line.finish()
+        layout::write(self)
     }
 }

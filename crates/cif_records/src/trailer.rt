@@ -1,22 +1,61 @@
 //! The trailer.
 ghost use Rattle.std.specs.Prelude.{◌≡◌};
-ghost use Rattle.cif_columns.specs.Field.{plain_line};
-ghost use Rattle.cif_records.specs.Trailer.{trailer_table};
+ghost use Rattle.cif_columns.specs.Field.{AllStandIn, plain_line};
+ghost use Rattle.cif_records.specs.Checks.{IsJudged};
+ghost use Rattle.cif_records.specs.Trailer.{trailer_refusal, trailer_table};
 
-use cif_columns::{Line, LineBuilder};
+use crate::checks::check_identity;
+use crate::layout::{self, Layout};
+use cif_columns::{Line, LineBuilder, Refusal};
 
-/// The last record of an extract, which says nothing but that.
+/// A record `ZZ` (the CIF End User Specification): the last record of an extract, which says
+/// nothing but that.
 #[derive(Clone, Copy, Debug, PartialEq, Eq)]
 pub struct Trailer;
 
-impl Trailer {
-    /// The plain line of a trailer.
-    pub fn write(self) -> Line
-        ensures plain { result ≡ plain_line trailer_table }
-    {
-        let mut line = LineBuilder::new();
+impl Layout for Trailer {
+    ghost use Rattle.std.specs.Prelude.{refl, ◌≡◌, codes};
+    ghost use Rattle.cif_columns.specs.Field.{columns};
+
+    type Checked = ();
+
+    ghost table = { λ t. trailer_table };
+
+    ghost refusal = { trailer_refusal };
+
+    ghost found = { λ line checked. columns 1 2 line ≡ codes "ZZ" };
+
+    #[tactic(auto, unfolding(crate::specs::Trailer::trailer_refusal))]
+    fn check(line: &Line) -> Result<(), Refusal> {
+        check_identity(line, b"ZZ")
+    }
+
+    fn with(_line: &Line, _checked: ()) -> Trailer {
+        Trailer
+    }
+
+    fn put_rows(&self, line: &mut LineBuilder) {
         line.put_columns(b"ZZ");
         line.put_spare::<78>();
-        line.finish()
+    }
+
+    ghost whole = { λ t. refl };
+}
+
+impl Trailer {
+    /// The trailer, where the line is one, or UnknownRecord (columns 1 to 2).
+    pub fn read(line: &Line) -> Result<Trailer, Refusal>
+        ensures { IsJudged (trailer_refusal line.now) (λ t. AllStandIn line.now trailer_table)
+            result }
+    {
+        layout::read(line)
+    }
+
+    /// The plain line: columns 3 to 80 are spaces.
+    pub fn write(self) -> Line
+        ensures plain { result ≡ plain_line trailer_table }
+        ensures again { AllStandIn result trailer_table }
+    {
+        layout::write(&self)
     }
 }

@@ -3,4 +3,4 @@ use Rattle.cif_records.proofs.Judging.{only}
 use Rattle.cif_records.proofs.basic.Basic.read.Goals as goal
 
 pub returns-clause-only : goal.returns-clause-only
-returns-clause-only c r h = only _ _ _ (one_basic c.args.line.now) (no_refusal c.args.line.now) c.fields_of.ensures r h
+returns-clause-only c r h = only _ _ _ (one_basic c.args.line.now) (no_refusal c.args.line.now) c.read.ensures r h

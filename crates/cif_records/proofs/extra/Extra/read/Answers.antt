@@ -3,4 +3,4 @@ use Rattle.cif_records.proofs.Extras.{one_extra, no_refusal}
 use Rattle.cif_records.proofs.extra.Extra.read.Goals as goal
 
 pub returns-clause-only : goal.returns-clause-only
-returns-clause-only c r h = only _ _ _ (one_extra c.args.line.now) (no_refusal c.args.line.now) c.fields_of.ensures r h
+returns-clause-only c r h = only _ _ _ (one_extra c.args.line.now) (no_refusal c.args.line.now) c.read.ensures r h

@@ -3,4 +3,4 @@ use Rattle.cif_records.proofs.Judging.{only}
 use Rattle.cif_records.proofs.header.Header.read.Goals as goal
 
 pub returns-clause-only : goal.returns-clause-only
-returns-clause-only c h p = only _ _ _ (one_header c.args.line.now) (no_refusal c.args.line.now) c.fields_of.ensures h p
+returns-clause-only c h p = only _ _ _ (one_header c.args.line.now) (no_refusal c.args.line.now) c.read.ensures h p

@@ -3,4 +3,4 @@ use Rattle.cif_records.proofs.Origins.{one_origin, no_refusal}
 use Rattle.cif_records.proofs.origin.Origin.read.Goals as goal
 
 pub returns-clause-only : goal.returns-clause-only
-returns-clause-only c r h = only _ _ _ (one_origin c.args.line.now) (no_refusal c.args.line.now) c.fields_of.ensures r h
+returns-clause-only c r h = only _ _ _ (one_origin c.args.line.now) (no_refusal c.args.line.now) c.read.ensures r h

@@ -3,4 +3,4 @@ use Rattle.cif_records.proofs.Tiplocs.{one_tiploc, no_refusal}
 use Rattle.cif_records.proofs.tiploc.Tiploc.read.Goals as goal
 
 pub returns-clause-only : goal.returns-clause-only
-returns-clause-only c t h = only _ _ _ (one_tiploc c.args.line.now) (no_refusal c.args.line.now) c.fields_of.ensures t h
+returns-clause-only c t h = only _ _ _ (one_tiploc c.args.line.now) (no_refusal c.args.line.now) c.read.ensures t h

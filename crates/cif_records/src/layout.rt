@@ -1,0 +1,59 @@
+//! What the kinds of record have in common.
+ghost use Rattle.std.specs.Prelude.{◌≡◌, ℕ, List, [], Option, true};
+ghost use Rattle.cif_columns.specs.Field.{AllFit, AllStandIn, Row, is_whole_from, plain_line};
+ghost use Rattle.cif_columns.specs.declared.refusal.Refusal.{Refusal};
+ghost use Rattle.cif_columns.proofs.Parts.{put_all};
+ghost use Rattle.cif_records.specs.Checks.{IsJudged};
+
+use cif_columns::{Line, LineBuilder, Refusal};
+
+/// A record that is laid out by a table: each row's value stands in the row's columns.
+pub(crate) trait Layout: Sized {
+    /// What the columns give that can be refused.
+    type Checked;
+
+    // The record's table.
+    ghost table: { Self → List Row };
+
+    // The first reason to refuse a line.
+    ghost refusal: { List ℕ → Option Refusal };
+
+    // Where the values stand that could be refused.
+    ghost found: { List ℕ → Self.Checked → Type 0 };
+
+    /// The values that could be refused, or the first reason in column order.
+    fn check(line: &Line) -> Result<Self::Checked, Refusal>
+        ensures { IsJudged (refusal line.now) (found line.now) result };
+
+    /// The record of these values and of what stands in the other columns.
+    fn with(line: &Line, checked: Self::Checked) -> Self
+        requires { found line.now checked }
+        ensures { AllStandIn line.now (table result) };
+
+    /// Puts the plain columns of each row on an empty line.
+    fn put_rows(&self, line: &mut LineBuilder)
+        requires { line.old ≡ [] }
+        ensures columns { line.new ≡ put_all [] (table self.now) }
+        ensures fits { AllFit (table self.now) };
+
+    // The table has each of the eighty columns once.
+    ghost whole: { (r : Self) → is_whole_from 1 (table r) ≡ true };
+}
+
+/// The record that the line spells, or the first reason in column order why it spells none.
+pub(crate) fn read<R: Layout>(line: &Line) -> Result<R, Refusal>
+    ensures { IsJudged (R.refusal line.now) (λ r. AllStandIn line.now (R.table r)) result }
+{
+    let checked = R::check(line)?;
+    Ok(R::with(line, checked))
+}
+
+/// The plain line of the record.
+pub(crate) fn write<R: Layout>(of: &R) -> Line
+    ensures plain { result ≡ plain_line (R.table of.now) }
+    ensures again { AllStandIn result (R.table of.now) }
+{
+    let mut line = LineBuilder::new();
+    of.put_rows(&mut line);
+    line.finish()
+}
