@@ -13,6 +13,7 @@ pub mod Letters
 pub mod LineAnswers
 pub mod Masks
 pub mod Parts
+pub mod PlainColumns
 pub mod PlainLines
 pub mod PrintableBytes
 pub mod TableLaws

@@ -144,7 +144,7 @@ module _ (from to : ℕ) (line : List ℕ) (h : IsLine line) (start : 1 ≤ from
   length-columns = let wide = h.width in
       omega (arith, wide, length-take (to - (from - 1)) (drop (from - 1) line), length-drop (from - 1) line)
 
-  printable-columns : ArePrintable (columns from to line)
+  pub printable-columns : ArePrintable (columns from to line)
   printable-columns = All-take IsPrintable (to - (from - 1)) (drop (from - 1) line) (All-drop IsPrintable (from - 1) line h.printable)
 
   -- a text that stands there fits

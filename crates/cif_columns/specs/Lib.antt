@@ -13,6 +13,7 @@ pub mod FirstLine
 pub mod GivenLines
 pub mod Line
 pub mod LineReader
+pub mod Loose
 pub mod PublicTime
 pub mod Refusal
 pub mod Sink

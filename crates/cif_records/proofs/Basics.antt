@@ -1,17 +1,24 @@
 -- A line spells at most one basic schedule, and there is no reason to refuse a line that spells one.
-use Rattle.std.proofs.Common.{◌≡◌, ◌≤◌, ℕ, Bool, List, Option, Some, None, is_some, get_or, ◌++◌, refl, sym, ap, ◌∙◌}
+use Rattle.std.proofs.Common.{◌≡◌, ◌≤◌, ℕ, Bool, true, List, Option, Some, None, is_some, get_or, ◌++◌, refl, sym, ap, ◌∙◌, codes}
 use Rattle.std.proofs.Props.{props}
 use mathlib.Core.HLevel.{Σ_prop_path}
-use Rattle.cif_columns.specs.Field.{FieldValue, AllStandIn}
+use Rattle.cif_columns.specs.Field.{FieldValue, AllStandIn, StandsIn, columns, date, indicator, weekdays}
+use Rattle.cif_columns.specs.Line.{IsLine}
+use Rattle.cif_columns.specs.Loose.{ArePlain}
+use Rattle.cif_columns.specs.Text.{text_of}
+use Rattle.cif_columns.proofs.PlainColumns.{loose_of, plain_already}
+use Rattle.cif_columns.proofs.Texts.{is_text_of}
+use Rattle.cif_records.specs.Plain.{IsPlainOf}
+use Rattle.cif_records.proofs.Rows.{◌&◌}
 use Rattle.cif_columns.specs.declared.stp.Stp.{Stp}
 use Rattle.cif_columns.proofs.FieldLaws.{one_date_value, one_exactly, one_indicator, one_weekdays, stp_in-letter}
 use Rattle.cif_columns.proofs.Masks.{days_of-stands}
 use Rattle.cif_columns.proofs.Parts.{stands-back, stands-front}
 use Rattle.cif_columns.proofs.TableLaws.{one_table, columns_in}
-use Rattle.cif_records.specs.Basic.{basic_back, basic_front, basic_refusal}
+use Rattle.cif_records.specs.Basic.{basic_back, basic_front, basic_refusal, basic_table}
 use Rattle.cif_records.specs.Bodies.{has_body}
 use Rattle.cif_records.specs.Detail.{detail_rows}
-use Rattle.cif_records.specs.SpellsBasic.{SpellsBasic}
+use Rattle.cif_records.specs.SpellsBasic.{SpellsBasic, table_of}
 use Rattle.cif_records.specs.declared.basic.Basic.{Basic}
 use Rattle.cif_records.specs.declared.detail.Detail.{Detail}
 use Rattle.cif_records.proofs.Judging.{dates_fine}
@@ -105,3 +112,65 @@ no_refusal line r m =
       p.back.1.0,
       stp_in-letter r.letter,
     )
+
+-- the detail that stands in a line
+abbrev detail_in : List ℕ → Detail
+detail_in line = record {
+  status = text_of (columns 30 30 line);
+  category = text_of (columns 31 32 line);
+  identity = text_of (columns 33 36 line);
+  headcode = text_of (columns 37 40 line);
+  course = text_of (columns 41 41 line);
+  service_code = text_of (columns 42 49 line);
+  sector = text_of (columns 50 50 line);
+  power = text_of (columns 51 53 line);
+  timing_load = text_of (columns 54 57 line);
+  speed = text_of (columns 58 60 line);
+  characteristics = text_of (columns 61 66 line);
+  class = text_of (columns 67 67 line);
+  sleepers = text_of (columns 68 68 line);
+  reservations = text_of (columns 69 69 line);
+  connection = text_of (columns 70 70 line);
+  catering = text_of (columns 71 74 line);
+  branding = text_of (columns 75 78 line);
+}
+
+-- a line that spells a schedule with a detail and fills its columns as a plain line does is the plain line
+module _ (line : List ℕ) (is_line : IsLine line) (first last : ℕ) (days : List Bool) (letter : Stp) where
+  pub plain_basic : columns 1 2 line ≡ codes "BS" → columns 3 3 line ≡ codes "N" → StandsIn (columns 10 15 line) (date first)
+      → StandsIn (columns 16 21 line) (date last) → StandsIn (columns 22 28 line) (weekdays days) → columns 29 29 line ≡ codes " "
+      → StandsIn (columns 80 80 line) (indicator letter) → first ≤ last → has_body letter ≡ true
+      → ArePlain line (loose_of (basic_table (columns 4 9 line) first last days letter (Some (detail_in line))))
+      → IsPlainOf Basic table_of line line
+  plain_basic identity transaction first_there last_there days_there holiday letter_there in_order has plain =
+      let r : Basic = record {
+        uid = columns 4 9 line;
+        first = first;
+        last = last;
+        days = days;
+        letter = letter;
+        detail = Some (detail_in line);
+        in_order = in_order;
+        bodied = sym has;
+      } in
+      let spelled : AllStandIn line (basic_table (columns 4 9 line) first last days letter (Some (detail_in line))) =
+      identity & transaction & refl & first_there & last_there & days_there & holiday
+      & is_text_of (columns 30 30 line)
+      & is_text_of (columns 31 32 line)
+      & is_text_of (columns 33 36 line)
+      & is_text_of (columns 37 40 line)
+      & is_text_of (columns 41 41 line)
+      & is_text_of (columns 42 49 line)
+      & is_text_of (columns 50 50 line)
+      & is_text_of (columns 51 53 line)
+      & is_text_of (columns 54 57 line)
+      & is_text_of (columns 58 60 line)
+      & is_text_of (columns 61 66 line)
+      & is_text_of (columns 67 67 line)
+      & is_text_of (columns 68 68 line)
+      & is_text_of (columns 69 69 line)
+      & is_text_of (columns 70 70 line)
+      & is_text_of (columns 71 74 line)
+      & is_text_of (columns 75 78 line)
+      & tt & letter_there & tt in
+      record { value = r; stands = spelled; same = sym (plain_already line is_line (table_of r) refl spelled plain) }

@@ -1,6 +1,13 @@
 -- A line spells further details of a schedule in one way at most, and there is no reason to refuse a line that spells one.
-use Rattle.std.proofs.Common.{◌≡◌, ℕ, List, Option, None, refl, ap, get_or}
-use Rattle.cif_columns.specs.Field.{FieldValue}
+use Rattle.std.proofs.Common.{◌≡◌, ℕ, List, Option, None, refl, ap, get_or, sym, codes}
+use Rattle.cif_columns.specs.Field.{FieldValue, columns}
+use Rattle.cif_columns.specs.Line.{IsLine}
+use Rattle.cif_columns.specs.Text.{text_of}
+use Rattle.cif_columns.proofs.PlainColumns.{loose_of, plain_already}
+use Rattle.cif_columns.specs.Loose.{ArePlain}
+use Rattle.cif_columns.proofs.Texts.{is_text_of}
+use Rattle.cif_records.specs.Plain.{IsPlainOf}
+use Rattle.cif_records.proofs.Rows.{◌&◌}
 use Rattle.cif_columns.proofs.TableLaws.{one_table, columns_in}
 use Rattle.cif_records.specs.Extra.{extra_refusal}
 use Rattle.cif_records.specs.SpellsExtra.{SpellsExtra, table_of}
@@ -23,3 +30,22 @@ one_extra line r q p s = ap extra_of (one_table line (table_of r) (table_of q) r
 pub no_refusal : (line : List ℕ) (r : Extra) → SpellsExtra line r → extra_refusal line ≡ None
 unfolding extra_refusal
 no_refusal line r p = rw p.0
+
+-- what a line spells
+abbrev extra_in : List ℕ → Extra
+extra_in line = record {
+  traction = text_of (columns 3 6 line);
+  uic = text_of (columns 7 11 line);
+  operator_code = text_of (columns 12 13 line);
+  timetable_code = text_of (columns 14 14 line);
+  reserved_a = text_of (columns 15 22 line);
+  reserved_b = text_of (columns 23 23 line);
+}
+
+-- a line that spells further details and fills its columns as a plain line does is the plain line
+pub plain_extra : (line : List ℕ) → IsLine line → columns 1 2 line ≡ codes "BX"
+    → ArePlain line (loose_of (table_of (extra_in line))) → IsPlainOf Extra table_of line line
+plain_extra line is_line identity plain =
+    let spelled : SpellsExtra line (extra_in line) =
+    identity & is_text_of (columns 3 6 line) & is_text_of (columns 7 11 line) & is_text_of (columns 12 13 line) & is_text_of (columns 14 14 line) & is_text_of (columns 15 22 line) & is_text_of (columns 23 23 line) & tt & tt in
+    record { value = extra_in line; stands = spelled; same = sym (plain_already line is_line (table_of (extra_in line)) refl spelled plain) }

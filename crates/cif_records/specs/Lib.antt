@@ -10,6 +10,7 @@ pub mod Extra
 pub mod Header
 pub mod Kind
 pub mod Origin
+pub mod Plain
 pub mod SpellsAssociation
 pub mod SpellsBasic
 pub mod SpellsChange

@@ -12,7 +12,9 @@ ghost use Rattle.cif_records.specs.Checks.{IsJudged};
 use crate::checks::{Terms, check_identity, check_transaction, dates_at, days_at, letter_of};
 use crate::layout::{self, Layout};
 use crate::{AssocBody, AssocKey};
-use cif_columns::{Day, DaysRun, Field, Line, LineBuilder, Refusal, Stp, text_at, uid_at};
+use cif_columns::{
+    Day, DaysRun, Field, Line, LineBuilder, Loose, Refusal, Stp, are_plain, text_at, uid_at,
+};
 
 /// A record `AA` (the CIF End User Specification): on which dates an association holds, or is
 /// cancelled.
@@ -33,6 +35,13 @@ pub struct Association {
     ghost in_order: { first ≤ last },
     ghost bodied: { is_some body ≡ has_body letter },
 }
+
+/// The columns that can be filled in more ways than one, where there is a body.
+const LOOSE: [Loose; 3] = [
+    Loose::Text(35, 36),
+    Loose::Text(38, 44),
+    Loose::Spare(49, 79),
+];
 
 impl Layout for Association {
     ghost use Rattle.std.specs.Prelude.{refl, ◌≡◌, codes};
@@ -73,6 +82,13 @@ impl Layout for Association {
             days: terms.days,
             letter: terms.letter,
             body: body_at(line, terms.letter),
+        }
+    }
+
+    fn is_plain(line: &Line, terms: &Terms) -> bool {
+        match terms.letter {
+            Stp::C => false,
+            Stp::N | Stp::O | Stp::P => are_plain(line, &LOOSE),
         }
     }
 

@@ -12,7 +12,9 @@ use crate::checks::{
     Terms, check_bank_holiday, check_identity, check_transaction, dates_at, days_at, letter_of,
 };
 use crate::layout::{self, Layout};
-use cif_columns::{Day, DaysRun, Field, Line, LineBuilder, Refusal, Stp, Uid, uid_at};
+use cif_columns::{
+    Day, DaysRun, Field, Line, LineBuilder, Loose, Refusal, Stp, Uid, are_plain, uid_at,
+};
 
 /// A record `BS` (the CIF End User Specification): on which dates a schedule runs, or is cancelled.
 #[derive(Debug, Drop, PartialEq, Eq)]
@@ -32,6 +34,21 @@ pub struct Basic {
     ghost in_order: { first ≤ last },
     ghost bodied: { is_some detail ≡ has_body letter },
 }
+
+/// The columns that can be filled in more ways than one, where there is a detail.
+const LOOSE: [Loose; 11] = [
+    Loose::Text(31, 32),
+    Loose::Text(33, 36),
+    Loose::Text(37, 40),
+    Loose::Text(42, 49),
+    Loose::Text(51, 53),
+    Loose::Text(54, 57),
+    Loose::Text(58, 60),
+    Loose::Text(61, 66),
+    Loose::Text(71, 74),
+    Loose::Text(75, 78),
+    Loose::Spare(79, 79),
+];
 
 impl Layout for Basic {
     ghost use Rattle.std.specs.Prelude.{refl, ◌≡◌, codes};
@@ -74,6 +91,13 @@ impl Layout for Basic {
             days: terms.days,
             letter: terms.letter,
             detail: detail_at(line, terms.letter),
+        }
+    }
+
+    fn is_plain(line: &Line, terms: &Terms) -> bool {
+        match terms.letter {
+            Stp::C => false,
+            Stp::N | Stp::O | Stp::P => are_plain(line, &LOOSE),
         }
     }
 

@@ -6,7 +6,7 @@ ghost use Rattle.cif_records.specs.Extra.{extra_refusal};
 
 use crate::checks::check_identity;
 use crate::layout::{self, Layout};
-use cif_columns::{Field, Line, LineBuilder, Refusal, Text, text_at};
+use cif_columns::{Field, Line, LineBuilder, Loose, Refusal, Text, are_plain, text_at};
 
 /// A record `BX` (the CIF End User Specification): what else runs in a schedule.
 #[derive(Debug, Drop, PartialEq, Eq)]
@@ -24,6 +24,15 @@ pub struct Extra {
     /// Column 23: reserved; a text of the body (this profile).
     pub reserved_b: Text<1>,
 }
+
+/// The columns that can be filled in more ways than one.
+const LOOSE: [Loose; 5] = [
+    Loose::Text(3, 6),
+    Loose::Text(7, 11),
+    Loose::Text(12, 13),
+    Loose::Text(15, 22),
+    Loose::Spare(24, 80),
+];
 
 impl Layout for Extra {
     ghost use Rattle.std.specs.Prelude.{refl, ◌≡◌, codes};
@@ -52,6 +61,10 @@ impl Layout for Extra {
             reserved_a: text_at(line, 15),
             reserved_b: text_at(line, 23),
         }
+    }
+
+    fn is_plain(line: &Line, _checked: &()) -> bool {
+        are_plain(line, &LOOSE)
     }
 
     fn put_rows(&self, line: &mut LineBuilder) {

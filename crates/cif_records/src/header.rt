@@ -10,7 +10,7 @@ ghost use Rattle.cif_records.specs.Header.{header_refusal, header_table, kept};
 
 use crate::checks::{Dates, check_identity};
 use crate::layout::{self, Layout};
-use cif_columns::{Day, Line, LineBuilder, Refusal, columns_at};
+use cif_columns::{Day, Line, LineBuilder, Loose, Refusal, are_plain, columns_at};
 
 /// A record `HD` of a full extract (the CIF End User Specification): where the extract comes from,
 /// and the window of dates that it speaks of.
@@ -28,6 +28,9 @@ pub struct Header {
     ghost last_stands: { ddmmyy_in (kept 55 60 columns) ≡ Some last } by { Prim.hlevel props },
     ghost in_order: { first ≤ last },
 }
+
+/// The columns that can be filled in more ways than one.
+const LOOSE: [Loose; 1] = [Loose::Spare(61, 80)];
 
 impl Layout for Header {
     ghost use Rattle.std.specs.Prelude.{refl, ◌≡◌, codes, Some};
@@ -64,6 +67,10 @@ impl Layout for Header {
             first: dates.first,
             last: dates.last,
         }
+    }
+
+    fn is_plain(line: &Line, _dates: &Dates) -> bool {
+        are_plain(line, &LOOSE)
     }
 
     fn put_rows(&self, line: &mut LineBuilder) {

@@ -1,16 +1,17 @@
 //! What the kinds of record have in common.
-ghost use Rattle.std.specs.Prelude.{◌≡◌, ℕ, List, [], Option, true};
+ghost use Rattle.std.specs.Prelude.{◌≡◌, ℕ, List, [], Option, true, IsTrue};
 ghost use Rattle.cif_columns.specs.Field.{AllFit, AllStandIn, Row, is_whole_from, plain_line};
 ghost use Rattle.cif_columns.specs.declared.refusal.Refusal.{Refusal};
 ghost use Rattle.cif_columns.proofs.Parts.{put_all};
 ghost use Rattle.cif_records.specs.Checks.{IsJudged};
+ghost use Rattle.cif_records.specs.Plain.{IsPlainOf};
 
 use cif_columns::{Line, LineBuilder, Refusal};
 
 /// A record that is laid out by a table: each row's value stands in the row's columns.
-pub(crate) trait Layout: Sized {
+pub(crate) trait Layout: Sized + Drop {
     /// What the columns give that can be refused.
-    type Checked;
+    type Checked: Copy;
 
     // The record's table.
     ghost table: { Self → List Row };
@@ -29,6 +30,11 @@ pub(crate) trait Layout: Sized {
     fn with(line: &Line, checked: Self::Checked) -> Self
         requires { found line.now checked }
         ensures { AllStandIn line.now (table result) };
+
+    /// Whether the line is the plain line of the record that it spells. A `false` costs time alone.
+    fn is_plain(line: &Line, checked: &Self::Checked) -> bool
+        requires { found line.now checked.now }
+        ensures { IsTrue result → IsPlainOf Self table line.now line.now };
 
     /// Puts the plain columns of each row on an empty line.
     fn put_rows(&self, line: &mut LineBuilder)
@@ -56,4 +62,16 @@ pub(crate) fn write<R: Layout>(of: &R) -> Line
     let mut line = LineBuilder::new();
     of.put_rows(&mut line);
     line.finish()
+}
+
+/// The plain line of the record that the line spells, or the first reason in column order why it
+/// spells none. Of a line that is plain already no value is built.
+pub(crate) fn plain_line_of<R: Layout>(line: &Line) -> Result<Line, Refusal>
+    ensures { IsJudged (R.refusal line.now) (IsPlainOf R R.table line.now) result }
+{
+    let checked = R::check(line)?;
+    if R::is_plain(line, &checked) {
+        return Ok(*line);
+    }
+    Ok(write(&R::with(line, checked)))
 }

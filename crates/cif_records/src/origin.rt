@@ -7,8 +7,8 @@ ghost use Rattle.cif_records.specs.Origin.{origin_refusal};
 use crate::checks::{EndTimes, check_identity, public_time_at, work_time_at};
 use crate::layout::{self, Layout};
 use cif_columns::{
-    Activities, Field, Line, LineBuilder, PublicTime, Refusal, Text, WorkTime, activities_at,
-    text_at,
+    Activities, Field, Line, LineBuilder, Loose, PublicTime, Refusal, Text, WorkTime,
+    activities_at, are_plain, text_at,
 };
 
 /// A record `LO` (the CIF End User Specification): where a journey begins.
@@ -35,6 +35,18 @@ pub struct Origin {
     /// Columns 42 to 43: the performance allowance.
     pub performance: Text<2>,
 }
+
+/// The columns that can be filled in more ways than one.
+const LOOSE: [Loose; 8] = [
+    Loose::Text(3, 9),
+    Loose::Text(20, 22),
+    Loose::Text(23, 25),
+    Loose::Text(26, 27),
+    Loose::Text(28, 29),
+    Loose::Activities(30, 41),
+    Loose::Text(42, 43),
+    Loose::Spare(44, 80),
+];
 
 impl Layout for Origin {
     ghost use Rattle.std.specs.Prelude.{refl, ◌≡◌, codes};
@@ -73,6 +85,10 @@ impl Layout for Origin {
             activities: activities_at(line, 30),
             performance: text_at(line, 42),
         }
+    }
+
+    fn is_plain(line: &Line, _times: &EndTimes) -> bool {
+        are_plain(line, &LOOSE)
     }
 
     fn put_rows(&self, line: &mut LineBuilder) {

@@ -7,7 +7,7 @@ ghost use Rattle.cif_records.specs.Tiploc.{tiploc_refusal, tiploc_table};
 
 use crate::checks::check_identity;
 use crate::layout::{self, Layout};
-use cif_columns::{Line, LineBuilder, Refusal, columns_at};
+use cif_columns::{Line, LineBuilder, Loose, Refusal, are_plain, columns_at};
 
 /// A record `TI` (the CIF End User Specification): a location by its TIPLOC, and its other codes.
 #[derive(Clone, Copy, Debug, PartialEq, Eq)]
@@ -18,6 +18,9 @@ pub struct Tiploc {
     pub columns: [u8; 70],
     ghost printable: { ArePrintable columns },
 }
+
+/// The columns that can be filled in more ways than one.
+const LOOSE: [Loose; 1] = [Loose::Spare(73, 80)];
 
 impl Layout for Tiploc {
     ghost use Rattle.std.specs.Prelude.{refl, ◌≡◌, codes};
@@ -40,6 +43,10 @@ impl Layout for Tiploc {
         Tiploc {
             columns: columns_at(line, 3),
         }
+    }
+
+    fn is_plain(line: &Line, _checked: &()) -> bool {
+        are_plain(line, &LOOSE)
     }
 
     fn put_rows(&self, line: &mut LineBuilder) {

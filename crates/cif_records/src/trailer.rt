@@ -6,12 +6,15 @@ ghost use Rattle.cif_records.specs.Trailer.{trailer_refusal, trailer_table};
 
 use crate::checks::check_identity;
 use crate::layout::{self, Layout};
-use cif_columns::{Line, LineBuilder, Refusal};
+use cif_columns::{Line, LineBuilder, Loose, Refusal, are_plain};
 
 /// A record `ZZ` (the CIF End User Specification): the last record of an extract, which says
 /// nothing but that.
 #[derive(Clone, Copy, Debug, PartialEq, Eq)]
 pub struct Trailer;
+
+/// The columns that can be filled in more ways than one.
+const LOOSE: [Loose; 1] = [Loose::Spare(3, 80)];
 
 impl Layout for Trailer {
     ghost use Rattle.std.specs.Prelude.{refl, ◌≡◌, codes};
@@ -32,6 +35,10 @@ impl Layout for Trailer {
 
     fn with(_line: &Line, _checked: ()) -> Trailer {
         Trailer
+    }
+
+    fn is_plain(line: &Line, _checked: &()) -> bool {
+        are_plain(line, &LOOSE)
     }
 
     fn put_rows(&self, line: &mut LineBuilder) {

@@ -1,0 +1,161 @@
+-- Columns that are filled as in a plain line, and that a line of such columns is the plain line of its table.
+use Rattle.std.proofs.Common.{◌≡◌, ◌≢◌, ◌≤◌, ℕ, zero, suc, ◌+◌, ◌-◌, Bool, ◌&&◌, true, false, cond, nat_eq, List, [], ◌∷◌, ◌++◌, length, take}
+use Rattle.std.proofs.Common.{drop, get_or, replicate, refl, sym, ap, ◌∙◌, arith, subst, length-append, length-drop, slice_get, Some}
+use Rattle.std.proofs.lemmas.Bool.Decides.{nat_tests}
+use Rattle.std.proofs.lemmas.List.{append-nil, drop-drop, length-replicate, nil_from_length, take-append-drop}
+use Rattle.std.specs.List.{list_all}
+use Rattle.cif_columns.specs.Activities.{codes_columns}
+use Rattle.cif_columns.specs.Clock.{is_blank}
+use Rattle.cif_columns.specs.Field.{AllStandIn, FieldValue, Row, StandsIn, columns, is_whole_from, plain_columns, plain_line, width_of}
+use Rattle.cif_columns.specs.Field.{exactly, text, activity_codes, working_time, public_time, date, weekdays, indicator, spare}
+use Rattle.cif_columns.specs.Line.{IsLine}
+use Rattle.cif_columns.specs.Loose.{ArePlain, IsPlain}
+use Rattle.cif_columns.specs.Text.{IsTrimmed, StandsIn as TextStandsIn, left_justified, text_of}
+use Rattle.cif_columns.specs.declared.loose.Loose.{Loose}
+use Rattle.cif_columns.specs.declared.loose.Loose.TheVariants.{Text, Activities, Spare}
+use Rattle.cif_columns.proofs.Codes.{codes_in-stands}
+use Rattle.cif_columns.proofs.DayDigits.{yymmdd_of-stands}
+use Rattle.cif_columns.proofs.Masks.{days_columns-stands}
+use Rattle.cif_columns.proofs.Parts.{whole-first}
+use Rattle.cif_columns.proofs.PlainLines.{length-columns}
+use Rattle.cif_columns.proofs.Texts.{is_text_of, one_text, trim-text}
+
+-- blank columns are spaces
+pub spaces-blank : (c : List ℕ) → is_blank c ≡ true → replicate (length c) 32 ≡ c
+spaces-blank [] h = refl
+spaces-blank (x ∷ c) h = at (nat_eq x 32) refl h (spaces-blank c)
+  where
+    at : (b : Bool) → nat_eq x 32 ≡ b → (b && is_blank c) ≡ true
+        → (is_blank c ≡ true → replicate (length c) 32 ≡ c) → replicate (suc (length c)) 32 ≡ x ∷ c
+    at true e rest behind =
+        let space : x ≡ 32 = grind (arith, nat_tests) in
+        let others = behind rest in
+        cc
+    at false e rest behind = cc
+
+-- no text stands at either end of nothing
+trimmed-nothing : IsTrimmed []
+trimmed-nothing = record { start = λ e. cc; stop = λ e. cc }
+
+-- blank columns are filled as the empty text is
+pub plain-blank : (c : List ℕ) → is_blank c ≡ true → left_justified (length c) (text_of c) ≡ c
+plain-blank c h =
+    let spelled : c ≡ (replicate (length c) 32 ++ []) ++ [] =
+    sym (append-nil (replicate (length c) 32 ++ []) ∙ append-nil (replicate (length c) 32) ∙ spaces-blank c h) in
+    let nothing : text_of c ≡ [] =
+    trim-text c [] (record { before = length c; after = 0; spelled = spelled; trimmed = trimmed-nothing }) in
+    let all : length c - 0 ≡ length c = omega arith in
+    ap (left_justified (length c)) nothing ∙ ap (λ n. replicate n 32) all ∙ spaces-blank c h
+
+-- a text that the first column begins is at the left of its columns
+pub plain-text : (c : List ℕ) → 1 ≤ length c → nat_eq (get_or c 0 0) 32 ≡ false → left_justified (length c) (text_of c) ≡ c
+plain-text c some first = let s = is_text_of c in at s.before s.after (text_of c) s.spelled
+  where
+    at : (before after : ℕ) (t : List ℕ) → c ≡ replicate before 32 ++ t ++ replicate after 32 → left_justified (length c) t ≡ c
+    at zero after t e =
+        let long : length c ≡ length t + after =
+        ap length e ∙ length-append t (replicate after 32) ∙ ap (λ n. length t + n) (length-replicate {A = ℕ} after 32) in
+        let rest : length c - length t ≡ after = omega arith in
+        ap (λ n. t ++ replicate n 32) rest ∙ sym e
+    at (suc before) after t e = absurd (clash (ap (λ l. get_or l 0 0) e))
+      where
+        clash : get_or c 0 0 ≡ 32 → ⊥
+        clash space = grind (arith, nat_tests)
+
+-- the columns of a value that can be filled otherwise
+abbrev loose_in : ℕ → ℕ → FieldValue → List Loose
+loose_in from to (text value) = cond (nat_eq from to) [] (Text from to ∷ [])
+loose_in from to (activity_codes codes) = Activities from to ∷ []
+loose_in from to spare = Spare from to ∷ []
+loose_in from to _ = []
+
+-- those of a table
+abbrev pub loose_of : List Row → List Loose
+loose_of [] = []
+loose_of (r ∷ rows) = loose_in r.from r.to r.value ++ loose_of rows
+
+plain-front : (line : List ℕ) (a b : List Loose) → ArePlain line (a ++ b) → ArePlain line a
+plain-front line [] b h = tt
+plain-front line (part ∷ a) b h = (h.0, plain-front line a b h.1)
+
+plain-back : (line : List ℕ) (a b : List Loose) → ArePlain line (a ++ b) → ArePlain line b
+plain-back line [] b h = h
+plain-back line (part ∷ a) b h = plain-back line a b h.1
+
+-- a text of one column can be filled in one way
+plain-one : (c : List ℕ) → length c ≡ 1 → left_justified 1 (text_of c) ≡ c
+plain-one [] one = cc
+plain-one (x ∷ y ∷ c) one = absurd (let clash : ⊥ = omega (arith, one) in clash)
+plain-one (x ∷ []) one = at (nat_eq x 32) refl
+  where
+    at : (b : Bool) → nat_eq x 32 ≡ b → left_justified 1 (text_of (x ∷ [])) ≡ x ∷ []
+    at true e = plain-blank (x ∷ []) (rw e)
+    at false e = plain-text (x ∷ []) (omega arith) e
+
+-- columns of a line, from one to another
+module _ (line : List ℕ) (is_line : IsLine line) (from to : ℕ) (start : 1 ≤ from) (some : from ≤ to) (within : to ≤ 80) where
+  plain_text_at : (value : List ℕ) (single : Bool) → nat_eq from to ≡ single → TextStandsIn (columns from to line) value
+      → ArePlain line (cond single [] (Text from to ∷ [])) → left_justified (to + 1 - from) value ≡ columns from to line
+  plain_text_at value true e s h =
+      let one : to + 1 - from ≡ 1 = grind (arith, nat_tests) in
+      let wide : length (columns from to line) ≡ 1 = length-columns from to line is_line start some within ∙ one in
+      ap (λ n. left_justified n value) one ∙ ap (left_justified 1) (sym (trim-text (columns from to line) value s))
+      ∙ plain-one (columns from to line) wide
+  plain_text_at value false e s h = ap (left_justified (to + 1 - from)) (sym (trim-text (columns from to line) value s)) ∙ h.0
+
+  -- a value that stands in columns which are filled as in a plain line
+  plain_value : (value : FieldValue) → StandsIn (columns from to line) value → ArePlain line (loose_in from to value)
+      → plain_columns (to + 1 - from) value ≡ columns from to line
+  plain_value (exactly value) s h = sym s
+  plain_value (text value) s h = plain_text_at value (nat_eq from to) refl s h
+  plain_value (activity_codes codes) s h = ap codes_columns (sym (codes_in-stands (columns from to line) codes s)) ∙ h.0
+  plain_value (working_time time) s h = sym s.same
+  plain_value (public_time time) s h = sym s.same
+  plain_value (date day) s h = sym (yymmdd_of-stands (columns from to line) day s)
+  plain_value (weekdays days) s h = sym (days_columns-stands (columns from to line) days s)
+  plain_value (indicator stp) s h = sym s
+  plain_value spare s h = h.0
+
+  -- the columns and what is behind them
+  columns_onto : columns from to line ++ drop (to + 1 - 1) line ≡ drop (from - 1) line
+  columns_onto =
+      let upto : to + 1 - 1 ≡ from - 1 + (to - (from - 1)) = omega arith in
+      ap (λ n. columns from to line ++ drop n line) upto
+      ∙ ap (λ l. columns from to line ++ l) (sym (drop-drop (to - (from - 1)) (from - 1) line))
+      ∙ take-append-drop (to - (from - 1)) (drop (from - 1) line)
+
+-- a table that is whole ends at column 80
+whole-within : (column : ℕ) (rows : List Row) → is_whole_from column rows ≡ true → column ≤ 81
+whole-within column [] whole = grind (arith, nat_tests)
+whole-within column (r ∷ rows) whole =
+    let first = whole-first column r rows whole in
+    let rest = whole-within (r.to + 1) rows first.2 in
+    omega (arith, first.0, first.1)
+
+plain_behind : (line : List ℕ) → IsLine line → (column : ℕ) (rows : List Row) → 1 ≤ column → is_whole_from column rows ≡ true
+    → AllStandIn line rows → ArePlain line (loose_of rows) → plain_line rows ≡ drop (column - 1) line
+plain_behind line is_line column [] start whole s h =
+    let wide = is_line.width in
+    let over : column ≡ 81 = grind (arith, nat_tests) in
+    let none : length (drop (column - 1) line) ≡ 0 = omega (arith, length-drop (column - 1) line) in
+    sym (nil_from_length (drop (column - 1) line) none)
+plain_behind line is_line column (r ∷ rows) start whole s h =
+    let first = whole-first column r rows whole in
+    let from = first.0 in
+    let some = first.1 in
+    let begin : 1 ≤ r.from = omega arith in
+    let rest = whole-within (r.to + 1) rows first.2 in
+    let within : r.to ≤ 80 = omega arith in
+    let here = plain_value line is_line r.from r.to begin some within r.value s.0 (plain-front line (loose_in r.from r.to r.value) (loose_of
+    rows) h) in
+    let behind = plain_behind line is_line (r.to + 1) rows (omega arith) first.2 s.1
+    (plain-back line (loose_in r.from r.to r.value) (loose_of rows) h) in
+    ap (λ l. l ++ plain_line rows) here
+    ∙ ap (λ l. columns r.from r.to line ++ l) behind
+    ∙ columns_onto line is_line r.from r.to begin some within
+    ∙ ap (λ n. drop (n - 1) line) from
+
+-- a line that spells a table and fills the columns that can be filled otherwise as a plain line does is the table's plain line
+pub plain_already : (line : List ℕ) → IsLine line → (rows : List Row) → is_whole_from 1 rows ≡ true → AllStandIn line rows
+    → ArePlain line (loose_of rows) → plain_line rows ≡ line
+plain_already line is_line rows whole s h = plain_behind line is_line 1 rows (omega arith) whole s h
