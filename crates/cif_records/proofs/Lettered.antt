@@ -1,5 +1,5 @@
 -- Which letters have a body.
-use Rattle.std.proofs.Common.{◌≡◌, ◌⊎◌, inl, inr, true, ap, ◌∙◌}
+use Rattle.std.proofs.Common.{◌≡◌, ◌⊎◌, inl, inr, true, ap}
 use Rattle.cif_columns.specs.declared.stp.Stp.{Stp}
 use Rattle.cif_columns.specs.declared.stp.Stp.TheVariants.{P, N, O}
 use Rattle.cif_records.specs.Bodies.{has_body}

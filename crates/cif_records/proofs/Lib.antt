@@ -8,6 +8,7 @@ pub mod Judging
 pub mod Lettered
 pub mod Origins
 pub mod PlainRecords
+pub mod Records
 pub mod Rows
 pub mod Stops
 pub mod Termini

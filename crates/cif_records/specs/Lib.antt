@@ -11,12 +11,14 @@ pub mod Header
 pub mod Kind
 pub mod Origin
 pub mod Plain
+pub mod Record
 pub mod SpellsAssociation
 pub mod SpellsBasic
 pub mod SpellsChange
 pub mod SpellsExtra
 pub mod SpellsHeader
 pub mod SpellsOrigin
+pub mod SpellsRecord
 pub mod SpellsStop
 pub mod SpellsTerminus
 pub mod SpellsTiploc

@@ -1,6 +1,7 @@
 //! The records of the CIF timetable format, read from a line and written to one.
 #![tactic(auto)]
 
+mod any_record;
 mod assoc_body;
 mod assoc_key;
 mod association;
@@ -13,11 +14,13 @@ mod header;
 mod kind;
 mod layout;
 mod origin;
+mod record;
 mod stop;
 mod terminus;
 mod tiploc;
 mod trailer;
 
+pub use any_record::{plain_line_of, read_record, write_record};
 pub use assoc_body::AssocBody;
 pub use assoc_key::AssocKey;
 pub use association::{Association, permanent_association};
@@ -28,6 +31,7 @@ pub use extra::Extra;
 pub use header::Header;
 pub use kind::{Kind, kind_of};
 pub use origin::Origin;
+pub use record::Record;
 pub use stop::Stop;
 pub use terminus::Terminus;
 pub use tiploc::Tiploc;

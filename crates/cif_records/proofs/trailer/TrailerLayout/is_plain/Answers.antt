@@ -2,7 +2,6 @@ use Rattle.std.proofs.Common.{refl, sym}
 use Rattle.cif_columns.specs.Field.{AllStandIn}
 use Rattle.cif_columns.proofs.PlainColumns.{plain_already}
 use Rattle.cif_records.specs.Trailer.{trailer_table}
-use Rattle.cif_records.specs.declared.trailer.Trailer.{Trailer}
 use Rattle.cif_records.proofs.trailer.TrailerLayout.is_plain.Goals as goal
 
 pub returns : goal.returns

@@ -1,0 +1,189 @@
+-- A line spells one record at most, of the kind that it names, and there is no reason to refuse a line that spells one.
+use Rattle.std.proofs.Common.{◌≡◌, ℕ, List, Option, Some, None, Result, Ok, Err, refl, sym, ap, ◌∙◌, subst}
+use Rattle.cif_columns.specs.Field.{AllStandIn, Row, columns, plain_line}
+use Rattle.cif_columns.specs.declared.refusal.Refusal.{Refusal}
+use Rattle.cif_records.specs.Checks.{IsJudged}
+use Rattle.cif_records.specs.Kind.{identity, kind_in}
+use Rattle.cif_records.specs.Plain.{IsPlainOf}
+use Rattle.cif_records.specs.Record.{record_refusal, refusal_as}
+use Rattle.cif_records.specs.SpellsRecord.{SpellsRecord, record_table}
+use Rattle.cif_records.specs.Trailer.{trailer_refusal, trailer_table}
+use Rattle.cif_records.specs.declared.association.Association.{Association}
+use Rattle.cif_records.specs.declared.basic.Basic.{Basic}
+use Rattle.cif_records.specs.declared.change.Change.{Change}
+use Rattle.cif_records.specs.declared.extra.Extra.{Extra}
+use Rattle.cif_records.specs.declared.header.Header.{Header}
+use Rattle.cif_records.specs.declared.kind.Kind.{Kind}
+use Rattle.cif_records.specs.declared.kind.Kind.TheVariants.{Hd, Ti, Ta, Td, Aa, Bs, Bx, Lo, Li, Cr, Lt, Zz}
+use Rattle.cif_records.specs.declared.origin.Origin.{Origin}
+use Rattle.cif_records.specs.declared.record.Record.{Record}
+use Rattle.cif_records.specs.declared.record.Record.TheVariants as a
+use Rattle.cif_records.specs.declared.stop.Stop.{Stop}
+use Rattle.cif_records.specs.declared.terminus.Terminus.{Terminus}
+use Rattle.cif_records.specs.declared.tiploc.Tiploc.{Tiploc}
+use Rattle.cif_records.proofs.Associations as associations
+use Rattle.cif_records.proofs.Basics as basics
+use Rattle.cif_records.proofs.Changes as changes
+use Rattle.cif_records.proofs.Extras as extras
+use Rattle.cif_records.proofs.Headers as headers
+use Rattle.cif_records.proofs.Identities.{only_kind}
+use Rattle.cif_records.proofs.Judging.{none-some}
+use Rattle.cif_records.proofs.Origins as origins
+use Rattle.cif_records.proofs.Stops as stops
+use Rattle.cif_records.proofs.Termini as termini
+use Rattle.cif_records.proofs.Tiplocs as tiplocs
+
+-- what a record of a kind holds; amended and deleted locations are never held
+abbrev Held : Kind → Type 0
+Held Hd = Header
+Held Ti = Tiploc
+Held Ta = ⊥
+Held Td = ⊥
+Held Aa = Association
+Held Bs = Basic
+Held Bx = Extra
+Held Lo = Origin
+Held Li = Stop
+Held Cr = Change
+Held Lt = Terminus
+Held Zz = Unit {0}
+
+abbrev record_with : (k : Kind) → Held k → Record
+record_with Hd h = a.Header h
+record_with Ti h = a.Tiploc h
+record_with Ta h = absurd h
+record_with Td h = absurd h
+record_with Aa h = a.Association h
+record_with Bs h = a.Basic h
+record_with Bx h = a.Extra h
+record_with Lo h = a.Origin h
+record_with Li h = a.Stop h
+record_with Cr h = a.Change h
+record_with Lt h = a.Terminus h
+record_with Zz h = a.Trailer
+
+abbrev kind_of : Record → Kind
+kind_of (a.Header h) = Hd
+kind_of (a.Tiploc h) = Ti
+kind_of (a.Association h) = Aa
+kind_of (a.Basic h) = Bs
+kind_of (a.Extra h) = Bx
+kind_of (a.Origin h) = Lo
+kind_of (a.Stop h) = Li
+kind_of (a.Change h) = Cr
+kind_of (a.Terminus h) = Lt
+kind_of a.Trailer = Zz
+
+abbrev held : (r : Record) → Held (kind_of r)
+held (a.Header h) = h
+held (a.Tiploc h) = h
+held (a.Association h) = h
+held (a.Basic h) = h
+held (a.Extra h) = h
+held (a.Origin h) = h
+held (a.Stop h) = h
+held (a.Change h) = h
+held (a.Terminus h) = h
+held a.Trailer = tt
+
+-- a record is the one with what it holds
+record_with-held : (r : Record) → record_with (kind_of r) (held r) ≡ r
+record_with-held (a.Header h) = refl
+record_with-held (a.Tiploc h) = refl
+record_with-held (a.Association h) = refl
+record_with-held (a.Basic h) = refl
+record_with-held (a.Extra h) = refl
+record_with-held (a.Origin h) = refl
+record_with-held (a.Stop h) = refl
+record_with-held (a.Change h) = refl
+record_with-held (a.Terminus h) = refl
+record_with-held a.Trailer = refl
+
+identity_there : (line : List ℕ) (r : Record) → SpellsRecord line r → columns 1 2 line ≡ identity (kind_of r)
+identity_there line (a.Header h) s = s.0
+identity_there line (a.Tiploc h) s = s.0
+identity_there line (a.Association h) s = s.0
+identity_there line (a.Basic h) s = s.0
+identity_there line (a.Extra h) s = s.0
+identity_there line (a.Origin h) s = s.0
+identity_there line (a.Stop h) s = s.0
+identity_there line (a.Change h) s = s.0
+identity_there line (a.Terminus h) s = s.0
+identity_there line a.Trailer s = s.0
+
+-- a line that spells a record names its kind
+kind_there : (line : List ℕ) (r : Record) → SpellsRecord line r → kind_in line ≡ Some (kind_of r)
+kind_there line r s = only_kind (columns 1 2 line) (kind_of r) (identity_there line r s)
+
+-- of each kind a line spells one record at most
+one_of_kind : (line : List ℕ) (k : Kind) (p q : Held k) → SpellsRecord line (record_with k p) → SpellsRecord line (record_with k q) → p ≡ q
+one_of_kind line Hd p q m n = headers.one_header line p q m n
+one_of_kind line Ti p q m n = tiplocs.one_tiploc line p q m n
+one_of_kind line Ta p q m n = absurd p
+one_of_kind line Td p q m n = absurd p
+one_of_kind line Aa p q m n = associations.one_association line p q m n
+one_of_kind line Bs p q m n = basics.one_basic line p q m n
+one_of_kind line Bx p q m n = extras.one_extra line p q m n
+one_of_kind line Lo p q m n = origins.one_origin line p q m n
+one_of_kind line Li p q m n = stops.one_stop line p q m n
+one_of_kind line Cr p q m n = changes.one_change line p q m n
+one_of_kind line Lt p q m n = termini.one_terminus line p q m n
+one_of_kind line Zz p q m n = refl
+
+-- two records that a line spells are one
+pub one_record : (line : List ℕ) (r q : Record) → SpellsRecord line r → SpellsRecord line q → r ≡ q
+one_record line r q m n =
+    let named : ◌≡◌ {A = Option Kind} (Some (kind_of r)) (Some (kind_of q)) = sym (kind_there line r m) ∙ kind_there line q n in
+    let same : kind_of r ≡ kind_of q = cc in
+    let held_twice : (p : Held (kind_of q)) → SpellsRecord line (record_with (kind_of q) p) → record_with (kind_of r) (held r) ≡ record_with
+    (kind_of q) p =
+    subst (λ k. (p : Held k) → SpellsRecord line (record_with k p) → record_with (kind_of r) (held r) ≡ record_with k p) same
+    (λ p s. ap (record_with (kind_of r)) (one_of_kind line (kind_of r) (held r) p
+    (subst (SpellsRecord line) (sym (record_with-held r)) m) s)) in
+    sym (record_with-held r) ∙ held_twice (held q) (subst (SpellsRecord line) (sym (record_with-held q)) n) ∙ record_with-held q
+
+no_trailer_refusal : (line : List ℕ) → AllStandIn line trailer_table → trailer_refusal line ≡ None
+unfolding trailer_refusal
+no_trailer_refusal line s = rw s.0
+
+no_refusal_as : (line : List ℕ) (r : Record) → SpellsRecord line r → refusal_as (Some (kind_of r)) line ≡ None
+no_refusal_as line (a.Header h) s = headers.no_refusal line h s
+no_refusal_as line (a.Tiploc h) s = tiplocs.no_refusal line h s
+no_refusal_as line (a.Association h) s = associations.no_refusal line h s
+no_refusal_as line (a.Basic h) s = basics.no_refusal line h s
+no_refusal_as line (a.Extra h) s = extras.no_refusal line h s
+no_refusal_as line (a.Origin h) s = origins.no_refusal line h s
+no_refusal_as line (a.Stop h) s = stops.no_refusal line h s
+no_refusal_as line (a.Change h) s = changes.no_refusal line h s
+no_refusal_as line (a.Terminus h) s = termini.no_refusal line h s
+no_refusal_as line a.Trailer s = no_trailer_refusal line s
+
+-- the reason to refuse a line that names a kind
+pub refusal-kind : (line : List ℕ) (k : Kind) → kind_in line ≡ Some k → record_refusal line ≡ refusal_as (Some k) line
+unfolding record_refusal
+refusal-kind line k e = ap (λ found. refusal_as found line) e
+
+-- there is no reason to refuse a line that spells a record
+pub no_refusal : (line : List ℕ) (r : Record) → SpellsRecord line r → record_refusal line ≡ None
+no_refusal line r s = refusal-kind line (kind_of r) (kind_there line r s) ∙ no_refusal_as line r s
+
+-- the plain line of a record of one kind is that of a record
+module _ {R : Type 0} (table : R → List Row) (of_kind : R → Record) (same : (r : R) → table r ≡ record_table (of_kind r)) where
+  pub plain_as : (line : List ℕ) (refusal : Option Refusal) (result : Result (List ℕ) Refusal) → record_refusal line ≡ refusal
+      → IsJudged refusal (IsPlainOf R table line) result → IsJudged (record_refusal line) (IsPlainOf Record record_table line) result
+  plain_as line refusal (Ok plain) e h = (
+    e ∙ h.0,
+    record {
+      value = of_kind h.1.value;
+      stands = subst (AllStandIn line) (same h.1.value) h.1.stands;
+      same = h.1.same ∙ ap plain_line (same h.1.value);
+    },
+  )
+  plain_as line refusal (Err why) e h = e ∙ h
+
+-- a line that spells a record has one plain line
+pub only_plain : (line : List ℕ) (result : Result (List ℕ) Refusal)
+    → IsJudged (record_refusal line) (IsPlainOf Record record_table line) result
+    → (r : Record) → SpellsRecord line r → result ≡ Ok (plain_line (record_table r))
+only_plain line (Ok plain) h r s = ap Ok (h.1.same ∙ ap (λ q. plain_line (record_table q)) (one_record line h.1.value r h.1.stands s))
+only_plain line (Err why) h r s = absurd (none-some (record_refusal line) why (no_refusal line r s) h)

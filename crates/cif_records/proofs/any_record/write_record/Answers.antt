@@ -1,0 +1,4 @@
+use Rattle.cif_records.proofs.any_record.write_record.Goals as goal
+
+pub returns-in-Stop-clause-again : goal.returns-in-Stop-clause-again
+returns-in-Stop-clause-again c = rw c.in-Stop.is c.write-in-Stop.ensures.again
