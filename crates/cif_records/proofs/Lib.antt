@@ -13,3 +13,4 @@ pub mod Rows
 pub mod Stops
 pub mod Termini
 pub mod Tiplocs
+pub mod Windows

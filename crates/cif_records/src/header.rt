@@ -2,6 +2,7 @@
 ghost use Rattle.std.specs.Prelude.{◌≡◌, ◌+◌, ◌≤◌, Some, Ok, codes};
 ghost use Rattle.std.proofs.Props.{props};
 ghost use Rattle.cif_columns.specs.Day.{ddmmyy_in};
+ghost use Rattle.cif_columns.specs.DayDigits.{ddmmyy_of};
 ghost use Rattle.cif_columns.specs.Field.{columns, columns_from, plain_line};
 ghost use Rattle.cif_columns.specs.Line.{ArePrintable};
 ghost use Rattle.cif_records.specs.Checks.{IsJudged};
@@ -102,6 +103,26 @@ impl Header {
         ensures again { SpellsHeader result self.now }
     {
         layout::write(self)
+    }
+
+    /// The header with this window, from `first` to `last`: columns 49 to 60 are changed, and no
+    /// others.
+    pub fn with_window(&self, first: Day, last: Day) -> Header
+        requires { first ≤ last }
+        ensures first { result.first ≡ first }
+        ensures last { result.last ≡ last }
+        ensures kept { kept 3 48 result.columns ≡ kept 3 48 self.now.columns }
+        ensures first_columns { kept 49 54 result.columns ≡ ddmmyy_of first }
+        ensures last_columns { kept 55 60 result.columns ≡ ddmmyy_of last }
+    {
+        let mut columns = self.columns;
+        columns[46..52].copy_from_slice(&first.to_ddmmyy());
+        columns[52..58].copy_from_slice(&last.to_ddmmyy());
+        Header {
+            columns,
+            first,
+            last,
+        }
     }
 }
 

@@ -43,6 +43,23 @@ fn header_gives_the_dates_of_its_window(rt: HostRuntime) -> Result<(), Fail> {
 }
 
 #[test]
+fn header_with_another_window_keeps_its_other_columns(rt: HostRuntime) -> Result<(), Fail> {
+    let line = header_with(b'F').ok_or("a line")?;
+    let header = Header::read(&line).map_err(|_| "a header")?;
+    let first = Day::from_yymmdd(b"260112").ok_or("a day")?;
+    let last = Day::from_yymmdd(b"260118").ok_or("a day")?;
+    assert!(rt; first <= last);
+    let week = header.with_window(first, last);
+    assert_eq!(rt; week.first, first);
+    assert_eq!(rt; week.last, last);
+    assert_eq!(rt;
+        week.write().bytes(),
+        b"HDTPS.UTEST01.PD2601040401262000DFTEST1       FA120126180126                    "
+    );
+    Ok(())
+}
+
+#[test]
 fn header_of_an_update_is_refused(rt: HostRuntime) -> Result<(), Fail> {
     let line = header_with(b'U').ok_or("a line")?;
     assert_eq!(rt; Header::read(&line), Err(Refusal::NotFull));
