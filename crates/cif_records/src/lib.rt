@@ -38,4 +38,6 @@ pub use tiploc::Tiploc;
 pub use trailer::Trailer;
 
 #[cfg(test)]
+mod record_tests;
+#[cfg(test)]
 mod tests;
