@@ -12,6 +12,7 @@ pub mod Field
 pub mod FirstLine
 pub mod GivenLines
 pub mod Line
+pub mod LineBuilder
 pub mod LineReader
 pub mod Loose
 pub mod PublicTime

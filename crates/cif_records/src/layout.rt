@@ -1,8 +1,9 @@
 //! What the kinds of record have in common.
 ghost use Rattle.std.specs.Prelude.{◌≡◌, ℕ, List, [], Option, true, IsTrue};
 ghost use Rattle.cif_columns.specs.Field.{AllFit, AllStandIn, Row, is_whole_from, plain_line};
+ghost use Rattle.cif_columns.specs.Line.{IsLine};
 ghost use Rattle.cif_columns.specs.declared.refusal.Refusal.{Refusal};
-ghost use Rattle.cif_columns.proofs.Parts.{put_all};
+ghost use Rattle.cif_columns.specs.LineBuilder.{put_all};
 ghost use Rattle.cif_records.specs.Checks.{IsJudged};
 ghost use Rattle.cif_records.specs.Plain.{IsPlainOf};
 
@@ -33,7 +34,8 @@ pub(crate) trait Layout: Sized + Drop {
 
     /// Whether the line is the plain line of the record that it spells. A `false` costs time alone.
     fn is_plain(line: &Line, checked: &Self::Checked) -> bool
-        requires { found line.now checked.now }
+        requires found { found line.now checked.now }
+        requires line { IsLine line.now }
         ensures { IsTrue result → IsPlainOf Self table line.now line.now };
 
     /// Puts the plain columns of each row on an empty line.
@@ -67,6 +69,7 @@ pub(crate) fn write<R: Layout>(of: &R) -> Line
 /// The plain line of the record that the line spells, or the first reason in column order why it
 /// spells none. Of a line that is plain already no value is built.
 pub(crate) fn plain_line_of<R: Layout>(line: &Line) -> Result<Line, Refusal>
+    requires { IsLine line.now }
     ensures { IsJudged (R.refusal line.now) (IsPlainOf R R.table line.now) result }
 {
     let checked = R::check(line)?;

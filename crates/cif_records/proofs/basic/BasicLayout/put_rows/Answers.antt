@@ -1,6 +1,7 @@
 use Rattle.std.proofs.Common.{◌≡◌, ◌++◌, ℕ, List, [], sym, ◌∙◌}
 use Rattle.cif_columns.specs.Field.{plain_line}
-use Rattle.cif_columns.proofs.Parts.{put_all, put_all-append}
+use Rattle.cif_columns.specs.LineBuilder.{put_all}
+use Rattle.cif_columns.proofs.Parts.{put_all-append}
 use Rattle.cif_records.specs.Basic.{basic_back, basic_front}
 use Rattle.cif_records.specs.Detail.{detail_rows}
 use Rattle.cif_records.proofs.basic.BasicLayout.put_rows.Goals as goal

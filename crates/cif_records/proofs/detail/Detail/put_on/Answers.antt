@@ -1,5 +1,6 @@
 use Rattle.std.proofs.Common.{◌≡◌, ℕ, List, Some, ◌∙◌}
-use Rattle.cif_columns.proofs.Parts.{behind, put_all}
+use Rattle.cif_columns.specs.LineBuilder.{put_all}
+use Rattle.cif_columns.proofs.Parts.{behind}
 use Rattle.cif_records.specs.Detail.{detail_rows}
 use Rattle.cif_records.proofs.detail.Detail.put_on.Goals as goal
 

@@ -6,9 +6,9 @@ use Rattle.cif_records.proofs.trailer.TrailerLayout.is_plain.Goals as goal
 
 pub returns : goal.returns
 returns c = λ yes.
-    let spelled : AllStandIn c.args.line.now trailer_table = (c.requires, (tt, tt)) in
+    let spelled : AllStandIn c.args.line.now trailer_table = (c.requires.found, (tt, tt)) in
     record {
       value = record {};
       stands = spelled;
-      same = sym (plain_already c.args.line.now c.are_plain.ensures.line trailer_table refl spelled (c.are_plain.ensures.plain yes));
+      same = sym (plain_already c.args.line.now c.requires.line trailer_table refl spelled (c.are_plain.ensures yes));
     }
