@@ -169,4 +169,4 @@ module _ (line : List ℕ) (is_line : IsLine line) (first last : ℕ) (days : Li
       & is_text_of (columns 35 36 line) & is_text_of (columns 37 37 line) & is_text_of (columns 38 44 line)
       & is_text_of (columns 45 45 line) & is_text_of (columns 46 46 line) & is_text_of (columns 47 47 line)
       & is_text_of (columns 48 48 line) & tt & letter_there & tt in
-      record { value = r; stands = spelled; same = sym (plain_already line is_line (table_of r) refl spelled plain) }
+      record { value = r; stands = spelled; again = spelled; same = sym (plain_already line is_line (table_of r) refl spelled plain) }

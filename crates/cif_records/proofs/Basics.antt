@@ -173,4 +173,4 @@ module _ (line : List ℕ) (is_line : IsLine line) (first last : ℕ) (days : Li
       & is_text_of (columns 71 74 line)
       & is_text_of (columns 75 78 line)
       & tt & letter_there & tt in
-      record { value = r; stands = spelled; same = sym (plain_already line is_line (table_of r) refl spelled plain) }
+      record { value = r; stands = spelled; again = spelled; same = sym (plain_already line is_line (table_of r) refl spelled plain) }

@@ -78,4 +78,4 @@ pub plain_change : (line : List ℕ) → IsLine line → columns 1 2 line ≡ co
 plain_change line is_line identity plain =
     let spelled : SpellsChange line (change_in line) =
     identity & is_text_of (columns 3 9 line) & is_text_of (columns 10 10 line) & is_text_of (columns 11 12 line) & is_text_of (columns 13 16 line) & is_text_of (columns 17 20 line) & is_text_of (columns 21 21 line) & is_text_of (columns 22 29 line) & is_text_of (columns 30 30 line) & is_text_of (columns 31 33 line) & is_text_of (columns 34 37 line) & is_text_of (columns 38 40 line) & is_text_of (columns 41 46 line) & is_text_of (columns 47 47 line) & is_text_of (columns 48 48 line) & is_text_of (columns 49 49 line) & is_text_of (columns 50 50 line) & is_text_of (columns 51 54 line) & is_text_of (columns 55 58 line) & is_text_of (columns 59 62 line) & is_text_of (columns 63 67 line) & is_text_of (columns 68 75 line) & tt & tt in
-    record { value = change_in line; stands = spelled; same = sym (plain_already line is_line (table_of (change_in line)) refl spelled plain) }
+    record { value = change_in line; stands = spelled; again = spelled; same = sym (plain_already line is_line (table_of (change_in line)) refl spelled plain) }

@@ -48,4 +48,4 @@ pub plain_extra : (line : List ℕ) → IsLine line → columns 1 2 line ≡ cod
 plain_extra line is_line identity plain =
     let spelled : SpellsExtra line (extra_in line) =
     identity & is_text_of (columns 3 6 line) & is_text_of (columns 7 11 line) & is_text_of (columns 12 13 line) & is_text_of (columns 14 14 line) & is_text_of (columns 15 22 line) & is_text_of (columns 23 23 line) & tt & tt in
-    record { value = extra_in line; stands = spelled; same = sym (plain_already line is_line (table_of (extra_in line)) refl spelled plain) }
+    record { value = extra_in line; stands = spelled; again = spelled; same = sym (plain_already line is_line (table_of (extra_in line)) refl spelled plain) }

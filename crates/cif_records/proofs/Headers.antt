@@ -93,5 +93,6 @@ plain_header line first last is_line identity full first_stands last_stands in_o
         in_order = in_order;
       };
       stands = spelled;
+      again = spelled;
       same = sym (plain_already line is_line (header_table header_columns) refl spelled plain);
     }

@@ -61,4 +61,4 @@ plain_origin line departure public_departure is_line identity departure_there pu
     let twelve = stands-codes_in 6 (columns 30 41 line) (length-columns 30 41 line is_line (omega arith) (omega arith) (omega arith)) in
     let spelled : SpellsOrigin line (origin_in line departure public_departure) =
     identity & is_text_of (columns 3 9 line) & is_text_of (columns 10 10 line) & departure_there & public_departure_there & is_text_of (columns 20 22 line) & is_text_of (columns 23 25 line) & is_text_of (columns 26 27 line) & is_text_of (columns 28 29 line) & twelve & is_text_of (columns 42 43 line) & tt & tt in
-    record { value = origin_in line departure public_departure; stands = spelled; same = sym (plain_already line is_line (table_of (origin_in line departure public_departure)) refl spelled plain) }
+    record { value = origin_in line departure public_departure; stands = spelled; again = spelled; same = sym (plain_already line is_line (table_of (origin_in line departure public_departure)) refl spelled plain) }

@@ -177,6 +177,7 @@ module _ {R : Type 0} (table : R → List Row) (of_kind : R → Record) (same : 
       value = of_kind h.1.value;
       stands = subst (AllStandIn line) (same h.1.value) h.1.stands;
       same = h.1.same ∙ ap plain_line (same h.1.value);
+      again = subst (AllStandIn plain) (same h.1.value) h.1.again;
     },
   )
   plain_as line refusal (Err why) e h = e ∙ h

@@ -77,4 +77,4 @@ plain_stop line arrival departure pass public_arrival public_departure is_line i
     let twelve = stands-codes_in 6 (columns 43 54 line) (length-columns 43 54 line is_line (omega arith) (omega arith) (omega arith)) in
     let spelled : SpellsStop line (stop_in line arrival departure pass public_arrival public_departure) =
     identity & is_text_of (columns 3 9 line) & is_text_of (columns 10 10 line) & arrival_there & departure_there & pass_there & public_arrival_there & public_departure_there & is_text_of (columns 34 36 line) & is_text_of (columns 37 39 line) & is_text_of (columns 40 42 line) & twelve & is_text_of (columns 55 56 line) & is_text_of (columns 57 58 line) & is_text_of (columns 59 60 line) & tt & tt in
-    record { value = stop_in line arrival departure pass public_arrival public_departure; stands = spelled; same = sym (plain_already line is_line (table_of (stop_in line arrival departure pass public_arrival public_departure)) refl spelled plain) }
+    record { value = stop_in line arrival departure pass public_arrival public_departure; stands = spelled; again = spelled; same = sym (plain_already line is_line (table_of (stop_in line arrival departure pass public_arrival public_departure)) refl spelled plain) }

@@ -55,4 +55,4 @@ plain_terminus line arrival public_arrival is_line identity arrival_there public
     let twelve = stands-codes_in 6 (columns 26 37 line) (length-columns 26 37 line is_line (omega arith) (omega arith) (omega arith)) in
     let spelled : SpellsTerminus line (terminus_in line arrival public_arrival) =
     identity & is_text_of (columns 3 9 line) & is_text_of (columns 10 10 line) & arrival_there & public_arrival_there & is_text_of (columns 20 22 line) & is_text_of (columns 23 25 line) & twelve & tt & tt in
-    record { value = terminus_in line arrival public_arrival; stands = spelled; same = sym (plain_already line is_line (table_of (terminus_in line arrival public_arrival)) refl spelled plain) }
+    record { value = terminus_in line arrival public_arrival; stands = spelled; again = spelled; same = sym (plain_already line is_line (table_of (terminus_in line arrival public_arrival)) refl spelled plain) }

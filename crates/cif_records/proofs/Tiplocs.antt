@@ -32,5 +32,6 @@ plain_tiploc line is_line identity plain =
     record {
       value = record { columns = kept; printable = printable-columns 3 72 line is_line (omega arith) (omega arith) (omega arith) };
       stands = spelled;
+      again = spelled;
       same = sym (plain_already line is_line (tiploc_table kept) refl spelled plain);
     }

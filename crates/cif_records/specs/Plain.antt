@@ -2,8 +2,9 @@
 use Rattle.std.specs.Prelude.{◌≡◌, ℕ, List}
 use Rattle.cif_columns.specs.Field.{Row, AllStandIn, plain_line}
 
--- the first line spells a record, whose plain line the second is
+-- the first line spells a record, whose plain line the second is, which spells it again
 pub record IsPlainOf (R : Type 0) (table : R → List Row) (line plain : List ℕ) : Type 0 where
   pub value : R
   pub stands : AllStandIn line (table value)
   pub same : plain ≡ plain_line (table value)
+  pub again : AllStandIn plain (table value)

@@ -10,5 +10,6 @@ returns c = λ yes.
     record {
       value = record {};
       stands = spelled;
+      again = spelled;
       same = sym (plain_already c.args.line.now c.requires.line trailer_table refl spelled (c.are_plain.ensures yes));
     }
