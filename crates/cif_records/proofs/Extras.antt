@@ -31,21 +31,28 @@ pub no_refusal : (line : List ℕ) (r : Extra) → SpellsExtra line r → extra_
 unfolding extra_refusal
 no_refusal line r p = rw p.0
 
--- what a line spells
-abbrev extra_in : List ℕ → Extra
-extra_in line = record {
-  traction = text_of (columns 3 6 line);
-  uic = text_of (columns 7 11 line);
-  operator_code = text_of (columns 12 13 line);
-  timetable_code = text_of (columns 14 14 line);
-  reserved_a = text_of (columns 15 22 line);
-  reserved_b = text_of (columns 23 23 line);
-}
+module _ (line : List ℕ) where
+  -- what a line spells
+  abbrev extra_in : Extra
+  extra_in = record {
+    traction = text_of (columns 3 6 line);
+    uic = text_of (columns 7 11 line);
+    operator_code = text_of (columns 12 13 line);
+    timetable_code = text_of (columns 14 14 line);
+    reserved_a = text_of (columns 15 22 line);
+    reserved_b = text_of (columns 23 23 line);
+  }
 
--- a line that spells further details and fills its columns as a plain line does is the plain line
-pub plain_extra : (line : List ℕ) → IsLine line → columns 1 2 line ≡ codes "BX"
-    → ArePlain line (loose_of (table_of (extra_in line))) → IsPlainOf Extra table_of line line
-plain_extra line is_line identity plain =
-    let spelled : SpellsExtra line (extra_in line) =
-    identity & is_text_of (columns 3 6 line) & is_text_of (columns 7 11 line) & is_text_of (columns 12 13 line) & is_text_of (columns 14 14 line) & is_text_of (columns 15 22 line) & is_text_of (columns 23 23 line) & tt & tt in
-    record { value = extra_in line; stands = spelled; again = spelled; same = sym (plain_already line is_line (table_of (extra_in line)) refl spelled plain) }
+  -- a line that spells further details and fills its columns as a plain line does is the plain line
+  pub plain_extra : IsLine line → (columns 1 2 line ≡ codes "BX")
+      → ArePlain line (loose_of (table_of extra_in)) → IsPlainOf Extra table_of line line
+  plain_extra is_line found plain =
+      let spelled : SpellsExtra line extra_in =
+      found & is_text_of (columns 3 6 line) & is_text_of (columns 7 11 line) & is_text_of (columns 12 13 line)
+      & is_text_of (columns 14 14 line) & is_text_of (columns 15 22 line) & is_text_of (columns 23 23 line) & tt & tt in
+      record {
+        value = extra_in;
+        stands = spelled;
+        again = spelled;
+        same = sym (plain_already line is_line (table_of extra_in) refl spelled plain);
+      }

@@ -39,26 +39,35 @@ pub no_refusal : (line : List ℕ) (r : Origin) → SpellsOrigin line r → orig
 unfolding origin_refusal
 no_refusal line r p = rw (p.0, work_time_in-stands _ _ p.1.1.1.0, public_time_in-stands _ _ p.1.1.1.1.0)
 
--- what a line spells with these times
-abbrev origin_in : List ℕ → List ℕ → List ℕ → Origin
-origin_in line departure public_departure = record {
-  location = text_of (columns 3 9 line);
-  suffix = text_of (columns 10 10 line);
-  departure = departure;
-  public_departure = public_departure;
-  platform = text_of (columns 20 22 line);
-  line = text_of (columns 23 25 line);
-  engineering = text_of (columns 26 27 line);
-  pathing = text_of (columns 28 29 line);
-  activities = codes_in (columns 30 41 line);
-  performance = text_of (columns 42 43 line);
-}
+module _ (line departure public_departure : List ℕ) where
+  -- what a line spells with these times
+  abbrev origin_in : Origin
+  origin_in = record {
+    location = text_of (columns 3 9 line);
+    suffix = text_of (columns 10 10 line);
+    departure = departure;
+    public_departure = public_departure;
+    platform = text_of (columns 20 22 line);
+    line = text_of (columns 23 25 line);
+    engineering = text_of (columns 26 27 line);
+    pathing = text_of (columns 28 29 line);
+    activities = codes_in (columns 30 41 line);
+    performance = text_of (columns 42 43 line);
+  }
 
--- a line that spells a first location and fills its columns as a plain line does is the plain line
-pub plain_origin : (line : List ℕ) (departure public_departure : List ℕ) → IsLine line → columns 1 2 line ≡ codes "LO" → StandsIn (columns 11 15 line) (working_time departure) → StandsIn (columns 16 19 line) (public_time public_departure)
-    → ArePlain line (loose_of (table_of (origin_in line departure public_departure))) → IsPlainOf Origin table_of line line
-plain_origin line departure public_departure is_line identity departure_there public_departure_there plain =
-    let twelve = stands-codes_in 6 (columns 30 41 line) (length-columns 30 41 line is_line (omega arith) (omega arith) (omega arith)) in
-    let spelled : SpellsOrigin line (origin_in line departure public_departure) =
-    identity & is_text_of (columns 3 9 line) & is_text_of (columns 10 10 line) & departure_there & public_departure_there & is_text_of (columns 20 22 line) & is_text_of (columns 23 25 line) & is_text_of (columns 26 27 line) & is_text_of (columns 28 29 line) & twelve & is_text_of (columns 42 43 line) & tt & tt in
-    record { value = origin_in line departure public_departure; stands = spelled; again = spelled; same = sym (plain_already line is_line (table_of (origin_in line departure public_departure)) refl spelled plain) }
+  -- a line that spells a first location and fills its columns as a plain line does is the plain line
+  pub plain_origin : IsLine line → (columns 1 2 line ≡ codes "LO") × StandsIn (columns 11 15 line) (working_time departure)
+      × StandsIn (columns 16 19 line) (public_time public_departure)
+      → ArePlain line (loose_of (table_of origin_in)) → IsPlainOf Origin table_of line line
+  plain_origin is_line found plain =
+      let twelve = stands-codes_in 6 (columns 30 41 line) (length-columns 30 41 line is_line (omega arith) (omega arith) (omega arith)) in
+      let spelled : SpellsOrigin line origin_in =
+      found.0 & is_text_of (columns 3 9 line) & is_text_of (columns 10 10 line) & found.1 & found.2
+      & is_text_of (columns 20 22 line) & is_text_of (columns 23 25 line) & is_text_of (columns 26 27 line)
+      & is_text_of (columns 28 29 line) & twelve & is_text_of (columns 42 43 line) & tt & tt in
+      record {
+        value = origin_in;
+        stands = spelled;
+        again = spelled;
+        same = sym (plain_already line is_line (table_of origin_in) refl spelled plain);
+      }

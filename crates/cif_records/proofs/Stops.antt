@@ -51,30 +51,42 @@ no_refusal line r p =
       public_time_in-stands _ _ p.1.1.1.1.1.1.1.0,
     )
 
--- what a line spells with these times
-abbrev stop_in : List ℕ → List ℕ → List ℕ → List ℕ → List ℕ → List ℕ → Stop
-stop_in line arrival departure pass public_arrival public_departure = record {
-  location = text_of (columns 3 9 line);
-  suffix = text_of (columns 10 10 line);
-  arrival = arrival;
-  departure = departure;
-  pass = pass;
-  public_arrival = public_arrival;
-  public_departure = public_departure;
-  platform = text_of (columns 34 36 line);
-  line = text_of (columns 37 39 line);
-  path = text_of (columns 40 42 line);
-  activities = codes_in (columns 43 54 line);
-  engineering = text_of (columns 55 56 line);
-  pathing = text_of (columns 57 58 line);
-  performance = text_of (columns 59 60 line);
-}
+module _ (line arrival departure pass public_arrival public_departure : List ℕ) where
+  -- what a line spells with these times
+  abbrev stop_in : Stop
+  stop_in = record {
+    location = text_of (columns 3 9 line);
+    suffix = text_of (columns 10 10 line);
+    arrival = arrival;
+    departure = departure;
+    pass = pass;
+    public_arrival = public_arrival;
+    public_departure = public_departure;
+    platform = text_of (columns 34 36 line);
+    line = text_of (columns 37 39 line);
+    path = text_of (columns 40 42 line);
+    activities = codes_in (columns 43 54 line);
+    engineering = text_of (columns 55 56 line);
+    pathing = text_of (columns 57 58 line);
+    performance = text_of (columns 59 60 line);
+  }
 
--- a line that spells a location on the way and fills its columns as a plain line does is the plain line
-pub plain_stop : (line : List ℕ) (arrival departure pass public_arrival public_departure : List ℕ) → IsLine line → columns 1 2 line ≡ codes "LI" → StandsIn (columns 11 15 line) (working_time arrival) → StandsIn (columns 16 20 line) (working_time departure) → StandsIn (columns 21 25 line) (working_time pass) → StandsIn (columns 26 29 line) (public_time public_arrival) → StandsIn (columns 30 33 line) (public_time public_departure)
-    → ArePlain line (loose_of (table_of (stop_in line arrival departure pass public_arrival public_departure))) → IsPlainOf Stop table_of line line
-plain_stop line arrival departure pass public_arrival public_departure is_line identity arrival_there departure_there pass_there public_arrival_there public_departure_there plain =
-    let twelve = stands-codes_in 6 (columns 43 54 line) (length-columns 43 54 line is_line (omega arith) (omega arith) (omega arith)) in
-    let spelled : SpellsStop line (stop_in line arrival departure pass public_arrival public_departure) =
-    identity & is_text_of (columns 3 9 line) & is_text_of (columns 10 10 line) & arrival_there & departure_there & pass_there & public_arrival_there & public_departure_there & is_text_of (columns 34 36 line) & is_text_of (columns 37 39 line) & is_text_of (columns 40 42 line) & twelve & is_text_of (columns 55 56 line) & is_text_of (columns 57 58 line) & is_text_of (columns 59 60 line) & tt & tt in
-    record { value = stop_in line arrival departure pass public_arrival public_departure; stands = spelled; again = spelled; same = sym (plain_already line is_line (table_of (stop_in line arrival departure pass public_arrival public_departure)) refl spelled plain) }
+  -- a line that spells a location on the way and fills its columns as a plain line does is the plain line
+  pub plain_stop : IsLine line → (columns 1 2 line ≡ codes "LI") × StandsIn (columns 11 15 line) (working_time arrival)
+      × StandsIn (columns 16 20 line) (working_time departure) × StandsIn (columns 21 25 line) (working_time pass)
+      × StandsIn (columns 26 29 line) (public_time public_arrival)
+      × StandsIn (columns 30 33 line) (public_time public_departure)
+      → ArePlain line (loose_of (table_of stop_in)) → IsPlainOf Stop table_of line line
+  plain_stop is_line found plain =
+      let twelve = stands-codes_in 6 (columns 43 54 line) (length-columns 43 54 line is_line (omega arith) (omega arith) (omega arith)) in
+      let spelled : SpellsStop line stop_in =
+      found.0 & is_text_of (columns 3 9 line) & is_text_of (columns 10 10 line) & found.1 & found.2 & found.3 & found.4
+      & found.5 & is_text_of (columns 34 36 line) & is_text_of (columns 37 39 line) & is_text_of (columns 40 42 line)
+      & twelve & is_text_of (columns 55 56 line) & is_text_of (columns 57 58 line) & is_text_of (columns 59 60 line) & tt
+      & tt in
+      record {
+        value = stop_in;
+        stands = spelled;
+        again = spelled;
+        same = sym (plain_already line is_line (table_of stop_in) refl spelled plain);
+      }

@@ -36,23 +36,31 @@ pub no_refusal : (line : List ℕ) (r : Terminus) → SpellsTerminus line r → 
 unfolding terminus_refusal
 no_refusal line r p = rw (p.0, work_time_in-stands _ _ p.1.1.1.0, public_time_in-stands _ _ p.1.1.1.1.0)
 
--- what a line spells with these times
-abbrev terminus_in : List ℕ → List ℕ → List ℕ → Terminus
-terminus_in line arrival public_arrival = record {
-  location = text_of (columns 3 9 line);
-  suffix = text_of (columns 10 10 line);
-  arrival = arrival;
-  public_arrival = public_arrival;
-  platform = text_of (columns 20 22 line);
-  path = text_of (columns 23 25 line);
-  activities = codes_in (columns 26 37 line);
-}
+module _ (line arrival public_arrival : List ℕ) where
+  -- what a line spells with these times
+  abbrev terminus_in : Terminus
+  terminus_in = record {
+    location = text_of (columns 3 9 line);
+    suffix = text_of (columns 10 10 line);
+    arrival = arrival;
+    public_arrival = public_arrival;
+    platform = text_of (columns 20 22 line);
+    path = text_of (columns 23 25 line);
+    activities = codes_in (columns 26 37 line);
+  }
 
--- a line that spells a last location and fills its columns as a plain line does is the plain line
-pub plain_terminus : (line : List ℕ) (arrival public_arrival : List ℕ) → IsLine line → columns 1 2 line ≡ codes "LT" → StandsIn (columns 11 15 line) (working_time arrival) → StandsIn (columns 16 19 line) (public_time public_arrival)
-    → ArePlain line (loose_of (table_of (terminus_in line arrival public_arrival))) → IsPlainOf Terminus table_of line line
-plain_terminus line arrival public_arrival is_line identity arrival_there public_arrival_there plain =
-    let twelve = stands-codes_in 6 (columns 26 37 line) (length-columns 26 37 line is_line (omega arith) (omega arith) (omega arith)) in
-    let spelled : SpellsTerminus line (terminus_in line arrival public_arrival) =
-    identity & is_text_of (columns 3 9 line) & is_text_of (columns 10 10 line) & arrival_there & public_arrival_there & is_text_of (columns 20 22 line) & is_text_of (columns 23 25 line) & twelve & tt & tt in
-    record { value = terminus_in line arrival public_arrival; stands = spelled; again = spelled; same = sym (plain_already line is_line (table_of (terminus_in line arrival public_arrival)) refl spelled plain) }
+  -- a line that spells a last location and fills its columns as a plain line does is the plain line
+  pub plain_terminus : IsLine line → (columns 1 2 line ≡ codes "LT") × StandsIn (columns 11 15 line) (working_time arrival)
+      × StandsIn (columns 16 19 line) (public_time public_arrival)
+      → ArePlain line (loose_of (table_of terminus_in)) → IsPlainOf Terminus table_of line line
+  plain_terminus is_line found plain =
+      let twelve = stands-codes_in 6 (columns 26 37 line) (length-columns 26 37 line is_line (omega arith) (omega arith) (omega arith)) in
+      let spelled : SpellsTerminus line terminus_in =
+      found.0 & is_text_of (columns 3 9 line) & is_text_of (columns 10 10 line) & found.1 & found.2
+      & is_text_of (columns 20 22 line) & is_text_of (columns 23 25 line) & twelve & tt & tt in
+      record {
+        value = terminus_in;
+        stands = spelled;
+        again = spelled;
+        same = sym (plain_already line is_line (table_of terminus_in) refl spelled plain);
+      }

@@ -12,7 +12,8 @@ use Rattle.cif_records.specs.SpellsTerminus.{table_of as terminus_table}
 use Rattle.cif_records.specs.Tiploc.{tiploc_table}
 use Rattle.cif_records.specs.Trailer.{trailer_table}
 use Rattle.cif_records.specs.declared.record.Record.{Record}
-use Rattle.cif_records.specs.declared.record.Record.TheVariants.{Header, Tiploc, Association, Basic, Extra, Origin, Stop, Change, Terminus, Trailer}
+use Rattle.cif_records.specs.declared.record.Record.TheVariants.{Header, Tiploc, Association, Basic, Extra}
+use Rattle.cif_records.specs.declared.record.Record.TheVariants.{Origin, Stop, Change, Terminus, Trailer}
 
 -- the columns of this record
 abbrev pub record_table : Record → List Row

@@ -4,5 +4,4 @@ use Rattle.cif_records.proofs.terminus.TerminusLayout.is_plain.Goals as goal
 pub returns : goal.returns
 returns c = λ yes.
     let t = c.args._times.now in
-    let f = c.requires.found in
-    plain_terminus c.args.line.now t.working t.public c.requires.line f.0 f.1 f.2 (c.are_plain.ensures yes)
+    plain_terminus c.args.line.now t.working t.public c.requires.line c.requires.found (c.are_plain.ensures yes)
