@@ -10,10 +10,8 @@ use Rattle.cif_columns.specs.Clock.{is_blank}
 use Rattle.cif_columns.specs.Field.{AllStandIn, FieldValue, Row, StandsIn, columns, is_whole_from, plain_columns, plain_line, width_of}
 use Rattle.cif_columns.specs.Field.{exactly, text, activity_codes, working_time, public_time, date, weekdays, indicator, spare}
 use Rattle.cif_columns.specs.Line.{IsLine}
-use Rattle.cif_columns.specs.Loose.{ArePlain, IsPlain}
+use Rattle.cif_columns.specs.Loose.{IsPlainActivities, IsPlainSpare, IsPlainText}
 use Rattle.cif_columns.specs.Text.{IsTrimmed, StandsIn as TextStandsIn, left_justified, text_of}
-use Rattle.cif_columns.specs.declared.loose.Loose.{Loose}
-use Rattle.cif_columns.specs.declared.loose.Loose.TheVariants.{Text, Activities, Spare}
 use Rattle.cif_columns.proofs.Codes.{codes_in-stands}
 use Rattle.cif_columns.proofs.DayDigits.{yymmdd_of-stands}
 use Rattle.cif_columns.proofs.Masks.{days_columns-stands}
@@ -63,25 +61,17 @@ plain-text c some first = let s = is_text_of c in at s.before s.after (text_of c
         clash : get_or c 0 0 ≡ 32 → ⊥
         clash space = grind (arith, nat_tests)
 
--- the columns of a value that can be filled otherwise
-abbrev loose_in : ℕ → ℕ → FieldValue → List Loose
-loose_in from to (text value) = cond (nat_eq from to) [] (Text from to ∷ [])
-loose_in from to (activity_codes codes) = Activities from to ∷ []
-loose_in from to spare = Spare from to ∷ []
-loose_in from to _ = []
+-- columns with a value of this kind are filled as in a plain line; a text of one column can be filled in one way
+abbrev IsPlain : ℕ → ℕ → FieldValue → List ℕ → Type 0
+IsPlain from to (text value) line = cond (nat_eq from to) (Unit {0}) (IsPlainText from to line)
+IsPlain from to (activity_codes codes) line = IsPlainActivities from to line
+IsPlain from to spare line = IsPlainSpare from to line
+IsPlain from to _ line = Unit {0}
 
--- those of a table
-abbrev pub loose_of : List Row → List Loose
-loose_of [] = []
-loose_of (r ∷ rows) = loose_in r.from r.to r.value ++ loose_of rows
-
-plain-front : (line : List ℕ) (a b : List Loose) → ArePlain line (a ++ b) → ArePlain line a
-plain-front line [] b h = tt
-plain-front line (part ∷ a) b h = (h.0, plain-front line a b h.1)
-
-plain-back : (line : List ℕ) (a b : List Loose) → ArePlain line (a ++ b) → ArePlain line b
-plain-back line [] b h = h
-plain-back line (part ∷ a) b h = plain-back line a b h.1
+-- and those of a table
+abbrev pub ArePlain : List Row → List ℕ → Type 0
+ArePlain [] line = Unit {0}
+ArePlain (r ∷ rows) line = IsPlain r.from r.to r.value line × ArePlain rows line
 
 -- a text of one column can be filled in one way
 plain-one : (c : List ℕ) → length c ≡ 1 → left_justified 1 (text_of c) ≡ c
@@ -96,26 +86,26 @@ plain-one (x ∷ []) one = at (nat_eq x 32) refl
 -- columns of a line, from one to another
 module _ (line : List ℕ) (is_line : IsLine line) (from to : ℕ) (start : 1 ≤ from) (some : from ≤ to) (within : to ≤ 80) where
   plain_text_at : (value : List ℕ) (single : Bool) → nat_eq from to ≡ single → TextStandsIn (columns from to line) value
-      → ArePlain line (cond single [] (Text from to ∷ [])) → left_justified (to + 1 - from) value ≡ columns from to line
+      → cond single (Unit {0}) (IsPlainText from to line) → left_justified (to + 1 - from) value ≡ columns from to line
   plain_text_at value true e s h =
       let one : to + 1 - from ≡ 1 = grind (arith, nat_tests) in
       let wide : length (columns from to line) ≡ 1 = length-columns from to line is_line start some within ∙ one in
       ap (λ n. left_justified n value) one ∙ ap (left_justified 1) (sym (trim-text (columns from to line) value s))
       ∙ plain-one (columns from to line) wide
-  plain_text_at value false e s h = ap (left_justified (to + 1 - from)) (sym (trim-text (columns from to line) value s)) ∙ h.0
+  plain_text_at value false e s h = ap (left_justified (to + 1 - from)) (sym (trim-text (columns from to line) value s)) ∙ h
 
   -- a value that stands in columns which are filled as in a plain line
-  plain_value : (value : FieldValue) → StandsIn (columns from to line) value → ArePlain line (loose_in from to value)
+  plain_value : (value : FieldValue) → StandsIn (columns from to line) value → IsPlain from to value line
       → plain_columns (to + 1 - from) value ≡ columns from to line
   plain_value (exactly value) s h = sym s
   plain_value (text value) s h = plain_text_at value (nat_eq from to) refl s h
-  plain_value (activity_codes codes) s h = ap codes_columns (sym (codes_in-stands (columns from to line) codes s)) ∙ h.0
+  plain_value (activity_codes codes) s h = ap codes_columns (sym (codes_in-stands (columns from to line) codes s)) ∙ h
   plain_value (working_time time) s h = sym s.same
   plain_value (public_time time) s h = sym s.same
   plain_value (date day) s h = sym (yymmdd_of-stands (columns from to line) day s)
   plain_value (weekdays days) s h = sym (days_columns-stands (columns from to line) days s)
   plain_value (indicator stp) s h = sym s
-  plain_value spare s h = h.0
+  plain_value spare s h = h
 
   -- the columns and what is behind them
   columns_onto : columns from to line ++ drop (to + 1 - 1) line ≡ drop (from - 1) line
@@ -134,7 +124,7 @@ whole-within column (r ∷ rows) whole =
     omega (arith, first.0, first.1)
 
 plain_behind : (line : List ℕ) → IsLine line → (column : ℕ) (rows : List Row) → 1 ≤ column → is_whole_from column rows ≡ true
-    → AllStandIn line rows → ArePlain line (loose_of rows) → plain_line rows ≡ drop (column - 1) line
+    → AllStandIn line rows → ArePlain rows line → plain_line rows ≡ drop (column - 1) line
 plain_behind line is_line column [] start whole s h =
     let wide = is_line.width in
     let over : column ≡ 81 = grind (arith, nat_tests) in
@@ -147,10 +137,8 @@ plain_behind line is_line column (r ∷ rows) start whole s h =
     let begin : 1 ≤ r.from = omega arith in
     let rest = whole-within (r.to + 1) rows first.2 in
     let within : r.to ≤ 80 = omega arith in
-    let here = plain_value line is_line r.from r.to begin some within r.value s.0 (plain-front line (loose_in r.from r.to r.value) (loose_of
-    rows) h) in
-    let behind = plain_behind line is_line (r.to + 1) rows (omega arith) first.2 s.1
-    (plain-back line (loose_in r.from r.to r.value) (loose_of rows) h) in
+    let here = plain_value line is_line r.from r.to begin some within r.value s.0 h.0 in
+    let behind = plain_behind line is_line (r.to + 1) rows (omega arith) first.2 s.1 h.1 in
     ap (λ l. l ++ plain_line rows) here
     ∙ ap (λ l. columns r.from r.to line ++ l) behind
     ∙ columns_onto line is_line r.from r.to begin some within
@@ -158,5 +146,5 @@ plain_behind line is_line column (r ∷ rows) start whole s h =
 
 -- a line that spells a table and fills the columns that can be filled otherwise as a plain line does is the table's plain line
 pub plain_already : (line : List ℕ) → IsLine line → (rows : List Row) → is_whole_from 1 rows ≡ true → AllStandIn line rows
-    → ArePlain line (loose_of rows) → plain_line rows ≡ line
+    → ArePlain rows line → plain_line rows ≡ line
 plain_already line is_line rows whole s h = plain_behind line is_line 1 rows (omega arith) whole s h

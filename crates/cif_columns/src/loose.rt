@@ -1,61 +1,59 @@
-//! Columns that can be filled in more ways than one and say the same.
-ghost use Rattle.std.specs.Prelude.{◌≡◌, ◌-◌, ◌≤◌, length, replicate, IsTrue};
-ghost use Rattle.cif_columns.specs.Activities.{codes_columns, codes_in};
-ghost use Rattle.cif_columns.specs.Line.{ArePrintable};
+//! Columns that can be filled in more ways than one and say the same, and whether they are filled as
+//! in a plain line.
+ghost use Rattle.std.specs.Prelude.{◌≡◌, ◌+◌, ◌≤◌, length, replicate, IsTrue};
+ghost use Rattle.cif_columns.specs.Loose.{IsPlainActivities, IsPlainSpare, IsPlainText};
 ghost use Rattle.cif_columns.specs.Text.{left_justified, text_of};
 
 use crate::clock::is_blank;
 use crate::{Activities, Line, columns_at};
 
-/// Columns of a line, from and to (both included and counted from 1), that can hold a value in more
-/// ways than one.
-#[derive(Clone, Copy, Debug, PartialEq, Eq)]
-pub enum Loose {
-    /// A text: a plain line has it at the left of its columns.
-    Text(usize, usize),
-    /// Activity codes, twelve columns: a plain line has them packed to the left.
-    Activities(usize, usize),
-    /// Spare columns: a plain line has spaces there.
-    Spare(usize, usize),
+/// Whether the text in columns `FROM` to `TO` (both included and counted from 1) is at their left.
+#[inline]
+pub fn is_plain_text<const FROM: usize, const TO: usize>(line: &Line) -> bool
+    requires from_one { 1 ≤ FROM }
+    requires some { FROM ≤ TO }
+    requires within { TO ≤ 80 }
+    ensures { IsTrue result → IsPlainText FROM TO line.now }
+{
+    is_at_left(&line.bytes()[FROM - 1..TO])
 }
 
-/// Whether a text is at the left of its columns.
-fn is_plain_text(columns: &[u8]) -> bool
-    requires some { 1 ≤ length columns.now }
-    requires printable { ArePrintable columns.now }
+/// Whether the activity codes in the twelve columns from `FROM` on are packed to the left.
+#[inline]
+pub fn are_plain_activities<const FROM: usize>(line: &Line) -> bool
+    requires from_one { 1 ≤ FROM }
+    requires within { FROM ≤ 69 }
+    ensures { IsTrue result → IsPlainActivities FROM (FROM + 11) line.now }
+{
+    let columns: [u8; 12] = columns_at(line, FROM);
+    is_blank(&columns[2..]) || Activities::read(&columns).write() == columns
+}
+
+/// Whether the spare columns `FROM` to `TO` (both included and counted from 1) are spaces.
+#[inline]
+pub fn are_plain_spare<const FROM: usize, const TO: usize>(line: &Line) -> bool
+    requires from_one { 1 ≤ FROM }
+    requires some { FROM ≤ TO }
+    requires within { TO ≤ 80 }
+    ensures { IsTrue result → IsPlainSpare FROM TO line.now }
+{
+    are_spaces(&line.bytes()[FROM - 1..TO])
+}
+
+/// Whether the text in these columns is at their left.
+#[inline]
+fn is_at_left(columns: &[u8]) -> bool
+    requires { 1 ≤ length columns.now }
     ensures { IsTrue result
         → left_justified (length columns.now) (text_of columns.now) ≡ columns.now }
 {
     columns[0] != b' ' || is_blank(columns)
 }
 
-/// Whether activity codes are packed to the left of their columns.
-fn is_plain_activities(columns: &[u8; 12]) -> bool
-    requires { ArePrintable columns.now }
-    ensures { IsTrue result → codes_columns (codes_in columns.now) ≡ columns.now }
-{
-    is_blank(&columns[2..]) || Activities::read(columns).write() == *columns
-}
-
-/// Whether all columns are spaces.
-fn is_plain_spare(columns: &[u8]) -> bool
+/// Whether these columns are spaces.
+#[inline]
+fn are_spaces(columns: &[u8]) -> bool
     ensures { IsTrue result → replicate (length columns.now) 32 ≡ columns.now }
 {
     is_blank(columns)
-}
-
-impl Loose {
-    ghost use Rattle.cif_columns.specs.Loose.{IsPlain, IsWithin};
-
-    /// Whether the line fills the columns as a plain line does.
-    pub(crate) fn is_plain(self, line: &Line) -> bool
-        requires { IsWithin self }
-        ensures { IsTrue result → IsPlain line.now self }
-    {
-        match self {
-            Loose::Text(from, to) => is_plain_text(&line.bytes()[from - 1..to]),
-            Loose::Activities(from, _to) => is_plain_activities(&columns_at(line, from)),
-            Loose::Spare(from, to) => is_plain_spare(&line.bytes()[from - 1..to]),
-        }
-    }
 }

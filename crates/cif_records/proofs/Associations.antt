@@ -4,9 +4,8 @@ use Rattle.std.proofs.Props.{props}
 use mathlib.Core.HLevel.{Σ_prop_path}
 use Rattle.cif_columns.specs.Field.{AllStandIn, StandsIn, columns, date, indicator, text, weekdays}
 use Rattle.cif_columns.specs.Line.{IsLine}
-use Rattle.cif_columns.specs.Loose.{ArePlain}
 use Rattle.cif_columns.specs.Text.{text_of}
-use Rattle.cif_columns.proofs.PlainColumns.{loose_of, plain_already}
+use Rattle.cif_columns.proofs.PlainColumns.{ArePlain, plain_already}
 use Rattle.cif_columns.proofs.Texts.{is_text_of}
 use Rattle.cif_records.specs.Plain.{IsPlainOf}
 use Rattle.cif_records.proofs.Rows.{◌&◌}
@@ -151,7 +150,7 @@ module _ (line : List ℕ) (is_line : IsLine line) (first last : ℕ) (days : Li
   pub plain_association : columns 1 2 line ≡ codes "AA" → columns 3 3 line ≡ codes "N" → StandsIn (columns 16 21 line) (date first)
       → StandsIn (columns 22 27 line) (date last) → StandsIn (columns 28 34 line) (weekdays days)
       → StandsIn (columns 80 80 line) (indicator letter) → first ≤ last → has_body letter ≡ true
-      → ArePlain line (loose_of (association_table (key_in line) first last days letter (Some (body_in line))))
+      → ArePlain (association_table (key_in line) first last days letter (Some (body_in line))) line
       → IsPlainOf Association table_of line line
   plain_association identity transaction first_there last_there days_there letter_there in_order has plain =
       let r : Association = record {

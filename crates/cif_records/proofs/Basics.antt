@@ -4,9 +4,8 @@ use Rattle.std.proofs.Props.{props}
 use mathlib.Core.HLevel.{Σ_prop_path}
 use Rattle.cif_columns.specs.Field.{FieldValue, AllStandIn, StandsIn, columns, date, indicator, weekdays}
 use Rattle.cif_columns.specs.Line.{IsLine}
-use Rattle.cif_columns.specs.Loose.{ArePlain}
 use Rattle.cif_columns.specs.Text.{text_of}
-use Rattle.cif_columns.proofs.PlainColumns.{loose_of, plain_already}
+use Rattle.cif_columns.proofs.PlainColumns.{ArePlain, plain_already}
 use Rattle.cif_columns.proofs.Texts.{is_text_of}
 use Rattle.cif_records.specs.Plain.{IsPlainOf}
 use Rattle.cif_records.proofs.Rows.{◌&◌}
@@ -140,7 +139,7 @@ module _ (line : List ℕ) (is_line : IsLine line) (first last : ℕ) (days : Li
   pub plain_basic : columns 1 2 line ≡ codes "BS" → columns 3 3 line ≡ codes "N" → StandsIn (columns 10 15 line) (date first)
       → StandsIn (columns 16 21 line) (date last) → StandsIn (columns 22 28 line) (weekdays days) → columns 29 29 line ≡ codes " "
       → StandsIn (columns 80 80 line) (indicator letter) → first ≤ last → has_body letter ≡ true
-      → ArePlain line (loose_of (basic_table (columns 4 9 line) first last days letter (Some (detail_in line))))
+      → ArePlain (basic_table (columns 4 9 line) first last days letter (Some (detail_in line))) line
       → IsPlainOf Basic table_of line line
   plain_basic identity transaction first_there last_there days_there holiday letter_there in_order has plain =
       let r : Basic = record {

@@ -3,8 +3,7 @@ use Rattle.std.proofs.Common.{◌≡◌, ℕ, List, Option, None, refl, ap, get_
 use Rattle.cif_columns.specs.Field.{FieldValue, columns}
 use Rattle.cif_columns.specs.Line.{IsLine}
 use Rattle.cif_columns.specs.Text.{text_of}
-use Rattle.cif_columns.proofs.PlainColumns.{loose_of, plain_already}
-use Rattle.cif_columns.specs.Loose.{ArePlain}
+use Rattle.cif_columns.proofs.PlainColumns.{ArePlain, plain_already}
 use Rattle.cif_columns.proofs.Texts.{is_text_of}
 use Rattle.cif_records.specs.Plain.{IsPlainOf}
 use Rattle.cif_records.proofs.Rows.{◌&◌}
@@ -75,7 +74,7 @@ module _ (line : List ℕ) where
 
   -- a line that spells a change and fills its columns as a plain line does is the plain line
   pub plain_change : IsLine line → (columns 1 2 line ≡ codes "CR")
-      → ArePlain line (loose_of (table_of change_in)) → IsPlainOf Change table_of line line
+      → ArePlain (table_of change_in) line → IsPlainOf Change table_of line line
   plain_change is_line found plain =
       let spelled : SpellsChange line change_in =
       found & is_text_of (columns 3 9 line) & is_text_of (columns 10 10 line) & is_text_of (columns 11 12 line)

@@ -3,8 +3,7 @@ use Rattle.std.proofs.Common.{◌≡◌, ℕ, List, Option, None, refl, ap, get_
 use Rattle.cif_columns.specs.Field.{FieldValue, columns}
 use Rattle.cif_columns.specs.Line.{IsLine}
 use Rattle.cif_columns.specs.Text.{text_of}
-use Rattle.cif_columns.proofs.PlainColumns.{loose_of, plain_already}
-use Rattle.cif_columns.specs.Loose.{ArePlain}
+use Rattle.cif_columns.proofs.PlainColumns.{ArePlain, plain_already}
 use Rattle.cif_columns.proofs.Texts.{is_text_of}
 use Rattle.cif_records.specs.Plain.{IsPlainOf}
 use Rattle.cif_records.proofs.Rows.{◌&◌}
@@ -45,7 +44,7 @@ module _ (line : List ℕ) where
 
   -- a line that spells further details and fills its columns as a plain line does is the plain line
   pub plain_extra : IsLine line → (columns 1 2 line ≡ codes "BX")
-      → ArePlain line (loose_of (table_of extra_in)) → IsPlainOf Extra table_of line line
+      → ArePlain (table_of extra_in) line → IsPlainOf Extra table_of line line
   plain_extra is_line found plain =
       let spelled : SpellsExtra line extra_in =
       found & is_text_of (columns 3 6 line) & is_text_of (columns 7 11 line) & is_text_of (columns 12 13 line)

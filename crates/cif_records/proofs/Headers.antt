@@ -7,8 +7,7 @@ use mathlib.Core.HLevel.{Σ_prop_path}
 use Rattle.cif_columns.specs.Day.{ddmmyy_in}
 use Rattle.cif_columns.specs.Field.{AllStandIn, columns}
 use Rattle.cif_columns.specs.Line.{ArePrintable, IsLine}
-use Rattle.cif_columns.specs.Loose.{ArePlain}
-use Rattle.cif_columns.proofs.PlainColumns.{loose_of, plain_already}
+use Rattle.cif_columns.proofs.PlainColumns.{ArePlain, plain_already}
 use Rattle.cif_columns.proofs.PlainLines.{printable-columns}
 use Rattle.cif_records.specs.Plain.{IsPlainOf}
 use Rattle.cif_records.specs.Header.{IsFull, header_refusal, header_table, kept}
@@ -77,7 +76,7 @@ no_refusal line h p =
 -- a line that spells a header and fills its columns as a plain line does is the plain line
 pub plain_header : (line : List ℕ) (first last : ℕ) → IsLine line → columns 1 2 line ≡ codes "HD" → columns 47 47 line ≡ codes "F"
     → ddmmyy_in (columns 49 54 line) ≡ Some first → ddmmyy_in (columns 55 60 line) ≡ Some last → first ≤ last
-    → ArePlain line (loose_of (header_table (columns 3 60 line))) → IsPlainOf Header (λ h. header_table h.columns) line line
+    → ArePlain (header_table (columns 3 60 line)) line → IsPlainOf Header (λ h. header_table h.columns) line line
 plain_header line first last is_line identity full first_stands last_stands in_order plain =
     let header_columns = columns 3 60 line in
     let spelled : AllStandIn line (header_table header_columns) = (identity, (refl, (tt, tt))) in

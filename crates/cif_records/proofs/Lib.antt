@@ -5,7 +5,6 @@ pub mod Extras
 pub mod Headers
 pub mod Identities
 pub mod Judging
-pub mod Lettered
 pub mod Origins
 pub mod PlainRecords
 pub mod Records

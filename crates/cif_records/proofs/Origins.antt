@@ -3,8 +3,7 @@ use Rattle.std.proofs.Common.{◌≡◌, ℕ, List, Option, None, refl, ap, get_
 use Rattle.cif_columns.specs.Field.{FieldValue, columns, StandsIn, working_time, public_time}
 use Rattle.cif_columns.specs.Line.{IsLine}
 use Rattle.cif_columns.specs.Text.{text_of}
-use Rattle.cif_columns.proofs.PlainColumns.{loose_of, plain_already}
-use Rattle.cif_columns.specs.Loose.{ArePlain}
+use Rattle.cif_columns.proofs.PlainColumns.{ArePlain, plain_already}
 use Rattle.cif_columns.proofs.Texts.{is_text_of}
 use Rattle.cif_records.specs.Plain.{IsPlainOf}
 use Rattle.cif_records.proofs.Rows.{◌&◌}
@@ -58,7 +57,7 @@ module _ (line departure public_departure : List ℕ) where
   -- a line that spells a first location and fills its columns as a plain line does is the plain line
   pub plain_origin : IsLine line → (columns 1 2 line ≡ codes "LO") × StandsIn (columns 11 15 line) (working_time departure)
       × StandsIn (columns 16 19 line) (public_time public_departure)
-      → ArePlain line (loose_of (table_of origin_in)) → IsPlainOf Origin table_of line line
+      → ArePlain (table_of origin_in) line → IsPlainOf Origin table_of line line
   plain_origin is_line found plain =
       let twelve = stands-codes_in 6 (columns 30 41 line) (length-columns 30 41 line is_line (omega arith) (omega arith) (omega arith)) in
       let spelled : SpellsOrigin line origin_in =

@@ -3,8 +3,7 @@ use Rattle.std.proofs.Common.{◌≡◌, ℕ, List, Option, None, refl, ap, get_
 use Rattle.cif_columns.specs.Field.{FieldValue, columns, StandsIn, working_time, public_time}
 use Rattle.cif_columns.specs.Line.{IsLine}
 use Rattle.cif_columns.specs.Text.{text_of}
-use Rattle.cif_columns.proofs.PlainColumns.{loose_of, plain_already}
-use Rattle.cif_columns.specs.Loose.{ArePlain}
+use Rattle.cif_columns.proofs.PlainColumns.{ArePlain, plain_already}
 use Rattle.cif_columns.proofs.Texts.{is_text_of}
 use Rattle.cif_records.specs.Plain.{IsPlainOf}
 use Rattle.cif_records.proofs.Rows.{◌&◌}
@@ -76,7 +75,7 @@ module _ (line arrival departure pass public_arrival public_departure : List ℕ
       × StandsIn (columns 16 20 line) (working_time departure) × StandsIn (columns 21 25 line) (working_time pass)
       × StandsIn (columns 26 29 line) (public_time public_arrival)
       × StandsIn (columns 30 33 line) (public_time public_departure)
-      → ArePlain line (loose_of (table_of stop_in)) → IsPlainOf Stop table_of line line
+      → ArePlain (table_of stop_in) line → IsPlainOf Stop table_of line line
   plain_stop is_line found plain =
       let twelve = stands-codes_in 6 (columns 43 54 line) (length-columns 43 54 line is_line (omega arith) (omega arith) (omega arith)) in
       let spelled : SpellsStop line stop_in =

@@ -3,8 +3,7 @@ use Rattle.std.proofs.Common.{◌≡◌, ℕ, List, Option, None, refl, ap, get_
 use Rattle.cif_columns.specs.Field.{FieldValue, columns, StandsIn, working_time, public_time}
 use Rattle.cif_columns.specs.Line.{IsLine}
 use Rattle.cif_columns.specs.Text.{text_of}
-use Rattle.cif_columns.proofs.PlainColumns.{loose_of, plain_already}
-use Rattle.cif_columns.specs.Loose.{ArePlain}
+use Rattle.cif_columns.proofs.PlainColumns.{ArePlain, plain_already}
 use Rattle.cif_columns.proofs.Texts.{is_text_of}
 use Rattle.cif_records.specs.Plain.{IsPlainOf}
 use Rattle.cif_records.proofs.Rows.{◌&◌}
@@ -52,7 +51,7 @@ module _ (line arrival public_arrival : List ℕ) where
   -- a line that spells a last location and fills its columns as a plain line does is the plain line
   pub plain_terminus : IsLine line → (columns 1 2 line ≡ codes "LT") × StandsIn (columns 11 15 line) (working_time arrival)
       × StandsIn (columns 16 19 line) (public_time public_arrival)
-      → ArePlain line (loose_of (table_of terminus_in)) → IsPlainOf Terminus table_of line line
+      → ArePlain (table_of terminus_in) line → IsPlainOf Terminus table_of line line
   plain_terminus is_line found plain =
       let twelve = stands-codes_in 6 (columns 26 37 line) (length-columns 26 37 line is_line (omega arith) (omega arith) (omega arith)) in
       let spelled : SpellsTerminus line terminus_in =

@@ -4,8 +4,7 @@ use Rattle.std.proofs.Props.{props}
 use mathlib.Core.HLevel.{Σ_prop_path}
 use Rattle.cif_columns.specs.Field.{AllStandIn, columns}
 use Rattle.cif_columns.specs.Line.{ArePrintable, IsLine}
-use Rattle.cif_columns.specs.Loose.{ArePlain}
-use Rattle.cif_columns.proofs.PlainColumns.{loose_of, plain_already}
+use Rattle.cif_columns.proofs.PlainColumns.{ArePlain, plain_already}
 use Rattle.cif_columns.proofs.PlainLines.{printable-columns}
 use Rattle.cif_records.specs.Plain.{IsPlainOf}
 use Rattle.cif_records.specs.SpellsTiploc.{SpellsTiploc}
@@ -25,7 +24,7 @@ no_refusal line t p = rw p.0
 
 -- a line that spells a location and fills its columns as a plain line does is the plain line
 pub plain_tiploc : (line : List ℕ) → IsLine line → columns 1 2 line ≡ codes "TI"
-    → ArePlain line (loose_of (tiploc_table (columns 3 72 line))) → IsPlainOf Tiploc (λ t. tiploc_table t.columns) line line
+    → ArePlain (tiploc_table (columns 3 72 line)) line → IsPlainOf Tiploc (λ t. tiploc_table t.columns) line line
 plain_tiploc line is_line identity plain =
     let kept = columns 3 72 line in
     let spelled : AllStandIn line (tiploc_table kept) = (identity, (refl, (tt, tt))) in

@@ -9,11 +9,14 @@ ghost use Rattle.cif_records.specs.Association.{association_table, association_r
 ghost use Rattle.cif_records.specs.Bodies.{has_body, of_body};
 ghost use Rattle.cif_records.specs.Checks.{IsJudged};
 
-use crate::checks::{Terms, check_identity, check_transaction, dates_at, days_at, letter_of};
+use crate::checks::{
+    Terms, check_identity, check_transaction, dates_at, days_at, has_body, letter_of,
+};
 use crate::layout::{self, Layout};
 use crate::{AssocBody, AssocKey};
 use cif_columns::{
-    Day, DaysRun, Field, Line, LineBuilder, Loose, Refusal, Stp, are_plain, text_at, uid_at,
+    Day, DaysRun, Field, Line, LineBuilder, Refusal, Stp, are_plain_spare, is_plain_text, text_at,
+    uid_at,
 };
 
 /// A record `AA` (the CIF End User Specification): on which dates an association holds, or is
@@ -35,13 +38,6 @@ pub struct Association {
     ghost in_order: { first ≤ last },
     ghost bodied: { is_some body ≡ has_body letter },
 }
-
-/// The columns that can be filled in more ways than one, where there is a body.
-const LOOSE: [Loose; 3] = [
-    Loose::Text(35, 36),
-    Loose::Text(38, 44),
-    Loose::Spare(49, 79),
-];
 
 impl Layout for Association {
     ghost use Rattle.std.specs.Prelude.{refl, ◌≡◌, codes};
@@ -86,10 +82,10 @@ impl Layout for Association {
     }
 
     fn is_plain(line: &Line, terms: &Terms) -> bool {
-        match terms.letter {
-            Stp::C => false,
-            Stp::N | Stp::O | Stp::P => are_plain(line, &LOOSE),
-        }
+        has_body(terms.letter)
+            & is_plain_text::<35, 36>(line)
+            & is_plain_text::<38, 44>(line)
+            & are_plain_spare::<49, 79>(line)
     }
 
     fn put_rows(&self, line: &mut LineBuilder) {

@@ -9,11 +9,13 @@ ghost use Rattle.cif_records.specs.Detail.{detail_rows};
 
 use crate::Detail;
 use crate::checks::{
-    Terms, check_bank_holiday, check_identity, check_transaction, dates_at, days_at, letter_of,
+    Terms, check_bank_holiday, check_identity, check_transaction, dates_at, days_at, has_body,
+    letter_of,
 };
 use crate::layout::{self, Layout};
 use cif_columns::{
-    Day, DaysRun, Field, Line, LineBuilder, Loose, Refusal, Stp, Uid, are_plain, uid_at,
+    Day, DaysRun, Field, Line, LineBuilder, Refusal, Stp, Uid, are_plain_spare, is_plain_text,
+    uid_at,
 };
 
 /// A record `BS` (the CIF End User Specification): on which dates a schedule runs, or is cancelled.
@@ -34,21 +36,6 @@ pub struct Basic {
     ghost in_order: { first ≤ last },
     ghost bodied: { is_some detail ≡ has_body letter },
 }
-
-/// The columns that can be filled in more ways than one, where there is a detail.
-const LOOSE: [Loose; 11] = [
-    Loose::Text(31, 32),
-    Loose::Text(33, 36),
-    Loose::Text(37, 40),
-    Loose::Text(42, 49),
-    Loose::Text(51, 53),
-    Loose::Text(54, 57),
-    Loose::Text(58, 60),
-    Loose::Text(61, 66),
-    Loose::Text(71, 74),
-    Loose::Text(75, 78),
-    Loose::Spare(79, 79),
-];
 
 impl Layout for Basic {
     ghost use Rattle.std.specs.Prelude.{refl, ◌≡◌, codes};
@@ -95,10 +82,18 @@ impl Layout for Basic {
     }
 
     fn is_plain(line: &Line, terms: &Terms) -> bool {
-        match terms.letter {
-            Stp::C => false,
-            Stp::N | Stp::O | Stp::P => are_plain(line, &LOOSE),
-        }
+        has_body(terms.letter)
+            & is_plain_text::<31, 32>(line)
+            & is_plain_text::<33, 36>(line)
+            & is_plain_text::<37, 40>(line)
+            & is_plain_text::<42, 49>(line)
+            & is_plain_text::<51, 53>(line)
+            & is_plain_text::<54, 57>(line)
+            & is_plain_text::<58, 60>(line)
+            & is_plain_text::<61, 66>(line)
+            & is_plain_text::<71, 74>(line)
+            & is_plain_text::<75, 78>(line)
+            & are_plain_spare::<79, 79>(line)
     }
 
     fn put_rows(&self, line: &mut LineBuilder) {

@@ -6,7 +6,9 @@ ghost use Rattle.cif_records.specs.Change.{change_refusal};
 
 use crate::checks::check_identity;
 use crate::layout::{self, Layout};
-use cif_columns::{Field, Line, LineBuilder, Loose, Refusal, Text, are_plain, text_at};
+use cif_columns::{
+    Field, Line, LineBuilder, Refusal, Text, are_plain_spare, is_plain_text, text_at,
+};
 
 /// A record `CR` (the CIF End User Specification): what is changed at the next location. That its
 /// location is the next one's isn't checked.
@@ -56,25 +58,6 @@ pub struct Change {
     pub reserved_a: Text<8>,
 }
 
-/// The columns that can be filled in more ways than one.
-const LOOSE: [Loose; 15] = [
-    Loose::Text(3, 9),
-    Loose::Text(11, 12),
-    Loose::Text(13, 16),
-    Loose::Text(17, 20),
-    Loose::Text(22, 29),
-    Loose::Text(31, 33),
-    Loose::Text(34, 37),
-    Loose::Text(38, 40),
-    Loose::Text(41, 46),
-    Loose::Text(51, 54),
-    Loose::Text(55, 58),
-    Loose::Text(59, 62),
-    Loose::Text(63, 67),
-    Loose::Text(68, 75),
-    Loose::Spare(76, 80),
-];
-
 impl Layout for Change {
     ghost use Rattle.std.specs.Prelude.{refl, ◌≡◌, codes};
     ghost use Rattle.cif_columns.specs.Field.{columns};
@@ -120,7 +103,21 @@ impl Layout for Change {
     }
 
     fn is_plain(line: &Line, _checked: &()) -> bool {
-        are_plain(line, &LOOSE)
+        is_plain_text::<3, 9>(line)
+            & is_plain_text::<11, 12>(line)
+            & is_plain_text::<13, 16>(line)
+            & is_plain_text::<17, 20>(line)
+            & is_plain_text::<22, 29>(line)
+            & is_plain_text::<31, 33>(line)
+            & is_plain_text::<34, 37>(line)
+            & is_plain_text::<38, 40>(line)
+            & is_plain_text::<41, 46>(line)
+            & is_plain_text::<51, 54>(line)
+            & is_plain_text::<55, 58>(line)
+            & is_plain_text::<59, 62>(line)
+            & is_plain_text::<63, 67>(line)
+            & is_plain_text::<68, 75>(line)
+            & are_plain_spare::<76, 80>(line)
     }
 
     fn put_rows(&self, line: &mut LineBuilder) {

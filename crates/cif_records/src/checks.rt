@@ -3,6 +3,7 @@ ghost use Rattle.std.specs.Prelude.{◌≡◌, ◌≤◌, ◌+◌, ◌∷◌, []
 ghost use Rattle.cif_columns.specs.Day.{yymmdd_in};
 ghost use Rattle.cif_columns.specs.Field.{StandsIn, columns, columns_from, date, indicator};
 ghost use Rattle.cif_columns.specs.Field.{public_time, weekdays, working_time};
+ghost use Rattle.cif_records.specs.Bodies.{has_body};
 ghost use Rattle.cif_records.specs.Checks.{IsJudged, identity_refusal, transaction_refusal};
 ghost use Rattle.cif_records.specs.Checks.{date_refusal, dates_refusal, last_date_refusal};
 ghost use Rattle.cif_records.specs.Checks.{bank_holiday_refusal, days_refusal, letter_refusal};
@@ -147,4 +148,11 @@ pub(crate) fn letter_of(line: &Line) -> Result<Stp, Refusal>
         (λ letter. StandsIn (columns 80 80 line.now) (indicator letter)) result }
 {
     field_at(line, 80).ok_or(Refusal::BadStp)
+}
+
+/// Whether a record of this letter has a body: all but a cancellation have.
+pub(crate) fn has_body(letter: Stp) -> bool
+    ensures { result ≡ has_body letter }
+{
+    letter != Stp::C
 }

@@ -6,7 +6,9 @@ ghost use Rattle.cif_records.specs.Extra.{extra_refusal};
 
 use crate::checks::check_identity;
 use crate::layout::{self, Layout};
-use cif_columns::{Field, Line, LineBuilder, Loose, Refusal, Text, are_plain, text_at};
+use cif_columns::{
+    Field, Line, LineBuilder, Refusal, Text, are_plain_spare, is_plain_text, text_at,
+};
 
 /// A record `BX` (the CIF End User Specification): what else runs in a schedule.
 #[derive(Debug, Drop, PartialEq, Eq)]
@@ -24,15 +26,6 @@ pub struct Extra {
     /// Column 23: reserved; a text of the body (this profile).
     pub reserved_b: Text<1>,
 }
-
-/// The columns that can be filled in more ways than one.
-const LOOSE: [Loose; 5] = [
-    Loose::Text(3, 6),
-    Loose::Text(7, 11),
-    Loose::Text(12, 13),
-    Loose::Text(15, 22),
-    Loose::Spare(24, 80),
-];
 
 impl Layout for Extra {
     ghost use Rattle.std.specs.Prelude.{refl, ◌≡◌, codes};
@@ -64,7 +57,11 @@ impl Layout for Extra {
     }
 
     fn is_plain(line: &Line, _checked: &()) -> bool {
-        are_plain(line, &LOOSE)
+        is_plain_text::<3, 6>(line)
+            & is_plain_text::<7, 11>(line)
+            & is_plain_text::<12, 13>(line)
+            & is_plain_text::<15, 22>(line)
+            & are_plain_spare::<24, 80>(line)
     }
 
     fn put_rows(&self, line: &mut LineBuilder) {

@@ -11,7 +11,7 @@ ghost use Rattle.cif_records.specs.Header.{header_refusal, header_table, kept};
 
 use crate::checks::{Dates, check_identity};
 use crate::layout::{self, Layout};
-use cif_columns::{Day, Line, LineBuilder, Loose, Refusal, are_plain, columns_at};
+use cif_columns::{Day, Line, LineBuilder, Refusal, are_plain_spare, columns_at};
 
 /// A record `HD` of a full extract (the CIF End User Specification): where the extract comes from,
 /// and the window of dates that it speaks of.
@@ -29,9 +29,6 @@ pub struct Header {
     ghost last_stands: { ddmmyy_in (kept 55 60 columns) ≡ Some last } by { Prim.hlevel props },
     ghost in_order: { first ≤ last },
 }
-
-/// The columns that can be filled in more ways than one.
-const LOOSE: [Loose; 1] = [Loose::Spare(61, 80)];
 
 impl Layout for Header {
     ghost use Rattle.std.specs.Prelude.{refl, ◌≡◌, codes, Some};
@@ -71,7 +68,7 @@ impl Layout for Header {
     }
 
     fn is_plain(line: &Line, _dates: &Dates) -> bool {
-        are_plain(line, &LOOSE)
+        are_plain_spare::<61, 80>(line)
     }
 
     fn put_rows(&self, line: &mut LineBuilder) {

@@ -7,8 +7,8 @@ ghost use Rattle.cif_records.specs.Origin.{origin_refusal};
 use crate::checks::{EndTimes, check_identity, public_time_at, work_time_at};
 use crate::layout::{self, Layout};
 use cif_columns::{
-    Activities, Field, Line, LineBuilder, Loose, PublicTime, Refusal, Text, WorkTime,
-    activities_at, are_plain, text_at,
+    Activities, Field, Line, LineBuilder, PublicTime, Refusal, Text, WorkTime, activities_at,
+    are_plain_activities, are_plain_spare, is_plain_text, text_at,
 };
 
 /// A record `LO` (the CIF End User Specification): where a journey begins.
@@ -35,18 +35,6 @@ pub struct Origin {
     /// Columns 42 to 43: the performance allowance.
     pub performance: Text<2>,
 }
-
-/// The columns that can be filled in more ways than one.
-const LOOSE: [Loose; 8] = [
-    Loose::Text(3, 9),
-    Loose::Text(20, 22),
-    Loose::Text(23, 25),
-    Loose::Text(26, 27),
-    Loose::Text(28, 29),
-    Loose::Activities(30, 41),
-    Loose::Text(42, 43),
-    Loose::Spare(44, 80),
-];
 
 impl Layout for Origin {
     ghost use Rattle.std.specs.Prelude.{refl, ◌≡◌, codes};
@@ -88,7 +76,14 @@ impl Layout for Origin {
     }
 
     fn is_plain(line: &Line, _times: &EndTimes) -> bool {
-        are_plain(line, &LOOSE)
+        is_plain_text::<3, 9>(line)
+            & is_plain_text::<20, 22>(line)
+            & is_plain_text::<23, 25>(line)
+            & is_plain_text::<26, 27>(line)
+            & is_plain_text::<28, 29>(line)
+            & are_plain_activities::<30>(line)
+            & is_plain_text::<42, 43>(line)
+            & are_plain_spare::<44, 80>(line)
     }
 
     fn put_rows(&self, line: &mut LineBuilder) {

@@ -7,8 +7,8 @@ ghost use Rattle.cif_records.specs.Stop.{stop_refusal};
 use crate::checks::{check_identity, public_time_at, work_time_at};
 use crate::layout::{self, Layout};
 use cif_columns::{
-    Activities, Field, Line, LineBuilder, Loose, PublicTime, Refusal, Text, WorkTime,
-    activities_at, are_plain, text_at,
+    Activities, Field, Line, LineBuilder, PublicTime, Refusal, Text, WorkTime, activities_at,
+    are_plain_activities, are_plain_spare, is_plain_text, text_at,
 };
 
 /// A record `LI` (the CIF End User Specification): where a journey stops or passes. Which of its
@@ -54,19 +54,6 @@ pub(crate) struct StopTimes {
     public_arrival: PublicTime,
     public_departure: PublicTime,
 }
-
-/// The columns that can be filled in more ways than one.
-const LOOSE: [Loose; 9] = [
-    Loose::Text(3, 9),
-    Loose::Text(34, 36),
-    Loose::Text(37, 39),
-    Loose::Text(40, 42),
-    Loose::Activities(43, 54),
-    Loose::Text(55, 56),
-    Loose::Text(57, 58),
-    Loose::Text(59, 60),
-    Loose::Spare(61, 80),
-];
 
 impl Layout for Stop {
     ghost use Rattle.std.specs.Prelude.{refl, ◌≡◌, codes};
@@ -118,7 +105,15 @@ impl Layout for Stop {
     }
 
     fn is_plain(line: &Line, _times: &StopTimes) -> bool {
-        are_plain(line, &LOOSE)
+        is_plain_text::<3, 9>(line)
+            & is_plain_text::<34, 36>(line)
+            & is_plain_text::<37, 39>(line)
+            & is_plain_text::<40, 42>(line)
+            & are_plain_activities::<43>(line)
+            & is_plain_text::<55, 56>(line)
+            & is_plain_text::<57, 58>(line)
+            & is_plain_text::<59, 60>(line)
+            & are_plain_spare::<61, 80>(line)
     }
 
     fn put_rows(&self, line: &mut LineBuilder) {

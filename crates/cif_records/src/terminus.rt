@@ -7,8 +7,8 @@ ghost use Rattle.cif_records.specs.Terminus.{terminus_refusal};
 use crate::checks::{EndTimes, check_identity, public_time_at, work_time_at};
 use crate::layout::{self, Layout};
 use cif_columns::{
-    Activities, Field, Line, LineBuilder, Loose, PublicTime, Refusal, Text, WorkTime,
-    activities_at, are_plain, text_at,
+    Activities, Field, Line, LineBuilder, PublicTime, Refusal, Text, WorkTime, activities_at,
+    are_plain_activities, are_plain_spare, is_plain_text, text_at,
 };
 
 /// A record `LT` (the CIF End User Specification): where a journey ends.
@@ -29,15 +29,6 @@ pub struct Terminus {
     /// Columns 26 to 37: the activity codes.
     pub activities: Activities,
 }
-
-/// The columns that can be filled in more ways than one.
-const LOOSE: [Loose; 5] = [
-    Loose::Text(3, 9),
-    Loose::Text(20, 22),
-    Loose::Text(23, 25),
-    Loose::Activities(26, 37),
-    Loose::Spare(38, 80),
-];
 
 impl Layout for Terminus {
     ghost use Rattle.std.specs.Prelude.{refl, ◌≡◌, codes};
@@ -76,7 +67,11 @@ impl Layout for Terminus {
     }
 
     fn is_plain(line: &Line, _times: &EndTimes) -> bool {
-        are_plain(line, &LOOSE)
+        is_plain_text::<3, 9>(line)
+            & is_plain_text::<20, 22>(line)
+            & is_plain_text::<23, 25>(line)
+            & are_plain_activities::<26>(line)
+            & are_plain_spare::<38, 80>(line)
     }
 
     fn put_rows(&self, line: &mut LineBuilder) {

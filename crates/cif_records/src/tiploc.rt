@@ -7,7 +7,7 @@ ghost use Rattle.cif_records.specs.Tiploc.{tiploc_refusal, tiploc_table};
 
 use crate::checks::check_identity;
 use crate::layout::{self, Layout};
-use cif_columns::{Line, LineBuilder, Loose, Refusal, are_plain, columns_at};
+use cif_columns::{Line, LineBuilder, Refusal, are_plain_spare, columns_at};
 
 /// A record `TI` (the CIF End User Specification): a location by its TIPLOC, and its other codes.
 #[derive(Clone, Copy, Debug, PartialEq, Eq)]
@@ -18,9 +18,6 @@ pub struct Tiploc {
     pub columns: [u8; 70],
     ghost printable: { ArePrintable columns },
 }
-
-/// The columns that can be filled in more ways than one.
-const LOOSE: [Loose; 1] = [Loose::Spare(73, 80)];
 
 impl Layout for Tiploc {
     ghost use Rattle.std.specs.Prelude.{refl, ◌≡◌, codes};
@@ -46,7 +43,7 @@ impl Layout for Tiploc {
     }
 
     fn is_plain(line: &Line, _checked: &()) -> bool {
-        are_plain(line, &LOOSE)
+        are_plain_spare::<73, 80>(line)
     }
 
     fn put_rows(&self, line: &mut LineBuilder) {

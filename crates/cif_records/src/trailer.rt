@@ -6,15 +6,12 @@ ghost use Rattle.cif_records.specs.Trailer.{trailer_refusal, trailer_table};
 
 use crate::checks::check_identity;
 use crate::layout::{self, Layout};
-use cif_columns::{Line, LineBuilder, Loose, Refusal, are_plain};
+use cif_columns::{Line, LineBuilder, Refusal, are_plain_spare};
 
 /// A record `ZZ` (the CIF End User Specification): the last record of an extract, which says
 /// nothing but that.
 #[derive(Clone, Copy, Debug, PartialEq, Eq)]
 pub struct Trailer;
-
-/// The columns that can be filled in more ways than one.
-const LOOSE: [Loose; 1] = [Loose::Spare(3, 80)];
 
 impl Layout for Trailer {
     ghost use Rattle.std.specs.Prelude.{refl, ◌≡◌, codes};
@@ -38,7 +35,7 @@ impl Layout for Trailer {
     }
 
     fn is_plain(line: &Line, _checked: &()) -> bool {
-        are_plain(line, &LOOSE)
+        are_plain_spare::<3, 80>(line)
     }
 
     fn put_rows(&self, line: &mut LineBuilder) {

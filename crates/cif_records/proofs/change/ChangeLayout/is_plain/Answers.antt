@@ -1,5 +1,27 @@
 use Rattle.cif_records.proofs.Changes.{plain_change}
+use Rattle.std.proofs.lemmas.Bool.{and_parts}
+use Rattle.cif_records.proofs.Rows.{◌&◌}
 use Rattle.cif_records.proofs.change.ChangeLayout.is_plain.Goals as goal
 
 pub returns : goal.returns
-returns c = λ yes. plain_change c.args.line.now c.requires.line c.requires.found (c.are_plain.ensures yes)
+returns c = λ yes.
+    let p14 = and_parts _ _ yes in
+    let p13 = and_parts _ _ p14.0 in
+    let p12 = and_parts _ _ p13.0 in
+    let p11 = and_parts _ _ p12.0 in
+    let p10 = and_parts _ _ p11.0 in
+    let p9 = and_parts _ _ p10.0 in
+    let p8 = and_parts _ _ p9.0 in
+    let p7 = and_parts _ _ p8.0 in
+    let p6 = and_parts _ _ p7.0 in
+    let p5 = and_parts _ _ p6.0 in
+    let p4 = and_parts _ _ p5.0 in
+    let p3 = and_parts _ _ p4.0 in
+    let p2 = and_parts _ _ p3.0 in
+    let p1 = and_parts _ _ p2.0 in
+    plain_change c.args.line.now c.requires.line c.requires.found
+    (tt & c.is_plain_text.ensures p1.0 & tt & c.is_plain_text-2.ensures p1.1 & c.is_plain_text-3.ensures p2.1
+    & c.is_plain_text-4.ensures p3.1 & tt & c.is_plain_text-5.ensures p4.1 & tt & c.is_plain_text-6.ensures p5.1
+    & c.is_plain_text-7.ensures p6.1 & c.is_plain_text-8.ensures p7.1 & c.is_plain_text-9.ensures p8.1 & tt & tt & tt & tt
+    & c.is_plain_text-10.ensures p9.1 & c.is_plain_text-11.ensures p10.1 & c.is_plain_text-12.ensures p11.1
+    & c.is_plain_text-13.ensures p12.1 & c.is_plain_text-14.ensures p13.1 & c.are_plain_spare.ensures p14.1 & tt)

@@ -1,8 +1,21 @@
 use Rattle.cif_records.proofs.Stops.{plain_stop}
+use Rattle.std.proofs.lemmas.Bool.{and_parts}
+use Rattle.cif_records.proofs.Rows.{◌&◌}
 use Rattle.cif_records.proofs.stop.StopLayout.is_plain.Goals as goal
 
 pub returns : goal.returns
 returns c = λ yes.
+    let p8 = and_parts _ _ yes in
+    let p7 = and_parts _ _ p8.0 in
+    let p6 = and_parts _ _ p7.0 in
+    let p5 = and_parts _ _ p6.0 in
+    let p4 = and_parts _ _ p5.0 in
+    let p3 = and_parts _ _ p4.0 in
+    let p2 = and_parts _ _ p3.0 in
+    let p1 = and_parts _ _ p2.0 in
     let t = c.args._times.now in
-    plain_stop c.args.line.now t.arrival t.departure t.pass t.public_arrival t.public_departure
-    c.requires.line c.requires.found (c.are_plain.ensures yes)
+    plain_stop c.args.line.now t.arrival t.departure t.pass t.public_arrival t.public_departure c.requires.line c.requires.found
+    (tt & c.is_plain_text.ensures p1.0 & tt & tt & tt & tt & tt & tt & c.is_plain_text-2.ensures p1.1
+    & c.is_plain_text-3.ensures p2.1 & c.is_plain_text-4.ensures p3.1 & c.are_plain_activities.ensures p4.1
+    & c.is_plain_text-5.ensures p5.1 & c.is_plain_text-6.ensures p6.1 & c.is_plain_text-7.ensures p7.1
+    & c.are_plain_spare.ensures p8.1 & tt)
