@@ -10,7 +10,7 @@ use Rattle.cif_columns.specs.Clock.{is_blank}
 use Rattle.cif_columns.specs.Field.{AllStandIn, FieldValue, Row, StandsIn, columns, is_whole_from, plain_columns, plain_line, width_of}
 use Rattle.cif_columns.specs.Field.{exactly, text, activity_codes, working_time, public_time, date, weekdays, indicator, spare}
 use Rattle.cif_columns.specs.Line.{IsLine}
-use Rattle.cif_columns.specs.Loose.{IsPlainActivities, IsPlainSpare, IsPlainText}
+use Rattle.cif_columns.specs.PlainColumns.{IsPlainActivities, IsPlainSpare, IsPlainText}
 use Rattle.cif_columns.specs.Text.{IsTrimmed, StandsIn as TextStandsIn, left_justified, text_of}
 use Rattle.cif_columns.proofs.Codes.{codes_in-stands}
 use Rattle.cif_columns.proofs.DayDigits.{yymmdd_of-stands}

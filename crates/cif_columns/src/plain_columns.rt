@@ -1,7 +1,7 @@
 //! Columns that can be filled in more ways than one and say the same, and whether they are filled as
 //! in a plain line.
 ghost use Rattle.std.specs.Prelude.{◌≡◌, ◌+◌, ◌≤◌, length, replicate, IsTrue};
-ghost use Rattle.cif_columns.specs.Loose.{IsPlainActivities, IsPlainSpare, IsPlainText};
+ghost use Rattle.cif_columns.specs.PlainColumns.{IsPlainActivities, IsPlainSpare, IsPlainText};
 ghost use Rattle.cif_columns.specs.Text.{left_justified, text_of};
 
 use crate::clock::is_blank;

@@ -1,7 +1,7 @@
 use Rattle.std.proofs.Common.{◌≡◌, nat_eq, get_or, false, sym, ◌∙◌, arith}
 use Rattle.std.proofs.lemmas.Bool.Decides.{nat_tests}
 use Rattle.cif_columns.proofs.PlainColumns.{plain-blank, plain-text}
-use Rattle.cif_columns.proofs.loose.is_at_left.Goals as goal
+use Rattle.cif_columns.proofs.plain_columns.is_at_left.Goals as goal
 
 pub returns-then-columns-ne32 : goal.returns-then-columns-ne32
 returns-then-columns-ne32 c = λ t.
