@@ -61,6 +61,22 @@ plain-text c some first = let s = is_text_of c in at s.before s.after (text_of c
         clash : get_or c 0 0 ≡ 32 → ⊥
         clash space = grind (arith, nat_tests)
 
+all_blank : (n : ℕ) → is_blank (replicate n 32) ≡ true
+all_blank zero = refl
+all_blank (suc n) = all_blank n
+
+-- spaces are blank
+pub blank-spaces : (c : List ℕ) → replicate (length c) 32 ≡ c → is_blank c ≡ true
+blank-spaces c e = subst (λ l. is_blank l ≡ true) e (all_blank (length c))
+
+-- columns that begin with a space and are filled as in a plain line are blank
+pub blank-plain : (c : List ℕ) → get_or c 0 0 ≡ 32 → left_justified (length c) (text_of c) ≡ c → is_blank c ≡ true
+blank-plain c first e = let s = is_text_of c in at (text_of c) s.trimmed e
+  where
+    at : (t : List ℕ) → IsTrimmed t → left_justified (length c) t ≡ c → is_blank c ≡ true
+    at [] h same = subst (λ l. is_blank l ≡ true) same (all_blank (length c - 0))
+    at (x ∷ t) h same = absurd (h.start (ap Some (ap (λ l. get_or l 0 0) same ∙ first)))
+
 -- columns with a value of this kind are filled as in a plain line; a text of one column can be filled in one way
 abbrev IsPlain : ℕ → ℕ → FieldValue → List ℕ → Type 0
 IsPlain from to (text value) line = cond (nat_eq from to) (Unit {0}) (IsPlainText from to line)

@@ -72,11 +72,12 @@ abbrev pub values : List Row → List (Option FieldValue)
 values [] = []
 values (r ∷ rows) = Some r.value ∷ values rows
 
-all_read : List ℕ → List Row → List (Option FieldValue)
+-- the values in a line's columns, of the rows' kinds
+unfoldable pub all_read : List ℕ → List Row → List (Option FieldValue)
 all_read line [] = []
 all_read line (r ∷ rows) = read_as r.value (columns r.from r.to line) ∷ all_read line rows
 
-all_read-stands : (line : List ℕ) (rows : List Row) → AllStandIn line rows → all_read line rows ≡ values rows
+pub all_read-stands : (line : List ℕ) (rows : List Row) → AllStandIn line rows → all_read line rows ≡ values rows
 unfolding all_read
 all_read-stands line [] h = refl
 all_read-stands line (r ∷ rows) h =

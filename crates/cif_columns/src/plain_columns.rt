@@ -1,6 +1,6 @@
 //! Columns that can be filled in more ways than one and say the same, and whether they are filled as
 //! in a plain line.
-ghost use Rattle.std.specs.Prelude.{◌≡◌, ◌+◌, ◌≤◌, length, replicate, IsTrue};
+ghost use Rattle.std.specs.Prelude.{◌≡◌, ◌↔◌, ◌+◌, ◌≤◌, length, replicate, IsTrue};
 ghost use Rattle.cif_columns.specs.PlainColumns.{IsPlainActivities, IsPlainSpare, IsPlainText};
 ghost use Rattle.cif_columns.specs.Text.{left_justified, text_of};
 
@@ -13,7 +13,7 @@ pub fn is_plain_text<const FROM: usize, const TO: usize>(line: &Line) -> bool
     requires from_one { 1 ≤ FROM }
     requires some { FROM ≤ TO }
     requires within { TO ≤ 80 }
-    ensures { IsTrue result → IsPlainText FROM TO line.now }
+    ensures { IsTrue result ↔ IsPlainText FROM TO line.now }
 {
     is_at_left(&line.bytes()[FROM - 1..TO])
 }
@@ -23,7 +23,7 @@ pub fn is_plain_text<const FROM: usize, const TO: usize>(line: &Line) -> bool
 pub fn are_plain_activities<const FROM: usize>(line: &Line) -> bool
     requires from_one { 1 ≤ FROM }
     requires within { FROM ≤ 69 }
-    ensures { IsTrue result → IsPlainActivities FROM (FROM + 11) line.now }
+    ensures { IsTrue result ↔ IsPlainActivities FROM (FROM + 11) line.now }
 {
     let columns: [u8; 12] = columns_at(line, FROM);
     is_blank(&columns[2..]) || Activities::read(&columns).write() == columns
@@ -35,7 +35,7 @@ pub fn are_plain_spare<const FROM: usize, const TO: usize>(line: &Line) -> bool
     requires from_one { 1 ≤ FROM }
     requires some { FROM ≤ TO }
     requires within { TO ≤ 80 }
-    ensures { IsTrue result → IsPlainSpare FROM TO line.now }
+    ensures { IsTrue result ↔ IsPlainSpare FROM TO line.now }
 {
     are_spaces(&line.bytes()[FROM - 1..TO])
 }
@@ -45,7 +45,7 @@ pub fn are_plain_spare<const FROM: usize, const TO: usize>(line: &Line) -> bool
 fn is_at_left(columns: &[u8]) -> bool
     requires { 1 ≤ length columns.now }
     ensures { IsTrue result
-        → left_justified (length columns.now) (text_of columns.now) ≡ columns.now }
+        ↔ (left_justified (length columns.now) (text_of columns.now) ≡ columns.now) }
 {
     columns[0] != b' ' || is_blank(columns)
 }
@@ -53,7 +53,7 @@ fn is_at_left(columns: &[u8]) -> bool
 /// Whether these columns are spaces.
 #[inline]
 fn are_spaces(columns: &[u8]) -> bool
-    ensures { IsTrue result → replicate (length columns.now) 32 ≡ columns.now }
+    ensures { IsTrue result ↔ (replicate (length columns.now) 32 ≡ columns.now) }
 {
     is_blank(columns)
 }

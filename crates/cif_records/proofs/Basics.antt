@@ -16,7 +16,7 @@ use Rattle.cif_columns.proofs.Parts.{stands-back, stands-front}
 use Rattle.cif_columns.proofs.TableLaws.{one_table, columns_in}
 use Rattle.cif_records.specs.Basic.{basic_back, basic_front, basic_refusal, basic_table}
 use Rattle.cif_records.specs.Bodies.{has_body}
-use Rattle.cif_records.specs.Detail.{detail_rows}
+use Rattle.cif_records.specs.Detail.{detail_in, detail_rows}
 use Rattle.cif_records.specs.SpellsBasic.{SpellsBasic, table_of}
 use Rattle.cif_records.specs.declared.basic.Basic.{Basic}
 use Rattle.cif_records.specs.declared.detail.Detail.{Detail}
@@ -111,28 +111,6 @@ no_refusal line r m =
       p.back.1.0,
       stp_in-letter r.letter,
     )
-
--- the detail that stands in a line
-abbrev detail_in : List ℕ → Detail
-detail_in line = record {
-  status = text_of (columns 30 30 line);
-  category = text_of (columns 31 32 line);
-  identity = text_of (columns 33 36 line);
-  headcode = text_of (columns 37 40 line);
-  course = text_of (columns 41 41 line);
-  service_code = text_of (columns 42 49 line);
-  sector = text_of (columns 50 50 line);
-  power = text_of (columns 51 53 line);
-  timing_load = text_of (columns 54 57 line);
-  speed = text_of (columns 58 60 line);
-  characteristics = text_of (columns 61 66 line);
-  class = text_of (columns 67 67 line);
-  sleepers = text_of (columns 68 68 line);
-  reservations = text_of (columns 69 69 line);
-  connection = text_of (columns 70 70 line);
-  catering = text_of (columns 71 74 line);
-  branding = text_of (columns 75 78 line);
-}
 
 -- a line that spells a schedule with a detail and fills its columns as a plain line does is the plain line
 module _ (line : List ℕ) (is_line : IsLine line) (first last : ℕ) (days : List Bool) (letter : Stp) where

@@ -7,9 +7,9 @@ use Rattle.cif_columns.proofs.PlainColumns.{ArePlain, plain_already}
 use Rattle.cif_columns.proofs.Texts.{is_text_of}
 use Rattle.cif_records.specs.Plain.{IsPlainOf}
 use Rattle.cif_records.proofs.Rows.{◌&◌}
-use Rattle.cif_columns.proofs.TableLaws.{one_table, columns_in}
+use Rattle.cif_columns.proofs.TableLaws.{all_read, all_read-stands, one_table, columns_in}
 use Rattle.cif_records.specs.Change.{change_refusal}
-use Rattle.cif_records.specs.SpellsChange.{SpellsChange, table_of}
+use Rattle.cif_records.specs.SpellsChange.{SpellsChange, table_of, change_in}
 use Rattle.cif_records.specs.declared.change.Change.{Change}
 
 -- the record of a table's values
@@ -41,14 +41,19 @@ change_of vs = record {
 pub one_change : (line : List ℕ) (r q : Change) → SpellsChange line r → SpellsChange line q → r ≡ q
 one_change line r q p s = ap change_of (one_table line (table_of r) (table_of q) refl p s)
 
+-- what a line spells is what stands in it
+pub change_in-spells : (line : List ℕ) (r : Change) → SpellsChange line r → change_in line ≡ r
+unfolding all_read
+change_in-spells line r s = ap change_of (all_read-stands line (table_of r) s)
+
 pub no_refusal : (line : List ℕ) (r : Change) → SpellsChange line r → change_refusal line ≡ None
 unfolding change_refusal
 no_refusal line r p = rw p.0
 
 module _ (line : List ℕ) where
   -- what a line spells
-  abbrev change_in : Change
-  change_in = record {
+  abbrev change_with : Change
+  change_with = record {
     location = text_of (columns 3 9 line);
     suffix = text_of (columns 10 10 line);
     category = text_of (columns 11 12 line);
@@ -74,9 +79,9 @@ module _ (line : List ℕ) where
 
   -- a line that spells a change and fills its columns as a plain line does is the plain line
   pub plain_change : IsLine line → (columns 1 2 line ≡ codes "CR")
-      → ArePlain (table_of change_in) line → IsPlainOf Change table_of line line
+      → ArePlain (table_of change_with) line → IsPlainOf Change table_of line line
   plain_change is_line found plain =
-      let spelled : SpellsChange line change_in =
+      let spelled : SpellsChange line change_with =
       found & is_text_of (columns 3 9 line) & is_text_of (columns 10 10 line) & is_text_of (columns 11 12 line)
       & is_text_of (columns 13 16 line) & is_text_of (columns 17 20 line) & is_text_of (columns 21 21 line)
       & is_text_of (columns 22 29 line) & is_text_of (columns 30 30 line) & is_text_of (columns 31 33 line)
@@ -85,8 +90,8 @@ module _ (line : List ℕ) where
       & is_text_of (columns 50 50 line) & is_text_of (columns 51 54 line) & is_text_of (columns 55 58 line)
       & is_text_of (columns 59 62 line) & is_text_of (columns 63 67 line) & is_text_of (columns 68 75 line) & tt & tt in
       record {
-        value = change_in;
+        value = change_with;
         stands = spelled;
         again = spelled;
-        same = sym (plain_already line is_line (table_of change_in) refl spelled plain);
+        same = sym (plain_already line is_line (table_of change_with) refl spelled plain);
       }

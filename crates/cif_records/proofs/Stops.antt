@@ -10,10 +10,10 @@ use Rattle.cif_records.proofs.Rows.{◌&◌}
 use Rattle.cif_columns.specs.Activities.{codes_in}
 use Rattle.cif_columns.proofs.Codes.{stands-codes_in}
 use Rattle.cif_columns.proofs.PlainLines.{length-columns}
-use Rattle.cif_columns.proofs.TableLaws.{one_table, columns_in, codes_value}
+use Rattle.cif_columns.proofs.TableLaws.{all_read, all_read-stands, one_table, columns_in, codes_value}
 use Rattle.cif_columns.proofs.Times.{public_time_in-stands, work_time_in-stands}
 use Rattle.cif_records.specs.Stop.{stop_refusal}
-use Rattle.cif_records.specs.SpellsStop.{SpellsStop, table_of}
+use Rattle.cif_records.specs.SpellsStop.{SpellsStop, table_of, stop_in}
 use Rattle.cif_records.specs.declared.stop.Stop.{Stop}
 
 -- the record of a table's values
@@ -38,6 +38,11 @@ stop_of vs = record {
 pub one_stop : (line : List ℕ) (r q : Stop) → SpellsStop line r → SpellsStop line q → r ≡ q
 one_stop line r q p s = ap stop_of (one_table line (table_of r) (table_of q) refl p s)
 
+-- what a line spells is what stands in it
+pub stop_in-spells : (line : List ℕ) (r : Stop) → SpellsStop line r → stop_in line ≡ r
+unfolding all_read
+stop_in-spells line r s = ap stop_of (all_read-stands line (table_of r) s)
+
 pub no_refusal : (line : List ℕ) (r : Stop) → SpellsStop line r → stop_refusal line ≡ None
 unfolding stop_refusal
 no_refusal line r p =
@@ -52,8 +57,8 @@ no_refusal line r p =
 
 module _ (line arrival departure pass public_arrival public_departure : List ℕ) where
   -- what a line spells with these times
-  abbrev stop_in : Stop
-  stop_in = record {
+  abbrev stop_with : Stop
+  stop_with = record {
     location = text_of (columns 3 9 line);
     suffix = text_of (columns 10 10 line);
     arrival = arrival;
@@ -75,17 +80,17 @@ module _ (line arrival departure pass public_arrival public_departure : List ℕ
       × StandsIn (columns 16 20 line) (working_time departure) × StandsIn (columns 21 25 line) (working_time pass)
       × StandsIn (columns 26 29 line) (public_time public_arrival)
       × StandsIn (columns 30 33 line) (public_time public_departure)
-      → ArePlain (table_of stop_in) line → IsPlainOf Stop table_of line line
+      → ArePlain (table_of stop_with) line → IsPlainOf Stop table_of line line
   plain_stop is_line found plain =
       let twelve = stands-codes_in 6 (columns 43 54 line) (length-columns 43 54 line is_line (omega arith) (omega arith) (omega arith)) in
-      let spelled : SpellsStop line stop_in =
+      let spelled : SpellsStop line stop_with =
       found.0 & is_text_of (columns 3 9 line) & is_text_of (columns 10 10 line) & found.1 & found.2 & found.3 & found.4
       & found.5 & is_text_of (columns 34 36 line) & is_text_of (columns 37 39 line) & is_text_of (columns 40 42 line)
       & twelve & is_text_of (columns 55 56 line) & is_text_of (columns 57 58 line) & is_text_of (columns 59 60 line) & tt
       & tt in
       record {
-        value = stop_in;
+        value = stop_with;
         stands = spelled;
         again = spelled;
-        same = sym (plain_already line is_line (table_of stop_in) refl spelled plain);
+        same = sym (plain_already line is_line (table_of stop_with) refl spelled plain);
       }

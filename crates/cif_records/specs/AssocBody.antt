@@ -1,4 +1,4 @@
--- The body of an association in the columns of its line.
+-- The body of an association in the columns of its line, for the reader's own steps: the table in Association says the same.
 use Rattle.std.specs.Prelude.{ℕ, List, Option}
 use Rattle.cif_columns.specs.Field.{StandsIn, columns, text}
 use Rattle.cif_records.specs.Bodies.{of_body}

@@ -1,4 +1,4 @@
--- CR: a change of a train on the way of a journey, and the reasons to refuse one.
+-- CR: a change of a train on the way of a journey, and the reasons to refuse one. Its columns stand in SpellsChange.
 use Rattle.std.specs.Prelude.{ℕ, List, [], ◌∷◌, Option, codes}
 use Rattle.cif_columns.specs.declared.refusal.Refusal.{Refusal}
 use Rattle.cif_records.specs.Checks.{first_of, identity_refusal}

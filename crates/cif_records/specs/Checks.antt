@@ -31,7 +31,7 @@ IsJudged refusal P (Err why) = refusal ≡ Some why
 abbrev pub are : List ℕ → List ℕ → Bool
 are columns letters = bytes_eq columns letters
 
--- the first day is not after the last
+-- the first day is not after the last; where one of them isn't there, another reason comes first
 abbrev pub are_in_order : Option ℕ → Option ℕ → Bool
 are_in_order None last = true
 are_in_order (Some first) None = true

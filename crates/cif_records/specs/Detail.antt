@@ -1,6 +1,7 @@
 -- What a schedule says of its train, in the columns of its line.
-use Rattle.std.specs.Prelude.{List, [], ◌∷◌, Option}
-use Rattle.cif_columns.specs.Field.{Row, row, text}
+use Rattle.std.specs.Prelude.{ℕ, List, [], ◌∷◌, Option}
+use Rattle.cif_columns.specs.Field.{Row, row, columns, text}
+use Rattle.cif_columns.specs.Text.{text_of}
 use Rattle.cif_records.specs.Bodies.{of_body}
 use Rattle.cif_records.specs.declared.detail.Detail.{Detail}
 
@@ -25,3 +26,25 @@ detail_rows detail =
     ∷ row 71 74 (of_body detail (λ d. text d.catering))
     ∷ row 75 78 (of_body detail (λ d. text d.branding))
     ∷ []
+
+-- the detail that stands in columns 30 to 78 of a line
+abbrev pub detail_in : List ℕ → Detail
+detail_in line = record {
+  status = text_of (columns 30 30 line);
+  category = text_of (columns 31 32 line);
+  identity = text_of (columns 33 36 line);
+  headcode = text_of (columns 37 40 line);
+  course = text_of (columns 41 41 line);
+  service_code = text_of (columns 42 49 line);
+  sector = text_of (columns 50 50 line);
+  power = text_of (columns 51 53 line);
+  timing_load = text_of (columns 54 57 line);
+  speed = text_of (columns 58 60 line);
+  characteristics = text_of (columns 61 66 line);
+  class = text_of (columns 67 67 line);
+  sleepers = text_of (columns 68 68 line);
+  reservations = text_of (columns 69 69 line);
+  connection = text_of (columns 70 70 line);
+  catering = text_of (columns 71 74 line);
+  branding = text_of (columns 75 78 line);
+}

@@ -1,4 +1,4 @@
--- BX: further details of a schedule, and the reasons to refuse one.
+-- BX: further details of a schedule, and the reasons to refuse one. Its columns stand in SpellsExtra.
 use Rattle.std.specs.Prelude.{ℕ, List, [], ◌∷◌, Option, codes}
 use Rattle.cif_columns.specs.declared.refusal.Refusal.{Refusal}
 use Rattle.cif_records.specs.Checks.{first_of, identity_refusal}

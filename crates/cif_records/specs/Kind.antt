@@ -28,6 +28,6 @@ kinds = Li ∷ Cr ∷ Lt ∷ Lo ∷ Bx ∷ Bs ∷ Aa ∷ Ti ∷ Hd ∷ Zz ∷ Ta
 abbrev pub is_identity : List ℕ → Kind → Bool
 is_identity letters kind = bytes_eq (identity kind) letters
 
--- the kind that columns 1 and 2 of a line name
+-- the kind that columns 1 and 2 of a line name; no two kinds have one identity, so the order of the list doesn't matter
 abbrev pub kind_in : List ℕ → Option Kind
 kind_in line = find (is_identity (columns 1 2 line)) kinds

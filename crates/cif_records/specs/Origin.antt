@@ -1,4 +1,4 @@
--- LO: the first location of a journey, and the reasons to refuse one.
+-- LO: the first location of a journey, and the reasons to refuse one. Its columns stand in SpellsOrigin.
 use Rattle.std.specs.Prelude.{ℕ, List, [], ◌∷◌, Option, codes}
 use Rattle.cif_columns.specs.Field.{columns}
 use Rattle.cif_columns.specs.declared.refusal.Refusal.{Refusal}

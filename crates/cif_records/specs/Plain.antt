@@ -2,7 +2,7 @@
 use Rattle.std.specs.Prelude.{◌≡◌, ℕ, List}
 use Rattle.cif_columns.specs.Field.{Row, AllStandIn, plain_line}
 
--- the first line spells a record, whose plain line the second is, which spells it again
+-- The first line spells a value. The second is the plain line of that value, and spells the same value.
 pub record IsPlainOf (R : Type 0) (table : R → List Row) (line plain : List ℕ) : Type 0 where
   pub value : R
   pub stands : AllStandIn line (table value)

@@ -1,6 +1,7 @@
 -- When a line spells a change of a train on the way of a journey.
 use Rattle.std.specs.Prelude.{ℕ, List, [], ◌∷◌, codes}
-use Rattle.cif_columns.specs.Field.{Row, row, AllStandIn, exactly, text, spare}
+use Rattle.cif_columns.specs.Text.{text_of}
+use Rattle.cif_columns.specs.Field.{Row, row, AllStandIn, columns, exactly, text, spare}
 use Rattle.cif_records.specs.declared.change.Change.{Change}
 
 -- the columns of a change
@@ -34,3 +35,29 @@ table_of r =
 -- the line spells it: each of its values stands in its columns
 abbrev pub SpellsChange : List ℕ → Change → Type 0
 SpellsChange line r = AllStandIn line (table_of r)
+
+-- the change that a line spells, if it spells one: what stands in its columns
+abbrev pub change_in : List ℕ → Change
+change_in line = record {
+  location = text_of (columns 3 9 line);
+  suffix = text_of (columns 10 10 line);
+  category = text_of (columns 11 12 line);
+  identity = text_of (columns 13 16 line);
+  headcode = text_of (columns 17 20 line);
+  course = text_of (columns 21 21 line);
+  service_code = text_of (columns 22 29 line);
+  sector = text_of (columns 30 30 line);
+  power = text_of (columns 31 33 line);
+  timing_load = text_of (columns 34 37 line);
+  speed = text_of (columns 38 40 line);
+  characteristics = text_of (columns 41 46 line);
+  class = text_of (columns 47 47 line);
+  sleepers = text_of (columns 48 48 line);
+  reservations = text_of (columns 49 49 line);
+  connection = text_of (columns 50 50 line);
+  catering = text_of (columns 51 54 line);
+  branding = text_of (columns 55 58 line);
+  traction = text_of (columns 59 62 line);
+  uic = text_of (columns 63 67 line);
+  reserved_a = text_of (columns 68 75 line);
+}

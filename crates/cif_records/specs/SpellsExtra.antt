@@ -1,6 +1,7 @@
 -- When a line spells further details of a schedule.
 use Rattle.std.specs.Prelude.{ℕ, List, [], ◌∷◌, codes}
-use Rattle.cif_columns.specs.Field.{Row, row, AllStandIn, exactly, text, spare}
+use Rattle.cif_columns.specs.Text.{text_of}
+use Rattle.cif_columns.specs.Field.{Row, row, AllStandIn, columns, exactly, text, spare}
 use Rattle.cif_records.specs.declared.extra.Extra.{Extra}
 
 -- the columns of further details
@@ -19,3 +20,14 @@ table_of r =
 -- the line spells it: each of its values stands in its columns
 abbrev pub SpellsExtra : List ℕ → Extra → Type 0
 SpellsExtra line r = AllStandIn line (table_of r)
+
+-- the further details that a line spells, if it spells one: what stands in its columns
+abbrev pub extra_in : List ℕ → Extra
+extra_in line = record {
+  traction = text_of (columns 3 6 line);
+  uic = text_of (columns 7 11 line);
+  operator_code = text_of (columns 12 13 line);
+  timetable_code = text_of (columns 14 14 line);
+  reserved_a = text_of (columns 15 22 line);
+  reserved_b = text_of (columns 23 23 line);
+}

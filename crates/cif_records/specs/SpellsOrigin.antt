@@ -1,6 +1,8 @@
 -- When a line spells the first location of a journey.
 use Rattle.std.specs.Prelude.{ℕ, List, [], ◌∷◌, codes}
-use Rattle.cif_columns.specs.Field.{Row, row, AllStandIn, exactly, text, activity_codes, working_time, public_time, spare}
+use Rattle.cif_columns.specs.Activities.{codes_in}
+use Rattle.cif_columns.specs.Field.{Row, row, AllStandIn, columns, exactly, text, activity_codes, working_time, public_time, spare}
+use Rattle.cif_columns.specs.Text.{text_of}
 use Rattle.cif_records.specs.declared.origin.Origin.{Origin}
 
 -- the columns of a first location
@@ -23,3 +25,18 @@ table_of r =
 -- the line spells the location: each of its values stands in its columns
 abbrev pub SpellsOrigin : List ℕ → Origin → Type 0
 SpellsOrigin line r = AllStandIn line (table_of r)
+
+-- the first location that a line spells, if it spells one: what stands in its columns
+abbrev pub origin_in : List ℕ → Origin
+origin_in line = record {
+  location = text_of (columns 3 9 line);
+  suffix = text_of (columns 10 10 line);
+  departure = columns 11 15 line;
+  public_departure = columns 16 19 line;
+  platform = text_of (columns 20 22 line);
+  line = text_of (columns 23 25 line);
+  engineering = text_of (columns 26 27 line);
+  pathing = text_of (columns 28 29 line);
+  activities = codes_in (columns 30 41 line);
+  performance = text_of (columns 42 43 line);
+}

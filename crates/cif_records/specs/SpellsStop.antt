@@ -1,6 +1,8 @@
 -- When a line spells a location on the way of a journey.
 use Rattle.std.specs.Prelude.{ℕ, List, [], ◌∷◌, codes}
-use Rattle.cif_columns.specs.Field.{Row, row, AllStandIn, exactly, text, activity_codes, working_time, public_time, spare}
+use Rattle.cif_columns.specs.Activities.{codes_in}
+use Rattle.cif_columns.specs.Field.{Row, row, AllStandIn, columns, exactly, text, activity_codes, working_time, public_time, spare}
+use Rattle.cif_columns.specs.Text.{text_of}
 use Rattle.cif_records.specs.declared.stop.Stop.{Stop}
 
 -- the columns of a location on the way
@@ -27,3 +29,22 @@ table_of r =
 -- the line spells it: each of its values stands in its columns
 abbrev pub SpellsStop : List ℕ → Stop → Type 0
 SpellsStop line r = AllStandIn line (table_of r)
+
+-- the location on the way that a line spells, if it spells one: what stands in its columns
+abbrev pub stop_in : List ℕ → Stop
+stop_in line = record {
+  location = text_of (columns 3 9 line);
+  suffix = text_of (columns 10 10 line);
+  arrival = columns 11 15 line;
+  departure = columns 16 20 line;
+  pass = columns 21 25 line;
+  public_arrival = columns 26 29 line;
+  public_departure = columns 30 33 line;
+  platform = text_of (columns 34 36 line);
+  line = text_of (columns 37 39 line);
+  path = text_of (columns 40 42 line);
+  activities = codes_in (columns 43 54 line);
+  engineering = text_of (columns 55 56 line);
+  pathing = text_of (columns 57 58 line);
+  performance = text_of (columns 59 60 line);
+}

@@ -1,6 +1,8 @@
 -- When a line spells the last location of a journey.
 use Rattle.std.specs.Prelude.{ℕ, List, [], ◌∷◌, codes}
-use Rattle.cif_columns.specs.Field.{Row, row, AllStandIn, exactly, text, activity_codes, working_time, public_time, spare}
+use Rattle.cif_columns.specs.Activities.{codes_in}
+use Rattle.cif_columns.specs.Field.{Row, row, AllStandIn, columns, exactly, text, activity_codes, working_time, public_time, spare}
+use Rattle.cif_columns.specs.Text.{text_of}
 use Rattle.cif_records.specs.declared.terminus.Terminus.{Terminus}
 
 -- the columns of a last location
@@ -20,3 +22,15 @@ table_of r =
 -- the line spells it: each of its values stands in its columns
 abbrev pub SpellsTerminus : List ℕ → Terminus → Type 0
 SpellsTerminus line r = AllStandIn line (table_of r)
+
+-- the last location that a line spells, if it spells one: what stands in its columns
+abbrev pub terminus_in : List ℕ → Terminus
+terminus_in line = record {
+  location = text_of (columns 3 9 line);
+  suffix = text_of (columns 10 10 line);
+  arrival = columns 11 15 line;
+  public_arrival = columns 16 19 line;
+  platform = text_of (columns 20 22 line);
+  path = text_of (columns 23 25 line);
+  activities = codes_in (columns 26 37 line);
+}

@@ -1,4 +1,4 @@
--- LI: a location on the way of a journey, and the reasons to refuse one.
+-- LI: a location on the way of a journey, and the reasons to refuse one. Its columns stand in SpellsStop.
 use Rattle.std.specs.Prelude.{ℕ, List, [], ◌∷◌, Option, codes}
 use Rattle.cif_columns.specs.Field.{columns}
 use Rattle.cif_columns.specs.declared.refusal.Refusal.{Refusal}

@@ -28,15 +28,15 @@ fn record_of(line: &Line) -> Result<Record, Refusal>
     ensures { IsJudged (record_refusal line.now) (SpellsRecord line.now) result }
 {
     match kind_of(line) {
-        Some(Kind::Hd) => Ok(Record::Header(Header::read(line)?)),
-        Some(Kind::Ti) => Ok(Record::Tiploc(Tiploc::read(line)?)),
-        Some(Kind::Aa) => Ok(Record::Association(Association::read(line)?)),
-        Some(Kind::Bs) => Ok(Record::Basic(Basic::read(line)?)),
-        Some(Kind::Bx) => Ok(Record::Extra(Extra::read(line)?)),
-        Some(Kind::Lo) => Ok(Record::Origin(Origin::read(line)?)),
         Some(Kind::Li) => Ok(Record::Stop(Stop::read(line)?)),
         Some(Kind::Cr) => Ok(Record::Change(Change::read(line)?)),
         Some(Kind::Lt) => Ok(Record::Terminus(Terminus::read(line)?)),
+        Some(Kind::Lo) => Ok(Record::Origin(Origin::read(line)?)),
+        Some(Kind::Bx) => Ok(Record::Extra(Extra::read(line)?)),
+        Some(Kind::Bs) => Ok(Record::Basic(Basic::read(line)?)),
+        Some(Kind::Aa) => Ok(Record::Association(Association::read(line)?)),
+        Some(Kind::Ti) => Ok(Record::Tiploc(Tiploc::read(line)?)),
+        Some(Kind::Hd) => Ok(Record::Header(Header::read(line)?)),
         Some(Kind::Zz) => {
             let _ = Trailer::read(line)?;
             Ok(Record::Trailer)
@@ -66,7 +66,7 @@ pub fn write_record(record: &Record) -> Line
 }
 
 /// The plain line of the record that the line spells, or the first reason why it spells none: what
-/// `read_record` and then `write_record` give. Of a line that is plain already no value is built.
+/// `read_record` and then `write_record` give. Of a line that is plain already no record is built.
 pub fn plain_line_of(line: &Line) -> Result<Line, Refusal>
     ensures exact { IsJudged (record_refusal line.now) (IsPlainOf Record record_table line.now)
         result }
@@ -92,7 +92,7 @@ fn plain_line_as(line: &Line) -> Result<Line, Refusal>
         Some(Kind::Ti) => layout::plain_line_of::<Tiploc>(line),
         Some(Kind::Hd) => layout::plain_line_of::<Header>(line),
         Some(Kind::Zz) => layout::plain_line_of::<Trailer>(line),
-        Some(Kind::Ta | Kind::Td) => Err(Refusal::NotFull),
+        Some(Kind::Td | Kind::Ta) => Err(Refusal::NotFull),
         None => Err(Refusal::UnknownRecord),
     }
 }

@@ -10,7 +10,7 @@ ghost use Rattle.cif_records.specs.Bodies.{has_body, of_body};
 ghost use Rattle.cif_records.specs.Checks.{IsJudged};
 
 use crate::checks::{
-    Terms, check_identity, check_transaction, dates_at, days_at, has_body, letter_of,
+    Applicability, check_identity, check_transaction, dates_at, days_at, has_body, letter_of,
 };
 use crate::layout::{self, Layout};
 use crate::{AssocBody, AssocKey};
@@ -27,7 +27,7 @@ pub struct Association {
     pub key: AssocKey,
     /// Columns 16 to 21: the first date, by year, month and day.
     pub first: Day,
-    /// Columns 22 to 27: the last date.
+    /// Columns 22 to 27: the last date, by year, month and day.
     pub last: Day,
     /// Columns 28 to 34: the weekdays on which it applies.
     pub days: DaysRun,
@@ -43,7 +43,7 @@ impl Layout for Association {
     ghost use Rattle.std.specs.Prelude.{refl, ◌≡◌, codes};
     ghost use Rattle.cif_columns.specs.Field.{StandsIn, columns, date, indicator, weekdays};
 
-    type Checked = Terms;
+    type Checked = Applicability;
 
     ghost table = { λ r. association_table r.key r.first r.last r.days r.letter r.body };
 
@@ -57,20 +57,20 @@ impl Layout for Association {
         × StandsIn (columns 80 80 line) (indicator terms.letter) };
 
     #[tactic(auto, unfolding(crate::specs::Association::association_refusal))]
-    fn check(line: &Line) -> Result<Terms, Refusal> {
+    fn check(line: &Line) -> Result<Applicability, Refusal> {
         check_identity(line, b"AA")?;
         check_transaction(line)?;
         let dates = dates_at(line, 16)?;
         let days = days_at(line, 28)?;
         let letter = letter_of(line)?;
-        Ok(Terms {
+        Ok(Applicability {
             dates,
             days,
             letter,
         })
     }
 
-    fn with(line: &Line, terms: Terms) -> Association {
+    fn with(line: &Line, terms: Applicability) -> Association {
         Association {
             key: key_at(line),
             first: terms.dates.first,
@@ -81,7 +81,7 @@ impl Layout for Association {
         }
     }
 
-    fn is_plain(line: &Line, terms: &Terms) -> bool {
+    fn is_plain(line: &Line, terms: &Applicability) -> bool {
         has_body(terms.letter)
             & is_plain_text::<35, 36>(line)
             & is_plain_text::<38, 44>(line)

@@ -9,8 +9,8 @@ ghost use Rattle.cif_records.specs.Detail.{detail_rows};
 
 use crate::Detail;
 use crate::checks::{
-    Terms, check_bank_holiday, check_identity, check_transaction, dates_at, days_at, has_body,
-    letter_of,
+    Applicability, check_bank_holiday, check_identity, check_transaction, dates_at, days_at,
+    has_body, letter_of,
 };
 use crate::layout::{self, Layout};
 use cif_columns::{
@@ -25,7 +25,7 @@ pub struct Basic {
     pub uid: Uid,
     /// Columns 10 to 15: the first date, by year, month and day.
     pub first: Day,
-    /// Columns 16 to 21: the last date.
+    /// Columns 16 to 21: the last date, by year, month and day.
     pub last: Day,
     /// Columns 22 to 28: the weekdays on which it applies.
     pub days: DaysRun,
@@ -41,7 +41,7 @@ impl Layout for Basic {
     ghost use Rattle.std.specs.Prelude.{refl, ◌≡◌, codes};
     ghost use Rattle.cif_columns.specs.Field.{StandsIn, columns, date, indicator, weekdays};
 
-    type Checked = Terms;
+    type Checked = Applicability;
 
     ghost table = { λ r. basic_table r.uid r.first r.last r.days r.letter r.detail };
 
@@ -56,21 +56,21 @@ impl Layout for Basic {
         × StandsIn (columns 80 80 line) (indicator terms.letter) };
 
     #[tactic(auto, unfolding(crate::specs::Basic::basic_refusal))]
-    fn check(line: &Line) -> Result<Terms, Refusal> {
+    fn check(line: &Line) -> Result<Applicability, Refusal> {
         check_identity(line, b"BS")?;
         check_transaction(line)?;
         let dates = dates_at(line, 10)?;
         let days = days_at(line, 22)?;
         check_bank_holiday(line)?;
         let letter = letter_of(line)?;
-        Ok(Terms {
+        Ok(Applicability {
             dates,
             days,
             letter,
         })
     }
 
-    fn with(line: &Line, terms: Terms) -> Basic {
+    fn with(line: &Line, terms: Applicability) -> Basic {
         Basic {
             uid: uid_at(line, 4),
             first: terms.dates.first,
@@ -81,7 +81,7 @@ impl Layout for Basic {
         }
     }
 
-    fn is_plain(line: &Line, terms: &Terms) -> bool {
+    fn is_plain(line: &Line, terms: &Applicability) -> bool {
         has_body(terms.letter)
             & is_plain_text::<31, 32>(line)
             & is_plain_text::<33, 36>(line)

@@ -1,5 +1,5 @@
 //! The checks that record kinds share.
-ghost use Rattle.std.specs.Prelude.{◌≡◌, ◌≤◌, ◌+◌, ◌∷◌, [], Some, IfOk};
+ghost use Rattle.std.specs.Prelude.{◌≡◌, ◌≤◌, ◌+◌, Some, IfOk, codes};
 ghost use Rattle.cif_columns.specs.Day.{yymmdd_in};
 ghost use Rattle.cif_columns.specs.Field.{StandsIn, columns, columns_from, date, indicator};
 ghost use Rattle.cif_columns.specs.Field.{public_time, weekdays, working_time};
@@ -11,7 +11,7 @@ ghost use Rattle.cif_records.specs.Checks.{public_time_refusal, work_time_refusa
 
 use cif_columns::{Day, DaysRun, Line, PublicTime, Refusal, Stp, WorkTime, columns_at, field_at};
 
-/// Whether columns 1 and 2 are the identity of a kind.
+/// Refuses a line whose columns 1 and 2 aren't the identity of a kind.
 pub(crate) fn check_identity(line: &Line, letters: &[u8; 2]) -> Result<(), Refusal>
     ensures { IsJudged (identity_refusal letters.now line.now)
         (λ _. columns 1 2 line.now ≡ letters.now) result }
@@ -23,9 +23,9 @@ pub(crate) fn check_identity(line: &Line, letters: &[u8; 2]) -> Result<(), Refus
     }
 }
 
-/// Whether column 3 is the transaction type of a full extract, `N`.
+/// Refuses a line whose column 3 isn't the transaction type of a full extract, `N`.
 pub(crate) fn check_transaction(line: &Line) -> Result<(), Refusal>
-    ensures { IsJudged (transaction_refusal line.now) (λ _. columns 3 3 line.now ≡ 78 ∷ []) result }
+    ensures { IsJudged (transaction_refusal line.now) (λ _. columns 3 3 line.now ≡ codes "N") result }
 {
     if columns_at(line, 3) == *b"N" {
         Ok(())
@@ -34,10 +34,10 @@ pub(crate) fn check_transaction(line: &Line) -> Result<(), Refusal>
     }
 }
 
-/// Whether column 29 is a space, so that no running on bank holidays is asked for.
+/// Refuses a line whose column 29 isn't a space, so that running on bank holidays is asked for.
 pub(crate) fn check_bank_holiday(line: &Line) -> Result<(), Refusal>
     ensures { IsJudged (bank_holiday_refusal line.now)
-        (λ _. columns 29 29 line.now ≡ 32 ∷ []) result }
+        (λ _. columns 29 29 line.now ≡ codes " ") result }
 {
     if columns_at(line, 29) == *b" " {
         Ok(())
@@ -136,7 +136,7 @@ pub(crate) struct EndTimes {
 
 /// On which dates a record applies, and its indicator.
 #[derive(Clone, Copy)]
-pub(crate) struct Terms {
+pub(crate) struct Applicability {
     pub(crate) dates: Dates,
     pub(crate) days: DaysRun,
     pub(crate) letter: Stp,

@@ -10,7 +10,7 @@ use cif_columns::{
     Field, Line, LineBuilder, Refusal, Text, are_plain_spare, is_plain_text, text_at,
 };
 
-/// A record `BX` (the CIF End User Specification): what else runs in a schedule.
+/// A record `BX` (the CIF End User Specification): further details of a basic schedule.
 #[derive(Debug, Drop, PartialEq, Eq)]
 pub struct Extra {
     /// Columns 3 to 6: the traction class.

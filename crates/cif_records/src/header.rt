@@ -50,8 +50,8 @@ impl Layout for Header {
     fn check(line: &Line) -> Result<Dates, Refusal> {
         check_identity(line, b"HD")?;
         check_full(line)?;
-        let first = date_at(line, 49)?;
-        let last = date_at(line, 55)?;
+        let first = window_date_at(line, 49)?;
+        let last = window_date_at(line, 55)?;
         if first <= last {
             Ok(Dates { first, last })
         } else {
@@ -135,7 +135,7 @@ fn check_full(line: &Line) -> Result<(), Refusal>
 }
 
 /// The date in the six columns of a line from `at` on, by day, month and year.
-fn date_at(line: &Line, at: usize) -> Result<Day, Refusal>
+fn window_date_at(line: &Line, at: usize) -> Result<Day, Refusal>
     requires from_one { 1 ≤ at }
     requires within { at ≤ 75 }
     ensures { IsJudged (header_date_refusal (columns_from at 6 line.now))

@@ -33,6 +33,7 @@ pub(crate) trait Layout: Sized + Drop {
         ensures { AllStandIn line.now (table result) };
 
     /// Whether the line is the plain line of the record that it spells. A `false` costs time alone.
+    /// Its tests are joined by `&`: that no test ends them lets the compiler do many at once.
     fn is_plain(line: &Line, checked: &Self::Checked) -> bool
         requires found { found line.now checked.now }
         requires line { IsLine line.now }
@@ -57,17 +58,17 @@ pub(crate) fn read<R: Layout>(line: &Line) -> Result<R, Refusal>
 }
 
 /// The plain line of the record.
-pub(crate) fn write<R: Layout>(of: &R) -> Line
-    ensures plain { result ≡ plain_line (R.table of.now) }
-    ensures again { AllStandIn result (R.table of.now) }
+pub(crate) fn write<R: Layout>(value: &R) -> Line
+    ensures plain { result ≡ plain_line (R.table value.now) }
+    ensures again { AllStandIn result (R.table value.now) }
 {
     let mut line = LineBuilder::new();
-    of.put_rows(&mut line);
+    value.put_rows(&mut line);
     line.finish()
 }
 
 /// The plain line of the record that the line spells, or the first reason in column order why it
-/// spells none. Of a line that is plain already no value is built.
+/// spells none. Of a line that is plain already no record is built.
 pub(crate) fn plain_line_of<R: Layout>(line: &Line) -> Result<Line, Refusal>
     requires { IsLine line.now }
     ensures { IsJudged (R.refusal line.now) (IsPlainOf R R.table line.now) result }

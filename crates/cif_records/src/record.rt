@@ -5,24 +5,24 @@ use crate::{Association, Basic, Change, Extra, Header, Origin, Stop, Terminus, T
 /// A record of a full extract (the CIF End User Specification).
 #[derive(Debug, Drop, PartialEq, Eq)]
 pub enum Record {
-    /// `HD`.
+    /// `HD`, the header.
     Header(Header),
-    /// `TI`.
+    /// `TI`, a location.
     Tiploc(Tiploc),
-    /// `AA`.
+    /// `AA`, an association of two trains.
     Association(Association),
-    /// `BS`.
+    /// `BS`, a basic schedule.
     Basic(Basic),
-    /// `BX`.
+    /// `BX`, its further details.
     Extra(Extra),
-    /// `LO`.
+    /// `LO`, where a journey begins.
     Origin(Origin),
-    /// `LI`.
+    /// `LI`, a location on the way.
     Stop(Stop),
-    /// `CR`.
+    /// `CR`, a change on the way.
     Change(Change),
-    /// `LT`.
+    /// `LT`, where a journey ends.
     Terminus(Terminus),
-    /// `ZZ`.
+    /// `ZZ`, the trailer.
     Trailer,
 }

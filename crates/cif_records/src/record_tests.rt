@@ -5,17 +5,23 @@ use cif_columns::{Line, Refusal, Stp};
 use std::test::Fail;
 
 /// A header, a location, an association, a schedule from Monday to Friday with its further details
-/// and its journey from Aberdeen to Edinburgh, its cancellation on one day, and the trailer.
-const PLAIN: [&[u8; 80]; 8] = [
+/// and its journey from Aberdeen to Edinburgh with a change at Dundee, its cancellation on one day,
+/// and the trailer.
+const PLAIN: [&[u8; 80]; 10] = [
     b"HDTPS.UTEST01.PD2601040401262000DFTEST1       FA050126250126                    ",
     b"TIABRDEEN00890500AABERDEEN                  032010000ABDABERDEEN                ",
+    b"AANC00123C004562601052601251111100JJSDUNDEE   TP                               P",
     b"BSNC001232601052601251111100 PXX1A23    122104000 DMU    090      B            P",
     b"BX         SRY                                                                  ",
     b"LOABRDEEN 0900 09001         TB                                                 ",
+    b"CRDUNDEE  XX1A23    122104000 DMU    090      B                                 ",
     b"LTEDINBUR 1130H1131      TF                                                     ",
-    b"BSNC001232601142601140010000                                                   C",
+    PLAIN_CANCELLATION,
     b"ZZ                                                                              ",
 ];
+
+const PLAIN_CANCELLATION: &[u8; 80] =
+    b"BSNC001232601142601140010000                                                   C";
 
 /// A call at Dundee, where activity codes aren't packed and the spare columns are no spaces.
 const CALL: &[u8; 80] =
@@ -41,7 +47,7 @@ fn call_is_read_by_its_columns_and_written_plain(rt: HostRuntime) -> Result<(), 
     let line = Line::of(*CALL).ok_or("a line")?;
     let record = read_record(&line).map_err(|_| "a record")?;
     assert_eq!(rt; write_record(&record).bytes(), PLAIN_CALL);
-    assert_eq!(rt; plain_line_of(&line), Ok(write_record(&record)));
+    assert_eq!(rt; plain_line_of(&line).ok(), Line::of(*PLAIN_CALL));
     match record {
         Record::Stop(call) => {
             assert_eq!(rt; call.location.write(), *b"DUNDEE ");

@@ -21,7 +21,7 @@ returns c = λ yes.
     let found = c.requires.found in
     plain_basic c.args.line.now c.requires.line t.dates.first t.dates.last t.days t.letter found.0 found.1 found.2 found.3 found.4 found.5 found.6
     t.dates.in_order (sym c.has_body.ensures ∙ p1.0)
-    (tt & tt & tt & tt & tt & tt & tt & tt & c.is_plain_text.ensures p1.1 & c.is_plain_text-2.ensures p2.1
-    & c.is_plain_text-3.ensures p3.1 & tt & c.is_plain_text-4.ensures p4.1 & tt & c.is_plain_text-5.ensures p5.1
-    & c.is_plain_text-6.ensures p6.1 & c.is_plain_text-7.ensures p7.1 & c.is_plain_text-8.ensures p8.1 & tt & tt & tt & tt
-    & c.is_plain_text-9.ensures p9.1 & c.is_plain_text-10.ensures p10.1 & c.are_plain_spare.ensures p11.1 & tt & tt)
+    (tt & tt & tt & tt & tt & tt & tt & tt & c.is_plain_text.ensures.0 p1.1 & c.is_plain_text-2.ensures.0 p2.1
+    & c.is_plain_text-3.ensures.0 p3.1 & tt & c.is_plain_text-4.ensures.0 p4.1 & tt & c.is_plain_text-5.ensures.0 p5.1
+    & c.is_plain_text-6.ensures.0 p6.1 & c.is_plain_text-7.ensures.0 p7.1 & c.is_plain_text-8.ensures.0 p8.1 & tt & tt & tt & tt
+    & c.is_plain_text-9.ensures.0 p9.1 & c.is_plain_text-10.ensures.0 p10.1 & c.are_plain_spare.ensures.0 p11.1 & tt & tt)

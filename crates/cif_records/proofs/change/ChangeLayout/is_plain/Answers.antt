@@ -20,8 +20,8 @@ returns c = λ yes.
     let p2 = and_parts _ _ p3.0 in
     let p1 = and_parts _ _ p2.0 in
     plain_change c.args.line.now c.requires.line c.requires.found
-    (tt & c.is_plain_text.ensures p1.0 & tt & c.is_plain_text-2.ensures p1.1 & c.is_plain_text-3.ensures p2.1
-    & c.is_plain_text-4.ensures p3.1 & tt & c.is_plain_text-5.ensures p4.1 & tt & c.is_plain_text-6.ensures p5.1
-    & c.is_plain_text-7.ensures p6.1 & c.is_plain_text-8.ensures p7.1 & c.is_plain_text-9.ensures p8.1 & tt & tt & tt & tt
-    & c.is_plain_text-10.ensures p9.1 & c.is_plain_text-11.ensures p10.1 & c.is_plain_text-12.ensures p11.1
-    & c.is_plain_text-13.ensures p12.1 & c.is_plain_text-14.ensures p13.1 & c.are_plain_spare.ensures p14.1 & tt)
+    (tt & c.is_plain_text.ensures.0 p1.0 & tt & c.is_plain_text-2.ensures.0 p1.1 & c.is_plain_text-3.ensures.0 p2.1
+    & c.is_plain_text-4.ensures.0 p3.1 & tt & c.is_plain_text-5.ensures.0 p4.1 & tt & c.is_plain_text-6.ensures.0 p5.1
+    & c.is_plain_text-7.ensures.0 p6.1 & c.is_plain_text-8.ensures.0 p7.1 & c.is_plain_text-9.ensures.0 p8.1 & tt & tt & tt & tt
+    & c.is_plain_text-10.ensures.0 p9.1 & c.is_plain_text-11.ensures.0 p10.1 & c.is_plain_text-12.ensures.0 p11.1
+    & c.is_plain_text-13.ensures.0 p12.1 & c.is_plain_text-14.ensures.0 p13.1 & c.are_plain_spare.ensures.0 p14.1 & tt)

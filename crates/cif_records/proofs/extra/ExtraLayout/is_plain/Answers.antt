@@ -10,5 +10,5 @@ returns c = λ yes.
     let p2 = and_parts _ _ p3.0 in
     let p1 = and_parts _ _ p2.0 in
     plain_extra c.args.line.now c.requires.line c.requires.found
-    (tt & c.is_plain_text.ensures p1.0 & c.is_plain_text-2.ensures p1.1 & c.is_plain_text-3.ensures p2.1 & tt
-    & c.is_plain_text-4.ensures p3.1 & tt & c.are_plain_spare.ensures p4.1 & tt)
+    (tt & c.is_plain_text.ensures.0 p1.0 & c.is_plain_text-2.ensures.0 p1.1 & c.is_plain_text-3.ensures.0 p2.1 & tt
+    & c.is_plain_text-4.ensures.0 p3.1 & tt & c.are_plain_spare.ensures.0 p4.1 & tt)

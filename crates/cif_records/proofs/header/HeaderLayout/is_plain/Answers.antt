@@ -7,4 +7,4 @@ returns c = λ yes.
     let t = c.args._dates.now in
     let found = c.requires.found in
     plain_header c.args.line.now t.first t.last c.requires.line found.0 found.1 found.2 found.3 t.in_order
-    (tt & tt & c.are_plain_spare.ensures yes & tt)
+    (tt & tt & c.are_plain_spare.ensures.0 yes & tt)

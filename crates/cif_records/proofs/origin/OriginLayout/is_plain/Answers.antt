@@ -14,6 +14,6 @@ returns c = λ yes.
     let p1 = and_parts _ _ p2.0 in
     let t = c.args._times.now in
     plain_origin c.args.line.now t.working t.public c.requires.line c.requires.found
-    (tt & c.is_plain_text.ensures p1.0 & tt & tt & tt & c.is_plain_text-2.ensures p1.1 & c.is_plain_text-3.ensures p2.1
-    & c.is_plain_text-4.ensures p3.1 & c.is_plain_text-5.ensures p4.1 & c.are_plain_activities.ensures p5.1
-    & c.is_plain_text-6.ensures p6.1 & c.are_plain_spare.ensures p7.1 & tt)
+    (tt & c.is_plain_text.ensures.0 p1.0 & tt & tt & tt & c.is_plain_text-2.ensures.0 p1.1 & c.is_plain_text-3.ensures.0 p2.1
+    & c.is_plain_text-4.ensures.0 p3.1 & c.is_plain_text-5.ensures.0 p4.1 & c.are_plain_activities.ensures.0 p5.1
+    & c.is_plain_text-6.ensures.0 p6.1 & c.are_plain_spare.ensures.0 p7.1 & tt)

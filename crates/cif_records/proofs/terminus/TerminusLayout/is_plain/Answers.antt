@@ -11,5 +11,5 @@ returns c = λ yes.
     let p1 = and_parts _ _ p2.0 in
     let t = c.args._times.now in
     plain_terminus c.args.line.now t.working t.public c.requires.line c.requires.found
-    (tt & c.is_plain_text.ensures p1.0 & tt & tt & tt & c.is_plain_text-2.ensures p1.1 & c.is_plain_text-3.ensures p2.1
-    & c.are_plain_activities.ensures p3.1 & c.are_plain_spare.ensures p4.1 & tt)
+    (tt & c.is_plain_text.ensures.0 p1.0 & tt & tt & tt & c.is_plain_text-2.ensures.0 p1.1 & c.is_plain_text-3.ensures.0 p2.1
+    & c.are_plain_activities.ensures.0 p3.1 & c.are_plain_spare.ensures.0 p4.1 & tt)

@@ -9,7 +9,7 @@ pub returns : goal.returns
 returns c = λ yes.
     let line = c.args.line.now in
     let spelled : AllStandIn line trailer_table = (c.requires.found, (tt, tt)) in
-    let plain : ArePlain trailer_table line = tt & c.are_plain_spare.ensures yes & tt in
+    let plain : ArePlain trailer_table line = tt & c.are_plain_spare.ensures.0 yes & tt in
     record {
       value = record {};
       stands = spelled;
