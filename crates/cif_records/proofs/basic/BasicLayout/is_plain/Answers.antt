@@ -19,7 +19,8 @@ returns c = λ yes.
     let p1 = and_parts _ _ p2.0 in
     let t = c.args.terms.now in
     let found = c.requires.found in
-    plain_basic c.args.line.now c.requires.line t.dates.first t.dates.last t.days t.letter found.0 found.1 found.2 found.3 found.4 found.5 found.6
+    plain_basic c.args.line.now c.requires.line t.dates.first t.dates.last t.days t.letter
+    found.0 found.1 found.2 found.3 found.4 found.5 found.6
     t.dates.in_order (sym c.has_body.ensures ∙ p1.0)
     (tt & tt & tt & tt & tt & tt & tt & tt & c.is_plain_text.ensures.0 p1.1 & c.is_plain_text-2.ensures.0 p2.1
     & c.is_plain_text-3.ensures.0 p3.1 & tt & c.is_plain_text-4.ensures.0 p4.1 & tt & c.is_plain_text-5.ensures.0 p5.1
