@@ -1,2 +1,5 @@
+pub mod Body
+pub mod BodyParts
+pub mod Call
 pub mod Fault
 pub mod FirstRefusal

@@ -1,6 +1,7 @@
 pub mod Associations
 pub mod Basics
 pub mod Changes
+pub mod Details
 pub mod Extras
 pub mod Headers
 pub mod Identities

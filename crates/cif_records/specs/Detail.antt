@@ -1,6 +1,6 @@
 -- What a schedule says of its train, in the columns of its line.
-use Rattle.std.specs.Prelude.{ℕ, List, [], ◌∷◌, Option}
-use Rattle.cif_columns.specs.Field.{Row, row, columns, text}
+use Rattle.std.specs.Prelude.{ℕ, List, [], ◌∷◌, ◌++◌, Option, Some}
+use Rattle.cif_columns.specs.Field.{Row, row, columns, text, spare}
 use Rattle.cif_columns.specs.Text.{text_of}
 use Rattle.cif_records.specs.Bodies.{of_body}
 use Rattle.cif_records.specs.declared.detail.Detail.{Detail}
@@ -26,6 +26,10 @@ detail_rows detail =
     ∷ row 71 74 (of_body detail (λ d. text d.catering))
     ∷ row 75 78 (of_body detail (λ d. text d.branding))
     ∷ []
+
+-- the columns of a line of its own, which has the detail where a basic schedule has it and spaces elsewhere
+abbrev pub detail_table : Detail → List Row
+detail_table d = row 1 29 spare ∷ (detail_rows (Some d) ++ (row 79 80 spare ∷ []))
 
 -- the detail that stands in columns 30 to 78 of a line
 abbrev pub detail_in : List ℕ → Detail

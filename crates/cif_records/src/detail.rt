@@ -1,7 +1,7 @@
 //! What a schedule says of its train.
 ghost use Rattle.std.specs.Prelude.{◌≡◌, ◌+◌, ◌≤◌, ◌++◌, length, Some};
 ghost use Rattle.cif_columns.specs.Field.{AllFit, AllStandIn, plain_line};
-ghost use Rattle.cif_records.specs.Detail.{detail_rows};
+ghost use Rattle.cif_records.specs.Detail.{detail_in, detail_rows, detail_table};
 
 use cif_columns::{Field, Line, LineBuilder, Text, text_at};
 
@@ -45,9 +45,10 @@ pub struct Detail {
 }
 
 impl Detail {
-    /// The detail in columns 30 to 78.
-    pub(crate) fn read(line: &Line) -> Detail
-        ensures { AllStandIn line.now (detail_rows (Some result)) }
+    /// The detail in columns 30 to 78, whatever the other columns are. There is always one.
+    pub fn read(line: &Line) -> Detail
+        ensures stands { AllStandIn line.now (detail_rows (Some result)) }
+        ensures exact { result ≡ detail_in line.now }
     {
         Detail {
             status: text_at(line, 30),
@@ -68,6 +69,18 @@ impl Detail {
             catering: text_at(line, 71),
             branding: text_at(line, 75),
         }
+    }
+
+    /// A line of its own: columns 30 to 78 with their texts at the left, and spaces elsewhere.
+    pub fn write(&self) -> Line
+        ensures plain { result ≡ plain_line (detail_table self.now) }
+        ensures again { AllStandIn result (detail_table self.now) }
+    {
+        let mut line = LineBuilder::new();
+        line.put_spare::<29>();
+        self.put_on(&mut line);
+        line.put_spare::<2>();
+        line.finish()
     }
 
     /// Appends columns 30 to 78.

@@ -1,0 +1,19 @@
+-- What a journey has on its way: the record of a call, and what stands in its line.
+use Rattle.std.specs.Prelude.{ℕ, List, codes, cond}
+use Rattle.std.specs.Str.{bytes_eq}
+use Rattle.cif_columns.specs.Field.{columns}
+use Rattle.cif_extract.specs.declared.call.Call.{Call}
+use Rattle.cif_extract.specs.declared.call.Call.TheVariants.{At, Turn}
+use Rattle.cif_records.specs.SpellsChange.{change_in}
+use Rattle.cif_records.specs.SpellsStop.{stop_in}
+use Rattle.cif_records.specs.declared.record.Record.{Record}
+use Rattle.cif_records.specs.declared.record.Record.TheVariants.{Change, Stop}
+
+-- a call as a record of its kind
+abbrev pub call_record : Call → Record
+call_record (At stop) = Stop stop
+call_record (Turn change) = Change change
+
+-- the call that a line spells, if it spells one: what stands in its columns
+abbrev pub call_in : List ℕ → Call
+call_in line = cond (bytes_eq (columns 1 2 line) (codes "CR")) (Turn (change_in line)) (At (stop_in line))
