@@ -1,5 +1,11 @@
 pub mod Body
 pub mod BodyParts
 pub mod Call
+pub mod ExtractParts
 pub mod Fault
 pub mod FirstRefusal
+pub mod Grammar
+pub mod OrderOfRecords
+pub mod Reading
+pub mod SpellsExtract
+pub mod StopAt

@@ -6,7 +6,11 @@ mod call;
 mod clash;
 mod extract;
 mod fault;
+mod opened;
+mod place;
+mod reading;
 mod schedule;
+mod stop_at;
 mod writing;
 
 pub use body::Body;

@@ -1,0 +1,56 @@
+-- Lines that are kept, one after another.
+use Rattle.std.proofs.Common.{◌≡◌, ℕ, List, [], ◌∷◌, ◌++◌, map, Option, None, Some, ap, sym, ◌∙◌, refl, subst, append_assoc}
+use Rattle.std.proofs.lemmas.List.{map-append}
+use Rattle.cif_columns.specs.Field.{Row, AllStandIn, plain_line}
+use Rattle.cif_extract.specs.Body.{KeepAll, KeepBody, kept_tables, parts_in}
+use Rattle.cif_extract.specs.BodyParts.{BodyParts, extra_records, journey_records}
+use Rattle.cif_extract.specs.Call.{call_record}
+use Rattle.cif_extract.specs.Reading.{begun_journey}
+use Rattle.cif_extract.specs.declared.call.Call.{Call}
+use Rattle.cif_records.specs.Detail.{detail_table}
+use Rattle.cif_records.specs.SpellsRecord.{record_table}
+use Rattle.cif_records.specs.declared.detail.Detail.{Detail}
+use Rattle.cif_records.specs.declared.extra.Extra.{Extra}
+use Rattle.cif_records.specs.declared.origin.Origin.{Origin}
+use Rattle.cif_records.specs.declared.record.Record.{Record}
+use Rattle.cif_records.specs.declared.record.Record.TheVariants as of
+use Rattle.cif_records.specs.declared.terminus.Terminus.{Terminus}
+
+-- one line more
+pub KeepAll-more : (lines : List (List ℕ)) (tables : List (List Row)) (table : List Row) → KeepAll lines tables →
+    AllStandIn (plain_line table) table → KeepAll (lines ++ (plain_line table ∷ [])) (tables ++ (table ∷ []))
+KeepAll-more [] [] table kept stands = (stands, refl, tt)
+KeepAll-more [] (t ∷ tables) table kept stands = absurd kept
+KeepAll-more (line ∷ lines) [] table kept stands = absurd kept
+KeepAll-more (line ∷ lines) (t ∷ tables) table kept stands = (kept.0, kept.1, KeepAll-more lines tables table kept.2 stands)
+
+-- one record more
+pub kept-more : (lines : List (List ℕ)) (d : Detail) (records : List Record) (r : Record) → KeepAll lines (kept_tables d records) →
+    AllStandIn (plain_line (record_table r)) (record_table r) →
+    KeepAll (lines ++ (plain_line (record_table r) ∷ [])) (kept_tables d (records ++ (r ∷ [])))
+kept-more lines d records r kept stands =
+    subst (KeepAll (lines ++ (plain_line (record_table r) ∷ [])))
+    (ap (λ (ts : List (List Row)). detail_table d ∷ ts) (sym (map-append record_table records (r ∷ []))))
+    (KeepAll-more lines (kept_tables d records) (record_table r) kept stands)
+
+-- a call more
+pub journey-more : (x : Option Extra) (o : Origin) (calls : List Call) (call : Call) →
+    begun_journey x o calls ++ (call_record call ∷ []) ≡ begun_journey x o (calls ++ (call ∷ []))
+journey-more x o calls call =
+    append_assoc (extra_records x) (of.Origin o ∷ map call_record calls) (call_record call ∷ [])
+    ∙ ap (λ (rs : List Record). extra_records x ++ (of.Origin o ∷ rs)) (sym (map-append call_record calls (call ∷ [])))
+
+-- the last location
+pub journey-whole : (x : Option Extra) (o : Origin) (calls : List Call) (t : Terminus) →
+    begun_journey x o calls ++ (of.Terminus t ∷ []) ≡ extra_records x ++ journey_records o calls t
+journey-whole x o calls t = append_assoc (extra_records x) (of.Origin o ∷ map call_record calls) (of.Terminus t ∷ [])
+
+-- the lines of a schedule up to its last keep its body
+pub keep_body : (lines : List (List ℕ)) (d : Detail) (x : Option Extra) (o : Origin) (calls : List Call) (t : Terminus) →
+    KeepAll lines (kept_tables d (begun_journey x o calls)) → AllStandIn (plain_line (record_table (of.Terminus t))) (record_table (of.Terminus t)) →
+    KeepBody (lines ++ (plain_line (record_table (of.Terminus t)) ∷ []))
+    (record { detail = d; extra = x; origin = o; calls = calls; terminus = t })
+keep_body lines d x o calls t kept stands =
+    subst (λ records. KeepAll (lines ++ (plain_line (record_table (of.Terminus t)) ∷ [])) (kept_tables d records))
+    (journey-whole x o calls t)
+    (kept-more lines d (begun_journey x o calls) (of.Terminus t) kept stands)

@@ -1,0 +1,225 @@
+-- One record more, where it may stand.
+use Rattle.std.proofs.Common.{◌≡◌, List, [], ◌∷◌, ◌++◌, map, true, Option, None, Some, is_some, ap, refl, sym, ◌∙◌, subst, append_assoc}
+use Rattle.std.proofs.Common.{append-nil, inl, inr, ⊎_elim, IfSome}
+use Rattle.std.proofs.lemmas.List.{map-append}
+use Rattle.cif_columns.specs.Field.{AllStandIn, plain_line}
+use Rattle.cif_extract.specs.Body.{KeepAll, KeepSomeBody, kept_tables}
+use Rattle.cif_extract.specs.BodyParts.{extra_records, journey_records}
+use Rattle.cif_extract.specs.Call.{call_record}
+use Rattle.cif_extract.specs.Grammar.{AreSchedule, AreSchedules, HaveBody, HasTerms, records_before_trailer}
+use Rattle.cif_extract.specs.OrderOfRecords.{after_extra, may_stand}
+use Rattle.cif_extract.specs.Reading.{HasOwn, HasRead, HasReadAt, IsCancelled, IsKeepable, IsNone, IsOpened, IsWhole, IsWithin}
+use Rattle.cif_extract.specs.Reading.{Progress, begun, begun_journey, closed, kept, parts_with_header, step}
+use Rattle.cif_extract.specs.declared.call.Call.{Call}
+use Rattle.cif_extract.specs.declared.place.Place.{Place}
+use Rattle.cif_extract.specs.declared.place.Place.TheVariants as at
+use Rattle.cif_extract.specs.declared.schedule.Schedule.{Schedule}
+use Rattle.cif_records.specs.Bodies.{has_body}
+use Rattle.cif_records.specs.SpellsRecord.{record_table}
+use Rattle.cif_records.specs.declared.basic.Basic.{Basic}
+use Rattle.cif_records.specs.declared.detail.Detail.{Detail}
+use Rattle.cif_records.specs.declared.extra.Extra.{Extra}
+use Rattle.cif_records.specs.declared.header.Header.{Header}
+use Rattle.cif_records.specs.declared.kind.Kind.TheVariants.{Hd, Ti, Aa, Bs, Bx, Lo, Li, Cr, Lt, Zz}
+use Rattle.cif_records.specs.declared.origin.Origin.{Origin}
+use Rattle.cif_records.specs.declared.record.Record.{Record}
+use Rattle.cif_records.specs.declared.record.Record.TheVariants as of
+use Rattle.cif_records.specs.declared.association.Association.{Association}
+use Rattle.cif_records.specs.declared.tiploc.Tiploc.{Tiploc}
+use Rattle.cif_records.specs.declared.terminus.Terminus.{Terminus}
+use Rattle.cif_extract.proofs.GrammarLists.{behind_schedules, schedules_more}
+use Rattle.cif_extract.proofs.KeptLines.{journey-more, journey-whole, keep_body, kept-more}
+
+-- no schedule is being read
+pub record AreClosed (records : List Record) (p : Progress) : Type 0 where
+  pub header : Header
+  pub is_header : p.header ≡ Some header
+  pub groups : List Record
+  pub parts : records ≡ records_before_trailer (parts_with_header p header p.schedules) groups
+  pub are : AreSchedules groups p.schedules
+
+module _ (records : List Record) (p : Progress) where
+  -- where the records of the schedule that is being read are none
+  with_none : (w : IsWithin records p) → w.own ≡ [] → w.earlier ≡ p.schedules → AreClosed records p
+  with_none w none all = record {
+    header = w.header;
+    is_header = w.is_header;
+    groups = w.groups;
+    parts = w.parts ∙ ap (λ own. records_before_trailer (parts_with_header p w.header w.earlier) w.groups ++ own) none
+        ∙ append-nil (records_before_trailer (parts_with_header p w.header w.earlier) w.groups);
+    are = subst (AreSchedules w.groups) all w.are;
+  }
+
+  -- where these are a schedule, which is there already
+  with_one : (w : IsWithin records p) → (s : Schedule) → p.schedules ≡ w.earlier ++ (s ∷ []) → AreSchedule w.own s → AreClosed records p
+  with_one w s all is = record {
+    header = w.header;
+    is_header = w.is_header;
+    groups = w.groups ++ w.own;
+    parts = w.parts ∙ behind_schedules (parts_with_header p w.header w.earlier) w.groups w.own;
+    are = subst (AreSchedules (w.groups ++ w.own)) (sym all) (schedules_more w.groups w.own w.earlier s w.are is);
+  }
+
+  -- a cancellation without a journey
+  cancelled_alone : (earlier : List Schedule) (b : Basic) (c : IsCancelled p earlier b) (x : Option Extra) →
+      AreSchedule (of.Basic b ∷ extra_records x) c.schedule
+  cancelled_alone earlier b c x = record {
+    basic = b;
+    extra = x;
+    journey = [];
+    parts = ap (λ rs. of.Basic b ∷ rs) (sym (append-nil (extra_records x)));
+    terms = c.terms;
+    body = rw (c.has_none, c.body) (inl refl);
+  }
+
+  pub own_at : (place : Place) → place ≡ p.place → (w : IsWithin records p) → HasOwn place p w.earlier w.own
+  own_at place e w = subst (λ here. HasOwn here p w.earlier w.own) (sym e) w.here
+
+  pub closed_where : (place : Place) → place ≡ p.place → HasReadAt place records p → may_stand place Bs ≡ true → AreClosed records p
+  closed_where at.Start e h may = cc
+  closed_where at.Tiplocs e h may =
+      let (none, earlier, schedules, associations) = own_at at.Tiplocs e h in with_none h none (earlier ∙ sym schedules)
+  closed_where at.Associations e h may =
+      let (none, earlier, schedules) = own_at at.Associations e h in with_none h none (earlier ∙ sym schedules)
+  closed_where at.Basic e h may = cc
+  closed_where at.Extra e h may = cc
+  closed_where at.Cancelled e h may =
+      let (b, own, c) = own_at at.Cancelled e h in
+      with_one h c.schedule c.schedules (subst (λ rs. AreSchedule rs c.schedule) (sym own) (cancelled_alone h.earlier b c None))
+  closed_where at.CancelledExtra e h may =
+      let (b, x, own, c) = own_at at.CancelledExtra e h in
+      with_one h c.schedule c.schedules (subst (λ rs. AreSchedule rs c.schedule) (sym own) (cancelled_alone h.earlier b c (Some x)))
+  closed_where at.Journey e h may = cc
+  closed_where at.Schedules e h may = let (none, all) = own_at at.Schedules e h in with_none h none (sym all)
+  closed_where at.Ended e h may = cc
+
+  pub closed_here : HasRead records p → may_stand p.place Bs ≡ true → AreClosed records p
+  closed_here h may = closed_where p.place refl h may
+
+  -- a trailer may stand where a schedule may
+  trailer_where : (place : Place) → may_stand place Zz ≡ may_stand place Bs
+  trailer_where at.Start = refl
+  trailer_where at.Tiplocs = refl
+  trailer_where at.Associations = refl
+  trailer_where at.Basic = refl
+  trailer_where at.Extra = refl
+  trailer_where at.Cancelled = refl
+  trailer_where at.CancelledExtra = refl
+  trailer_where at.Journey = refl
+  trailer_where at.Schedules = refl
+  trailer_where at.Ended = refl
+
+  pub trailer_step : HasRead records p → may_stand p.place Zz ≡ true → HasRead (records ++ (of.Trailer ∷ [])) (step p of.Trailer)
+  trailer_step h may =
+      let c = closed_here h (sym (trailer_where p.place) ∙ may) in
+      record {
+        header = c.header;
+        is_header = c.is_header;
+        are = record { schedules = c.groups; parts = ap (λ rs. rs ++ (of.Trailer ∷ [])) c.parts; are_schedules = c.are };
+      }
+
+  -- a header, where nothing stands before it
+  header_where : (h : Header) (place : Place) → HasReadAt place records p → may_stand place Hd ≡ true →
+      HasRead (records ++ (of.Header h ∷ [])) (step p (of.Header h))
+  header_where header at.Start n may = record {
+    header = header;
+    is_header = refl;
+    earlier = [];
+    groups = [];
+    own = [];
+    parts = rw (n.none, n.tiplocs, n.associations) refl;
+    are = refl;
+    here = (refl, refl, n.schedules, n.associations);
+  }
+  header_where header at.Tiplocs h may = cc
+  header_where header at.Associations h may = cc
+  header_where header at.Basic h may = cc
+  header_where header at.Extra h may = cc
+  header_where header at.Cancelled h may = cc
+  header_where header at.CancelledExtra h may = cc
+  header_where header at.Journey h may = cc
+  header_where header at.Schedules h may = cc
+  header_where header at.Ended h may = cc
+
+  -- no schedule yet, and these associations
+  front_only : (w : IsWithin records p) → w.own ≡ [] → w.earlier ≡ [] →
+      records ≡ of.Header w.header ∷ (map of.Tiploc p.tiplocs ++ map of.Association p.associations)
+  front_only w none earlier =
+      let groups : w.groups ≡ [] = subst (AreSchedules w.groups) earlier w.are in
+      w.parts ∙ rw (none, groups)
+      (append-nil (of.Header w.header ∷ (map of.Tiploc p.tiplocs ++ (map of.Association p.associations ++ [])))
+      ∙ ap (λ rs. of.Header w.header ∷ (map of.Tiploc p.tiplocs ++ rs)) (append-nil (map of.Association p.associations)))
+
+  tiploc_more : (t : Tiploc) (header : Header) →
+      records ≡ of.Header header ∷ (map of.Tiploc p.tiplocs ++ map of.Association p.associations) → p.associations ≡ [] →
+      records ++ (of.Tiploc t ∷ [])
+      ≡ (of.Header header ∷ (map of.Tiploc (p.tiplocs ++ (t ∷ [])) ++ (map of.Association p.associations ++ []))) ++ []
+  tiploc_more t header parts none =
+      rw (parts, none, append-nil (map of.Tiploc p.tiplocs))
+      (ap (λ rs. of.Header header ∷ rs)
+      (sym (map-append of.Tiploc p.tiplocs (t ∷ [])) ∙ sym (append-nil (map of.Tiploc (p.tiplocs ++ (t ∷ []))))
+      ∙ sym (append-nil (map of.Tiploc (p.tiplocs ++ (t ∷ [])) ++ []))))
+
+  association_more : (a : Association) (header : Header) →
+      records ≡ of.Header header ∷ (map of.Tiploc p.tiplocs ++ map of.Association p.associations) →
+      records ++ (of.Association a ∷ [])
+      ≡ (of.Header header ∷ (map of.Tiploc p.tiplocs ++ (map of.Association (p.associations ++ (a ∷ [])) ++ []))) ++ []
+  association_more a header parts =
+      rw parts
+      (ap (λ rs. of.Header header ∷ rs)
+      (append_assoc (map of.Tiploc p.tiplocs) (map of.Association p.associations) (of.Association a ∷ [])
+      ∙ ap (λ rs. map of.Tiploc p.tiplocs ++ rs)
+      (sym (map-append of.Association p.associations (a ∷ [])) ∙ sym (append-nil (map of.Association (p.associations ++ (a ∷ [])))))
+      ∙ sym (append-nil (map of.Tiploc p.tiplocs ++ (map of.Association (p.associations ++ (a ∷ [])) ++ [])))))
+
+  tiploc_where : (t : Tiploc) (place : Place) → place ≡ p.place → HasReadAt place records p → may_stand place Ti ≡ true →
+      HasRead (records ++ (of.Tiploc t ∷ [])) (step p (of.Tiploc t))
+  tiploc_where t at.Start e h may = cc
+  tiploc_where t at.Tiplocs e h may =
+      let (none, earlier, schedules, associations) = own_at at.Tiplocs e h in
+      record {
+        header = h.header;
+        is_header = h.is_header;
+        earlier = [];
+        groups = [];
+        own = [];
+        parts = tiploc_more t h.header (front_only h none earlier) associations;
+        are = refl;
+        here = (refl, refl, schedules, associations);
+      }
+  tiploc_where t at.Associations e h may = cc
+  tiploc_where t at.Basic e h may = cc
+  tiploc_where t at.Extra e h may = cc
+  tiploc_where t at.Cancelled e h may = cc
+  tiploc_where t at.CancelledExtra e h may = cc
+  tiploc_where t at.Journey e h may = cc
+  tiploc_where t at.Schedules e h may = cc
+  tiploc_where t at.Ended e h may = cc
+
+  association_here : (a : Association) (w : IsWithin records p) → w.own ≡ [] → w.earlier ≡ [] → p.schedules ≡ [] →
+      IsWithin (records ++ (of.Association a ∷ [])) (step p (of.Association a))
+  association_here a w none earlier schedules = record {
+    header = w.header;
+    is_header = w.is_header;
+    earlier = [];
+    groups = [];
+    own = [];
+    parts = association_more a w.header (front_only w none earlier);
+    are = refl;
+    here = (refl, refl, schedules);
+  }
+
+  association_where : (a : Association) (place : Place) → place ≡ p.place → HasReadAt place records p → may_stand place Aa ≡ true →
+      HasRead (records ++ (of.Association a ∷ [])) (step p (of.Association a))
+  association_where a at.Start e h may = cc
+  association_where a at.Tiplocs e h may =
+      let (none, earlier, schedules, associations) = own_at at.Tiplocs e h in association_here a h none earlier schedules
+  association_where a at.Associations e h may =
+      let (none, earlier, schedules) = own_at at.Associations e h in association_here a h none earlier schedules
+  association_where a at.Basic e h may = cc
+  association_where a at.Extra e h may = cc
+  association_where a at.Cancelled e h may = cc
+  association_where a at.CancelledExtra e h may = cc
+  association_where a at.Journey e h may = cc
+  association_where a at.Schedules e h may = cc
+  association_where a at.Ended e h may = cc

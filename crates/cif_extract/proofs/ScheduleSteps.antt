@@ -1,0 +1,191 @@
+-- One record more of a schedule, where it may stand.
+use Rattle.std.proofs.Common.{◌≡◌, ◌⊎◌, List, [], ◌∷◌, ◌++◌, map, true, Option, None, Some, is_some, ap, refl, sym, ◌∙◌, subst, append_assoc}
+use Rattle.std.proofs.Common.{append-nil, inl, inr, ⊎_elim, IfSome}
+use Rattle.cif_columns.specs.Field.{AllStandIn, plain_line}
+use Rattle.cif_extract.specs.Body.{KeepAll, KeepBody, KeepSomeBody, kept_tables, parts_in}
+use Rattle.cif_extract.specs.BodyParts.{BodyParts, extra_records, journey_records}
+use Rattle.cif_extract.specs.Call.{call_record}
+use Rattle.cif_extract.specs.Grammar.{AreSchedule, AreSchedules, HaveBody, HasTerms, records_before_trailer}
+use Rattle.cif_extract.specs.OrderOfRecords.{after_extra, may_stand}
+use Rattle.cif_extract.specs.Reading.{HasOwn, HasRead, HasReadAt, IsCancelled, IsKeepable, IsOpened, IsWithin}
+use Rattle.cif_extract.specs.Reading.{Progress, begun, begun_journey, closed, kept, opened_by, parts_with_header, schedule_with, step}
+use Rattle.cif_extract.specs.declared.call.Call.{Call}
+use Rattle.cif_extract.specs.declared.call.Call.TheVariants.{At, Turn}
+use Rattle.cif_extract.specs.declared.opened.Opened.{Opened}
+use Rattle.cif_extract.specs.declared.place.Place.{Place}
+use Rattle.cif_extract.specs.declared.place.Place.TheVariants as at
+use Rattle.cif_extract.specs.declared.schedule.Schedule.{Schedule}
+use Rattle.cif_records.specs.Bodies.{has_body}
+use Rattle.cif_records.specs.Detail.{detail_table}
+use Rattle.cif_records.specs.SpellsRecord.{record_table}
+use Rattle.cif_records.specs.declared.basic.Basic.{Basic}
+use Rattle.cif_records.specs.declared.detail.Detail.{Detail}
+use Rattle.cif_records.specs.declared.extra.Extra.{Extra}
+use Rattle.cif_records.specs.declared.header.Header.{Header}
+use Rattle.cif_records.specs.declared.kind.Kind.TheVariants.{Bs, Bx, Lo, Li, Lt}
+use Rattle.cif_records.specs.declared.origin.Origin.{Origin}
+use Rattle.cif_records.specs.declared.record.Record.{Record}
+use Rattle.cif_records.specs.declared.record.Record.TheVariants as of
+use Rattle.cif_records.specs.declared.terminus.Terminus.{Terminus}
+use Rattle.cif_extract.proofs.GrammarLists.{behind_schedules, schedules_more}
+use Rattle.cif_extract.proofs.KeptLines.{journey-more, journey-whole, keep_body, kept-more}
+use Rattle.cif_extract.proofs.ReadingSteps.{AreClosed, closed_here, own_at}
+
+-- the plain line of the record spells it
+abbrev Again : Record → Type 0
+Again r = AllStandIn (plain_line (record_table r)) (record_table r)
+
+-- the progress with the line of a record more, at this place
+abbrev with_line : Progress → Place → Record → Progress
+with_line p place r = record p { place = place; lines = kept p.opened p.lines r }
+
+module _ (records : List Record) (p : Progress) where
+  -- a BS, behind whole schedules
+  begun_here : (b : Basic) → (d : Option Detail) (e : is_some d ≡ has_body b.letter) → b.detail ≡ d →
+      IfSome d (λ x. AllStandIn (plain_line (detail_table x)) (detail_table x)) → AreClosed records p →
+      HasRead (records ++ (of.Basic b ∷ [])) (begun p b d e)
+  begun_here b None e is again c = record {
+    header = c.header;
+    is_header = c.is_header;
+    earlier = p.schedules;
+    groups = c.groups;
+    own = of.Basic b ∷ [];
+    parts = ap (λ rs. rs ++ (of.Basic b ∷ [])) c.parts;
+    are = c.are;
+    here = (b, refl, record {
+      has_none = is;
+      opened = refl;
+      schedule = _;
+      schedules = refl;
+      terms = record { uid = refl; first = refl; last = refl; days = refl; letter = refl };
+      body = refl;
+    });
+  }
+  begun_here b (Some d) e is again c = record {
+    header = c.header;
+    is_header = c.is_header;
+    earlier = p.schedules;
+    groups = c.groups;
+    own = of.Basic b ∷ [];
+    parts = ap (λ rs. rs ++ (of.Basic b ∷ [])) c.parts;
+    are = c.are;
+    here = (b, refl, record {
+      detail = d;
+      has = is;
+      runs = e;
+      opened = refl;
+      schedules = refl;
+      lines = (again, refl, tt);
+    });
+  }
+
+  pub basic_step : (b : Basic) → IsKeepable (of.Basic b) → HasRead records p → may_stand p.place Bs ≡ true →
+      HasRead (records ++ (of.Basic b ∷ [])) (step p (of.Basic b))
+  basic_step b again h may = begun_here b b.detail b.bodied refl again (closed_here records p h may)
+
+  -- the line of a record more is kept
+  opened_more : (earlier : List Schedule) (b : Basic) (further : List Record) (place : Place) (r : Record) → Again r →
+      IsOpened p earlier b further → IsOpened (with_line p place r) earlier b (further ++ (r ∷ []))
+  opened_more earlier b further place r again o = record {
+    detail = o.detail;
+    has = o.has;
+    runs = o.runs;
+    opened = o.opened;
+    schedules = o.schedules;
+    lines = rw o.opened (kept-more p.lines o.detail further r o.lines again);
+  }
+
+  -- or not
+  cancelled_more : (earlier : List Schedule) (b : Basic) (place : Place) (r : Record) → IsCancelled p earlier b →
+      IsCancelled (with_line p place r) earlier b
+  cancelled_more earlier b place r c = record {
+    has_none = c.has_none;
+    opened = c.opened;
+    schedule = c.schedule;
+    schedules = c.schedules;
+    terms = c.terms;
+    body = c.body;
+  }
+
+  -- the records within the schedule that is being read
+  within_more : (place : Place) (r : Record) (own : List Record) (w : IsWithin records p) → w.own ++ (r ∷ []) ≡ own →
+      HasOwn place (with_line p place r) w.earlier own → IsWithin (records ++ (r ∷ [])) (with_line p place r)
+  within_more place r own w is here = record {
+    header = w.header;
+    is_header = w.is_header;
+    earlier = w.earlier;
+    groups = w.groups;
+    own = own;
+    parts = ap (λ rs. rs ++ (r ∷ [])) w.parts
+        ∙ append_assoc (records_before_trailer (parts_with_header p w.header w.earlier) w.groups) w.own (r ∷ [])
+        ∙ ap (λ rs. records_before_trailer (parts_with_header p w.header w.earlier) w.groups ++ rs) is;
+    are = w.are;
+    here = here;
+  }
+
+  extra_where : (x : Extra) (place : Place) → place ≡ p.place → Again (of.Extra x) → HasReadAt place records p → may_stand place Bx ≡ true →
+      HasReadAt (after_extra place) (records ++ (of.Extra x ∷ [])) (with_line p (after_extra place) (of.Extra x))
+  extra_where x at.Start e again h may = cc
+  extra_where x at.Tiplocs e again h may = cc
+  extra_where x at.Associations e again h may = cc
+  extra_where x at.Basic e again h may =
+      let (b, own, o) = own_at records p at.Basic e h in
+      within_more at.Extra (of.Extra x) (of.Basic b ∷ of.Extra x ∷ []) h (ap (λ rs. rs ++ (of.Extra x ∷ [])) own)
+      (b, x, refl, opened_more h.earlier b [] at.Extra (of.Extra x) again o)
+  extra_where x at.Extra e again h may = cc
+  extra_where x at.Cancelled e again h may =
+      let (b, own, c) = own_at records p at.Cancelled e h in
+      within_more at.CancelledExtra (of.Extra x) (of.Basic b ∷ of.Extra x ∷ []) h (ap (λ rs. rs ++ (of.Extra x ∷ [])) own)
+      (b, x, refl, cancelled_more h.earlier b at.CancelledExtra (of.Extra x) c)
+  extra_where x at.CancelledExtra e again h may = cc
+  extra_where x at.Journey e again h may = cc
+  extra_where x at.Schedules e again h may = cc
+  extra_where x at.Ended e again h may = cc
+
+  -- LO, behind a BS and a BX or none
+  origin_opened : (o : Origin) (w : IsWithin records p) (b : Basic) (x : Option Extra) → w.own ≡ of.Basic b ∷ extra_records x →
+      Again (of.Origin o) → IsOpened p w.earlier b (extra_records x) ⊎ IsCancelled p w.earlier b →
+      IsWithin (records ++ (of.Origin o ∷ [])) (step p (of.Origin o))
+  origin_opened o w b x own again or =
+      within_more at.Journey (of.Origin o) (of.Basic b ∷ begun_journey x o []) w (ap (λ rs. rs ++ (of.Origin o ∷ [])) own)
+      (b, x, o, [], refl, ⊎_elim
+      (λ opened. inl (opened_more w.earlier b (extra_records x) at.Journey (of.Origin o) again opened))
+      (λ cancelled. inr (cancelled_more w.earlier b at.Journey (of.Origin o) cancelled)) or)
+
+  origin_where : (o : Origin) (place : Place) → place ≡ p.place → Again (of.Origin o) → HasReadAt place records p →
+      may_stand place Lo ≡ true → HasRead (records ++ (of.Origin o ∷ [])) (step p (of.Origin o))
+  origin_where o at.Start e again h may = cc
+  origin_where o at.Tiplocs e again h may = cc
+  origin_where o at.Associations e again h may = cc
+  origin_where o at.Basic e again h may =
+      let (b, own, opened) = own_at records p at.Basic e h in origin_opened o h b None own again (inl opened)
+  origin_where o at.Extra e again h may =
+      let (b, x, own, opened) = own_at records p at.Extra e h in origin_opened o h b (Some x) own again (inl opened)
+  origin_where o at.Cancelled e again h may =
+      let (b, own, c) = own_at records p at.Cancelled e h in origin_opened o h b None own again (inr c)
+  origin_where o at.CancelledExtra e again h may =
+      let (b, x, own, c) = own_at records p at.CancelledExtra e h in origin_opened o h b (Some x) own again (inr c)
+  origin_where o at.Journey e again h may = cc
+  origin_where o at.Schedules e again h may = cc
+  origin_where o at.Ended e again h may = cc
+
+  -- LI and CR
+  call_where : (call : Call) (place : Place) → place ≡ p.place → Again (call_record call) → HasReadAt place records p →
+      may_stand place Li ≡ true → IsWithin (records ++ (call_record call ∷ [])) (with_line p at.Journey (call_record call))
+  call_where call at.Start e again h may = cc
+  call_where call at.Tiplocs e again h may = cc
+  call_where call at.Associations e again h may = cc
+  call_where call at.Basic e again h may = cc
+  call_where call at.Extra e again h may = cc
+  call_where call at.Cancelled e again h may = cc
+  call_where call at.CancelledExtra e again h may = cc
+  call_where call at.Journey e again h may =
+      let (b, x, o, calls, own, or) = own_at records p at.Journey e h in
+      within_more at.Journey (call_record call) (of.Basic b ∷ begun_journey x o (calls ++ (call ∷ []))) h
+      (ap (λ rs. rs ++ (call_record call ∷ [])) own ∙ ap (λ rs. of.Basic b ∷ rs) (journey-more x o calls call))
+      (b, x, o, calls ++ (call ∷ []), refl, ⊎_elim
+      (λ opened. inl (subst (IsOpened (with_line p at.Journey (call_record call)) h.earlier b) (journey-more x o calls call)
+      (opened_more h.earlier b (begun_journey x o calls) at.Journey (call_record call) again opened)))
+      (λ cancelled. inr (cancelled_more h.earlier b at.Journey (call_record call) cancelled)) or)
+  call_where call at.Schedules e again h may = cc
+  call_where call at.Ended e again h may = cc

@@ -1,0 +1,81 @@
+-- What a line that is taken comes to, by its kind.
+use Rattle.std.proofs.Common.{◌≡◌, ℕ, true, List, Option, Some, None, ap, refl}
+use Rattle.cif_columns.specs.Field.{AllStandIn, plain_line}
+use Rattle.cif_columns.specs.declared.refusal.Refusal.{Refusal}
+use Rattle.std.specs.Option.{option_or}
+use Rattle.cif_extract.specs.OrderOfRecords.{after_extra, may_stand}
+use Rattle.cif_extract.specs.Reading.{IsKeepable, IsOnTheWay, Progress, kept, refusal_here, step}
+use Rattle.cif_extract.specs.declared.place.Place.{Place}
+use Rattle.cif_extract.specs.declared.place.Place.TheVariants as at
+use Rattle.cif_records.specs.Kind.{kind_in}
+use Rattle.cif_records.specs.Record.{record_refusal, refusal_as}
+use Rattle.cif_records.specs.SpellsRecord.{SpellsRecord, record_table}
+use Rattle.cif_records.specs.declared.kind.Kind.{Kind}
+use Rattle.cif_records.specs.declared.kind.Kind.TheVariants.{Bx, Lt}
+use Rattle.cif_records.specs.declared.record.Record.{Record}
+use Rattle.cif_records.specs.declared.record.Record.TheVariants as of
+use Rattle.cif_records.specs.declared.terminus.Terminus.{Terminus}
+use Rattle.cif_extract.proofs.RecordKinds.{record_kind, spelled_kind}
+
+or_none : (refusal : Option Refusal) → option_or refusal None ≡ refusal
+or_none None = refl
+or_none (Some why) = refl
+
+-- where a kind may stand, a line of it is refused for its fields alone
+pub refusal_of_fields : (place : Place) (line : List ℕ) (kind : Kind) → kind_in line ≡ Some kind → may_stand place kind ≡ true →
+    refusal_here place (kind_in line) line ≡ refusal_as (Some kind) line
+refusal_of_fields place line kind is allowed = rw (is, allowed) (or_none (refusal_as (Some kind) line))
+
+pub refusal_of_record : (place : Place) (line : List ℕ) (kind : Kind) → kind_in line ≡ Some kind → may_stand place kind ≡ true →
+    refusal_here place (kind_in line) line ≡ record_refusal line
+unfolding record_refusal
+refusal_of_record place line kind is allowed = rw (is, allowed) (or_none (refusal_as (Some kind) line))
+
+-- one step by a record whose line is kept
+module _ (p : Progress) where
+  -- what the step comes to where the place after it is this
+  abbrev pub IsStep : Place → Record → Type 0
+  IsStep place r = IsKeepable r × (record p { place = place; lines = kept p.opened p.lines r } ≡ step p r)
+
+  pub step_on_the_way : (r : Record) → IsOnTheWay (Some (record_kind r)) → AllStandIn (plain_line (record_table r)) (record_table r) →
+      IsStep at.Journey r
+  step_on_the_way (of.Header x) h stands = absurd h
+  step_on_the_way (of.Tiploc x) h stands = absurd h
+  step_on_the_way (of.Association x) h stands = absurd h
+  step_on_the_way (of.Basic x) h stands = absurd h
+  step_on_the_way (of.Extra x) h stands = absurd h
+  step_on_the_way (of.Origin x) h stands = (stands, refl)
+  step_on_the_way (of.Stop x) h stands = (stands, refl)
+  step_on_the_way (of.Change x) h stands = (stands, refl)
+  step_on_the_way (of.Terminus x) h stands = absurd h
+  step_on_the_way of.Trailer h stands = absurd h
+
+  pub step_extra : (r : Record) → record_kind r ≡ Bx → AllStandIn (plain_line (record_table r)) (record_table r) →
+      IsStep (after_extra p.place) r
+  step_extra (of.Header x) h stands = cc
+  step_extra (of.Tiploc x) h stands = cc
+  step_extra (of.Association x) h stands = cc
+  step_extra (of.Basic x) h stands = cc
+  step_extra (of.Extra x) h stands = (stands, refl)
+  step_extra (of.Origin x) h stands = cc
+  step_extra (of.Stop x) h stands = cc
+  step_extra (of.Change x) h stands = cc
+  step_extra (of.Terminus x) h stands = cc
+  step_extra of.Trailer h stands = cc
+
+-- a record of this kind is a last location
+pub is_terminus : (r : Record) → record_kind r ≡ Lt → (t : Terminus) × (r ≡ of.Terminus t)
+is_terminus (of.Header x) h = cc
+is_terminus (of.Tiploc x) h = cc
+is_terminus (of.Association x) h = cc
+is_terminus (of.Basic x) h = cc
+is_terminus (of.Extra x) h = cc
+is_terminus (of.Origin x) h = cc
+is_terminus (of.Stop x) h = cc
+is_terminus (of.Change x) h = cc
+is_terminus (of.Terminus x) h = (x, refl)
+is_terminus of.Trailer h = cc
+
+-- the kind of what a line spells, where it is known
+pub kind_here : (line : List ℕ) (r : Record) (kind : Kind) → SpellsRecord line r → kind_in line ≡ Some kind → record_kind r ≡ kind
+kind_here line r kind spells is = let there = spelled_kind line r spells in cc

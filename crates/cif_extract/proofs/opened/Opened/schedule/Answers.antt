@@ -1,0 +1,6 @@
+use Rattle.std.proofs.Common.{refl}
+use Rattle.cif_extract.proofs.Schedules.{same_schedule}
+use Rattle.cif_extract.proofs.opened.Opened.schedule.Goals as goal
+
+pub returns : goal.returns
+returns c = same_schedule _ _ refl refl refl refl refl refl

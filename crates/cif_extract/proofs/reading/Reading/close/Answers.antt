@@ -1,0 +1,18 @@
+use Rattle.std.proofs.Common.{◌≡◌, ◌∙◌, ◌++◌, ◌∷◌, [], List, ap, refl}
+use Rattle.std.proofs.lemmas.Result.{err_from_is_err_and}
+use Rattle.cif_extract.specs.Body.{parts_in}
+use Rattle.cif_extract.specs.Reading.{progress_of, schedule_with, Progress}
+use Rattle.cif_extract.specs.declared.schedule.Schedule.{Schedule}
+use Rattle.cif_extract.proofs.reading.Reading.close.Goals as goal
+
+pub returns-in_err-push : goal.returns-in_err-push
+returns-in_err-push c =
+    let p = err_from_is_err_and c.from_residual-in_err-push.result c.from_residual-in_err-push.ensures.1 in
+    rw (p.1, p.2) tt
+
+pub returns : goal.returns
+returns c =
+    let before : Progress = progress_of c.args.self.now in
+    ap (λ (schedules : List Schedule). record before { schedules = schedules })
+    (c.in_ok-push.ensures ∙ ap (λ (s : Schedule). before.schedules ++ (s ∷ []))
+    (c.schedule.ensures ∙ ap (schedule_with c.args.opened) (c.in_ok-body.ensures ∙ ap parts_in c.deref.ensures.value)))

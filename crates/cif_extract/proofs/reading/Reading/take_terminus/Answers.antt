@@ -1,0 +1,27 @@
+use Rattle.std.proofs.Common.{sym, ◌∙◌, subst, ap}
+use Rattle.cif_extract.specs.Reading.{Progress, progress_of}
+use Rattle.cif_records.specs.SpellsRecord.{SpellsRecord}
+use Rattle.cif_records.specs.declared.kind.Kind.TheVariants.{Lt}
+use Rattle.cif_records.specs.declared.record.Record.TheVariants as of
+use Rattle.cif_extract.proofs.BasicSteps.{closing, terminus_none}
+use Rattle.cif_extract.proofs.TakenLines.{is_terminus, kind_here}
+use Rattle.cif_extract.proofs.reading.Reading.take_terminus.Goals as goal
+
+pub close-requires : goal.close-requires
+close-requires c = ?
+
+pub returns-in-Some : goal.returns-in-Some
+returns-in-Some c =
+    let (fine, taken) = c.in_ok-keep.ensures in
+    let (r, spells, again, is) = taken in
+    let (t, same) = is_terminus r (kind_here c.args.line.now r Lt spells c.requires.kind) in
+    closing (progress_of c.args.self.now) (progress_of c.keep.new.self) t (rw same at is) c.in-Some.opened (progress_of c.close.new.self) _ c.args.line.now c.close.result
+    (sym c.take.ensures.value ∙ c.in-Some.is) (rw c.take.ensures.after at c.close.ensures) fine (rw same at spells) (rw same at again)
+
+pub returns-in-None : goal.returns-in-None
+returns-in-None c =
+    let (fine, taken) = c.in_ok-keep.ensures in
+    let (r, spells, again, is) = taken in
+    let (t, same) = is_terminus r (kind_here c.args.line.now r Lt spells c.requires.kind) in
+    (fine, (of.Terminus t, rw same at spells, rw same at again, rw c.take.ensures.after
+    (terminus_none (progress_of c.args.self.now) (progress_of c.keep.new.self) t (rw same at is) (sym c.take.ensures.value ∙ c.in-None.is))))

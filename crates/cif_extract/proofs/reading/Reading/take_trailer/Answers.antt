@@ -1,0 +1,6 @@
+use Rattle.std.proofs.Common.{refl}
+use Rattle.cif_records.specs.declared.record.Record.TheVariants as of
+use Rattle.cif_extract.proofs.reading.Reading.take_trailer.Goals as goal
+
+pub returns : goal.returns
+returns c = (c.in_ok-read.ensures.0, (of.Trailer, c.in_ok-read.ensures.1, tt, refl))

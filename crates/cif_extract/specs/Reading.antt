@@ -1,0 +1,255 @@
+-- What a reading has come to, for the contracts of the reader's own steps. No clause of a public function cites it.
+use Rattle.std.specs.Prelude.{◌≡◌, ◌⊎◌, ℕ, Bool, List, [], ◌∷◌, ◌++◌, Option, None, Some, Result, Ok, Err, IfSome, is_some, map, true, false}
+use Rattle.cif_columns.specs.Field.{AllStandIn, plain_line}
+use Rattle.cif_columns.specs.declared.refusal.Refusal.{Refusal}
+use Rattle.cif_columns.specs.declared.refusal.Refusal.TheVariants.{UnknownRecord, OutOfOrder}
+use Rattle.cif_extract.specs.Body.{KeepAll, kept_tables, parts_in}
+use Rattle.cif_extract.specs.BodyParts.{BodyParts, extra_records}
+use Rattle.cif_extract.specs.Call.{call_record}
+use Rattle.cif_extract.specs.ExtractParts.{ExtractParts}
+use Rattle.cif_extract.specs.Grammar.{AreExtract, AreSchedules, HasTerms, records_before_trailer}
+use Rattle.cif_extract.specs.OrderOfRecords.{after_extra, may_stand}
+use Rattle.cif_extract.specs.declared.call.Call.{Call}
+use Rattle.cif_extract.specs.declared.opened.Opened.{Opened}
+use Rattle.cif_extract.specs.declared.place.Place.{Place}
+use Rattle.cif_extract.specs.declared.place.Place.TheVariants as at
+use Rattle.cif_extract.specs.declared.reading.Reading.{Reading}
+use Rattle.cif_extract.specs.declared.schedule.Schedule.{Schedule}
+use Rattle.cif_extract.specs.declared.stop_at.StopAt.{StopAt}
+use Rattle.cif_extract.specs.declared.stop_at.StopAt.TheVariants as stop
+use Rattle.cif_records.specs.Bodies.{has_body}
+use Rattle.cif_records.specs.Checks.{first_of, unless}
+use Rattle.cif_records.specs.Detail.{detail_table}
+use Rattle.cif_records.specs.Kind.{kind_in}
+use Rattle.cif_records.specs.Record.{refusal_as}
+use Rattle.cif_records.specs.SpellsRecord.{SpellsRecord, record_table}
+use Rattle.cif_records.specs.declared.association.Association.{Association}
+use Rattle.cif_records.specs.declared.basic.Basic.{Basic}
+use Rattle.cif_records.specs.declared.detail.Detail.{Detail}
+use Rattle.cif_records.specs.declared.extra.Extra.{Extra}
+use Rattle.cif_records.specs.declared.header.Header.{Header}
+use Rattle.cif_records.specs.declared.kind.Kind.{Kind}
+use Rattle.cif_records.specs.declared.kind.Kind.TheVariants.{Lo, Li, Cr}
+use Rattle.cif_records.specs.declared.origin.Origin.{Origin}
+use Rattle.cif_records.specs.declared.record.Record.{Record}
+use Rattle.cif_records.specs.declared.record.Record.TheVariants as of
+use Rattle.cif_records.specs.declared.tiploc.Tiploc.{Tiploc}
+
+-- the fields of a reading, its vectors as lists
+pub record Progress : Type 0 where
+  pub place : Place
+  pub header : Option Header
+  pub tiplocs : List Tiploc
+  pub associations : List Association
+  pub schedules : List Schedule
+  pub opened : Option Opened
+  pub lines : List (List ℕ)
+
+abbrev pub progress_of : Reading → Progress
+progress_of r = record {
+  place = r.place;
+  header = r.header;
+  tiplocs = r.tiplocs.items;
+  associations = r.associations.items;
+  schedules = r.schedules.items;
+  opened = r.opened;
+  lines = r.lines.items;
+}
+
+-- a schedule that has been opened by a BS of a letter with a body
+abbrev pub opened_by : (b : Basic) → true ≡ has_body b.letter → Opened
+opened_by b runs = record {
+  uid = b.uid;
+  first = b.first;
+  last = b.last;
+  days = b.days;
+  letter = b.letter;
+  in_order = b.in_order;
+  runs = runs;
+}
+
+-- that schedule with its body
+abbrev pub schedule_with : Opened → BodyParts → Schedule
+schedule_with o body = record {
+  uid = o.uid;
+  first = o.first;
+  last = o.last;
+  days = o.days;
+  letter = o.letter;
+  body = Some body;
+  in_order = o.in_order;
+  bodied = o.runs;
+}
+
+-- the schedule of a BS of the letter that has no body
+abbrev pub cancellation : (b : Basic) → false ≡ has_body b.letter → Schedule
+cancellation b none = record {
+  uid = b.uid;
+  first = b.first;
+  last = b.last;
+  days = b.days;
+  letter = b.letter;
+  body = None;
+  in_order = b.in_order;
+  bodied = none;
+}
+
+-- a BS, by its detail
+abbrev pub begun : Progress → (b : Basic) → (d : Option Detail) → is_some d ≡ has_body b.letter → Progress
+begun p b None none = record p {
+  place = at.Cancelled;
+  schedules = p.schedules ++ (cancellation b none ∷ []);
+  opened = None;
+}
+begun p b (Some d) runs = record p {
+  place = at.Basic;
+  opened = Some (opened_by b runs);
+  lines = plain_line (detail_table d) ∷ [];
+}
+
+-- the line of a record, kept if its schedule has a body
+abbrev pub kept : Option Opened → List (List ℕ) → Record → List (List ℕ)
+kept None lines r = lines
+kept (Some o) lines r = lines ++ (plain_line (record_table r) ∷ [])
+
+-- the schedules so far, and the one that has been opened with these lines
+abbrev pub closed : List Schedule → Option Opened → List (List ℕ) → List Schedule
+closed schedules None lines = schedules
+closed schedules (Some o) lines = schedules ++ (schedule_with o (parts_in lines) ∷ [])
+
+-- what one record more comes to
+abbrev pub step : Progress → Record → Progress
+step p (of.Header h) = record p { place = at.Tiplocs; header = Some h }
+step p (of.Tiploc t) = record p { place = at.Tiplocs; tiplocs = p.tiplocs ++ (t ∷ []) }
+step p (of.Association a) = record p { place = at.Associations; associations = p.associations ++ (a ∷ []) }
+step p (of.Basic b) = begun p b b.detail b.bodied
+step p (of.Extra x) = record p { place = after_extra p.place; lines = kept p.opened p.lines (of.Extra x) }
+step p (of.Origin o) = record p { place = at.Journey; lines = kept p.opened p.lines (of.Origin o) }
+step p (of.Stop s) = record p { place = at.Journey; lines = kept p.opened p.lines (of.Stop s) }
+step p (of.Change c) = record p { place = at.Journey; lines = kept p.opened p.lines (of.Change c) }
+step p (of.Terminus t) = record p {
+  place = at.Schedules;
+  schedules = closed p.schedules p.opened (kept p.opened p.lines (of.Terminus t));
+  opened = None;
+  lines = kept p.opened p.lines (of.Terminus t);
+}
+step p of.Trailer = record p { place = at.Ended }
+
+-- the first reason to refuse a line that stands here
+abbrev pub refusal_here : Place → Option Kind → List ℕ → Option Refusal
+refusal_here place None line = Some UnknownRecord
+refusal_here place (Some kind) line = first_of (unless (may_stand place kind) OutOfOrder ∷ refusal_as (Some kind) line ∷ [])
+
+-- the plain line that is kept of a record, or of its detail, spells it again
+abbrev pub IsKeepable : Record → Type 0
+IsKeepable (of.Basic b) = IfSome b.detail (λ d. AllStandIn (plain_line (detail_table d)) (detail_table d))
+IsKeepable (of.Header h) = Unit {0}
+IsKeepable (of.Tiploc t) = Unit {0}
+IsKeepable (of.Association a) = Unit {0}
+IsKeepable of.Trailer = Unit {0}
+IsKeepable r = AllStandIn (plain_line (record_table r)) (record_table r)
+
+-- what taking a line gives where this is the first reason to refuse it: the reason, or one step more with the record that it spells
+abbrev pub IsTaken : Option Refusal → List ℕ → Progress → Result Unit StopAt → Progress → Type 0
+IsTaken refusal line before (Ok done) after = (refusal ≡ None) × ((r : Record) × SpellsRecord line r × IsKeepable r × (after ≡ step before r))
+IsTaken refusal line before (Err (stop.Refused why)) after = refusal ≡ Some why
+IsTaken refusal line before (Err stop.Memory) after = Unit {0}
+
+-- what keeping a line gives where this is the first reason to refuse it: the reason, or its record's plain line more, if it is kept
+abbrev pub IsKept : Option Refusal → List ℕ → Progress → Result Unit StopAt → Progress → Type 0
+IsKept refusal line before (Ok done) after = (refusal ≡ None) × ((r : Record) × SpellsRecord line r
+    × AllStandIn (plain_line (record_table r)) (record_table r) × (after ≡ record before { lines = kept before.opened before.lines r }))
+IsKept refusal line before (Err (stop.Refused why)) after = refusal ≡ Some why
+IsKept refusal line before (Err stop.Memory) after = Unit {0}
+
+-- what closing a schedule gives: one schedule more, with the body that the lines keep
+abbrev pub IsClosed : Progress → Opened → Result Unit StopAt → Progress → Type 0
+IsClosed before o (Ok done) after = after ≡ record before { schedules = closed before.schedules (Some o) before.lines }
+IsClosed before o (Err (stop.Refused why)) after = ⊥
+IsClosed before o (Err stop.Memory) after = Unit {0}
+
+-- the kinds of a journey, but for its last
+abbrev pub IsOnTheWay : Option Kind → Type 0
+IsOnTheWay (Some Lo) = Unit {0}
+IsOnTheWay (Some Li) = Unit {0}
+IsOnTheWay (Some Cr) = Unit {0}
+IsOnTheWay _ = ⊥
+
+-- A BS of a letter with a body and these further records of its schedule have come. Their lines are kept.
+pub record IsOpened (p : Progress) (earlier : List Schedule) (b : Basic) (further : List Record) : Type 0 where
+  pub detail : Detail
+  pub has : b.detail ≡ Some detail
+  pub runs : true ≡ has_body b.letter
+  pub opened : p.opened ≡ Some (opened_by b runs)
+  pub schedules : p.schedules ≡ earlier
+  pub lines : KeepAll p.lines (kept_tables detail further)
+
+-- a BS of the letter without a body has come, and its schedule is there already
+pub record IsCancelled (p : Progress) (earlier : List Schedule) (b : Basic) : Type 0 where
+  pub has_none : b.detail ≡ None
+  pub opened : p.opened ≡ None
+  pub schedule : Schedule
+  pub schedules : p.schedules ≡ earlier ++ (schedule ∷ [])
+  pub terms : HasTerms b schedule
+  pub body : schedule.body ≡ None
+
+-- a journey that has begun
+abbrev pub begun_journey : Option Extra → Origin → List Call → List Record
+begun_journey x o calls = extra_records x ++ (of.Origin o ∷ map call_record calls)
+
+-- the records of the schedule that is being read, after those of the earlier ones
+abbrev pub HasOwn : Place → Progress → List Schedule → List Record → Type 0
+HasOwn at.Start p earlier own = ⊥
+HasOwn at.Tiplocs p earlier own = (own ≡ []) × (earlier ≡ []) × (p.schedules ≡ []) × (p.associations ≡ [])
+HasOwn at.Associations p earlier own = (own ≡ []) × (earlier ≡ []) × (p.schedules ≡ [])
+HasOwn at.Basic p earlier own = (b : Basic) × (own ≡ of.Basic b ∷ []) × IsOpened p earlier b []
+HasOwn at.Extra p earlier own = (b : Basic) × (x : Extra) × (own ≡ of.Basic b ∷ of.Extra x ∷ [])
+    × IsOpened p earlier b (of.Extra x ∷ [])
+HasOwn at.Cancelled p earlier own = (b : Basic) × (own ≡ of.Basic b ∷ []) × IsCancelled p earlier b
+HasOwn at.CancelledExtra p earlier own = (b : Basic) × (x : Extra) × (own ≡ of.Basic b ∷ of.Extra x ∷ []) × IsCancelled p earlier b
+HasOwn at.Journey p earlier own = (b : Basic) × (x : Option Extra) × (o : Origin) × (calls : List Call)
+    × (own ≡ of.Basic b ∷ begun_journey x o calls) × (IsOpened p earlier b (begun_journey x o calls) ⊎ IsCancelled p earlier b)
+HasOwn at.Schedules p earlier own = (own ≡ []) × (p.schedules ≡ earlier)
+HasOwn at.Ended p earlier own = ⊥
+
+-- what a reading holds, by its header
+abbrev pub parts_with_header : Progress → Header → List Schedule → ExtractParts
+parts_with_header p h schedules = record {
+  header = h;
+  tiplocs = p.tiplocs;
+  associations = p.associations;
+  schedules = schedules;
+}
+
+-- the records up to somewhere before the trailer
+pub record IsWithin (records : List Record) (p : Progress) : Type 0 where
+  pub header : Header
+  pub is_header : p.header ≡ Some header
+  pub earlier : List Schedule
+  pub groups : List Record
+  pub own : List Record
+  pub parts : records ≡ records_before_trailer (parts_with_header p header earlier) groups ++ own
+  pub are : AreSchedules groups earlier
+  pub here : HasOwn p.place p earlier own
+
+-- no record yet
+pub record IsNone (records : List Record) (p : Progress) : Type 0 where
+  pub none : records ≡ []
+  pub tiplocs : p.tiplocs ≡ []
+  pub associations : p.associations ≡ []
+  pub schedules : p.schedules ≡ []
+
+-- a whole extract
+pub record IsWhole (records : List Record) (p : Progress) : Type 0 where
+  pub header : Header
+  pub is_header : p.header ≡ Some header
+  pub are : AreExtract records (parts_with_header p header p.schedules)
+
+-- the records so far came to this
+abbrev pub HasReadAt : Place → List Record → Progress → Type 0
+HasReadAt at.Start records p = IsNone records p
+HasReadAt at.Ended records p = IsWhole records p
+HasReadAt _ records p = IsWithin records p
+
+abbrev pub HasRead : List Record → Progress → Type 0
+HasRead records p = HasReadAt p.place records p

@@ -1,0 +1,65 @@
+//! Where a record may stand.
+ghost use Rattle.std.specs.Prelude.{◌≡◌};
+ghost use Rattle.cif_extract.specs.OrderOfRecords.{after_extra, may_stand};
+
+use cif_records::Kind;
+
+/// A place in an extract, by the record before it.
+#[derive(Clone, Copy)]
+pub(crate) enum Place {
+    /// The start of the input.
+    Start,
+    /// After HD or TI.
+    Tiplocs,
+    /// After AA.
+    Associations,
+    /// After the BS of a schedule that runs.
+    Basic,
+    /// After its BX.
+    Extra,
+    /// After the BS of a cancellation.
+    Cancelled,
+    /// After its BX.
+    CancelledExtra,
+    /// After LO, LI or CR.
+    Journey,
+    /// After LT.
+    Schedules,
+    /// After ZZ.
+    Ended,
+}
+
+impl Place {
+    /// Whether a record of this kind may stand here.
+    pub(crate) fn allows(self, kind: Kind) -> bool
+        ensures { result ≡ may_stand self kind }
+    {
+        match self {
+            Place::Start => matches!(kind, Kind::Hd),
+            Place::Tiplocs => matches!(
+                kind,
+                Kind::Ti | Kind::Ta | Kind::Td | Kind::Aa | Kind::Bs | Kind::Zz
+            ),
+            Place::Associations => matches!(kind, Kind::Aa | Kind::Bs | Kind::Zz),
+            Place::Basic => matches!(kind, Kind::Bx | Kind::Lo),
+            Place::Extra => matches!(kind, Kind::Lo),
+            Place::Cancelled => matches!(kind, Kind::Bx | Kind::Lo | Kind::Bs | Kind::Zz),
+            Place::CancelledExtra => matches!(kind, Kind::Lo | Kind::Bs | Kind::Zz),
+            Place::Journey => matches!(kind, Kind::Li | Kind::Cr | Kind::Lt),
+            Place::Schedules => matches!(kind, Kind::Bs | Kind::Zz),
+            Place::Ended => false,
+        }
+    }
+
+    /// The place after a BX.
+    pub(crate) fn after_extra(self) -> Place
+        ensures { result ≡ after_extra self }
+    {
+        match self {
+            Place::Cancelled => Place::CancelledExtra,
+            Place::Start | Place::Tiplocs | Place::Associations | Place::Basic => Place::Extra,
+            Place::Extra | Place::CancelledExtra | Place::Journey => Place::Extra,
+            Place::Schedules | Place::Ended => Place::Extra,
+        }
+    }
+}

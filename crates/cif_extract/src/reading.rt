@@ -1,0 +1,226 @@
+//! What the lines of an extract have come to.
+ghost use Rattle.std.specs.Prelude.{◌≡◌, ◌++◌, ◌∷◌, [], List, Some, OnOk, IfOk};
+ghost use Rattle.cif_records.specs.Association.{association_refusal};
+ghost use Rattle.cif_records.specs.Basic.{basic_refusal};
+ghost use Rattle.cif_records.specs.Header.{header_refusal};
+ghost use Rattle.cif_records.specs.Kind.{kind_in};
+ghost use Rattle.cif_records.specs.Record.{record_refusal};
+ghost use Rattle.cif_records.specs.Terminus.{terminus_refusal};
+ghost use Rattle.cif_records.specs.Tiploc.{tiploc_refusal};
+ghost use Rattle.cif_records.specs.Trailer.{trailer_refusal};
+
+use crate::opened::Opened;
+use crate::place::Place;
+use crate::stop_at::StopAt;
+use crate::{Body, Schedule};
+use cif_columns::{Line, Refusal};
+use cif_records::{
+    Association, Basic, Header, Kind, Tiploc, Trailer, kind_of, plain_line_of,
+};
+use std::alloc::{AllocError, Global};
+
+/// What the lines so far have come to.
+#[derive(Drop)]
+pub(crate) struct Reading {
+    place: Place,
+    header: Option<Header>,
+    tiplocs: Vec<Tiploc>,
+    associations: Vec<Association>,
+    schedules: Vec<Schedule>,
+    // The schedule that is being read, if it has a body, and the plain lines of this body so far.
+    opened: Option<Opened>,
+    lines: Vec<Line>,
+}
+
+impl Reading {
+    ghost use Rattle.cif_extract.specs.Body.{KeepSomeBody};
+    ghost use Rattle.cif_extract.specs.Reading.{HasRead, IsClosed, IsKept, IsOnTheWay, IsTaken};
+    ghost use Rattle.cif_extract.specs.Reading.{progress_of, refusal_here};
+    ghost use Rattle.cif_records.specs.declared.record.Record.{Record};
+
+    /// The reading of no lines.
+    pub(crate) fn new(alloc: Global) -> Reading {
+        Reading {
+            place: Place::Start,
+            header: None,
+            tiplocs: Vec::new(alloc),
+            associations: Vec::new(alloc),
+            schedules: Vec::new(alloc),
+            opened: None,
+            lines: Vec::new(alloc),
+        }
+    }
+
+    /// Takes one line more. Its kind and its place are judged before its fields, and memory is
+    /// asked for after them.
+    pub(crate) fn take(&mut self, alloc: Global, line: &Line) -> Result<(), StopAt>
+        requires { (records : List Record) × HasRead records (progress_of self.old) }
+        ensures { IsTaken (refusal_here self.old.place (kind_in line.now) line.now) line.now
+            (progress_of self.old) result (progress_of self.new) }
+    {
+        let Some(kind) = kind_of(line) else {
+            return Err(StopAt::Refused(Refusal::UnknownRecord));
+        };
+        if !self.place.allows(kind) {
+            return Err(StopAt::Refused(Refusal::OutOfOrder));
+        }
+        match kind {
+            Kind::Li | Kind::Cr | Kind::Lo => self.take_call(line),
+            Kind::Lt => self.take_terminus(alloc, line),
+            Kind::Bs => self.take_basic(line),
+            Kind::Bx => self.take_extra(line),
+            Kind::Aa => self.take_association(line),
+            Kind::Ti => self.take_tiploc(line),
+            Kind::Ta | Kind::Td => Err(StopAt::Refused(Refusal::NotFull)),
+            Kind::Hd => self.take_header(line),
+            Kind::Zz => self.take_trailer(line),
+        }
+    }
+
+    fn take_header(&mut self, line: &Line) -> Result<(), StopAt>
+        ensures { IsTaken (header_refusal line.now) line.now (progress_of self.old) result
+            (progress_of self.new) }
+    {
+        self.header = Some(Header::read(line)?);
+        self.place = Place::Tiplocs;
+        Ok(())
+    }
+
+    fn take_tiploc(&mut self, line: &Line) -> Result<(), StopAt>
+        ensures { IsTaken (tiploc_refusal line.now) line.now (progress_of self.old) result
+            (progress_of self.new) }
+    {
+        let tiploc = Tiploc::read(line)?;
+        push(&mut self.tiplocs, tiploc)?;
+        self.place = Place::Tiplocs;
+        Ok(())
+    }
+
+    fn take_association(&mut self, line: &Line) -> Result<(), StopAt>
+        ensures { IsTaken (association_refusal line.now) line.now (progress_of self.old) result
+            (progress_of self.new) }
+    {
+        let association = Association::read(line)?;
+        push(&mut self.associations, association)?;
+        self.place = Place::Associations;
+        Ok(())
+    }
+
+    fn take_basic(&mut self, line: &Line) -> Result<(), StopAt>
+        ensures { IsTaken (basic_refusal line.now) line.now (progress_of self.old) result
+            (progress_of self.new) }
+    {
+        let Basic {
+            uid,
+            first,
+            last,
+            days,
+            letter,
+            detail,
+        } = Basic::read(line)?;
+        match detail {
+            None => {
+                let cancellation = Schedule {
+                    uid,
+                    first,
+                    last,
+                    days,
+                    letter,
+                    body: None,
+                };
+                push(&mut self.schedules, cancellation)?;
+                self.opened = None;
+                self.place = Place::Cancelled;
+            }
+            Some(detail) => {
+                self.lines.clear();
+                push(&mut self.lines, detail.write())?;
+                self.opened = Some(Opened {
+                    uid,
+                    first,
+                    last,
+                    days,
+                    letter,
+                });
+                self.place = Place::Basic;
+            }
+        }
+        Ok(())
+    }
+
+    fn take_extra(&mut self, line: &Line) -> Result<(), StopAt>
+        requires { kind_in line.now ≡ Some Kind.Bx }
+        ensures { IsTaken (record_refusal line.now) line.now (progress_of self.old) result
+            (progress_of self.new) }
+    {
+        self.keep(line)?;
+        self.place = self.place.after_extra();
+        Ok(())
+    }
+
+    /// A location or a change of a journey, but for its last location.
+    fn take_call(&mut self, line: &Line) -> Result<(), StopAt>
+        requires { IsOnTheWay (kind_in line.now) }
+        ensures { IsTaken (record_refusal line.now) line.now (progress_of self.old) result
+            (progress_of self.new) }
+    {
+        self.keep(line)?;
+        self.place = Place::Journey;
+        Ok(())
+    }
+
+    fn take_terminus(&mut self, alloc: Global, line: &Line) -> Result<(), StopAt>
+        requires kind { kind_in line.now ≡ Some Kind.Lt }
+        requires journey { self.old.place ≡ Place.Journey }
+        requires read { (records : List Record) × HasRead records (progress_of self.old) }
+        ensures { IsTaken (record_refusal line.now) line.now (progress_of self.old) result
+            (progress_of self.new) }
+    {
+        self.keep(line)?;
+        self.place = Place::Schedules;
+        match self.opened.take() {
+            Some(opened) => self.close(alloc, opened),
+            None => Ok(()),
+        }
+    }
+
+    /// Ends the schedule whose body's lines are kept.
+    fn close(&mut self, alloc: Global, opened: Opened) -> Result<(), StopAt>
+        requires { KeepSomeBody self.old.lines.items }
+        ensures { IsClosed (progress_of self.old) opened result (progress_of self.new) }
+    {
+        let body = Body::of_lines(alloc, &self.lines)?;
+        push(&mut self.schedules, opened.schedule(body))?;
+        Ok(())
+    }
+
+    /// Keeps the line of a record as its plain line, if the schedule that is being read has a body.
+    fn keep(&mut self, line: &Line) -> Result<(), StopAt>
+        ensures { IsKept (record_refusal line.now) line.now (progress_of self.old) result
+            (progress_of self.new) }
+    {
+        let plain = plain_line_of(line)?;
+        match &self.opened {
+            Some(_) => push(&mut self.lines, plain)?,
+            None => {}
+        }
+        Ok(())
+    }
+
+    fn take_trailer(&mut self, line: &Line) -> Result<(), StopAt>
+        ensures { IsTaken (trailer_refusal line.now) line.now (progress_of self.old) result
+            (progress_of self.new) }
+    {
+        let _ = Trailer::read(line)?;
+        self.place = Place::Ended;
+        Ok(())
+    }
+}
+
+/// Appends an item.
+fn push<T: Drop>(items: &mut Vec<T>, item: T) -> Result<(), AllocError>
+    ensures { OnOk result (items.new.items ≡ items.old.items ++ item ∷ []) }
+{
+    items.push(item)?;
+    Ok(())
+}
