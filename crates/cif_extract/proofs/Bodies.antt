@@ -8,7 +8,6 @@ use Rattle.cif_extract.specs.Body.{KeepAll, KeepBody, KeepSomeBody, is_extra, jo
 use Rattle.cif_extract.specs.BodyParts.{BodyParts, body_records, journey_records}
 use Rattle.cif_extract.specs.Call.{SpellsSomeCall, call_in, call_record}
 use Rattle.cif_extract.specs.declared.call.Call.{Call}
-use Rattle.cif_extract.specs.declared.call.Call.TheVariants.{At, Turn}
 use Rattle.cif_records.specs.Detail.{detail_table}
 use Rattle.cif_records.specs.SpellsExtra.{extra_in}
 use Rattle.cif_records.specs.SpellsRecord.{SpellsRecord, record_table}
@@ -17,17 +16,11 @@ use Rattle.cif_records.specs.declared.extra.Extra.{Extra}
 use Rattle.cif_records.specs.declared.origin.Origin.{Origin}
 use Rattle.cif_records.specs.declared.record.Record.TheVariants as of
 use Rattle.cif_records.specs.declared.terminus.Terminus.{Terminus}
+use Rattle.cif_extract.proofs.Calls.{call_in-spells}
 use Rattle.cif_extract.proofs.DetailLines.{detail_in-stands}
-use Rattle.cif_records.proofs.Changes.{change_in-spells}
 use Rattle.cif_records.proofs.Extras.{extra_in-spells}
 use Rattle.cif_records.proofs.Origins.{origin_in-spells}
-use Rattle.cif_records.proofs.Stops.{stop_in-spells}
 use Rattle.cif_records.proofs.Termini.{terminus_in-spells}
-
--- what a call's line spells is what stands in it
-pub call_in-spells : (line : List ℕ) (call : Call) → SpellsRecord line (call_record call) → call_in line ≡ call
-call_in-spells line (At stop) s = rw s.0 (ap At (stop_in-spells line stop s))
-call_in-spells line (Turn change) s = rw s.0 (ap Turn (change_in-spells line change s))
 
 -- the lines from the first call to LT
 pub record Way (lines : List (List ℕ)) (calls : List Call) (terminus : Terminus) : Type 0 where
