@@ -1,22 +1,24 @@
 -- The lines that keep a body and its parts determine each other.
 use Rattle.std.proofs.Common.{IfSome, ◌≡◌, ℕ, suc, is_some, ◌-◌, ◌<◌, true, false, cond, List, [], ◌∷◌, ◌++◌, length, map, take, get_or, Option, None, Some, All, refl, sym, ◌∙◌, ap, subst, arith, length-append}
+use Rattle.std.proofs.Common.{Bool, drop, Result, Ok}
+use Rattle.cif_columns.specs.declared.refusal.Refusal.{Refusal}
 use Rattle.std.specs.List.{slice_range}
 use Rattle.std.proofs.lemmas.List.Elements.{All-nil, All-cons}
 use Rattle.std.proofs.Math.Seq.{take-append_seam, get_or-append_seam}
 use Rattle.cif_columns.specs.Field.{Row, AllStandIn, plain_line}
-use Rattle.cif_extract.specs.Body.{KeepAll, KeepBody, KeepSomeBody, is_extra, journey_in, kept_tables, parts_in}
+use Rattle.cif_extract.specs.Body.{KeepAll, KeepBody, KeepJourney, KeepSomeBody, is_extra, journey_in, kept_tables, parts_in}
 use Rattle.cif_extract.specs.BodyParts.{BodyParts, body_records, journey_records}
 use Rattle.cif_extract.specs.Call.{SpellsSomeCall, call_in, call_record}
 use Rattle.cif_extract.specs.declared.call.Call.{Call}
 use Rattle.cif_records.specs.Detail.{detail_table}
-use Rattle.cif_records.specs.SpellsExtra.{extra_in}
+use Rattle.cif_records.specs.SpellsExtra.{SpellsExtra, extra_in}
 use Rattle.cif_records.specs.SpellsRecord.{SpellsRecord, record_table}
 use Rattle.cif_records.specs.declared.detail.Detail.{Detail}
 use Rattle.cif_records.specs.declared.extra.Extra.{Extra}
 use Rattle.cif_records.specs.declared.origin.Origin.{Origin}
 use Rattle.cif_records.specs.declared.record.Record.TheVariants as of
 use Rattle.cif_records.specs.declared.terminus.Terminus.{Terminus}
-use Rattle.cif_extract.proofs.Calls.{call_in-spells}
+use Rattle.cif_extract.proofs.CallLines.{call_in-spells}
 use Rattle.cif_extract.proofs.DetailLines.{detail_in-stands}
 use Rattle.cif_records.proofs.Extras.{extra_in-spells}
 use Rattle.cif_records.proofs.Origins.{origin_in-spells}
@@ -59,7 +61,7 @@ way (line ∷ lines) (call ∷ calls) terminus k =
 -- the lines of a journey
 pub record Journey (lines : List (List ℕ)) (origin : Origin) (calls : List Call) (terminus : Terminus) : Type 0 where
   pub longer : 1 < length lines
-  pub origin_in : SpellsRecord (get_or lines 0 []) (of.Origin origin)
+  pub begun : SpellsRecord (get_or lines 0 []) (of.Origin origin)
   pub spelled : All SpellsSomeCall (slice_range lines 1 (length lines - 1))
   pub called : map call_in (slice_range lines 1 (length lines - 1)) ≡ calls
   pub ended : SpellsRecord (get_or lines (length lines - 1) []) (of.Terminus terminus)
@@ -76,19 +78,22 @@ at_end first last front =
     let n : length (first ∷ (front ++ last ∷ [])) - 1 ≡ suc (length front) = omega (arith, length-append front (last ∷ [])) in
     ap (λ m. get_or (first ∷ (front ++ last ∷ [])) m []) n ∙ get_or-append_seam front last [] []
 
-pub journey : (lines : List (List ℕ)) (origin : Origin) (calls : List Call) (terminus : Terminus)
+journey_of : (lines : List (List ℕ)) (origin : Origin) (calls : List Call) (terminus : Terminus)
     → KeepAll lines (map record_table (journey_records origin calls terminus)) → Journey lines origin calls terminus
-journey [] origin calls terminus k = absurd k
-journey (first ∷ lines) origin calls terminus k =
+journey_of [] origin calls terminus k = absurd k
+journey_of (first ∷ lines) origin calls terminus k =
     let w = way lines calls terminus k.2 in
     let P : List (List ℕ) → Type 0 = λ l. Journey (first ∷ l) origin calls terminus in
     subst P (sym w.is) (record {
       longer = omega (arith, length-append w.front (w.last ∷ []));
-      origin_in = k.0;
+      begun = k.0;
       spelled = subst (All SpellsSomeCall) (sym (between first w.last w.front)) w.spelled;
       called = ap (map call_in) (between first w.last w.front) ∙ w.called;
       ended = subst (λ l. SpellsRecord l (of.Terminus terminus)) (sym (at_end first w.last w.front)) w.ended;
     })
+
+pub journey : (lines : List (List ℕ)) (p : BodyParts) → KeepJourney lines p → Journey lines p.origin p.calls p.terminus
+journey lines p k = journey_of lines p.origin p.calls p.terminus k
 
 -- what stands in the lines of a body
 pub record Kept (lines : List (List ℕ)) (p : BodyParts) : Type 0 where
@@ -96,7 +101,7 @@ pub record Kept (lines : List (List ℕ)) (p : BodyParts) : Type 0 where
   pub detailed : AllStandIn (get_or lines 0 []) (detail_table p.detail)
   pub marked : is_extra (get_or lines 1 []) ≡ is_some p.extra
   pub further : IfSome p.extra (λ e. SpellsRecord (get_or lines 1 []) (of.Extra e))
-  pub journey : Journey (journey_in lines) p.origin p.calls p.terminus
+  pub way : KeepJourney (journey_in lines) p
 
 module _ (detail : Detail) (origin : Origin) (calls : List Call) (terminus : Terminus) where
   abbrev parts : Option Extra → BodyParts
@@ -107,25 +112,25 @@ module _ (detail : Detail) (origin : Origin) (calls : List Call) (terminus : Ter
   kept_parts (l ∷ []) None k = absurd k.2
   kept_parts (l ∷ lo ∷ lines) None k =
       let none : is_extra lo ≡ false = rw k.2.0.0 in
-      let there = journey (lo ∷ lines) origin calls terminus k.2 in
+      let there = journey_of (lo ∷ lines) origin calls terminus k.2 in
       record {
         longer = omega (arith, there.longer);
         detailed = k.0;
         marked = none;
         further = tt;
-        journey = rw none there;
+        way = rw none k.2;
       }
   kept_parts [] (Some extra) k = absurd k
   kept_parts (l ∷ []) (Some extra) k = absurd k.2
   kept_parts (l ∷ bx ∷ lines) (Some extra) k =
       let some : is_extra bx ≡ true = rw k.2.0.0 in
-      let there = journey lines origin calls terminus k.2.2 in
+      let there = journey_of lines origin calls terminus k.2.2 in
       record {
         longer = omega (arith, there.longer);
         detailed = k.0;
         marked = some;
         further = k.2.0;
-        journey = rw some there;
+        way = rw some k.2.2;
       }
 
 pub kept : (lines : List (List ℕ)) (p : BodyParts) → KeepBody lines p → Kept lines p
@@ -148,12 +153,13 @@ same_values p q detail extra origin calls terminus =
 pub parts_in-keeps : (lines : List (List ℕ)) (p : BodyParts) → KeepBody lines p → parts_in lines ≡ p
 parts_in-keeps lines p k =
     let h = kept lines p k in
+    let there = journey (journey_in lines) p h.way in
     same_values (parts_in lines) p
     (detail_in-stands (get_or lines 0 []) p.detail h.detailed)
     (extra_found (get_or lines 1 []) p.extra h.marked h.further)
-    (origin_in-spells (get_or (journey_in lines) 0 []) p.origin h.journey.origin_in)
-    h.journey.called
-    (terminus_in-spells (get_or (journey_in lines) (length (journey_in lines) - 1) []) p.terminus h.journey.ended)
+    (origin_in-spells (get_or (journey_in lines) 0 []) p.origin there.begun)
+    there.called
+    (terminus_in-spells (get_or (journey_in lines) (length (journey_in lines) - 1) []) p.terminus there.ended)
 
 pub keeps_parts_in : (lines : List (List ℕ)) → KeepSomeBody lines → KeepBody lines (parts_in lines)
 keeps_parts_in lines h = subst (KeepBody lines) (sym (parts_in-keeps lines h.0 h.1)) h.1
@@ -165,6 +171,25 @@ plain_lines (line ∷ lines) [] k = absurd k
 plain_lines (line ∷ lines) (table ∷ tables) k =
     let behind = plain_lines lines tables k.2 in
     rw (k.1, behind)
+
+-- lines with these parts in them keep these
+pub keeps_view : (lines : List (List ℕ)) (p : BodyParts) → KeepSomeBody lines → parts_in lines ≡ p → KeepBody lines p
+keeps_view lines p h e = subst (KeepBody lines) e (keeps_parts_in lines h)
+
+pub kept_view : (lines : List (List ℕ)) (p : BodyParts) → KeepSomeBody lines → parts_in lines ≡ p → Kept lines p
+kept_view lines p h e = kept lines p (keeps_view lines p h e)
+
+-- where the journey begins
+pub journey_at : (lines : List (List ℕ)) (p : BodyParts) (some : Bool) → Kept lines p → some ≡ is_some p.extra
+    → KeepJourney (drop (cond some 2 1) lines) p
+journey_at lines p some h e = subst (λ b. KeepJourney (drop (cond b 2 1) lines) p) (h.marked ∙ sym e) h.way
+
+-- the BX that a line spells is read from it
+pub extra_read : (line : List ℕ) (extra : Option Extra) (result : Result Extra Refusal) → is_some extra ≡ true
+    → IfSome extra (λ e. SpellsRecord line (of.Extra e)) → ((e : Extra) → SpellsExtra line e → result ≡ Ok e)
+    → (e : Extra) × (result ≡ Ok e) × (extra ≡ Some e)
+extra_read line None result some further only = cc
+extra_read line (Some e) result some further only = (e, only e further, refl)
 
 -- lines that keep equal parts are equal
 pub same_lines : (xs ys : List (List ℕ)) (p : BodyParts) → KeepBody xs p → KeepBody ys p → xs ≡ ys

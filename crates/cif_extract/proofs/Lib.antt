@@ -1,3 +1,3 @@
 pub mod Bodies
-pub mod Calls
+pub mod CallLines
 pub mod DetailLines

@@ -2,7 +2,7 @@
 use Rattle.std.specs.Prelude.{◌≡◌, ℕ, ◌-◌, Bool, List, [], ◌∷◌, None, Some, codes, cond, drop, length, map, slice_index_or, slice_range}
 use Rattle.std.specs.Str.{bytes_eq}
 use Rattle.cif_columns.specs.Field.{Row, AllStandIn, columns, plain_line}
-use Rattle.cif_extract.specs.BodyParts.{BodyParts, body_records}
+use Rattle.cif_extract.specs.BodyParts.{BodyParts, body_records, journey_records}
 use Rattle.cif_extract.specs.Call.{call_in}
 use Rattle.cif_records.specs.Detail.{detail_in, detail_table}
 use Rattle.cif_records.specs.SpellsExtra.{extra_in}
@@ -26,6 +26,10 @@ kept_tables detail records = detail_table detail ∷ map record_table records
 -- the lines keep a body of these parts
 abbrev pub KeepBody : List (List ℕ) → BodyParts → Type 0
 KeepBody lines p = KeepAll lines (kept_tables p.detail (body_records p))
+
+-- the lines keep its journey, from LO to LT
+abbrev pub KeepJourney : List (List ℕ) → BodyParts → Type 0
+KeepJourney lines p = KeepAll lines (map record_table (journey_records p.origin p.calls p.terminus))
 
 -- the lines keep a body
 abbrev pub KeepSomeBody : List (List ℕ) → Type 0

@@ -1,7 +1,7 @@
 use Rattle.std.proofs.Common.{◌≡◌, ℕ, true, false, List, codes, ap, sym, ◌∙◌}
 use Rattle.std.specs.Str.{bytes_eq}
 use Rattle.cif_columns.specs.Field.{columns}
-use Rattle.cif_extract.proofs.Calls.{spells_at, spells_turn}
+use Rattle.cif_extract.proofs.CallLines.{spells_at, spells_turn}
 use Rattle.cif_records.specs.SpellsChange.{change_in}
 use Rattle.cif_records.specs.SpellsStop.{stop_in}
 use Rattle.cif_extract.proofs.call.Call.read.Goals as goal

@@ -1,5 +1,7 @@
 -- The call that a line spells.
 use Rattle.std.proofs.Common.{◌≡◌, ℕ, true, false, List, sym, ap, subst, codes}
+use Rattle.std.proofs.Common.{length, map, ◌<◌, ◌∙◌, All, [], ◌∷◌, arith}
+use Rattle.std.proofs.lemmas.List.Elements.{All-tail}
 use Rattle.std.specs.Str.{bytes_eq}
 use Rattle.cif_columns.specs.Field.{columns}
 use Rattle.cif_extract.specs.Call.{SpellsSomeCall, call_in, call_record}
@@ -31,3 +33,19 @@ pub spells_at : (line : List ℕ) → SpellsSomeCall line → bytes_eq (columns 
 spells_at line h e =
     let it : call_in line ≡ At (stop_in line) = rw e in
     subst (λ call. SpellsRecord line (call_record call)) it (spelled line h)
+
+-- each call of the lines is spelled, and so is each of the rest
+pub first_and_rest : (lines others : List (List ℕ)) (first : List ℕ) → lines ≡ first ∷ others → All SpellsSomeCall lines
+    → SpellsSomeCall first × All SpellsSomeCall others
+first_and_rest lines others first is h =
+    let there = subst (All SpellsSomeCall) is h in
+    (there 0 [] (omega arith), All-tail SpellsSomeCall first others there)
+
+-- what one call of `next` takes and leaves
+module _ (now : List Call) (lines others : List (List ℕ)) (first : List ℕ) (call : Call) (view_is : map call_in lines ≡ now)
+    (is : lines ≡ first ∷ others) (read : call ≡ call_in first) where
+  pub first_call : now ≡ call ∷ map call_in others
+  first_call = sym view_is ∙ ap (map call_in) is ∙ ap (λ c. c ∷ map call_in others) (sym read)
+
+  pub fewer_calls : length (map call_in others) < length now
+  fewer_calls = omega (arith, ap length first_call)
