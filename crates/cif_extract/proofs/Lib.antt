@@ -1,3 +1,4 @@
 pub mod Bodies
+pub mod BodyLines
 pub mod CallLines
 pub mod DetailLines

@@ -1,5 +1,5 @@
 -- How a body keeps its parts: as plain lines, one a record.
-use Rattle.std.specs.Prelude.{◌≡◌, ℕ, ◌-◌, Bool, List, [], ◌∷◌, None, Some, codes, cond, drop, length, map, slice_index_or, slice_range}
+use Rattle.std.specs.Prelude.{◌≡◌, ℕ, ◌-◌, Bool, List, [], ◌∷◌, ◌++◌, None, Some, codes, cond, drop, length, map, slice_index_or, slice_range}
 use Rattle.std.specs.Str.{bytes_eq}
 use Rattle.cif_columns.specs.Field.{Row, AllStandIn, columns, plain_line}
 use Rattle.cif_extract.specs.BodyParts.{BodyParts, body_records, journey_records}
@@ -18,6 +18,10 @@ KeepAll [] [] = Unit {0}
 KeepAll [] (table ∷ tables) = ⊥
 KeepAll (line ∷ lines) [] = ⊥
 KeepAll (line ∷ lines) (table ∷ tables) = AllStandIn line table × (line ≡ plain_line table) × KeepAll lines tables
+
+-- the second lines keep what the first keep, and these tables behind it
+abbrev pub KeepMore : List (List ℕ) → List (List ℕ) → List (List Row) → Type 0
+KeepMore old new more = (tables : List (List Row)) → KeepAll old tables → KeepAll new (tables ++ more)
 
 -- the tables of a detail and of the records that follow its BS
 abbrev pub kept_tables : Detail → List Record → List (List Row)

@@ -1,7 +1,11 @@
 //! What runs on a schedule's dates.
-ghost use Rattle.std.specs.Prelude.{◌≡◌, IfOk, is_some, option_copied};
-ghost use Rattle.cif_extract.specs.Body.{KeepBody, KeepJourney, KeepSomeBody, parts_in};
+ghost use Rattle.std.specs.Prelude.{◌≡◌, IfOk, is_some, map, option_copied};
+ghost use Rattle.cif_extract.specs.Body.{KeepBody, KeepJourney, KeepMore, KeepSomeBody, parts_in};
+ghost use Rattle.cif_extract.specs.BodyParts.{extra_records};
+ghost use Rattle.cif_extract.specs.Call.{call_record};
+ghost use Rattle.cif_records.specs.SpellsRecord.{record_table};
 
+use crate::{Call, Calls};
 use cif_columns::{Line, columns_at};
 use cif_records::{Detail, Extra, Origin, Terminus};
 use std::alloc::{AllocError, Global};
@@ -27,7 +31,58 @@ impl Model for Body {
     ghost invariant = { λ b. KeepSomeBody b.lines.items };
 }
 
+/// Appends the plain line of the BX, if there is one.
+fn push_extra(lines: &mut Vec<Line>, extra: Option<&Extra>) -> Result<(), AllocError>
+    ensures { IfOk result (λ _. KeepMore lines.old.items lines.new.items
+        (map record_table (extra_records (option_copied extra.entry)))) }
+{
+    if let Some(extra) = extra {
+        lines.push(extra.write())?;
+    }
+    Ok(())
+}
+
+/// Appends the plain lines of the calls.
+fn push_calls(lines: &mut Vec<Line>, calls: &[Call]) -> Result<(), AllocError>
+    ensures { IfOk result (λ _. KeepMore lines.old.items lines.new.items
+        (map record_table (map call_record calls.now))) }
+{
+    for call in calls {
+        lines.push(call.write())?;
+    }
+    Ok(())
+}
+
 impl Body {
+    ghost use Rattle.cif_extract.specs.BodyParts.{BodyParts};
+
+    /// The body of these parts.
+    pub fn of(
+        alloc: Global,
+        detail: &Detail,
+        extra: Option<&Extra>,
+        origin: &Origin,
+        calls: &[Call],
+        terminus: &Terminus,
+    ) -> Result<Body, AllocError>
+        ensures { IfOk result (λ body. body ≡ record {
+          detail = detail.now;
+          extra = option_copied extra.entry;
+          origin = origin.now;
+          calls = calls.now;
+          terminus = terminus.now;
+        }) }
+    {
+        let count = 3 + usize::from(extra.is_some()) + calls.len();
+        let mut lines = Vec::with_capacity(alloc, count)?;
+        lines.push(detail.write())?;
+        push_extra(&mut lines, extra)?;
+        lines.push(origin.write())?;
+        push_calls(&mut lines, calls)?;
+        lines.push(terminus.write())?;
+        Ok(Body { lines })
+    }
+
     /// The body that these lines keep.
     pub(crate) fn of_lines(alloc: Global, lines: &[Line]) -> Result<Body, AllocError>
         requires { KeepSomeBody lines.now }
@@ -93,6 +148,15 @@ impl Body {
             Ok(origin) => origin,
             Err(_) => unreachable!(),
         }
+    }
+
+    /// What is on its way, in order.
+    pub fn calls(&self) -> Calls<'_>
+        ensures { result ≡ self.now.calls }
+    {
+        let journey = self.journey();
+        let last = journey.len() - 1;
+        Calls::of_lines(&journey[1..last])
     }
 
     /// Where its journey ends.
