@@ -1,5 +1,10 @@
 pub mod BasicSteps
+pub mod Bodies
+pub mod BodyLines
+pub mod CallLines
+pub mod DetailLines
 pub mod GrammarLists
+pub mod JourneySteps
 pub mod KeptLines
 pub mod ReadingSteps
 pub mod RecordKinds

@@ -223,3 +223,15 @@ module _ (records : List Record) (p : Progress) where
   association_where a at.Journey e h may = cc
   association_where a at.Schedules e h may = cc
   association_where a at.Ended e h may = cc
+
+  pub header_step : (x : Header) → HasRead records p → may_stand p.place Hd ≡ true →
+      HasRead (records ++ (of.Header x ∷ [])) (step p (of.Header x))
+  header_step x h may = header_where x p.place h may
+
+  pub tiploc_step : (x : Tiploc) → HasRead records p → may_stand p.place Ti ≡ true →
+      HasRead (records ++ (of.Tiploc x ∷ [])) (step p (of.Tiploc x))
+  tiploc_step x h may = tiploc_where x p.place refl h may
+
+  pub association_step : (x : Association) → HasRead records p → may_stand p.place Aa ≡ true →
+      HasRead (records ++ (of.Association x ∷ [])) (step p (of.Association x))
+  association_step x h may = association_where x p.place refl h may

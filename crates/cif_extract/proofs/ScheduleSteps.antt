@@ -32,7 +32,7 @@ use Rattle.cif_extract.proofs.KeptLines.{journey-more, journey-whole, keep_body,
 use Rattle.cif_extract.proofs.ReadingSteps.{AreClosed, closed_here, own_at}
 
 -- the plain line of the record spells it
-abbrev Again : Record → Type 0
+abbrev pub Again : Record → Type 0
 Again r = AllStandIn (plain_line (record_table r)) (record_table r)
 
 -- the progress with the line of a record more, at this place
@@ -189,3 +189,15 @@ module _ (records : List Record) (p : Progress) where
       (λ cancelled. inr (cancelled_more h.earlier b at.Journey (call_record call) cancelled)) or)
   call_where call at.Schedules e again h may = cc
   call_where call at.Ended e again h may = cc
+
+  pub extra_step : (x : Extra) → Again (of.Extra x) → HasRead records p → may_stand p.place Bx ≡ true →
+      HasReadAt (after_extra p.place) (records ++ (of.Extra x ∷ [])) (step p (of.Extra x))
+  extra_step x again h may = extra_where x p.place refl again h may
+
+  pub origin_step : (o : Origin) → Again (of.Origin o) → HasRead records p → may_stand p.place Lo ≡ true →
+      HasRead (records ++ (of.Origin o ∷ [])) (step p (of.Origin o))
+  origin_step o again h may = origin_where o p.place refl again h may
+
+  pub call_step : (call : Call) → Again (call_record call) → HasRead records p → may_stand p.place Li ≡ true →
+      IsWithin (records ++ (call_record call ∷ [])) (with_line p at.Journey (call_record call))
+  call_step call again h may = call_where call p.place refl again h may

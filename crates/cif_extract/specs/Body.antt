@@ -1,8 +1,8 @@
 -- How a body keeps its parts: as plain lines, one a record.
-use Rattle.std.specs.Prelude.{◌≡◌, ℕ, ◌-◌, Bool, List, [], ◌∷◌, Option, None, Some, codes, cond, drop, length, map, slice_index_or, slice_range}
+use Rattle.std.specs.Prelude.{◌≡◌, ℕ, ◌-◌, Bool, List, [], ◌∷◌, ◌++◌, None, Some, codes, cond, drop, length, map, slice_index_or, slice_range}
 use Rattle.std.specs.Str.{bytes_eq}
 use Rattle.cif_columns.specs.Field.{Row, AllStandIn, columns, plain_line}
-use Rattle.cif_extract.specs.BodyParts.{BodyParts, body_records}
+use Rattle.cif_extract.specs.BodyParts.{BodyParts, body_records, journey_records}
 use Rattle.cif_extract.specs.Call.{call_in}
 use Rattle.cif_records.specs.Detail.{detail_in, detail_table}
 use Rattle.cif_records.specs.SpellsExtra.{extra_in}
@@ -10,7 +10,6 @@ use Rattle.cif_records.specs.SpellsOrigin.{origin_in}
 use Rattle.cif_records.specs.SpellsRecord.{record_table}
 use Rattle.cif_records.specs.SpellsTerminus.{terminus_in}
 use Rattle.cif_records.specs.declared.detail.Detail.{Detail}
-use Rattle.cif_records.specs.declared.extra.Extra.{Extra}
 use Rattle.cif_records.specs.declared.record.Record.{Record}
 
 -- each line is the plain line of its table, and spells what the table says
@@ -20,6 +19,10 @@ KeepAll [] (table ∷ tables) = ⊥
 KeepAll (line ∷ lines) [] = ⊥
 KeepAll (line ∷ lines) (table ∷ tables) = AllStandIn line table × (line ≡ plain_line table) × KeepAll lines tables
 
+-- the second lines keep what the first keep, and these tables behind it
+abbrev pub KeepMore : List (List ℕ) → List (List ℕ) → List (List Row) → Type 0
+KeepMore old new more = (tables : List (List Row)) → KeepAll old tables → KeepAll new (tables ++ more)
+
 -- the tables of a detail and of the records that follow its BS
 abbrev pub kept_tables : Detail → List Record → List (List Row)
 kept_tables detail records = detail_table detail ∷ map record_table records
@@ -27,6 +30,10 @@ kept_tables detail records = detail_table detail ∷ map record_table records
 -- the lines keep a body of these parts
 abbrev pub KeepBody : List (List ℕ) → BodyParts → Type 0
 KeepBody lines p = KeepAll lines (kept_tables p.detail (body_records p))
+
+-- the lines keep its journey, from LO to LT
+abbrev pub KeepJourney : List (List ℕ) → BodyParts → Type 0
+KeepJourney lines p = KeepAll lines (map record_table (journey_records p.origin p.calls p.terminus))
 
 -- the lines keep a body
 abbrev pub KeepSomeBody : List (List ℕ) → Type 0
@@ -36,18 +43,16 @@ KeepSomeBody lines = (p : BodyParts) × KeepBody lines p
 abbrev pub is_extra : List ℕ → Bool
 is_extra line = bytes_eq (columns 1 2 line) (codes "BX")
 
--- the parts of a body whose journey is in these lines
-abbrev pub parts_with : Detail → Option Extra → List (List ℕ) → BodyParts
-parts_with detail extra journey = record {
-  detail = detail;
-  extra = extra;
-  origin = origin_in (slice_index_or journey 0 []);
-  calls = map call_in (slice_range journey 1 (length journey - 1));
-  terminus = terminus_in (slice_index_or journey (length journey - 1) []);
-}
+-- the lines from LO to LT
+abbrev pub journey_in : List (List ℕ) → List (List ℕ)
+journey_in lines = drop (cond (is_extra (slice_index_or lines 1 [])) 2 1) lines
 
 -- the parts of a body, as they stand in its lines
 abbrev pub parts_in : List (List ℕ) → BodyParts
-parts_in lines = cond (is_extra (slice_index_or lines 1 []))
-    (parts_with (detail_in (slice_index_or lines 0 [])) (Some (extra_in (slice_index_or lines 1 []))) (drop 2 lines))
-    (parts_with (detail_in (slice_index_or lines 0 [])) None (drop 1 lines))
+parts_in lines = record {
+  detail = detail_in (slice_index_or lines 0 []);
+  extra = cond (is_extra (slice_index_or lines 1 [])) (Some (extra_in (slice_index_or lines 1 []))) None;
+  origin = origin_in (slice_index_or (journey_in lines) 0 []);
+  calls = map call_in (slice_range (journey_in lines) 1 (length (journey_in lines) - 1));
+  terminus = terminus_in (slice_index_or (journey_in lines) (length (journey_in lines) - 1) []);
+}

@@ -5,6 +5,7 @@ use Rattle.cif_columns.specs.Field.{columns}
 use Rattle.cif_extract.specs.declared.call.Call.{Call}
 use Rattle.cif_extract.specs.declared.call.Call.TheVariants.{At, Turn}
 use Rattle.cif_records.specs.SpellsChange.{change_in}
+use Rattle.cif_records.specs.SpellsRecord.{SpellsRecord}
 use Rattle.cif_records.specs.SpellsStop.{stop_in}
 use Rattle.cif_records.specs.declared.record.Record.{Record}
 use Rattle.cif_records.specs.declared.record.Record.TheVariants.{Change, Stop}
@@ -17,3 +18,7 @@ call_record (Turn change) = Change change
 -- the call that a line spells, if it spells one: what stands in its columns
 abbrev pub call_in : List ℕ → Call
 call_in line = cond (bytes_eq (columns 1 2 line) (codes "CR")) (Turn (change_in line)) (At (stop_in line))
+
+-- the line spells some call
+abbrev pub SpellsSomeCall : List ℕ → Type 0
+SpellsSomeCall line = (call : Call) × SpellsRecord line (call_record call)

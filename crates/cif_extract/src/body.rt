@@ -1,5 +1,14 @@
 //! What runs on a schedule's dates.
-use cif_columns::Line;
+ghost use Rattle.std.specs.Prelude.{◌≡◌, IfOk, is_some, map, option_copied};
+ghost use Rattle.cif_extract.specs.Body.{KeepBody, KeepJourney, KeepMore, KeepSomeBody, parts_in};
+ghost use Rattle.cif_extract.specs.BodyParts.{extra_records};
+ghost use Rattle.cif_extract.specs.Call.{call_record};
+ghost use Rattle.cif_records.specs.SpellsRecord.{record_table};
+
+use crate::{Call, Calls};
+use cif_columns::{Line, columns_at};
+use cif_records::{Detail, Extra, Origin, Terminus};
+use std::alloc::{AllocError, Global};
 use std::marker::Model;
 
 /// The body of a schedule: columns 30 to 78 of its BS, its BX or the lack of one, and its journey
@@ -20,4 +29,144 @@ impl Model for Body {
     ghost view = { λ b. parts_in b.lines.items };
 
     ghost invariant = { λ b. KeepSomeBody b.lines.items };
+}
+
+/// Appends the plain line of the BX, if there is one.
+fn push_extra(lines: &mut Vec<Line>, extra: Option<&Extra>) -> Result<(), AllocError>
+    ensures { IfOk result (λ _. KeepMore lines.old.items lines.new.items
+        (map record_table (extra_records (option_copied extra.entry)))) }
+{
+    if let Some(extra) = extra {
+        lines.push(extra.write())?;
+    }
+    Ok(())
+}
+
+/// Appends the plain lines of the calls.
+fn push_calls(lines: &mut Vec<Line>, calls: &[Call]) -> Result<(), AllocError>
+    ensures { IfOk result (λ _. KeepMore lines.old.items lines.new.items
+        (map record_table (map call_record calls.now))) }
+{
+    for call in calls {
+        lines.push(call.write())?;
+    }
+    Ok(())
+}
+
+impl Body {
+    ghost use Rattle.cif_extract.specs.BodyParts.{BodyParts};
+
+    /// The body of these parts.
+    pub fn of(
+        alloc: Global,
+        detail: &Detail,
+        extra: Option<&Extra>,
+        origin: &Origin,
+        calls: &[Call],
+        terminus: &Terminus,
+    ) -> Result<Body, AllocError>
+        ensures { IfOk result (λ body. body ≡ record {
+          detail = detail.now;
+          extra = option_copied extra.entry;
+          origin = origin.now;
+          calls = calls.now;
+          terminus = terminus.now;
+        }) }
+    {
+        let count = 3 + usize::from(extra.is_some()) + calls.len();
+        let mut lines = Vec::with_capacity(alloc, count)?;
+        lines.push(detail.write())?;
+        push_extra(&mut lines, extra)?;
+        lines.push(origin.write())?;
+        push_calls(&mut lines, calls)?;
+        lines.push(terminus.write())?;
+        Ok(Body { lines })
+    }
+
+    /// The body that these lines keep.
+    pub(crate) fn of_lines(alloc: Global, lines: &[Line]) -> Result<Body, AllocError>
+        requires { KeepSomeBody lines.now }
+        ensures { IfOk result (λ b. b ≡ parts_in lines.now) }
+    {
+        let mut copy = Vec::with_capacity(alloc, lines.len())?;
+        copy.extend_from_slice(lines)?;
+        Ok(Body { lines: copy })
+    }
+
+    /// Its lines: the detail in a line of its own, and the plain lines of its records.
+    pub(crate) fn lines(&self) -> &[Line]
+        ensures { KeepBody result.now self.now }
+    {
+        &self.lines
+    }
+
+    /// Whether it has a BX.
+    fn has_extra(&self) -> bool
+        ensures { result ≡ is_some self.now.extra }
+    {
+        columns_at::<2>(&self.lines[1], 1) == *b"BX"
+    }
+
+    /// The lines from LO to LT.
+    fn journey(&self) -> &[Line]
+        ensures { KeepJourney result.now self.now }
+    {
+        if self.has_extra() {
+            &self.lines[2..]
+        } else {
+            &self.lines[1..]
+        }
+    }
+
+    /// Columns 30 to 78 of its BS.
+    pub fn detail(&self) -> Detail
+        ensures { result ≡ self.now.detail }
+    {
+        Detail::read(&self.lines[0])
+    }
+
+    /// Its BX.
+    pub fn extra(&self) -> Option<Extra>
+        ensures { result ≡ self.now.extra }
+    {
+        if self.has_extra() {
+            match Extra::read(&self.lines[1]) {
+                Ok(extra) => Some(extra),
+                Err(_) => unreachable!(),
+            }
+        } else {
+            None
+        }
+    }
+
+    /// Where its journey begins.
+    pub fn origin(&self) -> Origin
+        ensures { result ≡ self.now.origin }
+    {
+        let journey = self.journey();
+        match Origin::read(&journey[0]) {
+            Ok(origin) => origin,
+            Err(_) => unreachable!(),
+        }
+    }
+
+    /// What is on its way, in order.
+    pub fn calls(&self) -> Calls<'_>
+        ensures { result ≡ self.now.calls }
+    {
+        let journey = self.journey();
+        let last = journey.len() - 1;
+        Calls::of_lines(&journey[1..last])
+    }
+
+    /// Where its journey ends.
+    pub fn terminus(&self) -> Terminus
+        ensures { result ≡ self.now.terminus }
+    {
+        let journey = self.journey();
+        match Terminus::read(&journey[journey.len() - 1]) {
+            Ok(terminus) => terminus,
+            Err(_) => unreachable!(),
+        }
+    }
 }

@@ -3,6 +3,7 @@
 
 mod body;
 mod call;
+mod calls;
 mod clash;
 mod extract;
 mod fault;
@@ -15,6 +16,7 @@ mod writing;
 
 pub use body::Body;
 pub use call::Call;
+pub use calls::Calls;
 pub use clash::Clash;
 pub use extract::Extract;
 pub use fault::Fault;

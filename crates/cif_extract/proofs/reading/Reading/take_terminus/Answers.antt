@@ -1,14 +1,27 @@
-use Rattle.std.proofs.Common.{sym, ◌∙◌, subst, ap}
-use Rattle.cif_extract.specs.Reading.{Progress, progress_of}
+use Rattle.std.proofs.Common.{◌≡◌, Some, sym, ◌∙◌, subst, ap}
+use Rattle.cif_extract.specs.Body.{KeepSomeBody}
+use Rattle.cif_extract.specs.Reading.{Progress, kept, progress_of}
 use Rattle.cif_records.specs.SpellsRecord.{SpellsRecord}
 use Rattle.cif_records.specs.declared.kind.Kind.TheVariants.{Lt}
 use Rattle.cif_records.specs.declared.record.Record.TheVariants as of
 use Rattle.cif_extract.proofs.BasicSteps.{closing, terminus_none}
+use Rattle.cif_extract.proofs.JourneySteps.{keeps_body}
 use Rattle.cif_extract.proofs.TakenLines.{is_terminus, kind_here}
 use Rattle.cif_extract.proofs.reading.Reading.take_terminus.Goals as goal
 
 pub close-requires : goal.close-requires
-close-requires c = ?
+close-requires c =
+    let (fine, taken) = c.in_ok-keep.ensures in
+    let (r, spells, again, is) = taken in
+    let (t, same) = is_terminus r (kind_here c.args.line.now r Lt spells c.requires.kind) in
+    let (records, read) = c.requires.read in
+    let now : progress_of c.keep.new.self ≡ record (progress_of c.args.self.now) {
+      lines = kept c.args.self.now.opened c.args.self.now.lines.items (of.Terminus t);
+    } = rw same at is in
+    let opened : c.keep.new.self.opened ≡ Some c.in-Some.opened = sym c.take.ensures.value ∙ c.in-Some.is in
+    subst KeepSomeBody (ap (λ (p : Progress). p.lines) (sym now))
+    (keeps_body records (progress_of c.args.self.now) t c.requires.journey read c.in-Some.opened
+    (ap (λ (p : Progress). p.opened) (sym now) ∙ opened) (rw same at again))
 
 pub returns-in-Some : goal.returns-in-Some
 returns-in-Some c =

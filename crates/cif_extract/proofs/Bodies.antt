@@ -1,0 +1,201 @@
+-- The lines that keep a body and its parts determine each other.
+use Rattle.std.proofs.Common.{IfSome, ◌≡◌, ℕ, suc, is_some, ◌-◌, ◌<◌, true, false, cond, List, [], ◌∷◌, ◌++◌, length, map, take, get_or, Option, None, Some, All, refl, sym, ◌∙◌, ap, subst, arith, length-append}
+use Rattle.std.proofs.Common.{Bool, drop, Result, Ok}
+use Rattle.cif_columns.specs.declared.refusal.Refusal.{Refusal}
+use Rattle.std.specs.List.{slice_range}
+use Rattle.std.proofs.lemmas.List.Elements.{All-nil, All-cons}
+use Rattle.std.proofs.Math.Seq.{take-append_seam, get_or-append_seam}
+use Rattle.cif_columns.specs.Field.{Row, AllStandIn, plain_line}
+use Rattle.cif_extract.specs.Body.{KeepAll, KeepBody, KeepJourney, KeepSomeBody, is_extra, journey_in, kept_tables, parts_in}
+use Rattle.cif_extract.specs.BodyParts.{BodyParts, body_records, journey_records}
+use Rattle.cif_extract.specs.Call.{SpellsSomeCall, call_in, call_record}
+use Rattle.cif_extract.specs.declared.call.Call.{Call}
+use Rattle.cif_records.specs.Detail.{detail_table}
+use Rattle.cif_records.specs.SpellsExtra.{SpellsExtra, extra_in}
+use Rattle.cif_records.specs.SpellsRecord.{SpellsRecord, record_table}
+use Rattle.cif_records.specs.declared.detail.Detail.{Detail}
+use Rattle.cif_records.specs.declared.extra.Extra.{Extra}
+use Rattle.cif_records.specs.declared.origin.Origin.{Origin}
+use Rattle.cif_records.specs.declared.record.Record.TheVariants as of
+use Rattle.cif_records.specs.declared.terminus.Terminus.{Terminus}
+use Rattle.cif_extract.proofs.CallLines.{call_in-spells}
+use Rattle.cif_extract.proofs.DetailLines.{detail_in-stands}
+use Rattle.cif_records.proofs.Extras.{extra_in-spells}
+use Rattle.cif_records.proofs.Origins.{origin_in-spells}
+use Rattle.cif_records.proofs.Termini.{terminus_in-spells}
+
+-- the lines from the first call to LT
+pub record Way (lines : List (List ℕ)) (calls : List Call) (terminus : Terminus) : Type 0 where
+  pub front : List (List ℕ)
+  pub last : List ℕ
+  pub is : lines ≡ front ++ last ∷ []
+  pub spelled : All SpellsSomeCall front
+  pub called : map call_in front ≡ calls
+  pub ended : SpellsRecord last (of.Terminus terminus)
+
+pub way : (lines : List (List ℕ)) (calls : List Call) (terminus : Terminus)
+    → KeepAll lines (map record_table (map call_record calls ++ (of.Terminus terminus ∷ []))) → Way lines calls terminus
+way [] [] terminus k = absurd k
+way (line ∷ []) [] terminus k = record {
+  front = [];
+  last = line;
+  is = refl;
+  spelled = All-nil SpellsSomeCall;
+  called = refl;
+  ended = k.0;
+}
+way (line ∷ next ∷ lines) [] terminus k = absurd k.2
+way [] (call ∷ calls) terminus k = absurd k
+way (line ∷ lines) (call ∷ calls) terminus k =
+    let w = way lines calls terminus k.2 in
+    let here = call_in-spells line call k.0 in
+    record {
+      front = line ∷ w.front;
+      last = w.last;
+      is = ap (λ l. line ∷ l) w.is;
+      spelled = All-cons SpellsSomeCall line w.front (call, k.0) w.spelled;
+      called = rw (here, w.called);
+      ended = w.ended;
+    }
+
+-- the lines of a journey
+pub record Journey (lines : List (List ℕ)) (origin : Origin) (calls : List Call) (terminus : Terminus) : Type 0 where
+  pub longer : 1 < length lines
+  pub begun : SpellsRecord (get_or lines 0 []) (of.Origin origin)
+  pub spelled : All SpellsSomeCall (slice_range lines 1 (length lines - 1))
+  pub called : map call_in (slice_range lines 1 (length lines - 1)) ≡ calls
+  pub ended : SpellsRecord (get_or lines (length lines - 1) []) (of.Terminus terminus)
+
+between : (first last : List ℕ) (front : List (List ℕ))
+    → slice_range (first ∷ (front ++ last ∷ [])) 1 (length (first ∷ (front ++ last ∷ [])) - 1) ≡ front
+between first last front =
+    let n : length (first ∷ (front ++ last ∷ [])) - 1 - 1 ≡ length front = omega (arith, length-append front (last ∷ [])) in
+    ap (λ m. take m (front ++ last ∷ [])) n ∙ take-append_seam front (last ∷ [])
+
+at_end : (first last : List ℕ) (front : List (List ℕ))
+    → get_or (first ∷ (front ++ last ∷ [])) (length (first ∷ (front ++ last ∷ [])) - 1) [] ≡ last
+at_end first last front =
+    let n : length (first ∷ (front ++ last ∷ [])) - 1 ≡ suc (length front) = omega (arith, length-append front (last ∷ [])) in
+    ap (λ m. get_or (first ∷ (front ++ last ∷ [])) m []) n ∙ get_or-append_seam front last [] []
+
+journey_of : (lines : List (List ℕ)) (origin : Origin) (calls : List Call) (terminus : Terminus)
+    → KeepAll lines (map record_table (journey_records origin calls terminus)) → Journey lines origin calls terminus
+journey_of [] origin calls terminus k = absurd k
+journey_of (first ∷ lines) origin calls terminus k =
+    let w = way lines calls terminus k.2 in
+    let P : List (List ℕ) → Type 0 = λ l. Journey (first ∷ l) origin calls terminus in
+    subst P (sym w.is) (record {
+      longer = omega (arith, length-append w.front (w.last ∷ []));
+      begun = k.0;
+      spelled = subst (All SpellsSomeCall) (sym (between first w.last w.front)) w.spelled;
+      called = ap (map call_in) (between first w.last w.front) ∙ w.called;
+      ended = subst (λ l. SpellsRecord l (of.Terminus terminus)) (sym (at_end first w.last w.front)) w.ended;
+    })
+
+pub journey : (lines : List (List ℕ)) (p : BodyParts) → KeepJourney lines p → Journey lines p.origin p.calls p.terminus
+journey lines p k = journey_of lines p.origin p.calls p.terminus k
+
+-- what stands in the lines of a body
+pub record Kept (lines : List (List ℕ)) (p : BodyParts) : Type 0 where
+  pub longer : 2 < length lines
+  pub detailed : AllStandIn (get_or lines 0 []) (detail_table p.detail)
+  pub marked : is_extra (get_or lines 1 []) ≡ is_some p.extra
+  pub further : IfSome p.extra (λ e. SpellsRecord (get_or lines 1 []) (of.Extra e))
+  pub way : KeepJourney (journey_in lines) p
+
+module _ (detail : Detail) (origin : Origin) (calls : List Call) (terminus : Terminus) where
+  abbrev parts : Option Extra → BodyParts
+  parts extra = record { detail = detail; extra = extra; origin = origin; calls = calls; terminus = terminus }
+
+  kept_parts : (lines : List (List ℕ)) (extra : Option Extra) → KeepBody lines (parts extra) → Kept lines (parts extra)
+  kept_parts [] None k = absurd k
+  kept_parts (l ∷ []) None k = absurd k.2
+  kept_parts (l ∷ lo ∷ lines) None k =
+      let none : is_extra lo ≡ false = rw k.2.0.0 in
+      let there = journey_of (lo ∷ lines) origin calls terminus k.2 in
+      record {
+        longer = omega (arith, there.longer);
+        detailed = k.0;
+        marked = none;
+        further = tt;
+        way = rw none k.2;
+      }
+  kept_parts [] (Some extra) k = absurd k
+  kept_parts (l ∷ []) (Some extra) k = absurd k.2
+  kept_parts (l ∷ bx ∷ lines) (Some extra) k =
+      let some : is_extra bx ≡ true = rw k.2.0.0 in
+      let there = journey_of lines origin calls terminus k.2.2 in
+      record {
+        longer = omega (arith, there.longer);
+        detailed = k.0;
+        marked = some;
+        further = k.2.0;
+        way = rw some k.2.2;
+      }
+
+pub kept : (lines : List (List ℕ)) (p : BodyParts) → KeepBody lines p → Kept lines p
+kept lines p k = kept_parts p.detail p.origin p.calls p.terminus lines p.extra k
+
+extra_found : (line : List ℕ) (extra : Option Extra) → is_extra line ≡ is_some extra
+    → IfSome extra (λ e. SpellsRecord line (of.Extra e)) → cond (is_extra line) (Some (extra_in line)) None ≡ extra
+extra_found line None marked further = rw marked
+extra_found line (Some e) marked further = rw marked (ap Some (extra_in-spells line e further))
+
+pub same_values : (p q : BodyParts) → p.detail ≡ q.detail → p.extra ≡ q.extra → p.origin ≡ q.origin → p.calls ≡ q.calls
+    → p.terminus ≡ q.terminus → p ≡ q
+same_values p q detail extra origin calls terminus =
+    let values : ◌≡◌ {A = Detail × Option Extra × Origin × List Call × Terminus}
+    (p.detail, p.extra, p.origin, p.calls, p.terminus) (q.detail, q.extra, q.origin, q.calls, q.terminus) = cc in
+    ap (λ (v : Detail × Option Extra × Origin × List Call × Terminus).
+    let it : BodyParts = record { detail = v.0; extra = v.1; origin = v.2; calls = v.3; terminus = v.4 } in it) values
+
+-- the parts that lines keep are those that stand in them
+pub parts_in-keeps : (lines : List (List ℕ)) (p : BodyParts) → KeepBody lines p → parts_in lines ≡ p
+parts_in-keeps lines p k =
+    let h = kept lines p k in
+    let there = journey (journey_in lines) p h.way in
+    same_values (parts_in lines) p
+    (detail_in-stands (get_or lines 0 []) p.detail h.detailed)
+    (extra_found (get_or lines 1 []) p.extra h.marked h.further)
+    (origin_in-spells (get_or (journey_in lines) 0 []) p.origin there.begun)
+    there.called
+    (terminus_in-spells (get_or (journey_in lines) (length (journey_in lines) - 1) []) p.terminus there.ended)
+
+pub keeps_parts_in : (lines : List (List ℕ)) → KeepSomeBody lines → KeepBody lines (parts_in lines)
+keeps_parts_in lines h = subst (KeepBody lines) (sym (parts_in-keeps lines h.0 h.1)) h.1
+
+plain_lines : (lines : List (List ℕ)) (tables : List (List Row)) → KeepAll lines tables → lines ≡ map plain_line tables
+plain_lines [] [] k = refl
+plain_lines [] (table ∷ tables) k = absurd k
+plain_lines (line ∷ lines) [] k = absurd k
+plain_lines (line ∷ lines) (table ∷ tables) k =
+    let behind = plain_lines lines tables k.2 in
+    rw (k.1, behind)
+
+-- lines with these parts in them keep these
+pub keeps_view : (lines : List (List ℕ)) (p : BodyParts) → KeepSomeBody lines → parts_in lines ≡ p → KeepBody lines p
+keeps_view lines p h e = subst (KeepBody lines) e (keeps_parts_in lines h)
+
+pub kept_view : (lines : List (List ℕ)) (p : BodyParts) → KeepSomeBody lines → parts_in lines ≡ p → Kept lines p
+kept_view lines p h e = kept lines p (keeps_view lines p h e)
+
+-- where the journey begins
+pub journey_at : (lines : List (List ℕ)) (p : BodyParts) (some : Bool) → Kept lines p → some ≡ is_some p.extra
+    → KeepJourney (drop (cond some 2 1) lines) p
+journey_at lines p some h e = subst (λ b. KeepJourney (drop (cond b 2 1) lines) p) (h.marked ∙ sym e) h.way
+
+-- the BX that a line spells is read from it
+pub extra_read : (line : List ℕ) (extra : Option Extra) (result : Result Extra Refusal) → is_some extra ≡ true
+    → IfSome extra (λ e. SpellsRecord line (of.Extra e)) → ((e : Extra) → SpellsExtra line e → result ≡ Ok e)
+    → (e : Extra) × (result ≡ Ok e) × (extra ≡ Some e)
+extra_read line None result some further only = cc
+extra_read line (Some e) result some further only = (e, only e further, refl)
+
+-- lines that keep equal parts are equal
+pub same_lines : (xs ys : List (List ℕ)) (p : BodyParts) → KeepBody xs p → KeepBody ys p → xs ≡ ys
+same_lines xs ys p k h =
+    plain_lines xs (kept_tables p.detail (body_records p)) k ∙ sym (plain_lines ys (kept_tables p.detail (body_records p)) h)
+
+-- equal lines keep equal parts
+pub same_parts : (lines : List (List ℕ)) (p q : BodyParts) → KeepBody lines p → KeepBody lines q → p ≡ q
+same_parts lines p q k h = sym (parts_in-keeps lines p k) ∙ parts_in-keeps lines q h

@@ -1,0 +1,51 @@
+-- The call that a line spells.
+use Rattle.std.proofs.Common.{◌≡◌, ℕ, true, false, List, sym, ap, subst, codes}
+use Rattle.std.proofs.Common.{length, map, ◌<◌, ◌∙◌, All, [], ◌∷◌, arith}
+use Rattle.std.proofs.lemmas.List.Elements.{All-tail}
+use Rattle.std.specs.Str.{bytes_eq}
+use Rattle.cif_columns.specs.Field.{columns}
+use Rattle.cif_extract.specs.Call.{SpellsSomeCall, call_in, call_record}
+use Rattle.cif_extract.specs.declared.call.Call.{Call}
+use Rattle.cif_extract.specs.declared.call.Call.TheVariants.{At, Turn}
+use Rattle.cif_records.specs.SpellsChange.{SpellsChange, change_in}
+use Rattle.cif_records.specs.SpellsRecord.{SpellsRecord}
+use Rattle.cif_records.specs.SpellsStop.{SpellsStop, stop_in}
+use Rattle.cif_records.proofs.Changes.{change_in-spells}
+use Rattle.cif_records.proofs.Stops.{stop_in-spells}
+
+-- what a call's line spells is what stands in it
+pub call_in-spells : (line : List ℕ) (call : Call) → SpellsRecord line (call_record call) → call_in line ≡ call
+call_in-spells line (At stop) s = rw s.0 (ap At (stop_in-spells line stop s))
+call_in-spells line (Turn change) s = rw s.0 (ap Turn (change_in-spells line change s))
+
+-- a line that spells some call spells what stands in it
+spelled : (line : List ℕ) → SpellsSomeCall line → SpellsRecord line (call_record (call_in line))
+spelled line h = subst (λ call. SpellsRecord line (call_record call)) (sym (call_in-spells line h.0 h.1)) h.1
+
+-- by its columns 1 and 2 it is a change
+pub spells_turn : (line : List ℕ) → SpellsSomeCall line → bytes_eq (columns 1 2 line) (codes "CR") ≡ true → SpellsChange line (change_in line)
+spells_turn line h e =
+    let it : call_in line ≡ Turn (change_in line) = rw e in
+    subst (λ call. SpellsRecord line (call_record call)) it (spelled line h)
+
+-- or a location
+pub spells_at : (line : List ℕ) → SpellsSomeCall line → bytes_eq (columns 1 2 line) (codes "CR") ≡ false → SpellsStop line (stop_in line)
+spells_at line h e =
+    let it : call_in line ≡ At (stop_in line) = rw e in
+    subst (λ call. SpellsRecord line (call_record call)) it (spelled line h)
+
+-- each call of the lines is spelled, and so is each of the rest
+pub first_and_rest : (lines others : List (List ℕ)) (first : List ℕ) → lines ≡ first ∷ others → All SpellsSomeCall lines
+    → SpellsSomeCall first × All SpellsSomeCall others
+first_and_rest lines others first is h =
+    let there = subst (All SpellsSomeCall) is h in
+    (there 0 [] (omega arith), All-tail SpellsSomeCall first others there)
+
+-- what one call of `next` takes and leaves
+module _ (now : List Call) (lines others : List (List ℕ)) (first : List ℕ) (call : Call) (view_is : map call_in lines ≡ now)
+    (is : lines ≡ first ∷ others) (read : call ≡ call_in first) where
+  pub first_call : now ≡ call ∷ map call_in others
+  first_call = sym view_is ∙ ap (map call_in) is ∙ ap (λ c. c ∷ map call_in others) (sym read)
+
+  pub fewer_calls : length (map call_in others) < length now
+  fewer_calls = omega (arith, ap length first_call)

@@ -1,0 +1,157 @@
+-- The last record of a schedule, and with it any record more, where it may stand.
+use Rattle.std.proofs.Common.{◌≡◌, ◌⊎◌, List, [], ◌∷◌, ◌++◌, map, true, Option, None, Some, ap, refl, sym, ◌∙◌, subst, append_assoc}
+use Rattle.std.proofs.Common.{append-nil, inl, inr, ⊎_elim, IfSome}
+use Rattle.cif_columns.specs.Field.{AllStandIn, plain_line}
+use Rattle.cif_extract.specs.Body.{KeepAll, KeepBody, KeepSomeBody, kept_tables, parts_in}
+use Rattle.cif_extract.specs.BodyParts.{BodyParts, extra_records, journey_records}
+use Rattle.cif_extract.specs.Call.{call_record}
+use Rattle.cif_extract.specs.Grammar.{AreJourney, AreSchedule, AreSchedules, HaveBody, HasTerms, records_before_trailer}
+use Rattle.cif_extract.specs.OrderOfRecords.{after_extra, may_stand}
+use Rattle.cif_extract.specs.Reading.{HasOwn, HasRead, HasReadAt, IsCancelled, IsKeepable, IsOpened, IsWithin}
+use Rattle.cif_extract.specs.Reading.{Progress, begun_journey, closed, kept, opened_by, parts_with_header, schedule_with, step}
+use Rattle.cif_extract.specs.declared.call.Call.{Call}
+use Rattle.cif_extract.specs.declared.call.Call.TheVariants.{At, Turn}
+use Rattle.cif_extract.specs.declared.opened.Opened.{Opened}
+use Rattle.cif_extract.specs.declared.place.Place.{Place}
+use Rattle.cif_extract.specs.declared.place.Place.TheVariants as at
+use Rattle.cif_extract.specs.declared.schedule.Schedule.{Schedule}
+use Rattle.cif_records.specs.SpellsRecord.{record_table}
+use Rattle.cif_records.specs.declared.basic.Basic.{Basic}
+use Rattle.cif_records.specs.declared.extra.Extra.{Extra}
+use Rattle.cif_records.specs.declared.kind.Kind.TheVariants.{Cr, Li, Lt}
+use Rattle.cif_records.specs.declared.origin.Origin.{Origin}
+use Rattle.cif_records.specs.declared.record.Record.{Record}
+use Rattle.cif_records.specs.declared.record.Record.TheVariants as of
+use Rattle.cif_records.specs.declared.terminus.Terminus.{Terminus}
+use Rattle.cif_extract.proofs.Bodies.{parts_in-keeps}
+use Rattle.cif_extract.proofs.GrammarLists.{behind_schedules, schedules_more}
+use Rattle.cif_extract.proofs.KeptLines.{journey-whole, keep_body}
+use Rattle.cif_extract.proofs.ReadingSteps.{association_step, header_step, own_at, tiploc_step, trailer_step}
+use Rattle.cif_extract.proofs.RecordKinds.{record_kind}
+use Rattle.cif_extract.proofs.ScheduleSteps.{Again, basic_step, call_step, extra_step, origin_step}
+
+module _ (records : List Record) (p : Progress) (t : Terminus) where
+  -- the schedules then, where they were these
+  closes : (w : IsWithin records p) (s : Schedule) → (step p (of.Terminus t)).schedules ≡ w.earlier ++ (s ∷ []) →
+      AreSchedule (w.own ++ (of.Terminus t ∷ [])) s → HasRead (records ++ (of.Terminus t ∷ [])) (step p (of.Terminus t))
+  closes w s all is = record {
+    header = w.header;
+    is_header = w.is_header;
+    earlier = (step p (of.Terminus t)).schedules;
+    groups = w.groups ++ (w.own ++ (of.Terminus t ∷ []));
+    own = [];
+    parts = ap (λ rs. rs ++ (of.Terminus t ∷ [])) w.parts
+        ∙ append_assoc (records_before_trailer (parts_with_header p w.header w.earlier) w.groups) w.own (of.Terminus t ∷ [])
+        ∙ behind_schedules (parts_with_header p w.header w.earlier) w.groups (w.own ++ (of.Terminus t ∷ []))
+        ∙ sym (append-nil (records_before_trailer (parts_with_header p w.header w.earlier) (w.groups ++ (w.own ++ (of.Terminus t ∷ [])))));
+    are = subst (AreSchedules (w.groups ++ (w.own ++ (of.Terminus t ∷ [])))) (sym all)
+        (schedules_more w.groups (w.own ++ (of.Terminus t ∷ [])) w.earlier s w.are is);
+    here = (refl, refl);
+  }
+
+  module _ (w : IsWithin records p) (b : Basic) (x : Option Extra) (o : Origin) (calls : List Call)
+      (own : w.own ≡ of.Basic b ∷ begun_journey x o calls) where
+    whole_own : w.own ++ (of.Terminus t ∷ []) ≡ of.Basic b ∷ (extra_records x ++ journey_records o calls t)
+    whole_own = ap (λ rs. rs ++ (of.Terminus t ∷ [])) own ∙ ap (λ rs. of.Basic b ∷ rs) (journey-whole x o calls t)
+
+    -- a schedule with a body
+    close_opened : Again (of.Terminus t) → IsOpened p w.earlier b (begun_journey x o calls) →
+        HasRead (records ++ (of.Terminus t ∷ [])) (step p (of.Terminus t))
+    close_opened again opened =
+        let body : BodyParts = record { detail = opened.detail; extra = x; origin = o; calls = calls; terminus = t } in
+        let lines = p.lines ++ (plain_line (record_table (of.Terminus t)) ∷ []) in
+        let keeps : KeepBody lines body = keep_body p.lines opened.detail x o calls t opened.lines again in
+        let same : parts_in lines ≡ body = parts_in-keeps lines body keeps in
+        closes w (schedule_with (opened_by b opened.runs) body)
+        (rw opened.opened (rw same (ap (λ (ss : List Schedule). ss ++ (schedule_with (opened_by b opened.runs) body ∷ [])) opened.schedules)))
+        (record {
+          basic = b;
+          extra = x;
+          journey = journey_records o calls t;
+          parts = whole_own;
+          terms = record { uid = refl; first = refl; last = refl; days = refl; letter = refl };
+          body = rw opened.has (refl, refl, refl);
+        })
+
+    -- a cancellation
+    close_cancelled : IsCancelled p w.earlier b → HasRead (records ++ (of.Terminus t ∷ [])) (step p (of.Terminus t))
+    close_cancelled c =
+        closes w c.schedule (rw c.opened c.schedules)
+        (record {
+          basic = b;
+          extra = x;
+          journey = journey_records o calls t;
+          parts = whole_own;
+          terms = c.terms;
+          body = rw (c.has_none, c.body) (inr (record { origin = o; calls = calls; terminus = t; are = refl }));
+        })
+
+    -- the lines that are kept are those of a body
+    keeps_some : Again (of.Terminus t) → IsOpened p w.earlier b (begun_journey x o calls) →
+        KeepSomeBody (kept p.opened p.lines (of.Terminus t))
+    keeps_some again opened =
+        rw opened.opened (record { detail = opened.detail; extra = x; origin = o; calls = calls; terminus = t },
+        keep_body p.lines opened.detail x o calls t opened.lines again)
+
+  terminus_where : (place : Place) → place ≡ p.place → Again (of.Terminus t) → HasReadAt place records p → may_stand place Lt ≡ true →
+      HasRead (records ++ (of.Terminus t ∷ [])) (step p (of.Terminus t))
+  terminus_where at.Start e again h may = cc
+  terminus_where at.Tiplocs e again h may = cc
+  terminus_where at.Associations e again h may = cc
+  terminus_where at.Basic e again h may = cc
+  terminus_where at.Extra e again h may = cc
+  terminus_where at.Cancelled e again h may = cc
+  terminus_where at.CancelledExtra e again h may = cc
+  terminus_where at.Journey e again h may =
+      let (b, x, o, calls, own, or) = own_at records p at.Journey e h in
+      ⊎_elim (close_opened h b x o calls own again) (close_cancelled h b x o calls own) or
+  terminus_where at.Schedules e again h may = cc
+  terminus_where at.Ended e again h may = cc
+
+  -- where a journey has begun, and its schedule has a body
+  keeps_journey : (place : Place) → place ≡ p.place → place ≡ at.Journey → HasReadAt place records p → (o : Opened) → p.opened ≡ Some o →
+      Again (of.Terminus t) → KeepSomeBody (kept p.opened p.lines (of.Terminus t))
+  keeps_journey at.Start e is h o some again = cc
+  keeps_journey at.Tiplocs e is h o some again = cc
+  keeps_journey at.Associations e is h o some again = cc
+  keeps_journey at.Basic e is h o some again = cc
+  keeps_journey at.Extra e is h o some again = cc
+  keeps_journey at.Cancelled e is h o some again = cc
+  keeps_journey at.CancelledExtra e is h o some again = cc
+  keeps_journey at.Journey e is h o some again =
+      let (b, x, origin, calls, own, or) = own_at records p at.Journey e h in
+      ⊎_elim (keeps_some h b x origin calls own again)
+      (λ (c : IsCancelled p h.earlier b). let none : None ≡ Some o = sym c.opened ∙ some in cc) or
+  keeps_journey at.Schedules e is h o some again = cc
+  keeps_journey at.Ended e is h o some again = cc
+
+pub keeps_body : (records : List Record) (p : Progress) (t : Terminus) → p.place ≡ at.Journey → HasRead records p → (o : Opened) →
+    p.opened ≡ Some o → Again (of.Terminus t) → KeepSomeBody (kept p.opened p.lines (of.Terminus t))
+keeps_body records p t is h o some again = keeps_journey records p t p.place refl is h o some again
+
+-- a change may stand where a location on the way may
+change_where : (place : Place) → may_stand place Li ≡ may_stand place Cr
+change_where at.Start = refl
+change_where at.Tiplocs = refl
+change_where at.Associations = refl
+change_where at.Basic = refl
+change_where at.Extra = refl
+change_where at.Cancelled = refl
+change_where at.CancelledExtra = refl
+change_where at.Journey = refl
+change_where at.Schedules = refl
+change_where at.Ended = refl
+
+-- any record more, where it may stand
+pub has_read_more : (records : List Record) (p : Progress) (r : Record) → IsKeepable r → HasRead records p →
+    may_stand p.place (record_kind r) ≡ true → HasRead (records ++ (r ∷ [])) (step p r)
+has_read_more records p (of.Header x) again h may = header_step records p x h may
+has_read_more records p (of.Tiploc x) again h may = tiploc_step records p x h may
+has_read_more records p (of.Association x) again h may = association_step records p x h may
+has_read_more records p (of.Basic x) again h may = basic_step records p x again h may
+has_read_more records p (of.Extra x) again h may = extra_step records p x again h may
+has_read_more records p (of.Origin x) again h may = origin_step records p x again h may
+has_read_more records p (of.Stop x) again h may = call_step records p (At x) again h may
+has_read_more records p (of.Change x) again h may = call_step records p (Turn x) again h (change_where p.place ∙ may)
+has_read_more records p (of.Terminus x) again h may = terminus_where records p x p.place refl again h may
+has_read_more records p of.Trailer again h may = trailer_step records p h may

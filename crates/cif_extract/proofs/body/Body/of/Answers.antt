@@ -1,0 +1,54 @@
+use Rattle.std.proofs.Common.{[], ◌∷◌, refl}
+use Rattle.std.specs.Option.{option_copied}
+use Rattle.std.proofs.lemmas.Slice.{pushed}
+use Rattle.cif_records.specs.Detail.{detail_table}
+use Rattle.cif_records.specs.SpellsRecord.{record_table}
+use Rattle.cif_records.specs.declared.record.Record.TheVariants.{Origin, Terminus}
+use Rattle.cif_extract.specs.BodyParts.{BodyParts}
+use Rattle.cif_extract.proofs.Bodies.{parts_in-keeps}
+use Rattle.cif_extract.proofs.BodyLines.{more_by, whole_body}
+use Rattle.cif_extract.proofs.body.Body.of.Goals as goal
+
+pub invariant_of-result : goal.invariant_of-result
+invariant_of-result c =
+    let p : BodyParts = record {
+      detail = c.args.detail.now;
+      extra = option_copied c.args.extra;
+      origin = c.args.origin.now;
+      calls = c.args.calls.now;
+      terminus = c.args.terminus.now;
+    } in
+    let a = more_by [] c.push.new.self.items c.write.result (detail_table p.detail)
+    (pushed {xs = []} (c.write.result ∷ []) c.in_ok-lines.ensures.items c.in_ok-push.was c.push.ensures.items)
+    c.write.ensures.again c.write.ensures.plain in
+    let b = more_by c.push_extra.new.lines.items c.push-2.new.self.items c.write-2.result (record_table (Origin p.origin))
+    (pushed {xs = c.push_extra.new.lines.items} (c.write-2.result ∷ []) refl c.in_ok-push-2.was c.push-2.ensures.items)
+    c.write-2.ensures.again c.write-2.ensures.plain in
+    let e = more_by c.push_calls.new.lines.items c.push-3.new.self.items c.write-3.result (record_table (Terminus p.terminus))
+    (pushed {xs = c.push_calls.new.lines.items} (c.write-3.result ∷ []) refl c.in_ok-push-3.was c.push-3.ensures.items)
+    c.write-3.ensures.again c.write-3.ensures.plain in
+    let k = whole_body p c.push.new.self.items c.push_extra.new.lines.items c.push-2.new.self.items c.push_calls.new.lines.items
+    c.push-3.new.self.items a c.in_ok-push_extra.ensures b c.in_ok-push_calls.ensures e in
+    (p, k)
+
+pub returns : goal.returns
+returns c =
+    let p : BodyParts = record {
+      detail = c.args.detail.now;
+      extra = option_copied c.args.extra;
+      origin = c.args.origin.now;
+      calls = c.args.calls.now;
+      terminus = c.args.terminus.now;
+    } in
+    let a = more_by [] c.push.new.self.items c.write.result (detail_table p.detail)
+    (pushed {xs = []} (c.write.result ∷ []) c.in_ok-lines.ensures.items c.in_ok-push.was c.push.ensures.items)
+    c.write.ensures.again c.write.ensures.plain in
+    let b = more_by c.push_extra.new.lines.items c.push-2.new.self.items c.write-2.result (record_table (Origin p.origin))
+    (pushed {xs = c.push_extra.new.lines.items} (c.write-2.result ∷ []) refl c.in_ok-push-2.was c.push-2.ensures.items)
+    c.write-2.ensures.again c.write-2.ensures.plain in
+    let e = more_by c.push_calls.new.lines.items c.push-3.new.self.items c.write-3.result (record_table (Terminus p.terminus))
+    (pushed {xs = c.push_calls.new.lines.items} (c.write-3.result ∷ []) refl c.in_ok-push-3.was c.push-3.ensures.items)
+    c.write-3.ensures.again c.write-3.ensures.plain in
+    let k = whole_body p c.push.new.self.items c.push_extra.new.lines.items c.push-2.new.self.items c.push_calls.new.lines.items
+    c.push-3.new.self.items a c.in_ok-push_extra.ensures b c.in_ok-push_calls.ensures e in
+    parts_in-keeps c.push-3.new.self.items p k

@@ -1,0 +1,9 @@
+use Rattle.std.proofs.Common.{map, take}
+use Rattle.cif_records.specs.SpellsRecord.{record_table}
+use Rattle.cif_extract.specs.Body.{KeepMore}
+use Rattle.cif_extract.specs.Call.{call_record}
+use Rattle.cif_extract.proofs.body.push_calls.Given as goal
+
+-- the lines of the calls so far stand behind those that were there
+abbrev pub invariant-loop-call : goal.invariant-loop-call
+invariant-loop-call l = KeepMore l.initial.lines.items l.lines.items (map record_table (map call_record (take l.call-index l.calls)))
