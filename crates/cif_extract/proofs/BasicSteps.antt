@@ -1,5 +1,5 @@
 -- What a BS comes to, and an LT.
-use Rattle.std.proofs.Common.{◌≡◌, ℕ, List, [], ◌∷◌, ◌++◌, Option, None, Some, Result, Ok, Err, IfSome, is_some, ap, refl, sym, ◌∙◌, subst}
+use Rattle.std.proofs.Common.{◌≡◌, ℕ, List, [], ◌∷◌, ◌++◌, Option, None, Some, Result, Ok, Err, is_some, ap, refl, sym, ◌∙◌, subst}
 use Rattle.cif_columns.specs.Field.{AllStandIn, plain_line}
 use Rattle.cif_columns.specs.declared.refusal.Refusal.{Refusal}
 use Rattle.cif_extract.specs.Grammar.{HasTerms}
@@ -14,7 +14,6 @@ use Rattle.cif_records.specs.Detail.{detail_table}
 use Rattle.cif_records.specs.SpellsRecord.{SpellsRecord}
 use Rattle.cif_records.specs.declared.basic.Basic.{Basic}
 use Rattle.cif_records.specs.declared.detail.Detail.{Detail}
-use Rattle.cif_records.specs.declared.record.Record.{Record}
 use Rattle.cif_records.specs.declared.record.Record.TheVariants as of
 use Rattle.cif_records.specs.declared.terminus.Terminus.{Terminus}
 use Rattle.cif_extract.proofs.Schedules.{same_opened, same_schedule}

@@ -1,6 +1,5 @@
 -- Records one behind another, as the grammar has them.
-use Rattle.std.proofs.Common.{◌≡◌, List, [], ◌∷◌, ◌++◌, map, Option, None, Some, ap, refl, sym, ◌∙◌, append_assoc, append-nil, inl}
-use Rattle.std.proofs.lemmas.List.{map-append}
+use Rattle.std.proofs.Common.{◌≡◌, List, [], ◌∷◌, ◌++◌, map, ap, refl, sym, ◌∙◌, append_assoc, append-nil}
 use Rattle.cif_extract.specs.ExtractParts.{ExtractParts}
 use Rattle.cif_extract.specs.Grammar.{AreSchedule, AreSchedules, records_before_trailer}
 use Rattle.cif_extract.specs.declared.schedule.Schedule.{Schedule}
@@ -12,9 +11,13 @@ pub schedules_more : (records own : List Record) (schedules : List Schedule) (sc
     AreSchedule own schedule → AreSchedules (records ++ own) (schedules ++ (schedule ∷ []))
 schedules_more records own [] schedule are is = (own, [], rw are (sym (append-nil own)), is, refl)
 schedules_more records own (s ∷ schedules) schedule are is =
-    let (first, others, parts, first_is, others_are) = are in
-    (first, others ++ own, ap (λ rs. rs ++ own) parts ∙ append_assoc first others own, first_is,
-    schedules_more others own schedules schedule others_are is)
+    let (first, others, parts, first_is, others_are) = are in (
+      first,
+      others ++ own,
+      ap (λ rs. rs ++ own) parts ∙ append_assoc first others own,
+      first_is,
+      schedules_more others own schedules schedule others_are is,
+    )
 
 -- records behind those of the schedules
 pub behind_schedules : (x : ExtractParts) (groups own : List Record) →

@@ -1,14 +1,13 @@
 -- The last record of a schedule, and with it any record more, where it may stand.
-use Rattle.std.proofs.Common.{◌≡◌, ◌⊎◌, List, [], ◌∷◌, ◌++◌, map, true, Option, None, Some, ap, refl, sym, ◌∙◌, subst, append_assoc}
-use Rattle.std.proofs.Common.{append-nil, inl, inr, ⊎_elim, IfSome}
-use Rattle.cif_columns.specs.Field.{AllStandIn, plain_line}
-use Rattle.cif_extract.specs.Body.{KeepAll, KeepBody, KeepSomeBody, kept_tables, parts_in}
+use Rattle.std.proofs.Common.{◌≡◌, List, [], ◌∷◌, ◌++◌, true, Option, None, Some, ap, refl, sym, ◌∙◌, subst, append_assoc}
+use Rattle.std.proofs.Common.{append-nil, inr, ⊎_elim}
+use Rattle.cif_columns.specs.Field.{plain_line}
+use Rattle.cif_extract.specs.Body.{KeepBody, KeepSomeBody, parts_in}
 use Rattle.cif_extract.specs.BodyParts.{BodyParts, extra_records, journey_records}
-use Rattle.cif_extract.specs.Call.{call_record}
-use Rattle.cif_extract.specs.Grammar.{AreJourney, AreSchedule, AreSchedules, HaveBody, HasTerms, records_before_trailer}
-use Rattle.cif_extract.specs.OrderOfRecords.{after_extra, may_stand}
-use Rattle.cif_extract.specs.Reading.{HasOwn, HasRead, HasReadAt, IsCancelled, IsKeepable, IsOpened, IsWithin}
-use Rattle.cif_extract.specs.Reading.{Progress, begun_journey, closed, kept, opened_by, parts_with_header, schedule_with, step}
+use Rattle.cif_extract.specs.Grammar.{AreSchedule, AreSchedules, records_before_trailer}
+use Rattle.cif_extract.specs.OrderOfRecords.{may_stand}
+use Rattle.cif_extract.specs.Reading.{HasRead, HasReadAt, IsCancelled, IsKeepable, IsOpened, IsWithin}
+use Rattle.cif_extract.specs.Reading.{Progress, begun_journey, kept, opened_by, parts_with_header, schedule_with, step}
 use Rattle.cif_extract.specs.declared.call.Call.{Call}
 use Rattle.cif_extract.specs.declared.call.Call.TheVariants.{At, Turn}
 use Rattle.cif_extract.specs.declared.opened.Opened.{Opened}
@@ -90,8 +89,10 @@ module _ (records : List Record) (p : Progress) (t : Terminus) where
     keeps_some : Again (of.Terminus t) → IsOpened p w.earlier b (begun_journey x o calls) →
         KeepSomeBody (kept p.opened p.lines (of.Terminus t))
     keeps_some again opened =
-        rw opened.opened (record { detail = opened.detail; extra = x; origin = o; calls = calls; terminus = t },
-        keep_body p.lines opened.detail x o calls t opened.lines again)
+        rw opened.opened (
+          record { detail = opened.detail; extra = x; origin = o; calls = calls; terminus = t },
+          keep_body p.lines opened.detail x o calls t opened.lines again,
+        )
 
   terminus_where : (place : Place) → place ≡ p.place → Again (of.Terminus t) → HasReadAt place records p → may_stand place Lt ≡ true →
       HasRead (records ++ (of.Terminus t ∷ [])) (step p (of.Terminus t))

@@ -1,9 +1,9 @@
 -- Lines that are kept, one after another.
-use Rattle.std.proofs.Common.{◌≡◌, ℕ, List, [], ◌∷◌, ◌++◌, map, Option, None, Some, ap, sym, ◌∙◌, refl, subst, append_assoc}
+use Rattle.std.proofs.Common.{◌≡◌, ℕ, List, [], ◌∷◌, ◌++◌, map, Option, ap, sym, ◌∙◌, refl, subst, append_assoc}
 use Rattle.std.proofs.lemmas.List.{map-append}
 use Rattle.cif_columns.specs.Field.{Row, AllStandIn, plain_line}
-use Rattle.cif_extract.specs.Body.{KeepAll, KeepBody, kept_tables, parts_in}
-use Rattle.cif_extract.specs.BodyParts.{BodyParts, extra_records, journey_records}
+use Rattle.cif_extract.specs.Body.{KeepAll, KeepBody, kept_tables}
+use Rattle.cif_extract.specs.BodyParts.{extra_records, journey_records}
 use Rattle.cif_extract.specs.Call.{call_record}
 use Rattle.cif_extract.specs.Reading.{begun_journey}
 use Rattle.cif_extract.specs.declared.call.Call.{Call}

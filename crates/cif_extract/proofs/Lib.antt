@@ -3,9 +3,11 @@ pub mod Bodies
 pub mod BodyLines
 pub mod CallLines
 pub mod DetailLines
+pub mod FirstRefusals
 pub mod GrammarLists
 pub mod JourneySteps
 pub mod KeptLines
+pub mod ReadingRuns
 pub mod ReadingSteps
 pub mod RecordKinds
 pub mod ScheduleSteps

@@ -1,34 +1,24 @@
 -- One record more, where it may stand.
-use Rattle.std.proofs.Common.{◌≡◌, List, [], ◌∷◌, ◌++◌, map, true, Option, None, Some, is_some, ap, refl, sym, ◌∙◌, subst, append_assoc}
-use Rattle.std.proofs.Common.{append-nil, inl, inr, ⊎_elim, IfSome}
+use Rattle.std.proofs.Common.{◌≡◌, List, [], ◌∷◌, ◌++◌, map, true, Option, None, Some, ap, refl, sym, ◌∙◌, subst, append_assoc}
+use Rattle.std.proofs.Common.{append-nil, inl}
 use Rattle.std.proofs.lemmas.List.{map-append}
-use Rattle.cif_columns.specs.Field.{AllStandIn, plain_line}
-use Rattle.cif_extract.specs.Body.{KeepAll, KeepSomeBody, kept_tables}
-use Rattle.cif_extract.specs.BodyParts.{extra_records, journey_records}
-use Rattle.cif_extract.specs.Call.{call_record}
-use Rattle.cif_extract.specs.Grammar.{AreSchedule, AreSchedules, HaveBody, HasTerms, records_before_trailer}
-use Rattle.cif_extract.specs.OrderOfRecords.{after_extra, may_stand}
-use Rattle.cif_extract.specs.Reading.{HasOwn, HasRead, HasReadAt, IsCancelled, IsKeepable, IsNone, IsOpened, IsWhole, IsWithin}
-use Rattle.cif_extract.specs.Reading.{Progress, begun, begun_journey, closed, kept, parts_with_header, step}
-use Rattle.cif_extract.specs.declared.call.Call.{Call}
+use Rattle.cif_extract.specs.BodyParts.{extra_records}
+use Rattle.cif_extract.specs.Grammar.{AreSchedule, AreSchedules, records_before_trailer}
+use Rattle.cif_extract.specs.OrderOfRecords.{may_stand}
+use Rattle.cif_extract.specs.Reading.{HasOwn, HasRead, HasReadAt, IsCancelled, IsWithin}
+use Rattle.cif_extract.specs.Reading.{Progress, parts_with_header, step}
 use Rattle.cif_extract.specs.declared.place.Place.{Place}
 use Rattle.cif_extract.specs.declared.place.Place.TheVariants as at
 use Rattle.cif_extract.specs.declared.schedule.Schedule.{Schedule}
-use Rattle.cif_records.specs.Bodies.{has_body}
-use Rattle.cif_records.specs.SpellsRecord.{record_table}
 use Rattle.cif_records.specs.declared.basic.Basic.{Basic}
-use Rattle.cif_records.specs.declared.detail.Detail.{Detail}
 use Rattle.cif_records.specs.declared.extra.Extra.{Extra}
 use Rattle.cif_records.specs.declared.header.Header.{Header}
-use Rattle.cif_records.specs.declared.kind.Kind.TheVariants.{Hd, Ti, Aa, Bs, Bx, Lo, Li, Cr, Lt, Zz}
-use Rattle.cif_records.specs.declared.origin.Origin.{Origin}
+use Rattle.cif_records.specs.declared.kind.Kind.TheVariants.{Hd, Ti, Aa, Bs, Zz}
 use Rattle.cif_records.specs.declared.record.Record.{Record}
 use Rattle.cif_records.specs.declared.record.Record.TheVariants as of
 use Rattle.cif_records.specs.declared.association.Association.{Association}
 use Rattle.cif_records.specs.declared.tiploc.Tiploc.{Tiploc}
-use Rattle.cif_records.specs.declared.terminus.Terminus.{Terminus}
 use Rattle.cif_extract.proofs.GrammarLists.{behind_schedules, schedules_more}
-use Rattle.cif_extract.proofs.KeptLines.{journey-more, journey-whole, keep_body, kept-more}
 
 -- no schedule is being read
 pub record AreClosed (records : List Record) (p : Progress) : Type 0 where

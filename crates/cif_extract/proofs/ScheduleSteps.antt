@@ -1,17 +1,14 @@
 -- One record more of a schedule, where it may stand.
-use Rattle.std.proofs.Common.{◌≡◌, ◌⊎◌, List, [], ◌∷◌, ◌++◌, map, true, Option, None, Some, is_some, ap, refl, sym, ◌∙◌, subst, append_assoc}
-use Rattle.std.proofs.Common.{append-nil, inl, inr, ⊎_elim, IfSome}
+use Rattle.std.proofs.Common.{◌≡◌, ◌⊎◌, List, [], ◌∷◌, ◌++◌, true, Option, None, Some, is_some, ap, refl, ◌∙◌, subst, append_assoc}
+use Rattle.std.proofs.Common.{inl, inr, ⊎_elim, IfSome}
 use Rattle.cif_columns.specs.Field.{AllStandIn, plain_line}
-use Rattle.cif_extract.specs.Body.{KeepAll, KeepBody, KeepSomeBody, kept_tables, parts_in}
-use Rattle.cif_extract.specs.BodyParts.{BodyParts, extra_records, journey_records}
+use Rattle.cif_extract.specs.BodyParts.{extra_records}
 use Rattle.cif_extract.specs.Call.{call_record}
-use Rattle.cif_extract.specs.Grammar.{AreSchedule, AreSchedules, HaveBody, HasTerms, records_before_trailer}
+use Rattle.cif_extract.specs.Grammar.{records_before_trailer}
 use Rattle.cif_extract.specs.OrderOfRecords.{after_extra, may_stand}
 use Rattle.cif_extract.specs.Reading.{HasOwn, HasRead, HasReadAt, IsCancelled, IsKeepable, IsOpened, IsWithin}
-use Rattle.cif_extract.specs.Reading.{Progress, begun, begun_journey, closed, kept, opened_by, parts_with_header, schedule_with, step}
+use Rattle.cif_extract.specs.Reading.{Progress, begun, begun_journey, kept, parts_with_header, step}
 use Rattle.cif_extract.specs.declared.call.Call.{Call}
-use Rattle.cif_extract.specs.declared.call.Call.TheVariants.{At, Turn}
-use Rattle.cif_extract.specs.declared.opened.Opened.{Opened}
 use Rattle.cif_extract.specs.declared.place.Place.{Place}
 use Rattle.cif_extract.specs.declared.place.Place.TheVariants as at
 use Rattle.cif_extract.specs.declared.schedule.Schedule.{Schedule}
@@ -21,14 +18,11 @@ use Rattle.cif_records.specs.SpellsRecord.{record_table}
 use Rattle.cif_records.specs.declared.basic.Basic.{Basic}
 use Rattle.cif_records.specs.declared.detail.Detail.{Detail}
 use Rattle.cif_records.specs.declared.extra.Extra.{Extra}
-use Rattle.cif_records.specs.declared.header.Header.{Header}
-use Rattle.cif_records.specs.declared.kind.Kind.TheVariants.{Bs, Bx, Lo, Li, Lt}
+use Rattle.cif_records.specs.declared.kind.Kind.TheVariants.{Bs, Bx, Lo, Li}
 use Rattle.cif_records.specs.declared.origin.Origin.{Origin}
 use Rattle.cif_records.specs.declared.record.Record.{Record}
 use Rattle.cif_records.specs.declared.record.Record.TheVariants as of
-use Rattle.cif_records.specs.declared.terminus.Terminus.{Terminus}
-use Rattle.cif_extract.proofs.GrammarLists.{behind_schedules, schedules_more}
-use Rattle.cif_extract.proofs.KeptLines.{journey-more, journey-whole, keep_body, kept-more}
+use Rattle.cif_extract.proofs.KeptLines.{journey-more, kept-more}
 use Rattle.cif_extract.proofs.ReadingSteps.{AreClosed, closed_here, own_at}
 
 -- the plain line of the record spells it
@@ -52,14 +46,18 @@ module _ (records : List Record) (p : Progress) where
     own = of.Basic b ∷ [];
     parts = ap (λ rs. rs ++ (of.Basic b ∷ [])) c.parts;
     are = c.are;
-    here = (b, refl, record {
-      has_none = is;
-      opened = refl;
-      schedule = _;
-      schedules = refl;
-      terms = record { uid = refl; first = refl; last = refl; days = refl; letter = refl };
-      body = refl;
-    });
+    here = (
+      b,
+      refl,
+      record {
+        has_none = is;
+        opened = refl;
+        schedule = _;
+        schedules = refl;
+        terms = record { uid = refl; first = refl; last = refl; days = refl; letter = refl };
+        body = refl;
+      },
+    );
   }
   begun_here b (Some d) e is again c = record {
     header = c.header;
@@ -69,14 +67,18 @@ module _ (records : List Record) (p : Progress) where
     own = of.Basic b ∷ [];
     parts = ap (λ rs. rs ++ (of.Basic b ∷ [])) c.parts;
     are = c.are;
-    here = (b, refl, record {
-      detail = d;
-      has = is;
-      runs = e;
-      opened = refl;
-      schedules = refl;
-      lines = (again, refl, tt);
-    });
+    here = (
+      b,
+      refl,
+      record {
+        detail = d;
+        has = is;
+        runs = e;
+        opened = refl;
+        schedules = refl;
+        lines = (again, refl, tt);
+      },
+    );
   }
 
   pub basic_step : (b : Basic) → IsKeepable (of.Basic b) → HasRead records p → may_stand p.place Bs ≡ true →
@@ -147,10 +149,16 @@ module _ (records : List Record) (p : Progress) where
       Again (of.Origin o) → IsOpened p w.earlier b (extra_records x) ⊎ IsCancelled p w.earlier b →
       IsWithin (records ++ (of.Origin o ∷ [])) (step p (of.Origin o))
   origin_opened o w b x own again or =
-      within_more at.Journey (of.Origin o) (of.Basic b ∷ begun_journey x o []) w (ap (λ rs. rs ++ (of.Origin o ∷ [])) own)
-      (b, x, o, [], refl, ⊎_elim
-      (λ opened. inl (opened_more w.earlier b (extra_records x) at.Journey (of.Origin o) again opened))
-      (λ cancelled. inr (cancelled_more w.earlier b at.Journey (of.Origin o) cancelled)) or)
+      within_more at.Journey (of.Origin o) (of.Basic b ∷ begun_journey x o []) w (ap (λ rs. rs ++ (of.Origin o ∷ [])) own) (
+        b,
+        x,
+        o,
+        [],
+        refl,
+        ⊎_elim
+            (λ opened. inl (opened_more w.earlier b (extra_records x) at.Journey (of.Origin o) again opened))
+            (λ cancelled. inr (cancelled_more w.earlier b at.Journey (of.Origin o) cancelled)) or,
+      )
 
   origin_where : (o : Origin) (place : Place) → place ≡ p.place → Again (of.Origin o) → HasReadAt place records p →
       may_stand place Lo ≡ true → HasRead (records ++ (of.Origin o ∷ [])) (step p (of.Origin o))
@@ -182,11 +190,17 @@ module _ (records : List Record) (p : Progress) where
   call_where call at.Journey e again h may =
       let (b, x, o, calls, own, or) = own_at records p at.Journey e h in
       within_more at.Journey (call_record call) (of.Basic b ∷ begun_journey x o (calls ++ (call ∷ []))) h
-      (ap (λ rs. rs ++ (call_record call ∷ [])) own ∙ ap (λ rs. of.Basic b ∷ rs) (journey-more x o calls call))
-      (b, x, o, calls ++ (call ∷ []), refl, ⊎_elim
-      (λ opened. inl (subst (IsOpened (with_line p at.Journey (call_record call)) h.earlier b) (journey-more x o calls call)
-      (opened_more h.earlier b (begun_journey x o calls) at.Journey (call_record call) again opened)))
-      (λ cancelled. inr (cancelled_more h.earlier b at.Journey (call_record call) cancelled)) or)
+      (ap (λ rs. rs ++ (call_record call ∷ [])) own ∙ ap (λ rs. of.Basic b ∷ rs) (journey-more x o calls call)) (
+        b,
+        x,
+        o,
+        calls ++ (call ∷ []),
+        refl,
+        ⊎_elim
+            (λ opened. inl (subst (IsOpened (with_line p at.Journey (call_record call)) h.earlier b) (journey-more x o calls call)
+            (opened_more h.earlier b (begun_journey x o calls) at.Journey (call_record call) again opened)))
+            (λ cancelled. inr (cancelled_more h.earlier b at.Journey (call_record call) cancelled)) or,
+      )
   call_where call at.Schedules e again h may = cc
   call_where call at.Ended e again h may = cc
 

@@ -6,6 +6,7 @@ pub mod Fault
 pub mod FirstRefusal
 pub mod Grammar
 pub mod OrderOfRecords
+pub mod ReadFault
 pub mod Reading
 pub mod SpellsExtract
 pub mod StopAt

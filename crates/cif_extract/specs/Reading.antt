@@ -1,5 +1,5 @@
 -- What a reading has come to, for the contracts of the reader's own steps. No clause of a public function cites it.
-use Rattle.std.specs.Prelude.{◌≡◌, ◌⊎◌, ℕ, Bool, List, [], ◌∷◌, ◌++◌, Option, None, Some, Result, Ok, Err, IfSome, is_some, map, true, false}
+use Rattle.std.specs.Prelude.{◌≡◌, ◌⊎◌, ℕ, List, [], ◌∷◌, ◌++◌, Option, None, Some, Result, Ok, Err, IfSome, is_some, map, true, false}
 use Rattle.cif_columns.specs.Field.{AllStandIn, plain_line}
 use Rattle.cif_columns.specs.declared.refusal.Refusal.{Refusal}
 use Rattle.cif_columns.specs.declared.refusal.Refusal.TheVariants.{UnknownRecord, OutOfOrder}
@@ -20,7 +20,6 @@ use Rattle.cif_extract.specs.declared.stop_at.StopAt.TheVariants as stop
 use Rattle.cif_records.specs.Bodies.{has_body}
 use Rattle.cif_records.specs.Checks.{first_of, unless}
 use Rattle.cif_records.specs.Detail.{detail_table}
-use Rattle.cif_records.specs.Kind.{kind_in}
 use Rattle.cif_records.specs.Record.{refusal_as}
 use Rattle.cif_records.specs.SpellsRecord.{SpellsRecord, record_table}
 use Rattle.cif_records.specs.declared.association.Association.{Association}
@@ -253,3 +252,23 @@ HasReadAt _ records p = IsWithin records p
 
 abbrev pub HasRead : List Record → Progress → Type 0
 HasRead records p = HasReadAt p.place records p
+
+-- before the first line
+abbrev pub no_progress : Progress
+no_progress = record {
+  place = at.Start;
+  header = None;
+  tiplocs = [];
+  associations = [];
+  schedules = [];
+  opened = None;
+  lines = [];
+}
+
+-- what a reading has come to where it is whole
+abbrev pub IsHeld : Progress → ExtractParts → Type 0
+IsHeld p x = (p.place ≡ at.Ended) × (p.header ≡ Some x.header) × (x ≡ parts_with_header p x.header p.schedules)
+
+-- a reading isn't whole: a trailer is missing, or everything
+abbrev pub IsUnfinished : Progress → Type 0
+IsUnfinished p = (p.place ≡ at.Ended → ⊥) ⊎ (p.header ≡ None)

@@ -1,5 +1,6 @@
 //! What the lines of an extract have come to.
-ghost use Rattle.std.specs.Prelude.{◌≡◌, ◌++◌, ◌∷◌, [], List, Some, OnOk, IfOk};
+ghost use Rattle.std.specs.Prelude.{◌≡◌, ◌+◌, ◌^◌, ◌<◌, ◌++◌, ◌∷◌, [], List, Some, OnOk, IfOk, IfErr};
+ghost use Rattle.cif_columns.specs.Line.{IsLine};
 ghost use Rattle.cif_records.specs.Association.{association_refusal};
 ghost use Rattle.cif_records.specs.Basic.{basic_refusal};
 ghost use Rattle.cif_records.specs.Header.{header_refusal};
@@ -12,11 +13,9 @@ ghost use Rattle.cif_records.specs.Trailer.{trailer_refusal};
 use crate::opened::Opened;
 use crate::place::Place;
 use crate::stop_at::StopAt;
-use crate::{Body, Schedule};
+use crate::{Body, Extract, Fault, Schedule};
 use cif_columns::{Line, Refusal};
-use cif_records::{
-    Association, Basic, Header, Kind, Tiploc, Trailer, kind_of, plain_line_of,
-};
+use cif_records::{Association, Basic, Header, Kind, Tiploc, Trailer, kind_of, plain_line_of};
 use std::alloc::{AllocError, Global};
 
 /// What the lines so far have come to.
@@ -35,11 +34,15 @@ pub(crate) struct Reading {
 impl Reading {
     ghost use Rattle.cif_extract.specs.Body.{KeepSomeBody};
     ghost use Rattle.cif_extract.specs.Reading.{HasRead, IsClosed, IsKept, IsOnTheWay, IsTaken};
-    ghost use Rattle.cif_extract.specs.Reading.{progress_of, refusal_here};
+    ghost use Rattle.cif_extract.specs.Reading.{IsHeld, IsUnfinished, no_progress, progress_of};
+    ghost use Rattle.cif_extract.specs.Reading.{refusal_here};
+    ghost use Rattle.cif_extract.specs.ExtractParts.{extract_parts};
     ghost use Rattle.cif_records.specs.declared.record.Record.{Record};
 
     /// The reading of no lines.
-    pub(crate) fn new(alloc: Global) -> Reading {
+    pub(crate) fn new(alloc: Global) -> Reading
+        ensures { progress_of result ≡ no_progress }
+    {
         Reading {
             place: Place::Start,
             header: None,
@@ -55,8 +58,9 @@ impl Reading {
     /// asked for after them.
     pub(crate) fn take(&mut self, alloc: Global, line: &Line) -> Result<(), StopAt>
         requires { (records : List Record) × HasRead records (progress_of self.old) }
-        ensures { IsTaken (refusal_here self.old.place (kind_in line.now) line.now) line.now
-            (progress_of self.old) result (progress_of self.new) }
+        ensures taken { IsTaken (refusal_here self.old.place (kind_in line.now) line.now)
+            line.now (progress_of self.old) result (progress_of self.new) }
+        ensures line { IsLine line.now }
     {
         let Some(kind) = kind_of(line) else {
             return Err(StopAt::Refused(Refusal::UnknownRecord));
@@ -74,6 +78,41 @@ impl Reading {
             Kind::Ta | Kind::Td => Err(StopAt::Refused(Refusal::NotFull)),
             Kind::Hd => self.take_header(line),
             Kind::Zz => self.take_trailer(line),
+        }
+    }
+
+    /// The extract, where these are all lines.
+    pub(crate) fn finish(self, lines: u64) -> Result<Extract, Fault>
+        requires { lines < 2 ^ 32 }
+        ensures ok { IfOk result (λ extract. IsHeld (progress_of self) (extract_parts extract)) }
+        ensures truncated { IfErr result (λ fault.
+            (fault ≡ Fault.Refused (lines + 1) Refusal.Truncated)
+            × IsUnfinished (progress_of self)) }
+    {
+        let truncated = Fault::Refused {
+            line: lines + 1,
+            why: Refusal::Truncated,
+        };
+        let Reading {
+            place,
+            header,
+            tiplocs,
+            associations,
+            schedules,
+            opened: _,
+            lines: _,
+        } = self;
+        if !matches!(place, Place::Ended) {
+            return Err(truncated);
+        }
+        match header {
+            Some(header) => Ok(Extract {
+                header,
+                tiplocs,
+                associations,
+                schedules,
+            }),
+            None => Err(truncated),
         }
     }
 

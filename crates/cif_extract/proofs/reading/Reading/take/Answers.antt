@@ -3,21 +3,21 @@ use Rattle.cif_extract.specs.Reading.{IsTaken, progress_of}
 use Rattle.cif_extract.proofs.TakenLines.{refusal_of_record}
 use Rattle.cif_extract.proofs.reading.Reading.take.Goals as goal
 
-pub returns-in-Li : goal.returns-in-Li
-returns-in-Li c =
+pub returns-in-Li-clause-taken : goal.returns-in-Li-clause-taken
+returns-in-Li-clause-taken c =
     subst (λ refusal. IsTaken refusal c.args.line.now (progress_of c.args.self.now) c.take_call.result (progress_of c.take_call.new.self))
     (sym (refusal_of_record c.args.self.now.place c.args.line.now c.in-Some.kind (sym c.kind_of.ensures.kind ∙ c.in-Some.is)
     (sym c.allows.ensures ∙ c.if-not-allows.false))) c.take_call.ensures
 
-pub returns-in-Lt : goal.returns-in-Lt
-returns-in-Lt c =
+pub returns-in-Lt-clause-taken : goal.returns-in-Lt-clause-taken
+returns-in-Lt-clause-taken c =
     subst (λ refusal. IsTaken refusal c.args.line.now (progress_of c.args.self.now) c.take_terminus.result
     (progress_of c.take_terminus.new.self))
     (sym (refusal_of_record c.args.self.now.place c.args.line.now c.in-Some.kind (sym c.kind_of.ensures.kind ∙ c.in-Some.is)
     (sym c.allows.ensures ∙ c.if-not-allows.false))) c.take_terminus.ensures
 
-pub returns-in-Bx : goal.returns-in-Bx
-returns-in-Bx c =
+pub returns-in-Bx-clause-taken : goal.returns-in-Bx-clause-taken
+returns-in-Bx-clause-taken c =
     subst (λ refusal. IsTaken refusal c.args.line.now (progress_of c.args.self.now) c.take_extra.result
     (progress_of c.take_extra.new.self))
     (sym (refusal_of_record c.args.self.now.place c.args.line.now c.in-Some.kind (sym c.kind_of.ensures.kind ∙ c.in-Some.is)

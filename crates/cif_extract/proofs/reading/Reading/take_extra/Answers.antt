@@ -9,6 +9,13 @@ pub returns : goal.returns
 returns c =
     let (fine, taken) = c.in_ok-keep.ensures in
     let (r, spells, again, is) = taken in
-    let (keepable, stepped) = step_extra (progress_of c.args.self.now) r (kind_here c.args.line.now r Bx spells c.requires) again in
-    (fine, (r, spells, keepable, rw c.after_extra-self.ensures
-    (ap (λ (p : Progress). record p { place = after_extra p.place }) is ∙ stepped)))
+    let (keepable, stepped) = step_extra (progress_of c.args.self.now) r (kind_here c.args.line.now r Bx spells c.requires) again in (
+      fine,
+      (
+        r,
+        spells,
+        keepable,
+        rw c.after_extra-self.ensures
+            (ap (λ (p : Progress). record p { place = after_extra p.place }) is ∙ stepped),
+      ),
+    )

@@ -1,7 +1,6 @@
 use Rattle.std.proofs.Common.{◌≡◌, Some, sym, ◌∙◌, subst, ap}
 use Rattle.cif_extract.specs.Body.{KeepSomeBody}
 use Rattle.cif_extract.specs.Reading.{Progress, kept, progress_of}
-use Rattle.cif_records.specs.SpellsRecord.{SpellsRecord}
 use Rattle.cif_records.specs.declared.kind.Kind.TheVariants.{Lt}
 use Rattle.cif_records.specs.declared.record.Record.TheVariants as of
 use Rattle.cif_extract.proofs.BasicSteps.{closing, terminus_none}
@@ -35,6 +34,13 @@ pub returns-in-None : goal.returns-in-None
 returns-in-None c =
     let (fine, taken) = c.in_ok-keep.ensures in
     let (r, spells, again, is) = taken in
-    let (t, same) = is_terminus r (kind_here c.args.line.now r Lt spells c.requires.kind) in
-    (fine, (of.Terminus t, rw same at spells, rw same at again, rw c.take.ensures.after
-    (terminus_none (progress_of c.args.self.now) (progress_of c.keep.new.self) t (rw same at is) (sym c.take.ensures.value ∙ c.in-None.is))))
+    let (t, same) = is_terminus r (kind_here c.args.line.now r Lt spells c.requires.kind) in (
+      fine,
+      (
+        of.Terminus t,
+        rw same at spells,
+        rw same at again,
+        rw c.take.ensures.after
+            (terminus_none (progress_of c.args.self.now) (progress_of c.keep.new.self) t (rw same at is) (sym c.take.ensures.value ∙ c.in-None.is)),
+      ),
+    )

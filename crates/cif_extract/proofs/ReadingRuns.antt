@@ -1,0 +1,235 @@
+-- What the lines so far have come to, line by line.
+use Rattle.std.proofs.Common.{◌≡◌, ◌≢◌, ℕ, ◌<◌, Bool, true, false, List, [], ◌∷◌, ◌++◌, length, Option, Some, None, Result, Ok, Err, refl, sym}
+use Rattle.std.proofs.Common.{ap, ◌∙◌, subst, is_some, cond, codes, IfSome, IfErr, IfOk, inr, ⊎_elim, ◌+◌}
+use Rattle.std.proofs.lemmas.List.Elements.{All-cons, All-nil, All-append}
+use Rattle.std.specs.Prelude.{All}
+use Rattle.std.specs.Str.{bytes_eq}
+use Rattle.cif_columns.specs.GivenLines.{AreAllLines}
+use Rattle.cif_columns.specs.Line.{IsLine}
+use Rattle.cif_columns.specs.Stp.{letter}
+use Rattle.cif_columns.specs.declared.refusal.Refusal.{Refusal}
+use Rattle.cif_columns.specs.declared.refusal.Refusal.TheVariants as refusal
+use Rattle.cif_columns.specs.declared.stp.Stp.{Stp}
+use Rattle.cif_columns.specs.declared.stp.Stp.TheVariants.{C, N, O, P}
+use Rattle.cif_columns.proofs.GivenLinesLaws.{known_so}
+use Rattle.cif_columns.proofs.Parts.{stands-back}
+use Rattle.cif_extract.specs.ExtractParts.{ExtractParts, extract_parts}
+use Rattle.cif_extract.specs.FirstRefusal.{NoneRefused, IsFirstRefusal, kind_refusal, refusal_of}
+use Rattle.cif_extract.specs.Grammar.{AreExtract}
+use Rattle.cif_extract.specs.OrderOfRecords.{cancels, may_stand, place_after, place_behind, place_from, rules}
+use Rattle.cif_extract.specs.ReadFault.{IsReadFault}
+use Rattle.cif_extract.specs.Reading.{HasRead, HasReadAt, IsHeld, IsTaken, IsUnfinished, Progress, begun, no_progress}
+use Rattle.cif_extract.specs.Reading.{parts_with_header, refusal_here, step}
+use Rattle.cif_extract.specs.SpellsExtract.{BytesSpell, SpellAll, SpellExtract}
+use Rattle.cif_extract.specs.StopAt.{stop_fault}
+use Rattle.cif_extract.specs.declared.extract.Extract.{Extract}
+use Rattle.cif_extract.specs.declared.fault.Fault.{Fault}
+use Rattle.cif_extract.specs.declared.fault.Fault.TheVariants as fault
+use Rattle.cif_extract.specs.declared.place.Place.{Place}
+use Rattle.cif_extract.specs.declared.place.Place.TheVariants as at
+use Rattle.cif_extract.specs.declared.stop_at.StopAt.{StopAt}
+use Rattle.cif_extract.specs.declared.stop_at.StopAt.TheVariants as stop
+use Rattle.cif_records.specs.Basic.{basic_back, basic_front}
+use Rattle.cif_records.specs.Bodies.{has_body}
+use Rattle.cif_records.specs.Checks.{first_of, unless}
+use Rattle.cif_records.specs.Detail.{detail_rows}
+use Rattle.cif_records.specs.Kind.{kind_in}
+use Rattle.cif_records.specs.Record.{refusal_as}
+use Rattle.cif_records.specs.SpellsRecord.{SpellsRecord}
+use Rattle.cif_records.specs.declared.basic.Basic.{Basic}
+use Rattle.cif_records.specs.declared.detail.Detail.{Detail}
+use Rattle.cif_records.specs.declared.header.Header.{Header}
+use Rattle.cif_records.specs.declared.kind.Kind.{Kind}
+use Rattle.cif_records.specs.declared.kind.Kind.TheVariants.{Zz}
+use Rattle.cif_records.specs.declared.record.Record.{Record}
+use Rattle.cif_records.specs.declared.record.Record.TheVariants as of
+use Rattle.cif_extract.proofs.FirstRefusals.{line_refusal, none_refused-more, none_refused-none}
+use Rattle.cif_extract.proofs.JourneySteps.{has_read_more}
+use Rattle.cif_extract.proofs.RecordKinds.{record_kind, spelled_kind}
+
+-- no trailer
+abbrev pub IsNoTrailer : List ℕ → Type 0
+IsNoTrailer content = kind_in content ≢ Some Zz
+
+-- the lines so far came to this, and none of them is refused
+pub record HasCome (max : ℕ) (lines : List (List ℕ)) (p : Progress) : Type 0 where
+  pub records : List Record
+  pub spelled : SpellAll lines records
+  pub read : HasRead records p
+  pub fine : NoneRefused rules max lines
+  pub place : place_from at.Start lines ≡ p.place
+  pub no_trailer : (p.place ≡ at.Ended → ⊥) → All IsNoTrailer lines
+
+pub come_none : (max : ℕ) → HasCome max [] no_progress
+come_none max = record {
+  records = [];
+  spelled = tt;
+  read = record { none = refl; tiplocs = refl; associations = refl; schedules = refl };
+  fine = none_refused-none rules max;
+  place = refl;
+  no_trailer = λ going. All-nil IsNoTrailer;
+}
+
+spell_more : (lines : List (List ℕ)) (records : List Record) (line : List ℕ) (r : Record) → SpellAll lines records → SpellsRecord line r →
+    SpellAll (lines ++ (line ∷ [])) (records ++ (r ∷ []))
+spell_more [] [] line r all one = (one, tt)
+spell_more [] (x ∷ records) line r all one = absurd all
+spell_more (l ∷ lines) [] line r all one = absurd all
+spell_more (l ∷ lines) (x ∷ records) line r all one = (all.0, spell_more lines records line r all.1 one)
+
+pub place_from-more : (place : Place) (lines : List (List ℕ)) (line : List ℕ) →
+    place_from place (lines ++ (line ∷ [])) ≡ place_behind (place_from place lines) (kind_in line) line
+place_from-more place [] line = refl
+place_from-more place (l ∷ lines) line = place_from-more (place_behind place (kind_in l) l) lines line
+
+-- the place after a BS
+place_begun : (p : Progress) (b : Basic) (l : Stp) → l ≡ b.letter → (d : Option Detail) (e : is_some d ≡ has_body b.letter) →
+    cond (bytes_eq (letter l ∷ []) (codes "C")) at.Cancelled at.Basic ≡ (begun p b d e).place
+place_begun p b C is None e = refl
+place_begun p b C is (Some d) e = let none : true ≡ false = e ∙ ap has_body (sym is) in cc
+place_begun p b N is None e = let some : false ≡ true = e ∙ ap has_body (sym is) in cc
+place_begun p b N is (Some d) e = refl
+place_begun p b O is None e = let some : false ≡ true = e ∙ ap has_body (sym is) in cc
+place_begun p b O is (Some d) e = refl
+place_begun p b P is None e = let some : false ≡ true = e ∙ ap has_body (sym is) in cc
+place_begun p b P is (Some d) e = refl
+
+place_basic : (p : Progress) (line : List ℕ) (b : Basic) → SpellsRecord line (of.Basic b) →
+    cond (cancels line) at.Cancelled at.Basic ≡ (step p (of.Basic b)).place
+place_basic p line b s =
+    let back = stands-back line (detail_rows b.detail) (basic_back b.letter)
+    (stands-back line (basic_front b.uid b.first b.last b.days) (detail_rows b.detail ++ basic_back b.letter) s) in
+    ap (λ (columns : List ℕ). cond (bytes_eq columns (codes "C")) at.Cancelled at.Basic) back.1.0
+    ∙ place_begun p b b.letter refl b.detail b.bodied
+
+-- the place after a record is the one after its line
+place_step : (p : Progress) (line : List ℕ) (r : Record) → SpellsRecord line r →
+    place_after p.place (record_kind r) (cancels line) ≡ (step p r).place
+place_step p line (of.Header x) s = refl
+place_step p line (of.Tiploc x) s = refl
+place_step p line (of.Association x) s = refl
+place_step p line (of.Basic x) s = place_basic p line x s
+place_step p line (of.Extra x) s = refl
+place_step p line (of.Origin x) s = refl
+place_step p line (of.Stop x) s = refl
+place_step p line (of.Change x) s = refl
+place_step p line (of.Terminus x) s = refl
+place_step p line of.Trailer s = refl
+
+-- what isn't refused for its place may stand there
+allowed : (place : Place) (kind : Kind) (line : List ℕ) → refusal_here place (Some kind) line ≡ None → may_stand place kind ≡ true
+allowed place kind line e = at (may_stand place kind) e
+  where
+    at : (b : Bool) → first_of (unless b refusal.OutOfOrder ∷ refusal_as (Some kind) line ∷ []) ≡ None → b ≡ true
+    at true e = refl
+    at false e = cc
+
+-- only the trailer leads to the end
+not_ended : (p : Progress) (r : Record) → (record_kind r ≡ Zz → ⊥) → may_stand p.place (record_kind r) ≡ true → (p.place ≡ at.Ended → ⊥)
+not_ended p r h may e = let no : false ≡ true = ap (λ place. may_stand place (record_kind r)) (sym e) ∙ may in cc
+
+ends_by_trailer : (p : Progress) (r : Record) → ((step p r).place ≡ at.Ended → ⊥) → record_kind r ≡ Zz → ⊥
+ends_by_trailer p (of.Header x) h e = cc
+ends_by_trailer p (of.Tiploc x) h e = cc
+ends_by_trailer p (of.Association x) h e = cc
+ends_by_trailer p (of.Basic x) h e = cc
+ends_by_trailer p (of.Extra x) h e = cc
+ends_by_trailer p (of.Origin x) h e = cc
+ends_by_trailer p (of.Stop x) h e = cc
+ends_by_trailer p (of.Change x) h e = cc
+ends_by_trailer p (of.Terminus x) h e = cc
+ends_by_trailer p of.Trailer h e = h refl
+
+module _ (max : ℕ) (lines : List (List ℕ)) (line : List ℕ) (is_line : IsLine line) (room : length lines < max) (before : Progress)
+    (so_far : HasCome max lines before) where
+  -- why a line is refused here
+  pub refused_here : refusal_of rules max lines line ≡ refusal_here before.place (kind_in line) line
+  refused_here =
+      line_refusal rules max lines line is_line room ∙ by_kind (kind_in line)
+      ∙ ap (λ place. refusal_here place (kind_in line) line) so_far.place
+    where
+      by_kind : (k : Option Kind) → kind_refusal rules lines line k ≡ refusal_here (place_from at.Start lines) k line
+      by_kind None = refl
+      by_kind (Some kind) = refl
+
+  pub come_more : (after : Progress) → IsTaken (refusal_here before.place (kind_in line) line) line before (Ok tt) after →
+      HasCome max (lines ++ (line ∷ [])) after
+  come_more after taken =
+      let (none, one) = taken in
+      let (r, spells, keepable, is) = one in
+      let kind = spelled_kind line r spells in
+      let may = allowed before.place (record_kind r) line (ap (λ k. refusal_here before.place k line) (sym kind) ∙ none) in
+      subst (HasCome max (lines ++ (line ∷ []))) (sym is)
+      (record {
+        records = so_far.records ++ (r ∷ []);
+        spelled = spell_more lines so_far.records line r so_far.spelled spells;
+        read = has_read_more so_far.records before r keepable so_far.read may;
+        fine = none_refused-more rules max lines line so_far.fine (refused_here ∙ none);
+        place = place_from-more at.Start lines line ∙ ap (λ place. place_behind place (kind_in line) line) so_far.place
+            ∙ ap (λ k. place_behind before.place k line) kind ∙ place_step before line r spells;
+        no_trailer = λ going.
+            let other = ends_by_trailer before r going in
+            All-append IsNoTrailer lines (line ∷ []) (so_far.no_trailer (not_ended before r other may))
+            (All-cons IsNoTrailer line [] (λ e. other (let same : Some (record_kind r) ≡ Some Zz = sym kind ∙ e in cc))
+            (All-nil IsNoTrailer));
+      })
+
+module _ (max : ℕ) (lines : List (List ℕ)) (p : Progress) (so_far : HasCome max lines p) where
+  -- a whole reading holds the extract
+  pub held_spells : (x : ExtractParts) → IsHeld p x → SpellExtract lines x
+  held_spells x held =
+      let (ended, header, parts) = held in
+      let whole : HasReadAt at.Ended so_far.records p = subst (λ place. HasReadAt place so_far.records p) ended so_far.read in
+      let same : whole.header ≡ x.header = (let there = whole.is_header in cc) in
+      record {
+        records = so_far.records;
+        spelled = so_far.spelled;
+        are = subst (AreExtract so_far.records) (ap (λ (h : Header). parts_with_header p h p.schedules) same ∙ sym parts) whole.are;
+      }
+
+  -- and one that isn't has had no trailer
+  pub unfinished_trailer : IsUnfinished p → All IsNoTrailer lines
+  unfinished_trailer u = so_far.no_trailer (⊎_elim (λ (going : p.place ≡ at.Ended → ⊥). going) none u)
+    where
+      none : p.header ≡ None → p.place ≡ at.Ended → ⊥
+      none e ended =
+          let whole : HasReadAt at.Ended so_far.records p = subst (λ place. HasReadAt place so_far.records p) ended so_far.read in
+          let there = whole.is_header in
+          cc
+
+-- the end of the input, where a reading is whole
+pub whole_result : (start : Option (List ℕ)) (max : ℕ) (lines : List (List ℕ)) (p : Progress) (result : Result Extract Fault) →
+    IfSome start (λ bytes. AreAllLines max bytes lines) → HasCome max lines p →
+    IfOk result (λ extract. IsHeld p (extract_parts extract)) →
+    IfSome start (λ bytes. IfOk result (λ extract. BytesSpell max bytes (extract_parts extract)))
+whole_result start max lines p (Ok extract) all so_far held =
+    known_so start _ _ (λ bytes a. record { lines = lines; all = a; spelled = held_spells max lines p so_far (extract_parts extract) held }) all
+whole_result start max lines p (Err f) all so_far held = known_so start _ _ (λ bytes a. tt) all
+
+-- and where it isn't
+pub unfinished_result : (start after : Option (List ℕ)) (max : ℕ) (lines : List (List ℕ)) (p : Progress) (number : ℕ)
+    (result : Result Extract Fault) → IfSome start (λ bytes. AreAllLines max bytes lines) → HasCome max lines p → number ≡ length lines →
+    IfErr result (λ f. (f ≡ fault.Refused (number + 1) refusal.Truncated) × IsUnfinished p) →
+    IfSome start (λ bytes. IfErr result (IsReadFault rules max bytes after))
+unfinished_result start after max lines p number (Ok extract) all so_far is err = known_so start _ _ (λ bytes a. tt) all
+unfinished_result start after max lines p number (Err f) all so_far is err =
+    rw err.0 (known_so start _ _ (λ bytes a. inr (record {
+      fine = rw a.contents so_far.fine;
+      no_trailer = rw a.contents (unfinished_trailer max lines p so_far err.1);
+      numbered = ap (λ n. n + 1) is ∙ ap (λ c. length c + 1) (sym a.contents);
+      reason = refl;
+    })) all)
+
+-- a stop at a line
+pub stop_result : (start after : Option (List ℕ)) (max number : ℕ) (s : StopAt) →
+    ((why : Refusal) → s ≡ stop.Refused why → IfSome start (λ bytes. IsFirstRefusal rules max bytes number why)) →
+    IfSome start (λ bytes. IsReadFault rules max bytes after (stop_fault number s))
+stop_result start after max number (stop.Refused why) h = h why refl
+stop_result None after max number stop.Memory h = tt
+stop_result (Some bytes) after max number stop.Memory h = tt
+
+-- the reason for which a line that isn't taken is refused
+pub refused_reason : (refusal : Option Refusal) (line : List ℕ) (before after : Progress) (s : StopAt) (why : Refusal) →
+    IsTaken refusal line before (Err s) after → s ≡ stop.Refused why → refusal ≡ Some why
+refused_reason refusal line before after (stop.Refused x) why taken e = taken ∙ (let same : x ≡ why = cc in ap Some same)
+refused_reason refusal line before after stop.Memory why taken e = cc

@@ -1,0 +1,63 @@
+use Rattle.std.proofs.Common.{◌≡◌, ◌+◌, ◌<◌, ◌∙◌, length, [], ◌++◌, ◌∷◌, Err, IfErr, ap, arith}
+use Rattle.std.proofs.lemmas.Result.{err_from_is_err_and}
+use Rattle.cif_columns.proofs.GivenLinesLaws.{known_so, reading_line, reading_faults}
+use Rattle.cif_columns.specs.LineReader.{given}
+use Rattle.cif_extract.specs.Fault.{of_line_fault}
+use Rattle.cif_extract.specs.OrderOfRecords.{rules}
+use Rattle.cif_extract.specs.ReadFault.{IsReadFault}
+use Rattle.cif_extract.specs.Reading.{progress_of}
+use Rattle.cif_extract.proofs.FirstRefusals.{at_fault, at_line, if_error}
+use Rattle.cif_extract.proofs.ReadingRuns.{come_more, refused_here, refused_reason, stop_result}
+use Rattle.cif_extract.proofs.reader.read_extract.Goals as goal
+
+pub loop-reading-preserved : goal.loop-reading-preserved
+loop-reading-preserved g c =
+    let (ls, so_far, come, going, same) = c.loop-reading.invariant in
+    let next = c.in_ok-line.ensures in
+    let is = c.in-Some.is in
+    let line = c.in-Some.line in
+    let more : given c.next.new.self ≡ given c.loop-reading.lines + 1 = rw is at next.counted in
+    let room : length ls < c.args.max_lines = omega (arith, more, so_far.counted, so_far.same_limit, next.limit, c.next.new.self.counted)
+    in (
+      ls ++ line ∷ [],
+      reading_line g.R.Read.remaining _ _ _ _ ls so_far c.next.new.self c.next.new.source line (rw is at next.answer) (next.past ∙ rw is)
+          next.limit more,
+      come_more c.args.max_lines ls line c.take.ensures.line room (progress_of c.loop-reading.reading) come (progress_of c.take.new.self)
+          c.in-Ok.ensures.taken,
+      next.going (λ e. cc) ∙ going,
+      λ healthy. next.fine so_far.reads_on (going ∙ healthy) (λ e. cc) ∙ same healthy,
+    )
+
+pub returns-in-Err-clause-fault : goal.returns-in-Err-clause-fault
+returns-in-Err-clause-fault g c =
+    let (ls, so_far, come, going, same) = c.loop-reading.invariant in
+    let next = c.in_ok-line.ensures in
+    let is = c.in-Some.is in
+    let line = c.in-Some.line in
+    let more : given c.next.new.self ≡ given c.loop-reading.lines + 1 = rw is at next.counted in
+    let room : length ls < c.args.max_lines = omega (arith, more, so_far.counted, so_far.same_limit, next.limit, c.next.new.self.counted) in
+    let now =
+    reading_line g.R.Read.remaining _ _ _ _ ls so_far c.next.new.self c.next.new.source line (rw is at next.answer) (next.past ∙ rw is)
+    next.limit more in
+    let number : c.line_number.result ≡ length ls + 1 = omega (arith, c.line_number.ensures, more, so_far.counted) in
+    rw c.line.ensures
+    (stop_result _ (g.R.Read.remaining c.next.new.source.reader) c.args.max_lines c.line_number.result c.in-Err.stop
+    (λ why e. at_line rules c.args.max_lines _ ls come.fine g.R.Read.remaining c.next.new.self c.next.new.source line c.line_number.result why
+    now number
+    (refused_here c.args.max_lines ls line c.take.ensures.line room (progress_of c.loop-reading.reading) come
+    ∙ refused_reason _ line (progress_of c.loop-reading.reading) (progress_of c.take.new.self) c.in-Err.stop why c.in-Err.ensures.taken e)))
+
+pub returns-in_err-line-clause-fault : goal.returns-in_err-line-clause-fault
+returns-in_err-line-clause-fault g c =
+    let (ls, so_far, come, going, same) = c.loop-reading.invariant in
+    let next = c.in_err-line.ensures in
+    let line_fault = c.in_err-line.field-0.0 in
+    let after = g.R.Read.remaining c.next.new.source.reader in
+    let p = err_from_is_err_and c.from_residual.result c.from_residual.ensures.1 in
+    known_so (g.R.Read.remaining c.args.source.now.reader) (λ bytes. IsReadFault rules c.args.max_lines bytes after (of_line_fault line_fault))
+    (λ bytes. IfErr c.from_residual.result (IsReadFault rules c.args.max_lines bytes after))
+    (λ bytes f. if_error (IsReadFault rules c.args.max_lines bytes after) c.from_residual.result (of_line_fault line_fault) (p.1 ∙ ap Err p.2)
+    f)
+    (at_fault rules c.args.max_lines _ ls come.fine after line_fault
+    (reading_faults g.R.Read.remaining _ _ _ _ ls so_far c.next.new.self c.next.new.source line_fault next.answer
+    (λ e. next.undecided so_far.reads_on (ap Err e))))

@@ -1,0 +1,22 @@
+-- Why bytes are no extract, or can't be read.
+use Rattle.std.specs.Prelude.{◌≡◌, ℕ, List, Option, IsSomeAnd, Result, Ok, Err}
+use Rattle.cif_extract.specs.ExtractParts.{ExtractParts, extract_parts}
+use Rattle.cif_extract.specs.FirstRefusal.{LineRules, IsFirstRefusal, IsCutBeforeRefusal}
+use Rattle.cif_extract.specs.declared.extract.Extract.{Extract}
+use Rattle.cif_extract.specs.declared.fault.Fault.{Fault}
+use Rattle.cif_extract.specs.declared.fault.Fault.TheVariants.{Refused, Read, Memory}
+
+-- Why these bytes are no extract by these rules, or can't be read, where `after` is what the reader has left then: their first
+-- refusal, or a failure of the source before a refused line was decided. No contract foretells a want of memory.
+abbrev pub IsReadFault : LineRules → ℕ → List ℕ → Option (List ℕ) → Fault → Type 0
+IsReadFault rules max bytes after (Refused line why) = IsFirstRefusal rules max bytes line why
+IsReadFault rules max bytes after Read = IsSomeAnd after (IsCutBeforeRefusal rules max bytes)
+IsReadFault rules max bytes after Memory = Unit {0}
+IsReadFault rules max bytes after _ = ⊥
+
+-- what is answered where the bytes spell an extract of these parts: it, but for a failure of the source or a want of memory
+abbrev pub IsReadAs : ExtractParts → Result Extract Fault → Type 0
+IsReadAs x (Ok extract) = extract_parts extract ≡ x
+IsReadAs x (Err Read) = Unit {0}
+IsReadAs x (Err Memory) = Unit {0}
+IsReadAs x (Err _) = ⊥

@@ -1,0 +1,52 @@
+//! Reading a whole extract, line by line.
+ghost use Rattle.std.specs.Prelude.{◌≡◌, ◌≢◌, ◌≤◌, true, false, Err, IfErr, IfOk, IfSome};
+ghost use Rattle.cif_columns.specs.Devices.{OneError};
+ghost use Rattle.cif_columns.specs.Source.{reader_of, source_failed};
+ghost use Rattle.cif_columns.specs.declared.line_reader.TheConstants.{MAX_LINES};
+ghost use Rattle.cif_extract.specs.ExtractParts.{ExtractParts, extract_parts};
+ghost use Rattle.cif_extract.specs.OrderOfRecords.{rules};
+ghost use Rattle.cif_extract.specs.ReadFault.{IsReadAs, IsReadFault};
+ghost use Rattle.cif_extract.specs.SpellsExtract.{BytesSpell};
+
+use crate::reading::Reading;
+use crate::{Extract, Fault};
+use cif_columns::{LineReader, ReadDevice, Source};
+use std::alloc::Global;
+
+/// The extract that the source's lines spell, of which at most `max_lines` may come.
+///
+/// Refused names the first refused line and its first reason; Read comes where the source failed
+/// before a refused line was decided, and Memory where what a line says can't be kept, after its
+/// line's checks. No other fault is answered.
+pub fn read_extract<R: ReadDevice>(
+    alloc: Global,
+    source: &mut Source<R>,
+    max_lines: u64,
+) -> Result<Extract, Fault>
+    requires within { max_lines ≤ MAX_LINES }
+    ensures ok { IfSome (R.remaining (reader_of source.old)) (λ bytes. IfOk result (λ extract.
+        BytesSpell max_lines bytes (extract_parts extract))) }
+    ensures fault { IfSome (R.remaining (reader_of source.old)) (λ bytes. IfErr result
+        (IsReadFault rules max_lines bytes (R.remaining (reader_of source.new)))) }
+    ensures never_write { result ≢ Err Fault.Write }
+    ensures failed { result ≡ Err Fault.Read → source_failed source.new ≡ true }
+    ensures going { result ≢ Err Fault.Read
+        → source_failed source.new ≡ source_failed source.old }
+    ensures endless { IfOk result (λ _. source_failed source.old ≡ false) }
+    ensures erred { source_failed source.old ≡ false → result ≡ Err Fault.Read
+        → OneError (R.read_errors (reader_of source.old)) (R.read_errors (reader_of source.new)) }
+    ensures fine { source_failed source.old ≡ false → result ≢ Err Fault.Read
+        → R.read_errors (reader_of source.new) ≡ R.read_errors (reader_of source.old) }
+{
+    let mut lines = LineReader::new(max_lines);
+    let mut reading = Reading::new(alloc);
+    loop {
+        match lines.next(source)? {
+            Some(line) => match reading.take(alloc, &line) {
+                Ok(()) => {}
+                Err(stop) => return Err(stop.line(lines.line_number())),
+            },
+            None => return reading.finish(lines.line_number()),
+        }
+    }
+}
