@@ -26,7 +26,7 @@ use Rattle.cif_extract.proofs.Bodies.{parts_in-keeps}
 use Rattle.cif_extract.proofs.GrammarLists.{behind_schedules, schedules_more}
 use Rattle.cif_extract.proofs.KeptLines.{journey-whole, keep_body}
 use Rattle.cif_extract.proofs.ReadingSteps.{association_step, header_step, own_at, tiploc_step, trailer_step}
-use Rattle.cif_extract.proofs.RecordKinds.{record_kind}
+use Rattle.cif_records.proofs.Records.{kind_of as record_kind}
 use Rattle.cif_extract.proofs.ScheduleSteps.{Again, basic_step, call_step, extra_step, origin_step}
 
 module _ (records : List Record) (p : Progress) (t : Terminus) where

@@ -7,9 +7,11 @@ pub mod FirstRefusals
 pub mod GrammarLists
 pub mod JourneySteps
 pub mod KeptLines
+pub mod OneExtract
+pub mod OrderLaws
 pub mod ReadingRuns
 pub mod ReadingSteps
-pub mod RecordKinds
 pub mod ScheduleSteps
 pub mod Schedules
+pub mod SpelledBytes
 pub mod TakenLines

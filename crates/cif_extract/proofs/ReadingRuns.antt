@@ -45,7 +45,7 @@ use Rattle.cif_records.specs.declared.record.Record.{Record}
 use Rattle.cif_records.specs.declared.record.Record.TheVariants as of
 use Rattle.cif_extract.proofs.FirstRefusals.{line_refusal, none_refused-more, none_refused-none}
 use Rattle.cif_extract.proofs.JourneySteps.{has_read_more}
-use Rattle.cif_extract.proofs.RecordKinds.{record_kind, spelled_kind}
+use Rattle.cif_records.proofs.Records.{kind_of as record_kind, kind_there as spelled_kind}
 
 -- no trailer
 abbrev pub IsNoTrailer : List ℕ → Type 0

@@ -15,7 +15,7 @@ use Rattle.cif_records.specs.declared.kind.Kind.TheVariants.{Bx, Lt}
 use Rattle.cif_records.specs.declared.record.Record.{Record}
 use Rattle.cif_records.specs.declared.record.Record.TheVariants as of
 use Rattle.cif_records.specs.declared.terminus.Terminus.{Terminus}
-use Rattle.cif_extract.proofs.RecordKinds.{record_kind, spelled_kind}
+use Rattle.cif_records.proofs.Records.{kind_of as record_kind, kind_there as spelled_kind}
 
 or_none : (refusal : Option Refusal) → option_or refusal None ≡ refusal
 or_none None = refl

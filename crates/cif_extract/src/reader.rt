@@ -26,6 +26,8 @@ pub fn read_extract<R: ReadDevice>(
     requires within { max_lines ≤ MAX_LINES }
     ensures ok { IfSome (R.remaining (reader_of source.old)) (λ bytes. IfOk result (λ extract.
         BytesSpell max_lines bytes (extract_parts extract))) }
+    ensures only { IfSome (R.remaining (reader_of source.old)) (λ bytes. (x : ExtractParts)
+        → BytesSpell max_lines bytes x → IsReadAs x result) }
     ensures fault { IfSome (R.remaining (reader_of source.old)) (λ bytes. IfErr result
         (IsReadFault rules max_lines bytes (R.remaining (reader_of source.new)))) }
     ensures never_write { result ≢ Err Fault.Write }

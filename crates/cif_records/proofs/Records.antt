@@ -62,7 +62,8 @@ record_with Cr h = a.Change h
 record_with Lt h = a.Terminus h
 record_with Zz h = a.Trailer
 
-abbrev kind_of : Record → Kind
+-- the kind of a record
+abbrev pub kind_of : Record → Kind
 kind_of (a.Header h) = Hd
 kind_of (a.Tiploc h) = Ti
 kind_of (a.Association h) = Aa
@@ -112,7 +113,7 @@ identity_there line (a.Terminus h) s = s.0
 identity_there line a.Trailer s = s.0
 
 -- a line that spells a record names its kind
-kind_there : (line : List ℕ) (r : Record) → SpellsRecord line r → kind_in line ≡ Some (kind_of r)
+pub kind_there : (line : List ℕ) (r : Record) → SpellsRecord line r → kind_in line ≡ Some (kind_of r)
 kind_there line r s = only_kind (columns 1 2 line) (kind_of r) (identity_there line r s)
 
 -- of each kind a line spells one record at most
@@ -146,7 +147,8 @@ no_trailer_refusal : (line : List ℕ) → AllStandIn line trailer_table → tra
 unfolding trailer_refusal
 no_trailer_refusal line s = rw s.0
 
-no_refusal_as : (line : List ℕ) (r : Record) → SpellsRecord line r → refusal_as (Some (kind_of r)) line ≡ None
+-- and none by its kind
+pub no_refusal_as : (line : List ℕ) (r : Record) → SpellsRecord line r → refusal_as (Some (kind_of r)) line ≡ None
 no_refusal_as line (a.Header h) s = headers.no_refusal line h s
 no_refusal_as line (a.Tiploc h) s = tiplocs.no_refusal line h s
 no_refusal_as line (a.Association h) s = associations.no_refusal line h s

@@ -1,13 +1,14 @@
-use Rattle.std.proofs.Common.{◌≡◌, ◌+◌, ◌<◌, ◌∙◌, length, [], ◌++◌, ◌∷◌, Err, IfErr, ap, arith}
+use Rattle.std.proofs.Common.{◌≡◌, ◌+◌, ◌<◌, ◌∙◌, length, [], ◌++◌, ◌∷◌, Err, IfErr, Ok, ap, arith, refl}
 use Rattle.std.proofs.lemmas.Result.{err_from_is_err_and}
-use Rattle.cif_columns.proofs.GivenLinesLaws.{known_so, reading_line, reading_faults}
+use Rattle.cif_columns.proofs.GivenLinesLaws.{known_so, reading_ends, reading_faults, reading_line}
 use Rattle.cif_columns.specs.LineReader.{given}
 use Rattle.cif_extract.specs.Fault.{of_line_fault}
 use Rattle.cif_extract.specs.OrderOfRecords.{rules}
 use Rattle.cif_extract.specs.ReadFault.{IsReadFault}
 use Rattle.cif_extract.specs.Reading.{progress_of}
 use Rattle.cif_extract.proofs.FirstRefusals.{at_fault, at_line, if_error}
-use Rattle.cif_extract.proofs.ReadingRuns.{come_more, refused_here, refused_reason, stop_result}
+use Rattle.cif_extract.proofs.ReadingRuns.{come_more, refused_here, refused_reason, stop_result, unfinished_result, whole_result}
+use Rattle.cif_extract.proofs.SpelledBytes.{only_fault, only_read}
 use Rattle.cif_extract.proofs.reader.read_extract.Goals as goal
 
 pub loop-reading-preserved : goal.loop-reading-preserved
@@ -61,3 +62,28 @@ returns-in_err-line-clause-fault g c =
     (at_fault rules c.args.max_lines _ ls come.fine after line_fault
     (reading_faults g.R.Read.remaining _ _ _ _ ls so_far c.next.new.self c.next.new.source line_fault next.answer
     (λ e. next.undecided so_far.reads_on (ap Err e))))
+
+pub returns-in_err-line-clause-only : goal.returns-in_err-line-clause-only
+returns-in_err-line-clause-only g c =
+    let p = err_from_is_err_and c.from_residual.result c.from_residual.ensures.1 in
+    only_fault (g.R.Read.remaining c.args.source.now.reader) c.args.max_lines (g.R.Read.remaining c.next.new.source.reader)
+    c.from_residual.result p.0 p.1 (returns-in_err-line-clause-fault g c)
+
+pub returns-in-Err-clause-only : goal.returns-in-Err-clause-only
+returns-in-Err-clause-only g c =
+    only_fault (g.R.Read.remaining c.args.source.now.reader) c.args.max_lines (g.R.Read.remaining c.next.new.source.reader)
+    (Err c.line.result) c.line.result refl (returns-in-Err-clause-fault g c)
+
+pub returns-in-None-clause-only : goal.returns-in-None-clause-only
+returns-in-None-clause-only g c =
+    let (ls, so_far, come, going, same) = c.loop-reading.invariant in
+    let next = c.in_ok-line.ensures in
+    let is = c.in-None.is in
+    let all = reading_ends g.R.Read.remaining _ _ _ _ ls so_far c.next.new.self c.next.new.source (rw is at next.answer) in
+    let number : c.line_number-in-None.result ≡ length ls = c.line_number-in-None.ensures ∙ next.ended (ap Ok is) ∙ so_far.counted in
+    let start = g.R.Read.remaining c.args.source.now.reader in
+    let after = g.R.Read.remaining c.next.new.source.reader in
+    only_read start c.args.max_lines after c.finish.result
+    (whole_result start c.args.max_lines ls (progress_of c.loop-reading.reading) c.finish.result all come c.finish.ensures.ok)
+    (unfinished_result start after c.args.max_lines ls (progress_of c.loop-reading.reading) c.line_number-in-None.result c.finish.result all
+    come number c.finish.ensures.truncated)

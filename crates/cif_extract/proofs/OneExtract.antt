@@ -1,0 +1,324 @@
+-- Records are at most one extract.
+use Rattle.std.proofs.Common.{◌≡◌, ◌⊎◌, ℕ, List, [], ◌∷◌, ◌++◌, map, Option, Some, None, refl, sym, ap, ◌∙◌, subst, append_assoc, inl, inr}
+use Rattle.std.proofs.Common.{⊎_elim}
+use Rattle.cif_extract.specs.BodyParts.{BodyParts, extra_records, journey_records}
+use Rattle.cif_extract.specs.Call.{call_record}
+use Rattle.cif_extract.specs.ExtractParts.{ExtractParts}
+use Rattle.cif_extract.specs.Grammar.{AreExtract, AreJourney, AreSchedule, AreSchedules, HaveBody, records_before_trailer}
+use Rattle.cif_extract.specs.SpellsExtract.{SpellAll, SpellExtract}
+use Rattle.cif_extract.specs.declared.call.Call.{Call}
+use Rattle.cif_extract.specs.declared.call.Call.TheVariants.{At, Turn}
+use Rattle.cif_extract.specs.declared.schedule.Schedule.{Schedule}
+use Rattle.cif_records.specs.declared.association.Association.{Association}
+use Rattle.cif_records.specs.declared.basic.Basic.{Basic}
+use Rattle.cif_records.specs.declared.detail.Detail.{Detail}
+use Rattle.cif_records.specs.declared.extra.Extra.{Extra}
+use Rattle.cif_records.specs.declared.kind.Kind.{Kind}
+use Rattle.cif_records.specs.declared.kind.Kind.TheVariants.{Ti, Aa, Bs, Bx, Lt, Zz}
+use Rattle.cif_records.specs.declared.origin.Origin.{Origin}
+use Rattle.cif_records.specs.declared.record.Record.{Record}
+use Rattle.cif_records.specs.declared.record.Record.TheVariants as of
+use Rattle.cif_records.specs.declared.terminus.Terminus.{Terminus}
+use Rattle.cif_records.specs.declared.tiploc.Tiploc.{Tiploc}
+use Rattle.cif_records.proofs.Records.{kind_of, one_record}
+use Rattle.cif_extract.proofs.Bodies.{same_values as same_parts}
+use Rattle.cif_extract.proofs.Schedules.{same_schedule}
+
+-- P holds of each record
+abbrev Each : (Record → Type 0) → List Record → Type 0
+Each P [] = Unit {0}
+Each P (r ∷ records) = P r × Each P records
+
+-- P doesn't hold of the first record, if there is one
+abbrev Stops : (Record → Type 0) → List Record → Type 0
+Stops P [] = Unit {0}
+Stops P (r ∷ records) = P r → ⊥
+
+-- records are parted in one way only into those of which P holds and a rest that begins otherwise
+parted : (P : Record → Type 0) (a b c d : List Record) → Each P a → Stops P b → Each P c → Stops P d → a ++ b ≡ c ++ d → (a ≡ c) × (b ≡ d)
+parted P [] b [] d ea sb ec sd e = (refl, e)
+parted P [] [] (r ∷ c) d ea sb ec sd e = cc
+parted P [] (q ∷ b) (r ∷ c) d ea sb ec sd e = absurd (sb (let same : r ≡ q = cc in subst P same ec.0))
+parted P (r ∷ a) b [] [] ea sb ec sd e = cc
+parted P (r ∷ a) b [] (q ∷ d) ea sb ec sd e = absurd (sd (let same : r ≡ q = cc in subst P same ea.0))
+parted P (r ∷ a) b (q ∷ c) d ea sb ec sd e =
+    let heads : r ≡ q = cc in
+    let tails : a ++ b ≡ c ++ d = cc in
+    let more = parted P a b c d ea.1 sb ec.1 sd tails in
+    (ap (λ x. x ∷ a) heads ∙ ap (λ (xs : List Record). q ∷ xs) more.0, more.1)
+
+each_append : (P : Record → Type 0) (a b : List Record) → Each P a → Each P b → Each P (a ++ b)
+each_append P [] b p q = q
+each_append P (r ∷ a) b p q = (p.0, each_append P a b p.1 q)
+
+-- records made of values, of which P holds
+each_map : {A : Type 0} (P : Record → Type 0) (f : A → Record) → ((x : A) → P (f x)) → (xs : List A) → Each P (map f xs)
+each_map P f h [] = tt
+each_map P f h (x ∷ xs) = (h x, each_map P f h xs)
+
+same_values : {A : Type 0} (f : A → Record) → ((x y : A) → f x ≡ f y → x ≡ y) → (xs ys : List A) → map f xs ≡ map f ys → xs ≡ ys
+same_values f one [] [] e = refl
+same_values f one [] (y ∷ ys) e = cc
+same_values f one (x ∷ xs) [] e = cc
+same_values f one (x ∷ xs) (y ∷ ys) e =
+    let heads : f x ≡ f y = cc in
+    let tails : map f xs ≡ map f ys = cc in
+    ap (λ z. z ∷ xs) (one x y heads) ∙ ap (λ zs. y ∷ zs) (same_values f one xs ys tails)
+
+-- the record is of this kind, or isn't
+abbrev Is : Kind → Record → Type 0
+Is kind r = kind_of r ≡ kind
+
+abbrev Isnt : Kind → Record → Type 0
+Isnt kind r = kind_of r ≡ kind → ⊥
+
+one_tiploc : (x y : Tiploc) → of.Tiploc x ≡ of.Tiploc y → x ≡ y
+one_tiploc x y e = cc
+
+one_association : (x y : Association) → of.Association x ≡ of.Association y → x ≡ y
+one_association x y e = cc
+
+one_call : (x y : Call) → call_record x ≡ call_record y → x ≡ y
+one_call (At x) (At y) e = cc
+one_call (At x) (Turn y) e = cc
+one_call (Turn x) (At y) e = cc
+one_call (Turn x) (Turn y) e = cc
+
+call_isnt : (kind : Kind) → (kind ≡ Bs ⊎ kind ≡ Lt) → (c : Call) → Isnt kind (call_record c)
+call_isnt kind or (At s) = λ e. ⊎_elim (λ (b : kind ≡ Bs). cc) (λ (l : kind ≡ Lt). cc) or
+call_isnt kind or (Turn s) = λ e. ⊎_elim (λ (b : kind ≡ Bs). cc) (λ (l : kind ≡ Lt). cc) or
+
+-- a journey is one
+record SameJourney (o p : Origin) (calls others : List Call) (t u : Terminus) : Type 0 where
+  origins : o ≡ p
+  calls_same : calls ≡ others
+  termini : t ≡ u
+
+one_journey : (o p : Origin) (calls others : List Call) (t u : Terminus) → journey_records o calls t ≡ journey_records p others u →
+    SameJourney o p calls others t u
+one_journey o p calls others t u e =
+    let rests : map call_record calls ++ (of.Terminus t ∷ []) ≡ map call_record others ++ (of.Terminus u ∷ []) = cc in
+    let two = parted (Isnt Lt) (map call_record calls) (of.Terminus t ∷ []) (map call_record others) (of.Terminus u ∷ [])
+    (each_map (Isnt Lt) call_record (call_isnt Lt (inr refl)) calls) (λ h. h refl)
+    (each_map (Isnt Lt) call_record (call_isnt Lt (inr refl)) others) (λ h. h refl) rests in
+    let last = two.1 in
+    record { origins = cc; calls_same = same_values call_record one_call calls others two.0; termini = cc }
+
+-- what follows a BS and its BX, if anything, is no BX
+abbrev NoExtra : List Record → Type 0
+NoExtra journey = Stops (Is Bx) journey
+
+one_extra : (x y : Option Extra) (a b : List Record) → NoExtra a → NoExtra b → extra_records x ++ a ≡ extra_records y ++ b →
+    (x ≡ y) × (a ≡ b)
+one_extra None None a b p q e = (refl, e)
+one_extra None (Some y) [] b p q e = cc
+one_extra None (Some y) (r ∷ a) b p q e = absurd (p (let same : r ≡ of.Extra y = cc in ap kind_of same))
+one_extra (Some x) None a [] p q e = cc
+one_extra (Some x) None a (r ∷ b) p q e = absurd (q (let same : r ≡ of.Extra x = cc in ap kind_of same))
+one_extra (Some x) (Some y) a b p q e = (cc, cc)
+
+no_extra : (d : Option Detail) (x : Option Extra) (journey : List Record) (body : Option BodyParts) → HaveBody d x journey body → NoExtra journey
+no_extra (Some d) x journey (Some body) h = let (detail, extra, is) = h in subst NoExtra (sym is) (λ e. cc)
+no_extra None x journey None h =
+    ⊎_elim (λ (none : journey ≡ []). subst NoExtra (sym none) tt)
+    (λ (j : AreJourney journey). subst NoExtra (sym j.are) (λ e. cc)) h
+no_extra (Some d) x journey None h = absurd h
+no_extra None x journey (Some body) h = absurd h
+
+one_body : (d : Option Detail) (x : Option Extra) (journey : List Record) (a b : Option BodyParts) → HaveBody d x journey a →
+    HaveBody d x journey b → a ≡ b
+one_body (Some d) x journey (Some a) (Some b) p q =
+    let (detail, extra, is) = p in
+    let (other_detail, other_extra, other) = q in
+    let same = one_journey a.origin b.origin a.calls b.calls a.terminus b.terminus (sym is ∙ other) in
+    ap Some (same_parts a b (detail ∙ sym other_detail) (extra ∙ sym other_extra) same.origins same.calls_same same.termini)
+one_body None x journey None None p q = refl
+one_body (Some d) x journey None b p q = absurd p
+one_body (Some d) x journey (Some a) None p q = absurd q
+one_body None x journey (Some a) b p q = absurd p
+one_body None x journey None (Some b) p q = absurd q
+
+one_schedule : (records : List Record) (s t : Schedule) → AreSchedule records s → AreSchedule records t → s ≡ t
+one_schedule records s t p q =
+    let both : ◌≡◌ {A = List Record} (of.Basic p.basic ∷ (extra_records p.extra ++ p.journey))
+    (of.Basic q.basic ∷ (extra_records q.extra ++ q.journey)) = sym p.parts ∙ q.parts in
+    let basics : p.basic ≡ q.basic = cc in
+    let rests : extra_records p.extra ++ p.journey ≡ extra_records q.extra ++ q.journey = cc in
+    let two = one_extra p.extra q.extra p.journey q.journey (no_extra p.basic.detail p.extra p.journey s.body p.body)
+    (no_extra q.basic.detail q.extra q.journey t.body q.body) rests in
+    let body : HaveBody q.basic.detail q.extra q.journey s.body =
+    subst (λ (b : Basic). HaveBody b.detail q.extra q.journey s.body) basics
+    (subst (λ x. HaveBody p.basic.detail x q.journey s.body) two.0 (subst (λ j. HaveBody p.basic.detail p.extra j s.body) two.1 p.body)) in
+    same_schedule s t
+    (sym p.terms.uid ∙ ap (λ (b : Basic). b.uid) basics ∙ q.terms.uid)
+    (sym p.terms.first ∙ ap (λ (b : Basic). b.first) basics ∙ q.terms.first)
+    (sym p.terms.last ∙ ap (λ (b : Basic). b.last) basics ∙ q.terms.last)
+    (sym p.terms.days ∙ ap (λ (b : Basic). b.days) basics ∙ q.terms.days)
+    (sym p.terms.letter ∙ ap (λ (b : Basic). b.letter) basics ∙ q.terms.letter)
+    (one_body q.basic.detail q.extra q.journey s.body t.body body q.body)
+
+-- a schedule has one BS, at its front
+further_isnt : (d : Option Detail) (x : Option Extra) (journey : List Record) (body : Option BodyParts) → HaveBody d x journey body →
+    Each (Isnt Bs) (extra_records x ++ journey)
+further_isnt d x journey body h = each_append (Isnt Bs) (extra_records x) journey (extra_isnt x) (journey_isnt d body h)
+  where
+    extra_isnt : (x : Option Extra) → Each (Isnt Bs) (extra_records x)
+    extra_isnt None = tt
+    extra_isnt (Some y) = (λ e. cc, tt)
+
+    whole_isnt : (o : Origin) (calls : List Call) (t : Terminus) → Each (Isnt Bs) (journey_records o calls t)
+    whole_isnt o calls t = (
+      λ e. cc,
+      each_append (Isnt Bs) (map call_record calls) (of.Terminus t ∷ [])
+          (each_map (Isnt Bs) call_record (call_isnt Bs (inl refl)) calls) (λ e. cc, tt),
+    )
+
+    journey_isnt : (d : Option Detail) (body : Option BodyParts) → HaveBody d x journey body → Each (Isnt Bs) journey
+    journey_isnt (Some d) (Some body) h =
+        let (detail, extra, is) = h in subst (Each (Isnt Bs)) (sym is) (whole_isnt body.origin body.calls body.terminus)
+    journey_isnt None None h =
+        ⊎_elim (λ (none : journey ≡ []). subst (Each (Isnt Bs)) (sym none) tt)
+        (λ (j : AreJourney journey). subst (Each (Isnt Bs)) (sym j.are) (whole_isnt j.origin j.calls j.terminus)) h
+    journey_isnt (Some d) None h = absurd h
+    journey_isnt None (Some body) h = absurd h
+
+-- schedules begin with a BS
+begin_so : (records : List Record) (schedules : List Schedule) → AreSchedules records schedules → Stops (Isnt Bs) records
+begin_so records [] none = subst (Stops (Isnt Bs)) (sym none) tt
+begin_so records (s ∷ schedules) are =
+    let (own, others, parts, one, rest) = are in
+    subst (Stops (Isnt Bs)) (sym (parts ∙ ap (λ rs. rs ++ others) one.parts)) (λ h. h refl)
+
+one_schedules : (records : List Record) (xs ys : List Schedule) → AreSchedules records xs → AreSchedules records ys → xs ≡ ys
+one_schedules records [] [] p q = refl
+one_schedules records [] (y ∷ ys) p q =
+    let (own, others, parts, one, rest) = q in
+    let no : [] ≡ of.Basic one.basic ∷ ((extra_records one.extra ++ one.journey) ++ others) =
+    sym p ∙ parts ∙ ap (λ rs. rs ++ others) one.parts in
+    cc
+one_schedules records (x ∷ xs) [] p q =
+    let (own, others, parts, one, rest) = p in
+    let no : [] ≡ of.Basic one.basic ∷ ((extra_records one.extra ++ one.journey) ++ others) =
+    sym q ∙ parts ∙ ap (λ rs. rs ++ others) one.parts in
+    cc
+one_schedules records (x ∷ xs) (y ∷ ys) p q =
+    let (own, others, parts, one, rest) = p in
+    let (its, more, cut, other, last) = q in
+    let both : ◌≡◌ {A = List Record} (of.Basic one.basic ∷ ((extra_records one.extra ++ one.journey) ++ others))
+    (of.Basic other.basic ∷ ((extra_records other.extra ++ other.journey) ++ more)) =
+    sym (parts ∙ ap (λ rs. rs ++ others) one.parts) ∙ (cut ∙ ap (λ rs. rs ++ more) other.parts) in
+    let basics : one.basic ≡ other.basic = cc in
+    let behind : (extra_records one.extra ++ one.journey) ++ others ≡ (extra_records other.extra ++ other.journey) ++ more = cc in
+    let two = parted (Isnt Bs) (extra_records one.extra ++ one.journey) others (extra_records other.extra ++ other.journey) more
+    (further_isnt one.basic.detail one.extra one.journey x.body one.body) (begin_so others xs rest)
+    (further_isnt other.basic.detail other.extra other.journey y.body other.body) (begin_so more ys last) behind in
+    let same : own ≡ its = one.parts ∙ ap (λ (b : Basic). of.Basic b ∷ (extra_records one.extra ++ one.journey)) basics
+    ∙ ap (λ rs. of.Basic other.basic ∷ rs) two.0 ∙ sym other.parts in
+    ap (λ s. s ∷ xs) (one_schedule its x y (subst (λ rs. AreSchedule rs x) same one) other)
+    ∙ ap (λ ss. y ∷ ss) (one_schedules more xs ys (subst (λ rs. AreSchedules rs xs) two.1 rest) last)
+
+-- the records of an extract, its parts one behind another
+laid_out : (x : ExtractParts) (groups : List Record) → records_before_trailer x groups ++ (of.Trailer ∷ [])
+    ≡ of.Header x.header ∷ (map of.Tiploc x.tiplocs ++ (map of.Association x.associations ++ (groups ++ (of.Trailer ∷ []))))
+laid_out x groups =
+    ap (λ rs. of.Header x.header ∷ rs)
+    (append_assoc (map of.Tiploc x.tiplocs) (map of.Association x.associations ++ groups) (of.Trailer ∷ [])
+    ∙ ap (λ rs. map of.Tiploc x.tiplocs ++ rs) (append_assoc (map of.Association x.associations) groups (of.Trailer ∷ [])))
+
+-- no trailer stands among schedules
+schedules_isnt : (records : List Record) (schedules : List Schedule) → AreSchedules records schedules → Each (Isnt Zz) records
+schedules_isnt records [] none = subst (Each (Isnt Zz)) (sym none) tt
+schedules_isnt records (s ∷ schedules) are =
+    let (own, others, parts, one, rest) = are in
+    subst (Each (Isnt Zz)) (sym parts)
+    (each_append (Isnt Zz) own others (subst (Each (Isnt Zz)) (sym one.parts) (λ e. cc, further one)) (schedules_isnt others schedules rest))
+  where
+    calls_isnt : (c : Call) → Isnt Zz (call_record c)
+    calls_isnt (At x) = λ e. cc
+    calls_isnt (Turn x) = λ e. cc
+
+    whole_isnt : (o : Origin) (calls : List Call) (t : Terminus) → Each (Isnt Zz) (journey_records o calls t)
+    whole_isnt o calls t = (
+      λ e. cc,
+      each_append (Isnt Zz) (map call_record calls) (of.Terminus t ∷ []) (each_map (Isnt Zz) call_record calls_isnt calls)
+          (λ e. cc, tt),
+    )
+
+    journey_isnt : (d : Option Detail) (x : Option Extra) (journey : List Record) (body : Option BodyParts) → HaveBody d x journey body →
+        Each (Isnt Zz) journey
+    journey_isnt (Some d) x journey (Some body) h =
+        let (detail, extra, is) = h in subst (Each (Isnt Zz)) (sym is) (whole_isnt body.origin body.calls body.terminus)
+    journey_isnt None x journey None h =
+        ⊎_elim (λ (none : journey ≡ []). subst (Each (Isnt Zz)) (sym none) tt)
+        (λ (j : AreJourney journey). subst (Each (Isnt Zz)) (sym j.are) (whole_isnt j.origin j.calls j.terminus)) h
+    journey_isnt (Some d) x journey None h = absurd h
+    journey_isnt None x journey (Some body) h = absurd h
+
+    extra_isnt : (x : Option Extra) → Each (Isnt Zz) (extra_records x)
+    extra_isnt None = tt
+    extra_isnt (Some y) = (λ e. cc, tt)
+
+    further : {own : List Record} (one : AreSchedule own s) → Each (Isnt Zz) (extra_records one.extra ++ one.journey)
+    further one = each_append (Isnt Zz) (extra_records one.extra) one.journey (extra_isnt one.extra)
+        (journey_isnt one.basic.detail one.extra one.journey s.body one.body)
+
+-- what begins with a schedule or the trailer begins with no other kind
+tail_begins : (kind : Kind) → (Bs ≡ kind → ⊥) → (Zz ≡ kind → ⊥) → (groups : List Record) (schedules : List Schedule) →
+    AreSchedules groups schedules → Stops (Is kind) (groups ++ (of.Trailer ∷ []))
+tail_begins kind b z groups [] none = subst (λ rs. Stops (Is kind) (rs ++ (of.Trailer ∷ []))) (sym none) z
+tail_begins kind b z groups (s ∷ schedules) are =
+    let (own, others, parts, one, rest) = are in
+    subst (λ rs. Stops (Is kind) (rs ++ (of.Trailer ∷ []))) (sym (parts ∙ ap (λ rs. rs ++ others) one.parts)) b
+
+associations_begin : (xs : List Association) (groups : List Record) (schedules : List Schedule) → AreSchedules groups schedules →
+    Stops (Is Ti) (map of.Association xs ++ (groups ++ (of.Trailer ∷ [])))
+associations_begin [] groups schedules are = tail_begins Ti (λ e. cc) (λ e. cc) groups schedules are
+associations_begin (x ∷ xs) groups schedules are = λ e. cc
+
+same_extract_parts : (x y : ExtractParts) → x.header ≡ y.header → x.tiplocs ≡ y.tiplocs → x.associations ≡ y.associations →
+    x.schedules ≡ y.schedules → x ≡ y
+same_extract_parts x y h t a s =
+    ap (λ header. record { header = header; tiplocs = x.tiplocs; associations = x.associations; schedules = x.schedules }) h
+    ∙ ap (λ tiplocs. record { header = y.header; tiplocs = tiplocs; associations = x.associations; schedules = x.schedules }) t
+    ∙ ap (λ associations. record { header = y.header; tiplocs = y.tiplocs; associations = associations; schedules = x.schedules }) a
+    ∙ ap (λ schedules. record { header = y.header; tiplocs = y.tiplocs; associations = y.associations; schedules = schedules }) s
+
+one_extract_of : (records : List Record) (x y : ExtractParts) → AreExtract records x → AreExtract records y → x ≡ y
+one_extract_of records x y p q =
+    let both : of.Header x.header ∷ (map of.Tiploc x.tiplocs ++ (map of.Association x.associations ++ (p.schedules ++ (of.Trailer ∷ []))))
+    ≡ of.Header y.header ∷ (map of.Tiploc y.tiplocs ++ (map of.Association y.associations ++ (q.schedules ++ (of.Trailer ∷ [])))) =
+    sym (p.parts ∙ laid_out x p.schedules) ∙ (q.parts ∙ laid_out y q.schedules) in
+    let headers : x.header ≡ y.header = cc in
+    let rests : map of.Tiploc x.tiplocs ++ (map of.Association x.associations ++ (p.schedules ++ (of.Trailer ∷ [])))
+    ≡ map of.Tiploc y.tiplocs ++ (map of.Association y.associations ++ (q.schedules ++ (of.Trailer ∷ []))) = cc in
+    let tiplocs = parted (Is Ti) (map of.Tiploc x.tiplocs) (map of.Association x.associations ++ (p.schedules ++ (of.Trailer ∷ [])))
+    (map of.Tiploc y.tiplocs) (map of.Association y.associations ++ (q.schedules ++ (of.Trailer ∷ [])))
+    (each_map (Is Ti) of.Tiploc (λ t. refl) x.tiplocs) (associations_begin x.associations p.schedules x.schedules p.are_schedules)
+    (each_map (Is Ti) of.Tiploc (λ t. refl) y.tiplocs) (associations_begin y.associations q.schedules y.schedules q.are_schedules) rests in
+    let associations = parted (Is Aa) (map of.Association x.associations) (p.schedules ++ (of.Trailer ∷ []))
+    (map of.Association y.associations) (q.schedules ++ (of.Trailer ∷ []))
+    (each_map (Is Aa) of.Association (λ a. refl) x.associations)
+    (tail_begins Aa (λ e. cc) (λ e. cc) p.schedules x.schedules p.are_schedules)
+    (each_map (Is Aa) of.Association (λ a. refl) y.associations)
+    (tail_begins Aa (λ e. cc) (λ e. cc) q.schedules y.schedules q.are_schedules) tiplocs.1 in
+    let schedules = parted (Isnt Zz) p.schedules (of.Trailer ∷ []) q.schedules (of.Trailer ∷ [])
+    (schedules_isnt p.schedules x.schedules p.are_schedules) (λ h. h refl)
+    (schedules_isnt q.schedules y.schedules q.are_schedules) (λ h. h refl) associations.1 in
+    same_extract_parts x y headers (same_values of.Tiploc one_tiploc x.tiplocs y.tiplocs tiplocs.0)
+    (same_values of.Association one_association x.associations y.associations associations.0)
+    (one_schedules q.schedules x.schedules y.schedules (subst (λ rs. AreSchedules rs x.schedules) schedules.0 p.are_schedules) q.are_schedules)
+
+one_spelling : (lines : List (List ℕ)) (rs qs : List Record) → SpellAll lines rs → SpellAll lines qs → rs ≡ qs
+one_spelling [] [] [] p q = refl
+one_spelling [] [] (y ∷ qs) p q = absurd q
+one_spelling [] (x ∷ rs) qs p q = absurd p
+one_spelling (line ∷ lines) [] qs p q = absurd p
+one_spelling (line ∷ lines) (x ∷ rs) [] p q = absurd q
+one_spelling (line ∷ lines) (x ∷ rs) (y ∷ qs) p q =
+    ap (λ r. r ∷ rs) (one_record line x y p.0 q.0) ∙ ap (λ zs. y ∷ zs) (one_spelling lines rs qs p.1 q.1)
+
+-- lines spell at most one extract
+pub one_extract : (lines : List (List ℕ)) (x y : ExtractParts) → SpellExtract lines x → SpellExtract lines y → x ≡ y
+one_extract lines x y p q =
+    one_extract_of q.records x y
+    (subst (λ rs. AreExtract rs x) (one_spelling lines p.records q.records p.spelled q.spelled) p.are) q.are

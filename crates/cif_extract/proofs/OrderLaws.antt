@@ -1,0 +1,275 @@
+-- The order of records is that of the grammar: no line of an extract is refused.
+use Rattle.std.proofs.Common.{◌≡◌, ℕ, ◌+◌, ◌<◌, ◌≤◌, Bool, true, false, not, List, [], ◌∷◌, ◌++◌, is_some, length, map, Option, Some, None, refl, sym}
+use Rattle.std.proofs.Common.{ap, ◌∙◌, subst, arith, cond, codes, append_assoc, append-nil, length-append, ⊎_elim}
+use Rattle.std.proofs.lemmas.List.Elements.{All-head, All-tail}
+use Rattle.std.specs.Prelude.{All}
+use Rattle.std.specs.Str.{bytes_eq}
+use Rattle.cif_columns.specs.Line.{IsLine}
+use Rattle.cif_columns.specs.Stp.{letter}
+use Rattle.cif_columns.specs.declared.stp.Stp.{Stp}
+use Rattle.cif_columns.specs.declared.stp.Stp.TheVariants.{C, N, O, P}
+use Rattle.cif_columns.proofs.Parts.{stands-back}
+use Rattle.cif_extract.specs.BodyParts.{BodyParts, extra_records, journey_records}
+use Rattle.cif_extract.specs.Call.{call_record}
+use Rattle.cif_extract.specs.ExtractParts.{ExtractParts}
+use Rattle.cif_columns.specs.declared.refusal.Refusal.TheVariants.{OutOfOrder}
+use Rattle.cif_extract.specs.FirstRefusal.{NoneRefused, kind_refusal}
+use Rattle.cif_extract.specs.Grammar.{AreExtract, AreJourney, AreSchedule, AreSchedules, HaveBody}
+use Rattle.cif_extract.specs.OrderOfRecords.{cancels, may_stand, place_after, place_behind, place_from, rules}
+use Rattle.cif_extract.specs.SpellsExtract.{SpellAll, SpellExtract}
+use Rattle.cif_extract.specs.declared.call.Call.{Call}
+use Rattle.cif_extract.specs.declared.call.Call.TheVariants.{At, Turn}
+use Rattle.cif_extract.specs.declared.place.Place.{Place}
+use Rattle.cif_extract.specs.declared.place.Place.TheVariants as at
+use Rattle.cif_extract.specs.declared.schedule.Schedule.{Schedule}
+use Rattle.cif_records.specs.Basic.{basic_back, basic_front}
+use Rattle.cif_records.specs.Bodies.{has_body}
+use Rattle.cif_records.specs.Checks.{first_of, unless}
+use Rattle.cif_records.specs.Record.{refusal_as}
+use Rattle.cif_records.specs.Detail.{detail_rows}
+use Rattle.cif_records.specs.Kind.{kind_in}
+use Rattle.cif_records.specs.SpellsRecord.{SpellsRecord}
+use Rattle.cif_records.specs.declared.association.Association.{Association}
+use Rattle.cif_records.specs.declared.basic.Basic.{Basic}
+use Rattle.cif_records.specs.declared.detail.Detail.{Detail}
+use Rattle.cif_records.specs.declared.extra.Extra.{Extra}
+use Rattle.cif_records.specs.declared.kind.Kind.TheVariants.{Aa, Bs, Zz}
+use Rattle.cif_records.specs.declared.origin.Origin.{Origin}
+use Rattle.cif_records.specs.declared.record.Record.{Record}
+use Rattle.cif_records.specs.declared.record.Record.TheVariants as of
+use Rattle.cif_records.specs.declared.terminus.Terminus.{Terminus}
+use Rattle.cif_records.specs.declared.tiploc.Tiploc.{Tiploc}
+use Rattle.cif_records.proofs.Records.{kind_of as record_kind, kind_there as spelled_kind, no_refusal_as}
+use Rattle.cif_extract.proofs.FirstRefusals.{line_refusal, none_refused-more, none_refused-none, or_none}
+use Rattle.cif_extract.proofs.ReadingRuns.{place_from-more}
+
+-- the record is a BS of the letter without a body
+abbrev pub record_cancels : Record → Bool
+record_cancels (of.Basic b) = not (has_body b.letter)
+record_cancels _ = false
+
+-- the place after a record
+abbrev pub place_past : Place → Record → Place
+place_past place r = place_after place (record_kind r) (record_cancels r)
+
+-- column 80 of a BS is the letter C exactly where it has no body
+cancels_basic : (line : List ℕ) (b : Basic) → SpellsRecord line (of.Basic b) → cancels line ≡ not (has_body b.letter)
+cancels_basic line b s =
+    let back = stands-back line (detail_rows b.detail) (basic_back b.letter)
+    (stands-back line (basic_front b.uid b.first b.last b.days) (detail_rows b.detail ++ basic_back b.letter) s) in
+    ap (λ (columns : List ℕ). bytes_eq columns (codes "C")) back.1.0 ∙ by_letter b.letter
+  where
+    by_letter : (l : Stp) → bytes_eq (letter l ∷ []) (codes "C") ≡ not (has_body l)
+    by_letter C = refl
+    by_letter N = refl
+    by_letter O = refl
+    by_letter P = refl
+
+-- the place after a line is that after its record
+pub place_spelled : (place : Place) (line : List ℕ) (r : Record) → SpellsRecord line r →
+    place_behind place (kind_in line) line ≡ place_past place r
+place_spelled place line r s = ap (λ k. place_behind place k line) (spelled_kind line r s) ∙ by_record r s
+  where
+    by_record : (r : Record) → SpellsRecord line r → place_after place (record_kind r) (cancels line) ≡ place_past place r
+    by_record (of.Header x) s = refl
+    by_record (of.Tiploc x) s = refl
+    by_record (of.Association x) s = refl
+    by_record (of.Basic x) s = ap (λ c. cond c at.Cancelled at.Basic) (cancels_basic line x s)
+    by_record (of.Extra x) s = refl
+    by_record (of.Origin x) s = refl
+    by_record (of.Stop x) s = refl
+    by_record (of.Change x) s = refl
+    by_record (of.Terminus x) s = refl
+    by_record of.Trailer s = refl
+
+-- from one place to another these records may stand, one after another
+abbrev pub MayStand : Place → List Record → Place → Type 0
+MayStand from [] to = from ≡ to
+MayStand from (r ∷ records) to = (may_stand from (record_kind r) ≡ true) × MayStand (place_past from r) records to
+
+pub stand_append : (from over to : Place) (xs ys : List Record) → MayStand from xs over → MayStand over ys to → MayStand from (xs ++ ys) to
+stand_append from over to [] ys e q = subst (λ place. MayStand place ys to) (sym e) q
+stand_append from over to (x ∷ xs) ys p q = (p.0, stand_append (place_past from x) over to xs ys p.1 q)
+
+stand_tiplocs : (ts : List Tiploc) → MayStand at.Tiplocs (map of.Tiploc ts) at.Tiplocs
+stand_tiplocs [] = refl
+stand_tiplocs (t ∷ ts) = (refl, stand_tiplocs ts)
+
+-- a place where a schedule or the trailer may stand
+record IsOpen (from : Place) (records : List Record) : Type 0 where
+  to : Place
+  stand : MayStand from records to
+  schedule : may_stand to Bs ≡ true
+  trailer : may_stand to Zz ≡ true
+
+stand_associations : (xs : List Association) (from : Place) → may_stand from Aa ≡ true → may_stand from Bs ≡ true →
+    may_stand from Zz ≡ true → IsOpen from (map of.Association xs)
+stand_associations [] from a b z = record { to = from; stand = refl; schedule = b; trailer = z }
+stand_associations (x ∷ xs) from a b z =
+    let more = stand_associations xs at.Associations refl refl refl in
+    record { to = more.to; stand = (a, more.stand); schedule = more.schedule; trailer = more.trailer }
+
+stand_calls : (calls : List Call) (t : Terminus) → MayStand at.Journey (map call_record calls ++ (of.Terminus t ∷ [])) at.Schedules
+stand_calls [] t = (refl, refl)
+stand_calls (At s ∷ calls) t = (refl, stand_calls calls t)
+stand_calls (Turn c ∷ calls) t = (refl, stand_calls calls t)
+
+-- the records of a schedule, from where one may stand
+module _ (from : Place) (may : may_stand from Bs ≡ true) (b : Basic) where
+  stand_with_body : has_body b.letter ≡ true → (x : Option Extra) (o : Origin) (calls : List Call) (t : Terminus) →
+      IsOpen from (of.Basic b ∷ (extra_records x ++ journey_records o calls t))
+  stand_with_body runs None o calls t = record {
+    to = at.Schedules;
+    stand = (
+      may,
+      subst (λ r. MayStand (cond (not r) at.Cancelled at.Basic) (journey_records o calls t) at.Schedules) (sym runs)
+          (refl, stand_calls calls t),
+    );
+    schedule = refl;
+    trailer = refl;
+  }
+  stand_with_body runs (Some x) o calls t = record {
+    to = at.Schedules;
+    stand = (
+      may,
+      subst (λ r. MayStand (cond (not r) at.Cancelled at.Basic) (of.Extra x ∷ journey_records o calls t) at.Schedules) (sym runs)
+          (refl, (refl, stand_calls calls t)),
+    );
+    schedule = refl;
+    trailer = refl;
+  }
+
+  stand_cancelled : has_body b.letter ≡ false → (x : Option Extra) (o : Origin) (calls : List Call) (t : Terminus) →
+      IsOpen from (of.Basic b ∷ (extra_records x ++ journey_records o calls t))
+  stand_cancelled none None o calls t = record {
+    to = at.Schedules;
+    stand = (
+      may,
+      subst (λ r. MayStand (cond (not r) at.Cancelled at.Basic) (journey_records o calls t) at.Schedules) (sym none)
+          (refl, stand_calls calls t),
+    );
+    schedule = refl;
+    trailer = refl;
+  }
+  stand_cancelled none (Some x) o calls t = record {
+    to = at.Schedules;
+    stand = (
+      may,
+      subst (λ r. MayStand (cond (not r) at.Cancelled at.Basic) (of.Extra x ∷ journey_records o calls t) at.Schedules) (sym none)
+          (refl, (refl, stand_calls calls t)),
+    );
+    schedule = refl;
+    trailer = refl;
+  }
+
+  stand_alone : has_body b.letter ≡ false → (x : Option Extra) → IsOpen from (of.Basic b ∷ (extra_records x ++ []))
+  stand_alone none None = record {
+    to = at.Cancelled;
+    stand = (may, ap (λ r. cond (not r) at.Cancelled at.Basic) none);
+    schedule = refl;
+    trailer = refl;
+  }
+  stand_alone none (Some x) = record {
+    to = at.CancelledExtra;
+    stand = (may, subst (λ r. MayStand (cond (not r) at.Cancelled at.Basic) (of.Extra x ∷ []) at.CancelledExtra) (sym none) (refl, refl));
+    schedule = refl;
+    trailer = refl;
+  }
+
+stand_schedule : (from : Place) → may_stand from Bs ≡ true → (records : List Record) (s : Schedule) → AreSchedule records s →
+    IsOpen from records
+stand_schedule from may records s is =
+    subst (IsOpen from) (sym is.parts) (at is.basic.detail is.basic.bodied s.body is.body)
+  where
+    at : (d : Option Detail) → is_some d ≡ has_body is.basic.letter → (body : Option BodyParts) → HaveBody d is.extra is.journey body →
+        IsOpen from (of.Basic is.basic ∷ (extra_records is.extra ++ is.journey))
+    at (Some d) e (Some body) h =
+        let (detail, extra, journey) = h in
+        subst (λ rs. IsOpen from (of.Basic is.basic ∷ (extra_records is.extra ++ rs))) (sym journey)
+        (stand_with_body from may is.basic (sym e) is.extra body.origin body.calls body.terminus)
+    at None e None h =
+        ⊎_elim
+        (λ (none : is.journey ≡ []). subst (λ rs. IsOpen from (of.Basic is.basic ∷ (extra_records is.extra ++ rs))) (sym none)
+        (stand_alone from may is.basic (sym e) is.extra))
+        (λ (j : AreJourney is.journey). subst (λ rs. IsOpen from (of.Basic is.basic ∷ (extra_records is.extra ++ rs))) (sym j.are)
+        (stand_cancelled from may is.basic (sym e) is.extra j.origin j.calls j.terminus)) h
+    at (Some d) e None h = absurd h
+    at None e (Some body) h = absurd h
+
+stand_schedules : (schedules : List Schedule) (from : Place) → may_stand from Bs ≡ true → may_stand from Zz ≡ true →
+    (records : List Record) → AreSchedules records schedules → IsOpen from records
+stand_schedules [] from b z records none = record { to = from; stand = rw none refl; schedule = b; trailer = z }
+stand_schedules (s ∷ schedules) from b z records are =
+    let (own, others, parts, one, rest) = are in
+    let first = stand_schedule from b own s one in
+    let more = stand_schedules schedules first.to first.schedule first.trailer others rest in
+    record {
+      to = more.to;
+      stand = subst (λ rs. MayStand from rs more.to) (sym parts) (stand_append from first.to more.to own others first.stand more.stand);
+      schedule = more.schedule;
+      trailer = more.trailer;
+    }
+
+-- the records of an extract may stand as they do
+pub stand_extract : (records : List Record) (x : ExtractParts) → AreExtract records x → MayStand at.Start records at.Ended
+stand_extract records x are =
+    let associations = stand_associations x.associations at.Tiplocs refl refl refl in
+    let schedules = stand_schedules x.schedules associations.to associations.schedule associations.trailer are.schedules are.are_schedules in
+    subst (λ rs. MayStand at.Start rs at.Ended) (sym are.parts) (
+      refl,
+      subst (λ rs. MayStand at.Tiplocs rs at.Ended) (sym (behind_all x are.schedules))
+          (stand_append at.Tiplocs at.Tiplocs at.Ended (map of.Tiploc x.tiplocs)
+          (map of.Association x.associations ++ (are.schedules ++ (of.Trailer ∷ []))) (stand_tiplocs x.tiplocs)
+          (stand_append at.Tiplocs associations.to at.Ended (map of.Association x.associations) (are.schedules ++ (of.Trailer ∷ []))
+          associations.stand
+          (stand_append associations.to schedules.to at.Ended are.schedules (of.Trailer ∷ []) schedules.stand (schedules.trailer, refl)))),
+    )
+  where
+    behind_all : (x : ExtractParts) (groups : List Record) →
+        (map of.Tiploc x.tiplocs ++ (map of.Association x.associations ++ groups)) ++ (of.Trailer ∷ [])
+        ≡ map of.Tiploc x.tiplocs ++ (map of.Association x.associations ++ (groups ++ (of.Trailer ∷ [])))
+    behind_all x groups =
+        append_assoc (map of.Tiploc x.tiplocs) (map of.Association x.associations ++ groups) (of.Trailer ∷ [])
+        ∙ ap (λ rs. map of.Tiploc x.tiplocs ++ rs) (append_assoc (map of.Association x.associations) groups (of.Trailer ∷ []))
+
+-- lines of which none is refused, and the place behind them
+record AreFine (max : ℕ) (lines : List (List ℕ)) (place : Place) : Type 0 where
+  fine : NoneRefused rules max lines
+  behind : place_from at.Start lines ≡ place
+
+fine_more : (max : ℕ) (lines : List (List ℕ)) (place : Place) (line : List ℕ) (r : Record) → AreFine max lines place → IsLine line →
+    length lines < max → SpellsRecord line r → may_stand place (record_kind r) ≡ true → AreFine max (lines ++ (line ∷ [])) (place_past place r)
+fine_more max lines place line r so_far is_line room spells may = record {
+  fine = none_refused-more rules max lines line so_far.fine
+      (line_refusal rules max lines line is_line room
+      ∙ ap (λ k. kind_refusal rules lines line k) (spelled_kind line r spells)
+      ∙ ap (λ p. first_of (unless (may_stand p (record_kind r)) OutOfOrder ∷ refusal_as (Some (record_kind r)) line ∷ [])) so_far.behind
+      ∙ ap (λ b. first_of (unless b OutOfOrder ∷ refusal_as (Some (record_kind r)) line ∷ [])) may
+      ∙ or_none (refusal_as (Some (record_kind r)) line) ∙ no_refusal_as line r spells);
+  behind = place_from-more at.Start lines line ∙ ap (λ p. place_behind p (kind_in line) line) so_far.behind ∙ place_spelled place line r spells;
+}
+
+fine_all : (max : ℕ) (front : List (List ℕ)) (place : Place) (lines : List (List ℕ)) (records : List Record) (to : Place) →
+    AreFine max front place → All IsLine lines → length front + length lines ≤ max → SpellAll lines records → MayStand place records to →
+    AreFine max (front ++ lines) to
+fine_all max front place [] [] to so_far are_lines room spell stand =
+    subst (AreFine max (front ++ [])) stand (subst (λ ls. AreFine max ls place) (sym (append-nil front)) so_far)
+fine_all max front place [] (r ∷ records) to so_far are_lines room spell stand = absurd spell
+fine_all max front place (line ∷ lines) [] to so_far are_lines room spell stand = absurd spell
+fine_all max front place (line ∷ lines) (r ∷ records) to so_far are_lines room spell stand =
+    subst (λ ls. AreFine max ls to) (append_assoc front (line ∷ []) lines)
+    (fine_all max (front ++ (line ∷ [])) (place_past place r) lines records to
+    (fine_more max front place line r so_far (All-head IsLine line lines are_lines)
+    (let z : length front < max = omega (arith, room) in z) spell.0 stand.0)
+    (All-tail IsLine line lines are_lines)
+    (let z : length (front ++ (line ∷ [])) + length lines ≤ max = omega (arith, room, length-append front (line ∷ [])) in z)
+    spell.1 stand.1)
+
+-- none of the lines of an extract is refused
+pub spelled_fine : (max : ℕ) (lines : List (List ℕ)) (x : ExtractParts) → length lines ≤ max → All IsLine lines → SpellExtract lines x →
+    NoneRefused rules max lines
+spelled_fine max lines x room are_lines s =
+    let all = fine_all max [] at.Start lines s.records at.Ended (record { fine = none_refused-none rules max; behind = refl }) are_lines
+    (let z : 0 + length lines ≤ max = omega (arith, room) in z)
+    s.spelled (stand_extract s.records x s.are) in
+    all.fine
