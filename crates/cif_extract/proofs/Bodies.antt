@@ -8,6 +8,7 @@ use Rattle.std.proofs.Math.Seq.{take-append_seam, get_or-append_seam}
 use Rattle.cif_columns.specs.Field.{Row, AllStandIn, plain_line}
 use Rattle.cif_extract.specs.Body.{KeepAll, KeepBody, KeepJourney, KeepSomeBody, is_extra, journey_in, kept_tables, parts_in}
 use Rattle.cif_extract.specs.BodyParts.{BodyParts, body_records, journey_records}
+use Rattle.cif_extract.specs.SameBody.{same_values}
 use Rattle.cif_extract.specs.Call.{SpellsSomeCall, call_in, call_record}
 use Rattle.cif_extract.specs.declared.call.Call.{Call}
 use Rattle.cif_records.specs.Detail.{detail_table}
@@ -140,14 +141,6 @@ extra_found : (line : List ℕ) (extra : Option Extra) → is_extra line ≡ is_
     → IfSome extra (λ e. SpellsRecord line (of.Extra e)) → cond (is_extra line) (Some (extra_in line)) None ≡ extra
 extra_found line None marked further = rw marked
 extra_found line (Some e) marked further = rw marked (ap Some (extra_in-spells line e further))
-
-pub same_values : (p q : BodyParts) → p.detail ≡ q.detail → p.extra ≡ q.extra → p.origin ≡ q.origin → p.calls ≡ q.calls
-    → p.terminus ≡ q.terminus → p ≡ q
-same_values p q detail extra origin calls terminus =
-    let values : ◌≡◌ {A = Detail × Option Extra × Origin × List Call × Terminus}
-    (p.detail, p.extra, p.origin, p.calls, p.terminus) (q.detail, q.extra, q.origin, q.calls, q.terminus) = cc in
-    ap (λ (v : Detail × Option Extra × Origin × List Call × Terminus).
-    let it : BodyParts = record { detail = v.0; extra = v.1; origin = v.2; calls = v.3; terminus = v.4 } in it) values
 
 -- the parts that lines keep are those that stand in them
 pub parts_in-keeps : (lines : List (List ℕ)) (p : BodyParts) → KeepBody lines p → parts_in lines ≡ p

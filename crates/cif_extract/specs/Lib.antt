@@ -3,3 +3,5 @@ pub mod BodyParts
 pub mod Call
 pub mod Fault
 pub mod FirstRefusal
+pub mod PartsEq
+pub mod SameBody
