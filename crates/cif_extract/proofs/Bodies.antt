@@ -1,15 +1,16 @@
 -- The lines that keep a body and its parts determine each other.
-use Rattle.std.proofs.Common.{IfSome, ◌≡◌, ℕ, suc, is_some, ◌-◌, ◌<◌, true, false, cond, List, [], ◌∷◌, ◌++◌, length, map, take, get_or, Option, None, Some, All, refl, sym, ◌∙◌, ap, subst, arith, length-append}
-use Rattle.std.proofs.Common.{Bool, drop, Result, Ok}
-use Rattle.cif_columns.specs.declared.refusal.Refusal.{Refusal}
+use Rattle.std.proofs.Common.{◌≡◌, ℕ, suc, ◌-◌, ◌<◌, Bool, true, false, cond, Option, None, Some, IfSome, is_some, Result, Ok, All}
+use Rattle.std.proofs.Common.{List, [], ◌∷◌, ◌++◌, length, map, take, drop, get_or, length-append}
+use Rattle.std.proofs.Common.{refl, sym, ◌∙◌, ap, subst, arith}
 use Rattle.std.specs.List.{slice_range}
 use Rattle.std.proofs.lemmas.List.Elements.{All-nil, All-cons}
 use Rattle.std.proofs.Math.Seq.{take-append_seam, get_or-append_seam}
 use Rattle.cif_columns.specs.Field.{Row, AllStandIn, plain_line}
+use Rattle.cif_columns.specs.declared.refusal.Refusal.{Refusal}
 use Rattle.cif_extract.specs.Body.{KeepAll, KeepBody, KeepJourney, KeepSomeBody, is_extra, journey_in, kept_tables, parts_in}
 use Rattle.cif_extract.specs.BodyParts.{BodyParts, body_records, journey_records}
-use Rattle.cif_extract.specs.SameBody.{same_values}
 use Rattle.cif_extract.specs.Call.{SpellsSomeCall, call_in, call_record}
+use Rattle.cif_extract.specs.SameBody.{same_values}
 use Rattle.cif_extract.specs.declared.call.Call.{Call}
 use Rattle.cif_records.specs.Detail.{detail_table}
 use Rattle.cif_records.specs.SpellsExtra.{SpellsExtra, extra_in}
@@ -59,7 +60,7 @@ way (line ∷ lines) (call ∷ calls) terminus k =
       ended = w.ended;
     }
 
--- the lines of a journey
+-- what stands in the lines of a journey
 pub record Journey (lines : List (List ℕ)) (origin : Origin) (calls : List Call) (terminus : Terminus) : Type 0 where
   pub longer : 1 < length lines
   pub begun : SpellsRecord (get_or lines 0 []) (of.Origin origin)
@@ -67,12 +68,14 @@ pub record Journey (lines : List (List ℕ)) (origin : Origin) (calls : List Cal
   pub called : map call_in (slice_range lines 1 (length lines - 1)) ≡ calls
   pub ended : SpellsRecord (get_or lines (length lines - 1) []) (of.Terminus terminus)
 
+-- the lines between the first and the last
 between : (first last : List ℕ) (front : List (List ℕ))
     → slice_range (first ∷ (front ++ last ∷ [])) 1 (length (first ∷ (front ++ last ∷ [])) - 1) ≡ front
 between first last front =
     let n : length (first ∷ (front ++ last ∷ [])) - 1 - 1 ≡ length front = omega (arith, length-append front (last ∷ [])) in
     ap (λ m. take m (front ++ last ∷ [])) n ∙ take-append_seam front (last ∷ [])
 
+-- and the last
 at_end : (first last : List ℕ) (front : List (List ℕ))
     → get_or (first ∷ (front ++ last ∷ [])) (length (first ∷ (front ++ last ∷ [])) - 1) [] ≡ last
 at_end first last front =
@@ -154,9 +157,11 @@ parts_in-keeps lines p k =
     there.called
     (terminus_in-spells (get_or (journey_in lines) (length (journey_in lines) - 1) []) p.terminus there.ended)
 
+-- lines that keep a body keep the parts that stand in them
 pub keeps_parts_in : (lines : List (List ℕ)) → KeepSomeBody lines → KeepBody lines (parts_in lines)
 keeps_parts_in lines h = subst (KeepBody lines) (sym (parts_in-keeps lines h.0 h.1)) h.1
 
+-- the lines are those of the tables
 plain_lines : (lines : List (List ℕ)) (tables : List (List Row)) → KeepAll lines tables → lines ≡ map plain_line tables
 plain_lines [] [] k = refl
 plain_lines [] (table ∷ tables) k = absurd k

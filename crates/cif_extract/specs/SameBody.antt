@@ -1,13 +1,13 @@
--- Bodies are equal where their values are: a law that an entry of a calendar is asked for.
-use Rattle.std.proofs.Common.{◌≡◌, ◌↔◌, ℕ, Bool, true, nat_eq, IsTrue, List, [], ◌∷◌, get_or, refl, sym, ◌∙◌, ap, rules}
+-- A law: bodies are equal where their values are. A ghost member may cite it, so it stands here.
+use Rattle.std.proofs.Common.{◌≡◌, ◌↔◌, ℕ, nat_eq, Bool, true, false, ◌&&◌, IsTrue, Option, Some, None, List, [], ◌∷◌, get_or}
+use Rattle.std.proofs.Common.{refl, sym, ◌∙◌, ap, subst, rules}
 use Rattle.std.proofs.Math.Bool.{and-true}
+use Rattle.std.proofs.lemmas.Bool.{false≢true}
+use Rattle.std.proofs.lemmas.Bool.Decides.{same_from_decides}
 use Rattle.std.proofs.lemmas.Grind.{common_steps}
 use Rattle.std.specs.Cmp.Lexicographic.{pointwise, pointwise_decides, bytes_decides}
 use Rattle.std.specs.Cmp.{IsEquivalence, IsPartialEquivalence, partial_equiv_from_equiv}
 use Rattle.std.specs.Option.{option_eq}
-use Rattle.std.proofs.Common.{false, ◌&&◌, Option, Some, None, subst}
-use Rattle.std.proofs.lemmas.Bool.{false≢true}
-use Rattle.std.proofs.lemmas.Bool.Decides.{same_from_decides}
 use Rattle.cif_extract.specs.BodyParts.{BodyParts}
 use Rattle.cif_extract.specs.PartsEq.{parts_eq}
 use Rattle.cif_extract.specs.contracts.call.CallPartialEq.TheImpl as call
@@ -39,6 +39,7 @@ module _ {R : Type 0} (parts : R → List (List (List ℕ))) (whole : List (List
 abbrev one : List ℕ → List (List ℕ)
 one text = text ∷ []
 
+-- the text of a part
 abbrev only : List (List ℕ) → List ℕ
 only texts = get_or texts 0 []
 
@@ -155,11 +156,14 @@ same_extras None (Some y) = (λ e. cc, λ e. cc)
 same_extras (Some x) None = (λ e. cc, λ e. cc)
 same_extras (Some x) (Some y) = (λ e. ap Some ((same_extra x y).0 e), λ e. (same_extra x y).1 cc)
 
+-- each of two tests that hold together
 both : (s t : Bool) → (s && t) ≡ true → (s ≡ true) × (t ≡ true)
 both true t h = (refl, h)
 both false t h = absurd (false≢true h)
 
-all_five : (u v w x y : Bool) → (u && v && w && x && y) ≡ true → (u ≡ true) × (v ≡ true) × (w ≡ true) × (x ≡ true) × (y ≡ true)
+-- and each of five
+all_five : (u v w x y : Bool) → (u && v && w && x && y) ≡ true
+    → (u ≡ true) × (v ≡ true) × (w ≡ true) × (x ≡ true) × (y ≡ true)
 all_five u v w x y h =
     let a = both (u && v && w && x) y h in
     let b = both (u && v && w) x a.0 in
