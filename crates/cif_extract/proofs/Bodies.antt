@@ -1,18 +1,23 @@
 -- The lines that keep a body and its parts determine each other.
-use Rattle.std.proofs.Common.{IfSome, ◌≡◌, ℕ, suc, is_some, ◌-◌, ◌<◌, true, false, cond, List, [], ◌∷◌, ◌++◌, length, map, take, get_or, Option, None, Some, All, refl, sym, ◌∙◌, ap, subst, arith, length-append}
-use Rattle.std.proofs.Common.{Bool, drop, Result, Ok}
-use Rattle.cif_columns.specs.declared.refusal.Refusal.{Refusal}
+use Rattle.std.proofs.Common.{◌≡◌, ℕ, suc, ◌-◌, ◌<◌, Bool, true, false, cond, Option, None, Some, IfSome, is_some, Result, Ok, All}
+use Rattle.std.proofs.Common.{List, [], ◌∷◌, ◌++◌, length, map, take, drop, get_or, length-append}
+use Rattle.std.proofs.Common.{refl, sym, ◌∙◌, ap, subst, arith}
 use Rattle.std.specs.List.{slice_range}
+use Rattle.std.proofs.lemmas.List.{get_or_read}
 use Rattle.std.proofs.lemmas.List.Elements.{All-nil, All-cons}
 use Rattle.std.proofs.Math.Seq.{take-append_seam, get_or-append_seam}
 use Rattle.cif_columns.specs.Field.{Row, AllStandIn, plain_line}
+use Rattle.cif_columns.specs.declared.refusal.Refusal.{Refusal}
 use Rattle.cif_extract.specs.Body.{KeepAll, KeepBody, KeepJourney, KeepSomeBody, is_extra, journey_in, kept_tables, parts_in}
 use Rattle.cif_extract.specs.BodyParts.{BodyParts, body_records, journey_records}
 use Rattle.cif_extract.specs.Call.{SpellsSomeCall, call_in, call_record}
+use Rattle.cif_extract.specs.SameBody.{same_values}
 use Rattle.cif_extract.specs.declared.call.Call.{Call}
 use Rattle.cif_records.specs.Detail.{detail_table}
 use Rattle.cif_records.specs.SpellsExtra.{SpellsExtra, extra_in}
 use Rattle.cif_records.specs.SpellsRecord.{SpellsRecord, record_table}
+use Rattle.cif_records.specs.SpellsOrigin.{SpellsOrigin}
+use Rattle.cif_records.specs.SpellsTerminus.{SpellsTerminus}
 use Rattle.cif_records.specs.declared.detail.Detail.{Detail}
 use Rattle.cif_records.specs.declared.extra.Extra.{Extra}
 use Rattle.cif_records.specs.declared.origin.Origin.{Origin}
@@ -58,7 +63,7 @@ way (line ∷ lines) (call ∷ calls) terminus k =
       ended = w.ended;
     }
 
--- the lines of a journey
+-- what stands in the lines of a journey
 pub record Journey (lines : List (List ℕ)) (origin : Origin) (calls : List Call) (terminus : Terminus) : Type 0 where
   pub longer : 1 < length lines
   pub begun : SpellsRecord (get_or lines 0 []) (of.Origin origin)
@@ -66,12 +71,14 @@ pub record Journey (lines : List (List ℕ)) (origin : Origin) (calls : List Cal
   pub called : map call_in (slice_range lines 1 (length lines - 1)) ≡ calls
   pub ended : SpellsRecord (get_or lines (length lines - 1) []) (of.Terminus terminus)
 
+-- the lines between the first and the last
 between : (first last : List ℕ) (front : List (List ℕ))
     → slice_range (first ∷ (front ++ last ∷ [])) 1 (length (first ∷ (front ++ last ∷ [])) - 1) ≡ front
 between first last front =
     let n : length (first ∷ (front ++ last ∷ [])) - 1 - 1 ≡ length front = omega (arith, length-append front (last ∷ [])) in
     ap (λ m. take m (front ++ last ∷ [])) n ∙ take-append_seam front (last ∷ [])
 
+-- and the last
 at_end : (first last : List ℕ) (front : List (List ℕ))
     → get_or (first ∷ (front ++ last ∷ [])) (length (first ∷ (front ++ last ∷ [])) - 1) [] ≡ last
 at_end first last front =
@@ -141,14 +148,6 @@ extra_found : (line : List ℕ) (extra : Option Extra) → is_extra line ≡ is_
 extra_found line None marked further = rw marked
 extra_found line (Some e) marked further = rw marked (ap Some (extra_in-spells line e further))
 
-pub same_values : (p q : BodyParts) → p.detail ≡ q.detail → p.extra ≡ q.extra → p.origin ≡ q.origin → p.calls ≡ q.calls
-    → p.terminus ≡ q.terminus → p ≡ q
-same_values p q detail extra origin calls terminus =
-    let values : ◌≡◌ {A = Detail × Option Extra × Origin × List Call × Terminus}
-    (p.detail, p.extra, p.origin, p.calls, p.terminus) (q.detail, q.extra, q.origin, q.calls, q.terminus) = cc in
-    ap (λ (v : Detail × Option Extra × Origin × List Call × Terminus).
-    let it : BodyParts = record { detail = v.0; extra = v.1; origin = v.2; calls = v.3; terminus = v.4 } in it) values
-
 -- the parts that lines keep are those that stand in them
 pub parts_in-keeps : (lines : List (List ℕ)) (p : BodyParts) → KeepBody lines p → parts_in lines ≡ p
 parts_in-keeps lines p k =
@@ -161,9 +160,11 @@ parts_in-keeps lines p k =
     there.called
     (terminus_in-spells (get_or (journey_in lines) (length (journey_in lines) - 1) []) p.terminus there.ended)
 
+-- lines that keep a body keep the parts that stand in them
 pub keeps_parts_in : (lines : List (List ℕ)) → KeepSomeBody lines → KeepBody lines (parts_in lines)
 keeps_parts_in lines h = subst (KeepBody lines) (sym (parts_in-keeps lines h.0 h.1)) h.1
 
+-- the lines are those of the tables
 plain_lines : (lines : List (List ℕ)) (tables : List (List Row)) → KeepAll lines tables → lines ≡ map plain_line tables
 plain_lines [] [] k = refl
 plain_lines [] (table ∷ tables) k = absurd k
@@ -183,6 +184,28 @@ kept_view lines p h e = kept lines p (keeps_view lines p h e)
 pub journey_at : (lines : List (List ℕ)) (p : BodyParts) (some : Bool) → Kept lines p → some ≡ is_some p.extra
     → KeepJourney (drop (cond some 2 1) lines) p
 journey_at lines p some h e = subst (λ b. KeepJourney (drop (cond b 2 1) lines) p) (h.marked ∙ sym e) h.way
+
+-- the journey's first line spells LO
+pub spells_origin : (lines : List (List ℕ)) (p : BodyParts) (line : List ℕ) → KeepJourney lines p → line ≡ get_or lines 0 line
+    → SpellsOrigin line p.origin
+spells_origin lines p line k is =
+    let there = journey lines p k in
+    subst (λ l. SpellsOrigin l p.origin) (sym (get_or_read lines 0 line (omega (arith, there.longer)) is [])) there.begun
+
+-- and its last LT
+pub spells_terminus : (lines : List (List ℕ)) (p : BodyParts) (line : List ℕ) → KeepJourney lines p
+    → line ≡ get_or lines (length lines - 1) line → SpellsTerminus line p.terminus
+spells_terminus lines p line k is =
+    let there = journey lines p k in
+    subst (λ l. SpellsTerminus l p.terminus)
+    (sym (get_or_read lines (length lines - 1) line (omega (arith, there.longer)) is [])) there.ended
+
+-- the line of the BX spells it
+pub spells_extra : (lines : List (List ℕ)) (p : BodyParts) (line : List ℕ) → Kept lines p → line ≡ get_or lines 1 line
+    → IfSome p.extra (λ e. SpellsRecord line (of.Extra e))
+spells_extra lines p line h is =
+    subst (λ l. IfSome p.extra (λ e. SpellsRecord l (of.Extra e)))
+    (sym (get_or_read lines 1 line (omega (arith, h.longer)) is [])) h.further
 
 -- the BX that a line spells is read from it
 pub extra_read : (line : List ℕ) (extra : Option Extra) (result : Result Extra Refusal) → is_some extra ≡ true

@@ -22,17 +22,20 @@ call_in-spells line (Turn change) s = rw s.0 (ap Turn (change_in-spells line cha
 spelled : (line : List ℕ) → SpellsSomeCall line → SpellsRecord line (call_record (call_in line))
 spelled line h = subst (λ call. SpellsRecord line (call_record call)) (sym (call_in-spells line h.0 h.1)) h.1
 
--- by its columns 1 and 2 it is a change
-pub spells_turn : (line : List ℕ) → SpellsSomeCall line → bytes_eq (columns 1 2 line) (codes "CR") ≡ true → SpellsChange line (change_in line)
-spells_turn line h e =
-    let it : call_in line ≡ Turn (change_in line) = rw e in
-    subst (λ call. SpellsRecord line (call_record call)) it (spelled line h)
+module _ (line letters : List ℕ) (h : SpellsSomeCall line) (there : letters ≡ columns 1 2 line) where
+  -- by its columns 1 and 2 it is a change
+  pub turned : bytes_eq letters (codes "CR") ≡ true → (call_in line ≡ Turn (change_in line)) × SpellsChange line (change_in line)
+  turned e =
+      let test : bytes_eq (columns 1 2 line) (codes "CR") ≡ true = ap (λ l. bytes_eq l (codes "CR")) (sym there) ∙ e in
+      let it : call_in line ≡ Turn (change_in line) = rw test in
+      (it, subst (λ call. SpellsRecord line (call_record call)) it (spelled line h))
 
--- or a location
-pub spells_at : (line : List ℕ) → SpellsSomeCall line → bytes_eq (columns 1 2 line) (codes "CR") ≡ false → SpellsStop line (stop_in line)
-spells_at line h e =
-    let it : call_in line ≡ At (stop_in line) = rw e in
-    subst (λ call. SpellsRecord line (call_record call)) it (spelled line h)
+  -- or a location
+  pub stopped : bytes_eq letters (codes "CR") ≡ false → (call_in line ≡ At (stop_in line)) × SpellsStop line (stop_in line)
+  stopped e =
+      let test : bytes_eq (columns 1 2 line) (codes "CR") ≡ false = ap (λ l. bytes_eq l (codes "CR")) (sym there) ∙ e in
+      let it : call_in line ≡ At (stop_in line) = rw test in
+      (it, subst (λ call. SpellsRecord line (call_record call)) it (spelled line h))
 
 -- each call of the lines is spelled, and so is each of the rest
 pub first_and_rest : (lines others : List (List ℕ)) (first : List ℕ) → lines ≡ first ∷ others → All SpellsSomeCall lines

@@ -11,6 +11,7 @@ pub mod OneExtract
 pub mod OrderLaws
 pub mod ReadingRuns
 pub mod ReadingSteps
+pub mod SameLines
 pub mod ScheduleSteps
 pub mod Schedules
 pub mod SpelledBytes

@@ -1,5 +1,6 @@
 -- How a body keeps its parts: as plain lines, one a record.
-use Rattle.std.specs.Prelude.{◌≡◌, ℕ, ◌-◌, Bool, List, [], ◌∷◌, ◌++◌, None, Some, codes, cond, drop, length, map, slice_index_or, slice_range}
+use Rattle.std.specs.Prelude.{◌≡◌, ℕ, ◌-◌, Bool, cond, None, Some, codes}
+use Rattle.std.specs.Prelude.{List, [], ◌∷◌, ◌++◌, drop, length, map, slice_index_or, slice_range}
 use Rattle.std.specs.Str.{bytes_eq}
 use Rattle.cif_columns.specs.Field.{Row, AllStandIn, columns, plain_line}
 use Rattle.cif_extract.specs.BodyParts.{BodyParts, body_records, journey_records}

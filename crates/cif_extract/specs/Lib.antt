@@ -6,7 +6,9 @@ pub mod Fault
 pub mod FirstRefusal
 pub mod Grammar
 pub mod OrderOfRecords
+pub mod PartsEq
 pub mod ReadFault
 pub mod Reading
+pub mod SameBody
 pub mod SpellsExtract
 pub mod StopAt

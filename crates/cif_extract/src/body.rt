@@ -1,5 +1,5 @@
 //! What runs on a schedule's dates.
-ghost use Rattle.std.specs.Prelude.{◌≡◌, IfOk, is_some, map, option_copied};
+ghost use Rattle.std.specs.Prelude.{◌≡◌, ◌↔◌, IfOk, IsTrue, is_some, map, option_copied};
 ghost use Rattle.cif_extract.specs.Body.{KeepBody, KeepJourney, KeepMore, KeepSomeBody, parts_in};
 ghost use Rattle.cif_extract.specs.BodyParts.{extra_records};
 ghost use Rattle.cif_extract.specs.Call.{call_record};
@@ -93,6 +93,11 @@ impl Body {
         Ok(Body { lines: copy })
     }
 
+    /// A law for proofs: bodies are equal where their parts are.
+    pub fn equality_of_bodies()
+        ensures { (a b : BodyParts) → IsTrue (⟦<Body as PartialEq>⟧.eq a b) ↔ (a ≡ b) }
+    {}
+
     /// Its lines: the detail in a line of its own, and the plain lines of its records.
     pub(crate) fn lines(&self) -> &[Line]
         ensures { KeepBody result.now self.now }
@@ -169,4 +174,23 @@ impl Body {
             Err(_) => unreachable!(),
         }
     }
+}
+
+impl PartialEq for Body {
+    ghost use Rattle.cif_extract.specs.PartsEq.{parts_eq};
+    ghost use Rattle.cif_extract.specs.SameBody.{parts_per};
+
+    ghost eq = { parts_eq };
+
+    ghost laws = { parts_per };
+
+    fn eq(&self, other: &Body) -> bool {
+        self.lines.as_slice() == other.lines.as_slice()
+    }
+}
+
+impl Eq for Body {
+    ghost use Rattle.cif_extract.specs.SameBody.{parts_equiv};
+
+    ghost laws = { parts_equiv };
 }

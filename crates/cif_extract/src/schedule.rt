@@ -6,7 +6,7 @@ use crate::Body;
 use cif_columns::{Day, DaysRun, Stp, Uid};
 
 /// A schedule (the CIF End User Specification): on which dates a body runs, or is cancelled.
-#[derive(Debug, Drop)]
+#[derive(Debug, Drop, PartialEq, Eq)]
 pub struct Schedule {
     /// The train.
     pub uid: Uid,

@@ -1,8 +1,10 @@
-use Rattle.std.proofs.Common.{[], ap}
+use Rattle.std.proofs.Common.{ap, []}
 use Rattle.std.proofs.lemmas.Slice.{pushed}
 use Rattle.cif_extract.specs.Body.{parts_in}
 use Rattle.cif_extract.proofs.body.Body.of_lines.Goals as goal
 
 pub returns : goal.returns
 returns c =
-    ap parts_in (pushed {xs = []} c.args.lines.now c.in_ok-copy.ensures.items c.in_ok-extend_from_slice.was c.extend_from_slice.ensures.items)
+    let items = pushed {xs = []} c.args.lines.now c.in_ok-copy.ensures.items c.in_ok-extend_from_slice.was
+    c.extend_from_slice.ensures.items in
+    ap parts_in items
