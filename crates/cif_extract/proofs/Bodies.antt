@@ -222,3 +222,8 @@ same_lines xs ys p k h =
 -- equal lines keep equal parts
 pub same_parts : (lines : List (List ℕ)) (p q : BodyParts) → KeepBody lines p → KeepBody lines q → p ≡ q
 same_parts lines p q k h = sym (parts_in-keeps lines p k) ∙ parts_in-keeps lines q h
+
+-- the lines behind the detail's keep the records that follow the BS
+pub keeps_further : (lines : List (List ℕ)) (p : BodyParts) → KeepBody lines p → KeepAll (drop 1 lines) (map record_table (body_records p))
+keeps_further [] p h = absurd h
+keeps_further (line ∷ lines) p h = h.2

@@ -16,3 +16,4 @@ pub mod ScheduleSteps
 pub mod Schedules
 pub mod SpelledBytes
 pub mod TakenLines
+pub mod WrittenLines

@@ -12,3 +12,4 @@ pub mod Reading
 pub mod SameBody
 pub mod SpellsExtract
 pub mod StopAt
+pub mod Texts

@@ -1,7 +1,7 @@
 //! What runs on a schedule's dates.
 ghost use Rattle.std.specs.Prelude.{◌≡◌, ◌↔◌, IfOk, IsTrue, is_some, map, option_copied};
-ghost use Rattle.cif_extract.specs.Body.{KeepBody, KeepJourney, KeepMore, KeepSomeBody, parts_in};
-ghost use Rattle.cif_extract.specs.BodyParts.{extra_records};
+ghost use Rattle.cif_extract.specs.Body.{KeepAll, KeepJourney, KeepMore, KeepSomeBody, parts_in};
+ghost use Rattle.cif_extract.specs.BodyParts.{body_records, extra_records};
 ghost use Rattle.cif_extract.specs.Call.{call_record};
 ghost use Rattle.cif_records.specs.SpellsRecord.{record_table};
 
@@ -98,11 +98,11 @@ impl Body {
         ensures { (a b : BodyParts) → IsTrue (⟦<Body as PartialEq>⟧.eq a b) ↔ (a ≡ b) }
     {}
 
-    /// Its lines: the detail in a line of its own, and the plain lines of its records.
-    pub(crate) fn lines(&self) -> &[Line]
-        ensures { KeepBody result.now self.now }
+    /// The plain lines of the records that follow its BS.
+    pub(crate) fn further_lines(&self) -> &[Line]
+        ensures { KeepAll result.now (map record_table (body_records self.now)) }
     {
-        &self.lines
+        &self.lines[1..]
     }
 
     /// Whether it has a BX.

@@ -23,4 +23,4 @@ pub use extract::Extract;
 pub use fault::Fault;
 pub use reader::read_extract;
 pub use schedule::Schedule;
-pub use writing::{write_association, write_head, write_trailer};
+pub use writing::{write_association, write_head, write_schedule, write_tiploc, write_trailer};

@@ -5,12 +5,17 @@ ghost use Rattle.cif_columns.specs.Devices.{TellsErrors};
 ghost use Rattle.cif_columns.specs.Field.{plain_line};
 ghost use Rattle.cif_columns.specs.Sink.{AppendsFront, sink_failed, writer_of};
 ghost use Rattle.cif_columns.specs.declared.stp.Stp.TheVariants.{P};
+ghost use Rattle.cif_extract.specs.Texts.{lines_text, schedule_lines};
 ghost use Rattle.cif_records.specs.Association.{association_table};
 ghost use Rattle.cif_records.specs.Header.{header_table};
+ghost use Rattle.cif_records.specs.Tiploc.{tiploc_table};
 ghost use Rattle.cif_records.specs.Trailer.{trailer_table};
 
-use cif_columns::{Day, DaysRun, Line, Sink, WriteDevice, WriteFault};
-use cif_records::{AssocBody, AssocKey, Header, Trailer, permanent_association};
+use crate::Body;
+use cif_columns::{Day, DaysRun, Line, Sink, Uid, WriteDevice, WriteFault};
+use cif_records::{
+    AssocBody, AssocKey, Header, Tiploc, Trailer, permanent_association, permanent_basic,
+};
 
 /// Appends a line and a line feed.
 fn write_line<W: WriteDevice>(line: &Line, sink: &mut Sink<W>) -> Result<(), WriteFault>
@@ -28,6 +33,23 @@ fn write_line<W: WriteDevice>(line: &Line, sink: &mut Sink<W>) -> Result<(), Wri
     sink.write_all(&text)
 }
 
+/// Appends these lines, each with a line feed.
+fn write_lines<W: WriteDevice>(lines: &[Line], sink: &mut Sink<W>) -> Result<(), WriteFault>
+    requires { sink_failed sink.old ≡ false }
+    ensures ok { OnOk result (Appends (W.contents (writer_of sink.old))
+        (W.contents (writer_of sink.new)) (lines_text lines.now)) }
+    ensures err { OnErr result (AppendsFront (W.contents (writer_of sink.old))
+        (W.contents (writer_of sink.new)) (lines_text lines.now)) }
+    ensures failed { IsTrue (sink_failed sink.new) ↔ IsErr result }
+    ensures errors { TellsErrors (W.write_errors (writer_of sink.old))
+        (W.write_errors (writer_of sink.new)) result }
+{
+    for line in lines {
+        write_line(line, sink)?;
+    }
+    Ok(())
+}
+
 /// Appends the plain line of the header and a line feed.
 pub fn write_head<W: WriteDevice>(header: &Header, sink: &mut Sink<W>) -> Result<(), WriteFault>
     ensures ok { OnOk result (Appends (W.contents (writer_of sink.old)) (W.contents (writer_of sink.new))
@@ -40,6 +62,20 @@ pub fn write_head<W: WriteDevice>(header: &Header, sink: &mut Sink<W>) -> Result
     ensures untouched { IsTrue (sink_failed sink.old) → sink.new ≡ sink.old }
 {
     write_line(&header.write(), sink)
+}
+
+/// Appends the plain line of the location and a line feed.
+pub fn write_tiploc<W: WriteDevice>(tiploc: &Tiploc, sink: &mut Sink<W>) -> Result<(), WriteFault>
+    ensures ok { OnOk result (Appends (W.contents (writer_of sink.old)) (W.contents (writer_of sink.new))
+        (plain_line (tiploc_table tiploc.now.columns) ++ 10 ∷ [])) }
+    ensures err { OnErr result (AppendsFront (W.contents (writer_of sink.old))
+        (W.contents (writer_of sink.new)) (plain_line (tiploc_table tiploc.now.columns) ++ 10 ∷ [])) }
+    ensures failed { IsTrue (sink_failed sink.new) ↔ IsErr result }
+    ensures errors { sink_failed sink.old ≡ false → TellsErrors (W.write_errors (writer_of sink.old))
+        (W.write_errors (writer_of sink.new)) result }
+    ensures untouched { IsTrue (sink_failed sink.old) → sink.new ≡ sink.old }
+{
+    write_line(&tiploc.write(), sink)
 }
 
 /// Appends the plain line of a permanent association and a line feed: transaction type `N`, letter
@@ -64,6 +100,32 @@ pub fn write_association<W: WriteDevice>(
     ensures untouched { IsTrue (sink_failed sink.old) → sink.new ≡ sink.old }
 {
     write_line(&permanent_association(key, body, first, last, days), sink)
+}
+
+/// Appends the plain lines of a permanent schedule, each with a line feed: BS (transaction type `N`,
+/// letter `P`), BX if the body has one, and the journey from LO to LT.
+pub fn write_schedule<W: WriteDevice>(
+    uid: &Uid,
+    body: &Body,
+    first: Day,
+    last: Day,
+    days: DaysRun,
+    sink: &mut Sink<W>,
+) -> Result<(), WriteFault>
+    requires { first ≤ last }
+    ensures ok { OnOk result (Appends (W.contents (writer_of sink.old)) (W.contents (writer_of sink.new))
+        (lines_text (schedule_lines uid.now first last days body.now))) }
+    ensures err { OnErr result (AppendsFront (W.contents (writer_of sink.old))
+        (W.contents (writer_of sink.new))
+        (lines_text (schedule_lines uid.now first last days body.now))) }
+    ensures failed { IsTrue (sink_failed sink.new) ↔ IsErr result }
+    ensures errors { sink_failed sink.old ≡ false → TellsErrors (W.write_errors (writer_of sink.old))
+        (W.write_errors (writer_of sink.new)) result }
+    ensures untouched { IsTrue (sink_failed sink.old) → sink.new ≡ sink.old }
+{
+    let basic = permanent_basic(uid, &body.detail(), first, last, days);
+    write_line(&basic, sink)?;
+    write_lines(body.further_lines(), sink)
 }
 
 /// Appends the plain line of the trailer and a line feed.

@@ -1,7 +1,9 @@
 //! The first record of a schedule.
-ghost use Rattle.std.specs.Prelude.{◌≡◌, ◌+◌, ◌≤◌, ◌++◌, length, Ok, is_some};
+ghost use Rattle.std.specs.Prelude.{◌≡◌, ◌+◌, ◌≤◌, ◌++◌, [], length, Ok, Some, is_some};
 ghost use Rattle.std.specs.Option.{option_copied};
 ghost use Rattle.cif_columns.specs.Field.{AllFit, AllStandIn, plain_line};
+ghost use Rattle.cif_columns.specs.LineBuilder.{put_all};
+ghost use Rattle.cif_columns.specs.declared.stp.Stp.TheVariants.{P};
 ghost use Rattle.cif_records.specs.Basic.{basic_refusal, basic_table};
 ghost use Rattle.cif_records.specs.Bodies.{has_body};
 ghost use Rattle.cif_records.specs.Checks.{IsJudged};
@@ -97,16 +99,15 @@ impl Layout for Basic {
     }
 
     fn put_rows(&self, line: &mut LineBuilder) {
-        line.put_columns(b"BS");
-        line.put_columns(b"N");
-        self.uid.put_on(line);
-        self.first.put_on(line);
-        self.last.put_on(line);
-        self.days.put_on(line);
-        line.put_columns(b" ");
-        put_detail(self.detail.as_ref(), line);
-        line.put_spare::<1>();
-        self.letter.put_on(line);
+        put_basic(
+            &self.uid,
+            self.first,
+            self.last,
+            self.days,
+            self.letter,
+            self.detail.as_ref(),
+            line,
+        );
     }
 
     ghost whole = { λ r. refl };
@@ -133,6 +134,44 @@ impl Basic {
     {
         layout::write(self)
     }
+}
+
+/// The plain line of a permanent schedule: transaction type `N`, letter `P`.
+pub fn permanent_basic(uid: &Uid, detail: &Detail, first: Day, last: Day, days: DaysRun) -> Line
+    requires { first ≤ last }
+    ensures plain { result ≡ plain_line (basic_table uid.now first last days P (Some detail.now)) }
+    ensures again { AllStandIn result (basic_table uid.now first last days P (Some detail.now)) }
+{
+    let mut line = LineBuilder::new();
+    put_basic(uid, first, last, days, Stp::P, Some(detail), &mut line);
+    line.finish()
+}
+
+/// Appends each column.
+fn put_basic(
+    uid: &Uid,
+    first: Day,
+    last: Day,
+    days: DaysRun,
+    letter: Stp,
+    detail: Option<&Detail>,
+    line: &mut LineBuilder,
+)
+    requires { line.old ≡ [] }
+    ensures columns { line.new ≡ put_all []
+        (basic_table uid.now first last days letter (option_copied detail.entry)) }
+    ensures fits { AllFit (basic_table uid.now first last days letter (option_copied detail.entry)) }
+{
+    line.put_columns(b"BS");
+    line.put_columns(b"N");
+    uid.put_on(line);
+    first.put_on(line);
+    last.put_on(line);
+    days.put_on(line);
+    line.put_columns(b" ");
+    put_detail(detail, line);
+    line.put_spare::<1>();
+    letter.put_on(line);
 }
 
 /// The detail in columns 30 to 78, which a cancellation has not.

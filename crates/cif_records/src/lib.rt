@@ -24,7 +24,7 @@ pub use any_record::{plain_line_of, read_record, write_record};
 pub use assoc_body::AssocBody;
 pub use assoc_key::AssocKey;
 pub use association::{Association, permanent_association};
-pub use basic::Basic;
+pub use basic::{Basic, permanent_basic};
 pub use change::Change;
 pub use detail::Detail;
 pub use extra::Extra;

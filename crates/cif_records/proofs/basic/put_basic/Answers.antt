@@ -1,23 +1,22 @@
 use Rattle.std.proofs.Common.{◌≡◌, ◌++◌, ℕ, List, [], sym, ◌∙◌}
+use Rattle.std.specs.Option.{option_copied}
 use Rattle.cif_columns.specs.Field.{plain_line}
 use Rattle.cif_columns.specs.LineBuilder.{put_all}
 use Rattle.cif_columns.proofs.Parts.{put_all-append}
 use Rattle.cif_records.specs.Basic.{basic_back, basic_front}
 use Rattle.cif_records.specs.Detail.{detail_rows}
-use Rattle.cif_records.proofs.basic.BasicLayout.put_rows.Goals as goal
+use Rattle.cif_records.proofs.basic.put_basic.Goals as goal
 
 pub returns-clause-columns : goal.returns-clause-columns
 returns-clause-columns c =
-    let r = c.args.self.now in
-    let front = put_all [] (basic_front r.uid r.first r.last r.days) in
-    let detail = detail_rows r.detail in
-    let detail_put : ◌≡◌ {A = List ℕ} c.put_detail.new.line (c.put_columns-3.new.self ++ plain_line detail) =
-    rw c.as_ref.ensures.value at c.put_detail.ensures.columns in
-    let built : ◌≡◌ {A = List ℕ} c.put_on-5.new.line (put_all (front ++ plain_line detail) (basic_back r.letter)) =
+    let a = c.args in
+    let front = put_all [] (basic_front a.uid.now a.first a.last a.days) in
+    let detail = detail_rows (option_copied a.detail) in
+    let built : ◌≡◌ {A = List ℕ} c.put_on-5.new.line (put_all (front ++ plain_line detail) (basic_back a.letter)) =
     rw (
       c.put_on-5.ensures.columns,
       c.put_spare.ensures.columns,
-      detail_put,
+      c.put_detail.ensures.columns,
       c.put_columns-3.ensures.columns,
       c.put_on-4.ensures.columns,
       c.put_on-3.ensures.columns,
@@ -27,4 +26,4 @@ returns-clause-columns c =
       c.put_columns.ensures.columns,
       c.requires,
     ) in
-    built ∙ sym (put_all-append front detail (basic_back r.letter))
+    built ∙ sym (put_all-append front detail (basic_back a.letter))
