@@ -2,6 +2,8 @@
 #![tactic(auto)]
 
 mod body;
+#[cfg(test)]
+mod body_tests;
 mod call;
 mod calls;
 mod clash;
