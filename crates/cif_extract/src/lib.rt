@@ -2,8 +2,6 @@
 #![tactic(auto)]
 
 mod body;
-#[cfg(test)]
-mod body_tests;
 mod call;
 mod calls;
 mod clash;
@@ -20,3 +18,6 @@ pub use extract::Extract;
 pub use fault::Fault;
 pub use schedule::Schedule;
 pub use writing::{write_association, write_head, write_trailer};
+
+#[cfg(test)]
+mod body_tests;
