@@ -21,7 +21,7 @@ use Rattle.cif_columns.proofs.GivenLinesLaws.{contents_given, known_so}
 use Rattle.cif_columns.proofs.PrintableBytes.{printable_fact, printable_true}
 use Rattle.cif_extract.specs.Fault.{of_line_fault}
 use Rattle.cif_extract.specs.FirstRefusal.{LineRules, NoneRefused, IsCutBeforeRefusal, IsFirstRefusal, IsRefusedLine, kind_refusal, refusal_of}
-use Rattle.cif_extract.specs.ReadFault.{IsReadFault}
+use Rattle.cif_extract.specs.ReadFault.{IsOfReading, IsReadFault}
 use Rattle.cif_extract.specs.declared.fault.Fault.{Fault}
 use Rattle.cif_extract.specs.declared.fault.Fault.TheVariants as fault
 use Rattle.cif_records.specs.Kind.{kind_in}
@@ -144,3 +144,8 @@ not_read l f is ne e = ne (is ∙ ap of_line_fault e)
 -- what is said of the error is said of the result
 pub if_error : {A E : Type 0} (P : E → Type 0) (r : Result A E) (e : E) → r ≡ Err e → P e → IfErr r P
 if_error P r e is h = rw is h
+
+-- a fault of the lines is one of reading
+pub line_fault_of_reading : (l : LineFault) → IsOfReading (of_line_fault l)
+line_fault_of_reading (line_fault.Refused number why) = tt
+line_fault_of_reading line_fault.Read = tt

@@ -17,7 +17,7 @@ use Rattle.cif_extract.specs.ExtractParts.{ExtractParts, extract_parts}
 use Rattle.cif_extract.specs.FirstRefusal.{NoneRefused, IsFirstRefusal, kind_refusal, refusal_of}
 use Rattle.cif_extract.specs.Grammar.{AreExtract}
 use Rattle.cif_extract.specs.OrderOfRecords.{cancels, may_stand, place_after, place_behind, place_from, rules}
-use Rattle.cif_extract.specs.ReadFault.{IsReadFault}
+use Rattle.cif_extract.specs.ReadFault.{IsOfReading, IsReadFault}
 use Rattle.cif_extract.specs.Reading.{HasRead, HasReadAt, IsHeld, IsTaken, IsUnfinished, Progress, begun, no_progress}
 use Rattle.cif_extract.specs.Reading.{parts_with_header, refusal_here, step}
 use Rattle.cif_extract.specs.SpellsExtract.{BytesSpell, SpellAll, SpellExtract}
@@ -233,3 +233,14 @@ pub refused_reason : (refusal : Option Refusal) (line : List ℕ) (before after 
     IsTaken refusal line before (Err s) after → s ≡ stop.Refused why → refusal ≡ Some why
 refused_reason refusal line before after (stop.Refused x) why taken e = taken ∙ (let same : x ≡ why = cc in ap Some same)
 refused_reason refusal line before after stop.Memory why taken e = cc
+
+-- a stop is a fault of reading
+pub stop_of_reading : (number : ℕ) (s : StopAt) → IsOfReading (stop_fault number s)
+stop_of_reading number (stop.Refused why) = tt
+stop_of_reading number stop.Memory = tt
+
+-- and so is the want of a trailer
+pub unfinished_of_reading : (p : Progress) (number : ℕ) (result : Result Extract Fault) →
+    IfErr result (λ f. (f ≡ fault.Refused (number + 1) refusal.Truncated) × IsUnfinished p) → IfErr result IsOfReading
+unfinished_of_reading p number (Ok extract) h = tt
+unfinished_of_reading p number (Err f) h = rw h.0 tt

@@ -14,6 +14,13 @@ IsReadFault rules max bytes after Read = IsSomeAnd after (IsCutBeforeRefusal rul
 IsReadFault rules max bytes after Memory = Unit {0}
 IsReadFault rules max bytes after _ = ⊥
 
+-- the faults of reading, over whatever source
+abbrev pub IsOfReading : Fault → Type 0
+IsOfReading (Refused line why) = Unit {0}
+IsOfReading Read = Unit {0}
+IsOfReading Memory = Unit {0}
+IsOfReading _ = ⊥
+
 -- what is answered where the bytes spell an extract of these parts: it, but for a failure of the source or a want of memory
 abbrev pub IsReadAs : ExtractParts → Result Extract Fault → Type 0
 IsReadAs x (Ok extract) = extract_parts extract ≡ x

@@ -4,10 +4,11 @@ use Rattle.cif_columns.proofs.GivenLinesLaws.{known_so, reading_ends, reading_fa
 use Rattle.cif_columns.specs.LineReader.{given}
 use Rattle.cif_extract.specs.Fault.{of_line_fault}
 use Rattle.cif_extract.specs.OrderOfRecords.{rules}
-use Rattle.cif_extract.specs.ReadFault.{IsReadFault}
+use Rattle.cif_extract.specs.ReadFault.{IsOfReading, IsReadFault}
 use Rattle.cif_extract.specs.Reading.{progress_of}
-use Rattle.cif_extract.proofs.FirstRefusals.{at_fault, at_line, if_error}
-use Rattle.cif_extract.proofs.ReadingRuns.{come_more, refused_here, refused_reason, stop_result, unfinished_result, whole_result}
+use Rattle.cif_extract.proofs.FirstRefusals.{at_fault, at_line, if_error, line_fault_of_reading}
+use Rattle.cif_extract.proofs.ReadingRuns.{come_more, refused_here, refused_reason, stop_of_reading, stop_result}
+use Rattle.cif_extract.proofs.ReadingRuns.{unfinished_of_reading, unfinished_result, whole_result}
 use Rattle.cif_extract.proofs.SpelledBytes.{only_fault, only_read}
 use Rattle.cif_extract.proofs.reader.read_extract.Goals as goal
 
@@ -87,3 +88,16 @@ returns-in-None-clause-only g c =
     (whole_result start c.args.max_lines ls (progress_of c.loop-reading.reading) c.finish.result all come c.finish.ensures.ok)
     (unfinished_result start after c.args.max_lines ls (progress_of c.loop-reading.reading) c.line_number-in-None.result c.finish.result all
     come number c.finish.ensures.truncated)
+
+pub returns-in_err-line-clause-answers : goal.returns-in_err-line-clause-answers
+returns-in_err-line-clause-answers g c =
+    let p = err_from_is_err_and c.from_residual.result c.from_residual.ensures.1 in
+    if_error IsOfReading c.from_residual.result (of_line_fault c.in_err-line.field-0.0) (p.1 ∙ ap Err p.2)
+    (line_fault_of_reading c.in_err-line.field-0.0)
+
+pub returns-in-Err-clause-answers : goal.returns-in-Err-clause-answers
+returns-in-Err-clause-answers g c = rw c.line.ensures (stop_of_reading c.line_number.result c.in-Err.stop)
+
+pub returns-in-None-clause-answers : goal.returns-in-None-clause-answers
+returns-in-None-clause-answers g c =
+    unfinished_of_reading (progress_of c.loop-reading.reading) c.line_number-in-None.result c.finish.result c.finish.ensures.truncated
