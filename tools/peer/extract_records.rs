@@ -6,11 +6,9 @@ use crate::columns::{
     columns_at_mut, dates_at, justify, pack, put,
 };
 
-/// HD: the header, whose columns are its value.
+/// HD: the header, whose columns are its value. The dates of its window stand in them.
 pub struct Header {
     columns: [u8; 58],
-    pub first: Day,
-    pub last: Day,
 }
 
 impl Header {
@@ -25,8 +23,6 @@ impl Header {
         }
         Ok(Header {
             columns: *columns_at(line, 3),
-            first,
-            last,
         })
     }
 

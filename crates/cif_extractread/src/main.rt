@@ -1,5 +1,5 @@
-//! Reads an extract from the standard input and says what it has; with the words `time FILE` says how
-//! long reading the file took too, and how much memory.
+//! Reads an extract from the standard input and says what it has. With the words `time FILE` it
+//! reads the file, and says how long that took too, and how much memory.
 //!
 //! It is no part of the product: `tools/peer/measure_extract` times it against the same program in
 //! plain Rust.
