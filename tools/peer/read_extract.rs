@@ -16,9 +16,7 @@ mod extract_records;
 mod train_records;
 
 use columns::{COLUMNS, Line, Refusal, Stp, columns_at, put};
-use extract_records::{
-    Association, Header, Tiploc, plain_extra, plain_origin, plain_terminus,
-};
+use extract_records::{Association, Header, Tiploc, plain_extra, plain_origin, plain_terminus};
 use std::env;
 use std::fs::{self, File};
 use std::io::{self, BufRead, BufReader, Read};
@@ -265,7 +263,11 @@ fn line_of(content: &[u8]) -> Result<&Line, Refusal> {
     let Some((line, [])) = content.split_first_chunk() else {
         return Err(Refusal::BadLength);
     };
-    if line.iter().all(|column| (b' '..=b'~').contains(column)) {
+    // No column ends the fold, so that the compiler can take many at a time.
+    if line
+        .iter()
+        .fold(true, |all, column| all & (b' '..=b'~').contains(column))
+    {
         Ok(line)
     } else {
         Err(Refusal::BadByte)
@@ -324,7 +326,9 @@ fn checksum_of(extract: &Extract) -> u64 {
 /// The most bytes of memory that the process has held so far, as Linux tells them.
 fn peak_memory() -> Option<u64> {
     let status = fs::read_to_string("/proc/self/status").ok()?;
-    let size = status.lines().find_map(|line| line.strip_prefix("VmHWM:"))?;
+    let size = status
+        .lines()
+        .find_map(|line| line.strip_prefix("VmHWM:"))?;
     let kibibytes: u64 = size.trim().strip_suffix(" kB")?.parse().ok()?;
     Some(1024 * kibibytes)
 }
