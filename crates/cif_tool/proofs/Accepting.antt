@@ -11,7 +11,7 @@ use Rattle.cif_columns.specs.Line.{IsLine}
 use Rattle.cif_columns.specs.Contents.{contents_of}
 use Rattle.cif_columns.specs.declared.refusal.Refusal.{Refusal}
 use Rattle.cif_calendar.specs.Keys.{AreClear, IsFirstClashOf}
-use Rattle.cif_extract.specs.FirstRefusal.{NoneRefused, IsRefusedLine, IsTruncated, IsFirstRefusal, refusal_of}
+use Rattle.cif_extract.specs.FirstRefusal.{NoneRefused, IsTruncated, IsFirstRefusal}
 use Rattle.cif_extract.specs.declared.clash.Clash.TheVariants.{Association as OfAssociation, Train}
 use Rattle.cif_extract.specs.declared.fault.Fault.{Fault}
 use Rattle.cif_extract.specs.declared.fault.Fault.TheVariants.{Refused, Ambiguous, WindowsDiffer, OutsideWindow, WindowReversed, Read}
@@ -27,13 +27,13 @@ use Rattle.cif_records.specs.declared.kind.Kind.TheVariants.{Hd, Aa, Zz}
 use Rattle.cif_records.proofs.Associations.{one_association, no_refusal}
 use Rattle.cif_records.proofs.Headers.{one_header, no_refusal as no_header_refusal}
 use Rattle.cif_records.proofs.Identities.{only_kind}
-use Rattle.cif_records.proofs.Judging.{none-some}
 use Rattle.cif_tool.specs.AssociationRules.{Place, start, inside, place_from, place_after, rules}
 use Rattle.cif_tool.specs.Normalised.{entries_of, IsNormaliseFault, BlamesNoAccepted}
 use Rattle.cif_tool.specs.Reading.{IsReadFault}
 use Rattle.cif_tool.specs.Role.{role_of, judged}
 use Rattle.cif_tool.specs.SpellsExtract.{AllSpell, SpellsExtract, SpellBytes}
-use Rattle.cif_tool.proofs.Refusing.{refusal_is_judged, none_refused-none, none_refused-more, place_from-more}
+use Rattle.cif_extract.proofs.FirstRefusals.{fine-refused, none_refused-more, none_refused-none}
+use Rattle.cif_tool.proofs.Refusing.{refusal_is_judged, place_from-more}
 
 -- a line of this kind that isn't refused where it stands
 next_fine : (max : ℕ) (lines : List (List ℕ)) (line : List ℕ) (kind : Kind) (place : Place) → IsLine line → length lines < max →
@@ -103,21 +103,6 @@ spelled_fine max lines header associations room are_lines s =
         (let z : length (head ∷ middle) < length ((head ∷ middle) ++ last ∷ []) = omega
         (arith, length-append (head ∷ middle) (last ∷ [])) in z))
 
--- where none of the contents is refused, no line is the first that is
-fine-refused : (max : ℕ) (contents : List (List ℕ)) (number : ℕ) (why : Refusal) → NoneRefused rules max contents →
-    IsRefusedLine rules max contents number why → ⊥
-fine-refused max contents number why none r =
-    let fine = subst (NoneRefused rules max) r.parts none in
-    let long = length-append r.before (r.content ∷ r.after) in
-    let here : refusal_of rules max (take (length r.before) (r.before ++ r.content ∷ r.after))
-    (get_or (r.before ++ r.content ∷ r.after) (length r.before) []) ≡ None =
-    fine.fine (length r.before) (let z : length r.before < length (r.before ++ r.content ∷ r.after) = omega (arith, long) in z) in
-    none-some _ why
-    (ap (λ b. refusal_of rules max b r.content) (sym (take-append_seam r.before (r.content ∷ r.after)))
-    ∙ ap (refusal_of rules max (take (length r.before) (r.before ++ r.content ∷ r.after)))
-    (sym (get_or-append_seam r.before r.content r.after []))
-    ∙ here) r.reason
-
 -- and an extract is whole
 spelled-truncated : (max : ℕ) (lines : List (List ℕ)) (header : Header) (associations : List Association) (number : ℕ) (why : Refusal) →
     SpellsExtract lines header associations → IsTruncated rules max lines number why → ⊥
@@ -136,7 +121,7 @@ spelled-refused max bytes header associations number why b refused =
     let room : length (contents_of bytes) ≤ max = subst (λ ls. length ls ≤ max) (sym b.all.contents) b.all.within in
     let are_lines = subst (All IsLine) (sym b.all.contents) b.all.are_lines in
     ⊎_elim
-    (λ r. fine-refused max (contents_of bytes) number why (spelled_fine max (contents_of bytes) header associations room are_lines s) r)
+    (λ r. fine-refused rules max (contents_of bytes) number why (spelled_fine max (contents_of bytes) header associations room are_lines s) r)
     (λ t. spelled-truncated max (contents_of bytes) header associations number why s t) refused
 
 same_front : (xs ys : List (List ℕ)) (x y : List ℕ) → xs ++ x ∷ [] ≡ ys ++ y ∷ [] → xs ≡ ys

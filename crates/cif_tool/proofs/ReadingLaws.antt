@@ -16,7 +16,8 @@ use Rattle.cif_tool.specs.declared.reading.Reading.{Reading}
 use Rattle.cif_tool.specs.declared.reading.Reading.TheVariants.{Start, Inside, Ended}
 use Rattle.cif_tool.specs.declared.reading.Role.TheVariants.{Header, Association, Trailer}
 use Rattle.cif_records.proofs.Identities.{identity-kind_in}
-use Rattle.cif_tool.proofs.Refusing.{refusal_is_judged, none_refused-more, place_from-more}
+use Rattle.cif_extract.proofs.FirstRefusals.{none_refused-more}
+use Rattle.cif_tool.proofs.Refusing.{refusal_is_judged, place_from-more}
 
 is_header : (kind : Option Kind) → role_of kind ≡ Header → kind ≡ Some Hd
 is_header None e = cc

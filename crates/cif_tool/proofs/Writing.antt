@@ -1,6 +1,6 @@
 -- What is written, piece by piece.
 use Rattle.std.proofs.Common.{◌≡◌, ℕ, ◌+◌, ◌<◌, List, [], ◌∷◌, ◌++◌, Option, Some, take, drop, length, get_or, sym, ◌∙◌, ap, refl, subst}
-use Rattle.std.proofs.Common.{append_assoc, append-nil, take-append-drop, OnErr, Result, Ok, Err}
+use Rattle.std.proofs.Common.{append-nil, take-append-drop}
 use Rattle.std.specs.Io.KnownBytes.{Appends}
 use Rattle.std.proofs.KnownBytes.{Appends-trans, Appends-nil}
 use Rattle.std.proofs.lemmas.Grind.{flat_map-append}
@@ -17,6 +17,7 @@ use Rattle.cif_columns.specs.declared.stp.Stp.TheVariants.{P}
 use Rattle.cif_calendar.specs.Terms.{Terms}
 use Rattle.cif_calendar.specs.Keys.{IsFirstClashOf}
 use Rattle.cif_calendar.proofs.Winning.{terms_at}
+use Rattle.cif_extract.proofs.WrittenLines.{front-first, front-second}
 use Rattle.cif_records.specs.Association.{association_table}
 use Rattle.cif_records.specs.Header.{header_table}
 use Rattle.cif_records.specs.Trailer.{trailer_table}
@@ -44,15 +45,6 @@ clash-key order associations first last i day a k below is same h =
     subst (λ j. IsFirstClashOf order (entries_of associations) first last j day)
     (one-key (entries_of associations) i h.entry.0 a.key (record { terms = h.entry.1; at = h.at })
     (has-key (λ x. x.key) terms_of associations i a below is) ∙ sym same) h.clash
-
--- a front of the first piece is a front of both
-pub front-first : (a b : Option (List ℕ)) (p q : List ℕ) → AppendsFront a b p → AppendsFront a b (p ++ q)
-front-first a b p q h = (h.0, h.1 ++ q, ap (λ l. l ++ q) h.2 ∙ append_assoc h.0 h.1 q, h.3)
-
--- and so is the whole of it with a front of the second
-pub front-second : (a b c : Option (List ℕ)) (p q : List ℕ) → Appends a b p → AppendsFront b c q → AppendsFront a c (p ++ q)
-front-second a b c p q whole h =
-    (p ++ h.0, h.1, ap (λ l. p ++ l) h.2 ∙ sym (append_assoc p h.0 h.1), Appends-trans a b c p h.0 whole h.3)
 
 -- what is written of an item is the plain line of what it tells
 pub item-text : (associations : List Association) (item : OneDayRecord) (a : Association) (body : AssocBody) (days : _) →
@@ -135,11 +127,6 @@ module _ (header : Header) (entries : List (AssocKey × Terms AssocBody)) (a b c
   whole h e t =
       Appends-trans a b d _ _ (subst (Appends a b) (sym (head-text header)) h)
       (Appends-trans b c d _ _ e (subst (Appends c d) (sym trailer-text) t))
-
--- what holds anyway holds of an error
-pub of-error : {A E : Type 0} (r : Result A E) (Q : Type 0) → Q → OnErr r Q
-of-error (Ok a) Q h = tt
-of-error (Err e) Q h = h
 
 -- nothing is written yet
 pub entries-start : (a : Option (List ℕ)) → Appends a a (entries_text [])

@@ -1,8 +1,9 @@
 -- What a reading has come to, for the contracts of the reader's own steps, and its faults.
-use Rattle.std.specs.Prelude.{◌≡◌, ℕ, List, [], ◌∷◌, ◌++◌, Option, None, IsSomeAnd}
-use Rattle.cif_extract.specs.FirstRefusal.{NoneRefused, IsFirstRefusal, IsCutBeforeRefusal}
+use Rattle.std.specs.Prelude.{◌≡◌, ℕ, List, [], ◌∷◌, ◌++◌, Option, None}
+use Rattle.cif_extract.specs.FirstRefusal.{NoneRefused}
+use Rattle.cif_extract.specs.ReadFault.{IsReadFault as IsReadFaultBy}
 use Rattle.cif_extract.specs.declared.fault.Fault.{Fault}
-use Rattle.cif_extract.specs.declared.fault.Fault.TheVariants.{Refused, Read, Memory}
+use Rattle.cif_extract.specs.declared.fault.Fault.TheVariants.{Refused, Memory}
 use Rattle.cif_records.specs.Association.{association_refusal}
 use Rattle.cif_records.specs.Header.{header_refusal}
 use Rattle.cif_records.specs.SpellsAssociation.{SpellsAssociation}
@@ -68,9 +69,6 @@ abbrev pub stop_fault : ℕ → Stop → Fault
 stop_fault line (stop.Refused why) = Refused line why
 stop_fault line stop.Memory = Memory
 
--- why these bytes are no extract, or can't be read, where `after` is what the reader has left then
+-- why these bytes are no extract of a header, associations and a trailer, or can't be read
 abbrev pub IsReadFault : ℕ → List ℕ → Option (List ℕ) → Fault → Type 0
-IsReadFault max bytes after (Refused line why) = IsFirstRefusal rules max bytes line why
-IsReadFault max bytes after Read = IsSomeAnd after (IsCutBeforeRefusal rules max bytes)
-IsReadFault max bytes after Memory = Unit {0}
-IsReadFault max bytes after _ = ⊥
+IsReadFault max bytes after fault = IsReadFaultBy rules max bytes after fault

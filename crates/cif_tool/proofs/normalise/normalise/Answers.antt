@@ -8,7 +8,7 @@ use Rattle.cif_tool.specs.SpellsExtract.{SpellBytes}
 use Rattle.std.proofs.lemmas.Result.{err_from_is_err_and}
 use Rattle.cif_tool.proofs.Accepting.{read-blames, normalise-blames}
 use Rattle.cif_tool.proofs.Normalising.{has_written, has_written_front, clash-normalise}
-use Rattle.cif_tool.proofs.ReadFaults.{if_error}
+use Rattle.cif_extract.proofs.FirstRefusals.{if_error}
 use Rattle.cif_tool.proofs.normalise.normalise.Goals as goal
 
 pub returns-in_err-write_plan-in-Ok-clause-front : goal.returns-in_err-write_plan-in-Ok-clause-front

@@ -1,7 +1,8 @@
 use Rattle.std.proofs.Common.{rules, refl, ◌∙◌}
 use Rattle.cif_columns.specs.Sink.{writer_of}
 use Rattle.cif_tool.specs.Normalised.{entries_of}
-use Rattle.cif_tool.proofs.Writing.{entries-start, entries-stop, entries-step, of-error}
+use Rattle.cif_extract.proofs.WrittenLines.{of-error}
+use Rattle.cif_tool.proofs.Writing.{entries-start, entries-stop, entries-step}
 use Rattle.cif_tool.proofs.normalise.write_items.Goals as goal
 
 pub loop-item-init : goal.loop-item-init

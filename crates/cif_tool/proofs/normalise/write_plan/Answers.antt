@@ -1,7 +1,8 @@
 use Rattle.cif_columns.specs.Sink.{writer_of}
 use Rattle.cif_tool.specs.Daily.{planned_entries}
 use Rattle.cif_tool.specs.Normalised.{entries_of}
-use Rattle.cif_tool.proofs.Writing.{in-head, in-entries, in-trailer, whole, of-error}
+use Rattle.cif_extract.proofs.WrittenLines.{of-error}
+use Rattle.cif_tool.proofs.Writing.{in-head, in-entries, in-trailer, whole}
 use Rattle.cif_tool.proofs.normalise.write_plan.Goals as goal
 
 pub returns-in_err-write_head-clause-err : goal.returns-in_err-write_head-clause-err
