@@ -4,6 +4,7 @@ pub mod BodyLines
 pub mod CallLines
 pub mod DetailLines
 pub mod FirstRefusals
+pub mod GoesOn
 pub mod GrammarLists
 pub mod JourneySteps
 pub mod KeptLines

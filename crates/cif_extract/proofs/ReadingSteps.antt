@@ -87,7 +87,7 @@ module _ (records : List Record) (p : Progress) where
   closed_here h may = closed_where p.place refl h may
 
   -- a trailer may stand where a schedule may
-  trailer_where : (place : Place) → may_stand place Zz ≡ may_stand place Bs
+  pub trailer_where : (place : Place) → may_stand place Zz ≡ may_stand place Bs
   trailer_where at.Start = refl
   trailer_where at.Tiplocs = refl
   trailer_where at.Associations = refl

@@ -1,5 +1,5 @@
 -- Which kind of record may stand where, and with that which line of an extract is refused first. That this is the order of the
--- grammar, no more and no less, is a law (proofs/OrderLaws).
+-- grammar, no less and no more, are laws (proofs/OrderLaws and proofs/GoesOn).
 use Rattle.std.specs.Prelude.{ℕ, Bool, true, false, cond, List, [], ◌∷◌, Option, None, Some, codes}
 use Rattle.std.specs.Str.{bytes_eq}
 use Rattle.cif_columns.specs.Field.{columns}
