@@ -3,8 +3,24 @@
 #![tactic(auto)]
 
 #[cfg(test)]
+mod bodies;
+#[cfg(test)]
+mod damaged;
+#[cfg(test)]
+mod devices;
+#[cfg(test)]
+mod generated;
+#[cfg(test)]
 mod inputs;
 #[cfg(test)]
 mod lines;
 #[cfg(test)]
+mod order;
+#[cfg(test)]
+mod plain_reading;
+#[cfg(test)]
 mod readings;
+#[cfg(test)]
+mod refused;
+#[cfg(test)]
+mod writers;

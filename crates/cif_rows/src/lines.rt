@@ -56,6 +56,16 @@ pub(crate) const AMENDED: &LineText =
 pub(crate) const DELETED: &LineText =
     b"TD                                                                              \n";
 
+/// The line with the text in its columns from this one on, counted from 1.
+pub(crate) fn with(line: &LineText, column: usize, text: &[u8]) -> LineText {
+    let mut changed = *line;
+    let columns = changed.iter_mut().skip(column.saturating_sub(1));
+    for (old, new) in columns.zip(text) {
+        *old = *new;
+    }
+    changed
+}
+
 /// Of the train C00123 on these dates.
 pub(crate) fn basic(first: &[u8; 6], last: &[u8; 6], days: &[u8; 7], letter: u8) -> LineText {
     basic_of(b"C00123", first, last, days, letter)
@@ -69,53 +79,53 @@ pub(crate) fn basic_of(
     days: &[u8; 7],
     letter: u8,
 ) -> LineText {
-    let mut line =
-        *b"BSNuuuuuuffffffllllllddddddd PXX1A23    122104000 DMU    090      B            P\n";
-    line[3..9].copy_from_slice(uid);
-    line[9..15].copy_from_slice(first);
-    line[15..21].copy_from_slice(last);
-    line[21..28].copy_from_slice(days);
-    line[79] = letter;
-    line
+    let line = with(BASIC, 4, uid);
+    let line = with(&line, 10, first);
+    let line = with(&line, 16, last);
+    let line = with(&line, 22, days);
+    with(&line, 80, &[letter])
 }
+
+const BASIC: &LineText =
+    b"BSNuuuuuuffffffllllllddddddd PXX1A23    122104000 DMU    090      B            s\n";
 
 /// A cancellation of the train C00123, whose other columns are spaces.
 pub(crate) fn cancellation(first: &[u8; 6], last: &[u8; 6], days: &[u8; 7]) -> LineText {
-    let mut line =
-        *b"BSNC00123ffffffllllllddddddd                                                   C\n";
-    line[9..15].copy_from_slice(first);
-    line[15..21].copy_from_slice(last);
-    line[21..28].copy_from_slice(days);
-    line
+    let line = with(CANCELLATION, 10, first);
+    let line = with(&line, 16, last);
+    with(&line, 22, days)
 }
+
+const CANCELLATION: &LineText =
+    b"BSNC00123ffffffllllllddddddd                                                   C\n";
 
 /// The start of a journey in Aberdeen, at this platform.
 pub(crate) fn origin(platform: &[u8; 3]) -> LineText {
-    let mut line =
-        *b"LOABRDEEN 0900 0900ppp       TB                                                 \n";
-    line[19..22].copy_from_slice(platform);
-    line
+    with(ORIGIN, 20, platform)
 }
+
+const ORIGIN: &LineText =
+    b"LOABRDEEN 0900 0900ppp       TB                                                 \n";
 
 /// An association of C00123 with C00456 at Dundee.
 pub(crate) fn association(first: &[u8; 6], last: &[u8; 6], days: &[u8; 7]) -> LineText {
-    let mut line =
-        *b"AANC00123C00456fffffflllllldddddddJJSDUNDEE   TP                               P\n";
-    line[15..21].copy_from_slice(first);
-    line[21..27].copy_from_slice(last);
-    line[27..34].copy_from_slice(days);
-    line
+    let line = with(ASSOCIATION, 16, first);
+    let line = with(&line, 22, last);
+    with(&line, 28, days)
 }
+
+const ASSOCIATION: &LineText =
+    b"AANC00123C00456fffffflllllldddddddJJSDUNDEE   TP                               P\n";
 
 /// Its cancellation, whose other columns are spaces.
 pub(crate) fn cancelled_association(first: &[u8; 6], last: &[u8; 6], days: &[u8; 7]) -> LineText {
-    let mut line =
-        *b"AANC00123C00456ffffffllllllddddddd   DUNDEE                                    C\n";
-    line[15..21].copy_from_slice(first);
-    line[21..27].copy_from_slice(last);
-    line[27..34].copy_from_slice(days);
-    line
+    let line = with(CANCELLED_ASSOCIATION, 16, first);
+    let line = with(&line, 22, last);
+    with(&line, 28, days)
 }
+
+const CANCELLED_ASSOCIATION: &LineText =
+    b"AANC00123C00456ffffffllllllddddddd   DUNDEE                                    C\n";
 
 /// The bytes of the lines, one after another.
 pub(crate) fn joined(alloc: Global, lines: &[&[u8]]) -> Result<Vec<u8>, AllocError> {
