@@ -1,7 +1,8 @@
 //! Readers that fail before or after a line is decided, and readers that never end.
-use crate::inputs::weekday_train;
-use crate::lines::{HEADER, LOCATION, TRAILER, joined};
-use crate::readings::read_whole;
+use crate::inputs::{overlay_with_another_platform, weekday_train};
+use crate::lines::{HEADER, LOCATION, joined};
+use crate::plain_reading::{contents_of, has_records_of};
+use crate::readings::{read_byte_by_byte, read_whole};
 use crate::refused::put;
 use cif_columns::{End, Refusal, Source, TrialReader};
 use cif_extract::{Fault, read_extract};
@@ -137,11 +138,20 @@ fn reader_that_never_ends_is_left(rt: HostRuntime) -> Result<(), Fail> {
 }
 
 #[test]
-fn line_endings_may_differ(rt: HostRuntime) -> Result<(), Fail> {
+fn lines_may_end_otherwise(rt: HostRuntime) -> Result<(), Fail> {
     let alloc = rt.alloc();
-    let bytes = joined(alloc, &[&HEADER[..80], b"\r\n", &TRAILER[..80]])?;
-    let mut source = Source::new(TrialReader::new(&bytes, 1, End::Stop));
-    assert!(rt; read_extract(alloc, &mut source, 2).is_ok());
-    assert_eq!(rt; source.reader().calls(), 163);
+    let plain = overlay_with_another_platform(alloc)?;
+    let mut bytes = Vec::new(alloc);
+    for line in plain.chunks(81) {
+        bytes.extend_from_slice(line.get(..80).ok_or("80 columns")?)?;
+        bytes.extend_from_slice(b"\r\n")?;
+    }
+    bytes.truncate(818);
+    let contents = contents_of(alloc, &plain)?;
+    assert_eq!(rt; contents.len(), 10);
+    let whole = read_whole(alloc, &bytes, 10).map_err(|_| "an extract")?;
+    assert!(rt; has_records_of(&whole, &contents));
+    let in_pieces = read_byte_by_byte(alloc, &bytes, 10).map_err(|_| "an extract")?;
+    assert!(rt; has_records_of(&in_pieces, &contents));
     Ok(())
 }

@@ -5,7 +5,7 @@ use crate::lines::{
     association, basic, basic_of, cancellation, cancelled_association, origin, with,
 };
 use crate::plain_reading::{contents_of, first_refusal, has_records_of};
-use crate::readings::{read_byte_by_byte, read_whole};
+use crate::readings::read_whole;
 use cif_extract::Fault;
 use std::alloc::{AllocError, Global};
 use std::test::Fail;
@@ -33,7 +33,7 @@ impl Numbers {
 }
 
 /// Lines that replace others or stand between them: of each kind, and some that are refused.
-fn other_lines() -> [LineText; 24] {
+fn other_lines() -> [LineText; 25] {
     let runs = basic(b"260105", b"260125", b"1111100", b'P');
     [
         *HEADER,
@@ -59,7 +59,8 @@ fn other_lines() -> [LineText; 24] {
         basic(b"260105", b"999999", b"1111100", b'P'),
         basic(b"260125", b"260105", b"1111100", b'O'),
         basic(b"260105", b"260125", b"1111102", b'P'),
-        basic(b"999999", b"260125", b"1111100", b'X'),
+        basic(b"999999", b"260125", b"1111100", b'P'),
+        basic(b"260105", b"260125", b"1111100", b'X'),
     ]
 }
 
@@ -139,22 +140,19 @@ fn damaged(
     Ok(bytes)
 }
 
-/// Whether the bytes are read as their contents say, whole and one byte a read, and the number of
-/// the refusal, 0 if there is none.
+/// Whether the bytes are read as their contents say, and the number of the refusal, 0 if there is
+/// none.
 fn answer(alloc: Global, bytes: &[u8], max_lines: u16) -> Result<(bool, u8), AllocError> {
     let contents = contents_of(alloc, bytes)?;
-    let whole = read_whole(alloc, bytes, max_lines);
-    let in_pieces = read_byte_by_byte(alloc, bytes, max_lines);
+    let given = read_whole(alloc, bytes, max_lines);
     Ok(match first_refusal(&contents, max_lines) {
         Some((line, why)) => {
-            let refused = Some(Fault::Refused { line, why });
-            let is_same = whole.err() == refused && in_pieces.err() == refused;
+            let is_same = given.err() == Some(Fault::Refused { line, why });
             (is_same, why.number())
         }
         None => {
-            let is_whole = whole.is_ok_and(|extract| has_records_of(&extract, &contents));
-            let is_read = in_pieces.is_ok_and(|extract| has_records_of(&extract, &contents));
-            (is_whole && is_read, 0)
+            let is_same = given.is_ok_and(|extract| has_records_of(&extract, &contents));
+            (is_same, 0)
         }
     })
 }
