@@ -1,7 +1,7 @@
 //! Which record may follow which: after each that may come before, each of the twelve kinds.
 use crate::lines::{
-    AMENDED, CALL, CHANGE, DELETED, EXTRA, HEADER, LOCATION, TERMINUS, TRAILER, association, basic,
-    cancellation, joined, origin, with,
+    AMENDED, CALL, CHANGE, DELETED, EXTRA, HEADER, LOCATION, LineText, TERMINUS, TRAILER,
+    association, basic, cancellation, joined, origin, with,
 };
 use crate::readings::read_whole;
 use crate::refused::is_refused;
@@ -11,7 +11,7 @@ use std::process::Abort;
 use std::test::Fail;
 
 /// A line of each kind that names it in its first two columns.
-fn each_kind() -> [[u8; 81]; 12] {
+fn each_kind() -> [LineText; 12] {
     [
         *HEADER,
         *LOCATION,
@@ -29,7 +29,7 @@ fn each_kind() -> [[u8; 81]; 12] {
 }
 
 /// Whether the identity in the line's first two columns is among these.
-fn is_among(line: &[u8; 81], identities: &[&[u8; 2]]) -> bool {
+fn is_among(line: &LineText, identities: &[&[u8; 2]]) -> bool {
     identities
         .iter()
         .any(|identity| line.starts_with(identity.as_slice()))
@@ -120,22 +120,28 @@ fn cancellations_may_lack_a_journey(rt: HostRuntime) -> Result<(), Fail> {
     Ok(())
 }
 
+/// Puts each kind after each record of a journey after this BS.
+fn try_journeys(rt: &impl Abort, alloc: Global, basic: &LineText) -> Result<(), Fail> {
+    let origin = origin(b"1  ");
+    let on_the_way = [b"LI", b"CR", b"LT"];
+    try_each_kind(rt, alloc, &[HEADER, basic, &origin], &on_the_way)?;
+    try_each_kind(rt, alloc, &[HEADER, basic, EXTRA, &origin], &on_the_way)?;
+    try_each_kind(rt, alloc, &[HEADER, basic, &origin, CALL], &on_the_way)?;
+    try_each_kind(rt, alloc, &[HEADER, basic, &origin, CHANGE], &on_the_way)?;
+    try_each_kind(
+        rt,
+        alloc,
+        &[HEADER, basic, &origin, TERMINUS],
+        &[b"BS", b"ZZ"],
+    )
+}
+
 #[test]
 fn journeys_go_on_to_their_terminus(rt: HostRuntime) -> Result<(), Fail> {
-    let alloc = rt.alloc();
-    let origin = origin(b"1  ");
     let runs = basic(b"260105", b"260125", b"1111100", b'P');
     let cancelled = cancellation(b"260114", b"260114", b"0010000");
-    let on_the_way = [b"LI", b"CR", b"LT"];
-    let after = [b"BS", b"ZZ"];
-    for basic in [&runs, &cancelled] {
-        try_each_kind(&rt, alloc, &[HEADER, basic, &origin], &on_the_way)?;
-        try_each_kind(&rt, alloc, &[HEADER, basic, EXTRA, &origin], &on_the_way)?;
-        try_each_kind(&rt, alloc, &[HEADER, basic, &origin, CALL], &on_the_way)?;
-        try_each_kind(&rt, alloc, &[HEADER, basic, &origin, CHANGE], &on_the_way)?;
-        try_each_kind(&rt, alloc, &[HEADER, basic, &origin, TERMINUS], &after)?;
-    }
-    Ok(())
+    try_journeys(&rt, rt.alloc(), &runs)?;
+    try_journeys(&rt, rt.alloc(), &cancelled)
 }
 
 #[test]

@@ -4,7 +4,7 @@ use crate::lines::{AMENDED, CALL, EXTRA, HEADER, NOTE, TERMINUS, TRAILER, basic,
 use crate::readings::{read_byte_by_byte, read_whole};
 use cif_columns::Refusal;
 use cif_extract::Fault;
-use std::alloc::Global;
+use std::alloc::{AllocError, Global};
 use std::test::Fail;
 
 /// Whether the bytes are refused at this line for this reason, also one byte a read.
@@ -74,83 +74,98 @@ fn changed_columns_are_refused(rt: HostRuntime) -> Result<(), Fail> {
     Ok(())
 }
 
+/// Whether these lines, of which up to a hundred may come, are refused at this line for this reason.
+fn are_refused(
+    alloc: Global,
+    lines: &[&[u8]],
+    line: u64,
+    why: Refusal,
+) -> Result<bool, AllocError> {
+    let bytes = joined(alloc, lines)?;
+    Ok(is_refused(alloc, &bytes, 100, line, why))
+}
+
 #[test]
-fn changed_lines_are_refused(rt: HostRuntime) -> Result<(), Fail> {
+fn lines_that_come_too_much_are_refused(rt: HostRuntime) -> Result<(), Fail> {
+    let alloc = rt.alloc();
     let basic = basic(b"260105", b"260125", b"1111100", b'P');
-    let basic = basic.as_slice();
     let origin = origin(b"1  ");
-    let origin = origin.as_slice();
-    let [header, extra, terminus, trailer] = [HEADER, EXTRA, TERMINUS, TRAILER];
-    let [short_terminus, ending] = [&TERMINUS[..79], &TERMINUS[80..]];
-    let note: [&[u8]; 7] = [header, NOTE, basic, extra, origin, terminus, trailer];
-    let call: [&[u8]; 6] = [header, basic, extra, CALL, terminus, trailer];
-    let columns_79: [&[u8]; 7] = [
-        header,
-        basic,
-        extra,
-        origin,
-        short_terminus,
-        ending,
-        trailer,
-    ];
-    let no_trailer: [&[u8]; 5] = [header, basic, extra, origin, terminus];
-    let amended_first: [&[u8]; 7] = [header, AMENDED, basic, extra, origin, terminus, trailer];
-    let amended_later: [&[u8]; 7] = [header, basic, AMENDED, extra, origin, terminus, trailer];
-    let second_trailer: [&[u8]; 7] = [header, basic, extra, origin, terminus, trailer, trailer];
-    let unchanged: [&[u8]; 6] = [header, basic, extra, origin, terminus, trailer];
-    for (name, lines, max_lines, line, why) in [
-        (
-            "note-record",
-            note.as_slice(),
-            100,
-            2,
-            Refusal::UnknownRecord,
-        ),
-        (
-            "stop-in-place-of-origin",
-            &call,
-            100,
-            4,
-            Refusal::OutOfOrder,
-        ),
-        (
-            "line-of-79-columns",
-            &columns_79,
-            100,
-            5,
-            Refusal::BadLength,
-        ),
-        ("no-trailer", &no_trailer, 100, 6, Refusal::Truncated),
-        (
-            "more lines than are allowed",
-            &unchanged,
-            5,
-            6,
-            Refusal::TooManyLines,
-        ),
-        ("empty-input", &[], 100, 1, Refusal::Truncated),
-        ("ta-after-header", &amended_first, 100, 2, Refusal::NotFull),
-        (
-            "ta-after-basic-schedule",
-            &amended_later,
-            100,
-            3,
-            Refusal::OutOfOrder,
-        ),
-        (
-            "second-trailer",
-            &second_trailer,
-            100,
-            7,
-            Refusal::OutOfOrder,
-        ),
-    ] {
-        let bytes = joined(rt.alloc(), lines)?;
-        assert!(rt;
-            is_refused(rt.alloc(), &bytes, max_lines, line, why),
-            "{name}"
-        );
-    }
+    // note-record
+    let refused = are_refused(
+        alloc,
+        &[HEADER, NOTE, &basic, EXTRA, &origin, TERMINUS, TRAILER],
+        2,
+        Refusal::UnknownRecord,
+    )?;
+    assert!(rt; refused);
+    // ta-after-header
+    let refused = are_refused(
+        alloc,
+        &[HEADER, AMENDED, &basic, EXTRA, &origin, TERMINUS, TRAILER],
+        2,
+        Refusal::NotFull,
+    )?;
+    assert!(rt; refused);
+    // ta-after-basic-schedule
+    let refused = are_refused(
+        alloc,
+        &[HEADER, &basic, AMENDED, EXTRA, &origin, TERMINUS, TRAILER],
+        3,
+        Refusal::OutOfOrder,
+    )?;
+    assert!(rt; refused);
+    // second-trailer
+    let refused = are_refused(
+        alloc,
+        &[HEADER, &basic, EXTRA, &origin, TERMINUS, TRAILER, TRAILER],
+        7,
+        Refusal::OutOfOrder,
+    )?;
+    assert!(rt; refused);
+    Ok(())
+}
+
+#[test]
+fn lines_that_lack_something_are_refused(rt: HostRuntime) -> Result<(), Fail> {
+    let alloc = rt.alloc();
+    let basic = basic(b"260105", b"260125", b"1111100", b'P');
+    let origin = origin(b"1  ");
+    // stop-in-place-of-origin
+    let refused = are_refused(
+        alloc,
+        &[HEADER, &basic, EXTRA, CALL, TERMINUS, TRAILER],
+        4,
+        Refusal::OutOfOrder,
+    )?;
+    assert!(rt; refused);
+    // no-trailer
+    let refused = are_refused(
+        alloc,
+        &[HEADER, &basic, EXTRA, &origin, TERMINUS],
+        6,
+        Refusal::Truncated,
+    )?;
+    assert!(rt; refused);
+    // empty-input
+    assert!(rt; are_refused(alloc, &[], 1, Refusal::Truncated)?);
+    Ok(())
+}
+
+#[test]
+fn line_of_79_columns_is_refused(rt: HostRuntime) -> Result<(), Fail> {
+    let mut bytes = weekday_train(rt.alloc())?;
+    assert!(rt; bytes.len() == 486);
+    // The last column of the fifth line.
+    let _ = bytes.remove(403);
+    assert!(rt; is_refused(rt.alloc(), &bytes, 100, 5, Refusal::BadLength));
+    Ok(())
+}
+
+#[test]
+fn line_too_many_is_refused(rt: HostRuntime) -> Result<(), Fail> {
+    let bytes = weekday_train(rt.alloc())?;
+    assert!(rt; is_refused(rt.alloc(), &bytes, 5, 6, Refusal::TooManyLines));
+    assert!(rt; read_whole(rt.alloc(), &bytes, 6).is_ok());
     Ok(())
 }
 
