@@ -1,0 +1,151 @@
+//! Whole extracts, worked by hand.
+use crate::lines::{
+    CALL, EXTRA, HEADER, HEADER_FROM_WEDNESDAY, HEADER_OF_2130, LOCATION, TERMINUS, TRAILER,
+    association, basic, basic_of, cancellation, cancelled_association, joined, origin,
+};
+use std::alloc::{AllocError, Global};
+
+/// A schedule from Monday to Friday for three weeks: the lines of the header, the BS, the BX, the
+/// LO, the LT and the trailer.
+pub(crate) fn weekday_train(alloc: Global) -> Result<Vec<u8>, AllocError> {
+    let basic = basic(b"260105", b"260125", b"1111100", b'P');
+    joined(
+        alloc,
+        &[HEADER, &basic, EXTRA, &origin(b"1  "), TERMINUS, TRAILER],
+    )
+}
+
+/// The same under a header whose window begins on a Wednesday, and on all days of a month.
+pub(crate) fn window_begins_on_a_wednesday(alloc: Global) -> Result<Vec<u8>, AllocError> {
+    let basic = basic(b"260101", b"260131", b"1111111", b'P');
+    joined(
+        alloc,
+        &[
+            HEADER_FROM_WEDNESDAY,
+            &basic,
+            EXTRA,
+            &origin(b"1  "),
+            TERMINUS,
+            TRAILER,
+        ],
+    )
+}
+
+/// The weekday train and then its cancellation on one Wednesday, followed by these lines.
+pub(crate) fn cancelled_wednesday(alloc: Global, further: &[&[u8]]) -> Result<Vec<u8>, AllocError> {
+    let basic = basic(b"260105", b"260125", b"1111100", b'P');
+    let mut bytes = joined(
+        alloc,
+        &[
+            HEADER,
+            &basic,
+            EXTRA,
+            &origin(b"1  "),
+            TERMINUS,
+            &cancellation(b"260114", b"260114", b"0010000"),
+        ],
+    )?;
+    for line in further {
+        bytes.extend_from_slice(line)?;
+    }
+    bytes.extend_from_slice(TRAILER)?;
+    Ok(bytes)
+}
+
+/// The dates of the cancelled Wednesday in three schedules, the last week's first, under this
+/// header.
+pub(crate) fn records_cut_and_ordered_otherwise(
+    alloc: Global,
+    header: &[u8],
+) -> Result<Vec<u8>, AllocError> {
+    let origin = origin(b"1  ");
+    joined(
+        alloc,
+        &[
+            header,
+            &basic(b"260119", b"260125", b"1111100", b'P'),
+            EXTRA,
+            &origin,
+            TERMINUS,
+            &basic(b"260112", b"260118", b"1101100", b'P'),
+            EXTRA,
+            &origin,
+            TERMINUS,
+            &basic(b"260105", b"260109", b"1111110", b'P'),
+            EXTRA,
+            &origin,
+            TERMINUS,
+            TRAILER,
+        ],
+    )
+}
+
+/// The same as it was made at half past nine in the evening.
+pub(crate) fn other_header_same_window(alloc: Global) -> Result<Vec<u8>, AllocError> {
+    records_cut_and_ordered_otherwise(alloc, HEADER_OF_2130)
+}
+
+/// The weekday train and then its overlay on one Wednesday, from another platform: 810 bytes, ten
+/// lines.
+pub(crate) fn overlay_with_another_platform(alloc: Global) -> Result<Vec<u8>, AllocError> {
+    joined(
+        alloc,
+        &[
+            HEADER,
+            &basic(b"260105", b"260125", b"1111100", b'P'),
+            EXTRA,
+            &origin(b"1  "),
+            TERMINUS,
+            &basic(b"260114", b"260114", b"0010000", b'O'),
+            EXTRA,
+            &origin(b"2  "),
+            TERMINUS,
+            TRAILER,
+        ],
+    )
+}
+
+/// Two trains, the greater UID first, that call at Dundee; the second's platform stands in the
+/// middle of its columns.
+pub(crate) fn order_packing_and_blanks(alloc: Global) -> Result<Vec<u8>, AllocError> {
+    joined(
+        alloc,
+        &[
+            HEADER,
+            &basic(b"260105", b"260105", b"1000000", b'P'),
+            EXTRA,
+            &origin(b"1  "),
+            CALL,
+            TERMINUS,
+            &basic_of(b" 00123", b"260112", b"260112", b"1000000", b'P'),
+            EXTRA,
+            &origin(b" 1 "),
+            CALL,
+            TERMINUS,
+            TRAILER,
+        ],
+    )
+}
+
+/// An association from Monday to Friday for three weeks, and its cancellation on one Wednesday.
+pub(crate) fn association_cancelled_on_a_wednesday(alloc: Global) -> Result<Vec<u8>, AllocError> {
+    joined(
+        alloc,
+        &[
+            HEADER,
+            &association(b"260105", b"260125", b"1111100"),
+            &cancelled_association(b"260114", b"260114", b"0010000"),
+            TRAILER,
+        ],
+    )
+}
+
+/// The header, so many times a location, and the trailer.
+pub(crate) fn locations(alloc: Global, count: u8) -> Result<Vec<u8>, AllocError> {
+    let mut bytes = joined(alloc, &[HEADER])?;
+    for _ in 0..count {
+        bytes.extend_from_slice(LOCATION)?;
+    }
+    bytes.extend_from_slice(TRAILER)?;
+    Ok(bytes)
+}

@@ -1,0 +1,26 @@
+//! Worked extracts and damaged ones, and what reading them answers: tests alone, over the public
+//! calls of the crates below.
+#![tactic(auto)]
+
+#[cfg(test)]
+mod bodies;
+#[cfg(test)]
+mod damaged;
+#[cfg(test)]
+mod devices;
+#[cfg(test)]
+mod generated;
+#[cfg(test)]
+mod inputs;
+#[cfg(test)]
+mod lines;
+#[cfg(test)]
+mod order;
+#[cfg(test)]
+mod plain_reading;
+#[cfg(test)]
+mod readings;
+#[cfg(test)]
+mod refused;
+#[cfg(test)]
+mod writers;
