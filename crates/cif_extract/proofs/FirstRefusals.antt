@@ -1,6 +1,7 @@
 -- Why a line is refused first, by whatever rules.
 use Rattle.std.proofs.Common.{◌≡◌, ℕ, ◌+◌, ◌<◌, Bool, true, false, nat_eq, nat_lt, List, [], ◌∷◌, ◌++◌, length, take, Option, Some, None}
-use Rattle.std.proofs.Common.{IfErr, IfSome, IsSomeAnd, Result, Err, refl, sym, ap, ◌∙◌, subst, arith, append_assoc, below_more, get_or, inl, length-append, ne_eqb}
+use Rattle.std.proofs.Common.{IfErr, IfSome, IsSomeAnd, Result, Err, refl, sym, ap, ◌∙◌, subst, arith, append_assoc, below_more}
+use Rattle.std.proofs.Common.{get_or, inl, length-append, ne_eqb}
 use Rattle.std.proofs.lemmas.Bool.Decides.{nat_tests}
 use Rattle.std.proofs.lemmas.List.{get_or_append_left, take-append-le}
 use Rattle.std.proofs.Math.Seq.{get_or-append_seam, take-append_seam}
@@ -20,7 +21,8 @@ use Rattle.cif_columns.specs.declared.source.Source.{Source}
 use Rattle.cif_columns.proofs.GivenLinesLaws.{contents_given, known_so}
 use Rattle.cif_columns.proofs.PrintableBytes.{printable_fact, printable_true}
 use Rattle.cif_extract.specs.Fault.{of_line_fault}
-use Rattle.cif_extract.specs.FirstRefusal.{LineRules, NoneRefused, IsCutBeforeRefusal, IsFirstRefusal, IsRefusedLine, kind_refusal, refusal_of}
+use Rattle.cif_extract.specs.FirstRefusal.{LineRules, NoneRefused, IsCutBeforeRefusal, IsFirstRefusal, IsRefusedLine, kind_refusal}
+use Rattle.cif_extract.specs.FirstRefusal.{refusal_of}
 use Rattle.cif_extract.specs.ReadFault.{IsOfReading, IsReadFault}
 use Rattle.cif_extract.specs.declared.fault.Fault.{Fault}
 use Rattle.cif_extract.specs.declared.fault.Fault.TheVariants as fault

@@ -62,7 +62,8 @@ module _ (records : List Record) (p : Progress) (t : Terminus) where
         let keeps : KeepBody lines body = keep_body p.lines opened.detail x o calls t opened.lines again in
         let same : parts_in lines ≡ body = parts_in-keeps lines body keeps in
         closes w (schedule_with (opened_by b opened.runs) body)
-        (rw opened.opened (rw same (ap (λ (ss : List Schedule). ss ++ (schedule_with (opened_by b opened.runs) body ∷ [])) opened.schedules)))
+        (rw opened.opened (rw same (ap (λ (ss : List Schedule). ss ++ (schedule_with
+        (opened_by b opened.runs) body ∷ [])) opened.schedules)))
         (record {
           basic = b;
           extra = x;

@@ -47,7 +47,8 @@ journey-whole x o calls t = append_assoc (extra_records x) (of.Origin o ∷ map 
 
 -- the lines of a schedule up to its last keep its body
 pub keep_body : (lines : List (List ℕ)) (d : Detail) (x : Option Extra) (o : Origin) (calls : List Call) (t : Terminus) →
-    KeepAll lines (kept_tables d (begun_journey x o calls)) → AllStandIn (plain_line (record_table (of.Terminus t))) (record_table (of.Terminus t)) →
+    KeepAll lines (kept_tables d (begun_journey x o calls)) → AllStandIn (plain_line (record_table (of.Terminus t))) (record_table
+    (of.Terminus t)) →
     KeepBody (lines ++ (plain_line (record_table (of.Terminus t)) ∷ []))
     (record { detail = d; extra = x; origin = o; calls = calls; terminus = t })
 keep_body lines d x o calls t kept stands =

@@ -117,7 +117,8 @@ one_extra (Some x) None a [] p q e = cc
 one_extra (Some x) None a (r ∷ b) p q e = absurd (q (let same : r ≡ of.Extra x = cc in ap kind_of same))
 one_extra (Some x) (Some y) a b p q e = (cc, cc)
 
-no_extra : (d : Option Detail) (x : Option Extra) (journey : List Record) (body : Option BodyParts) → HaveBody d x journey body → NoExtra journey
+no_extra : (d : Option Detail) (x : Option Extra) (journey : List Record) (body : Option BodyParts) → HaveBody d x journey body →
+    NoExtra journey
 no_extra (Some d) x journey (Some body) h = let (detail, extra, is) = h in subst NoExtra (sym is) (λ e. cc)
 no_extra None x journey None h =
     ⊎_elim (λ (none : journey ≡ []). subst NoExtra (sym none) tt)
@@ -231,7 +232,8 @@ schedules_isnt records [] none = subst (Each (Isnt Zz)) (sym none) tt
 schedules_isnt records (s ∷ schedules) are =
     let (own, others, parts, one, rest) = are in
     subst (Each (Isnt Zz)) (sym parts)
-    (each_append (Isnt Zz) own others (subst (Each (Isnt Zz)) (sym one.parts) (λ e. cc, further one)) (schedules_isnt others schedules rest))
+    (each_append (Isnt Zz) own others (subst (Each (Isnt Zz)) (sym one.parts) (λ e. cc, further one))
+    (schedules_isnt others schedules rest))
   where
     calls_isnt : (c : Call) → Isnt Zz (call_record c)
     calls_isnt (At x) = λ e. cc
@@ -306,7 +308,8 @@ one_extract_of records x y p q =
     (schedules_isnt q.schedules y.schedules q.are_schedules) (λ h. h refl) associations.1 in
     same_extract_parts x y headers (same_values of.Tiploc one_tiploc x.tiplocs y.tiplocs tiplocs.0)
     (same_values of.Association one_association x.associations y.associations associations.0)
-    (one_schedules q.schedules x.schedules y.schedules (subst (λ rs. AreSchedules rs x.schedules) schedules.0 p.are_schedules) q.are_schedules)
+    (one_schedules q.schedules x.schedules y.schedules (subst
+    (λ rs. AreSchedules rs x.schedules) schedules.0 p.are_schedules) q.are_schedules)
 
 one_spelling : (lines : List (List ℕ)) (rs qs : List Record) → SpellAll lines rs → SpellAll lines qs → rs ≡ qs
 one_spelling [] [] [] p q = refl

@@ -1,5 +1,6 @@
 -- The order of records is that of the grammar: no line of an extract is refused.
-use Rattle.std.proofs.Common.{◌≡◌, ℕ, ◌+◌, ◌<◌, ◌≤◌, Bool, true, false, not, List, [], ◌∷◌, ◌++◌, is_some, length, map, Option, Some, None, refl, sym}
+use Rattle.std.proofs.Common.{◌≡◌, ℕ, ◌+◌, ◌<◌, ◌≤◌, Bool, true, false, not, List, [], ◌∷◌, ◌++◌, is_some, length, map, Option, Some}
+use Rattle.std.proofs.Common.{None, refl, sym}
 use Rattle.std.proofs.Common.{ap, ◌∙◌, subst, arith, cond, codes, append_assoc, append-nil, length-append, ⊎_elim}
 use Rattle.std.proofs.lemmas.List.Elements.{All-head, All-tail}
 use Rattle.std.specs.Prelude.{All}
@@ -214,7 +215,8 @@ stand_schedules (s ∷ schedules) from b z records are =
 pub stand_extract : (records : List Record) (x : ExtractParts) → AreExtract records x → MayStand at.Start records at.Ended
 stand_extract records x are =
     let associations = stand_associations x.associations at.Tiplocs refl refl refl in
-    let schedules = stand_schedules x.schedules associations.to associations.schedule associations.trailer are.schedules are.are_schedules in
+    let schedules = stand_schedules x.schedules associations.to associations.schedule associations.trailer are.schedules
+    are.are_schedules in
     subst (λ rs. MayStand at.Start rs at.Ended) (sym are.parts) (
       refl,
       subst (λ rs. MayStand at.Tiplocs rs at.Ended) (sym (behind_all x are.schedules))
@@ -238,7 +240,8 @@ record AreFine (max : ℕ) (lines : List (List ℕ)) (place : Place) : Type 0 wh
   behind : place_from at.Start lines ≡ place
 
 fine_more : (max : ℕ) (lines : List (List ℕ)) (place : Place) (line : List ℕ) (r : Record) → AreFine max lines place → IsLine line →
-    length lines < max → SpellsRecord line r → may_stand place (record_kind r) ≡ true → AreFine max (lines ++ (line ∷ [])) (place_past place r)
+    length lines < max → SpellsRecord line r → may_stand place (record_kind r) ≡ true → AreFine max (lines ++ (line ∷ []))
+    (place_past place r)
 fine_more max lines place line r so_far is_line room spells may = record {
   fine = none_refused-more rules max lines line so_far.fine
       (line_refusal rules max lines line is_line room
@@ -246,7 +249,8 @@ fine_more max lines place line r so_far is_line room spells may = record {
       ∙ ap (λ p. first_of (unless (may_stand p (record_kind r)) OutOfOrder ∷ refusal_as (Some (record_kind r)) line ∷ [])) so_far.behind
       ∙ ap (λ b. first_of (unless b OutOfOrder ∷ refusal_as (Some (record_kind r)) line ∷ [])) may
       ∙ or_none (refusal_as (Some (record_kind r)) line) ∙ no_refusal_as line r spells);
-  behind = place_from-more at.Start lines line ∙ ap (λ p. place_behind p (kind_in line) line) so_far.behind ∙ place_spelled place line r spells;
+  behind = place_from-more at.Start lines line ∙ ap (λ p. place_behind p (kind_in line) line) so_far.behind
+      ∙ place_spelled place line r spells;
 }
 
 fine_all : (max : ℕ) (front : List (List ℕ)) (place : Place) (lines : List (List ℕ)) (records : List Record) (to : Place) →

@@ -1,5 +1,6 @@
 -- What the lines so far have come to, line by line.
-use Rattle.std.proofs.Common.{◌≡◌, ◌≢◌, ℕ, ◌<◌, Bool, true, false, List, [], ◌∷◌, ◌++◌, length, Option, Some, None, Result, Ok, Err, refl, sym}
+use Rattle.std.proofs.Common.{◌≡◌, ◌≢◌, ℕ, ◌<◌, Bool, true, false, List, [], ◌∷◌, ◌++◌, length, Option, Some, None, Result, Ok, Err}
+use Rattle.std.proofs.Common.{refl, sym}
 use Rattle.std.proofs.Common.{ap, ◌∙◌, subst, is_some, cond, codes, IfSome, IfErr, IfOk, inr, ⊎_elim, ◌+◌}
 use Rattle.std.proofs.lemmas.List.Elements.{All-cons, All-nil, All-append}
 use Rattle.std.specs.Prelude.{All}
@@ -203,7 +204,12 @@ pub whole_result : (start : Option (List ℕ)) (max : ℕ) (lines : List (List �
     IfOk result (λ extract. IsHeld p (extract_parts extract)) →
     IfSome start (λ bytes. IfOk result (λ extract. BytesSpell max bytes (extract_parts extract)))
 whole_result start max lines p (Ok extract) all so_far held =
-    known_so start _ _ (λ bytes a. record { lines = lines; all = a; spelled = held_spells max lines p so_far (extract_parts extract) held }) all
+    known_so start _ _ (λ bytes a. record {
+      lines = lines;
+      all = a;
+      spelled = held_spells max lines p so_far
+          (extract_parts extract) held;
+    }) all
 whole_result start max lines p (Err f) all so_far held = known_so start _ _ (λ bytes a. tt) all
 
 -- and where it isn't

@@ -50,7 +50,8 @@ module _ (max : ℕ) (bytes : List ℕ) (x : ExtractParts) (spells : BytesSpell 
 
   -- what is answered, by what the answers say of the bytes
   pub read_as : (after : Option (List ℕ)) (result : Result Extract Fault) →
-      IfOk result (λ extract. BytesSpell max bytes (extract_parts extract)) → IfErr result (IsReadFault rules max bytes after) → IsReadAs x result
+      IfOk result (λ extract. BytesSpell max bytes (extract_parts extract)) → IfErr result (IsReadFault rules max bytes after) →
+      IsReadAs x result
   read_as after (Ok extract) ok err =
       one_extract (contents_of bytes) (extract_parts extract) x
       (subst (λ lines. SpellExtract lines (extract_parts extract)) (sym ok.all.contents) ok.spelled) contents_spell
@@ -71,7 +72,8 @@ pub only_read : (start : Option (List ℕ)) (max : ℕ) (after : Option (List �
 only_read None max after result ok err = tt
 only_read (Some bytes) max after result ok err = λ x spells. read_as max bytes x spells after result ok err
 
-pub only_fault : (start : Option (List ℕ)) (max : ℕ) (after : Option (List ℕ)) (result : Result Extract Fault) (f : Fault) → result ≡ Err f →
+pub only_fault : (start : Option (List ℕ)) (max : ℕ) (after : Option (List ℕ)) (result : Result Extract Fault) (f : Fault) →
+    result ≡ Err f →
     IfSome start (λ bytes. IfErr result (IsReadFault rules max bytes after)) →
     IfSome start (λ bytes. (x : ExtractParts) → BytesSpell max bytes x → IsReadAs x result)
 only_fault None max after result f is err = tt

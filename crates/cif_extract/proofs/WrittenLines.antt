@@ -1,5 +1,6 @@
 -- What is written, line by line.
-use Rattle.std.proofs.Common.{◌≡◌, ℕ, ◌+◌, ◌<◌, Bool, true, false, List, [], ◌∷◌, ◌++◌, Option, Some, map, take, drop, length, get_or, sym, ◌∙◌, ap, refl, subst}
+use Rattle.std.proofs.Common.{◌≡◌, ℕ, ◌+◌, ◌<◌, Bool, true, false, List, [], ◌∷◌, ◌++◌, Option, Some, map, take, drop, length, get_or}
+use Rattle.std.proofs.Common.{sym, ◌∙◌, ap, refl, subst}
 use Rattle.std.proofs.Common.{append_assoc, append-nil, take-append-drop, OnErr, OnOk, Result, Ok, Err}
 use Rattle.std.specs.Io.KnownBytes.{Appends}
 use Rattle.std.proofs.KnownBytes.{Appends-trans}

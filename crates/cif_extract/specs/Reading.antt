@@ -150,7 +150,8 @@ IsKeepable r = AllStandIn (plain_line (record_table r)) (record_table r)
 
 -- what taking a line gives where this is the first reason to refuse it: the reason, or one step more with the record that it spells
 abbrev pub IsTaken : Option Refusal → List ℕ → Progress → Result Unit StopAt → Progress → Type 0
-IsTaken refusal line before (Ok done) after = (refusal ≡ None) × ((r : Record) × SpellsRecord line r × IsKeepable r × (after ≡ step before r))
+IsTaken refusal line before (Ok done) after = (refusal ≡ None) × ((r : Record) × SpellsRecord line r × IsKeepable r ×
+    (after ≡ step before r))
 IsTaken refusal line before (Err (stop.Refused why)) after = refusal ≡ Some why
 IsTaken refusal line before (Err stop.Memory) after = Unit {0}
 

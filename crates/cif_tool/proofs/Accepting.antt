@@ -121,7 +121,8 @@ spelled-refused max bytes header associations number why b refused =
     let room : length (contents_of bytes) ≤ max = subst (λ ls. length ls ≤ max) (sym b.all.contents) b.all.within in
     let are_lines = subst (All IsLine) (sym b.all.contents) b.all.are_lines in
     ⊎_elim
-    (λ r. fine-refused rules max (contents_of bytes) number why (spelled_fine max (contents_of bytes) header associations room are_lines s) r)
+    (λ r. fine-refused rules max (contents_of bytes) number why (spelled_fine max
+    (contents_of bytes) header associations room are_lines s) r)
     (λ t. spelled-truncated max (contents_of bytes) header associations number why s t) refused
 
 same_front : (xs ys : List (List ℕ)) (x y : List ℕ) → xs ++ x ∷ [] ≡ ys ++ y ∷ [] → xs ≡ ys

@@ -22,7 +22,8 @@ returns-in_err-write_line-clause-err g c =
     of-error c.from_residual.result _
     (subst (AppendsFront start now)
     (sym (schedule_text a.uid.now a.first a.last a.days a.body.now (map (λ r. plain_line (record_table r)) (body_records a.body.now)) refl))
-    (front-first start now _ _ (subst (λ (line : List ℕ). AppendsFront start now (line ++ (10 ∷ []))) plain c.in_err-write_line.ensures.err)))
+    (front-first start now _ _ (subst (λ (line : List ℕ). AppendsFront start now (line ++
+    (10 ∷ []))) plain c.in_err-write_line.ensures.err)))
 
 pub write_lines-requires : goal.write_lines-requires
 write_lines-requires g c = not_true (sink_failed c.write_line.new.sink) c.in_ok-write_line.ensures.failed.0

@@ -50,7 +50,8 @@ returns-in-Err-clause-fault g c =
     let number : c.line_number.result ≡ length ls + 1 = omega (arith, c.line_number.ensures, more, so_far.counted) in
     rw c.at.ensures
     (at_stop _ (g.R.Read.remaining c.next.new.source.reader) c.args.max_lines c.line_number.result c.in-Err.stop
-    (λ why e. at_line rules c.args.max_lines _ ls read.fine g.R.Read.remaining c.next.new.self c.next.new.source line c.line_number.result why now
+    (λ why e. at_line rules c.args.max_lines _ ls read.fine g.R.Read.remaining c.next.new.self c.next.new.source line
+    c.line_number.result why now
     number (c.in-Err.ensures.refused why (ap Err e) c.args.max_lines ls room read)))
 
 pub returns-in-None-clause-fault : goal.returns-in-None-clause-fault

@@ -25,7 +25,10 @@ returns-in_ok-push-in-Some c =
     let b = c.in_ok-uid.field-0 in
     let (fine, spells) = c.in_ok-uid.ensures.exact in
     let some : b.detail ≡ Some c.in-Some.detail = let there = c.in-Some.is in let same = c.in_ok-uid.detail-is in cc in
-    let put : ◌≡◌ {A = List (List ℕ)} c.push-in-Some.new.items.items (c.write.result ∷ []) = rw (c.in_ok-push-in-Some.ensures, c.clear.ensures.items) refl in (
+    let put : ◌≡◌ {A = List (List ℕ)} c.push-in-Some.new.items.items (c.write.result ∷ []) = rw (
+      c.in_ok-push-in-Some.ensures,
+      c.clear.ensures.items,
+    ) refl in (
       fine,
       (
         of.Basic b,

@@ -27,7 +27,8 @@ returns-in-Some c =
     let (fine, taken) = c.in_ok-keep.ensures in
     let (r, spells, again, is) = taken in
     let (t, same) = is_terminus r (kind_here c.args.line.now r Lt spells c.requires.kind) in
-    closing (progress_of c.args.self.now) (progress_of c.keep.new.self) t (rw same at is) c.in-Some.opened (progress_of c.close.new.self) _ c.args.line.now c.close.result
+    closing (progress_of c.args.self.now) (progress_of c.keep.new.self) t (rw same at is) c.in-Some.opened
+    (progress_of c.close.new.self) _ c.args.line.now c.close.result
     (sym c.take.ensures.value ∙ c.in-Some.is) (rw c.take.ensures.after at c.close.ensures) fine (rw same at spells) (rw same at again)
 
 pub returns-in-None : goal.returns-in-None
@@ -41,6 +42,7 @@ returns-in-None c =
         rw same at spells,
         rw same at again,
         rw c.take.ensures.after
-            (terminus_none (progress_of c.args.self.now) (progress_of c.keep.new.self) t (rw same at is) (sym c.take.ensures.value ∙ c.in-None.is)),
+            (terminus_none (progress_of c.args.self.now) (progress_of c.keep.new.self) t (rw same at is) (sym c.take.ensures.value
+            ∙ c.in-None.is)),
       ),
     )

@@ -7,7 +7,8 @@ use Rattle.cif_records.proofs.detail.Detail.write.Goals as goal
 
 pub returns-clause-plain : goal.returns-clause-plain
 returns-clause-plain c =
-    let built : ◌≡◌ {A = List ℕ} c.finish.result (put_all (put_all [] (row 1 29 spare ∷ []) ++ plain_line (detail_rows (Some c.args.self.now)))
+    let built : ◌≡◌ {A = List ℕ} c.finish.result (put_all (put_all [] (row 1 29 spare ∷ []) ++ plain_line (detail_rows
+    (Some c.args.self.now)))
     (row 79 80 spare ∷ [])) =
     rw (
       c.finish.ensures,
@@ -20,7 +21,8 @@ returns-clause-plain c =
 
 pub returns-clause-again : goal.returns-clause-again
 returns-clause-again c =
-    let built : ◌≡◌ {A = List ℕ} c.finish.result (put_all (put_all [] (row 1 29 spare ∷ []) ++ plain_line (detail_rows (Some c.args.self.now)))
+    let built : ◌≡◌ {A = List ℕ} c.finish.result (put_all (put_all [] (row 1 29 spare ∷ []) ++ plain_line (detail_rows
+    (Some c.args.self.now)))
     (row 79 80 spare ∷ [])) =
     rw (
       c.finish.ensures,
