@@ -16,7 +16,7 @@ use Rattle.cif_records.specs.declared.record.Record.TheVariants as of
 use Rattle.cif_records.specs.declared.terminus.Terminus.{Terminus}
 
 -- a line more
-keep_last : (lines : List (List ℕ)) (tables : List (List Row)) (line : List ℕ) (table : List Row) → KeepAll lines tables
+pub keep_last : (lines : List (List ℕ)) (tables : List (List Row)) (line : List ℕ) (table : List Row) → KeepAll lines tables
     → AllStandIn line table → line ≡ plain_line table → KeepAll (lines ++ line ∷ []) (tables ++ table ∷ [])
 keep_last [] [] line table k stands plain = (stands, plain, tt)
 keep_last [] (t ∷ tables) line table k stands plain = absurd k

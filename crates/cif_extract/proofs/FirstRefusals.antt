@@ -33,12 +33,10 @@ pub or_none : {A : Type 0} (o : Option A) → option_or o None ≡ o
 or_none None = refl
 or_none (Some x) = refl
 
-no_bytes : (content : List ℕ) → (list_all is_printable content ≡ true → ⊥) → list_all is_printable content ≡ false
-no_bytes content h = at (list_all is_printable content) h
-  where
-    at : (b : Bool) → (b ≡ true → ⊥) → b ≡ false
-    at true h = absurd (h refl)
-    at false h = refl
+-- what doesn't hold is false
+pub not_true : (b : Bool) → (b ≡ true → ⊥) → b ≡ false
+not_true true h = absurd (h refl)
+not_true false h = refl
 
 module _ (rules : LineRules) (max : ℕ) where
   -- a line that isn't one too many is refused by its kind and its fields alone
@@ -65,7 +63,7 @@ module _ (rules : LineRules) (max : ℕ) where
       let width = h.1 in
       let few : nat_lt (length before) max ≡ true = grind (arith, nat_tests) in
       let wide : nat_eq (length content) 80 ≡ true = grind (arith, nat_tests) in
-      rw (few, wide, no_bytes content (λ all. h.2 (printable_fact content all)))
+      rw (few, wide, not_true (list_all is_printable content) (λ all. h.2 (printable_fact content all)))
   line_reason before content number _ is h = absurd h
 
   -- one content more that isn't refused

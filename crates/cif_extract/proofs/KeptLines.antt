@@ -15,14 +15,7 @@ use Rattle.cif_records.specs.declared.origin.Origin.{Origin}
 use Rattle.cif_records.specs.declared.record.Record.{Record}
 use Rattle.cif_records.specs.declared.record.Record.TheVariants as of
 use Rattle.cif_records.specs.declared.terminus.Terminus.{Terminus}
-
--- one line more
-pub KeepAll-more : (lines : List (List ℕ)) (tables : List (List Row)) (table : List Row) → KeepAll lines tables →
-    AllStandIn (plain_line table) table → KeepAll (lines ++ (plain_line table ∷ [])) (tables ++ (table ∷ []))
-KeepAll-more [] [] table kept stands = (stands, refl, tt)
-KeepAll-more [] (t ∷ tables) table kept stands = absurd kept
-KeepAll-more (line ∷ lines) [] table kept stands = absurd kept
-KeepAll-more (line ∷ lines) (t ∷ tables) table kept stands = (kept.0, kept.1, KeepAll-more lines tables table kept.2 stands)
+use Rattle.cif_extract.proofs.BodyLines.{keep_last}
 
 -- one record more
 pub kept-more : (lines : List (List ℕ)) (d : Detail) (records : List Record) (r : Record) → KeepAll lines (kept_tables d records) →
@@ -31,7 +24,7 @@ pub kept-more : (lines : List (List ℕ)) (d : Detail) (records : List Record) (
 kept-more lines d records r kept stands =
     subst (KeepAll (lines ++ (plain_line (record_table r) ∷ [])))
     (ap (λ (ts : List (List Row)). detail_table d ∷ ts) (sym (map-append record_table records (r ∷ []))))
-    (KeepAll-more lines (kept_tables d records) (record_table r) kept stands)
+    (keep_last lines (kept_tables d records) (plain_line (record_table r)) (record_table r) kept stands refl)
 
 -- a call more
 pub journey-more : (x : Option Extra) (o : Origin) (calls : List Call) (call : Call) →

@@ -16,10 +16,7 @@ use Rattle.cif_records.specs.declared.record.Record.{Record}
 use Rattle.cif_records.specs.declared.record.Record.TheVariants as of
 use Rattle.cif_records.specs.declared.terminus.Terminus.{Terminus}
 use Rattle.cif_records.proofs.Records.{kind_of as record_kind, kind_there as spelled_kind}
-
-or_none : (refusal : Option Refusal) → option_or refusal None ≡ refusal
-or_none None = refl
-or_none (Some why) = refl
+use Rattle.cif_extract.proofs.FirstRefusals.{or_none}
 
 -- where a kind may stand, a line of it is refused for its fields alone
 pub refusal_of_fields : (place : Place) (line : List ℕ) (kind : Kind) → kind_in line ≡ Some kind → may_stand place kind ≡ true →

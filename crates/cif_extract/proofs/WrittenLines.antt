@@ -69,11 +69,6 @@ kept_plain (line ∷ lines) [] kept = absurd kept
 kept_plain (line ∷ lines) (r ∷ records) kept =
     ap (λ l. l ∷ lines) kept.1 ∙ ap (λ ls. plain_line (record_table r) ∷ ls) (kept_plain lines records kept.2)
 
--- what doesn't hold is false
-pub not_true : (b : Bool) → (b ≡ true → false ≡ true) → b ≡ false
-not_true true h = sym (h refl)
-not_true false h = refl
-
 -- the text of a schedule is that of its first line and of these
 module _ (uid : List ℕ) (first last : ℕ) (days : List Bool) (p : BodyParts) (rest : List (List ℕ))
     (is : rest ≡ map (λ r. plain_line (record_table r)) (body_records p)) where

@@ -8,7 +8,8 @@ use Rattle.cif_extract.specs.BodyParts.{body_records}
 use Rattle.cif_extract.specs.Texts.{lines_text}
 use Rattle.cif_records.specs.Basic.{basic_table}
 use Rattle.cif_records.specs.SpellsRecord.{record_table}
-use Rattle.cif_extract.proofs.WrittenLines.{front-first, front-second, if_err, if_ok, kept_plain, not_true, of-error, schedule_text}
+use Rattle.cif_extract.proofs.FirstRefusals.{not_true}
+use Rattle.cif_extract.proofs.WrittenLines.{front-first, front-second, if_err, if_ok, kept_plain, of-error, schedule_text}
 use Rattle.cif_extract.proofs.writing.write_schedule.Goals as goal
 
 pub returns-in_err-write_line-clause-err : goal.returns-in_err-write_line-clause-err
@@ -26,7 +27,8 @@ returns-in_err-write_line-clause-err g c =
     (10 ∷ []))) plain c.in_err-write_line.ensures.err)))
 
 pub write_lines-requires : goal.write_lines-requires
-write_lines-requires g c = not_true (sink_failed c.write_line.new.sink) c.in_ok-write_line.ensures.failed.0
+write_lines-requires g c = 
+    not_true (sink_failed c.write_line.new.sink) (λ e. let no = c.in_ok-write_line.ensures.failed.0 e in cc)
 
 pub returns-clause-ok : goal.returns-clause-ok
 returns-clause-ok g c =
