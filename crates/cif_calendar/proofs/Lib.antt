@@ -7,3 +7,10 @@ pub mod Positions
 pub mod FirstClash
 pub mod DayByDay
 pub mod Telling
+pub mod Elements
+pub mod PieceLists
+pub mod Alike
+pub mod FirstWeek
+pub mod Unbroken
+pub mod FewPieces
+pub mod LaidPieces

@@ -1,11 +1,11 @@
 -- What runs on a day is one thing, and the source of the day has it.
 use Rattle.std.proofs.Common.{◌≡◌, ℕ, List, Option, None, Some, sym, ◌∙◌, ap, subst, refl}
-use Rattle.std.specs.Prelude.{slice_get, IsNone, IsSome}
+use Rattle.std.specs.Prelude.{IsNone, IsSome}
 use Rattle.std.specs.Option.{option_and_then}
 use Rattle.cif_calendar.specs.Terms.{Terms, Records, AreLawful}
 use Rattle.cif_calendar.specs.Clash.{IsClear}
 use Rattle.cif_calendar.specs.Runs.{Runs, BodyRuns, NothingRuns}
-use Rattle.cif_calendar.specs.Source.{IsChosen, IsSource}
+use Rattle.cif_calendar.specs.Source.{IsChosen, IsSource, body_at}
 
 none-some : {B : Type 0} (r : Terms B) (b : B) → r.body ≡ Some b → IsNone r.body → ⊥
 none-some r b e n = let h = rw e at n in cc
@@ -29,11 +29,6 @@ Runs-unique records d None None l clear p q = refl
 Runs-unique records d None (Some y) l clear p q = absurd (nothing-body records d y l p q)
 Runs-unique records d (Some x) None l clear p q = absurd (nothing-body records d x l q p)
 Runs-unique records d (Some x) (Some y) l clear p q = ap Some (body-unique records d x y clear p q)
-
--- the body at a source
-abbrev pub body_at : {B : Type 0} → List (Terms B) → Option ℕ → Option B
-body_at xs None = None
-body_at xs (Some i) = option_and_then (λ r. r.body) (slice_get xs i)
 
 some-body : {B : Type 0} (o : Option B) → IsSome o → (b : B) × (o ≡ Some b)
 some-body None h = absurd (cc)

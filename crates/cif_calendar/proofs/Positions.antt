@@ -7,12 +7,12 @@ use Rattle.std.proofs.lemmas.Option.{same_Some, slice_get-map, slice_get-get_or,
 use Rattle.cif_calendar.specs.Terms.{Terms, SameRecords, AreLawful}
 use Rattle.cif_calendar.specs.Clash.{IsClear, IsClash, IsClearFrom}
 use Rattle.cif_calendar.specs.Runs.{Runs}
-use Rattle.cif_calendar.specs.Source.{IsChosen, IsSource}
+use Rattle.cif_calendar.specs.Source.{IsChosen, IsSource, body_at}
 use Rattle.cif_calendar.specs.Keys.{keyed, of_key, ArePositionsOf, AreClear}
 use Rattle.cif_calendar.proofs.Sets.{SameRecords-sym, AreLawful-same, IsClear-same, IsClash-same, Runs-same}
 use Rattle.cif_calendar.proofs.Winning.{terms_at}
 use Rattle.cif_calendar.proofs.Total.{Runs-exists}
-use Rattle.cif_calendar.proofs.Meaning.{body_at, Runs-from_source}
+use Rattle.cif_calendar.proofs.Meaning.{Runs-from_source}
 
 -- an element that a look-up finds is in the list, and an element of the list is found
 pub contains-at : {X : Type 0} (xs : List X) (i : ℕ) (x : X) → slice_get xs i ≡ Some x → Contains xs x

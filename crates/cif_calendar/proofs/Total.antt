@@ -1,12 +1,10 @@
 -- On each day something runs, or nothing does.
 use Rattle.std.proofs.Common.{◌≡◌, ℕ, ◌<◌, ◌≤◌, List, [], ◌∷◌, Option, None, Some, Bool, true, false, arith, refl, sym, ◌∙◌, ap, subst}
 use Rattle.std.proofs.Common.{⊎_elim, inl, inr}
-use Rattle.std.specs.Prelude.{Contains, slice_get, ◌⊎◌}
+use Rattle.std.specs.Prelude.{slice_get, ◌⊎◌}
 use Rattle.std.specs.Option.{is_some}
 use Rattle.std.proofs.lemmas.Bool.{cases_lt}
 use Rattle.std.proofs.lemmas.Option.{same_Some}
-use Rattle.std.proofs.lemmas.List.Elements.{Contains-append_left, Contains-append_right, Contains-append_cases, Contains-push}
-use Rattle.std.proofs.lemmas.List.Elements.{Contains-push_cases}
 use Rattle.cif_columns.specs.Stp.{letter}
 use Rattle.cif_columns.specs.declared.stp.Stp.{Stp}
 use Rattle.cif_columns.specs.declared.stp.Stp.TheVariants.{P, N, O, C}
@@ -17,6 +15,7 @@ use Rattle.cif_calendar.specs.Wins.{Wins}
 use Rattle.cif_calendar.specs.Runs.{Runs}
 use Rattle.cif_calendar.specs.Source.{IsChosen}
 use Rattle.cif_calendar.specs.Standing.{NoneApplies}
+use Rattle.cif_calendar.proofs.Elements.{Contains-first, Contains-rest, Contains-cases}
 use Rattle.cif_calendar.proofs.Sets.{Wins-same}
 use Rattle.cif_calendar.proofs.Winning.{IsWith, wins-keeps, wins-new, none-keeps}
 
@@ -68,39 +67,26 @@ winner-same ys zs d e h = ⊎_elim
     (λ w. inr (w.0, Wins-same ys zs e d w.0 w.1))
     h
 
--- the first position, or one of the rest
-first-or-rest : (i : ℕ) (members : List ℕ) (j : ℕ) → Contains (i ∷ members) j → (i ≡ j) ⊎ Contains members j
-first-or-rest i members j c = ⊎_elim
-    (λ here. ⊎_elim (λ nowhere. absurd (let h : nowhere.0 < 0 = nowhere.1 in omega arith)) (λ e. inl e) (Contains-push_cases [] i j here))
-    (λ there. inr there)
-    (Contains-append_cases (i ∷ []) members j c)
-
-rest : (i : ℕ) (members : List ℕ) (j : ℕ) → Contains members j → Contains (i ∷ members) j
-rest i members j c = Contains-append_right (i ∷ []) members j c
-
-first : (i : ℕ) (members : List ℕ) → Contains (i ∷ members) i
-first i members = Contains-append_left (i ∷ []) members i (Contains-push [] i)
-
 -- a position more chooses no record more, or the one that stands there
 winner-more : {B : Type 0} (xs : List (Terms B)) (i : ℕ) (members : List ℕ) (d : ℕ) (o : Option (Terms B)) → slice_get xs i ≡ o →
     HasWinner (IsChosen xs members) d → HasWinner (IsChosen xs (i ∷ members)) d
 winner-more xs i members d None at h =
     winner-same (IsChosen xs members) (IsChosen xs (i ∷ members)) d (record {
       same = λ s. (
-        λ c. record { position = c.position; member = rest i members c.position c.member; at = c.at },
+        λ c. record { position = c.position; member = Contains-rest i members c.position c.member; at = c.at },
         λ c. ⊎_elim
             (λ e. absurd (let no : None ≡ Some s = sym at ∙ ap (slice_get xs) e ∙ c.at in cc))
             (λ old. record { position = c.position; member = old; at = c.at })
-            (first-or-rest i members c.position c.member),
+            (Contains-cases i members c.position c.member),
       );
     }) h
 winner-more xs i members d (Some r) at h = winner-with (IsChosen xs members) (IsChosen xs (i ∷ members)) d r (record {
-  kept = λ s c. record { position = c.position; member = rest i members c.position c.member; at = c.at };
-  added = record { position = i; member = first i members; at = at };
+  kept = λ s c. record { position = c.position; member = Contains-rest i members c.position c.member; at = c.at };
+  added = record { position = i; member = Contains-first i members; at = at };
   only = λ s c. ⊎_elim
       (λ e. inr (same_Some r s (sym at ∙ ap (slice_get xs) e ∙ c.at)))
       (λ old. inl (record { position = c.position; member = old; at = c.at }))
-      (first-or-rest i members c.position c.member);
+      (Contains-cases i members c.position c.member);
 }) h
 
 winner-or-none : {B : Type 0} (xs : List (Terms B)) (members : List ℕ) (d : ℕ) → HasWinner (IsChosen xs members) d

@@ -126,9 +126,9 @@ module _ {B : Type 0} (ys zs : Records B) (d : ℕ) (r : Terms B) (a : IsWith ys
     apart = λ e. apart (sym e);
   }
 
--- The same by position: the record r at i is looked at after those at `members`.
-module _ {B : Type 0} (xs : List (Terms B)) (d i : ℕ) (r : Terms B) (at : slice_get xs i ≡ Some r) (members : List ℕ) where
-  chosen-with : IsWith (IsChosen xs members) r (IsChosen xs (members ++ i ∷ []))
+-- the records at one position more
+module _ {B : Type 0} (xs : List (Terms B)) (i : ℕ) (r : Terms B) (at : slice_get xs i ≡ Some r) (members : List ℕ) where
+  pub chosen-with : IsWith (IsChosen xs members) r (IsChosen xs (members ++ i ∷ []))
   chosen-with = record {
     kept = λ s c. record { position = c.position; member = Contains-append_left members (i ∷ []) c.position c.member; at = c.at };
     added = record { position = i; member = Contains-push members i; at = at };
@@ -138,6 +138,11 @@ module _ {B : Type 0} (xs : List (Terms B)) (d i : ℕ) (r : Terms B) (at : slic
         (Contains-push_cases members i c.position c.member);
   }
 
+-- The same by position: the record r at i is looked at after those at `members`.
+module _ {B : Type 0} (xs : List (Terms B)) (d i : ℕ) (r : Terms B) (at : slice_get xs i ≡ Some r) (members : List ℕ) where
+  added : IsWith (IsChosen xs members) r (IsChosen xs (members ++ i ∷ []))
+  added = chosen-with xs i r at members
+
   stands_at-left : (l : ℕ) (t : Terms B) → StandsAt xs members l t → StandsAt xs (members ++ i ∷ []) l t
   stands_at-left l t s = record { member = Contains-append_left members (i ∷ []) l s.member; at = s.at }
 
@@ -145,13 +150,13 @@ module _ {B : Type 0} (xs : List (Terms B)) (d i : ℕ) (r : Terms B) (at : slic
   stands_at-new = record { member = Contains-push members i; at = at }
 
   pub step-skips : (st : Standing) → (Applies r d → ⊥) → Stands xs members d st → Stands xs (members ++ i ∷ []) d st
-  step-skips Nobody off h = none-keeps _ _ d r chosen-with off h
+  step-skips Nobody off h = none-keeps _ _ d r added off h
   step-skips (Leader l) off h =
-      (h.0, stands_at-left l h.0 h.1, leads-keeps _ _ d r chosen-with h.0 (λ on. absurd (off on)) (λ on. absurd (off on)) h.2)
-  step-skips (Disputed l) off h = (h.0, stands_at-left l h.0 h.1, disputed-keeps _ _ d r chosen-with h.0 (λ on. absurd (off on)) h.2)
+      (h.0, stands_at-left l h.0 h.1, leads-keeps _ _ d r added h.0 (λ on. absurd (off on)) (λ on. absurd (off on)) h.2)
+  step-skips (Disputed l) off h = (h.0, stands_at-left l h.0 h.1, disputed-keeps _ _ d r added h.0 (λ on. absurd (off on)) h.2)
 
   pub step-first : Applies r d → Stands xs members d Nobody → Stands xs (members ++ i ∷ []) d (Leader i)
-  step-first on h = (r, stands_at-new, leads-first _ _ d r chosen-with on h)
+  step-first on h = (r, stands_at-new, leads-first _ _ d r added on h)
 
   -- the winner that a standing names, at l
   pub step-takes : (l : ℕ) (t : Terms B) → slice_get xs l ≡ Some t → Applies r d → letter r.letter < letter t.letter →
@@ -162,7 +167,7 @@ module _ {B : Type 0} (xs : List (Terms B)) (d i : ℕ) (r : Terms B) (at : slic
       (same_Some k.0 t (sym k.1.at ∙ at_l)) k.2.wins)
       (λ (k : Stands xs members d (Disputed l)). subst (λ (q : Terms B). Wins (IsChosen xs members) d q)
       (same_Some k.0 t (sym k.1.at ∙ at_l)) k.2.wins) h in
-      (r, stands_at-new, leads-takes _ _ d r chosen-with t on before w)
+      (r, stands_at-new, leads-takes _ _ d r added t on before w)
 
   pub step-keeps : (l : ℕ) (t : Terms B) → slice_get xs l ≡ Some t → letter t.letter ≤ letter r.letter →
       (letter t.letter < letter r.letter) ⊎ (r.body ≡ t.body) → Stands xs members d (Leader l) →
@@ -172,7 +177,7 @@ module _ {B : Type 0} (xs : List (Terms B)) (d i : ℕ) (r : Terms B) (at : slic
       let lead : Leads (IsChosen xs members) d t = subst (λ (q : Terms B). Leads (IsChosen xs members) d q) e h.2 in (
         t,
         stands_at-left l t (subst (λ (q : Terms B). StandsAt xs members l q) e h.1),
-        leads-keeps _ _ d r chosen-with t (λ _. later) (λ _. like) lead,
+        leads-keeps _ _ d r added t (λ _. later) (λ _. like) lead,
       )
 
   pub step-disputes : (l : ℕ) (t : Terms B) → slice_get xs l ≡ Some t → Applies r d → letter t.letter ≡ letter r.letter →
@@ -182,7 +187,7 @@ module _ {B : Type 0} (xs : List (Terms B)) (d i : ℕ) (r : Terms B) (at : slic
       let lead : Leads (IsChosen xs members) d t = subst (λ (q : Terms B). Leads (IsChosen xs members) d q) e h.2 in (
         t,
         stands_at-left l t (subst (λ (q : Terms B). StandsAt xs members l q) e h.1),
-        disputed-new _ _ d r chosen-with t on same apart lead.wins,
+        disputed-new _ _ d r added t on same apart lead.wins,
       )
 
   pub step-stays_disputed : (l : ℕ) (t : Terms B) → slice_get xs l ≡ Some t → letter t.letter ≤ letter r.letter →
@@ -192,5 +197,5 @@ module _ {B : Type 0} (xs : List (Terms B)) (d i : ℕ) (r : Terms B) (at : slic
       let lead : IsDisputed (IsChosen xs members) d t = subst (λ (q : Terms B). IsDisputed (IsChosen xs members) d q) e h.2 in (
         t,
         stands_at-left l t (subst (λ (q : Terms B). StandsAt xs members l q) e h.1),
-        disputed-keeps _ _ d r chosen-with t (λ _. later) lead,
+        disputed-keeps _ _ d r added t (λ _. later) lead,
       )

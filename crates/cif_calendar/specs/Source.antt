@@ -1,5 +1,6 @@
 -- The records at some positions of a list, and the position of a winner among them.
 use Rattle.std.specs.Prelude.{◌≡◌, ℕ, List, Option, Some, None, IsSome, Contains, slice_get}
+use Rattle.std.specs.Option.{option_and_then}
 use Rattle.cif_calendar.specs.Terms.{Terms}
 use Rattle.cif_calendar.specs.Wins.{Wins}
 use Rattle.cif_calendar.specs.Runs.{NothingRuns}
@@ -22,3 +23,8 @@ pub record IsWinnerAt {B : Type 0} (xs : List (Terms B)) (members : List ℕ) (d
 abbrev pub IsSource : {B : Type 0} → List (Terms B) → List ℕ → ℕ → Option ℕ → Type 0
 IsSource xs members d None = NothingRuns (IsChosen xs members) d
 IsSource xs members d (Some i) = IsWinnerAt xs members d i
+
+-- the body of the record at a position, if there is one
+abbrev pub body_at : {B : Type 0} → List (Terms B) → Option ℕ → Option B
+body_at xs None = None
+body_at xs (Some i) = option_and_then (λ r. r.body) (slice_get xs i)

@@ -1,11 +1,22 @@
-//! Which record of a timetable wins on a date, and what runs.
+//! Which record of a timetable wins on each date, and what runs.
 #![tactic(auto)]
 
 mod association_entry;
+mod calendar_fault;
 mod entry;
+mod key_calendar;
+mod piece;
+mod schedule_entry;
+mod stretches;
+mod window;
 mod winner;
 
+pub use calendar_fault::CalendarFault;
 pub use entry::Entry;
+pub use key_calendar::Calendar;
+pub use piece::Piece;
+pub use stretches::calendar;
+pub use window::Window;
 pub use winner::{BodiesDiffer, winner_on};
 
 #[cfg(test)]

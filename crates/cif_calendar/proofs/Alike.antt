@@ -1,0 +1,98 @@
+-- In an unbroken stretch a record applies on all days of a weekday or on none.
+use Rattle.std.proofs.Common.{◌≡◌, ℕ, ◌+◌, ◌-◌, ◌<◌, ◌≤◌, ◌%◌, List, Option, None, Some, subst, sym, arith, min, get_or, ⊎_elim}
+use Rattle.std.proofs.lemmas.Bool.{cases_lt}
+use Rattle.cif_columns.specs.Day.{weekday_of}
+use Rattle.cif_columns.specs.DaysRun.{RunsOn}
+use Rattle.cif_calendar.specs.Terms.{Terms, Records}
+use Rattle.cif_calendar.specs.Applies.{Applies}
+use Rattle.cif_calendar.specs.Wins.{Wins}
+use Rattle.cif_calendar.specs.Clash.{IsClear}
+use Rattle.cif_calendar.specs.Source.{IsChosen, IsSource}
+use Rattle.cif_calendar.specs.Pieces.{IsUnbroken, IsPiece}
+use Rattle.cif_calendar.specs.PieceSteps.{IsWeekFrom}
+
+-- d and e are days of one weekday in the stretch
+record AreAlike (first last d e : ℕ) : Type 0 where
+  d_from : first ≤ d
+  d_upto : d ≤ last
+  e_from : first ≤ e
+  e_upto : e ≤ last
+  same : weekday_of d ≡ weekday_of e
+
+alike-back : {first last d e : ℕ} → AreAlike first last d e → AreAlike first last e d
+alike-back a = record { d_from = a.e_from; d_upto = a.e_upto; e_from = a.d_from; e_upto = a.d_upto; same = sym a.same }
+
+module _ {B : Type 0} (records : Records B) (first last : ℕ) (u : IsUnbroken records first last) where
+  begun-alike : (d e : ℕ) (r : Terms B) → AreAlike first last d e → records r → r.first ≤ d → r.first ≤ e
+  begun-alike d e r a in' h = ⊎_elim
+      (λ late. let k : last < r.first = u.begins r in' late in absurd (omega arith))
+      (λ early. omega arith)
+      (cases_lt first r.first)
+
+  unfinished-alike : (d e : ℕ) (r : Terms B) → AreAlike first last d e → records r → d ≤ r.last → e ≤ r.last
+  unfinished-alike d e r a in' h = let k : last ≤ r.last = u.ends r in' (omega arith) in omega arith
+
+  applies-alike : (d e : ℕ) (r : Terms B) → AreAlike first last d e → records r → Applies r d → Applies r e
+  applies-alike d e r a in' on = record {
+    begun = begun-alike d e r a in' on.begun;
+    unfinished = unfinished-alike d e r a in' on.unfinished;
+    on_weekday = subst (λ (w : ℕ). RunsOn r.days w) a.same on.on_weekday;
+  }
+
+  wins-alike : (d e : ℕ) (r : Terms B) → AreAlike first last d e → Wins records d r → Wins records e r
+  wins-alike d e r a w = record {
+    listed = w.listed;
+    applies = applies-alike d e r a w.listed w.applies;
+    least = λ s in' on. w.least s in' (applies-alike e d s (alike-back a) in' on);
+  }
+
+  clear-alike : (d e : ℕ) → AreAlike first last d e → IsClear records d → IsClear records e
+  clear-alike d e a c = record {
+    agree = λ r s v w. c.agree r s (wins-alike e d r (alike-back a) v) (wins-alike e d s (alike-back a) w);
+  }
+
+module _ {B : Type 0} (xs : List (Terms B)) (members : List ℕ) (first last : ℕ)
+    (u : IsUnbroken (IsChosen xs members) first last) where
+  source-alike : (d e : ℕ) (o : Option ℕ) → AreAlike first last d e → IsSource xs members d o → IsSource xs members e o
+  source-alike d e None a h = record {
+    cancelled = λ r w. h.cancelled r (wins-alike (IsChosen xs members) first last u e d r (alike-back a) w);
+  }
+  source-alike d e (Some i) a h = record {
+    member = h.member;
+    winner = h.winner;
+    at = h.at;
+    wins = wins-alike (IsChosen xs members) first last u d e h.winner a h.wins;
+    runs = h.runs;
+  }
+
+-- the day of the first seven that has d's weekday
+abbrev in_week : ℕ → ℕ → ℕ
+in_week first d = first + (d - first) % 7
+
+in_week-alike : (first last d : ℕ) → first ≤ d → d ≤ last → AreAlike first last (in_week first d) d
+in_week-alike first last d from upto =
+    record { d_from = omega arith; d_upto = omega arith; e_from = from; e_upto = upto; same = omega arith }
+
+in_week-before : (first last d : ℕ) → first ≤ d → d ≤ last → in_week first d < min (last + 1) (first + 7)
+in_week-before first last d from upto = omega arith
+
+-- the winners of the first seven days are those of the whole stretch
+pub piece-from_week : {B : Type 0} (xs : List (Terms B)) (members : List ℕ) (first last : ℕ) (ws : List (Option ℕ)) →
+    IsUnbroken (IsChosen xs members) first last → IsWeekFrom xs members first (min (last + 1) (first + 7)) ws →
+    IsPiece xs members (record { first = first; last = last; winners = ws })
+piece-from_week xs members first last ws u week = record {
+  unbroken = u;
+  clear = record {
+    clear = λ d from upto.
+        let e = in_week first d in
+        let a = in_week-alike first last d from upto in
+        clear-alike (IsChosen xs members) first last u e d a (week.clear e a.d_from (in_week-before first last d from upto));
+  };
+  sources = λ d from upto.
+      let e = in_week first d in
+      let a = in_week-alike first last d from upto in
+      subst (λ (w : ℕ). IsSource xs members d (get_or ws w None)) a.same
+      (source-alike xs members first last u e d (get_or ws (weekday_of e) None) a
+      (week.sources e a.d_from (in_week-before first last d from upto)));
+  idle = λ w none. week.idle w (λ d from before. none d from (omega arith));
+}

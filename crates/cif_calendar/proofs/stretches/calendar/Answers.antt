@@ -1,0 +1,75 @@
+use Rattle.std.proofs.Common.{◌+◌, ◌∙◌, ap, map, sym, subst, arith, List, Err, ⊎_elim, inl, inr}
+use Rattle.std.proofs.lemmas.Result.{err_from_is_err_and}
+use Rattle.cif_calendar.specs.declared.piece.Piece.{Piece}
+use Rattle.cif_calendar.specs.Calendar.{IsCalendar}
+use Rattle.cif_calendar.proofs.FirstClash.{first_clash-clear}
+use Rattle.cif_calendar.proofs.LaidPieces.{AreLaid, AreTiled, laid-none, laid-more, tiled-last, few-last, calendar-tiled, fault-tiled}
+use Rattle.cif_calendar.proofs.LaidPieces.{fault-clash}
+use Rattle.cif_calendar.proofs.stretches.calendar.Goals as goal
+use Rattle.cif_calendar.proofs.stretches.calendar.Goals.{In-None}
+use Rattle.cif_calendar.proofs.stretches.calendar.Given.{Over}
+
+pub loop-pieces-init : goal.loop-pieces-init
+loop-pieces-init g c = record {
+  from = omega arith;
+  upto = c.args.window.in_order;
+  laid = subst (λ (ps : List Piece).
+      AreLaid (map g.E.Entry.terms c.args.entries.now) c.args.members.now c.args.window.first c.args.window.first ps)
+      (sym c.new-pieces.ensures.items)
+      (laid-none (map g.E.Entry.terms c.args.entries.now) c.args.members.now c.args.window.first);
+}
+
+pub returns-in_err-piece-clause-fault : goal.returns-in_err-piece-clause-fault
+returns-in_err-piece-clause-fault g c = let p = err_from_is_err_and c.from_residual.result c.from_residual.ensures.1 in rw (p.1, p.2)
+    (fault-tiled (map g.E.Entry.terms c.args.entries.now) c.args.members.now c.args.window.first c.loop-pieces.first
+    c.args.window.last _ _ c.loop-pieces.invariant.from c.loop-pieces.invariant.laid.tiled c.in_err-piece.ensures.fault)
+
+pub returns-in_err-piece-clause-clash : goal.returns-in_err-piece-clause-clash
+returns-in_err-piece-clause-clash g c d first =
+    let p = err_from_is_err_and c.from_residual.result c.from_residual.ensures.1 in
+    let xs = map g.E.Entry.terms c.args.entries.now in
+    let fault = fault-tiled xs c.args.members.now c.args.window.first c.loop-pieces.first c.args.window.last _ _
+    c.loop-pieces.invariant.from c.loop-pieces.invariant.laid.tiled c.in_err-piece.ensures.fault in
+    ⊎_elim
+    (λ is. inl (p.1 ∙ ap Err (p.2 ∙ is)))
+    (λ is. inr (p.1 ∙ ap Err (p.2 ∙ is)))
+    (fault-clash xs c.args.members.now c.args.window.first c.args.window.last d _ fault first)
+
+pub loop-pieces-preserved : goal.loop-pieces-preserved
+loop-pieces-preserved g c = let says = c.in_ok-piece.ensures in record {
+  from = omega (arith, c.in-Some.ensures, says.from, says.begins);
+  upto = omega (arith, c.in-Some.ensures);
+  laid = laid-more (map g.E.Entry.terms c.args.entries.now) c.args.members.now c.args.window.first c.loop-pieces.first
+      c.in-Some.next c.args.window.last c.loop-pieces.pieces.items c.add.new.pieces.items c.in_ok-piece.piece c.in_ok-add.ensures.ok
+      says.begins says.from says.piece says.breaks c.in-Some.ensures.0 c.in-Some.ensures.1 c.loop-pieces.invariant.laid;
+}
+
+-- after the last piece
+tiled : (g : Over) (c : In-None g) →
+    AreTiled (map g.E.Entry.terms c.args.entries.now) c.args.members.now c.args.window.first (c.args.window.last + 1)
+    c.add.new.pieces.items
+tiled g c = let says = c.in_ok-piece.ensures in
+    tiled-last (map g.E.Entry.terms c.args.entries.now) c.args.members.now c.args.window.first c.loop-pieces.first c.args.window.last
+    c.loop-pieces.pieces.items c.add.new.pieces.items c.in_ok-piece.piece c.in_ok-add.ensures.ok says.begins says.from says.upto
+    c.in-None.ensures says.piece c.loop-pieces.invariant.laid
+
+pub new-requires : goal.new-requires
+new-requires g c = (tiled g c).tiles
+
+-- they are a calendar
+told : (g : Over) (c : In-None g) →
+    IsCalendar (map g.E.Entry.terms c.args.entries.now) c.args.members.now c.args.window.first c.args.window.last
+    (record { first = c.args.window.first; last = c.args.window.last; pieces = c.add.new.pieces.items })
+told g c =
+    let xs = map g.E.Entry.terms c.args.entries.now in
+    let members = c.args.members.now in
+    calendar-tiled xs members c.args.window.first c.args.window.last c.add.new.pieces.items (tiled g c)
+    (few-last xs members c.args.window.first c.loop-pieces.first c.loop-pieces.pieces.items c.add.new.pieces.items
+    c.in_ok-piece.piece c.in_ok-add.ensures.ok c.loop-pieces.invariant.laid)
+
+pub returns-in-None-clause-calendar : goal.returns-in-None-clause-calendar
+returns-in-None-clause-calendar g c = rw c.new.ensures (told g (goal.at.returns-in-None-clause-calendar g c).In-None)
+
+pub returns-in-None-clause-clash : goal.returns-in-None-clause-clash
+returns-in-None-clause-clash g c d first = absurd (first_clash-clear _ c.args.window.first c.args.window.last d first
+    (told g (goal.at.returns-in-None-clause-clash g c).In-None).clear)

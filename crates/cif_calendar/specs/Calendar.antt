@@ -1,0 +1,38 @@
+-- What a calendar says, and why there is none.
+use Rattle.std.specs.Prelude.{◌≡◌, ℕ, ◌+◌, ◌*◌, ◌≤◌, List, length, All, Option, ◌↔◌}
+use Rattle.cif_calendar.specs.Terms.{Terms, Records}
+use Rattle.cif_calendar.specs.Clash.{IsClearFrom, IsFirstClash}
+use Rattle.cif_calendar.specs.Runs.{Runs}
+use Rattle.cif_calendar.specs.Source.{IsChosen, IsSource, body_at}
+use Rattle.cif_calendar.specs.Pieces.{IsPiece, IsBoundary, BeginsPiece, source_at}
+use Rattle.cif_calendar.specs.declared.calendar_fault.CalendarFault.{CalendarFault}
+use Rattle.cif_calendar.specs.declared.calendar_fault.CalendarFault.TheVariants.{Ambiguous, Memory}
+use Rattle.cif_calendar.specs.declared.piece.Piece.{Piece}
+
+-- a calendar's window, from its first to its last day, and its pieces
+pub record CalendarParts : Type 0 where
+  pub first : ℕ
+  pub last : ℕ
+  pub pieces : List Piece
+
+-- what runs on day d by the calendar: the body of the entry at the day's source
+abbrev pub body_on : {B : Type 0} → List (Terms B) → CalendarParts → ℕ → Option B
+body_on xs c d = body_at xs (source_at c.pieces d)
+
+-- What a calendar of the members says of the days from `first` to `last`.
+pub record IsCalendar {B : Type 0} (xs : List (Terms B)) (members : List ℕ) (first last : ℕ) (c : CalendarParts) : Type 0 where
+  pub first_is : c.first ≡ first
+  pub last_is : c.last ≡ last
+  -- each day is clear, has its source, and what runs on it is that source's body
+  pub clear : IsClearFrom (IsChosen xs members) first last
+  pub sources : (d : ℕ) → first ≤ d → d ≤ last → IsSource xs members d (source_at c.pieces d)
+  pub runs : (d : ℕ) → first ≤ d → d ≤ last → Runs (IsChosen xs members) d (body_on xs c d)
+  -- each piece is one by its own, they begin on the boundaries and nowhere else, and so there are few
+  pub pieces : All (IsPiece xs members) c.pieces
+  pub boundaries : (d : ℕ) → BeginsPiece c.pieces d ↔ IsBoundary (IsChosen xs members) first last d
+  pub few : length c.pieces ≤ 2 * length members + 1
+
+-- an ambiguous day is the first with a clash; of the memory nothing is said
+abbrev pub IsFault : {B : Type 0} → Records B → ℕ → ℕ → CalendarFault → Type 0
+IsFault records first last (Ambiguous d) = IsFirstClash records first last d
+IsFault records first last Memory = Unit {0}

@@ -1,0 +1,73 @@
+//! What runs on each date of a window.
+ghost use Rattle.std.specs.Prelude.{◌≡◌, ◌≤◌, ◌+◌, Contains};
+ghost use Rattle.cif_calendar.specs.Pieces.{Tiles, source_at, winner_of};
+
+use crate::piece::Piece;
+use crate::window::Window;
+use cif_columns::Day;
+use std::marker::Model;
+
+/// The winner of each date of a window, by pieces of it.
+#[derive(Debug, Drop)]
+pub struct Calendar {
+    window: Window,
+    pieces: Vec<Piece>,
+}
+
+impl Model for Calendar {
+    ghost use Rattle.cif_calendar.specs.Calendar.{CalendarParts};
+    ghost use Rattle.cif_calendar.specs.Pieces.{Tiles};
+    ghost use Rattle.std.specs.Prelude.{◌+◌};
+
+    ghost Value = { CalendarParts };
+
+    ghost view = { λ c. record {
+      first = c.window.first;
+      last = c.window.last;
+      pieces = c.pieces.items;
+    } };
+
+    ghost invariant = { λ c. Tiles c.pieces.items c.window.first (c.window.last + 1) };
+}
+
+impl Calendar {
+    pub(crate) fn new(window: Window, pieces: Vec<Piece>) -> Calendar
+        requires { Tiles pieces.items window.first (window.last + 1) }
+        ensures { result ≡ record {
+          first = window.first;
+          last = window.last;
+          pieces = pieces.items;
+        } }
+    {
+        Calendar { window, pieces }
+    }
+
+    /// The position of a winner of the date; `None` where nothing runs.
+    pub fn source_on(&self, day: Day) -> Option<usize>
+        requires from { self.now.first ≤ day }
+        requires upto { day ≤ self.now.last }
+        ensures source { result ≡ source_at self.now.pieces day }
+        ensures piece { (p : _) → Contains self.now.pieces p → p.first ≤ day → day ≤ p.last →
+            result ≡ winner_of p day }
+    {
+        let pieces = self.pieces();
+        let i = pieces.partition_point(|piece| piece.last < day);
+        pieces[i].winners[day.weekday() as usize]
+    }
+
+    /// The dates of which it tells.
+    pub fn window(&self) -> Window
+        ensures first { result.first ≡ self.now.first }
+        ensures last { result.last ≡ self.now.last }
+    {
+        self.window
+    }
+
+    /// The pieces, from the first date of the window to its last.
+    pub fn pieces(&self) -> &[Piece]
+        ensures pieces { result.now ≡ self.now.pieces }
+        ensures tiles { Tiles result.now self.now.first (self.now.last + 1) }
+    {
+        self.pieces.as_slice()
+    }
+}
