@@ -151,6 +151,7 @@ module _ {B : Type 0} (xs : List (Terms B)) (members : List ℕ) (from : ℕ) wh
     clear = record { clear = λ d low high. clear-tiled (last + 1) ps d t low (omega arith) };
     sources = λ d low high. sources-tiled (last + 1) ps d t low (omega arith);
     runs = λ d low high. Runs-from_source xs members d (source_at ps d) (sources-tiled (last + 1) ps d t low (omega arith));
+    tiles = t.tiles;
     pieces = t.pieces;
     boundaries = λ d. (boundary d, λ b. begins-tiled (last + 1) ps d t b.from (let upto : d ≤ last = b.upto in omega arith) b.change);
     few = few;

@@ -4,7 +4,7 @@ use Rattle.cif_calendar.specs.Terms.{Terms, Records}
 use Rattle.cif_calendar.specs.Clash.{IsClearFrom, IsFirstClash}
 use Rattle.cif_calendar.specs.Runs.{Runs}
 use Rattle.cif_calendar.specs.Source.{IsChosen, IsSource, body_at}
-use Rattle.cif_calendar.specs.Pieces.{IsPiece, IsBoundary, BeginsPiece, source_at}
+use Rattle.cif_calendar.specs.Pieces.{IsPiece, IsBoundary, BeginsPiece, Tiles, source_at}
 use Rattle.cif_calendar.specs.declared.calendar_fault.CalendarFault.{CalendarFault}
 use Rattle.cif_calendar.specs.declared.calendar_fault.CalendarFault.TheVariants.{Ambiguous, Memory}
 use Rattle.cif_calendar.specs.declared.piece.Piece.{Piece}
@@ -27,7 +27,8 @@ pub record IsCalendar {B : Type 0} (xs : List (Terms B)) (members : List ℕ) (f
   pub clear : IsClearFrom (IsChosen xs members) first last
   pub sources : (d : ℕ) → first ≤ d → d ≤ last → IsSource xs members d (source_at c.pieces d)
   pub runs : (d : ℕ) → first ≤ d → d ≤ last → Runs (IsChosen xs members) d (body_on xs c d)
-  -- each piece is one by its own, they begin on the boundaries and nowhere else, and so there are few
+  -- the pieces cover the window, each is one by itself, and they begin on the boundaries and nowhere else: so there are few
+  pub tiles : Tiles c.pieces first (last + 1)
   pub pieces : All (IsPiece xs members) c.pieces
   pub boundaries : (d : ℕ) → BeginsPiece c.pieces d ↔ IsBoundary (IsChosen xs members) first last d
   pub few : length c.pieces ≤ 2 * length members + 1

@@ -27,7 +27,7 @@ returns-in_err-write_line-clause-err g c =
     (10 ∷ []))) plain c.in_err-write_line.ensures.err)))
 
 pub write_lines-requires : goal.write_lines-requires
-write_lines-requires g c = 
+write_lines-requires g c =
     not_true (sink_failed c.write_line.new.sink) (λ e. let no = c.in_ok-write_line.ensures.failed.0 e in cc)
 
 pub returns-clause-ok : goal.returns-clause-ok
