@@ -22,3 +22,4 @@ pub mod Texts
 pub mod Times
 pub mod TrialPieces
 pub mod WholeLines
+pub mod MaskUnion
