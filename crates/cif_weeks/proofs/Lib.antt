@@ -1,0 +1,6 @@
+pub mod AlignedDays
+pub mod RisingLists
+pub mod Separate
+pub mod Unique
+pub mod UniqueByKey
+pub mod WeekDays
