@@ -1,7 +1,8 @@
 -- Permanent records of one key, and sets of them.
 use Rattle.std.specs.Prelude.{ℕ, List, Bool}
 
--- What a permanent record says, its key aside: its first and last day, its mask, Monday first, and what runs. B is the type of bodies.
+-- What a permanent record says, its key aside: its first and last day, its mask (seven weekdays, Monday first) and what
+-- runs. B is the type of bodies.
 pub record Permanent (B : Type 0) : Type 0 where
   pub first : ℕ
   pub last : ℕ

@@ -13,7 +13,7 @@ pub enum Form {
     One,
     /// Two consecutive weeks are joined where the body runs alike in both on each weekday whose
     /// dates in both lie in the window; where there is no such weekday, they are joined. The mask
-    /// of a record has the weekdays of all its weeks. So only the weeks that the window cuts, and
-    /// those next to them, can be joined in another way than in form 1.
+    /// of a record has the weekdays of all its weeks. So two weeks that lie wholly in the window
+    /// are joined as in form 1.
     Two,
 }

@@ -80,8 +80,8 @@ pub fn separate_records_in_order<B>()
         → AreSeparate form window r s
         ↔ ((week_of r.last < week_of s.first)
         × (week_of s.first ≡ week_of r.last + 1 → Change form window r s)) }
-    // Form 2: the two dates of a change are n and the day seven days later, and of the records r
-    // applies on n, or else s on that later day.
+    // Form 2: the two dates of a change are n and the day seven days later, and either r applies on
+    // n or s applies on that later day, but not both.
     ensures seven_days_later { (window : Window) (r s : Permanent B)
         → week_of s.first ≡ week_of r.last + 1
         → Change Two window r s
@@ -97,7 +97,7 @@ pub fn records_of_each_day<B>()
         → Meets form window body_on records → IsWithin window n → body_on n ≡ Some b
         → (r : Permanent B) × Contains records r × Applies r n × (r.body ≡ b)
         × ((s : Permanent B) → Contains records s → Applies s n → s ≡ r) }
-    // On no other day a record applies.
+    // On no other day does a record apply.
     ensures no_other { (form : Form) (window : Window) (body_on : ℕ → Option B)
         (records : List (Permanent B)) (n : ℕ) (r : Permanent B)
         → Meets form window body_on records → Contains records r → Applies r n
