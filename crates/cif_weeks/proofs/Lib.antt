@@ -1,4 +1,5 @@
 pub mod AlignedDays
+pub mod Meeting
 pub mod RisingLists
 pub mod Separate
 pub mod Unique

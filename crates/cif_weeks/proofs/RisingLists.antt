@@ -29,6 +29,21 @@ AllPairs-head R x y xs all (k, below, is) = subst (λ z. R x z) is (all 0 (suc k
 AllPairs-tail : {X : Type 0} (R : X → X → Type 0) (x : X) (xs : List X) → AllPairs R (x ∷ xs) → AllPairs R xs
 AllPairs-tail R x xs all i j d less below = all (suc i) (suc j) d (omega arith) (omega arith)
 
+-- two members of a list are one, or what holds of its pairs holds of them in one order or the other
+pub AllPairs-members : {X : Type 0} (R : X → X → Type 0) (x y : X) (xs : List X) → AllPairs R xs → Contains xs x → Contains xs y
+    → (x ≡ y) ⊎ (R x y ⊎ R y x)
+AllPairs-members R x y [] all in_x in_y = absurd (Contains-none x in_x)
+AllPairs-members R x y (z ∷ zs) all in_x in_y = elim (Contains-cases z x zs in_x) [
+  | inl z_x ↦ elim (Contains-cases z y zs in_y) [
+    | inl z_y ↦ inl (sym z_x ∙ z_y)
+    | inr later ↦ inr (inl (subst (λ w. R w y) z_x (AllPairs-head R z y zs all later)))
+  ]
+  | inr later_x ↦ elim (Contains-cases z y zs in_y) [
+    | inl z_y ↦ inr (inr (subst (λ w. R w x) z_y (AllPairs-head R z x zs all later_x)))
+    | inr later_y ↦ AllPairs-members R x y zs (AllPairs-tail R z zs all) later_x later_y
+  ]
+]
+
 -- R holds of no two in both orders
 abbrev pub IsOneWay : {X : Type 0} → (X → X → Type 0) → Type 0
 IsOneWay {X} R = (x y : X) → R x y → R y x → ⊥
