@@ -1,0 +1,95 @@
+-- Lists in a strict order: with the same members they are equal.
+use Rattle.std.proofs.Common.{◌≡◌, ◌⊎◌, inl, inr, zero, suc, List, [], ◌∷◌, arith, refl, sym, ◌∙◌, subst}
+use Rattle.std.specs.Prelude.{AllPairs, Contains}
+use Rattle.std.specs.declared.cmp.Ordering.{Ordering}
+use Rattle.std.specs.declared.cmp.Ordering.TheVariants.{Less, Equal}
+use Rattle.std.specs.Ordering.{ordering_reverse}
+use Rattle.std.specs.Cmp.{IsTotalOrder}
+use Rattle.std.proofs.lemmas.Cmp.{tied_itself}
+
+-- an empty list has no member
+Contains-none : {X : Type 0} (x : X) → Contains [] x → ⊥
+Contains-none x (k, below, is) = omega arith
+
+-- the members of a list are its head and those of its tail
+Contains-head : {X : Type 0} (x : X) (xs : List X) → Contains (x ∷ xs) x
+Contains-head x xs = (0, omega arith, refl)
+
+Contains-later : {X : Type 0} (x y : X) (xs : List X) → Contains xs y → Contains (x ∷ xs) y
+Contains-later x y xs (k, below, is) = (suc k, omega arith, is)
+
+Contains-cases : {X : Type 0} (x y : X) (xs : List X) → Contains (x ∷ xs) y → (x ≡ y) ⊎ Contains xs y
+Contains-cases x y xs (zero, below, is) = inl is
+Contains-cases x y xs (suc k, below, is) = inr (k, omega arith, is)
+
+-- what holds of the pairs of a list holds of its head with each other member, and of the pairs of its tail
+AllPairs-head : {X : Type 0} (R : X → X → Type 0) (x y : X) (xs : List X) → AllPairs R (x ∷ xs) → Contains xs y → R x y
+AllPairs-head R x y xs all (k, below, is) = subst (λ z. R x z) is (all 0 (suc k) y (omega arith) (omega arith))
+
+AllPairs-tail : {X : Type 0} (R : X → X → Type 0) (x : X) (xs : List X) → AllPairs R (x ∷ xs) → AllPairs R xs
+AllPairs-tail R x xs all i j d less below = all (suc i) (suc j) d (omega arith) (omega arith)
+
+-- two members of a list are one, or what holds of its pairs holds of them in one order or the other
+pub AllPairs-members : {X : Type 0} (R : X → X → Type 0) (x y : X) (xs : List X) → AllPairs R xs → Contains xs x → Contains xs y
+    → (x ≡ y) ⊎ (R x y ⊎ R y x)
+AllPairs-members R x y [] all in_x in_y = absurd (Contains-none x in_x)
+AllPairs-members R x y (z ∷ zs) all in_x in_y = elim (Contains-cases z x zs in_x) [
+  | inl z_x ↦ elim (Contains-cases z y zs in_y) [
+    | inl z_y ↦ inl (sym z_x ∙ z_y)
+    | inr later ↦ inr (inl (subst (λ w. R w y) z_x (AllPairs-head R z y zs all later)))
+  ]
+  | inr later_x ↦ elim (Contains-cases z y zs in_y) [
+    | inl z_y ↦ inr (inr (subst (λ w. R w x) z_y (AllPairs-head R z x zs all later_x)))
+    | inr later_y ↦ AllPairs-members R x y zs (AllPairs-tail R z zs all) later_x later_y
+  ]
+]
+
+-- R holds of no two in both orders
+abbrev pub IsOneWay : {X : Type 0} → (X → X → Type 0) → Type 0
+IsOneWay {X} R = (x y : X) → R x y → R y x → ⊥
+
+module _ {X : Type 0} (R : X → X → Type 0) (one_way : IsOneWay R) where
+  -- were the heads two, each would stand in the other's tail, and they would be in order both ways
+  heads_equal : (x y : X) (xs ys : List X) → AllPairs R (x ∷ xs) → AllPairs R (y ∷ ys)
+      → (y ≡ x) ⊎ Contains ys x → (x ≡ y) ⊎ Contains xs y → x ≡ y
+  heads_equal x y xs ys up vp (inl same) other = sym same
+  heads_equal x y xs ys up vp (inr in_ys) (inl same) = same
+  heads_equal x y xs ys up vp (inr in_ys) (inr in_xs) =
+      absurd (one_way x y (AllPairs-head R x y xs up in_xs) (AllPairs-head R y x ys vp in_ys))
+
+  -- a member of one list that comes after its head x is no head of the other list, if that begins with x too
+  not_head : (x y z : X) (zs : List X) → x ≡ y → R x z → (y ≡ z) ⊎ Contains zs z → Contains zs z
+  not_head x y z zs same after (inr in_zs) = in_zs
+  not_head x y z zs same after (inl is) =
+      let loop : R x x = subst (λ w. R x w) (sym (same ∙ is)) after in absurd (one_way x x loop loop)
+
+  -- so such lists with the same members are equal
+  pub same_members : (xs ys : List X) → AllPairs R xs → AllPairs R ys
+      → ((z : X) → Contains xs z → Contains ys z) → ((z : X) → Contains ys z → Contains xs z) → xs ≡ ys
+  same_members [] [] up vp forth back = refl
+  same_members [] (y ∷ ys) up vp forth back = absurd (Contains-none y (back y (Contains-head y ys)))
+  same_members (x ∷ xs) [] up vp forth back = absurd (Contains-none x (forth x (Contains-head x xs)))
+  same_members (x ∷ xs) (y ∷ ys) up vp forth back =
+      let heads : x ≡ y = heads_equal x y xs ys up vp
+      (Contains-cases y x ys (forth x (Contains-head x xs))) (Contains-cases x y xs (back y (Contains-head y ys))) in
+      let tails : xs ≡ ys = same_members xs ys (AllPairs-tail R x xs up) (AllPairs-tail R y ys vp)
+      (λ z in_xs. not_head x y z ys heads (AllPairs-head R x z xs up in_xs)
+      (Contains-cases y z ys (forth z (Contains-later x z xs in_xs))))
+      (λ z in_ys. not_head y x z xs (sym heads) (AllPairs-head R y z ys vp in_ys)
+      (Contains-cases x z xs (back z (Contains-later y z ys in_ys)))) in
+      cc
+
+-- a total order is one way
+module _ {K : Type 0} (cmp : K → K → Ordering) (total : IsTotalOrder cmp) where
+  reversed_less : (o : Ordering) → o ≡ Less → ordering_reverse o ≡ Less → ⊥
+  reversed_less o e f = let g : ordering_reverse Less ≡ Less = subst (λ v. ordering_reverse v ≡ Less) e f in cc
+
+  pub less_one_way : IsOneWay (λ x y. cmp x y ≡ Less)
+  less_one_way x y up down = reversed_less (cmp y x) down (sym (total.antisymm x y) ∙ up)
+
+  -- and none is less than itself
+  pub not_less : (x y : K) → x ≡ y → cmp x y ≡ Less → ⊥
+  not_less x y same less =
+      let itself : cmp x x ≡ Equal = tied_itself total x in
+      let again : cmp x x ≡ Less = subst (λ z. cmp x z ≡ Less) (sym same) less in
+      cc

@@ -1,0 +1,14 @@
+-- The records of one key have the form.
+use Rattle.std.specs.Prelude.{◌≡◌, ◌≢◌, ℕ}
+use Rattle.cif_weeks.specs.declared.form.Form.{Form}
+use Rattle.cif_weeks.specs.Window.{Window}
+use Rattle.cif_weeks.specs.Permanent.{Permanent, Permanents}
+use Rattle.cif_weeks.specs.Applies.{Applies}
+use Rattle.cif_weeks.specs.Aligned.{IsAligned}
+use Rattle.cif_weeks.specs.Separate.{AreSeparate}
+
+-- On each day at most one of the records applies; each is aligned; each two with one body are separate.
+pub record HaveForm {B : Type 0} (form : Form) (window : Window) (records : Permanents B) : Type 0 where
+  pub single : (n : ℕ) (r s : Permanent B) → records r → records s → Applies r n → Applies s n → r ≡ s
+  pub aligned : (r : Permanent B) → records r → IsAligned form window r
+  pub separate : (r s : Permanent B) → records r → records s → r ≢ s → r.body ≡ s.body → AreSeparate form window r s

@@ -1,0 +1,9 @@
+pub mod Aligned
+pub mod Applies
+pub mod Canonical
+pub mod HaveForm
+pub mod Meets
+pub mod Permanent
+pub mod Separate
+pub mod WhatRuns
+pub mod Window

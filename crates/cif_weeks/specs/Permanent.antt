@@ -1,0 +1,14 @@
+-- Permanent records of one key, and sets of them.
+use Rattle.std.specs.Prelude.{ℕ, List, Bool}
+
+-- What a permanent record says, its key aside: its first and last day, its mask (seven weekdays, Monday first) and what
+-- runs. B is the type of bodies.
+pub record Permanent (B : Type 0) : Type 0 where
+  pub first : ℕ
+  pub last : ℕ
+  pub days : List Bool
+  pub body : B
+
+-- a set of records, as the property of being one of them
+abbrev pub Permanents : Type 0 → Type 1
+Permanents B = Permanent B → Type 0

@@ -1,0 +1,12 @@
+-- The days of which it is asked what runs.
+use Rattle.std.specs.Prelude.{ℕ, ◌≤◌}
+
+-- the days from `first` to `last`
+pub record Window : Type 0 where
+  pub first : ℕ
+  pub last : ℕ
+
+-- day n lies in the window; so do its first day and its last
+pub record IsWithin (window : Window) (n : ℕ) : Type 0 where
+  pub from : window.first ≤ n
+  pub upto : n ≤ window.last

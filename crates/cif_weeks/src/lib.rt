@@ -1,0 +1,8 @@
+//! Masks of weeks and records that are joined over weeks, in two canonical forms, and why what
+//! runs on each day determines them.
+#![tactic(auto)]
+
+mod form;
+pub mod laws;
+
+pub use form::Form;
