@@ -1,9 +1,11 @@
 pub mod Aligned
 pub mod Applies
 pub mod Canonical
+pub mod Growing
 pub mod HaveForm
 pub mod Meets
 pub mod Permanent
 pub mod Separate
+pub mod WeekMasks
 pub mod WhatRuns
 pub mod Window

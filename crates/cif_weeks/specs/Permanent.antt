@@ -1,5 +1,7 @@
 -- Permanent records of one key, and sets of them.
-use Rattle.std.specs.Prelude.{ℕ, List, Bool}
+use Rattle.std.specs.Prelude.{ℕ, List, Bool, Some}
+use Rattle.cif_columns.specs.declared.stp.Stp.TheVariants.{P}
+use Rattle.cif_calendar.specs.Terms.{Terms}
 
 -- What a permanent record says, its key aside: its first and last day, its mask (seven weekdays, Monday first) and what
 -- runs. B is the type of bodies.
@@ -12,3 +14,7 @@ pub record Permanent (B : Type 0) : Type 0 where
 -- a set of records, as the property of being one of them
 abbrev pub Permanents : Type 0 → Type 1
 Permanents B = Permanent B → Type 0
+
+-- its terms as those of an entry: the letter is P
+abbrev pub terms_of : {B : Type 0} → Permanent B → Terms B
+terms_of r = record { first = r.first; last = r.last; days = r.days; letter = P; body = Some r.body }

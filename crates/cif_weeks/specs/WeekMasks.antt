@@ -1,0 +1,33 @@
+-- Steps to the runs: the weekdays of a body week by week. No public clause cites them.
+use Rattle.std.specs.Prelude.{◌≡◌, ℕ, ◌+◌, ◌<◌, ◌≤◌, Bool, List, length, Option, Some, ◌↔◌}
+use Rattle.cif_columns.specs.Day.{week_of, weekday_of}
+use Rattle.cif_columns.specs.DaysRun.{RunsOn}
+use Rattle.cif_weeks.specs.declared.form.Form.{Form}
+use Rattle.cif_weeks.specs.declared.form.Form.TheVariants.{One, Two}
+use Rattle.cif_weeks.specs.Window.{Window, IsWithin}
+use Rattle.cif_weeks.specs.Separate.{ExactlyOne}
+
+-- the mask of body b in a week has the weekdays on which it runs
+pub record IsMask {B : Type 0} (body_on : ℕ → Option B) (b : B) (week : ℕ) (mask : List Bool) : Type 0 where
+  pub seven : length mask ≡ 7
+  pub shows : (n : ℕ) → week_of n ≡ week → body_on n ≡ Some b → RunsOn mask (weekday_of n)
+  pub only : (w : ℕ) → RunsOn mask w → (n : ℕ) × (week_of n ≡ week) × (weekday_of n ≡ w) × (body_on n ≡ Some b)
+
+-- A week and the next have to agree on this weekday: in form 1 on each, and in form 2 on those whose days in both weeks lie
+-- in the window.
+abbrev pub Counts : Form → Window → ℕ → ℕ → Type 0
+Counts One window week w = Unit {0}
+Counts Two window week w = (n : ℕ) × (week_of n ≡ week) × (weekday_of n ≡ w) × IsWithin window n × IsWithin window (n + 7)
+
+-- the masks of a week and the next agree, or differ, where they have to agree
+abbrev pub Agree : Form → Window → ℕ → List Bool → List Bool → Type 0
+Agree form window week this next = (w : ℕ) → w < 7 → Counts form window week w → RunsOn this w ↔ RunsOn next w
+
+abbrev pub Differ : Form → Window → ℕ → List Bool → List Bool → Type 0
+Differ form window week this next = (w : ℕ) × (w < 7) × Counts form window week w × ExactlyOne (RunsOn this w) (RunsOn next w)
+
+-- day n is the last of the week whose weekday is in the mask
+pub record IsLastDay (week : ℕ) (mask : List Bool) (n : ℕ) : Type 0 where
+  pub in_week : week_of n ≡ week
+  pub runs : RunsOn mask (weekday_of n)
+  pub latest : (m : ℕ) → week_of m ≡ week → RunsOn mask (weekday_of m) → m ≤ n
