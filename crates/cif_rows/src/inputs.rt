@@ -2,6 +2,7 @@
 use crate::lines::{
     CALL, EXTRA, HEADER, HEADER_FROM_WEDNESDAY, HEADER_OF_2130, LOCATION, LineText, TERMINUS,
     TRAILER, association, basic, basic_of, cancellation, cancelled_association, joined, origin,
+    with,
 };
 use std::alloc::{AllocError, Global};
 
@@ -234,5 +235,32 @@ pub(crate) fn permanents_with_equal_bodies(alloc: Global) -> Result<Vec<u8>, All
         &basic(b"260106", b"260106", b"0100000", b'P'),
         b"1  ",
         &[],
+    )
+}
+
+/// Two permanent schedules of one Monday and Tuesday, from two platforms: no weekday but Friday is
+/// in both masks.
+pub(crate) fn permanents_that_share_no_date(alloc: Global) -> Result<Vec<u8>, AllocError> {
+    two_schedules(
+        alloc,
+        &basic(b"260105", b"260106", b"1000100", b'P'),
+        &basic(b"260105", b"260106", b"0100100", b'P'),
+        b"2  ",
+        &[],
+    )
+}
+
+/// A train on all days of a hundred years, in a window of these years.
+pub(crate) fn hundred_years(alloc: Global) -> Result<Vec<u8>, AllocError> {
+    joined(
+        alloc,
+        &[
+            &with(HEADER, 49, b"010160311259"),
+            &basic(b"600101", b"591231", b"1111111", b'P'),
+            EXTRA,
+            &origin(b"1  "),
+            TERMINUS,
+            TRAILER,
+        ],
     )
 }

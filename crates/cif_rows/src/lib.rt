@@ -19,6 +19,8 @@ mod lines;
 #[cfg(test)]
 mod order;
 #[cfg(test)]
+mod pieces;
+#[cfg(test)]
 mod plain_reading;
 #[cfg(test)]
 mod readings;
