@@ -1,7 +1,8 @@
 //! Whole extracts, worked by hand.
 use crate::lines::{
-    CALL, EXTRA, HEADER, HEADER_FROM_WEDNESDAY, HEADER_OF_2130, LOCATION, TERMINUS, TRAILER,
-    association, basic, basic_of, cancellation, cancelled_association, joined, origin,
+    CALL, EXTRA, HEADER, HEADER_FROM_WEDNESDAY, HEADER_OF_2130, LOCATION, LineText, TERMINUS,
+    TRAILER, association, basic, basic_of, cancellation, cancelled_association, joined, origin,
+    with,
 };
 use std::alloc::{AllocError, Global};
 
@@ -148,4 +149,118 @@ pub(crate) fn locations(alloc: Global, count: u8) -> Result<Vec<u8>, AllocError>
     }
     bytes.extend_from_slice(TRAILER)?;
     Ok(bytes)
+}
+
+/// A train on each day of one week; on its Wednesday an overlay from another platform and a new
+/// schedule from a third, followed by these lines.
+pub(crate) fn new_schedule_beside_an_overlay(
+    alloc: Global,
+    further: &[&[u8]],
+) -> Result<Vec<u8>, AllocError> {
+    let mut bytes = joined(
+        alloc,
+        &[
+            HEADER,
+            &basic(b"260105", b"260111", b"1111111", b'P'),
+            EXTRA,
+            &origin(b"1  "),
+            TERMINUS,
+            &basic(b"260107", b"260107", b"0010000", b'O'),
+            EXTRA,
+            &origin(b"2  "),
+            TERMINUS,
+            &basic(b"260107", b"260107", b"0010000", b'N'),
+            EXTRA,
+            &origin(b"3  "),
+            TERMINUS,
+        ],
+    )?;
+    for line in further {
+        bytes.extend_from_slice(line)?;
+    }
+    bytes.extend_from_slice(TRAILER)?;
+    Ok(bytes)
+}
+
+/// Two schedules, the first with this BS and from platform 1, the second with that BS and from that
+/// platform, followed by these lines.
+fn two_schedules(
+    alloc: Global,
+    first: &LineText,
+    second: &LineText,
+    platform: &[u8; 3],
+    further: &[&[u8]],
+) -> Result<Vec<u8>, AllocError> {
+    let mut bytes = joined(
+        alloc,
+        &[
+            HEADER,
+            first,
+            EXTRA,
+            &origin(b"1  "),
+            TERMINUS,
+            second,
+            EXTRA,
+            &origin(platform),
+            TERMINUS,
+        ],
+    )?;
+    for line in further {
+        bytes.extend_from_slice(line)?;
+    }
+    bytes.extend_from_slice(TRAILER)?;
+    Ok(bytes)
+}
+
+/// A permanent train from Monday to Wednesday and another permanent schedule of it on the Tuesday,
+/// from another platform, followed by these lines.
+pub(crate) fn permanents_that_clash(
+    alloc: Global,
+    further: &[&[u8]],
+) -> Result<Vec<u8>, AllocError> {
+    two_schedules(
+        alloc,
+        &basic(b"260105", b"260107", b"1110000", b'P'),
+        &basic(b"260106", b"260106", b"0100000", b'P'),
+        b"2  ",
+        further,
+    )
+}
+
+/// The same where both leave from one platform.
+pub(crate) fn permanents_with_equal_bodies(alloc: Global) -> Result<Vec<u8>, AllocError> {
+    two_schedules(
+        alloc,
+        &basic(b"260105", b"260107", b"1110000", b'P'),
+        &basic(b"260106", b"260106", b"0100000", b'P'),
+        b"1  ",
+        &[],
+    )
+}
+
+/// Two permanent schedules of one Monday and Tuesday, from two platforms: no weekday but Friday is
+/// in both masks.
+pub(crate) fn permanents_that_share_no_date(alloc: Global) -> Result<Vec<u8>, AllocError> {
+    two_schedules(
+        alloc,
+        &basic(b"260105", b"260106", b"1000100", b'P'),
+        &basic(b"260105", b"260106", b"0100100", b'P'),
+        b"2  ",
+        &[],
+    )
+}
+
+/// A train on all days of a hundred years, in a window of these years.
+pub(crate) fn hundred_years(alloc: Global) -> Result<Vec<u8>, AllocError> {
+    joined(
+        alloc,
+        &[
+            &with(HEADER, 49, b"010160311259"),
+            &basic(b"600101", b"591231", b"1111111", b'P'),
+            EXTRA,
+            &origin(b"1  "),
+            TERMINUS,
+            TRAILER,
+        ],
+    )
 }

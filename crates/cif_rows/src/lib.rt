@@ -1,9 +1,11 @@
-//! Worked extracts and damaged ones, and what reading them answers: tests alone, over the public
-//! calls of the crates below.
+//! Worked extracts and damaged ones, what reading them answers, and what runs by them: tests alone,
+//! over the public calls of the crates below.
 #![tactic(auto)]
 
 #[cfg(test)]
 mod bodies;
+#[cfg(test)]
+mod calendars;
 #[cfg(test)]
 mod damaged;
 #[cfg(test)]
@@ -16,6 +18,8 @@ mod inputs;
 mod lines;
 #[cfg(test)]
 mod order;
+#[cfg(test)]
+mod pieces;
 #[cfg(test)]
 mod plain_reading;
 #[cfg(test)]

@@ -27,7 +27,7 @@ pub(crate) fn read_byte_by_byte(
 }
 
 /// What the bytes are read as.
-fn extract_of(alloc: Global, bytes: &[u8]) -> Result<Extract, Fail> {
+pub(crate) fn extract_of(alloc: Global, bytes: &[u8]) -> Result<Extract, Fail> {
     Ok(read_whole(alloc, bytes, 100).map_err(|_| "an extract")?)
 }
 
