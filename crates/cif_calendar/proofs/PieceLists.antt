@@ -115,14 +115,14 @@ place-below (q ∷ qs) a b d (suc i) t from before p =
     let over : q.last < d = p.before zero q (omega arith) (omega arith) in
     let rest = place-below qs (q.last + 1) b d i t.2 (omega arith) before (place-rest q qs d i p) in omega (arith, rest)
 
--- and it has the source of the day
-pub place-source : (ps : List Piece) (a b d i : ℕ) (e : Piece) → Tiles ps a b → a ≤ d → d < b → IsPlaceOf ps d i →
-    winner_of (get_or ps i e) d ≡ source_at ps d
-place-source [] a b d i e t from before p = absurd (let same : a ≡ b = t in omega arith)
-place-source (q ∷ qs) a b d zero e t from before p = sym (source_at-first q qs d (p.at e (omega arith)))
-place-source (q ∷ qs) a b d (suc i) e t from before p =
-    let over : q.last < d = p.before zero e (omega arith) (omega arith) in
-    place-source qs (q.last + 1) b d i e t.2 (omega arith) before (place-rest q qs d i p) ∙ sym (source_at-rest q qs d over)
+-- and it has the day
+pub place-from : (ps : List Piece) (a b d i : ℕ) (e : Piece) → Tiles ps a b → a ≤ d → IsPlaceOf ps d i → i < length ps →
+    (get_or ps i e).first ≤ d
+place-from [] a b d i e t from p below = absurd (omega arith)
+place-from (q ∷ qs) a b d zero e t from p below = let at : q.first ≡ a = t.0 in omega arith
+place-from (q ∷ qs) a b d (suc i) e t from p below =
+    let over : q.last < d = p.before zero q (omega arith) (omega arith) in
+    place-from qs (q.last + 1) b d i e t.2 (omega arith) (place-rest q qs d i p) (omega arith)
 
 -- a search by the last days finds that place
 pub place-from_point : (ps : List Piece) (d i : ℕ) →

@@ -50,9 +50,21 @@ impl Calendar {
         ensures piece { (p : _) → Contains self.now.pieces p → p.first ≤ day → day ≤ p.last →
             result ≡ winner_of p day }
     {
+        self.piece_on(day).winners[day.weekday() as usize]
+    }
+
+    /// The piece that has the date.
+    pub fn piece_on(&self, day: Day) -> &Piece
+        requires from { self.now.first ≤ day }
+        requires upto { day ≤ self.now.last }
+        ensures listed { Contains self.now.pieces result.now }
+        ensures from { result.now.first ≤ day }
+        ensures upto { day ≤ result.now.last }
+        ensures tiles { Tiles self.now.pieces self.now.first (self.now.last + 1) }
+    {
         let pieces = self.pieces();
         let i = pieces.partition_point(|piece| piece.last < day);
-        pieces[i].winners[day.weekday() as usize]
+        &pieces[i]
     }
 
     /// The dates of which it tells.

@@ -1,0 +1,36 @@
+use Rattle.std.proofs.Common.{◌+◌, ◌≤◌, List, ltb, subst, sym, arith, rules}
+use Rattle.std.specs.Prelude.{Contains}
+use Rattle.std.proofs.lemmas.List.Sorted.{IsPartitionPoint-from_clause, IsPartitionedBy-ltb}
+use Rattle.cif_calendar.specs.declared.piece.Piece.{Piece}
+use Rattle.cif_calendar.proofs.PieceLists.{IsPlaceOf, place-from_point, place-below, place-from, tiles-rise}
+use Rattle.cif_calendar.proofs.key_calendar.Calendar.piece_on.Goals as goal
+use Rattle.cif_calendar.proofs.key_calendar.Calendar.piece_on.Goals.{After-partition_point-i}
+
+place : (c : After-partition_point-i) → IsPlaceOf c.pieces-pieces.result.now c.args.day c.partition_point-i.result
+place c =
+    let rise = tiles-rise _ _ _ c.pieces-pieces.ensures.tiles in
+    place-from_point _ _ _ (IsPartitionPoint-from_clause (λ (p : Piece). ltb p.last c.args.day) _ _
+    c.partition_point-i.ensures.partitioned (IsPartitionedBy-ltb (λ (p : Piece). p.last) _ c.args.day rise) (λ a r q k. search rules))
+
+pub bounds-pieces-i : goal.bounds-pieces-i
+bounds-pieces-i c =
+    place-below c.pieces-pieces.result.now c.args.self.now.first (c.args.self.now.last + 1) c.args.day c.partition_point-i.result
+    c.pieces-pieces.ensures.tiles c.requires.from (omega (arith, c.requires.upto)) (place c)
+
+pub returns-clause-listed : goal.returns-clause-listed
+returns-clause-listed c =
+    subst (λ (ps : List Piece). Contains ps c.index-pieces-i.result) c.pieces-pieces.ensures.pieces
+    (c.partition_point-i.result, bounds-pieces-i (goal.at.returns-clause-listed c).After-partition_point-i, sym c.index-pieces-i.is)
+
+pub returns-clause-from : goal.returns-clause-from
+returns-clause-from c =
+    let here = (goal.at.returns-clause-from c).After-partition_point-i in
+    subst (λ (p : Piece). p.first ≤ c.args.day) (sym c.index-pieces-i.is)
+    (place-from c.pieces-pieces.result.now c.args.self.now.first (c.args.self.now.last + 1) c.args.day c.partition_point-i.result
+    c.index-pieces-i.result c.pieces-pieces.ensures.tiles c.requires.from (place here) (bounds-pieces-i here))
+
+pub returns-clause-upto : goal.returns-clause-upto
+returns-clause-upto c =
+    let here = (goal.at.returns-clause-upto c).After-partition_point-i in
+    subst (λ (p : Piece). c.args.day ≤ p.last) (sym c.index-pieces-i.is)
+    ((place here).at c.index-pieces-i.result (bounds-pieces-i here))
