@@ -4,10 +4,11 @@
 //! a BX, and each has some 14 calls on its way. What stands in the records is made up, in the forms that
 //! an extract has. All are accepted, and all but one in a hundred are plain lines.
 
+mod journey_records;
 mod records;
 
-use records::{ALLOWANCES, LINES, LOCATIONS, Line, Numbers, PLATFORMS};
-use records::{basic, change, hour_and_minute, loosen, stop};
+use journey_records::{extra, origin, terminus};
+use records::{LOCATIONS, Line, Numbers, basic, change, loosen, stop};
 use std::env;
 use std::io::{self, BufWriter, Write};
 use std::process::ExitCode;
@@ -60,48 +61,6 @@ fn association(numbers: &mut Numbers) -> Line {
         line.put(47, numbers.among(&["TP", "TO"]));
     }
     line.put(80, letter);
-    line
-}
-
-fn extra(numbers: &mut Numbers) -> Line {
-    let mut line = Line::of("BX");
-    line.put(12, numbers.among(&["SR", "GR", "XC", "TP"]));
-    line.put(14, "Y");
-    line
-}
-
-/// Puts the time of the first or the last location at this minute of the day, and the public time.
-fn put_times(numbers: &mut Numbers, line: &mut Line, minute: u64) {
-    let at = hour_and_minute(minute);
-    let half = if numbers.one_in(6) { "H" } else { "" };
-    line.put(11, &format!("{at}{half}"));
-    line.put(16, if numbers.one_in(8) { "0000" } else { &at });
-    if numbers.one_in(2) {
-        line.put(20, numbers.among(&PLATFORMS));
-    }
-    if numbers.one_in(6) {
-        line.put(23, numbers.among(&LINES));
-    }
-}
-
-fn origin(numbers: &mut Numbers, minute: u64) -> Line {
-    let mut line = Line::of("LO");
-    line.put(3, numbers.among(&LOCATIONS));
-    put_times(numbers, &mut line, minute);
-    for first in [26, 28, 42] {
-        if numbers.one_in(15) {
-            line.put(first, numbers.among(&ALLOWANCES));
-        }
-    }
-    line.put(30, numbers.among(&["TB", "TB", "TBA", "TBRM"]));
-    line
-}
-
-fn terminus(numbers: &mut Numbers, minute: u64) -> Line {
-    let mut line = Line::of("LT");
-    line.put(3, numbers.among(&LOCATIONS));
-    put_times(numbers, &mut line, minute);
-    line.put(26, numbers.among(&["TF", "TF", "TFA"]));
     line
 }
 
