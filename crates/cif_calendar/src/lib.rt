@@ -17,7 +17,7 @@ pub use key_calendar::Calendar;
 pub use piece::Piece;
 pub use stretches::calendar;
 pub use window::Window;
-pub use winner::{BodiesDiffer, winner_on};
+pub use winner::{BodiesDiffer, same_body, winner_on};
 
 #[cfg(test)]
 mod tests;

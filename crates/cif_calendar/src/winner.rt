@@ -32,7 +32,8 @@ fn applies<E: Entry>(entry: &E, day: Day) -> bool
     entry.first() <= day && day <= entry.last() && entry.days().has(day.weekday())
 }
 
-fn same_body<E: Entry>(one: &E, other: &E) -> bool
+/// Whether two entries have the same body, or both have none.
+pub fn same_body<E: Entry>(one: &E, other: &E) -> bool
     ensures { IsTrue result ↔ ((E.terms one.now).body ≡ (E.terms other.now).body) }
 {
     match (one.body(), other.body()) {

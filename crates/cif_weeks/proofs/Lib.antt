@@ -5,3 +5,7 @@ pub mod Separate
 pub mod Unique
 pub mod UniqueByKey
 pub mod WeekDays
+pub mod SourcesIn
+pub mod Rows
+pub mod RowMasks
+pub mod AlikeWeeks

@@ -5,7 +5,9 @@ pub mod Growing
 pub mod HaveForm
 pub mod Meets
 pub mod Permanent
+pub mod Runs
 pub mod Separate
 pub mod WeekMasks
+pub mod WeekRows
 pub mod WhatRuns
 pub mod Window

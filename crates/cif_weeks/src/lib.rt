@@ -3,6 +3,9 @@
 #![tactic(auto)]
 
 mod form;
+mod run;
+mod week_rows;
 pub mod laws;
 
 pub use form::Form;
+pub use run::Run;

@@ -1,0 +1,34 @@
+-- The source of a day, and none outside the window.
+use Rattle.std.proofs.Common.{◌≡◌, ◌⊎◌, ℕ, ◌+◌, ◌<◌, ◌≤◌, Option, Some, None, leb, sym, ◌∙◌, ⊎_elim, arith}
+use Rattle.std.proofs.lemmas.Bool.{cond-true, cond-false, cases_lt, le-leb, lt-leb}
+use Rattle.cif_calendar.specs.Pieces.{source_at}
+use Rattle.cif_calendar.specs.Calendar.{CalendarParts}
+use Rattle.cif_weeks.specs.Window.{IsWithin}
+use Rattle.cif_weeks.specs.Runs.{window_of}
+use Rattle.cif_weeks.specs.WeekRows.{source_in}
+
+module _ (c : CalendarParts) (n : ℕ) where
+  pub source_in-within : c.first ≤ n → n ≤ c.last → source_in c n ≡ source_at c.pieces n
+  source_in-within from upto =
+      cond-true (leb c.first n) _ _ (le-leb c.first n from) ∙ cond-true (leb n c.last) _ _ (le-leb n c.last upto)
+
+  pub source_in-before : n < c.first → source_in c n ≡ None
+  source_in-before h = cond-false (leb c.first n) _ _ (lt-leb c.first n h)
+
+  pub source_in-after : c.last < n → source_in c n ≡ None
+  source_in-after h = ⊎_elim
+      (λ before. source_in-before before)
+      (λ from. cond-true (leb c.first n) _ _ (le-leb c.first n from) ∙ cond-false (leb n c.last) _ _ (lt-leb n c.last h))
+      (cases_lt n c.first)
+
+  pub source_in-inside : (i : ℕ) → source_in c n ≡ Some i → IsWithin (window_of c) n
+  source_in-inside i e = record {
+    from = ⊎_elim
+        (λ before. absurd (let no : None ≡ Some i = sym (source_in-before before) ∙ e in cc))
+        (λ from. from)
+        (cases_lt n c.first);
+    upto = ⊎_elim
+        (λ after. absurd (let no : None ≡ Some i = sym (source_in-after after) ∙ e in cc))
+        (λ upto. upto)
+        (cases_lt c.last n);
+  }

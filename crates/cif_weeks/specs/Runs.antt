@@ -1,0 +1,37 @@
+-- The runs of a calendar: its canonical records, by the positions of their bodies.
+use Rattle.std.specs.Prelude.{◌≡◌, ℕ, ◌≤◌, Bool, List, [], ◌∷◌, Option, Some, None, IsSome, nat_le, if◌then◌else◌, ◌&&◌}
+use Rattle.cif_calendar.specs.Terms.{Terms}
+use Rattle.cif_calendar.specs.Source.{body_at}
+use Rattle.cif_calendar.specs.Pieces.{source_at}
+use Rattle.cif_calendar.specs.Calendar.{CalendarParts, body_on}
+use Rattle.cif_weeks.specs.declared.form.Form.{Form}
+use Rattle.cif_weeks.specs.declared.run.Run.{Run}
+use Rattle.cif_weeks.specs.Window.{Window}
+use Rattle.cif_weeks.specs.Permanent.{Permanent}
+use Rattle.cif_weeks.specs.Meets.{Meets}
+
+-- each source of the calendar is the position of an entry with a body
+pub record AreSources {B : Type 0} (xs : List (Terms B)) (c : CalendarParts) : Type 0 where
+  pub bodied : (n i : ℕ) → c.first ≤ n → n ≤ c.last → source_at c.pieces n ≡ Some i → IsSome (body_at xs (Some i))
+
+-- the window of a calendar
+abbrev pub window_of : CalendarParts → Window
+window_of c = record { first = c.first; last = c.last }
+
+-- The run has the dates and the mask of permanent record r, and its source is the position of an entry with r's body.
+pub record IsRunOf {B : Type 0} (xs : List (Terms B)) (run : Run) (r : Permanent B) : Type 0 where
+  pub record_is : r ≡ record { first = run.first; last = run.last; days = run.days; body = r.body }
+  pub body : body_at xs (Some run.source) ≡ Some r.body
+
+-- the runs are those of the records, one by one
+abbrev pub AreRunsOf : {B : Type 0} → List (Terms B) → List Run → List (Permanent B) → Type 0
+AreRunsOf xs [] [] = Unit {0}
+AreRunsOf xs [] (r ∷ rs) = ⊥
+AreRunsOf xs (run ∷ runs) [] = ⊥
+AreRunsOf xs (run ∷ runs) (r ∷ rs) = IsRunOf xs run r × AreRunsOf xs runs rs
+
+-- The runs are those of the canonical records of the form: these say what runs by the calendar on each day of its window.
+pub record AreCanonicalRuns {B : Type 0} (form : Form) (xs : List (Terms B)) (c : CalendarParts) (runs : List Run) : Type 0 where
+  pub records : List (Permanent B)
+  pub runs_of : AreRunsOf xs runs records
+  pub meets : Meets form (window_of c) (body_on xs c) records

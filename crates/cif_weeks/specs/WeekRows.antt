@@ -1,0 +1,36 @@
+-- Steps to the runs: the sources of the days of a week. No public clause cites them.
+use Rattle.std.specs.Prelude.{◌≡◌, ℕ, ◌+◌, ◌<◌, ◌≤◌, Bool, List, [], length, Option, Some, None, slice_index_or, nat_le, if◌then◌else◌}
+use Rattle.std.specs.Prelude.{◌↔◌}
+use Rattle.cif_columns.specs.Day.{week_of, weekday_of}
+use Rattle.cif_columns.specs.DaysRun.{RunsOn}
+use Rattle.cif_calendar.specs.Terms.{Terms}
+use Rattle.cif_calendar.specs.Source.{body_at}
+use Rattle.cif_calendar.specs.Pieces.{source_at}
+use Rattle.cif_calendar.specs.Calendar.{CalendarParts}
+
+-- the source of day n, and none outside the window
+abbrev pub source_in : CalendarParts → ℕ → Option ℕ
+source_in c n = if nat_le c.first n then (if nat_le n c.last then source_at c.pieces n else None) else None
+
+-- the body that runs on day n, and none outside the window
+abbrev pub body_in : {B : Type 0} → List (Terms B) → CalendarParts → ℕ → Option B
+body_in xs c n = body_at xs (source_in c n)
+
+-- the sources of the days of the week before `next`, Monday first
+pub record IsRowBefore (c : CalendarParts) (next : ℕ) (row : List (Option ℕ)) : Type 0 where
+  pub seven : length row ≡ 7
+  pub each : (n : ℕ) → week_of n + 1 ≡ next → slice_index_or row (weekday_of n) None ≡ source_in c n
+  pub only : (w i : ℕ) → slice_index_or row w None ≡ Some i → (n : ℕ) × (week_of n + 1 ≡ next) × (weekday_of n ≡ w)
+
+-- the weekdays of a row on which the body at this position runs
+pub record IsMaskOf {B : Type 0} (xs : List (Terms B)) (row : List (Option ℕ)) (source : ℕ) (mask : List Bool) : Type 0 where
+  pub seven : length mask ≡ 7
+  pub runs : (w : ℕ) → RunsOn mask w ↔ ((i : ℕ) × (slice_index_or row w None ≡ Some i) × (body_at xs (Some i) ≡ body_at xs (Some source)))
+
+-- each source of a row is the position of a record
+pub record ArePositions {B : Type 0} (xs : List (Terms B)) (row : List (Option ℕ)) : Type 0 where
+  pub below : (w i : ℕ) → slice_index_or row w None ≡ Some i → i < length xs
+
+-- from week `week` to week `last` each day has the source of the day seven later
+pub record AreAlikeUpTo (c : CalendarParts) (week last : ℕ) : Type 0 where
+  pub same : (n : ℕ) → week ≤ week_of n → week_of n < last → source_in c (n + 7) ≡ source_in c n
