@@ -1,4 +1,9 @@
 pub mod AlignedDays
+pub mod Ended
+pub mod Growing
+pub mod Grown
+pub mod Jump
+pub mod Masks
 pub mod Meeting
 pub mod RisingLists
 pub mod Separate

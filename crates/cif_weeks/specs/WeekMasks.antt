@@ -31,3 +31,9 @@ pub record IsLastDay (week : ℕ) (mask : List Bool) (n : ℕ) : Type 0 where
   pub in_week : week_of n ≡ week
   pub runs : RunsOn mask (weekday_of n)
   pub latest : (m : ℕ) → week_of m ≡ week → RunsOn mask (weekday_of m) → m ≤ n
+
+-- The k weeks from `week` on are alike, and so is the one after them: on each of their days runs what runs seven days later.
+-- None of the weeks is that of day 0, which begins before that day.
+pub record AreAlike {B : Type 0} (body_on : ℕ → Option B) (week k : ℕ) : Type 0 where
+  pub same : (n : ℕ) → week ≤ week_of n → week_of n < week + k → body_on (n + 7) ≡ body_on n
+  pub whole : 0 < k → 0 < week
