@@ -14,3 +14,5 @@ pub mod SourcesIn
 pub mod Rows
 pub mod RowMasks
 pub mod AlikeWeeks
+pub mod AgreedDays
+pub mod Growth

@@ -18,9 +18,13 @@ pub record AreSources {B : Type 0} (xs : List (Terms B)) (c : CalendarParts) : T
 abbrev pub window_of : CalendarParts → Window
 window_of c = record { first = c.first; last = c.last }
 
+-- the record of body b with the dates and the mask of a run
+abbrev pub record_of : {B : Type 0} → Run → B → Permanent B
+record_of run b = record { first = run.first; last = run.last; days = run.days; body = b }
+
 -- The run has the dates and the mask of permanent record r, and its source is the position of an entry with r's body.
 pub record IsRunOf {B : Type 0} (xs : List (Terms B)) (run : Run) (r : Permanent B) : Type 0 where
-  pub record_is : r ≡ record { first = run.first; last = run.last; days = run.days; body = r.body }
+  pub dates : r ≡ record_of run r.body
   pub body : body_at xs (Some run.source) ≡ Some r.body
 
 -- the runs are those of the records, one by one

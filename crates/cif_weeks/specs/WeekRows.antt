@@ -31,6 +31,8 @@ pub record IsMaskOf {B : Type 0} (xs : List (Terms B)) (row : List (Option ℕ))
 pub record ArePositions {B : Type 0} (xs : List (Terms B)) (row : List (Option ℕ)) : Type 0 where
   pub below : (w i : ℕ) → slice_index_or row w None ≡ Some i → i < length xs
 
--- from week `week` to week `last` each day has the source of the day seven later
+-- On each day of the weeks from `week` on and before `last` the source is that of the day seven later. None of them is the
+-- week of day 0, which begins before that day.
 pub record AreAlikeUpTo (c : CalendarParts) (week last : ℕ) : Type 0 where
+  pub whole : week < last → 0 < week
   pub same : (n : ℕ) → week ≤ week_of n → week_of n < last → source_in c (n + 7) ≡ source_in c n

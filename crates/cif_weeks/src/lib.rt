@@ -3,6 +3,7 @@
 #![tactic(auto)]
 
 mod form;
+mod longest;
 mod run;
 mod week_rows;
 pub mod laws;

@@ -26,6 +26,15 @@ pub(crate) fn day_in(week: u32, weekday: u8) -> Option<Day>
     Day::from_number(u16::try_from(number).ok()?)
 }
 
+/// The last week with a day of the window.
+pub(crate) fn last_week(calendar: &Calendar) -> u32
+    ensures week { result ≡ week_of calendar.now.last }
+    ensures in_range { IsDay calendar.now.last }
+{
+    let last = calendar.window().last;
+    last.week()
+}
+
 /// The sources of the days of a week.
 pub(crate) fn row_of(calendar: &Calendar, week: u32) -> Row
     requires small { week ≤ 6000 }

@@ -1,0 +1,71 @@
+-- Steps to the longest run that begins on a day.
+use Rattle.std.proofs.Common.{◌≡◌, ◌⊎◌, ℕ, ◌+◌, ◌-◌, ◌*◌, ◌<◌, ◌≤◌, Bool, List, length, Option, None, Some, get_or, map, inl, inr, sym, ◌∙◌, ap, subst, arith, refl}
+use Rattle.std.specs.Prelude.{◌↔◌, IsSome, slice_get}
+use Rattle.std.specs.Option.{option_and_then}
+use Rattle.std.proofs.lemmas.Option.{slice_get_within}
+use Rattle.cif_columns.specs.Day.{IsDay, week_of, weekday_of}
+use Rattle.cif_columns.specs.DaysRun.{RunsOn}
+use Rattle.cif_calendar.specs.Terms.{Terms}
+use Rattle.cif_calendar.specs.Source.{body_at}
+use Rattle.cif_calendar.specs.Pieces.{source_at}
+use Rattle.cif_calendar.specs.Calendar.{CalendarParts}
+use Rattle.cif_weeks.specs.declared.form.Form.{Form}
+use Rattle.cif_weeks.specs.Window.{Window, IsWithin}
+use Rattle.cif_weeks.specs.Permanent.{Permanent}
+use Rattle.cif_weeks.specs.Growing.{IsGrown, HasEnded}
+use Rattle.cif_weeks.specs.WeekMasks.{Agree, Differ, IsLastDay, IsMask}
+use Rattle.cif_weeks.specs.Runs.{AreSources, window_of}
+use Rattle.cif_weeks.specs.WeekRows.{source_in, body_in, IsRowBefore, IsMaskOf, ArePositions, AreAlikeUpTo}
+use Rattle.cif_weeks.proofs.Masks.{last_runs}
+use Rattle.cif_weeks.proofs.Growing.{grown_start, grown_more}
+use Rattle.cif_weeks.proofs.Ended.{ended_differ, ended_rest, ended_window}
+use Rattle.cif_weeks.proofs.Jump.{grown_jump, mask_alike}
+use Rattle.cif_weeks.proofs.AlikeWeeks.{alike-bodies}
+use Rattle.cif_weeks.proofs.SourcesIn.{source_in-within, source_in-inside}
+
+module _ {B : Type 0} (xs : List (Terms B)) (c : CalendarParts) (sources : AreSources xs c) where
+  -- a body runs in the window alone, and has a source there
+  body-source : (o : Option ℕ) (b : B) → body_at xs o ≡ Some b → (i : ℕ) × (o ≡ Some i)
+  body-source None b e = absurd (cc)
+  body-source (Some i) b e = (i, refl)
+
+  pub inside : (n : ℕ) (b : B) → body_in xs c n ≡ Some b → IsWithin (window_of c) n
+  inside n b runs = let (i, is) = body-source (source_in c n) b runs in source_in-inside c n i is
+
+  -- a source of the calendar is a position
+  pub source-below : (n i : ℕ) → source_in c n ≡ Some i → i < length xs
+  source-below n i is =
+      let within = source_in-inside c n i is in
+      below (slice_get xs i) refl (sources.bodied n i within.from within.upto (sym (source_in-within c n within.from within.upto) ∙ is)) where
+        below : (o : Option (Terms B)) → slice_get xs i ≡ o → IsSome (option_and_then (λ (r : Terms B). r.body) (slice_get xs i)) → i < length xs
+        below None at h = let no : IsSome {A = B} None = subst (λ v. IsSome (option_and_then (λ (r : Terms B). r.body) v)) at h in absurd (cc)
+        below (Some r) at h = slice_get_within xs i r at
+
+  pub row-positions : (next : ℕ) (row : List (Option ℕ)) → IsRowBefore c next row → ArePositions xs row
+  row-positions next row r = record {
+    below = λ w i is.
+        let (n, in_week, day) = r.only w i is in
+        source-below n i (sym (r.each n in_week) ∙ ap (λ v. get_or row v None) day ∙ is);
+  }
+
+  -- the mask of a row is that of the body in the row's week
+  pub mask-of_row : (week source : ℕ) (b : B) (row : List (Option ℕ)) (mask : List Bool) → IsRowBefore c (week + 1) row →
+      body_at xs (Some source) ≡ Some b → IsMaskOf xs row source mask → IsMask (body_in xs c) b week mask
+  mask-of_row week source b row mask r is m = record {
+    seven = m.seven;
+    shows = λ n at runs.
+        let (i, source_is) = body-source (source_in c n) b runs in
+        (m.runs (weekday_of n)).1 (i, r.each n (omega arith) ∙ source_is, ap (body_at xs) (sym source_is) ∙ runs ∙ sym is);
+    only = λ w on.
+        let (i, at, same) = (m.runs w).0 on in
+        let (n, in_week, day) = r.only w i at in
+        let source_is : source_in c n ≡ Some i = sym (r.each n in_week) ∙ ap (λ v. get_or row v None) day ∙ at in
+        (n, (let week_is : week_of n ≡ week = omega arith in week_is), day, ap (body_at xs) source_is ∙ same ∙ is);
+  }
+
+  -- a day of a mask is one of the calendar's
+  pub mask-days : (week : ℕ) (b : B) (mask : List Bool) → IsDay c.last → IsMask (body_in xs c) b week mask → (w : ℕ) → RunsOn mask w →
+      (n : ℕ) × (week_of n ≡ week) × (weekday_of n ≡ w) × IsDay n
+  mask-days week b mask last m w on =
+      let (n, in_week, day, runs) = m.only w on in
+      (n, in_week, day, (let upto : n ≤ c.last = (inside n b runs).upto in omega arith))

@@ -1,0 +1,6 @@
+use Rattle.cif_weeks.specs.Runs.{window_of}
+use Rattle.cif_weeks.proofs.AgreedDays.{AgreeUpTo}
+use Rattle.cif_weeks.proofs.longest.agree.Given as goal
+
+abbrev pub invariant-loop-weekday : goal.invariant-loop-weekday
+invariant-loop-weekday l = AgreeUpTo l.form (window_of l.calendar) l.next l.weekday l.before l.days

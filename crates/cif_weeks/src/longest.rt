@@ -1,0 +1,132 @@
+//! The longest run of a body that begins on a date.
+
+ghost use Rattle.std.specs.Prelude.{◌≡◌, ◌<◌, ◌≤◌, ◌+◌, ◌*◌, ◌↔◌, ℕ, Some, length, map, IsTrue, MatchBool};
+ghost use Rattle.cif_columns.specs.Day.{IsDay, week_of};
+ghost use Rattle.cif_calendar.specs.Source.{body_at};
+ghost use Rattle.cif_weeks.specs.Growing.{HasEnded, IsGrown};
+ghost use Rattle.cif_weeks.specs.Runs.{AreSources, record_of, window_of};
+ghost use Rattle.cif_weeks.specs.WeekMasks.{Agree, Counts, Differ};
+ghost use Rattle.cif_weeks.specs.WeekRows.{body_in, source_in};
+
+use crate::form::Form;
+use crate::run::Run;
+use crate::week_rows::{last_alike, last_day, last_week, mask_of, row_of};
+use cif_calendar::{Calendar, Entry, Window};
+use cif_columns::{Day, DaysRun};
+
+/// Whether the dates of a weekday in the week before `next` and in this one lie in the window.
+fn lie_in_window(window: Window, next: u32, weekday: u8) -> bool
+    requires weekday { weekday < 7 }
+    requires small { next ≤ 6001 }
+    ensures { IsTrue result
+        ↔ (window.first + 11 ≤ next * 7 + weekday) × (next * 7 + weekday ≤ window.last + 4) }
+{
+    let day = next * 7 + u32::from(weekday);
+    day >= u32::from(window.first.number()) + 11 && day <= u32::from(window.last.number()) + 4
+}
+
+/// Whether the week before `next` and this one have to agree on a weekday: in form 1 always, and in
+/// form 2 where its dates in both lie in the window.
+fn counts(form: Form, calendar: &Calendar, next: u32, weekday: u8) -> bool
+    requires weekday { weekday < 7 }
+    requires small { next ≤ 6001 }
+    ensures { (week : ℕ) → week + 1 ≡ next →
+        IsTrue result ↔ Counts form (window_of calendar.now) week weekday }
+{
+    match form {
+        Form::One => true,
+        Form::Two => lie_in_window(calendar.window(), next, weekday),
+    }
+}
+
+/// Whether the masks of the week before `next` and of this one agree where they have to.
+pub(crate) fn agree(
+    form: Form,
+    calendar: &Calendar,
+    next: u32,
+    before: DaysRun,
+    days: DaysRun,
+) -> bool
+    requires small { next ≤ 6001 }
+    ensures { (week : ℕ) → week + 1 ≡ next → MatchBool result
+        (Agree form (window_of calendar.now) week before days)
+        (Differ form (window_of calendar.now) week before days) }
+{
+    for weekday in 0..7u8 {
+        if before.has(weekday) != days.has(weekday) && counts(form, calendar, next, weekday) {
+            return false;
+        }
+    }
+    true
+}
+
+/// The date so many weeks later.
+fn later(day: Day, weeks: u32) -> Day
+    requires { IsDay (day + 7 * weeks) }
+    ensures { result ≡ day + 7 * weeks }
+{
+    match u16::try_from(u32::from(day.number()) + 7 * weeks) {
+        Ok(number) => match Day::from_number(number) {
+            Some(later) => later,
+            None => unreachable!(),
+        },
+        Err(_) => unreachable!(),
+    }
+}
+
+/// The longest run that begins on `first` with the body of the entry at `source`, which runs then.
+pub(crate) fn longest<E: Entry>(
+    entries: &[E],
+    calendar: &Calendar,
+    form: Form,
+    first: Day,
+    source: usize,
+) -> Run
+    requires position { source < length entries.now }
+    requires sources { AreSources (map E.terms entries.now) calendar.now }
+    requires starts { source_in calendar.now first ≡ Some source }
+    requires earliest { (n : ℕ) → week_of n ≡ week_of first →
+        body_in (map E.terms entries.now) calendar.now n
+        ≡ body_at (map E.terms entries.now) (Some source) → first ≤ n }
+    ensures first { result.first ≡ first }
+    ensures source { result.source ≡ source }
+    ensures grown { (b : E.Body) → body_at (map E.terms entries.now) (Some source) ≡ Some b →
+        IsGrown form (window_of calendar.now) (body_in (map E.terms entries.now) calendar.now)
+        (record_of result b) }
+    ensures ended { (b : E.Body) → body_at (map E.terms entries.now) (Some source) ≡ Some b →
+        HasEnded form (window_of calendar.now) (body_in (map E.terms entries.now) calendar.now)
+        (record_of result b) }
+{
+    let end = last_week(calendar);
+    let mut week = first.week();
+    let mut days = mask_of(entries, &row_of(calendar, week), source);
+    let mut last = match last_day(week, days) {
+        Some(last) => last,
+        None => first,
+    };
+    let mut mask = days;
+    loop {
+        let alike = last_alike(calendar, week);
+        last = later(last, alike - week);
+        week = alike;
+        if week >= end {
+            break;
+        }
+        let next = mask_of(entries, &row_of(calendar, week + 1), source);
+        match last_day(week + 1, next) {
+            Some(day) if agree(form, calendar, week + 1, days, next) => {
+                last = day;
+                mask = mask.union(next);
+                days = next;
+                week += 1;
+            }
+            _ => break,
+        }
+    }
+    Run {
+        first,
+        last,
+        days: mask,
+        source,
+    }
+}
