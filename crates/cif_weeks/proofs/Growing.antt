@@ -20,20 +20,21 @@ module _ {B : Type 0} (window : Window) (body_on : ℕ → Option B)
   start_fits Two r week m = record { shows = m.shows; full = λ n at within on. mask_runs body_on r.body week r.days n m at on }
 
   -- a record of one week, from the first day to the last on which its body runs there
-  pub grown_start : (form : Form) (r : Permanent B) (week : ℕ) → week_of r.first ≡ week → IsMask body_on r.body week r.days
-      → IsLastDay week r.days r.last → body_on r.first ≡ Some r.body
-      → ((n : ℕ) → week_of n ≡ week → body_on n ≡ Some r.body → r.first ≤ n) → IsGrown form window body_on r
-  grown_start form r week here m l runs earliest =
-      let last : week_of r.last ≡ week = l.in_week in
+  pub grown_start : (form : Form) (r : Permanent B) → IsMask body_on r.body (week_of r.first) r.days
+      → IsLastDay (week_of r.first) r.days r.last → body_on r.first ≡ Some r.body
+      → ((n : ℕ) → week_of n ≡ week_of r.first → body_on n ≡ Some r.body → r.first ≤ n) → IsGrown form window body_on r
+  grown_start form r m l runs earliest =
+      let one : week_of r.last ≡ week_of r.first = l.in_week in
       record {
         seven = m.seven;
         in_order = omega arith;
         first_runs = runs;
-        last_runs = last_runs body_on r.body week r.days r.last m l;
-        earliest = λ n at runs_n. earliest n (at ∙ here) runs_n;
-        latest = λ n at runs_n. last_latest body_on r.body week r.days r.last n m l (at ∙ last) runs_n;
+        last_runs = last_runs body_on r.body (week_of r.first) r.days r.last m l;
+        earliest = earliest;
+        latest = λ n at runs_n. last_latest body_on r.body (week_of r.first) r.days r.last n m l (at ∙ one) runs_n;
         used = λ w on. let (n, at, day, runs_n) = m.only w on in (n, day, omega arith, omega arith, runs_n);
-        fits = λ v begun unfinished. start_fits form r v (mask_moved body_on r.body week v r.days (omega arith) m);
+        fits = λ week begun unfinished.
+            start_fits form r week (mask_moved body_on r.body (week_of r.first) week r.days (omega arith) m);
       }
 
   module _ (r : Permanent B) (week : ℕ) (this next both : List Bool) (here : week_of r.last ≡ week)
