@@ -25,7 +25,7 @@ day_before body_on week n a at =
     (i, is, week_i, day_i, subst (λ v. body_on v ≡ body_on i) is (a.same i (omega arith) (omega arith)))
 
 -- the first of the alike weeks with the next, and the others
-alike_fewer : {B : Type 0} (body_on : ℕ → Option B) (week k : ℕ) → AreAlike body_on week (suc k) → AreAlike body_on week k
+pub alike_fewer : {B : Type 0} (body_on : ℕ → Option B) (week k : ℕ) → AreAlike body_on week (suc k) → AreAlike body_on week k
 alike_fewer body_on week k a = record {
   same = λ n from upto. a.same n from (omega arith);
   whole = λ some. a.whole (omega arith);

@@ -1,8 +1,11 @@
 pub mod AlignedDays
+pub mod Covered
 pub mod Ended
 pub mod Growing
 pub mod Grown
+pub mod Joined
 pub mod Jump
+pub mod Made
 pub mod Masks
 pub mod Meeting
 pub mod RisingLists

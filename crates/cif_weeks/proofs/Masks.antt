@@ -21,7 +21,7 @@ module _ {B : Type 0} (body_on : ℕ → Option B) (b : B) (week : ℕ) where
   pub one_mask : (x y : List Bool) → IsMask body_on b week x → IsMask body_on b week y → x ≡ y
   one_mask x y mx my = masks_equal x y (mx.seven ∙ sym my.seven) (has_weekdays x y mx my) (has_weekdays y x my mx)
 
-  -- it is the mask of a week that is given otherwise
+  -- a mask of a week is one of the same week named otherwise
   pub mask_moved : (other : ℕ) (mask : List Bool) → week ≡ other → IsMask body_on b week mask → IsMask body_on b other mask
   mask_moved other mask same m = subst (λ v. IsMask body_on b v mask) same m
 
