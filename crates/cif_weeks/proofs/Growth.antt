@@ -1,7 +1,7 @@
 -- Steps to the longest run that begins on a day.
 use Rattle.std.proofs.Common.{◌≡◌, ◌⊎◌, ℕ, ◌+◌, ◌-◌, ◌*◌, ◌<◌, ◌≤◌, Bool, List, length, Option, None, Some, get_or, map, inl, inr, sym, ◌∙◌, ap, subst, arith, refl}
-use Rattle.std.specs.Prelude.{◌↔◌, IsSome, slice_get}
-use Rattle.std.specs.Option.{option_and_then}
+use Rattle.std.specs.Prelude.{◌↔◌, IsSome, MatchOption, slice_get}
+use Rattle.std.specs.Option.{option_and_then, unwrap_or}
 use Rattle.std.proofs.lemmas.Option.{slice_get_within}
 use Rattle.cif_columns.specs.Day.{IsDay, week_of, weekday_of}
 use Rattle.cif_columns.specs.DaysRun.{RunsOn}
@@ -23,6 +23,10 @@ use Rattle.cif_weeks.proofs.Jump.{grown_jump, mask_alike}
 use Rattle.cif_weeks.proofs.AlikeWeeks.{alike-bodies}
 use Rattle.cif_weeks.proofs.SourcesIn.{source_in-within, source_in-inside}
 
+some-body : {B : Type 0} (o : Option B) → IsSome o → (b : B) × (o ≡ Some b)
+some-body None h = absurd (cc)
+some-body (Some b) h = (b, refl)
+
 module _ {B : Type 0} (xs : List (Terms B)) (c : CalendarParts) (sources : AreSources xs c) where
   -- a body runs in the window alone, and has a source there
   body-source : (o : Option ℕ) (b : B) → body_at xs o ≡ Some b → (i : ℕ) × (o ≡ Some i)
@@ -32,14 +36,19 @@ module _ {B : Type 0} (xs : List (Terms B)) (c : CalendarParts) (sources : AreSo
   pub inside : (n : ℕ) (b : B) → body_in xs c n ≡ Some b → IsWithin (window_of c) n
   inside n b runs = let (i, is) = body-source (source_in c n) b runs in source_in-inside c n i is
 
-  -- a source of the calendar is a position
-  pub source-below : (n i : ℕ) → source_in c n ≡ Some i → i < length xs
-  source-below n i is =
+  -- a source of the calendar is the position of a body
+  pub source-body : (n i : ℕ) → source_in c n ≡ Some i → (b : B) × (body_at xs (Some i) ≡ Some b)
+  source-body n i is =
       let within = source_in-inside c n i is in
-      below (slice_get xs i) refl (sources.bodied n i within.from within.upto (sym (source_in-within c n within.from within.upto) ∙ is)) where
-        below : (o : Option (Terms B)) → slice_get xs i ≡ o → IsSome (option_and_then (λ (r : Terms B). r.body) (slice_get xs i)) → i < length xs
-        below None at h = let no : IsSome {A = B} None = subst (λ v. IsSome (option_and_then (λ (r : Terms B). r.body) v)) at h in absurd (cc)
-        below (Some r) at h = slice_get_within xs i r at
+      some-body (body_at xs (Some i))
+      (sources.bodied n i within.from within.upto (sym (source_in-within c n within.from within.upto) ∙ is))
+
+  body-below : (i : ℕ) (b : B) (o : Option (Terms B)) → slice_get xs i ≡ o → option_and_then (λ (r : Terms B). r.body) o ≡ Some b → i < length xs
+  body-below i b None at e = absurd (cc)
+  body-below i b (Some r) at e = slice_get_within xs i r at
+
+  pub source-below : (n i : ℕ) → source_in c n ≡ Some i → i < length xs
+  source-below n i is = let b = source-body n i is in body-below i b.0 (slice_get xs i) refl b.1
 
   pub row-positions : (next : ℕ) (row : List (Option ℕ)) → IsRowBefore c next row → ArePositions xs row
   row-positions next row r = record {
@@ -69,3 +78,92 @@ module _ {B : Type 0} (xs : List (Terms B)) (c : CalendarParts) (sources : AreSo
   mask-days week b mask last m w on =
       let (n, in_week, day, runs) = m.only w on in
       (n, in_week, day, (let upto : n ≤ c.last = (inside n b runs).upto in omega arith))
+
+-- A run so far: its last date is in this week, `days` is the mask of its body there, and `mask` that of the run.
+pub record IsGrowing {B : Type 0} (form : Form) (xs : List (Terms B)) (c : CalendarParts) (source first week last : ℕ)
+    (days mask : List Bool) : Type 0 where
+  pub week_is : week_of last ≡ week
+  pub seven : length mask ≡ 7
+  pub days_mask : (b : B) → body_at xs (Some source) ≡ Some b → IsMask (body_in xs c) b week days
+  pub grown : (b : B) → body_at xs (Some source) ≡ Some b →
+      IsGrown form (window_of c) (body_in xs c) (record { first = first; last = last; days = mask; body = b })
+
+module _ {B : Type 0} (form : Form) (xs : List (Terms B)) (c : CalendarParts) (sources : AreSources xs c) (source first : ℕ) where
+  last-is : (week : ℕ) (b : B) (days : List Bool) (o : Option ℕ) → IsMask (body_in xs c) b week days → week_of first ≡ week →
+      body_in xs c first ≡ Some b → MatchOption o ((w : ℕ) → ¬ RunsOn days w) (IsLastDay week days) → IsLastDay week days (unwrap_or o first)
+  last-is week b days None m at runs h = absurd (h (weekday_of first) (m.shows first at runs))
+  last-is week b days (Some day) m at runs h = h
+
+  -- the first week
+  pub growing-start : (row : List (Option ℕ)) (days : List Bool) (o : Option ℕ) → source_in c first ≡ Some source →
+      ((n : ℕ) → week_of n ≡ week_of first → body_in xs c n ≡ body_at xs (Some source) → first ≤ n) →
+      IsRowBefore c (week_of first + 1) row → IsMaskOf xs row source days →
+      MatchOption o ((w : ℕ) → ¬ RunsOn days w) (IsLastDay (week_of first) days) →
+      IsGrowing form xs c source first (week_of first) (unwrap_or o first) days days
+  growing-start row days o starts earliest r m h =
+      let some = source-body xs c sources first source starts in
+      let runs : body_in xs c first ≡ Some some.0 = ap (body_at xs) starts ∙ some.1 in
+      let mask = λ (b : B) (is : body_at xs (Some source) ≡ Some b). mask-of_row xs c sources (week_of first) source b row days r is m in
+      let last : IsLastDay (week_of first) days (unwrap_or o first) = last-is (week_of first) some.0 days o (mask some.0 some.1) refl runs h in
+      record {
+        week_is = last.in_week;
+        seven = m.seven;
+        days_mask = mask;
+        grown = λ b is. grown_start (window_of c) (body_in xs c) (inside xs c sources) form
+            (record { first = first; last = unwrap_or o first; days = days; body = b }) (mask b is) last (ap (body_at xs) starts ∙ is)
+            (λ n at runs_n. earliest n at (runs_n ∙ sym is));
+      }
+
+  module _ (week last : ℕ) (days mask : List Bool) (g : IsGrowing form xs c source first week last days mask) where
+    -- the weeks that are like this one
+    pub growing-jump : (alike : ℕ) → week ≤ alike → AreAlikeUpTo c week alike →
+        IsGrowing form xs c source first alike (last + 7 * (alike - week)) days mask
+    growing-jump alike up a =
+        let k : ℕ = alike - week in
+        let there : week + k ≡ alike = omega arith in
+        let bodies = alike-bodies xs c week alike up a in
+        record {
+          week_is = omega (arith, g.week_is);
+          seven = g.seven;
+          days_mask = λ b is. subst (λ v. IsMask (body_in xs c) b v days) there (mask_alike (body_in xs c) b week k days bodies (g.days_mask b is));
+          grown = λ b is. grown_jump (window_of c) (body_in xs c) (inside xs c sources) form
+              (record { first = first; last = last; days = mask; body = b }) week k g.week_is (g.grown b is) bodies;
+        }
+
+    -- the next week, which joins
+    module _ (row : List (Option ℕ)) (next : List Bool) (r : IsRowBefore c (week + 1 + 1) row) (m : IsMaskOf xs row source next) where
+      next-mask : (b : B) → body_at xs (Some source) ≡ Some b → IsMask (body_in xs c) b (week + 1) next
+      next-mask b is = mask-of_row xs c sources (week + 1) source b row next r is m
+
+      pub growing-more : (day : ℕ) (both : List Bool) → IsLastDay (week + 1) next day → Agree form (window_of c) week days next →
+          length both ≡ 7 → ((w : ℕ) → RunsOn both w ↔ (RunsOn mask w ⊎ RunsOn next w)) →
+          IsGrowing form xs c source first (week + 1) day next both
+      growing-more day both l agree seven union = record {
+        week_is = l.in_week;
+        seven = seven;
+        days_mask = next-mask;
+        grown = λ b is. grown_more (window_of c) (body_in xs c) (inside xs c sources) form
+            (record { first = first; last = last; days = mask; body = b }) week days next both day g.week_is (g.grown b is)
+            (g.days_mask b is) (next-mask b is) agree seven union l;
+      }
+
+      -- or doesn't
+      pub ended-differs : (b : B) → body_at xs (Some source) ≡ Some b → Differ form (window_of c) week days next →
+          HasEnded form (window_of c) (body_in xs c) (record { first = first; last = last; days = mask; body = b })
+      ended-differs b is differ = ended_differ (window_of c) (body_in xs c) (inside xs c sources) form
+          (record { first = first; last = last; days = mask; body = b }) week days next g.week_is (g.grown b is) (g.days_mask b is)
+          (next-mask b is) differ
+
+      pub ended-rests : (b : B) → body_at xs (Some source) ≡ Some b → ((w : ℕ) → ¬ RunsOn next w) →
+          HasEnded form (window_of c) (body_in xs c) (record { first = first; last = last; days = mask; body = b })
+      ended-rests b is none = ended_rest (window_of c) (body_in xs c) (inside xs c sources) form
+          (record { first = first; last = last; days = mask; body = b }) week next g.week_is (next-mask b is) none
+
+    pub ended-over : (b : B) → week_of c.last ≤ week →
+        HasEnded form (window_of c) (body_in xs c) (record { first = first; last = last; days = mask; body = b })
+    ended-over b over = ended_window (window_of c) (body_in xs c) (inside xs c sources) form
+        (record { first = first; last = last; days = mask; body = b }) (omega (arith, g.week_is))
+
+    -- its last date is one of the calendar's
+    pub growing-day : (b : B) → body_at xs (Some source) ≡ Some b → last ≤ c.last
+    growing-day b is = (inside xs c sources last b (g.grown b is).last_runs).upto

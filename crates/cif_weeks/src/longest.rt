@@ -100,10 +100,7 @@ pub(crate) fn longest<E: Entry>(
     let end = last_week(calendar);
     let mut week = first.week();
     let mut days = mask_of(entries, &row_of(calendar, week), source);
-    let mut last = match last_day(week, days) {
-        Some(last) => last,
-        None => first,
-    };
+    let mut last = last_day(week, days).unwrap_or(first);
     let mut mask = days;
     loop {
         let alike = last_alike(calendar, week);
