@@ -4,7 +4,7 @@ use Rattle.std.specs.Prelude.{◌↔◌, IsTrue}
 use Rattle.std.proofs.lemmas.Bool.{cases_lt, false≢true}
 use Rattle.cif_columns.specs.DaysRun.{RunsOn}
 use Rattle.cif_weeks.specs.declared.form.Form.{Form}
-use Rattle.cif_weeks.specs.declared.form.Form.TheVariants.{One, Two}
+use Rattle.cif_weeks.specs.declared.form.Form.TheVariants.{Two}
 use Rattle.cif_weeks.specs.Window.{Window}
 use Rattle.cif_weeks.specs.Separate.{ExactlyOne}
 use Rattle.cif_weeks.specs.WeekMasks.{Agree, Counts}
@@ -42,8 +42,8 @@ agree-more form window next k x y a here = record {
   below = λ week w is h counts. ⊎_elim
       (λ less. a.below week w is less counts)
       (λ more.
-          let same : w ≡ k = omega arith in
-          subst (λ v. RunsOn x v ↔ RunsOn y v) (sym same) (here week is (subst (λ v. Counts form window week v) same counts)))
+      let same : w ≡ k = omega arith in
+      subst (λ v. RunsOn x v ↔ RunsOn y v) (sym same) (here week is (subst (λ v. Counts form window week v) same counts)))
       (cases_lt w k);
 }
 

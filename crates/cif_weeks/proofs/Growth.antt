@@ -1,5 +1,5 @@
 -- Steps to the longest run that begins on a day.
-use Rattle.std.proofs.Common.{◌≡◌, ◌⊎◌, ℕ, ◌+◌, ◌-◌, ◌*◌, ◌<◌, ◌≤◌, Bool, List, length, Option, None, Some, get_or, map, inl, inr, sym, ◌∙◌, ap, subst, arith, refl}
+use Rattle.std.proofs.Common.{◌≡◌, ◌⊎◌, ℕ, ◌+◌, ◌-◌, ◌*◌, ◌<◌, ◌≤◌, Bool, List, length, Option, None, Some, get_or, sym, ◌∙◌, ap, subst, arith, refl}
 use Rattle.std.specs.Prelude.{◌↔◌, IsSome, MatchOption, slice_get}
 use Rattle.std.specs.Option.{option_and_then, unwrap_or}
 use Rattle.std.proofs.lemmas.Option.{slice_get_within}
@@ -7,16 +7,13 @@ use Rattle.cif_columns.specs.Day.{IsDay, week_of, weekday_of}
 use Rattle.cif_columns.specs.DaysRun.{RunsOn}
 use Rattle.cif_calendar.specs.Terms.{Terms}
 use Rattle.cif_calendar.specs.Source.{body_at}
-use Rattle.cif_calendar.specs.Pieces.{source_at}
 use Rattle.cif_calendar.specs.Calendar.{CalendarParts}
 use Rattle.cif_weeks.specs.declared.form.Form.{Form}
-use Rattle.cif_weeks.specs.Window.{Window, IsWithin}
-use Rattle.cif_weeks.specs.Permanent.{Permanent}
+use Rattle.cif_weeks.specs.Window.{IsWithin}
 use Rattle.cif_weeks.specs.Growing.{IsGrown, HasEnded}
 use Rattle.cif_weeks.specs.WeekMasks.{Agree, Differ, IsLastDay, IsMask}
 use Rattle.cif_weeks.specs.Runs.{AreSources, window_of}
 use Rattle.cif_weeks.specs.WeekRows.{source_in, body_in, IsRowBefore, IsMaskOf, ArePositions, AreAlikeUpTo}
-use Rattle.cif_weeks.proofs.Masks.{last_runs}
 use Rattle.cif_weeks.proofs.Growing.{grown_start, grown_more}
 use Rattle.cif_weeks.proofs.Ended.{ended_differ, ended_rest, ended_window}
 use Rattle.cif_weeks.proofs.Jump.{grown_jump, mask_alike}
@@ -29,7 +26,7 @@ some-body (Some b) h = (b, refl)
 
 module _ {B : Type 0} (xs : List (Terms B)) (c : CalendarParts) (sources : AreSources xs c) where
   -- a body runs in the window alone, and has a source there
-  body-source : (o : Option ℕ) (b : B) → body_at xs o ≡ Some b → (i : ℕ) × (o ≡ Some i)
+  pub body-source : (o : Option ℕ) (b : B) → body_at xs o ≡ Some b → (i : ℕ) × (o ≡ Some i)
   body-source None b e = absurd (cc)
   body-source (Some i) b e = (i, refl)
 

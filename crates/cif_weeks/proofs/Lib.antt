@@ -3,7 +3,7 @@ pub mod Covered
 pub mod Ended
 pub mod Growing
 pub mod Grown
-pub mod Joined
+pub mod JoiningWeeks
 pub mod Jump
 pub mod Made
 pub mod Masks
@@ -19,3 +19,5 @@ pub mod RowMasks
 pub mod AlikeWeeks
 pub mod AgreedDays
 pub mod Growth
+pub mod BegunRuns
+pub mod AllWeeks

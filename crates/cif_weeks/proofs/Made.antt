@@ -1,6 +1,6 @@
 -- The list of records as it is built, one day after another.
 use Rattle.std.proofs.Common.{◌≡◌, inl, inr, ℕ, ◌+◌, ◌<◌, ◌≤◌, List, [], ◌∷◌, ◌++◌, get_or, Option, Some, arith, sym, subst}
-use Rattle.std.specs.Prelude.{All, AllPairs, Contains}
+use Rattle.std.specs.Prelude.{All, Contains}
 use Rattle.std.proofs.lemmas.Bool.{cases_lt}
 use Rattle.std.proofs.lemmas.List.Elements.{All-contains, All-push, All-weaker, All-nil}
 use Rattle.std.proofs.lemmas.List.Elements.{Contains-push, Contains-append_left, Contains-get_or}
@@ -14,25 +14,9 @@ use Rattle.cif_weeks.specs.Aligned.{IsAligned}
 use Rattle.cif_weeks.specs.Meets.{Meets}
 use Rattle.cif_weeks.specs.Growing.{IsGrown, HasEnded}
 use Rattle.cif_weeks.proofs.WeekDays.{week_of-rises}
-use Rattle.cif_weeks.proofs.Meeting.{IsApartFrom, meets}
+use Rattle.cif_weeks.specs.MadeRecords.{IsApartFrom, IsCovered, AreMade}
+use Rattle.cif_weeks.proofs.Meeting.{meets}
 use Rattle.cif_weeks.proofs.Grown.{grown_runs, grown_applies, grown_first, grown_aligned, grown_change}
-
--- a record of the list applies on day n
-pub record IsCovered {B : Type 0} (records : List (Permanent B)) (n : ℕ) : Type 0 where
-  pub it : Permanent B
-  pub listed : Contains records it
-  pub applies : Applies it n
-
--- The records that begin on a day n with n + 4 < t, so before a weekday in a week where t is seven times the week plus the
--- weekday. Each has grown to its end, each two with one body are apart, and all that runs before that day is covered.
-pub record AreMade {B : Type 0} (form : Form) (window : Window) (body_on : ℕ → Option B) (t : ℕ) (records : List (Permanent B))
-    : Type 0 where
-  pub rising : AllPairs (λ r s. r.first < s.first) records
-  pub grown : All (λ r. IsGrown form window body_on r) records
-  pub ended : All (λ r. HasEnded form window body_on r) records
-  pub begun : All (λ r. r.first + 4 < t) records
-  pub apart : AllPairs (λ r s. r.body ≡ s.body → IsApartFrom form window r s) records
-  pub complete : (n : ℕ) (b : B) → n + 4 < t → body_on n ≡ Some b → IsCovered records n
 
 module _ {B : Type 0} (window : Window) (body_on : ℕ → Option B)
     (inside : (n : ℕ) (b : B) → body_on n ≡ Some b → IsWithin window n) (form : Form) where

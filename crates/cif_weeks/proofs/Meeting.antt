@@ -1,5 +1,5 @@
 -- What suffices for a list to meet a form: conditions on its records in their order.
-use Rattle.std.proofs.Common.{◌≡◌, ◌⊎◌, inl, inr, ℕ, ◌+◌, ◌<◌, ◌≤◌, List, Option, Some, sym, ◌∙◌, subst}
+use Rattle.std.proofs.Common.{◌≡◌, ◌⊎◌, inl, inr, ℕ, ◌<◌, ◌≤◌, List, Option, Some, sym, ◌∙◌, subst}
 use Rattle.std.specs.Prelude.{All, AllPairs, Contains}
 use Rattle.std.proofs.lemmas.Option.{same_Some}
 use Rattle.std.proofs.lemmas.List.Elements.{All-contains}
@@ -9,18 +9,14 @@ use Rattle.cif_weeks.specs.Window.{Window, IsWithin}
 use Rattle.cif_weeks.specs.Permanent.{Permanent}
 use Rattle.cif_weeks.specs.Applies.{Applies}
 use Rattle.cif_weeks.specs.Aligned.{IsAligned}
-use Rattle.cif_weeks.specs.Separate.{Change, AreSeparate}
+use Rattle.cif_weeks.specs.Separate.{AreSeparate}
 use Rattle.cif_weeks.specs.HaveForm.{HaveForm}
 use Rattle.cif_weeks.specs.WhatRuns.{HasBody}
 use Rattle.cif_weeks.specs.Meets.{Meets}
+use Rattle.cif_weeks.specs.MadeRecords.{IsApartFrom}
 use Rattle.cif_weeks.proofs.RisingLists.{AllPairs-members}
 use Rattle.cif_weeks.proofs.AlignedDays.{IsTight, tight, week_of-applies}
 use Rattle.cif_weeks.proofs.Separate.{AreSeparate-sym, separate-from_before}
-
--- r ends in a week before that in which s begins, and where that is the very next week, there is a change between them
-pub record IsApartFrom {B : Type 0} (form : Form) (window : Window) (r s : Permanent B) : Type 0 where
-  pub before : week_of r.last < week_of s.first
-  pub change : week_of s.first ≡ week_of r.last + 1 → Change form window r s
 
 -- the conditions: each pair with one body is apart, a record applies where a body runs, and where one applies its body runs
 pub record MeetsInOrder {B : Type 0} (form : Form) (window : Window) (body_on : ℕ → Option B) (records : List (Permanent B))

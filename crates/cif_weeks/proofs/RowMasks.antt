@@ -1,5 +1,5 @@
 -- The mask of a row, weekday by weekday.
-use Rattle.std.proofs.Common.{◌≡◌, ℕ, zero, suc, ◌<◌, ◌≤◌, ◌+◌, Bool, true, List, [], ◌∷◌, Some, None, ap, arith}
+use Rattle.std.proofs.Common.{◌≡◌, ℕ, zero, suc, ◌≤◌, Bool, true, [], ◌∷◌, Some, None, ap, arith}
 use Rattle.std.specs.Prelude.{◌↔◌, IsTrue}
 use Rattle.std.proofs.lemmas.Option.{same_Some}
 use Rattle.cif_columns.specs.DaysRun.{RunsOn}

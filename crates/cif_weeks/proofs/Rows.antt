@@ -1,5 +1,5 @@
 -- The row of a week as it is filled, weekday by weekday.
-use Rattle.std.proofs.Common.{◌≡◌, ◌⊎◌, ℕ, zero, suc, ◌+◌, ◌<◌, ◌≤◌, List, length, length-set, Option, Some, None, get_or, set, subst, sym, ◌∙◌, ap}
+use Rattle.std.proofs.Common.{◌≡◌, ℕ, ◌+◌, ◌<◌, ◌≤◌, List, length, length-set, Option, Some, None, get_or, set, sym, ◌∙◌, ap}
 use Rattle.std.proofs.Common.{⊎_elim, arith}
 use Rattle.std.proofs.lemmas.Bool.{cases_lt}
 use Rattle.std.proofs.lemmas.List.{get_or-set_same, get_or-set_other}
@@ -44,10 +44,10 @@ module _ (c : CalendarParts) (week : ℕ) where
       each = λ n at h. ⊎_elim
           (λ old. get_or-set_other row k (weekday_of n) o None (λ e. omega arith) ∙ r.each n at old)
           (λ new.
-              let here : weekday_of n ≡ k = omega arith in
-              let same : m ≡ n = same_day m n (in_week ∙ sym at) (day ∙ sym here) in
-              ap (λ w. get_or (set row k o) w None) here
-              ∙ get_or-set_same row k o None (omega (arith, r.seven)) ∙ is ∙ ap (source_in c) same)
+          let here : weekday_of n ≡ k = omega arith in
+          let same : m ≡ n = same_day m n (in_week ∙ sym at) (day ∙ sym here) in
+          ap (λ w. get_or (set row k o) w None) here
+          ∙ get_or-set_same row k o None (omega (arith, r.seven)) ∙ is ∙ ap (source_in c) same)
           (cases_lt (weekday_of n) k);
       rest = λ w h. get_or-set_other row k w o None (λ e. omega arith) ∙ r.rest w (omega arith);
       only = λ w i h. ⊎_elim

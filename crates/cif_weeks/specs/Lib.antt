@@ -3,6 +3,7 @@ pub mod Applies
 pub mod Canonical
 pub mod Growing
 pub mod HaveForm
+pub mod MadeRecords
 pub mod Meets
 pub mod Permanent
 pub mod Runs

@@ -3,10 +3,12 @@
 #![tactic(auto)]
 
 mod form;
+mod joined;
+pub mod laws;
 mod longest;
 mod run;
 mod week_rows;
-pub mod laws;
 
 pub use form::Form;
+pub use joined::runs;
 pub use run::Run;

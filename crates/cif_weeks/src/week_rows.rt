@@ -61,9 +61,7 @@ fn has_body<E: Entry>(entries: &[E], source: Option<usize>, position: usize) -> 
 {
     match source {
         None => false,
-        Some(other) => {
-            other == position || same_body(&entries[other], &entries[position])
-        }
+        Some(other) => { other == position || same_body(&entries[other], &entries[position]) }
     }
 }
 

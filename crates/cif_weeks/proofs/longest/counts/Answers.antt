@@ -1,7 +1,5 @@
 use Rattle.std.proofs.Common.{◌≡◌, ◌+◌, ◌*◌, ◌≤◌, sym, subst}
-use Rattle.cif_weeks.specs.declared.form.Form.{Form}
 use Rattle.cif_weeks.specs.Runs.{window_of}
-use Rattle.cif_weeks.specs.WeekMasks.{Counts}
 use Rattle.cif_weeks.proofs.AgreedDays.{counts-within, counted-within}
 use Rattle.cif_weeks.proofs.longest.counts.Goals as goal
 

@@ -1,4 +1,4 @@
-use Rattle.std.proofs.Common.{◌≡◌, ℕ, ◌+◌, ◌-◌, ◌*◌, ◌≤◌, map, sym, ◌∙◌, subst, arith, length, refl}
+use Rattle.std.proofs.Common.{ℕ, ◌+◌, map, sym, subst, arith, refl}
 use Rattle.std.specs.Prelude.{MatchOption}
 use Rattle.cif_columns.specs.DaysRun.{RunsOn}
 use Rattle.cif_weeks.specs.WeekMasks.{IsLastDay}

@@ -1,4 +1,4 @@
-use Rattle.std.proofs.Common.{◌≡◌, ◌+◌, ◌-◌, ◌/◌, ◌≤◌, inr, subst, ap, sym, ◌∙◌}
+use Rattle.std.proofs.Common.{◌≡◌, ◌+◌, ◌-◌, ◌/◌, ◌≤◌, inr, subst}
 use Rattle.cif_columns.specs.Day.{week_of}
 use Rattle.cif_weeks.specs.WeekRows.{AreAlikeUpTo}
 use Rattle.cif_weeks.proofs.AlikeWeeks.{alike-upto, alike-end}

@@ -1,0 +1,17 @@
+use Rattle.std.proofs.Common.{◌≡◌, ◌≤◌, ◌+◌, ◌-◌, ◌*◌, map}
+use Rattle.cif_columns.specs.Day.{IsDay, week_of}
+use Rattle.cif_weeks.specs.MadeRecords.{AreRunsUpTo}
+use Rattle.cif_weeks.specs.WeekRows.{IsRowBefore}
+use Rattle.cif_weeks.proofs.joined.runs.Given as goal
+
+abbrev pub invariant-loop-week : goal.invariant-loop-week
+invariant-loop-week g l = record {
+  end_is : l.end ≡ week_of l.calendar.last;
+  upto : l.week ≤ l.end + 1;
+  in_range : IsDay l.calendar.last;
+  row : IsRowBefore l.calendar l.week l.before;
+  made : AreRunsUpTo l.form (map g.E.Entry.terms l.entries) l.calendar (l.week * 7) l.runs.items;
+}
+
+abbrev pub decreases-loop-week : goal.decreases-loop-week
+decreases-loop-week g l = l.end + 1 - l.week

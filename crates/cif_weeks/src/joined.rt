@@ -1,0 +1,146 @@
+//! The canonical runs of a calendar.
+
+ghost use Rattle.std.specs.Prelude.{◌≡◌, ◌<◌, ◌≤◌, ◌+◌, ◌*◌, ℕ, length, map, IfOk, MatchBool};
+ghost use Rattle.cif_columns.specs.Day.{IsDay};
+ghost use Rattle.cif_columns.specs.DaysRun.{IsFirstOf, RunsOn};
+ghost use Rattle.cif_weeks.specs.MadeRecords.{AreRunsUpTo};
+ghost use Rattle.cif_weeks.specs.Runs.{AreCanonicalRuns, AreSources};
+ghost use Rattle.cif_weeks.specs.WeekRows.{ArePositions, Begins, GoesOn, IsRowBefore};
+
+use crate::form::Form;
+use crate::longest::{agree, longest};
+use crate::run::Run;
+use crate::week_rows::{Row, day_in, last_alike, last_week, mask_of, row_of};
+use cif_calendar::{Calendar, Entry};
+use cif_columns::DaysRun;
+use std::alloc::{AllocError, Global};
+
+/// Whether no weekday of the mask is before this one, which it has.
+fn is_first(days: DaysRun, weekday: u8) -> bool
+    requires { RunsOn days weekday }
+    ensures { MatchBool result (IsFirstOf days weekday)
+        ((earlier : ℕ) × (earlier < weekday) × RunsOn days earlier) }
+{
+    match days.first() {
+        Some(first) => first == weekday,
+        None => unreachable!(),
+    }
+}
+
+/// Whether the body at `source`, which runs on these days of the week, goes on from the week before.
+fn goes_on<E: Entry>(
+    entries: &[E],
+    calendar: &Calendar,
+    form: Form,
+    week: u32,
+    before: &Row,
+    source: usize,
+    days: DaysRun,
+) -> bool
+    requires small { week ≤ 6000 }
+    requires position { source < length entries.now }
+    requires positions { ArePositions (map E.terms entries.now) before.now }
+    ensures { MatchBool result
+        (GoesOn form (map E.terms entries.now) calendar.now week before.now source days)
+        (Begins form (map E.terms entries.now) calendar.now week before.now source days) }
+{
+    let mask = mask_of(entries, before, source);
+    match mask.first() {
+        Some(_) => agree(form, calendar, week, mask, days),
+        None => false,
+    }
+}
+
+/// Appends the run that begins on a weekday of the week, if one does.
+fn begin_run<E: Entry>(
+    runs: &mut Vec<Run>,
+    entries: &[E],
+    calendar: &Calendar,
+    form: Form,
+    week: u32,
+    weekday: u8,
+    before: &Row,
+    row: &Row,
+) -> Result<(), AllocError>
+    requires small { week ≤ 6000 }
+    requires weekday { weekday < 7 }
+    requires sources { AreSources (map E.terms entries.now) calendar.now }
+    requires in_range { IsDay calendar.now.last }
+    requires before { IsRowBefore calendar.now week before.now }
+    requires row { IsRowBefore calendar.now (week + 1) row.now }
+    requires made { AreRunsUpTo form (map E.terms entries.now) calendar.now
+        (week * 7 + weekday) runs.now.items }
+    ensures { IfOk result (λ _. AreRunsUpTo form (map E.terms entries.now) calendar.now
+        (week * 7 + weekday + 1) runs.new.items) }
+{
+    let source = match row[usize::from(weekday)] {
+        Some(source) => source,
+        None => return Ok(()),
+    };
+    let days = mask_of(entries, row, source);
+    if !is_first(days, weekday) {
+        return Ok(());
+    }
+    if goes_on(entries, calendar, form, week, before, source, days) {
+        return Ok(());
+    }
+    let first = match day_in(week, weekday) {
+        Some(first) => first,
+        None => unreachable!(),
+    };
+    runs.push(longest(entries, calendar, form, first, source))?;
+    Ok(())
+}
+
+/// Appends the runs that begin in the week, in the order of their first dates.
+fn begin_runs<E: Entry>(
+    runs: &mut Vec<Run>,
+    entries: &[E],
+    calendar: &Calendar,
+    form: Form,
+    week: u32,
+    before: &Row,
+    row: &Row,
+) -> Result<(), AllocError>
+    requires small { week ≤ 6000 }
+    requires sources { AreSources (map E.terms entries.now) calendar.now }
+    requires in_range { IsDay calendar.now.last }
+    requires before { IsRowBefore calendar.now week before.now }
+    requires row { IsRowBefore calendar.now (week + 1) row.now }
+    requires made { AreRunsUpTo form (map E.terms entries.now) calendar.now
+        (week * 7) runs.now.items }
+    ensures { IfOk result (λ _. AreRunsUpTo form (map E.terms entries.now) calendar.now
+        (week * 7 + 7) runs.new.items) }
+{
+    for weekday in 0..7u8 {
+        begin_run(runs, entries, calendar, form, week, weekday, before, row)?;
+    }
+    Ok(())
+}
+
+/// The canonical runs of a calendar in a form, rising by first date.
+///
+/// Hand in the entries of which the calendar tells. Of several entries with one body any may be a
+/// run's source. The cost goes by the runs and the pieces of the calendar, and not by its dates.
+pub fn runs<E: Entry>(
+    alloc: Global,
+    entries: &[E],
+    calendar: &Calendar,
+    form: Form,
+) -> Result<Vec<Run>, AllocError>
+    requires sources { AreSources (map E.terms entries.now) calendar.now }
+    ensures { IfOk result (λ runs.
+        AreCanonicalRuns form (map E.terms entries.now) calendar.now runs.items) }
+{
+    let end = last_week(calendar);
+    let mut runs = Vec::new(alloc);
+    let mut before = [None; 7];
+    let mut week = calendar.window().first.week();
+    while week <= end {
+        let row = row_of(calendar, week);
+        begin_runs(&mut runs, entries, calendar, form, week, &before, &row)?;
+        before = row;
+        week = last_alike(calendar, week) + 1;
+    }
+    Ok(runs)
+}
