@@ -1,7 +1,7 @@
 //! Writes an extract of one train: `generate_train SHAPE FIRST DAYS SCHEDULES`, its lines with line feeds.
 //!
-//! The window begins on the date FIRST (yymmdd, from 600101 to 591231) and has so many days. All bodies are
-//! the same journey, so nothing clashes. The shapes:
+//! The window begins on the date FIRST (yymmdd, from 600101 to 591231) and has so many days. Nothing clashes:
+//! but for `twobodies` all bodies are the same journey. The shapes:
 //!
 //! `disjoint`: each schedule has a stretch of dates of its own, and the stretches follow one another over
 //! the whole window. Of more schedules than days several share a date. Each runs on all weekdays. The first
@@ -16,6 +16,18 @@
 //!
 //! `alike`: the dates of `overlapping`, all permanent and on all weekdays. So on each date each schedule that
 //! applies is compared with the leader, body by body: more than an extract ever asks for.
+//!
+//! `daily`: all schedules are permanent and run on each date of the window. So they are one run in form 2. In
+//! form 1 a week that the window cuts is a run of its own.
+//!
+//! `alternating`: each schedule is permanent and has a week of its own, one on Monday, Wednesday and Friday,
+//! the next on Tuesday and Thursday, and so on. So each week begins a run, and there are as many as schedules.
+//!
+//! `twobodies`: each week has two schedules, one on Monday, Wednesday and Friday, the other on Tuesday and
+//! Thursday. Their bodies are two journeys, an hour apart, which change places from week to week. So each week
+//! begins two runs, and there are as many as schedules.
+//!
+//! In the last two FIRST is a Monday, and DAYS those of all weeks.
 
 // Other programs have more of these.
 #[allow(dead_code)]
@@ -24,7 +36,7 @@ mod journey_records;
 #[allow(dead_code)]
 mod records;
 
-use days::{LAST, number_of, yymmdd_of};
+use days::{LAST, number_of, weekday_of, yymmdd_of};
 use journey_records::{extra, origin, terminus};
 use records::{COLUMNS, Line, Numbers, basic, stop};
 use std::env;
@@ -34,22 +46,30 @@ use std::process::ExitCode;
 const CALLS: u64 = 10;
 const FIRST_MINUTE: u64 = 480;
 const MINUTES_BETWEEN: u64 = 7;
+const MINUTES_LATER: u64 = 60;
+const JOURNEYS: u64 = 2;
 const WEEKDAYS: usize = 7;
 const ALL_DAYS: &str = "1111111";
+const DAYS_BY_TURNS: [&str; 2] = ["1010100", "0101000"];
 
 #[derive(Clone, Copy, Debug, PartialEq, Eq)]
 enum Shape {
     Disjoint,
     Overlapping,
     Alike,
+    Daily,
+    Alternating,
+    TwoBodies,
 }
 
-/// The dates of a schedule, as days of the window from 0 on, with its weekdays and its letter.
+/// The dates of a schedule, as days of the window from 0 on, with its weekdays, its letter, and which of the
+/// journeys its body is.
 struct Terms {
     first: usize,
     last: usize,
     days: String,
     letter: &'static str,
+    journey: usize,
 }
 
 impl Shape {
@@ -58,6 +78,18 @@ impl Shape {
             "disjoint" => Some(Shape::Disjoint),
             "overlapping" => Some(Shape::Overlapping),
             "alike" => Some(Shape::Alike),
+            "daily" => Some(Shape::Daily),
+            "alternating" => Some(Shape::Alternating),
+            "twobodies" => Some(Shape::TwoBodies),
+            _ => None,
+        }
+    }
+
+    /// How many schedules a week has, where each has one week.
+    fn in_a_week(self) -> Option<usize> {
+        match self {
+            Shape::Alternating => Some(1),
+            Shape::TwoBodies => Some(2),
             _ => None,
         }
     }
@@ -72,7 +104,25 @@ impl Shape {
                 letter: "P",
                 ..overlapping(at, days)
             },
+            Shape::Daily => permanent(0, days, ALL_DAYS, 0),
+            Shape::Alternating => permanent(at * WEEKDAYS, WEEKDAYS, DAYS_BY_TURNS[at % 2], 0),
+            Shape::TwoBodies => {
+                let (week, of_week) = (at / 2, at % 2);
+                let days = DAYS_BY_TURNS[of_week];
+                permanent(week * WEEKDAYS, WEEKDAYS, days, (week + of_week) % 2)
+            }
         }
+    }
+}
+
+/// A permanent schedule of so many days.
+fn permanent(first: usize, count: usize, days: &str, journey: usize) -> Terms {
+    Terms {
+        first,
+        last: first + count - 1,
+        days: days.into(),
+        letter: "P",
+        journey,
     }
 }
 
@@ -91,6 +141,7 @@ fn disjoint(at: usize, schedules: usize, days: usize) -> Terms {
         last: first.max(first_of(at + 1).saturating_sub(1)),
         days: ALL_DAYS.into(),
         letter,
+        journey: 0,
     }
 }
 
@@ -108,11 +159,13 @@ fn overlapping(at: usize, days: usize) -> Terms {
         last: days - 1 - first,
         days: weekdays,
         letter,
+        journey: 0,
     }
 }
 
-/// What all schedules have: the first record of one that isn't cancelled, and the lines behind it.
-fn journey() -> (Line, Vec<Line>) {
+/// What all schedules with a journey have: the first record of one that isn't cancelled, and the lines behind
+/// it. All journeys are alike but for the time.
+fn journey(first_minute: u64) -> (Line, Vec<Line>) {
     let mut numbers = Numbers(1);
     let first = loop {
         let (line, is_cancellation) = basic(&mut numbers);
@@ -120,7 +173,7 @@ fn journey() -> (Line, Vec<Line>) {
             break line;
         }
     };
-    let mut minute = FIRST_MINUTE;
+    let mut minute = first_minute;
     let mut lines = vec![extra(&mut numbers), origin(&mut numbers, minute)];
     for _ in 0..CALLS {
         minute += MINUTES_BETWEEN;
@@ -148,7 +201,15 @@ impl Train {
             days: days.parse().ok()?,
             schedules: schedules.parse().ok()?,
         };
-        (train.days > 0 && train.days <= LAST + 1 - train.first).then_some(train)
+        let has_dates = train.days > 0 && train.days <= LAST + 1 - train.first;
+        (has_dates && train.has_its_weeks()).then_some(train)
+    }
+
+    /// Whether the window is the weeks of the schedules, where these have some.
+    fn has_its_weeks(&self) -> bool {
+        self.shape.in_a_week().is_none_or(|count| {
+            weekday_of(self.first) == 0 && self.days * count == self.schedules * WEEKDAYS
+        })
     }
 
     /// The date of a day of the window, by year, month and day.
@@ -173,10 +234,13 @@ impl Train {
             output.write_all(&line.0)?;
             output.write_all(b"\n")
         };
-        let (first, behind) = journey();
+        let journeys: Vec<(Line, Vec<Line>)> = (0..JOURNEYS)
+            .map(|later| journey(FIRST_MINUTE + later * MINUTES_LATER))
+            .collect();
         put(&self.header())?;
         for at in 0..self.schedules {
             let terms = self.shape.terms(at, self.schedules, self.days);
+            let (first, behind) = &journeys[terms.journey];
             let mut line = Line(first.0);
             line.put(4, "C00123");
             line.put(10, &self.date(terms.first));
@@ -199,7 +263,7 @@ impl Train {
 fn main() -> ExitCode {
     let words: Vec<String> = env::args().skip(1).collect();
     let Some(train) = Train::of(&words) else {
-        eprintln!("usage: generate_train disjoint|overlapping|alike FIRST DAYS SCHEDULES");
+        eprintln!("usage: generate_train SHAPE FIRST DAYS SCHEDULES");
         return ExitCode::from(2);
     };
     let mut output = BufWriter::with_capacity(65_536, io::stdout().lock());
