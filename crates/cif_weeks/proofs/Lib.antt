@@ -21,3 +21,4 @@ pub mod AgreedDays
 pub mod Growth
 pub mod BegunRuns
 pub mod AllWeeks
+pub mod CalendarSources
