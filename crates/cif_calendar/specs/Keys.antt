@@ -10,7 +10,7 @@ abbrev pub keyed : {E K B : Type 0} → (E → K) → (E → Terms B) → List E
 keyed key terms entries = map (λ e. (key e, terms e)) entries
 
 -- the records of key k
-abbrev pub of_key : {K B : Type 0} → List (K × Terms B) → K → Records B
+abbrev pub of_key : {K R : Type 0} → List (K × R) → K → R → Type 0
 of_key entries k r = Contains entries (k, r)
 
 -- the members are the positions of the records of key k

@@ -1,4 +1,4 @@
--- Who leads on a day among the members that were looked at.
+-- Who leads on a day among the members that were looked at. No public clause cites it.
 use Rattle.std.specs.Prelude.{◌≡◌, ◌≢◌, ℕ, ◌<◌, List, Some, Contains, slice_get}
 use Rattle.cif_calendar.specs.Terms.{Terms, Records}
 use Rattle.cif_calendar.specs.Applies.{Applies}

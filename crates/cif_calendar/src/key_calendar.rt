@@ -42,7 +42,8 @@ impl Calendar {
         Calendar { window, pieces }
     }
 
-    /// The position of a winner of the date; `None` where nothing runs.
+    /// The position in the entries of a winner of the date, which has to be in the window; `None`
+    /// where nothing runs.
     pub fn source_on(&self, day: Day) -> Option<usize>
         requires from { self.now.first ≤ day }
         requires upto { day ≤ self.now.last }
@@ -53,13 +54,14 @@ impl Calendar {
         self.piece_on(day).winners[day.weekday() as usize]
     }
 
-    /// The piece that has the date.
+    /// The piece that has the date, which has to be in the window.
     pub fn piece_on(&self, day: Day) -> &Piece
         requires from { self.now.first ≤ day }
         requires upto { day ≤ self.now.last }
         ensures listed { Contains self.now.pieces result.now }
         ensures from { result.now.first ≤ day }
         ensures upto { day ≤ result.now.last }
+        // The calendar's pieces, as the type's invariant has them.
         ensures tiles { Tiles self.now.pieces self.now.first (self.now.last + 1) }
     {
         let pieces = self.pieces();

@@ -8,7 +8,7 @@ pub struct Piece {
     pub first: Day,
     /// The last date.
     pub last: Day,
-    /// For each weekday, Monday first, the position of a winner with a body; `None` where nothing
+    /// For each weekday, Monday first, the position in the entries of a winner; `None` where nothing
     /// runs, and where the piece has no date of that weekday.
     pub winners: [Option<usize>; 7],
 }

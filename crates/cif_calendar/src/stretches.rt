@@ -19,7 +19,8 @@ use crate::winner::{BodiesDiffer, winner_on};
 use cif_columns::Day;
 use std::alloc::Global;
 
-/// The last day up to `end` on which the record neither ends nor is about to begin.
+/// The first day from `first` on after which the record has ended or begins; `end` where there is
+/// none before it.
 fn end_for<E: Entry>(entry: &E, first: Day, end: Day) -> Day
     requires { first ≤ end }
     ensures from { first ≤ result }
@@ -131,9 +132,11 @@ fn add(pieces: &mut Vec<Piece>, piece: Piece) -> Result<(), CalendarFault>
 
 /// What runs on each date of the window, by the entries at `members`.
 ///
-/// Hand in the positions of one key's records: all members are judged together, whatever their
-/// keys. `Ambiguous` comes exactly where two winners of a date have different bodies; a clash among
-/// records that do not win is no fault. Its cost is the number of members times that of the pieces.
+/// `members` are positions in `entries`. Hand in those of one key's records: all members are judged
+/// together, whatever their keys. `Ambiguous` comes where two winners of a date of the window have
+/// different bodies, and names the first such date; a clash among records that do not win is no
+/// fault. `Memory` comes where the pieces can't grow. The cost is the number of members times that
+/// of the pieces.
 pub fn calendar<E: Entry>(
     alloc: Global,
     entries: &[E],

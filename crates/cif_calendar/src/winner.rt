@@ -98,7 +98,8 @@ fn standing_on<E: Entry>(entries: &[E], members: &[usize], day: Day) -> Standing
     standing
 }
 
-/// The position of a winner of the date among the entries at `members`; `None` where nothing runs.
+/// The position in `entries` of a winner of the date among those at `members`; `None` where nothing
+/// runs.
 ///
 /// Hand in the positions of one key's records: all members are judged together, whatever their
 /// keys. Which of several winners with one body is named is free. `Err` comes exactly where two

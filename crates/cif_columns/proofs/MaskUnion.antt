@@ -24,8 +24,10 @@ module _ (xs ys : List Bool) (both : List Bool) (k : ℕ) (in_xs : k < length xs
         (λ e. inr (slice_get-get_or ys k false in_ys ∙ ap Some e))
         (one_of (get_or xs k false) (get_or ys k false) (same_Some _ true (sym is ∙ on))),
     λ either. ⊎_elim
-        (λ on. let e : get_or xs k false ≡ true = same_Some _ true (sym (slice_get-get_or xs k false in_xs) ∙ on) in is ∙ ap (λ b. Some (b || get_or ys k false)) e)
-        (λ on. let e : get_or ys k false ≡ true = same_Some _ true (sym (slice_get-get_or ys k false in_ys) ∙ on) in is ∙ ap Some (or-with (get_or xs k false) (get_or ys k false) e))
+        (λ on. let e : get_or xs k false ≡ true = same_Some _ true (sym (slice_get-get_or xs k false in_xs) ∙ on) in is
+        ∙ ap (λ b. Some (b || get_or ys k false)) e)
+        (λ on. let e : get_or ys k false ≡ true = same_Some _ true (sym (slice_get-get_or ys k false in_ys) ∙ on) in is
+        ∙ ap Some (or-with (get_or xs k false) (get_or ys k false) e))
         either,
   )
 
@@ -58,7 +60,8 @@ union-runs xs ys seven_xs seven_ys both each seven k = ⊎_elim
 -- the flags of both masks
 abbrev pub both_of : List Bool → List Bool → List Bool
 both_of xs ys =
-    (get_or xs 0 false || get_or ys 0 false) ∷ (get_or xs 1 false || get_or ys 1 false) ∷ (get_or xs 2 false || get_or ys 2 false) ∷ (get_or xs 3 false || get_or ys 3 false)
+    (get_or xs 0 false || get_or ys 0 false) ∷ (get_or xs 1 false || get_or ys 1 false) ∷ (get_or xs 2 false || get_or ys 2 false) ∷
+    (get_or xs 3 false || get_or ys 3 false)
     ∷ (get_or xs 4 false || get_or ys 4 false) ∷ (get_or xs 5 false || get_or ys 5 false) ∷ (get_or xs 6 false || get_or ys 6 false) ∷ []
 
 pub both_of-runs : (xs ys : List Bool) → length xs ≡ 7 → length ys ≡ 7 → (k : ℕ) → RunsOn (both_of xs ys) k ↔ (RunsOn xs k ⊎ RunsOn ys k)

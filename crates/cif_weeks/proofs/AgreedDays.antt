@@ -12,8 +12,14 @@ use Rattle.cif_weeks.specs.WeekMasks.{Agree, Counts}
 -- form 2: the day of the weekday and the day seven later lie in the window
 pub counts-within : (window : Window) (week next w : ℕ) → week + 1 ≡ next → w < 7 → window.first + 11 ≤ next * 7 + w →
     next * 7 + w ≤ window.last + 4 → Counts Two window week w
-counts-within window week next w is below from upto =
-    (next * 7 + w - 11, omega arith, omega arith, record { from = omega arith; upto = omega arith }, record { from = omega arith; upto = omega arith })
+counts-within window week next w is below from upto = (
+  next * 7 + w - 11,
+  omega arith,
+  omega arith,
+  record { from = omega arith; upto = omega arith },
+  record
+      { from = omega arith; upto = omega arith },
+)
 
 pub counted-within : (window : Window) (week next w : ℕ) → week + 1 ≡ next → Counts Two window week w →
     (window.first + 11 ≤ next * 7 + w) × (next * 7 + w ≤ window.last + 4)
@@ -22,7 +28,8 @@ counted-within window week next w is (n, in_week, day, within, later) =
     let upto : n + 7 ≤ window.last = later.upto in (omega arith, omega arith)
 
 -- two tests of one weekday
-pub same-tests : (x y : List Bool) (w : ℕ) (a b : Bool) → (IsTrue a ↔ RunsOn x w) → (IsTrue b ↔ RunsOn y w) → a ≡ b → RunsOn x w ↔ RunsOn y w
+pub same-tests : (x y : List Bool) (w : ℕ) (a b : Bool) → (IsTrue a ↔ RunsOn x w) → (IsTrue b ↔ RunsOn y w) → a ≡ b →
+    RunsOn x w ↔ RunsOn y w
 same-tests x y w a b on_x on_y same = (λ on. on_y.0 (sym same ∙ on_x.1 on), λ on. on_x.0 (same ∙ on_y.1 on))
 
 pub other-tests : (x y : List Bool) (w : ℕ) (a b : Bool) → (IsTrue a ↔ RunsOn x w) → (IsTrue b ↔ RunsOn y w) → a ≢ b →

@@ -1,5 +1,6 @@
 -- The runs over all weeks of the window.
-use Rattle.std.proofs.Common.{◌≡◌, ℕ, zero, suc, ◌+◌, ◌-◌, ◌*◌, ◌<◌, ◌≤◌, List, [], ◌∷◌, Option, None, Some, get_or, sym, ◌∙◌, ap, subst, arith, refl, ⊎_elim}
+use Rattle.std.proofs.Common.{◌≡◌, ℕ, zero, suc, ◌+◌, ◌-◌, ◌*◌, ◌<◌, ◌≤◌, List, [], ◌∷◌, Option, None, Some, get_or, sym, ◌∙◌, ap, subst}
+use Rattle.std.proofs.Common.{arith, refl, ⊎_elim}
 use Rattle.std.proofs.lemmas.Bool.{cases_lt}
 use Rattle.cif_columns.specs.Day.{week_of, weekday_of}
 use Rattle.cif_calendar.specs.Terms.{Terms}
@@ -63,8 +64,11 @@ row-jump c week alike row r up a = record {
       (cases_lt week alike);
   only = λ w i is.
       let (n, next, day) = r.only w i is in
-      let k : ℕ = alike - week in
-      (n + 7 * k, (let later : week_of (n + 7 * k) + 1 ≡ alike + 1 = omega arith in later), (let same : weekday_of (n + 7 * k) ≡ w = omega arith in same));
+      let k : ℕ = alike - week in (
+        n + 7 * k,
+        (let later : week_of (n + 7 * k) + 1 ≡ alike + 1 = omega arith in later),
+        (let same : weekday_of (n + 7 * k) ≡ w = omega arith in same),
+      );
 }
 
 module _ {B : Type 0} (form : Form) (xs : List (Terms B)) (c : CalendarParts) (sources : AreSources xs c) where
@@ -91,7 +95,8 @@ module _ {B : Type 0} (form : Form) (xs : List (Terms B)) (c : CalendarParts) (s
       }
 
   -- in the window what runs is what the calendar says
-  on-window : (records : List (Permanent B)) → Meets form (window_of c) (body_in xs c) records → Meets form (window_of c) (body_on xs c) records
+  on-window : (records : List (Permanent B)) → Meets form (window_of c) (body_in xs c) records →
+      Meets form (window_of c) (body_on xs c) records
   on-window records m = record {
     rising = m.rising;
     have_form = m.have_form;
@@ -103,10 +108,12 @@ module _ {B : Type 0} (form : Form) (xs : List (Terms B)) (c : CalendarParts) (s
   }
 
   -- after the last week
-  pub upto-all : (week : ℕ) (runs : List Run) → week_of c.last < week → AreRunsUpTo form xs c (week * 7) runs → AreCanonicalRuns form xs c runs
+  pub upto-all : (week : ℕ) (runs : List Run) → week_of c.last < week → AreRunsUpTo form xs c (week * 7) runs →
+      AreCanonicalRuns form xs c runs
   upto-all week runs over u = record {
     records = u.records;
     runs_of = u.runs_of;
-    meets = on-window u.records (made_meets (window_of c) (body_in xs c) (inside xs c sources) form (week * 7) u.records u.made (λ n b runs_n.
+    meets = on-window u.records (made_meets (window_of c) (body_in xs c) (inside xs c sources) form (week * 7) u.records u.made
+        (λ n b runs_n.
         let upto : n ≤ c.last = (inside xs c sources n b runs_n).upto in omega arith));
   }

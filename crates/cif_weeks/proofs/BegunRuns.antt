@@ -1,5 +1,6 @@
 -- Which runs begin on a weekday of a week, and the list with them.
-use Rattle.std.proofs.Common.{◌≡◌, ℕ, ◌+◌, ◌-◌, ◌*◌, ◌<◌, ◌≤◌, Bool, List, [], ◌∷◌, ◌++◌, Option, None, Some, get_or, sym, ◌∙◌, ap, subst, arith, refl, ⊎_elim}
+use Rattle.std.proofs.Common.{◌≡◌, ℕ, ◌+◌, ◌-◌, ◌*◌, ◌<◌, ◌≤◌, Bool, List, [], ◌∷◌, ◌++◌, Option, None, Some, get_or, sym, ◌∙◌, ap, subst}
+use Rattle.std.proofs.Common.{arith, refl, ⊎_elim}
 use Rattle.std.proofs.lemmas.Bool.{cases_lt}
 use Rattle.cif_columns.specs.Day.{week_of, weekday_of}
 use Rattle.cif_columns.specs.DaysRun.{RunsOn, IsFirstOf}
@@ -104,8 +105,10 @@ module _ {B : Type 0} (form : Form) (xs : List (Terms B)) (c : CalendarParts) (s
         free : (b : B) → body_at xs (Some source) ≡ Some b → Begins form xs c week before source days → (n : ℕ) → n + 4 ≡ week * 7 + w →
             body_in xs c n ≡ Some b → ¬ IsCovered u.records n
         free b has g n at runs_n =
-            let firsts = λ (k : ℕ) (same : week_of k ≡ week_of n) (runs_k : body_in xs c k ≡ Some b). first-day n k at same (runs_k ∙ sym has) in
-            let rests = free_after_rest (window_of c) (body_in xs c) (inside xs c sources) form (week * 7 + w) u.records u.made n b at runs_n firsts in
+            let firsts = λ (k : ℕ) (same : week_of k ≡ week_of n) (runs_k : body_in xs c k ≡ Some b). first-day n k at same (runs_k
+            ∙ sym has) in
+            let rests = free_after_rest (window_of c) (body_in xs c) (inside xs c sources) form (week * 7 + w) u.records u.made n b at
+            runs_n firsts in
             ⊎_elim
             (λ none. rests (λ k next runs_k. none (weekday_of k) (mask-before g.mask b k g.is_mask has (omega arith) runs_k)))
             (λ differ. ⊎_elim
@@ -121,7 +124,8 @@ module _ {B : Type 0} (form : Form) (xs : List (Terms B)) (c : CalendarParts) (s
             (cases_lt 0 week))
             g.why
 
-        pub step-push : Begins form xs c week before source days → (first : ℕ) → first + 4 ≡ week * 7 + w → (run : Run) → run.first ≡ first →
+        pub step-push : Begins form xs c week before source days → (first : ℕ) → first + 4 ≡ week * 7 + w → (run : Run) →
+            run.first ≡ first →
             run.source ≡ source →
             ((b : B) → body_at xs (Some source) ≡ Some b → IsGrown form (window_of c) (body_in xs c) (record_of run b)) →
             ((b : B) → body_at xs (Some source) ≡ Some b → HasEnded form (window_of c) (body_in xs c) (record_of run b)) →

@@ -11,6 +11,6 @@ module _ {B : Type 0} (xs : List (Terms B)) (members : List ℕ) (first last : �
   calendar_sources says = record {
     bodied = λ n i from upto e.
         let wins = subst (λ s. IsSource xs members n s) e
-            (says.sources n (subst (λ f. f ≤ n) says.first_is from) (subst (λ l. n ≤ l) says.last_is upto)) in
+        (says.sources n (subst (λ f. f ≤ n) says.first_is from) (subst (λ l. n ≤ l) says.last_is upto)) in
         subst (λ r. IsSome (option_and_then (λ r. r.body) r)) (sym wins.at) wins.runs;
   }

@@ -1,5 +1,6 @@
 -- Steps to the longest run that begins on a day.
-use Rattle.std.proofs.Common.{◌≡◌, ◌⊎◌, ℕ, ◌+◌, ◌-◌, ◌*◌, ◌<◌, ◌≤◌, Bool, List, length, Option, None, Some, get_or, sym, ◌∙◌, ap, subst, arith, refl}
+use Rattle.std.proofs.Common.{◌≡◌, ◌⊎◌, ℕ, ◌+◌, ◌-◌, ◌*◌, ◌<◌, ◌≤◌, Bool, List, length, Option, None, Some, get_or, sym, ◌∙◌, ap, subst}
+use Rattle.std.proofs.Common.{arith, refl}
 use Rattle.std.specs.Prelude.{◌↔◌, IsSome, MatchOption, slice_get}
 use Rattle.std.specs.Option.{option_and_then, unwrap_or}
 use Rattle.std.proofs.lemmas.Option.{slice_get_within}
@@ -40,7 +41,8 @@ module _ {B : Type 0} (xs : List (Terms B)) (c : CalendarParts) (sources : AreSo
       some-body (body_at xs (Some i))
       (sources.bodied n i within.from within.upto (sym (source_in-within c n within.from within.upto) ∙ is))
 
-  body-below : (i : ℕ) (b : B) (o : Option (Terms B)) → slice_get xs i ≡ o → option_and_then (λ (r : Terms B). r.body) o ≡ Some b → i < length xs
+  body-below : (i : ℕ) (b : B) (o : Option (Terms B)) → slice_get xs i ≡ o → option_and_then (λ (r : Terms B). r.body) o ≡ Some b →
+      i < length xs
   body-below i b None at e = absurd (cc)
   body-below i b (Some r) at e = slice_get_within xs i r at
 
@@ -87,7 +89,8 @@ pub record IsGrowing {B : Type 0} (form : Form) (xs : List (Terms B)) (c : Calen
 
 module _ {B : Type 0} (form : Form) (xs : List (Terms B)) (c : CalendarParts) (sources : AreSources xs c) (source first : ℕ) where
   last-is : (week : ℕ) (b : B) (days : List Bool) (o : Option ℕ) → IsMask (body_in xs c) b week days → week_of first ≡ week →
-      body_in xs c first ≡ Some b → MatchOption o ((w : ℕ) → ¬ RunsOn days w) (IsLastDay week days) → IsLastDay week days (unwrap_or o first)
+      body_in xs c first ≡ Some b → MatchOption o ((w : ℕ) → ¬ RunsOn days w) (IsLastDay week days) →
+      IsLastDay week days (unwrap_or o first)
   last-is week b days None m at runs h = absurd (h (weekday_of first) (m.shows first at runs))
   last-is week b days (Some day) m at runs h = h
 
@@ -101,7 +104,8 @@ module _ {B : Type 0} (form : Form) (xs : List (Terms B)) (c : CalendarParts) (s
       let some = source-body xs c sources first source starts in
       let runs : body_in xs c first ≡ Some some.0 = ap (body_at xs) starts ∙ some.1 in
       let mask = λ (b : B) (is : body_at xs (Some source) ≡ Some b). mask-of_row xs c sources (week_of first) source b row days r is m in
-      let last : IsLastDay (week_of first) days (unwrap_or o first) = last-is (week_of first) some.0 days o (mask some.0 some.1) refl runs h in
+      let last : IsLastDay (week_of first) days (unwrap_or o first) = last-is (week_of first) some.0 days o (mask some.0 some.1) refl
+      runs h in
       record {
         week_is = last.in_week;
         seven = m.seven;
@@ -122,7 +126,8 @@ module _ {B : Type 0} (form : Form) (xs : List (Terms B)) (c : CalendarParts) (s
         record {
           week_is = omega (arith, g.week_is);
           seven = g.seven;
-          days_mask = λ b is. subst (λ v. IsMask (body_in xs c) b v days) there (mask_alike (body_in xs c) b week k days bodies (g.days_mask b is));
+          days_mask = λ b is. subst (λ v. IsMask (body_in xs c) b v days) there
+              (mask_alike (body_in xs c) b week k days bodies (g.days_mask b is));
           grown = λ b is. grown_jump (window_of c) (body_in xs c) (inside xs c sources) form
               (record { first = first; last = last; days = mask; body = b }) week k g.week_is (g.grown b is) bodies;
         }

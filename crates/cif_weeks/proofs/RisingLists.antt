@@ -6,21 +6,11 @@ use Rattle.std.specs.declared.cmp.Ordering.TheVariants.{Less, Equal}
 use Rattle.std.specs.Ordering.{ordering_reverse}
 use Rattle.std.specs.Cmp.{IsTotalOrder}
 use Rattle.std.proofs.lemmas.Cmp.{tied_itself}
+use Rattle.cif_calendar.proofs.Elements.{Contains-first, Contains-rest, Contains-cases}
 
 -- an empty list has no member
 Contains-none : {X : Type 0} (x : X) → Contains [] x → ⊥
 Contains-none x (k, below, is) = omega arith
-
--- the members of a list are its head and those of its tail
-Contains-head : {X : Type 0} (x : X) (xs : List X) → Contains (x ∷ xs) x
-Contains-head x xs = (0, omega arith, refl)
-
-Contains-later : {X : Type 0} (x y : X) (xs : List X) → Contains xs y → Contains (x ∷ xs) y
-Contains-later x y xs (k, below, is) = (suc k, omega arith, is)
-
-Contains-cases : {X : Type 0} (x y : X) (xs : List X) → Contains (x ∷ xs) y → (x ≡ y) ⊎ Contains xs y
-Contains-cases x y xs (zero, below, is) = inl is
-Contains-cases x y xs (suc k, below, is) = inr (k, omega arith, is)
 
 -- what holds of the pairs of a list holds of its head with each other member, and of the pairs of its tail
 AllPairs-head : {X : Type 0} (R : X → X → Type 0) (x y : X) (xs : List X) → AllPairs R (x ∷ xs) → Contains xs y → R x y
@@ -33,12 +23,12 @@ AllPairs-tail R x xs all i j d less below = all (suc i) (suc j) d (omega arith) 
 pub AllPairs-members : {X : Type 0} (R : X → X → Type 0) (x y : X) (xs : List X) → AllPairs R xs → Contains xs x → Contains xs y
     → (x ≡ y) ⊎ (R x y ⊎ R y x)
 AllPairs-members R x y [] all in_x in_y = absurd (Contains-none x in_x)
-AllPairs-members R x y (z ∷ zs) all in_x in_y = elim (Contains-cases z x zs in_x) [
-  | inl z_x ↦ elim (Contains-cases z y zs in_y) [
+AllPairs-members R x y (z ∷ zs) all in_x in_y = elim (Contains-cases z zs x in_x) [
+  | inl z_x ↦ elim (Contains-cases z zs y in_y) [
     | inl z_y ↦ inl (sym z_x ∙ z_y)
     | inr later ↦ inr (inl (subst (λ w. R w y) z_x (AllPairs-head R z y zs all later)))
   ]
-  | inr later_x ↦ elim (Contains-cases z y zs in_y) [
+  | inr later_x ↦ elim (Contains-cases z zs y in_y) [
     | inl z_y ↦ inr (inr (subst (λ w. R w x) z_y (AllPairs-head R z x zs all later_x)))
     | inr later_y ↦ AllPairs-members R x y zs (AllPairs-tail R z zs all) later_x later_y
   ]
@@ -67,16 +57,16 @@ module _ {X : Type 0} (R : X → X → Type 0) (one_way : IsOneWay R) where
   pub same_members : (xs ys : List X) → AllPairs R xs → AllPairs R ys
       → ((z : X) → Contains xs z → Contains ys z) → ((z : X) → Contains ys z → Contains xs z) → xs ≡ ys
   same_members [] [] up vp forth back = refl
-  same_members [] (y ∷ ys) up vp forth back = absurd (Contains-none y (back y (Contains-head y ys)))
-  same_members (x ∷ xs) [] up vp forth back = absurd (Contains-none x (forth x (Contains-head x xs)))
+  same_members [] (y ∷ ys) up vp forth back = absurd (Contains-none y (back y (Contains-first y ys)))
+  same_members (x ∷ xs) [] up vp forth back = absurd (Contains-none x (forth x (Contains-first x xs)))
   same_members (x ∷ xs) (y ∷ ys) up vp forth back =
       let heads : x ≡ y = heads_equal x y xs ys up vp
-      (Contains-cases y x ys (forth x (Contains-head x xs))) (Contains-cases x y xs (back y (Contains-head y ys))) in
+      (Contains-cases y ys x (forth x (Contains-first x xs))) (Contains-cases x xs y (back y (Contains-first y ys))) in
       let tails : xs ≡ ys = same_members xs ys (AllPairs-tail R x xs up) (AllPairs-tail R y ys vp)
       (λ z in_xs. not_head x y z ys heads (AllPairs-head R x z xs up in_xs)
-      (Contains-cases y z ys (forth z (Contains-later x z xs in_xs))))
+      (Contains-cases y ys z (forth z (Contains-rest x xs z in_xs))))
       (λ z in_ys. not_head y x z xs (sym heads) (AllPairs-head R y z ys vp in_ys)
-      (Contains-cases x z xs (back z (Contains-later y z ys in_ys)))) in
+      (Contains-cases x xs z (back z (Contains-rest y ys z in_ys)))) in
       cc
 
 -- a total order is one way

@@ -7,7 +7,8 @@ use Rattle.cif_weeks.specs.declared.form.Form.{Form}
 use Rattle.cif_weeks.specs.Window.{Window}
 use Rattle.cif_weeks.specs.Permanent.{Permanent}
 use Rattle.cif_weeks.specs.WhatRuns.{SayTheSame}
-use Rattle.cif_weeks.specs.Canonical.{of_key, Precedes, AreCanonical, SayWhatRunsByKey, SayTheSameByKey}
+use Rattle.cif_calendar.specs.Keys.{of_key}
+use Rattle.cif_weeks.specs.Canonical.{Precedes, AreCanonical, SayWhatRunsByKey, SayTheSameByKey}
 use Rattle.cif_weeks.proofs.RisingLists.{IsOneWay, same_members, less_one_way, not_less}
 use Rattle.cif_weeks.proofs.Unique.{member, SayTheSame-sym, SayTheSame-from_runs}
 

@@ -1,16 +1,13 @@
--- The canonical records of all keys, in one list of pairs of a key and one of its records.
+-- The canonical records of all keys, whatever runs, in one list of pairs of a key and one of its records.
 use Rattle.std.specs.Prelude.{◌≡◌, ℕ, ◌<◌, ◌⊎◌, List, Option, AllPairs, Contains}
 use Rattle.std.specs.declared.cmp.Ordering.{Ordering}
 use Rattle.std.specs.declared.cmp.Ordering.TheVariants.{Less}
 use Rattle.cif_weeks.specs.declared.form.Form.{Form}
 use Rattle.cif_weeks.specs.Window.{Window}
-use Rattle.cif_weeks.specs.Permanent.{Permanent, Permanents}
+use Rattle.cif_calendar.specs.Keys.{of_key}
+use Rattle.cif_weeks.specs.Permanent.{Permanent}
 use Rattle.cif_weeks.specs.HaveForm.{HaveForm}
 use Rattle.cif_weeks.specs.WhatRuns.{SayWhatRuns, SayTheSame}
-
--- the records of key k
-abbrev pub of_key : {K B : Type 0} → List (K × Permanent B) → K → Permanents B
-of_key records k r = Contains records (k, r)
 
 -- one comes before the other: by key, and for one key by first day; `cmp` is the order of the keys
 abbrev pub Precedes : {K B : Type 0} → (K → K → Ordering) → K × Permanent B → K × Permanent B → Type 0

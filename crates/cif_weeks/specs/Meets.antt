@@ -1,4 +1,4 @@
--- The canonical records of one key.
+-- The canonical records of one key, with what runs.
 use Rattle.std.specs.Prelude.{ℕ, ◌<◌, List, Option, AllPairs, Contains}
 use Rattle.cif_weeks.specs.declared.form.Form.{Form}
 use Rattle.cif_weeks.specs.Window.{Window}

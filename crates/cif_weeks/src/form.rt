@@ -8,8 +8,8 @@
 #[derive(Clone, Copy, Debug, PartialEq, Eq)]
 pub enum Form {
     /// The mask of a week has the weekdays on which the body runs in it, and two consecutive weeks
-    /// are joined where their masks are equal. A week that the window cuts has the mask of its
-    /// dates inside the window.
+    /// are joined where their masks are equal. Of a week that the window cuts, the dates outside
+    /// it don't count.
     One,
     /// Two consecutive weeks are joined where the body runs alike in both on each weekday whose
     /// dates in both lie in the window; where there is no such weekday, they are joined. The mask

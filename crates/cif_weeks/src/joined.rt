@@ -27,7 +27,8 @@ fn is_first(days: DaysRun, weekday: u8) -> bool
     }
 }
 
-/// Whether the body at `source`, which runs on these days of the week, goes on from the week before.
+/// Whether the body at `source`, which runs on these days of the week, goes on from the week
+/// before.
 fn goes_on<E: Entry>(
     entries: &[E],
     calendar: &Calendar,

@@ -4,6 +4,9 @@ ghost use Rattle.std.specs.Prelude.{List, Option, Some, AllPairs, Contains};
 ghost use Rattle.std.specs.declared.cmp.Ordering.TheVariants.{Less};
 ghost use Rattle.cif_columns.specs.Day.{week_of, weekday_of};
 ghost use Rattle.cif_columns.specs.DaysRun.{RunsOn};
+ghost use Rattle.cif_calendar.specs.Terms.{Terms};
+ghost use Rattle.cif_calendar.specs.Calendar.{CalendarParts, IsCalendar};
+ghost use Rattle.cif_weeks.specs.Runs.{AreSources};
 ghost use Rattle.cif_weeks.specs.declared.form.Form.{Form};
 ghost use Rattle.cif_weeks.specs.declared.form.Form.TheVariants.{One, Two};
 ghost use Rattle.cif_weeks.specs.Window.{Window, IsWithin};
@@ -128,4 +131,10 @@ pub fn records_of_all_keys_are_unique<K: Ord, B>()
     ensures by_what_they_say { (form : Form) (window : Window) (xs ys : List (K × Permanent B))
         → AreCanonical K.cmp form window xs → AreCanonical K.cmp form window ys
         → SayTheSameByKey window xs ys → xs ≡ ys }
+{}
+
+/// Each source of a calendar is the position of an entry with a body, which is what `runs` asks for.
+pub fn sources_of_a_calendar<B>()
+    ensures { (xs : List (Terms B)) (members : List ℕ) (first last : ℕ) (c : CalendarParts)
+        → IsCalendar xs members first last c → AreSources xs c }
 {}

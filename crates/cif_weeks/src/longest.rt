@@ -1,6 +1,7 @@
 //! The longest run of a body that begins on a date.
 
-ghost use Rattle.std.specs.Prelude.{◌≡◌, ◌<◌, ◌≤◌, ◌+◌, ◌*◌, ◌↔◌, ℕ, Some, length, map, IsTrue, MatchBool};
+ghost use Rattle.std.specs.Prelude.{◌≡◌, ◌<◌, ◌≤◌, ◌+◌, ◌*◌, ◌↔◌, ℕ, Some};
+ghost use Rattle.std.specs.Prelude.{length, map, IsTrue, MatchBool};
 ghost use Rattle.cif_columns.specs.Day.{IsDay, week_of};
 ghost use Rattle.cif_calendar.specs.Source.{body_at};
 ghost use Rattle.cif_weeks.specs.Growing.{HasEnded, IsGrown};

@@ -57,7 +57,8 @@ fn has_body<E: Entry>(entries: &[E], source: Option<usize>, position: usize) -> 
     requires position { position < length entries.now }
     requires source { (i : ℕ) → source ≡ Some i → i < length entries.now }
     ensures { IsTrue result ↔ ((i : ℕ) × (source ≡ Some i)
-        × (body_at (map E.terms entries.now) (Some i) ≡ body_at (map E.terms entries.now) (Some position))) }
+        × (body_at (map E.terms entries.now) (Some i)
+        ≡ body_at (map E.terms entries.now) (Some position))) }
 {
     match source {
         None => false,

@@ -23,7 +23,8 @@ below : (g : Over) (c : In-Some g) → c.in-Some.source < length c.args.entries.
 below g c =
     let xs = map g.E.Entry.terms c.args.entries.now in
     let positions = row-positions xs c.args.calendar.now c.requires.sources (c.args.week + 1) c.args.row.now c.requires.row in
-    subst (λ n. c.in-Some.source < n) (let same : length xs ≡ length c.args.entries.now = length-map c.args.entries.now g.E.Entry.terms in same)
+    subst (λ n. c.in-Some.source < n) (let same : length xs ≡ length c.args.entries.now = length-map c.args.entries.now g.E.Entry.terms
+    in same)
     (positions.below c.args.weekday c.in-Some.source (source g c))
 
 pub mask_of-days-requires-clause-position : goal.mask_of-days-requires-clause-position
@@ -71,7 +72,8 @@ longest-requires-clause-earliest g c n same runs =
     first-day c.args.form (map g.E.Entry.terms c.args.entries.now) c.args.calendar.now c.requires.sources c.args.week c.args.weekday
     c.requires.weekday c.args.row.now c.requires.row c.args.runs.now.items c.requires.made c.in-Some.source
     (source g (goal.at.longest-requires-clause-earliest g c).In-Some) c.mask_of-days.result c.mask_of-days.ensures c.args.before.now
-    c.requires.before c.if-not-is_first.ensures c.in-Some-day_in.first n (omega (arith, c.in-Some-day_in.ensures.0, c.in-Some-day_in.ensures.1))
+    c.requires.before c.if-not-is_first.ensures c.in-Some-day_in.first n
+    (omega (arith, c.in-Some-day_in.ensures.0, c.in-Some-day_in.ensures.1))
     same runs
 
 pub returns : goal.returns
@@ -83,5 +85,6 @@ returns g c =
     c.requires.weekday c.args.row.now c.requires.row c.args.runs.now.items c.requires.made c.in-Some.source
     (source g (goal.at.returns g c).In-Some) c.mask_of-days.result c.mask_of-days.ensures c.args.before.now
     c.requires.before c.if-not-is_first.ensures c.if-goes_on.ensures c.in-Some-day_in.first
-    (omega (arith, c.in-Some-day_in.ensures.0, c.in-Some-day_in.ensures.1)) c.longest.result c.longest.ensures.first c.longest.ensures.source
+    (omega (arith, c.in-Some-day_in.ensures.0, c.in-Some-day_in.ensures.1)) c.longest.result c.longest.ensures.first
+    c.longest.ensures.source
     c.longest.ensures.grown c.longest.ensures.ended)

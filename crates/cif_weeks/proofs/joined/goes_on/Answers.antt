@@ -12,7 +12,8 @@ use Rattle.cif_weeks.proofs.joined.goes_on.Goals as goal
 -- what the test of a mask that isn't empty says
 told : {B : Type 0} (form : Form) (xs : List (Terms B)) (c : CalendarParts) (week : ℕ) (before : List (Option ℕ)) (source : ℕ)
     (days mask : List Bool) (weekday : ℕ) (agree : Bool) → IsMaskOf xs before source mask → RunsOn mask weekday →
-    ((earlier : ℕ) → earlier + 1 ≡ week → MatchBool agree (Agree form (window_of c) earlier mask days) (Differ form (window_of c) earlier mask days)) →
+    ((earlier : ℕ) → earlier + 1 ≡ week → MatchBool agree (Agree form (window_of c) earlier mask days)
+    (Differ form (window_of c) earlier mask days)) →
     MatchBool agree (GoesOn form xs c week before source days) (Begins form xs c week before source days)
 told form xs c week before source days mask weekday true m on h =
     record { mask = mask; is_mask = m; weekday = weekday; runs = on; agree = h }

@@ -29,7 +29,8 @@ loop-week-preserved g c =
           (λ end. omega (arith, c.last_week-end.ensures.week))
           says.upto;
       in_range = c.last_week-end.ensures.in_range;
-      row = row-jump c.args.calendar.now c.loop-week.week c.last_alike-week.result c.row_of-row.result c.row_of-row.ensures says.from says.alike;
+      row = row-jump c.args.calendar.now c.loop-week.week c.last_alike-week.result c.row_of-row.result c.row_of-row.ensures says.from
+          says.alike;
       made = upto-jump c.args.form xs c.args.calendar.now c.requires.sources c.loop-week.week c.last_alike-week.result
           c.begin_runs.new.runs.items says.from says.alike c.in_ok-begin_runs.ensures;
     }

@@ -11,7 +11,8 @@ returns-in-Two c week is =
     rw c.in-Two.is (
       λ on. let h = says.0 on in
           counts-within (window_of c.args.calendar.now) week c.args.next c.args.weekday is c.requires.weekday
-          (subst (λ v. v + 11 ≤ c.args.next * 7 + c.args.weekday) first h.0) (subst (λ v. c.args.next * 7 + c.args.weekday ≤ v + 4) last h.1),
+          (subst (λ v. v + 11 ≤ c.args.next * 7 + c.args.weekday) first h.0)
+          (subst (λ v. c.args.next * 7 + c.args.weekday ≤ v + 4) last h.1),
       λ counts. let h = counted-within (window_of c.args.calendar.now) week c.args.next c.args.weekday is counts in
           says.1 (
             subst (λ v. v + 11 ≤ c.args.next * 7 + c.args.weekday) (sym first) h.0,

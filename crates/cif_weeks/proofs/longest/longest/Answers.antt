@@ -4,7 +4,8 @@ use Rattle.cif_columns.specs.DaysRun.{RunsOn}
 use Rattle.cif_weeks.specs.WeekMasks.{IsLastDay}
 use Rattle.std.proofs.lemmas.Bool.Decides.{nat_tests}
 use Rattle.cif_weeks.specs.WeekRows.{IsRowBefore}
-use Rattle.cif_weeks.proofs.Growth.{IsGrowing, source-body, row-positions, mask-of_row, mask-days, growing-start, growing-jump, growing-more}
+use Rattle.cif_weeks.proofs.Growth.{IsGrowing, source-body, row-positions, mask-of_row, mask-days, growing-start, growing-jump}
+use Rattle.cif_weeks.proofs.Growth.{growing-more}
 use Rattle.cif_weeks.proofs.Growth.{ended-differs, ended-rests, ended-over, growing-day}
 use Rattle.cif_weeks.proofs.SourcesIn.{source_in-inside}
 use Rattle.cif_weeks.proofs.longest.longest.Given.{Over}
@@ -98,7 +99,8 @@ returns-clause-ended g c b is =
           c.last_alike-alike.result c.later-last.result c.loop-week.days c.loop-week.mask growing b (grind (arith, nat_tests))
       | else-week-end+in_default-2 w ↦ ended-differs c.args.form xs c.args.calendar.now c.requires.sources c.args.source c.args.first
           c.last_alike-alike.result c.later-last.result c.loop-week.days c.loop-week.mask growing w.row_of-in-loop-week.result
-          w.mask_of-next.result w.row_of-in-loop-week.ensures w.mask_of-next.ensures b is (w.if-agree.ensures c.last_alike-alike.result refl)
+          w.mask_of-next.result w.row_of-in-loop-week.ensures w.mask_of-next.ensures b is
+          (w.if-agree.ensures c.last_alike-alike.result refl)
       | else-week-end+in_default w ↦ ended-rests c.args.form xs c.args.calendar.now c.requires.sources c.args.source c.args.first
           c.last_alike-alike.result c.later-last.result c.loop-week.days c.loop-week.mask growing w.row_of-in-loop-week.result
           w.mask_of-next.result w.row_of-in-loop-week.ensures w.mask_of-next.ensures b is w.in_default.ensures
