@@ -1,5 +1,6 @@
 //! What runs on single dates, by the calendar of one train's or one association's records.
-ghost use Rattle.std.specs.Prelude.{◌<◌, ◌↔◌, IsTrue, All};
+ghost use Rattle.std.specs.Prelude.{◌<◌, ◌↔◌, IsTrue, All, map, IfOk};
+ghost use Rattle.cif_weeks.specs.Runs.{AreSources};
 
 use crate::inputs::{
     association_cancelled_on_a_wednesday, new_schedule_beside_an_overlay,
@@ -37,12 +38,15 @@ fn all_below(members: &[usize], count: usize) -> bool
 }
 
 /// The answer for these members, which have to be positions.
+#[tactic(auto, using(cif_weeks::proofs::CalendarSources::calendar_sources))]
 fn answer<E: Entry>(
     alloc: Global,
     entries: &[E],
     members: &[usize],
     window: Window,
-) -> Result<Result<Calendar, CalendarFault>, Fail> {
+) -> Result<Result<Calendar, CalendarFault>, Fail>
+    ensures sources { IfOk result (λ answer. IfOk answer (AreSources (map E.terms entries.now))) }
+{
     if all_below(members, entries.len()) {
         Ok(calendar(alloc, entries, members, window))
     } else {
@@ -56,7 +60,9 @@ pub(crate) fn calendar_of<E: Entry>(
     entries: &[E],
     members: &[usize],
     window: Window,
-) -> Result<Calendar, Fail> {
+) -> Result<Calendar, Fail>
+    ensures sources { IfOk result (AreSources (map E.terms entries.now)) }
+{
     match answer(alloc, entries, members, window)? {
         Ok(calendar) => Ok(calendar),
         Err(CalendarFault::Ambiguous(_)) => Err("no clash".into()),

@@ -264,3 +264,61 @@ pub(crate) fn hundred_years(alloc: Global) -> Result<Vec<u8>, AllocError> {
         ],
     )
 }
+
+/// Schedules with these BS lines and with one body, under this header.
+fn with_one_body(
+    alloc: Global,
+    header: &LineText,
+    basics: &[LineText],
+) -> Result<Vec<u8>, AllocError> {
+    let origin = origin(b"1  ");
+    let mut bytes = joined(alloc, &[header])?;
+    for basic in basics {
+        for line in [basic, EXTRA, &origin, TERMINUS] {
+            bytes.extend_from_slice(line)?;
+        }
+    }
+    bytes.extend_from_slice(TRAILER)?;
+    Ok(bytes)
+}
+
+/// The weekday train and then an overlay on one Wednesday, from the same platform.
+pub(crate) fn overlay_with_the_same_body(alloc: Global) -> Result<Vec<u8>, AllocError> {
+    let weekdays = basic(b"260105", b"260125", b"1111100", b'P');
+    let overlay = basic(b"260114", b"260114", b"0010000", b'O');
+    with_one_body(alloc, HEADER, &[weekdays, overlay])
+}
+
+/// A schedule of one Monday whose mask has all weekdays.
+pub(crate) fn mask_days_without_a_date(alloc: Global) -> Result<Vec<u8>, AllocError> {
+    let monday = basic(b"260105", b"260105", b"1111111", b'P');
+    with_one_body(alloc, HEADER, &[monday])
+}
+
+/// Two Mondays, with a week between them in which nothing runs.
+pub(crate) fn mondays_around_an_empty_week(alloc: Global) -> Result<Vec<u8>, AllocError> {
+    let first = basic(b"260105", b"260111", b"1000000", b'P');
+    let second = basic(b"260119", b"260125", b"1000000", b'P');
+    with_one_body(alloc, HEADER, &[first, second])
+}
+
+/// A Thursday and the Monday after it, in a window from the Wednesday before to the Tuesday after.
+pub(crate) fn two_part_weeks(alloc: Global) -> Result<Vec<u8>, AllocError> {
+    let thursday = basic(b"260108", b"260108", b"0001000", b'P');
+    let monday = basic(b"260112", b"260112", b"1000000", b'P');
+    let header = with(HEADER, 49, b"070126130126");
+    with_one_body(alloc, &header, &[thursday, monday])
+}
+
+/// A train on all days of a window that begins on a Wednesday, in one schedule.
+pub(crate) fn all_days_in_one_schedule(alloc: Global) -> Result<Vec<u8>, AllocError> {
+    let all = basic(b"260107", b"260125", b"1111111", b'P');
+    with_one_body(alloc, HEADER_FROM_WEDNESDAY, &[all])
+}
+
+/// The same in two schedules, of which the first has the dates of the part of a week.
+pub(crate) fn all_days_in_two_schedules(alloc: Global) -> Result<Vec<u8>, AllocError> {
+    let part = basic(b"260107", b"260111", b"0011111", b'P');
+    let whole = basic(b"260112", b"260125", b"1111111", b'P');
+    with_one_body(alloc, HEADER_FROM_WEDNESDAY, &[part, whole])
+}

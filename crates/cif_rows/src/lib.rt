@@ -19,6 +19,8 @@ mod lines;
 #[cfg(test)]
 mod order;
 #[cfg(test)]
+mod partial_weeks;
+#[cfg(test)]
 mod pieces;
 #[cfg(test)]
 mod plain_reading;
@@ -26,5 +28,7 @@ mod plain_reading;
 mod readings;
 #[cfg(test)]
 mod refused;
+#[cfg(test)]
+mod whole_weeks;
 #[cfg(test)]
 mod writers;
