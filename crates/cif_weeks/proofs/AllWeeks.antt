@@ -33,9 +33,8 @@ none-at (suc (suc (suc (suc (suc (suc (suc w))))))) = refl
 pub row-none : (c : CalendarParts) (week : ℕ) → week ≡ week_of c.first →
     IsRowBefore c week (None ∷ None ∷ None ∷ None ∷ None ∷ None ∷ None ∷ [])
 row-none c week is = record {
-  seven = refl;
   each = λ n next. none-at (weekday_of n) ∙ sym (source_in-before c n (omega arith));
-  only = λ w i e. absurd (let no : None ≡ Some i = sym (none-at w) ∙ e in cc);
+  only = λ w i below e. absurd (let no : None ≡ Some i = sym (none-at w) ∙ e in cc);
 }
 
 -- in weeks that are alike the sources come again
@@ -49,7 +48,6 @@ alike-source c week alike a (suc k) i from upto =
 pub row-jump : (c : CalendarParts) (week alike : ℕ) (row : List (Option ℕ)) → IsRowBefore c (week + 1) row → week ≤ alike →
     AreAlikeUpTo c week alike → IsRowBefore c (alike + 1) row
 row-jump c week alike row r up a = record {
-  seven = r.seven;
   each = λ n next. ⊎_elim
       (λ some.
       let whole : 0 < week = a.whole some in
@@ -62,8 +60,8 @@ row-jump c week alike row r up a = record {
       ∙ sym (alike-source c week alike a k i (omega arith) (omega arith)) ∙ ap (source_in c) back)
       (λ same. r.each n (omega arith))
       (cases_lt week alike);
-  only = λ w i is.
-      let (n, next, day) = r.only w i is in
+  only = λ w i below is.
+      let (n, next, day) = r.only w i below is in
       let k : ℕ = alike - week in (
         n + 7 * k,
         (let later : week_of (n + 7 * k) + 1 ≡ alike + 1 = omega arith in later),

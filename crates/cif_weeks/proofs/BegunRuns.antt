@@ -15,6 +15,7 @@ use Rattle.cif_weeks.specs.WeekMasks.{IsMask}
 use Rattle.cif_weeks.specs.Runs.{AreSources, AreRunsOf, IsRunOf, record_of, window_of}
 use Rattle.cif_weeks.specs.WeekRows.{source_in, body_in, IsRowBefore, IsMaskOf, GoesOn, Begins}
 use Rattle.cif_weeks.specs.MadeRecords.{IsCovered, AreRunsUpTo}
+use Rattle.cif_weeks.proofs.WeekDays.{RunsOn-below}
 use Rattle.cif_weeks.proofs.Growth.{inside, source-body, mask-of_row}
 use Rattle.cif_weeks.proofs.Made.{made_idle, made_covered, made_more}
 use Rattle.cif_weeks.proofs.Covered.{covered_same_week, covered_joined, free_after_rest, free_after_change}
@@ -41,9 +42,9 @@ module _ {B : Type 0} (form : Form) (xs : List (Terms B)) (c : CalendarParts) (s
   }
 
   -- the day of a source
-  pub row-day : (v i : ℕ) → get_or row v None ≡ Some i → (n : ℕ) × (n + 4 ≡ week * 7 + v) × (source_in c n ≡ Some i)
-  row-day v i is =
-      let (n, next, day) = r.only v i is in
+  pub row-day : (v i : ℕ) → v < 7 → get_or row v None ≡ Some i → (n : ℕ) × (n + 4 ≡ week * 7 + v) × (source_in c n ≡ Some i)
+  row-day v i seven is =
+      let (n, next, day) = r.only v i seven is in
       (n, (let at : n + 4 ≡ week * 7 + v = omega arith in at), sym (r.each n next) ∙ ap (λ k. get_or row k None) day ∙ is)
 
   module _ (source : ℕ) (is : get_or row w None ≡ Some source) (days : List Bool) (m : IsMaskOf xs row source days) where
@@ -60,10 +61,10 @@ module _ {B : Type 0} (form : Form) (xs : List (Terms B)) (c : CalendarParts) (s
     -- the body runs on an earlier weekday too
     pub step-same : (earlier : ℕ) → earlier < w → RunsOn days earlier → AreRunsUpTo form xs c (week * 7 + w + 1) runs
     step-same earlier less on =
-        let (n, at, starts) = row-day w source is in
+        let (n, at, starts) = row-day w source below is in
         let (b, has) = source-body xs c sources n source starts in
         let (i, at_i, same) = (m.runs earlier).0 on in
-        let (k, at_k, source_k) = row-day earlier i at_i in
+        let (k, at_k, source_k) = row-day earlier i (omega arith) at_i in
         covered-more n at (covered_same_week (window_of c) (body_in xs c) (inside xs c sources) form (week * 7 + w) u.records u.made k n b
         (omega arith) (omega arith) (ap (body_at xs) source_k ∙ same ∙ has) (ap (body_at xs) starts ∙ has))
 
@@ -71,10 +72,10 @@ module _ {B : Type 0} (form : Form) (xs : List (Terms B)) (c : CalendarParts) (s
       -- the body goes on from the week before
       pub step-joined : GoesOn form xs c week before source days → AreRunsUpTo form xs c (week * 7 + w + 1) runs
       step-joined g =
-          let (n, at, starts) = row-day w source is in
+          let (n, at, starts) = row-day w source below is in
           let (b, has) = source-body xs c sources n source starts in
           let (i, at_i, same) = (g.is_mask.runs g.weekday).0 g.runs in
-          let (k, next, day) = q.only g.weekday i at_i in
+          let (k, next, day) = q.only g.weekday i (RunsOn-below g.mask g.weekday g.is_mask.seven g.runs) at_i in
           let whole : IsRowBefore c (week_of k + 1) before = subst (λ v. IsRowBefore c v before) (sym next) q in
           covered-more n at (covered_joined (window_of c) (body_in xs c) (inside xs c sources) form (week * 7 + w) u.records u.made n b
           (week_of k) g.weekday g.mask days (omega arith) (omega arith) (ap (body_at xs) starts ∙ has)
@@ -93,7 +94,7 @@ module _ {B : Type 0} (form : Form) (xs : List (Terms B)) (c : CalendarParts) (s
         -- no day of the week before that weekday's has the body
         pub first-day : (n k : ℕ) → n + 4 ≡ week * 7 + w → week_of k ≡ week_of n → body_in xs c k ≡ body_at xs (Some source) → n ≤ k
         first-day n k at same runs_k =
-            let (n_too, at_too, starts) = row-day w source is in
+            let (n_too, at_too, starts) = row-day w source below is in
             let (b, has) = source-body xs c sources n_too source starts in
             let on : RunsOn days (weekday_of k) =
             (mask-of_row xs c sources week source b row days r has m).shows k (omega arith) (runs_k ∙ has) in
@@ -131,7 +132,7 @@ module _ {B : Type 0} (form : Form) (xs : List (Terms B)) (c : CalendarParts) (s
             ((b : B) → body_at xs (Some source) ≡ Some b → HasEnded form (window_of c) (body_in xs c) (record_of run b)) →
             AreRunsUpTo form xs c (week * 7 + w + 1) (runs ++ run ∷ [])
         step-push g first at run is_first is_source grown ended =
-            let (n, at_n, starts) = row-day w source is in
+            let (n, at_n, starts) = row-day w source below is in
             let (b, has) = source-body xs c sources n source starts in
             let same : n ≡ run.first = omega arith in
             record {

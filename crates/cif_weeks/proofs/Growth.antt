@@ -14,11 +14,13 @@ use Rattle.cif_weeks.specs.Window.{IsWithin}
 use Rattle.cif_weeks.specs.Growing.{IsGrown, HasEnded}
 use Rattle.cif_weeks.specs.WeekMasks.{Agree, Differ, IsLastDay, IsMask}
 use Rattle.cif_weeks.specs.Runs.{AreSources, window_of}
-use Rattle.cif_weeks.specs.WeekRows.{source_in, body_in, IsRowBefore, IsMaskOf, ArePositions, AreAlikeUpTo}
+use Rattle.cif_weeks.specs.WeekRows.{source_in, body_in, IsRowBefore, IsMaskOf, ArePositions, AreAlikeUpTo, IsWeek}
+use Rattle.cif_weeks.specs.declared.week.Week.{Week}
 use Rattle.cif_weeks.proofs.Growing.{grown_start, grown_more}
 use Rattle.cif_weeks.proofs.Ended.{ended_differ, ended_rest, ended_window}
 use Rattle.cif_weeks.proofs.Jump.{grown_jump, mask_alike}
 use Rattle.cif_weeks.proofs.AlikeWeeks.{alike-bodies}
+use Rattle.cif_weeks.proofs.WeekDays.{RunsOn-below}
 use Rattle.cif_weeks.proofs.SourcesIn.{source_in-within, source_in-inside}
 
 some-body : {B : Type 0} (o : Option B) → IsSome o → (b : B) × (o ≡ Some b)
@@ -51,8 +53,8 @@ module _ {B : Type 0} (xs : List (Terms B)) (c : CalendarParts) (sources : AreSo
 
   pub row-positions : (next : ℕ) (row : List (Option ℕ)) → IsRowBefore c next row → ArePositions xs row
   row-positions next row r = record {
-    below = λ w i is.
-        let (n, in_week, day) = r.only w i is in
+    below = λ w i seven is.
+        let (n, in_week, day) = r.only w i seven is in
         source-below n i (sym (r.each n in_week) ∙ ap (λ v. get_or row v None) day ∙ is);
   }
 
@@ -66,7 +68,7 @@ module _ {B : Type 0} (xs : List (Terms B)) (c : CalendarParts) (sources : AreSo
         (m.runs (weekday_of n)).1 (i, r.each n (omega arith) ∙ source_is, ap (body_at xs) (sym source_is) ∙ runs ∙ sym is);
     only = λ w on.
         let (i, at, same) = (m.runs w).0 on in
-        let (n, in_week, day) = r.only w i at in
+        let (n, in_week, day) = r.only w i (RunsOn-below mask w m.seven on) at in
         let source_is : source_in c n ≡ Some i = sym (r.each n in_week) ∙ ap (λ v. get_or row v None) day ∙ at in
         (n, (let week_is : week_of n ≡ week = omega arith in week_is), day, ap (body_at xs) source_is ∙ same ∙ is);
   }
@@ -95,71 +97,91 @@ module _ {B : Type 0} (form : Form) (xs : List (Terms B)) (c : CalendarParts) (s
   last-is week b days (Some day) m at runs h = h
 
   -- the first week
-  pub growing-start : (row : List (Option ℕ)) (days : List Bool) (o : Option ℕ) → source_in c first ≡ Some source →
+  growing-start : (week : ℕ) (row : List (Option ℕ)) (days : List Bool) (o : Option ℕ) → week_of first ≡ week →
+      source_in c first ≡ Some source →
       ((n : ℕ) → week_of n ≡ week_of first → body_in xs c n ≡ body_at xs (Some source) → first ≤ n) →
-      IsRowBefore c (week_of first + 1) row → IsMaskOf xs row source days →
-      MatchOption o ((w : ℕ) → ¬ RunsOn days w) (IsLastDay (week_of first) days) →
-      IsGrowing form xs c source first (week_of first) (unwrap_or o first) days days
-  growing-start row days o starts earliest r m h =
+      IsRowBefore c (week + 1) row → IsMaskOf xs row source days →
+      MatchOption o ((w : ℕ) → ¬ RunsOn days w) (IsLastDay week days) →
+      IsGrowing form xs c source first week (unwrap_or o first) days days
+  growing-start week row days o at starts earliest r m h =
       let some = source-body xs c sources first source starts in
       let runs : body_in xs c first ≡ Some some.0 = ap (body_at xs) starts ∙ some.1 in
-      let mask = λ (b : B) (is : body_at xs (Some source) ≡ Some b). mask-of_row xs c sources (week_of first) source b row days r is m in
-      let last : IsLastDay (week_of first) days (unwrap_or o first) = last-is (week_of first) some.0 days o (mask some.0 some.1) refl
-      runs h in
+      let mask = λ (b : B) (is : body_at xs (Some source) ≡ Some b). mask-of_row xs c sources week source b row days r is m in
+      let last : IsLastDay week days (unwrap_or o first) = last-is week some.0 days o (mask some.0 some.1) at runs h in
       record {
         week_is = last.in_week;
         seven = m.seven;
         days_mask = mask;
         grown = λ b is. grown_start (window_of c) (body_in xs c) (inside xs c sources) form
-            (record { first = first; last = unwrap_or o first; days = days; body = b }) (mask b is) last (ap (body_at xs) starts ∙ is)
-            (λ n at runs_n. earliest n at (runs_n ∙ sym is));
+            (record { first = first; last = unwrap_or o first; days = days; body = b })
+            (subst (λ v. IsMask (body_in xs c) b v days) (sym at) (mask b is))
+            (subst (λ v. IsLastDay v days (unwrap_or o first)) (sym at) last) (ap (body_at xs) starts ∙ is)
+            (λ n at_n runs_n. earliest n at_n (runs_n ∙ sym is));
       }
+
+  -- the weeks that are like its last
+  growing-jump : (last : ℕ) (days mask : List Bool) (week alike : ℕ) → IsGrowing form xs c source first week last days mask →
+      week ≤ alike → AreAlikeUpTo c week alike → IsGrowing form xs c source first alike (last + 7 * (alike - week)) days mask
+  growing-jump last days mask week alike g up a =
+      let k : ℕ = alike - week in
+      let there : week + k ≡ alike = omega arith in
+      let bodies = alike-bodies xs c week alike up a in
+      record {
+        week_is = omega (arith, g.week_is);
+        seven = g.seven;
+        days_mask = λ b is. subst (λ v. IsMask (body_in xs c) b v days) there
+            (mask_alike (body_in xs c) b week k days bodies (g.days_mask b is));
+        grown = λ b is. grown_jump (window_of c) (body_in xs c) (inside xs c sources) form
+            (record { first = first; last = last; days = mask; body = b }) week k g.week_is (g.grown b is) bodies;
+      }
+
+  -- so with the first week come those that are like it
+  pub growing-first : (week : Week) (days : List Bool) (o : Option ℕ) → IsWeek c week → week_of first ≡ week.number →
+      source_in c first ≡ Some source →
+      ((n : ℕ) → week_of n ≡ week_of first → body_in xs c n ≡ body_at xs (Some source) → first ≤ n) →
+      IsMaskOf xs week.row source days → MatchOption o ((w : ℕ) → ¬ RunsOn days w) (IsLastDay week.number days) →
+      IsGrowing form xs c source first week.last_alike (unwrap_or o first + 7 * (week.last_alike - week.number)) days days
+  growing-first week days o k at starts earliest m h =
+      growing-jump (unwrap_or o first) days days week.number week.last_alike
+      (growing-start week.number week.row days o at starts earliest k.row m h) k.from k.alike
 
   module _ (week last : ℕ) (days mask : List Bool) (g : IsGrowing form xs c source first week last days mask) where
-    -- the weeks that are like this one
-    pub growing-jump : (alike : ℕ) → week ≤ alike → AreAlikeUpTo c week alike →
-        IsGrowing form xs c source first alike (last + 7 * (alike - week)) days mask
-    growing-jump alike up a =
-        let k : ℕ = alike - week in
-        let there : week + k ≡ alike = omega arith in
-        let bodies = alike-bodies xs c week alike up a in
-        record {
-          week_is = omega (arith, g.week_is);
-          seven = g.seven;
-          days_mask = λ b is. subst (λ v. IsMask (body_in xs c) b v days) there
-              (mask_alike (body_in xs c) b week k days bodies (g.days_mask b is));
-          grown = λ b is. grown_jump (window_of c) (body_in xs c) (inside xs c sources) form
-              (record { first = first; last = last; days = mask; body = b }) week k g.week_is (g.grown b is) bodies;
-        }
+    -- the next week
+    module _ (next : Week) (is_next : next.number ≡ week + 1) (k : IsWeek c next) (next_days : List Bool)
+        (m : IsMaskOf xs next.row source next_days) where
+      next-mask : (b : B) → body_at xs (Some source) ≡ Some b → IsMask (body_in xs c) b (week + 1) next_days
+      next-mask b is = subst (λ v. IsMask (body_in xs c) b v next_days) is_next
+          (mask-of_row xs c sources next.number source b next.row next_days k.row is m)
 
-    -- the next week, which joins
-    module _ (row : List (Option ℕ)) (next : List Bool) (r : IsRowBefore c (week + 1 + 1) row) (m : IsMaskOf xs row source next) where
-      next-mask : (b : B) → body_at xs (Some source) ≡ Some b → IsMask (body_in xs c) b (week + 1) next
-      next-mask b is = mask-of_row xs c sources (week + 1) source b row next r is m
-
-      pub growing-more : (day : ℕ) (both : List Bool) → IsLastDay (week + 1) next day → Agree form (window_of c) week days next →
-          length both ≡ 7 → ((w : ℕ) → RunsOn both w ↔ (RunsOn mask w ⊎ RunsOn next w)) →
-          IsGrowing form xs c source first (week + 1) day next both
-      growing-more day both l agree seven union = record {
-        week_is = l.in_week;
-        seven = seven;
-        days_mask = next-mask;
-        grown = λ b is. grown_more (window_of c) (body_in xs c) (inside xs c sources) form
-            (record { first = first; last = last; days = mask; body = b }) week days next both day g.week_is (g.grown b is)
-            (g.days_mask b is) (next-mask b is) agree seven union l;
-      }
+      -- which joins, and with it those that are like it
+      pub growing-more : (day : ℕ) (both : List Bool) → IsLastDay next.number next_days day →
+          Agree form (window_of c) week days next_days → length both ≡ 7 →
+          ((w : ℕ) → RunsOn both w ↔ (RunsOn mask w ⊎ RunsOn next_days w)) →
+          IsGrowing form xs c source first next.last_alike (day + 7 * (next.last_alike - next.number)) next_days both
+      growing-more day both l agree seven union =
+          let last_day : IsLastDay (week + 1) next_days day = subst (λ v. IsLastDay v next_days day) is_next l in
+          let joined : IsGrowing form xs c source first (week + 1) day next_days both = record {
+            week_is = last_day.in_week;
+            seven = seven;
+            days_mask = next-mask;
+            grown = λ b is. grown_more (window_of c) (body_in xs c) (inside xs c sources) form
+                (record { first = first; last = last; days = mask; body = b }) week days next_days both day g.week_is (g.grown b is)
+                (g.days_mask b is) (next-mask b is) agree seven union last_day;
+          } in
+          growing-jump day next_days both next.number next.last_alike
+          (subst (λ v. IsGrowing form xs c source first v day next_days both) (sym is_next) joined) k.from k.alike
 
       -- or doesn't
-      pub ended-differs : (b : B) → body_at xs (Some source) ≡ Some b → Differ form (window_of c) week days next →
+      pub ended-differs : (b : B) → body_at xs (Some source) ≡ Some b → Differ form (window_of c) week days next_days →
           HasEnded form (window_of c) (body_in xs c) (record { first = first; last = last; days = mask; body = b })
       ended-differs b is differ = ended_differ (window_of c) (body_in xs c) (inside xs c sources) form
-          (record { first = first; last = last; days = mask; body = b }) week days next g.week_is (g.grown b is) (g.days_mask b is)
+          (record { first = first; last = last; days = mask; body = b }) week days next_days g.week_is (g.grown b is) (g.days_mask b is)
           (next-mask b is) differ
 
-      pub ended-rests : (b : B) → body_at xs (Some source) ≡ Some b → ((w : ℕ) → ¬ RunsOn next w) →
+      pub ended-rests : (b : B) → body_at xs (Some source) ≡ Some b → ((w : ℕ) → ¬ RunsOn next_days w) →
           HasEnded form (window_of c) (body_in xs c) (record { first = first; last = last; days = mask; body = b })
       ended-rests b is none = ended_rest (window_of c) (body_in xs c) (inside xs c sources) form
-          (record { first = first; last = last; days = mask; body = b }) week next g.week_is (next-mask b is) none
+          (record { first = first; last = last; days = mask; body = b }) week next_days g.week_is (next-mask b is) none
 
     pub ended-over : (b : B) → week_of c.last ≤ week →
         HasEnded form (window_of c) (body_in xs c) (record { first = first; last = last; days = mask; body = b })

@@ -19,9 +19,8 @@ module _ (c : CalendarParts) (week : ℕ) where
   -- at the end it is the week's row
   pub row-whole : (row : List (Option ℕ)) → IsRowUpTo c week 7 row → IsRowBefore c (week + 1) row
   row-whole row r = record {
-    seven = r.seven;
     each = λ n at. r.each n (omega arith) (omega arith);
-    only = λ w i is. let (n, in_week, day) = r.only w i is in (n, (let next : week_of n + 1 ≡ week + 1 = omega arith in next), day);
+    only = λ w i below is. let (n, in_week, day) = r.only w i is in (n, (let next : week_of n + 1 ≡ week + 1 = omega arith in next), day);
   }
 
   module _ (k : ℕ) (row : List (Option ℕ)) (below : k < 7) (r : IsRowUpTo c week k row) where

@@ -6,8 +6,10 @@ use Rattle.cif_columns.specs.DaysRun.{RunsOn}
 use Rattle.cif_calendar.specs.Terms.{Terms}
 use Rattle.cif_calendar.specs.Source.{body_at}
 use Rattle.cif_calendar.specs.Pieces.{source_at}
+use Rattle.cif_calendar.specs.declared.piece.Piece.{Piece}
 use Rattle.cif_calendar.specs.Calendar.{CalendarParts}
 use Rattle.cif_weeks.specs.declared.form.Form.{Form}
+use Rattle.cif_weeks.specs.declared.week.Week.{Week}
 use Rattle.cif_weeks.specs.Runs.{window_of}
 use Rattle.cif_weeks.specs.WeekMasks.{Agree, Differ}
 
@@ -21,9 +23,8 @@ body_in xs c n = body_at xs (source_in c n)
 
 -- the sources of the days of the week before `next`, Monday first
 pub record IsRowBefore (c : CalendarParts) (next : ℕ) (row : List (Option ℕ)) : Type 0 where
-  pub seven : length row ≡ 7
   pub each : (n : ℕ) → week_of n + 1 ≡ next → slice_index_or row (weekday_of n) None ≡ source_in c n
-  pub only : (w i : ℕ) → slice_index_or row w None ≡ Some i → (n : ℕ) × (week_of n + 1 ≡ next) × (weekday_of n ≡ w)
+  pub only : (w i : ℕ) → w < 7 → slice_index_or row w None ≡ Some i → (n : ℕ) × (week_of n + 1 ≡ next) × (weekday_of n ≡ w)
 
 -- the weekdays of a row on which the body at this position runs
 pub record IsMaskOf {B : Type 0} (xs : List (Terms B)) (row : List (Option ℕ)) (source : ℕ) (mask : List Bool) : Type 0 where
@@ -32,7 +33,7 @@ pub record IsMaskOf {B : Type 0} (xs : List (Terms B)) (row : List (Option ℕ))
 
 -- each source of a row is the position of a record
 pub record ArePositions {B : Type 0} (xs : List (Terms B)) (row : List (Option ℕ)) : Type 0 where
-  pub below : (w i : ℕ) → slice_index_or row w None ≡ Some i → i < length xs
+  pub below : (w i : ℕ) → w < 7 → slice_index_or row w None ≡ Some i → i < length xs
 
 -- The body at this position goes on from the week before `week`: its mask there isn't empty, and agrees with `days`.
 pub record GoesOn {B : Type 0} (form : Form) (xs : List (Terms B)) (c : CalendarParts) (week : ℕ) (before : List (Option ℕ))
@@ -55,3 +56,16 @@ pub record Begins {B : Type 0} (form : Form) (xs : List (Terms B)) (c : Calendar
 pub record AreAlikeUpTo (c : CalendarParts) (week last : ℕ) : Type 0 where
   pub whole : week < last → 0 < week
   pub same : (n : ℕ) → week ≤ week_of n → week_of n < last → source_in c (n + 7) ≡ source_in c n
+
+-- the sources of a week of the calendar, and that the weeks after it are like it up to this one
+pub record IsWeek (c : CalendarParts) (week : Week) : Type 0 where
+  pub row : IsRowBefore c (week.number + 1) week.row
+  pub from : week.number ≤ week.last_alike
+  pub upto : week.number ≤ week_of c.last → week.last_alike ≤ week_of c.last
+  pub alike : AreAlikeUpTo c week.number week.last_alike
+
+-- A week whose Monday is in the piece lies whole in it, and so do the weeks up to `last_alike`: none of their days is after it.
+pub record IsInPiece (p : Piece) (week : Week) : Type 0 where
+  pub row : week.row ≡ p.winners
+  pub from : week.number ≤ week.last_alike
+  pub upto : (n : ℕ) → week_of n ≤ week.last_alike → n ≤ p.last

@@ -5,12 +5,13 @@ ghost use Rattle.cif_columns.specs.Day.{IsDay};
 ghost use Rattle.cif_columns.specs.DaysRun.{IsFirstOf, RunsOn};
 ghost use Rattle.cif_weeks.specs.MadeRecords.{AreRunsUpTo};
 ghost use Rattle.cif_weeks.specs.Runs.{AreCanonicalRuns, AreSources};
-ghost use Rattle.cif_weeks.specs.WeekRows.{ArePositions, Begins, GoesOn, IsRowBefore};
+ghost use Rattle.cif_weeks.specs.WeekRows.{ArePositions, Begins, GoesOn, IsRowBefore, IsWeek};
 
 use crate::form::Form;
 use crate::longest::{agree, longest};
 use crate::run::Run;
-use crate::week_rows::{Row, day_in, last_alike, last_week, mask_of, row_of};
+use crate::week::{Row, Week, day_in, last_week};
+use crate::week_mask::mask_of;
 use cif_calendar::{Calendar, Entry};
 use cif_columns::DaysRun;
 use std::alloc::{AllocError, Global};
@@ -58,38 +59,37 @@ fn begin_run<E: Entry>(
     entries: &[E],
     calendar: &Calendar,
     form: Form,
-    week: u32,
-    weekday: u8,
     before: &Row,
-    row: &Row,
+    week: &Week,
+    weekday: u8,
 ) -> Result<(), AllocError>
-    requires small { week ≤ 6000 }
+    requires small { week.now.number ≤ 6000 }
     requires weekday { weekday < 7 }
     requires sources { AreSources (map E.terms entries.now) calendar.now }
     requires in_range { IsDay calendar.now.last }
-    requires before { IsRowBefore calendar.now week before.now }
-    requires row { IsRowBefore calendar.now (week + 1) row.now }
+    requires before { IsRowBefore calendar.now week.now.number before.now }
+    requires week { IsWeek calendar.now week.now }
     requires made { AreRunsUpTo form (map E.terms entries.now) calendar.now
-        (week * 7 + weekday) runs.now.items }
+        (week.now.number * 7 + weekday) runs.now.items }
     ensures { IfOk result (λ _. AreRunsUpTo form (map E.terms entries.now) calendar.now
-        (week * 7 + weekday + 1) runs.new.items) }
+        (week.now.number * 7 + weekday + 1) runs.new.items) }
 {
-    let source = match row[usize::from(weekday)] {
+    let source = match week.row[usize::from(weekday)] {
         Some(source) => source,
         None => return Ok(()),
     };
-    let days = mask_of(entries, row, source);
+    let days = mask_of(entries, &week.row, source);
     if !is_first(days, weekday) {
         return Ok(());
     }
-    if goes_on(entries, calendar, form, week, before, source, days) {
+    if goes_on(entries, calendar, form, week.number, before, source, days) {
         return Ok(());
     }
-    let first = match day_in(week, weekday) {
+    let first = match day_in(week.number, weekday) {
         Some(first) => first,
         None => unreachable!(),
     };
-    runs.push(longest(entries, calendar, form, first, source))?;
+    runs.push(longest(entries, calendar, form, week, first, days, source))?;
     Ok(())
 }
 
@@ -99,22 +99,21 @@ fn begin_runs<E: Entry>(
     entries: &[E],
     calendar: &Calendar,
     form: Form,
-    week: u32,
     before: &Row,
-    row: &Row,
+    week: &Week,
 ) -> Result<(), AllocError>
-    requires small { week ≤ 6000 }
+    requires small { week.now.number ≤ 6000 }
     requires sources { AreSources (map E.terms entries.now) calendar.now }
     requires in_range { IsDay calendar.now.last }
-    requires before { IsRowBefore calendar.now week before.now }
-    requires row { IsRowBefore calendar.now (week + 1) row.now }
+    requires before { IsRowBefore calendar.now week.now.number before.now }
+    requires week { IsWeek calendar.now week.now }
     requires made { AreRunsUpTo form (map E.terms entries.now) calendar.now
-        (week * 7) runs.now.items }
+        (week.now.number * 7) runs.now.items }
     ensures { IfOk result (λ _. AreRunsUpTo form (map E.terms entries.now) calendar.now
-        (week * 7 + 7) runs.new.items) }
+        (week.now.number * 7 + 7) runs.new.items) }
 {
     for weekday in 0..7u8 {
-        begin_run(runs, entries, calendar, form, week, weekday, before, row)?;
+        begin_run(runs, entries, calendar, form, before, week, weekday)?;
     }
     Ok(())
 }
@@ -136,12 +135,12 @@ pub fn runs<E: Entry>(
     let end = last_week(calendar);
     let mut runs = Vec::new(alloc);
     let mut before = [None; 7];
-    let mut week = calendar.window().first.week();
-    while week <= end {
-        let row = row_of(calendar, week);
-        begin_runs(&mut runs, entries, calendar, form, week, &before, &row)?;
-        before = row;
-        week = last_alike(calendar, week) + 1;
+    let mut number = calendar.window().first.week();
+    while number <= end {
+        let week = Week::of(calendar, number);
+        begin_runs(&mut runs, entries, calendar, form, &before, &week)?;
+        before = week.row;
+        number = week.last_alike + 1;
     }
     Ok(runs)
 }

@@ -7,7 +7,8 @@ mod joined;
 pub mod laws;
 mod longest;
 mod run;
-mod week_rows;
+mod week;
+mod week_mask;
 
 pub use form::Form;
 pub use joined::runs;

@@ -2,16 +2,17 @@
 
 ghost use Rattle.std.specs.Prelude.{◌≡◌, ◌<◌, ◌≤◌, ◌+◌, ◌*◌, ◌↔◌, ℕ, Some};
 ghost use Rattle.std.specs.Prelude.{length, map, IsTrue, MatchBool};
-ghost use Rattle.cif_columns.specs.Day.{IsDay, week_of};
+ghost use Rattle.cif_columns.specs.Day.{week_of};
 ghost use Rattle.cif_calendar.specs.Source.{body_at};
 ghost use Rattle.cif_weeks.specs.Growing.{HasEnded, IsGrown};
 ghost use Rattle.cif_weeks.specs.Runs.{AreSources, record_of, window_of};
 ghost use Rattle.cif_weeks.specs.WeekMasks.{Agree, Counts, Differ};
-ghost use Rattle.cif_weeks.specs.WeekRows.{body_in, source_in};
+ghost use Rattle.cif_weeks.specs.WeekRows.{body_in, source_in, IsMaskOf, IsWeek};
 
 use crate::form::Form;
 use crate::run::Run;
-use crate::week_rows::{last_alike, last_day, last_week, mask_of, row_of};
+use crate::week::{Week, last_week};
+use crate::week_mask::{last_day, mask_of};
 use cif_calendar::{Calendar, Entry, Window};
 use cif_columns::{Day, DaysRun};
 
@@ -61,30 +62,22 @@ pub(crate) fn agree(
     true
 }
 
-/// The date so many weeks later.
-fn later(day: Day, weeks: u32) -> Day
-    requires { IsDay (day + 7 * weeks) }
-    ensures { result ≡ day + 7 * weeks }
-{
-    match u16::try_from(u32::from(day.number()) + 7 * weeks) {
-        Ok(number) => match Day::from_number(number) {
-            Some(later) => later,
-            None => unreachable!(),
-        },
-        Err(_) => unreachable!(),
-    }
-}
-
-/// The longest run that begins on `first` with the body of the entry at `source`, which runs then.
+/// The longest run that begins on `first`, in `week`, with the body of the entry at `source`, which
+/// runs in that week on `days`.
 pub(crate) fn longest<E: Entry>(
     entries: &[E],
     calendar: &Calendar,
     form: Form,
+    week: &Week,
     first: Day,
+    days: DaysRun,
     source: usize,
 ) -> Run
     requires position { source < length entries.now }
     requires sources { AreSources (map E.terms entries.now) calendar.now }
+    requires week { IsWeek calendar.now week.now }
+    requires in_week { week_of first ≡ week.now.number }
+    requires days { IsMaskOf (map E.terms entries.now) week.now.row source days }
     requires starts { source_in calendar.now first ≡ Some source }
     requires earliest { (n : ℕ) → week_of n ≡ week_of first →
         body_in (map E.terms entries.now) calendar.now n
@@ -99,24 +92,22 @@ pub(crate) fn longest<E: Entry>(
         (record_of result b) }
 {
     let end = last_week(calendar);
-    let mut week = first.week();
-    let mut days = mask_of(entries, &row_of(calendar, week), source);
-    let mut last = last_day(week, days).unwrap_or(first);
+    let mut last = week.last_like(last_day(week.number, days).unwrap_or(first));
+    let mut number = week.last_alike;
+    let mut before = days;
     let mut mask = days;
     loop {
-        let alike = last_alike(calendar, week);
-        last = later(last, alike - week);
-        week = alike;
-        if week >= end {
+        if number >= end {
             break;
         }
-        let next = mask_of(entries, &row_of(calendar, week + 1), source);
-        match last_day(week + 1, next) {
-            Some(day) if agree(form, calendar, week + 1, days, next) => {
-                last = day;
-                mask = mask.union(next);
-                days = next;
-                week += 1;
+        let next = Week::of(calendar, number + 1);
+        let days = mask_of(entries, &next.row, source);
+        match last_day(next.number, days) {
+            Some(day) if agree(form, calendar, next.number, before, days) => {
+                mask = mask.union(days);
+                last = next.last_like(day);
+                number = next.last_alike;
+                before = days;
             }
             _ => break,
         }

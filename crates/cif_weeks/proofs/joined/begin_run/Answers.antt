@@ -11,34 +11,34 @@ use Rattle.cif_weeks.proofs.joined.begin_run.Goals as goal
 use Rattle.cif_weeks.proofs.joined.begin_run.Goals.{In-Some, Else-not-is_first, In-Some-day_in}
 
 pub returns-in-None : goal.returns-in-None
-returns-in-None g c = step-idle c.args.form (map g.E.Entry.terms c.args.entries.now) c.args.calendar.now c.requires.sources c.args.week
-    c.args.weekday c.requires.weekday c.args.row.now c.requires.row c.args.runs.now.items c.requires.made
-    (ap (λ v. get_or c.args.row.now v None) (sym c.from.ensures) ∙ c.in-None.is)
+returns-in-None g c = step-idle c.args.form (map g.E.Entry.terms c.args.entries.now) c.args.calendar.now c.requires.sources c.args.week.now.number
+    c.args.weekday c.requires.weekday c.args.week.now.row c.requires.week.row c.args.runs.now.items c.requires.made
+    (ap (λ v. get_or c.args.week.now.row v None) (sym c.from.ensures) ∙ c.in-None.is)
 
 -- the weekday's source
-source : (g : Over) (c : In-Some g) → get_or c.args.row.now c.args.weekday None ≡ Some c.in-Some.source
-source g c = ap (λ v. get_or c.args.row.now v None) (sym c.from.ensures) ∙ c.in-Some.is
+source : (g : Over) (c : In-Some g) → get_or c.args.week.now.row c.args.weekday None ≡ Some c.in-Some.source
+source g c = ap (λ v. get_or c.args.week.now.row v None) (sym c.from.ensures) ∙ c.in-Some.is
 
 below : (g : Over) (c : In-Some g) → c.in-Some.source < length c.args.entries.now
 below g c =
     let xs = map g.E.Entry.terms c.args.entries.now in
-    let positions = row-positions xs c.args.calendar.now c.requires.sources (c.args.week + 1) c.args.row.now c.requires.row in
+    let positions = row-positions xs c.args.calendar.now c.requires.sources (c.args.week.now.number + 1) c.args.week.now.row c.requires.week.row in
     subst (λ n. c.in-Some.source < n) (let same : length xs ≡ length c.args.entries.now = length-map c.args.entries.now g.E.Entry.terms
     in same)
-    (positions.below c.args.weekday c.in-Some.source (source g c))
+    (positions.below c.args.weekday c.in-Some.source c.requires.weekday (source g c))
 
 pub mask_of-days-requires-clause-position : goal.mask_of-days-requires-clause-position
 mask_of-days-requires-clause-position g c = below g c
 
 pub mask_of-days-requires-clause-positions : goal.mask_of-days-requires-clause-positions
 mask_of-days-requires-clause-positions g c =
-    row-positions (map g.E.Entry.terms c.args.entries.now) c.args.calendar.now c.requires.sources _ _ c.requires.row
+    row-positions (map g.E.Entry.terms c.args.entries.now) c.args.calendar.now c.requires.sources _ _ c.requires.week.row
 
 pub returns-then-not-is_first : goal.returns-then-not-is_first
 returns-then-not-is_first g c =
     let (earlier, less, on) = c.if-not-is_first.ensures in
-    step-same c.args.form (map g.E.Entry.terms c.args.entries.now) c.args.calendar.now c.requires.sources c.args.week c.args.weekday
-    c.requires.weekday c.args.row.now c.requires.row c.args.runs.now.items c.requires.made c.in-Some.source
+    step-same c.args.form (map g.E.Entry.terms c.args.entries.now) c.args.calendar.now c.requires.sources c.args.week.now.number c.args.weekday
+    c.requires.weekday c.args.week.now.row c.requires.week.row c.args.runs.now.items c.requires.made c.in-Some.source
     (source g (goal.at.returns-then-not-is_first g c).In-Some) c.mask_of-days.result c.mask_of-days.ensures earlier less on
 
 pub goes_on-requires-clause-position : goal.goes_on-requires-clause-position
@@ -50,16 +50,16 @@ goes_on-requires-clause-positions g c =
 
 pub returns-then-goes_on : goal.returns-then-goes_on
 returns-then-goes_on g c =
-    step-joined c.args.form (map g.E.Entry.terms c.args.entries.now) c.args.calendar.now c.requires.sources c.args.week c.args.weekday
-    c.requires.weekday c.args.row.now c.requires.row c.args.runs.now.items c.requires.made c.in-Some.source
+    step-joined c.args.form (map g.E.Entry.terms c.args.entries.now) c.args.calendar.now c.requires.sources c.args.week.now.number c.args.weekday
+    c.requires.weekday c.args.week.now.row c.requires.week.row c.args.runs.now.items c.requires.made c.in-Some.source
     (source g (goal.at.returns-then-goes_on g c).In-Some) c.mask_of-days.result c.mask_of-days.ensures c.args.before.now c.requires.before
     c.if-goes_on.ensures
 
 pub unreachable-requires : goal.unreachable-requires
 unreachable-requires g c =
-    let (n, next, day) = c.requires.row.only c.args.weekday c.in-Some.source (source g (goal.at.unreachable-requires g c).In-Some) in
+    let (n, next, day) = c.requires.week.row.only c.args.weekday c.in-Some.source c.requires.weekday (source g (goal.at.unreachable-requires g c).In-Some) in
     let is : source_in c.args.calendar.now n ≡ Some c.in-Some.source =
-    sym (c.requires.row.each n next) ∙ ap (λ v. get_or c.args.row.now v None) day ∙ source g (goal.at.unreachable-requires g c).In-Some in
+    sym (c.requires.week.row.each n next) ∙ ap (λ v. get_or c.args.week.now.row v None) day ∙ source g (goal.at.unreachable-requires g c).In-Some in
     let upto : n ≤ c.args.calendar.now.last = (source_in-inside c.args.calendar.now n c.in-Some.source is).upto in
     let last : c.args.calendar.now.last < 36525 = c.requires.in_range in
     c.in-None-day_in.ensures n (omega (arith, next)) day (omega arith)
@@ -69,8 +69,8 @@ longest-requires-clause-position g c = below g (goal.at.longest-requires-clause-
 
 pub longest-requires-clause-earliest : goal.longest-requires-clause-earliest
 longest-requires-clause-earliest g c n same runs =
-    first-day c.args.form (map g.E.Entry.terms c.args.entries.now) c.args.calendar.now c.requires.sources c.args.week c.args.weekday
-    c.requires.weekday c.args.row.now c.requires.row c.args.runs.now.items c.requires.made c.in-Some.source
+    first-day c.args.form (map g.E.Entry.terms c.args.entries.now) c.args.calendar.now c.requires.sources c.args.week.now.number c.args.weekday
+    c.requires.weekday c.args.week.now.row c.requires.week.row c.args.runs.now.items c.requires.made c.in-Some.source
     (source g (goal.at.longest-requires-clause-earliest g c).In-Some) c.mask_of-days.result c.mask_of-days.ensures c.args.before.now
     c.requires.before c.if-not-is_first.ensures c.in-Some-day_in.first n
     (omega (arith, c.in-Some-day_in.ensures.0, c.in-Some-day_in.ensures.1))
@@ -79,10 +79,10 @@ longest-requires-clause-earliest g c n same runs =
 pub returns : goal.returns
 returns g c =
     subst (λ (runs : List Run).
-    AreRunsUpTo c.args.form (map g.E.Entry.terms c.args.entries.now) c.args.calendar.now (c.args.week * 7 + c.args.weekday + 1) runs)
+    AreRunsUpTo c.args.form (map g.E.Entry.terms c.args.entries.now) c.args.calendar.now (c.args.week.now.number * 7 + c.args.weekday + 1) runs)
     (sym c.in_ok-push.ensures.items)
-    (step-push c.args.form (map g.E.Entry.terms c.args.entries.now) c.args.calendar.now c.requires.sources c.args.week c.args.weekday
-    c.requires.weekday c.args.row.now c.requires.row c.args.runs.now.items c.requires.made c.in-Some.source
+    (step-push c.args.form (map g.E.Entry.terms c.args.entries.now) c.args.calendar.now c.requires.sources c.args.week.now.number c.args.weekday
+    c.requires.weekday c.args.week.now.row c.requires.week.row c.args.runs.now.items c.requires.made c.in-Some.source
     (source g (goal.at.returns g c).In-Some) c.mask_of-days.result c.mask_of-days.ensures c.args.before.now
     c.requires.before c.if-not-is_first.ensures c.if-goes_on.ensures c.in-Some-day_in.first
     (omega (arith, c.in-Some-day_in.ensures.0, c.in-Some-day_in.ensures.1)) c.longest.result c.longest.ensures.first

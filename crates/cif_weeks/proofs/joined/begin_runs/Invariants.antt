@@ -3,4 +3,5 @@ use Rattle.cif_weeks.specs.MadeRecords.{AreRunsUpTo}
 use Rattle.cif_weeks.proofs.joined.begin_runs.Given as goal
 
 abbrev pub invariant-loop-weekday : goal.invariant-loop-weekday
-invariant-loop-weekday g l = AreRunsUpTo l.form (map g.E.Entry.terms l.entries) l.calendar (l.week * 7 + l.weekday) l.runs.items
+invariant-loop-weekday g l =
+    AreRunsUpTo l.form (map g.E.Entry.terms l.entries) l.calendar (l.week.number * 7 + l.weekday) l.runs.items

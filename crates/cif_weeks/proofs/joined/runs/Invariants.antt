@@ -4,14 +4,14 @@ use Rattle.cif_weeks.specs.MadeRecords.{AreRunsUpTo}
 use Rattle.cif_weeks.specs.WeekRows.{IsRowBefore}
 use Rattle.cif_weeks.proofs.joined.runs.Given as goal
 
-abbrev pub invariant-loop-week : goal.invariant-loop-week
-invariant-loop-week g l = record {
+abbrev pub invariant-loop-number : goal.invariant-loop-number
+invariant-loop-number g l = record {
   end_is : l.end ≡ week_of l.calendar.last;
-  upto : l.week ≤ l.end + 1;
+  upto : l.number ≤ l.end + 1;
   in_range : IsDay l.calendar.last;
-  row : IsRowBefore l.calendar l.week l.before;
-  made : AreRunsUpTo l.form (map g.E.Entry.terms l.entries) l.calendar (l.week * 7) l.runs.items;
+  row : IsRowBefore l.calendar l.number l.before;
+  made : AreRunsUpTo l.form (map g.E.Entry.terms l.entries) l.calendar (l.number * 7) l.runs.items;
 }
 
-abbrev pub decreases-loop-week : goal.decreases-loop-week
-decreases-loop-week g l = l.end + 1 - l.week
+abbrev pub decreases-loop-number : goal.decreases-loop-number
+decreases-loop-number g l = l.end + 1 - l.number

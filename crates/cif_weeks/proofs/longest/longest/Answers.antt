@@ -1,107 +1,102 @@
-use Rattle.std.proofs.Common.{ℕ, ◌+◌, map, sym, subst, arith, refl}
-use Rattle.std.specs.Prelude.{MatchOption}
-use Rattle.cif_columns.specs.DaysRun.{RunsOn}
-use Rattle.cif_weeks.specs.WeekMasks.{IsLastDay}
+use Rattle.std.proofs.Common.{◌+◌, ◌-◌, ◌*◌, ◌≤◌, map, sym, arith}
+use Rattle.cif_columns.specs.Day.{week_of}
 use Rattle.std.proofs.lemmas.Bool.Decides.{nat_tests}
-use Rattle.cif_weeks.specs.WeekRows.{IsRowBefore}
-use Rattle.cif_weeks.proofs.Growth.{IsGrowing, source-body, row-positions, mask-of_row, mask-days, growing-start, growing-jump}
-use Rattle.cif_weeks.proofs.Growth.{growing-more}
+use Rattle.cif_weeks.proofs.Growth.{IsGrowing, source-body, row-positions, mask-of_row, mask-days, growing-first, growing-more}
 use Rattle.cif_weeks.proofs.Growth.{ended-differs, ended-rests, ended-over, growing-day}
 use Rattle.cif_weeks.proofs.SourcesIn.{source_in-inside}
 use Rattle.cif_weeks.proofs.longest.longest.Given.{Over}
 use Rattle.cif_weeks.proofs.longest.longest.Goals as goal
-use Rattle.cif_weeks.proofs.longest.longest.Goals.{After-later-last, then-week-end, else-week-end+in_default-2, else-week-end+in_default}
-
-pub mask_of-days-requires-clause-positions : goal.mask_of-days-requires-clause-positions
-mask_of-days-requires-clause-positions g c =
-    row-positions (map g.E.Entry.terms c.args.entries.now) c.args.calendar.now c.requires.sources _ c.row_of.result c.row_of.ensures
+use Rattle.cif_weeks.proofs.longest.longest.Goals.{After-unwrap_or, After-union-mask, then-number-end, else-number-end+in_default-2, else-number-end+in_default}
 
 pub last_day-requires-clause-days : goal.last_day-requires-clause-days
 last_day-requires-clause-days g c =
     let xs = map g.E.Entry.terms c.args.entries.now in
     let some = source-body xs c.args.calendar.now c.requires.sources c.args.first c.args.source c.requires.starts in
-    mask-days xs c.args.calendar.now c.requires.sources c.week-week.result some.0 c.mask_of-days.result c.last_week-end.ensures.in_range
-    (mask-of_row xs c.args.calendar.now c.requires.sources c.week-week.result c.args.source some.0 c.row_of.result c.mask_of-days.result
-    c.row_of.ensures some.1 c.mask_of-days.ensures)
+    mask-days xs c.args.calendar.now c.requires.sources c.args.week.now.number some.0 c.args.days c.last_week-end.ensures.in_range
+    (mask-of_row xs c.args.calendar.now c.requires.sources c.args.week.now.number c.args.source some.0 c.args.week.now.row c.args.days
+    c.requires.week.row some.1 c.requires.days)
 
-pub loop-week-init : goal.loop-week-init
-loop-week-init g c =
-    let xs = map g.E.Entry.terms c.args.entries.now in
-    let within = source_in-inside c.args.calendar.now c.args.first c.args.source c.requires.starts in
-    let growing = growing-start c.args.form xs c.args.calendar.now c.requires.sources c.args.source c.args.first c.row_of.result
-    c.mask_of-days.result c.last_day.result c.requires.starts c.requires.earliest
-    (subst (λ v. IsRowBefore c.args.calendar.now (v + 1) c.row_of.result) c.week-week.ensures c.row_of.ensures) c.mask_of-days.ensures
-    (subst (λ v. MatchOption c.last_day.result ((w : ℕ) → ¬ RunsOn c.mask_of-days.result w) (IsLastDay v c.mask_of-days.result))
-    c.week-week.ensures c.last_day.ensures) in
-    record {
-      end_is = c.last_week-end.ensures.week;
-      upto = omega (arith, within.upto, c.last_week-end.ensures.week, c.week-week.ensures);
-      growing = rw (c.week-week.ensures, c.unwrap_or-last.ensures) growing;
-    }
-
--- the run with the weeks that are like its last
-jumped : (g : Over) (c : After-later-last g) →
+-- the run of the first week and of those that are like it
+begun : (g : Over) (c : After-unwrap_or g) →
     IsGrowing c.args.form (map g.E.Entry.terms c.args.entries.now) c.args.calendar.now c.args.source c.args.first
-    c.last_alike-alike.result c.later-last.result c.loop-week.days c.loop-week.mask
-jumped g c = subst (λ n. IsGrowing c.args.form (map g.E.Entry.terms c.args.entries.now) c.args.calendar.now c.args.source c.args.first
-    c.last_alike-alike.result n c.loop-week.days c.loop-week.mask) (sym c.later-last.ensures)
-    (growing-jump c.args.form (map g.E.Entry.terms c.args.entries.now) c.args.calendar.now c.requires.sources c.args.source c.args.first
-    c.loop-week.week c.loop-week.last c.loop-week.days c.loop-week.mask c.loop-week.invariant.growing c.last_alike-alike.result
-    c.last_alike-alike.ensures.from c.last_alike-alike.ensures.alike)
+    c.args.week.now.last_alike (c.unwrap_or.result + 7 * (c.args.week.now.last_alike - c.args.week.now.number)) c.args.days c.args.days
+begun g c = rw c.unwrap_or.ensures (growing-first c.args.form (map g.E.Entry.terms c.args.entries.now) c.args.calendar.now
+    c.requires.sources c.args.source c.args.first c.args.week.now c.args.days c.last_day.result c.requires.week c.requires.in_week
+    c.requires.starts c.requires.earliest c.requires.days c.last_day.ensures)
 
-pub later-last-requires : goal.later-last-requires
-later-last-requires g c =
+pub last_like-last-requires-clause-in_range : goal.last_like-last-requires-clause-in_range
+last_like-last-requires-clause-in_range g c =
     let xs = map g.E.Entry.terms c.args.entries.now in
     let some = source-body xs c.args.calendar.now c.requires.sources c.args.first c.args.source c.requires.starts in
-    let day = growing-day c.args.form xs c.args.calendar.now c.requires.sources c.args.source c.args.first
-    c.last_alike-alike.result _ c.loop-week.days c.loop-week.mask
-    (growing-jump c.args.form xs c.args.calendar.now c.requires.sources c.args.source c.args.first c.loop-week.week c.loop-week.last
-    c.loop-week.days c.loop-week.mask c.loop-week.invariant.growing c.last_alike-alike.result c.last_alike-alike.ensures.from
-    c.last_alike-alike.ensures.alike) some.0 some.1 in
+    let day = growing-day c.args.form xs c.args.calendar.now c.requires.sources c.args.source c.args.first _ _ c.args.days c.args.days
+    (begun g c) some.0 some.1 in
     omega (arith, day, c.last_week-end.ensures.in_range)
 
-pub mask_of-next-requires-clause-positions : goal.mask_of-next-requires-clause-positions
-mask_of-next-requires-clause-positions g c =
-    row-positions (map g.E.Entry.terms c.args.entries.now) c.args.calendar.now c.requires.sources _ c.row_of-in-loop-week.result
-    c.row_of-in-loop-week.ensures
-
-pub last_day-requires-in-loop-week-clause-days : goal.last_day-requires-in-loop-week-clause-days
-last_day-requires-in-loop-week-clause-days g c =
-    let xs = map g.E.Entry.terms c.args.entries.now in
-    let some = source-body xs c.args.calendar.now c.requires.sources c.args.first c.args.source c.requires.starts in
-    mask-days xs c.args.calendar.now c.requires.sources (c.last_alike-alike.result + 1) some.0 c.mask_of-next.result
-    c.last_week-end.ensures.in_range
-    (mask-of_row xs c.args.calendar.now c.requires.sources (c.last_alike-alike.result + 1) c.args.source some.0
-    c.row_of-in-loop-week.result c.mask_of-next.result c.row_of-in-loop-week.ensures some.1 c.mask_of-next.ensures)
-
-pub loop-week-preserved : goal.loop-week-preserved
-loop-week-preserved g c =
-    let xs = map g.E.Entry.terms c.args.entries.now in
+pub loop-number-init : goal.loop-number-init
+loop-number-init g c =
+    let within = source_in-inside c.args.calendar.now c.args.first c.args.source c.requires.starts in
+    let end : c.args.week.now.number ≤ week_of c.args.calendar.now.last = omega (arith, within.upto, c.requires.in_week) in
     record {
       end_is = c.last_week-end.ensures.week;
-      upto = grind (arith, nat_tests);
-      growing = growing-more c.args.form xs c.args.calendar.now c.requires.sources c.args.source c.args.first c.last_alike-alike.result
-          c.later-last.result c.loop-week.days c.loop-week.mask (jumped g (goal.at.loop-week-preserved g c).After-later-last)
-          c.row_of-in-loop-week.result c.mask_of-next.result c.row_of-in-loop-week.ensures c.mask_of-next.ensures c.in-Some.day
-          c.union-mask.result c.in-Some.ensures (c.if-agree.ensures c.last_alike-alike.result refl) c.union-mask.ensures.width
-          c.union-mask.ensures.runs;
+      upto = omega (arith, c.requires.week.upto end, c.last_week-end.ensures.week);
+      growing = rw c.last_like-last.ensures (begun g (goal.at.loop-number-init g c).After-unwrap_or);
     }
 
-pub returns-clause-grown : goal.returns-clause-grown
-returns-clause-grown g c = (jumped g (goal.at.returns-clause-grown g c).After-later-last).grown
+pub mask_of-days-requires-clause-positions : goal.mask_of-days-requires-clause-positions
+mask_of-days-requires-clause-positions g c =
+    row-positions (map g.E.Entry.terms c.args.entries.now) c.args.calendar.now c.requires.sources _ _ c.of-next.ensures.week.row
+
+pub last_day-requires-in-loop-number-clause-days : goal.last_day-requires-in-loop-number-clause-days
+last_day-requires-in-loop-number-clause-days g c =
+    let xs = map g.E.Entry.terms c.args.entries.now in
+    let some = source-body xs c.args.calendar.now c.requires.sources c.args.first c.args.source c.requires.starts in
+    mask-days xs c.args.calendar.now c.requires.sources c.of-next.result.number some.0 c.mask_of-days.result
+    c.last_week-end.ensures.in_range
+    (mask-of_row xs c.args.calendar.now c.requires.sources c.of-next.result.number c.args.source some.0
+    c.of-next.result.row c.mask_of-days.result c.of-next.ensures.week.row some.1 c.mask_of-days.ensures)
+
+-- the run with the next week and those that are like it
+grown : (g : Over) (c : After-union-mask g) →
+    IsGrowing c.args.form (map g.E.Entry.terms c.args.entries.now) c.args.calendar.now c.args.source c.args.first
+    c.of-next.result.last_alike (c.in-Some.day + 7 * (c.of-next.result.last_alike - c.of-next.result.number)) c.mask_of-days.result
+    c.union-mask.result
+grown g c = growing-more c.args.form (map g.E.Entry.terms c.args.entries.now) c.args.calendar.now c.requires.sources c.args.source
+    c.args.first c.loop-number.number c.loop-number.last c.loop-number.before c.loop-number.mask c.loop-number.invariant.growing
+    c.of-next.result c.of-next.ensures.number c.of-next.ensures.week c.mask_of-days.result c.mask_of-days.ensures c.in-Some.day
+    c.union-mask.result c.in-Some.ensures (c.if-agree.ensures c.loop-number.number (sym c.of-next.ensures.number))
+    c.union-mask.ensures.width c.union-mask.ensures.runs
+
+pub last_like-last-requires-in-Some-clause-in_range : goal.last_like-last-requires-in-Some-clause-in_range
+last_like-last-requires-in-Some-clause-in_range g c =
+    let xs = map g.E.Entry.terms c.args.entries.now in
+    let some = source-body xs c.args.calendar.now c.requires.sources c.args.first c.args.source c.requires.starts in
+    let day = growing-day c.args.form xs c.args.calendar.now c.requires.sources c.args.source c.args.first _ _ _ _
+    (grown g (goal.at.last_like-last-requires-in-Some-clause-in_range g c).After-union-mask)
+    some.0 some.1 in
+    omega (arith, day, c.last_week-end.ensures.in_range)
+
+pub loop-number-preserved : goal.loop-number-preserved
+loop-number-preserved g c =
+    let end : c.of-next.result.number ≤ week_of c.args.calendar.now.last =
+    omega (arith, c.if-number-end.false, c.of-next.ensures.number, c.last_week-end.ensures.week) in
+    record {
+      end_is = c.last_week-end.ensures.week;
+      upto = omega (arith, c.of-next.ensures.week.upto end, c.last_week-end.ensures.week);
+      growing = rw c.last_like-last-in-Some.ensures (grown g (goal.at.loop-number-preserved g c).After-union-mask);
+    }
 
 pub returns-clause-ended : goal.returns-clause-ended
 returns-clause-ended g c b is =
     let xs = map g.E.Entry.terms c.args.entries.now in
-    let growing = jumped g (goal.at.returns-clause-ended g c).After-later-last in
-    elim c.if-week-end.branch [
-      | then-week-end w ↦ ended-over c.args.form xs c.args.calendar.now c.requires.sources c.args.source c.args.first
-          c.last_alike-alike.result c.later-last.result c.loop-week.days c.loop-week.mask growing b (grind (arith, nat_tests))
-      | else-week-end+in_default-2 w ↦ ended-differs c.args.form xs c.args.calendar.now c.requires.sources c.args.source c.args.first
-          c.last_alike-alike.result c.later-last.result c.loop-week.days c.loop-week.mask growing w.row_of-in-loop-week.result
-          w.mask_of-next.result w.row_of-in-loop-week.ensures w.mask_of-next.ensures b is
-          (w.if-agree.ensures c.last_alike-alike.result refl)
-      | else-week-end+in_default w ↦ ended-rests c.args.form xs c.args.calendar.now c.requires.sources c.args.source c.args.first
-          c.last_alike-alike.result c.later-last.result c.loop-week.days c.loop-week.mask growing w.row_of-in-loop-week.result
-          w.mask_of-next.result w.row_of-in-loop-week.ensures w.mask_of-next.ensures b is w.in_default.ensures
+    let growing = c.loop-number.invariant.growing in
+    elim c.if-number-end.branch [
+      | then-number-end w ↦ ended-over c.args.form xs c.args.calendar.now c.requires.sources c.args.source c.args.first
+          c.loop-number.number c.loop-number.last c.loop-number.before c.loop-number.mask growing b (grind (arith, nat_tests))
+      | else-number-end+in_default-2 w ↦ ended-differs c.args.form xs c.args.calendar.now c.requires.sources c.args.source c.args.first
+          c.loop-number.number c.loop-number.last c.loop-number.before c.loop-number.mask growing w.of-next.result w.of-next.ensures.number
+          w.of-next.ensures.week w.mask_of-days.result w.mask_of-days.ensures b is
+          (w.if-agree.ensures c.loop-number.number (sym w.of-next.ensures.number))
+      | else-number-end+in_default w ↦ ended-rests c.args.form xs c.args.calendar.now c.requires.sources c.args.source c.args.first
+          c.loop-number.number c.loop-number.last c.loop-number.before c.loop-number.mask growing w.of-next.result w.of-next.ensures.number
+          w.of-next.ensures.week w.mask_of-days.result w.mask_of-days.ensures b is w.in_default.ensures
     ]

@@ -2,9 +2,9 @@ use Rattle.std.proofs.Common.{◌≡◌, ℕ, ◌≤◌, Some, None, map, get_or
 use Rattle.std.proofs.lemmas.List.{get_or_past}
 use Rattle.cif_calendar.specs.Source.{body_at}
 use Rattle.cif_weeks.proofs.RowMasks.{mask-literal}
-use Rattle.cif_weeks.proofs.week_rows.mask_of.Goals as goal
-use Rattle.cif_weeks.proofs.week_rows.mask_of.Goals.{After-of}
-use Rattle.cif_weeks.proofs.week_rows.mask_of.Given.{Over}
+use Rattle.cif_weeks.proofs.week_mask.mask_of.Goals as goal
+use Rattle.cif_weeks.proofs.week_mask.mask_of.Goals.{After-of}
+use Rattle.cif_weeks.proofs.week_mask.mask_of.Given.{Over}
 
 -- the body of the entry at `position` is that of the weekday's source
 abbrev Has : (g : Over) (c : After-of g) → ℕ → Type 0
