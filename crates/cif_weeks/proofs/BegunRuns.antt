@@ -13,7 +13,7 @@ use Rattle.cif_weeks.specs.Permanent.{Permanent}
 use Rattle.cif_weeks.specs.Growing.{IsGrown, HasEnded}
 use Rattle.cif_weeks.specs.WeekMasks.{IsMask}
 use Rattle.cif_weeks.specs.Runs.{AreSources, AreRunsOf, IsRunOf, record_of, window_of}
-use Rattle.cif_weeks.specs.WeekRows.{source_in, body_in, IsRowBefore, IsMaskOf, GoesOn, Begins}
+use Rattle.cif_weeks.specs.WeekRows.{source_in, body_in, IsRowBefore, IsMaskOf, HaveOneBody, GoesOn, Begins}
 use Rattle.cif_weeks.specs.MadeRecords.{IsCovered, AreRunsUpTo}
 use Rattle.cif_weeks.proofs.WeekDays.{RunsOn-below}
 use Rattle.cif_weeks.proofs.Growth.{inside, source-body, mask-of_row}
@@ -47,26 +47,31 @@ module _ {B : Type 0} (form : Form) (xs : List (Terms B)) (c : CalendarParts) (s
       let (n, next, day) = r.only v i seven is in
       (n, (let at : n + 4 ≡ week * 7 + v = omega arith in at), sym (r.each n next) ∙ ap (λ k. get_or row k None) day ∙ is)
 
+  covered-more : (n : ℕ) → n + 4 ≡ week * 7 + w → IsCovered u.records n → AreRunsUpTo form xs c (week * 7 + w + 1) runs
+  covered-more n at cov = record {
+    records = u.records;
+    runs_of = u.runs_of;
+    made = made_covered (window_of c) (body_in xs c) (inside xs c sources) form (week * 7 + w) u.records u.made n at cov;
+  }
+
+  -- the body runs on an earlier weekday too
+  pub step-same : (earlier : ℕ) → earlier < w → HaveOneBody xs row earlier w → AreRunsUpTo form xs c (week * 7 + w + 1) runs
+  step-same earlier less h =
+      let (n, at, starts) = row-day w h.other below h.second in
+      let (b, has) = source-body xs c sources n h.other starts in
+      let (k, at_k, source_k) = row-day earlier h.one (omega arith) h.first in
+      covered-more n at (covered_same_week (window_of c) (body_in xs c) (inside xs c sources) form (week * 7 + w) u.records u.made k n b
+      (omega arith) (omega arith) (ap (body_at xs) source_k ∙ h.same ∙ has) (ap (body_at xs) starts ∙ has))
+
   module _ (source : ℕ) (is : get_or row w None ≡ Some source) (days : List Bool) (m : IsMaskOf xs row source days) where
-    covered-more : (n : ℕ) → n + 4 ≡ week * 7 + w → IsCovered u.records n → AreRunsUpTo form xs c (week * 7 + w + 1) runs
-    covered-more n at cov = record {
-      records = u.records;
-      runs_of = u.runs_of;
-      made = made_covered (window_of c) (body_in xs c) (inside xs c sources) form (week * 7 + w) u.records u.made n at cov;
+    -- no earlier weekday has the body
+    pub first-weekday : ((earlier : ℕ) → earlier < w → ¬ HaveOneBody xs row earlier w) → IsFirstOf days w
+    first-weekday none = record {
+      runs = (m.runs w).1 (source, is, refl);
+      none_before = λ earlier less on.
+          let (i, at, same) = (m.runs earlier).0 on in
+          none earlier less (record { one = i; other = source; first = at; second = is; same = same });
     }
-
-    pub weekday-runs : RunsOn days w
-    weekday-runs = (m.runs w).1 (source, is, refl)
-
-    -- the body runs on an earlier weekday too
-    pub step-same : (earlier : ℕ) → earlier < w → RunsOn days earlier → AreRunsUpTo form xs c (week * 7 + w + 1) runs
-    step-same earlier less on =
-        let (n, at, starts) = row-day w source below is in
-        let (b, has) = source-body xs c sources n source starts in
-        let (i, at_i, same) = (m.runs earlier).0 on in
-        let (k, at_k, source_k) = row-day earlier i (omega arith) at_i in
-        covered-more n at (covered_same_week (window_of c) (body_in xs c) (inside xs c sources) form (week * 7 + w) u.records u.made k n b
-        (omega arith) (omega arith) (ap (body_at xs) source_k ∙ same ∙ has) (ap (body_at xs) starts ∙ has))
 
     module _ (before : List (Option ℕ)) (q : IsRowBefore c week before) where
       -- the body goes on from the week before

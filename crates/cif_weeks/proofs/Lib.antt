@@ -13,6 +13,7 @@ pub mod Separate
 pub mod Unique
 pub mod UniqueByKey
 pub mod WeekDays
+pub mod SeenDays
 pub mod SourcesIn
 pub mod Rows
 pub mod RowMasks

@@ -1,23 +1,52 @@
--- The mask of a row, weekday by weekday.
-use Rattle.std.proofs.Common.{◌≡◌, ℕ, zero, suc, ◌≤◌, Bool, true, [], ◌∷◌, Some, None, ap, arith}
+-- The mask of a row as it is filled, weekday by weekday.
+use Rattle.std.proofs.Common.{◌≡◌, ℕ, ◌+◌, ◌<◌, Bool, true, false, List, length, length-set, get_or, set, Option, Some, None, sym, ◌∙◌, ap}
+use Rattle.std.proofs.Common.{⊎_elim, arith, subst}
 use Rattle.std.specs.Prelude.{◌↔◌, IsTrue}
-use Rattle.std.proofs.lemmas.Option.{same_Some}
-use Rattle.cif_columns.specs.DaysRun.{RunsOn}
+use Rattle.std.proofs.lemmas.Bool.{cases_lt}
+use Rattle.std.proofs.lemmas.List.{get_or-set_same, get_or-set_other, get_or_past}
+use Rattle.std.proofs.lemmas.Option.{get_or_from_slice_get, slice_get-get_or}
+use Rattle.cif_calendar.specs.Terms.{Terms}
+use Rattle.cif_calendar.specs.Source.{body_at}
+use Rattle.cif_weeks.specs.WeekRows.{IsMaskOf}
+use Rattle.cif_weeks.proofs.WeekDays.{RunsOn-below}
 
--- a flag at its place
-some : {P : Type 0} (b : Bool) → (IsTrue b ↔ P) → (Some b ≡ Some true) ↔ P
-some b says = (λ on. says.0 (same_Some b true on), λ p. ap Some (says.1 p))
+module _ {B : Type 0} (xs : List (Terms B)) (row : List (Option ℕ)) (position : ℕ) where
+  -- a source has the body of the entry at `position`
+  abbrev pub IsSourceOf : Option ℕ → Type 0
+  IsSourceOf o = (i : ℕ) × (o ≡ Some i) × (body_at xs (Some i) ≡ body_at xs (Some position))
 
--- seven flags that say whether P holds of their places, where it holds of no other
-pub mask-literal : (P : ℕ → Type 0) (a b c d e f g : Bool) → (IsTrue a ↔ P 0) → (IsTrue b ↔ P 1) → (IsTrue c ↔ P 2) → (IsTrue d ↔ P 3)
-    → (IsTrue e ↔ P 4) → (IsTrue f ↔ P 5) → (IsTrue g ↔ P 6) → ((w : ℕ) → 7 ≤ w → P w → ⊥)
-    → (w : ℕ) → RunsOn (a ∷ b ∷ c ∷ d ∷ e ∷ f ∷ g ∷ []) w ↔ P w
-mask-literal P a b c d e f g h0 h1 h2 h3 h4 h5 h6 none zero = some a h0
-mask-literal P a b c d e f g h0 h1 h2 h3 h4 h5 h6 none (suc zero) = some b h1
-mask-literal P a b c d e f g h0 h1 h2 h3 h4 h5 h6 none (suc (suc zero)) = some c h2
-mask-literal P a b c d e f g h0 h1 h2 h3 h4 h5 h6 none (suc (suc (suc zero))) = some d h3
-mask-literal P a b c d e f g h0 h1 h2 h3 h4 h5 h6 none (suc (suc (suc (suc zero)))) = some e h4
-mask-literal P a b c d e f g h0 h1 h2 h3 h4 h5 h6 none (suc (suc (suc (suc (suc zero))))) = some f h5
-mask-literal P a b c d e f g h0 h1 h2 h3 h4 h5 h6 none (suc (suc (suc (suc (suc (suc zero)))))) = some g h6
-mask-literal P a b c d e f g h0 h1 h2 h3 h4 h5 h6 none (suc (suc (suc (suc (suc (suc (suc w))))))) =
-    (λ on. let no : None ≡ Some true = on in cc, λ p. absurd (none (suc (suc (suc (suc (suc (suc (suc w))))))) (omega arith) p))
+  -- the flags of the weekdays before k
+  pub record AreFlagsUpTo (k : ℕ) (days : List Bool) : Type 0 where
+    pub seven : length days ≡ 7
+    pub each : (w : ℕ) → w < k → IsTrue (get_or days w false) ↔ IsSourceOf (get_or row w None)
+
+  pub flags-more : (k : ℕ) (days : List Bool) (b : Bool) → k < 7 → AreFlagsUpTo k days → (IsTrue b ↔ IsSourceOf (get_or row k None))
+      → AreFlagsUpTo (k + 1) (set days k b)
+  flags-more k days b below f h = record {
+    seven = length-set days k b ∙ f.seven;
+    each = λ w upto. ⊎_elim
+        (λ old. subst (λ v. IsTrue v ↔ IsSourceOf (get_or row w None)) (sym (get_or-set_other days k w b false (λ e. omega arith)))
+        (f.each w old))
+        (λ new.
+        let here : k ≡ w = omega arith in
+        subst (λ n. IsTrue (get_or (set days k b) n false) ↔ IsSourceOf (get_or row n None)) here
+        (subst (λ v. IsTrue v ↔ IsSourceOf (get_or row k None)) (sym (get_or-set_same days k b false (omega (arith, f.seven)))) h))
+        (cases_lt w k);
+  }
+
+  -- a weekday with the source of an earlier one has its flag
+  pub flags-same : (k first : ℕ) (days : List Bool) → AreFlagsUpTo k days → first < k → get_or row first None ≡ get_or row k None
+      → IsTrue (get_or days first false) ↔ IsSourceOf (get_or row k None)
+  flags-same k first days f less same = subst (λ o. IsTrue (get_or days first false) ↔ IsSourceOf o) same (f.each first less)
+
+  pub flags-mask : (days : List Bool) → length row ≡ 7 → AreFlagsUpTo 7 days → IsMaskOf xs row position days
+  flags-mask days seven f = record {
+    seven = f.seven;
+    runs = λ w. (
+      λ on. (f.each w (RunsOn-below days w f.seven on)).0 (get_or_from_slice_get days w true false on),
+      λ has. ⊎_elim
+          (λ below. slice_get-get_or days w false (omega (arith, f.seven)) ∙ ap Some ((f.each w below).1 has))
+          (λ past. absurd (let no : None ≡ Some has.0 = sym (get_or_past row w None (omega (arith, seven))) ∙ has.1 in cc))
+          (cases_lt w 7),
+    );
+  }

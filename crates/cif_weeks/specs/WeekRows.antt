@@ -31,6 +31,22 @@ pub record IsMaskOf {B : Type 0} (xs : List (Terms B)) (row : List (Option ℕ))
   pub seven : length mask ≡ 7
   pub runs : (w : ℕ) → RunsOn mask w ↔ ((i : ℕ) × (slice_index_or row w None ≡ Some i) × (body_at xs (Some i) ≡ body_at xs (Some source)))
 
+-- the same body runs on two weekdays of a row
+pub record HaveOneBody {B : Type 0} (xs : List (Terms B)) (row : List (Option ℕ)) (v w : ℕ) : Type 0 where
+  pub one : ℕ
+  pub other : ℕ
+  pub first : slice_index_or row v None ≡ Some one
+  pub second : slice_index_or row w None ≡ Some other
+  pub same : body_at xs (Some one) ≡ body_at xs (Some other)
+
+-- the weekdays of a row on which the body of weekday w runs; none where no body does
+pub record AreDaysOf {B : Type 0} (xs : List (Terms B)) (row : List (Option ℕ)) (w : ℕ) (days : List Bool) : Type 0 where
+  pub runs : (v : ℕ) → RunsOn days v ↔ HaveOneBody xs row v w
+
+-- the weekdays of a row on which a body of a weekday before k runs
+pub record AreSeen {B : Type 0} (xs : List (Terms B)) (row : List (Option ℕ)) (k : ℕ) (seen : List Bool) : Type 0 where
+  pub runs : (v : ℕ) → RunsOn seen v ↔ ((w : ℕ) × (w < k) × HaveOneBody xs row w v)
+
 -- each source of a row is the position of a record
 pub record ArePositions {B : Type 0} (xs : List (Terms B)) (row : List (Option ℕ)) : Type 0 where
   pub below : (w i : ℕ) → w < 7 → slice_index_or row w None ≡ Some i → i < length xs

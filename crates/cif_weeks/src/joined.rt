@@ -2,10 +2,9 @@
 
 ghost use Rattle.std.specs.Prelude.{◌≡◌, ◌<◌, ◌≤◌, ◌+◌, ◌*◌, ℕ, length, map, IfOk, MatchBool};
 ghost use Rattle.cif_columns.specs.Day.{IsDay};
-ghost use Rattle.cif_columns.specs.DaysRun.{IsFirstOf, RunsOn};
 ghost use Rattle.cif_weeks.specs.MadeRecords.{AreRunsUpTo};
 ghost use Rattle.cif_weeks.specs.Runs.{AreCanonicalRuns, AreSources};
-ghost use Rattle.cif_weeks.specs.WeekRows.{ArePositions, Begins, GoesOn, IsRowBefore, IsWeek};
+ghost use Rattle.cif_weeks.specs.WeekRows.{AreDaysOf, ArePositions, Begins, GoesOn, HaveOneBody, IsRowBefore, IsWeek};
 
 use crate::form::Form;
 use crate::longest::{agree, longest};
@@ -15,18 +14,6 @@ use crate::week_mask::mask_of;
 use cif_calendar::{Calendar, Entry};
 use cif_columns::DaysRun;
 use std::alloc::{AllocError, Global};
-
-/// Whether no weekday of the mask is before this one, which it has.
-fn is_first(days: DaysRun, weekday: u8) -> bool
-    requires { RunsOn days weekday }
-    ensures { MatchBool result (IsFirstOf days weekday)
-        ((earlier : ℕ) × (earlier < weekday) × RunsOn days earlier) }
-{
-    match days.first() {
-        Some(first) => first == weekday,
-        None => unreachable!(),
-    }
-}
 
 /// Whether the body at `source`, which runs on these days of the week, goes on from the week
 /// before.
@@ -53,7 +40,8 @@ fn goes_on<E: Entry>(
     }
 }
 
-/// Appends the run that begins on a weekday of the week, if one does.
+/// Appends the run that begins on a weekday of the week, if one does, and gives the weekdays of its
+/// body. No earlier weekday has that body.
 fn begin_run<E: Entry>(
     runs: &mut Vec<Run>,
     entries: &[E],
@@ -62,35 +50,35 @@ fn begin_run<E: Entry>(
     before: &Row,
     week: &Week,
     weekday: u8,
-) -> Result<(), AllocError>
+) -> Result<DaysRun, AllocError>
     requires small { week.now.number ≤ 6000 }
     requires weekday { weekday < 7 }
+    requires first { (earlier : ℕ) → earlier < weekday →
+        ¬ HaveOneBody (map E.terms entries.now) week.now.row earlier weekday }
     requires sources { AreSources (map E.terms entries.now) calendar.now }
     requires in_range { IsDay calendar.now.last }
     requires before { IsRowBefore calendar.now week.now.number before.now }
     requires week { IsWeek calendar.now week.now }
     requires made { AreRunsUpTo form (map E.terms entries.now) calendar.now
         (week.now.number * 7 + weekday) runs.now.items }
-    ensures { IfOk result (λ _. AreRunsUpTo form (map E.terms entries.now) calendar.now
-        (week.now.number * 7 + weekday + 1) runs.new.items) }
+    ensures { IfOk result (λ days. AreRunsUpTo form (map E.terms entries.now) calendar.now
+        (week.now.number * 7 + weekday + 1) runs.new.items
+        × AreDaysOf (map E.terms entries.now) week.now.row weekday days) }
 {
     let source = match week.row[usize::from(weekday)] {
         Some(source) => source,
-        None => return Ok(()),
+        None => return Ok(DaysRun::of([false; 7])),
     };
     let days = mask_of(entries, &week.row, source);
-    if !is_first(days, weekday) {
-        return Ok(());
-    }
     if goes_on(entries, calendar, form, week.number, before, source, days) {
-        return Ok(());
+        return Ok(days);
     }
     let first = match day_in(week.number, weekday) {
         Some(first) => first,
         None => unreachable!(),
     };
     runs.push(longest(entries, calendar, form, week, first, days, source))?;
-    Ok(())
+    Ok(days)
 }
 
 /// Appends the runs that begin in the week, in the order of their first dates.
@@ -112,8 +100,13 @@ fn begin_runs<E: Entry>(
     ensures { IfOk result (λ _. AreRunsUpTo form (map E.terms entries.now) calendar.now
         (week.now.number * 7 + 7) runs.new.items) }
 {
+    // The weekdays of the bodies of earlier weekdays.
+    let mut seen = DaysRun::of([false; 7]);
     for weekday in 0..7u8 {
-        begin_run(runs, entries, calendar, form, before, week, weekday)?;
+        if !seen.has(weekday) {
+            let days = begin_run(runs, entries, calendar, form, before, week, weekday)?;
+            seen = seen.union(days);
+        }
     }
     Ok(())
 }

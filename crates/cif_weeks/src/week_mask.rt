@@ -1,6 +1,7 @@
 //! The weekdays of one body in a week.
 
-ghost use Rattle.std.specs.Prelude.{◌≡◌, ◌<◌, ◌≤◌, ◌↔◌, ℕ, Some, length, map, IsTrue, MatchOption};
+ghost use Rattle.std.specs.Prelude.{◌≡◌, ◌<◌, ◌≤◌, ◌↔◌, ℕ, Some, None, length, map, IsTrue, MatchOption};
+ghost use Rattle.std.specs.Prelude.{slice_index_or};
 ghost use Rattle.cif_columns.specs.Day.{IsDay, week_of, weekday_of};
 ghost use Rattle.cif_columns.specs.DaysRun.{RunsOn};
 ghost use Rattle.cif_calendar.specs.Source.{body_at};
@@ -25,22 +26,37 @@ fn has_body<E: Entry>(entries: &[E], source: Option<usize>, position: usize) -> 
     }
 }
 
+/// The first weekday that has the source of this one.
+fn first_with_source(row: &Row, weekday: u8) -> u8
+    requires { weekday < 7 }
+    ensures upto { result ≤ weekday }
+    ensures source { slice_index_or row.now result None ≡ slice_index_or row.now weekday None }
+{
+    for earlier in 0..weekday {
+        if row[usize::from(earlier)] == row[usize::from(weekday)] {
+            return earlier;
+        }
+    }
+    weekday
+}
+
 /// The weekdays of a week on which the body of the entry at `position` runs.
 pub(crate) fn mask_of<E: Entry>(entries: &[E], row: &Row, position: usize) -> DaysRun
     requires position { position < length entries.now }
     requires positions { ArePositions (map E.terms entries.now) row.now }
     ensures { IsMaskOf (map E.terms entries.now) row.now position result }
 {
-    let monday = has_body(entries, row[0], position);
-    let tuesday = has_body(entries, row[1], position);
-    let wednesday = has_body(entries, row[2], position);
-    let thursday = has_body(entries, row[3], position);
-    let friday = has_body(entries, row[4], position);
-    let saturday = has_body(entries, row[5], position);
-    let sunday = has_body(entries, row[6], position);
-    DaysRun::of([
-        monday, tuesday, wednesday, thursday, friday, saturday, sunday,
-    ])
+    let mut days = [false; 7];
+    for weekday in 0..7u8 {
+        let first = first_with_source(row, weekday);
+        // The body of a source is compared once, on the first weekday that has it.
+        days[usize::from(weekday)] = if first < weekday {
+            days[usize::from(first)]
+        } else {
+            has_body(entries, row[usize::from(weekday)], position)
+        };
+    }
+    DaysRun::of(days)
 }
 
 /// The last day of a week that is in the mask; `None` where the mask is empty.

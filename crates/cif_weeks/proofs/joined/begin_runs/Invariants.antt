@@ -1,7 +1,10 @@
 use Rattle.std.proofs.Common.{◌+◌, ◌*◌, map}
 use Rattle.cif_weeks.specs.MadeRecords.{AreRunsUpTo}
+use Rattle.cif_weeks.specs.WeekRows.{AreSeen}
 use Rattle.cif_weeks.proofs.joined.begin_runs.Given as goal
 
 abbrev pub invariant-loop-weekday : goal.invariant-loop-weekday
-invariant-loop-weekday g l =
-    AreRunsUpTo l.form (map g.E.Entry.terms l.entries) l.calendar (l.week.number * 7 + l.weekday) l.runs.items
+invariant-loop-weekday g l = record {
+  made : AreRunsUpTo l.form (map g.E.Entry.terms l.entries) l.calendar (l.week.number * 7 + l.weekday) l.runs.items;
+  seen : AreSeen (map g.E.Entry.terms l.entries) l.week.row l.weekday l.seen;
+}
