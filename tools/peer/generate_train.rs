@@ -1,7 +1,7 @@
 //! Writes an extract of one train: `generate_train SHAPE FIRST DAYS SCHEDULES`, its lines with line feeds.
 //!
 //! The window begins on the date FIRST (yymmdd, from 600101 to 591231) and has so many days. Nothing clashes:
-//! but for `twobodies` all bodies are the same journey. The shapes:
+//! but for `twobodies` and `ownrecords` all bodies are the same journey. The shapes:
 //!
 //! `disjoint`: each schedule has a stretch of dates of its own, and the stretches follow one another over
 //! the whole window. Of more schedules than days several share a date. Each runs on all weekdays. The first
@@ -20,14 +20,18 @@
 //! `daily`: all schedules are permanent and run on each date of the window. So they are one run in form 2. In
 //! form 1 a week that the window cuts is a run of its own.
 //!
-//! `alternating`: each schedule is permanent and has a week of its own, one on Monday, Wednesday and Friday,
-//! the next on Tuesday and Thursday, and so on. So each week begins a run, and there are as many as schedules.
+//! `alternating`: the first schedule is permanent, on Monday to Friday of all weeks. Each other is a cancellation
+//! of one week, by turns on Tuesday and Thursday and on Monday, Wednesday and Friday. So each week begins a run.
 //!
-//! `twobodies`: each week has two schedules, one on Monday, Wednesday and Friday, the other on Tuesday and
+//! `twobodies`: the first two schedules are permanent in all weeks, on Monday, Wednesday and Friday and on
+//! Tuesday and Thursday. Their bodies are two journeys, an hour apart. Each other schedule is a cancellation of
+//! one week, by turns on Monday and Tuesday and on Wednesday and Thursday. So each week begins two runs.
+//!
+//! `ownrecords`: each week has two schedules, one on Monday, Wednesday and Friday, the other on Tuesday and
 //! Thursday. Their bodies are two journeys, an hour apart, which change places from week to week. So each week
 //! begins two runs, and there are as many as schedules.
 //!
-//! In the last two FIRST is a Monday, and DAYS those of all weeks.
+//! In the last three FIRST is a Monday, and DAYS those of all weeks.
 
 // Other programs have more of these.
 #[allow(dead_code)]
@@ -50,7 +54,9 @@ const MINUTES_LATER: u64 = 60;
 const JOURNEYS: u64 = 2;
 const WEEKDAYS: usize = 7;
 const ALL_DAYS: &str = "1111111";
+const MONDAY_TO_FRIDAY: &str = "1111100";
 const DAYS_BY_TURNS: [&str; 2] = ["1010100", "0101000"];
+const CANCELLED_BY_TURNS: [&str; 2] = ["1100000", "0011000"];
 
 #[derive(Clone, Copy, Debug, PartialEq, Eq)]
 enum Shape {
@@ -60,6 +66,7 @@ enum Shape {
     Daily,
     Alternating,
     TwoBodies,
+    OwnRecords,
 }
 
 /// The dates of a schedule, as days of the window from 0 on, with its weekdays, its letter, and which of the
@@ -81,15 +88,17 @@ impl Shape {
             "daily" => Some(Shape::Daily),
             "alternating" => Some(Shape::Alternating),
             "twobodies" => Some(Shape::TwoBodies),
+            "ownrecords" => Some(Shape::OwnRecords),
             _ => None,
         }
     }
 
-    /// How many schedules a week has, where each has one week.
-    fn in_a_week(self) -> Option<usize> {
+    /// How many schedules there are for so many weeks, where that is fixed.
+    fn schedules(self, weeks: usize) -> Option<usize> {
         match self {
-            Shape::Alternating => Some(1),
-            Shape::TwoBodies => Some(2),
+            Shape::Alternating => Some(weeks + 1),
+            Shape::TwoBodies => Some(weeks + 2),
+            Shape::OwnRecords => Some(2 * weeks),
             _ => None,
         }
     }
@@ -105,8 +114,15 @@ impl Shape {
                 ..overlapping(at, days)
             },
             Shape::Daily => permanent(0, days, ALL_DAYS, 0),
-            Shape::Alternating => permanent(at * WEEKDAYS, WEEKDAYS, DAYS_BY_TURNS[at % 2], 0),
-            Shape::TwoBodies => {
+            Shape::Alternating => match at.checked_sub(1) {
+                None => permanent(0, days, MONDAY_TO_FRIDAY, 0),
+                Some(week) => cancellation(week, DAYS_BY_TURNS[(week + 1) % 2]),
+            },
+            Shape::TwoBodies => match at.checked_sub(2) {
+                None => permanent(0, days, DAYS_BY_TURNS[at], at),
+                Some(week) => cancellation(week, CANCELLED_BY_TURNS[week % 2]),
+            },
+            Shape::OwnRecords => {
                 let (week, of_week) = (at / 2, at % 2);
                 let days = DAYS_BY_TURNS[of_week];
                 permanent(week * WEEKDAYS, WEEKDAYS, days, (week + of_week) % 2)
@@ -123,6 +139,14 @@ fn permanent(first: usize, count: usize, days: &str, journey: usize) -> Terms {
         days: days.into(),
         letter: "P",
         journey,
+    }
+}
+
+/// A cancellation of one week of the window.
+fn cancellation(week: usize, days: &str) -> Terms {
+    Terms {
+        letter: "C",
+        ..permanent(week * WEEKDAYS, WEEKDAYS, days, 0)
     }
 }
 
@@ -205,10 +229,10 @@ impl Train {
         (has_dates && train.has_its_weeks()).then_some(train)
     }
 
-    /// Whether the window is the weeks of the schedules, where these have some.
+    /// Whether the window is whole weeks, and has as many schedules as the shape fixes for these.
     fn has_its_weeks(&self) -> bool {
-        self.shape.in_a_week().is_none_or(|count| {
-            weekday_of(self.first) == 0 && self.days * count == self.schedules * WEEKDAYS
+        self.shape.schedules(self.days / WEEKDAYS).is_none_or(|count| {
+            weekday_of(self.first) == 0 && self.days % WEEKDAYS == 0 && self.schedules == count
         })
     }
 
