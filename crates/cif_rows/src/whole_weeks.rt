@@ -12,6 +12,7 @@ use cif_columns::DaysRun;
 use cif_extract::Schedule;
 use cif_weeks::{Form, Run, runs};
 use std::alloc::Global;
+use std::process::Abort;
 use std::test::Fail;
 
 /// The first of the schedules with the body of the one at this position.
@@ -64,19 +65,20 @@ pub(crate) fn run(
 
 pub(crate) const BOTH_FORMS: [Form; 2] = [Form::One, Form::Two];
 
+/// Sees that the runs of these bytes are the wanted ones, in both forms.
+fn have_runs(rt: &impl Abort, alloc: Global, bytes: &[u8], wanted: &[Run]) -> Result<(), Fail> {
+    for form in BOTH_FORMS {
+        assert_eq!(rt; runs_in(alloc, bytes, form)?.as_slice(), wanted, "{form:?}");
+    }
+    Ok(())
+}
+
 #[test]
 fn equal_weeks_are_one_run(rt: HostRuntime) -> Result<(), Fail> {
     let alloc = rt.alloc();
     let bytes = weekday_train(alloc)?;
     let wanted = [run(b"260105", b"260123", b"1111100", 0)?];
-    for form in BOTH_FORMS {
-        assert_eq!(rt;
-            runs_in(alloc, &bytes, form)?.as_slice(),
-            wanted.as_slice(),
-            "{form:?}"
-        );
-    }
-    Ok(())
+    have_runs(&rt, alloc, &bytes, &wanted)
 }
 
 #[test]
@@ -88,14 +90,7 @@ fn week_with_a_cancelled_day_is_a_run_of_its_own(rt: HostRuntime) -> Result<(), 
         run(b"260112", b"260116", b"1101100", 0)?,
         run(b"260119", b"260123", b"1111100", 0)?,
     ];
-    for form in BOTH_FORMS {
-        assert_eq!(rt;
-            runs_in(alloc, &bytes, form)?.as_slice(),
-            wanted.as_slice(),
-            "{form:?}"
-        );
-    }
-    Ok(())
+    have_runs(&rt, alloc, &bytes, &wanted)
 }
 
 #[test]
@@ -103,14 +98,7 @@ fn overlay_with_the_same_body_changes_no_run(rt: HostRuntime) -> Result<(), Fail
     let alloc = rt.alloc();
     let bytes = overlay_with_the_same_body(alloc)?;
     let wanted = [run(b"260105", b"260123", b"1111100", 0)?];
-    for form in BOTH_FORMS {
-        assert_eq!(rt;
-            runs_in(alloc, &bytes, form)?.as_slice(),
-            wanted.as_slice(),
-            "{form:?}"
-        );
-    }
-    Ok(())
+    have_runs(&rt, alloc, &bytes, &wanted)
 }
 
 #[test]
@@ -123,14 +111,7 @@ fn overlay_with_another_body_is_a_run_in_the_same_week(rt: HostRuntime) -> Resul
         run(b"260114", b"260114", b"0010000", 1)?,
         run(b"260119", b"260123", b"1111100", 0)?,
     ];
-    for form in BOTH_FORMS {
-        assert_eq!(rt;
-            runs_in(alloc, &bytes, form)?.as_slice(),
-            wanted.as_slice(),
-            "{form:?}"
-        );
-    }
-    Ok(())
+    have_runs(&rt, alloc, &bytes, &wanted)
 }
 
 #[test]
@@ -138,14 +119,7 @@ fn mask_of_a_run_has_no_day_without_a_date(rt: HostRuntime) -> Result<(), Fail> 
     let alloc = rt.alloc();
     let bytes = mask_days_without_a_date(alloc)?;
     let wanted = [run(b"260105", b"260105", b"1000000", 0)?];
-    for form in BOTH_FORMS {
-        assert_eq!(rt;
-            runs_in(alloc, &bytes, form)?.as_slice(),
-            wanted.as_slice(),
-            "{form:?}"
-        );
-    }
-    Ok(())
+    have_runs(&rt, alloc, &bytes, &wanted)
 }
 
 #[test]
@@ -156,14 +130,7 @@ fn two_bodies_in_one_week_are_two_runs(rt: HostRuntime) -> Result<(), Fail> {
         run(b"260105", b"260105", b"1000000", 0)?,
         run(b"260106", b"260106", b"0100000", 1)?,
     ];
-    for form in BOTH_FORMS {
-        assert_eq!(rt;
-            runs_in(alloc, &bytes, form)?.as_slice(),
-            wanted.as_slice(),
-            "{form:?}"
-        );
-    }
-    Ok(())
+    have_runs(&rt, alloc, &bytes, &wanted)
 }
 
 #[test]
@@ -174,14 +141,7 @@ fn no_run_goes_across_a_week_in_which_nothing_runs(rt: HostRuntime) -> Result<()
         run(b"260105", b"260105", b"1000000", 0)?,
         run(b"260119", b"260119", b"1000000", 0)?,
     ];
-    for form in BOTH_FORMS {
-        assert_eq!(rt;
-            runs_in(alloc, &bytes, form)?.as_slice(),
-            wanted.as_slice(),
-            "{form:?}"
-        );
-    }
-    Ok(())
+    have_runs(&rt, alloc, &bytes, &wanted)
 }
 
 #[test]
