@@ -1,4 +1,5 @@
 pub mod Codes
+pub mod ColumnReads
 pub mod Dates
 pub mod DayColumns
 pub mod DayDigits
@@ -11,15 +12,19 @@ pub mod GivenLinesLaws
 pub mod HeldBytes
 pub mod Letters
 pub mod LineAnswers
+pub mod MaskUnion
 pub mod Masks
+pub mod PackedCodes
 pub mod Parts
 pub mod PlainColumns
 pub mod PlainLines
 pub mod PrintableBytes
 pub mod TableLaws
+pub mod TestedRows
+pub mod TestedTexts
+pub mod TestedTimes
 pub mod TextOrder
 pub mod Texts
 pub mod Times
 pub mod TrialPieces
 pub mod WholeLines
-pub mod MaskUnion

@@ -4,12 +4,11 @@ use Rattle.std.proofs.Common.{List, [], ◌∷◌, ◌++◌, length}
 use Rattle.std.proofs.Common.{drop, get_or, replicate, refl, sym, ap, ◌∙◌, arith, subst, length-append, length-drop, Some}
 use Rattle.std.proofs.lemmas.Bool.Decides.{nat_tests}
 use Rattle.std.proofs.lemmas.List.{append-nil, drop-drop, length-replicate, nil_from_length, take-append-drop}
-use Rattle.cif_columns.specs.Activities.{codes_columns}
+use Rattle.cif_columns.specs.Activities.{codes_columns, codes_in}
 use Rattle.cif_columns.specs.Clock.{is_blank}
 use Rattle.cif_columns.specs.Field.{AllStandIn, FieldValue, Row, StandsIn, columns, is_whole_from, plain_columns, plain_line}
 use Rattle.cif_columns.specs.Field.{exactly, text, activity_codes, working_time, public_time, date, weekdays, indicator, spare}
 use Rattle.cif_columns.specs.Line.{IsLine}
-use Rattle.cif_columns.specs.PlainColumns.{IsPlainActivities, IsPlainSpare, IsPlainText}
 use Rattle.cif_columns.specs.Text.{IsTrimmed, StandsIn as TextStandsIn, left_justified, text_of}
 use Rattle.cif_columns.proofs.Codes.{codes_in-stands}
 use Rattle.cif_columns.proofs.DayDigits.{yymmdd_of-stands}
@@ -68,17 +67,21 @@ all_blank (suc n) = all_blank n
 pub blank-spaces : (c : List ℕ) → replicate (length c) 32 ≡ c → is_blank c ≡ true
 blank-spaces c e = subst (λ l. is_blank l ≡ true) e (all_blank (length c))
 
--- columns that begin with a space and are filled as in a plain line are blank
-pub blank-plain : (c : List ℕ) → get_or c 0 0 ≡ 32 → left_justified (length c) (text_of c) ≡ c → is_blank c ≡ true
-blank-plain c first e = let s = is_text_of c in at (text_of c) s.trimmed e
-  where
-    at : (t : List ℕ) → IsTrimmed t → left_justified (length c) t ≡ c → is_blank c ≡ true
-    at [] h same = subst (λ l. is_blank l ≡ true) same (all_blank (length c - 0))
-    at (x ∷ t) h same = absurd (h.start (ap Some (ap (λ l. get_or l 0 0) same ∙ first)))
+-- the text in these columns is at their left
+abbrev pub IsPlainText : ℕ → ℕ → List ℕ → Type 0
+IsPlainText from to line = left_justified (to + 1 - from) (text_of (columns from to line)) ≡ columns from to line
 
--- columns with a value of this kind are filled as in a plain line; a text of one column can be filled in one way
-abbrev IsPlain : ℕ → ℕ → FieldValue → List ℕ → Type 0
-IsPlain from to (text value) line = cond (nat_eq from to) (Unit {0}) (IsPlainText from to line)
+-- the activity codes in these columns are packed to the left
+abbrev pub IsPlainActivities : ℕ → ℕ → List ℕ → Type 0
+IsPlainActivities from to line = codes_columns (codes_in (columns from to line)) ≡ columns from to line
+
+-- these columns are spaces
+abbrev pub IsPlainSpare : ℕ → ℕ → List ℕ → Type 0
+IsPlainSpare from to line = replicate (to + 1 - from) 32 ≡ columns from to line
+
+-- columns with a value of this kind are filled as in a plain line
+abbrev pub IsPlain : ℕ → ℕ → FieldValue → List ℕ → Type 0
+IsPlain from to (text value) line = IsPlainText from to line
 IsPlain from to (activity_codes codes) line = IsPlainActivities from to line
 IsPlain from to spare line = IsPlainSpare from to line
 IsPlain from to _ line = Unit {0}
@@ -88,32 +91,13 @@ abbrev pub ArePlain : List Row → List ℕ → Type 0
 ArePlain [] line = Unit {0}
 ArePlain (r ∷ rows) line = IsPlain r.from r.to r.value line × ArePlain rows line
 
--- a text of one column can be filled in one way
-plain-one : (c : List ℕ) → length c ≡ 1 → left_justified 1 (text_of c) ≡ c
-plain-one [] one = cc
-plain-one (x ∷ y ∷ c) one = absurd (let clash : ⊥ = omega (arith, one) in clash)
-plain-one (x ∷ []) one = at (nat_eq x 32) refl
-  where
-    at : (b : Bool) → nat_eq x 32 ≡ b → left_justified 1 (text_of (x ∷ [])) ≡ x ∷ []
-    at true e = plain-blank (x ∷ []) (rw e)
-    at false e = plain-text (x ∷ []) (omega arith) e
-
 -- columns of a line, from one to another
 module _ (line : List ℕ) (is_line : IsLine line) (from to : ℕ) (start : 1 ≤ from) (some : from ≤ to) (within : to ≤ 80) where
-  plain_text_at : (value : List ℕ) (single : Bool) → nat_eq from to ≡ single → TextStandsIn (columns from to line) value
-      → cond single (Unit {0}) (IsPlainText from to line) → left_justified (to + 1 - from) value ≡ columns from to line
-  plain_text_at value true e s h =
-      let one : to + 1 - from ≡ 1 = grind (arith, nat_tests) in
-      let wide : length (columns from to line) ≡ 1 = length-columns from to line is_line start some within ∙ one in
-      ap (λ n. left_justified n value) one ∙ ap (left_justified 1) (sym (trim-text (columns from to line) value s))
-      ∙ plain-one (columns from to line) wide
-  plain_text_at value false e s h = ap (left_justified (to + 1 - from)) (sym (trim-text (columns from to line) value s)) ∙ h
-
   -- a value that stands in columns which are filled as in a plain line
   plain_value : (value : FieldValue) → StandsIn (columns from to line) value → IsPlain from to value line
       → plain_columns (to + 1 - from) value ≡ columns from to line
   plain_value (exactly value) s h = sym s
-  plain_value (text value) s h = plain_text_at value (nat_eq from to) refl s h
+  plain_value (text value) s h = ap (left_justified (to + 1 - from)) (sym (trim-text (columns from to line) value s)) ∙ h
   plain_value (activity_codes codes) s h = ap codes_columns (sym (codes_in-stands (columns from to line) codes s)) ∙ h
   plain_value (working_time time) s h = sym s.same
   plain_value (public_time time) s h = sym s.same
@@ -131,7 +115,7 @@ module _ (line : List ℕ) (is_line : IsLine line) (from to : ℕ) (start : 1 �
       ∙ take-append-drop (to - (from - 1)) (drop (from - 1) line)
 
 -- a table that is whole ends at column 80
-whole-within : (column : ℕ) (rows : List Row) → is_whole_from column rows ≡ true → column ≤ 81
+pub whole-within : (column : ℕ) (rows : List Row) → is_whole_from column rows ≡ true → column ≤ 81
 whole-within column [] whole = grind (arith, nat_tests)
 whole-within column (r ∷ rows) whole =
     let first = whole-first column r rows whole in

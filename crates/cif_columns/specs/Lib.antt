@@ -14,7 +14,7 @@ pub mod GivenLines
 pub mod Line
 pub mod LineBuilder
 pub mod LineReader
-pub mod PlainColumns
+pub mod PlainTest
 pub mod PublicTime
 pub mod Refusal
 pub mod Sink

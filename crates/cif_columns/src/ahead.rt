@@ -13,8 +13,8 @@ use crate::read_device::ReadDevice;
 use crate::refusal::Refusal;
 use crate::source::{ReadFault, Source};
 
-// A read gives about a hundred lines. The buffer lies on the stack.
-const AHEAD: usize = 8192;
+// A read gives about eight hundred lines. The buffer lies on the stack.
+const AHEAD: usize = 65_536;
 
 /// What was found where a line should begin.
 pub(crate) enum Found {
@@ -31,7 +31,7 @@ pub(crate) struct Ahead {
     start: usize,
     end: usize,
     ghost ordered: { start ≤ end },
-    ghost in_bounds: { end ≤ 8192 },
+    ghost in_bounds: { end ≤ 65536 },
 }
 
 impl Ahead {

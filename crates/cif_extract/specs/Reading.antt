@@ -106,10 +106,18 @@ begun p b (Some d) runs = record p {
   lines = plain_line (detail_table d) ∷ [];
 }
 
--- the line of a record, kept if its schedule has a body
+-- the lines and a plain line more, if the schedule that is being read has a body
+abbrev pub with_kept : Option Opened → List (List ℕ) → List ℕ → List (List ℕ)
+with_kept None lines line = lines
+with_kept (Some o) lines line = lines ++ (line ∷ [])
+
+-- the plain line of a record, kept if its schedule has a body
 abbrev pub kept : Option Opened → List (List ℕ) → Record → List (List ℕ)
-kept None lines r = lines
-kept (Some o) lines r = lines ++ (plain_line (record_table r) ∷ [])
+kept opened lines r = with_kept opened lines (plain_line (record_table r))
+
+-- a reading that keeps a plain line
+abbrev pub keeping : Progress → List ℕ → Progress
+keeping p line = record p { lines = with_kept p.opened p.lines line }
 
 -- the schedules so far, and the one that has been opened with these lines
 abbrev pub closed : List Schedule → Option Opened → List (List ℕ) → List Schedule

@@ -15,7 +15,9 @@ use crate::place::Place;
 use crate::stop_at::StopAt;
 use crate::{Body, Extract, Fault, Schedule};
 use cif_columns::{Line, Refusal};
-use cif_records::{Association, Basic, Header, Kind, Tiploc, Trailer, kind_of, plain_line_of};
+use cif_records::{
+    Association, Basic, Header, Kind, Tiploc, Trailer, is_plain_line, kind_of, plain_line_of,
+};
 use std::alloc::{AllocError, Global};
 
 /// What the lines so far have come to.
@@ -34,7 +36,7 @@ pub(crate) struct Reading {
 impl Reading {
     ghost use Rattle.cif_extract.specs.Body.{KeepSomeBody};
     ghost use Rattle.cif_extract.specs.Reading.{HasRead, IsClosed, IsKept, IsOnTheWay, IsTaken};
-    ghost use Rattle.cif_extract.specs.Reading.{IsHeld, IsUnfinished, no_progress, progress_of};
+    ghost use Rattle.cif_extract.specs.Reading.{IsHeld, IsUnfinished, keeping, no_progress, progress_of};
     ghost use Rattle.cif_extract.specs.Reading.{refusal_here};
     ghost use Rattle.cif_extract.specs.ExtractParts.{extract_parts};
     ghost use Rattle.cif_records.specs.declared.record.Record.{Record};
@@ -69,7 +71,7 @@ impl Reading {
             return Err(StopAt::Refused(Refusal::OutOfOrder));
         }
         match kind {
-            Kind::Li | Kind::Cr | Kind::Lo => self.take_call(line),
+            Kind::Li | Kind::Cr | Kind::Lo => self.take_call(kind, line),
             Kind::Lt => self.take_terminus(alloc, line),
             Kind::Bs => self.take_basic(line),
             Kind::Bx => self.take_extra(line),
@@ -192,18 +194,19 @@ impl Reading {
         ensures { IsTaken (record_refusal line.now) line.now (progress_of self.old) result
             (progress_of self.new) }
     {
-        self.keep(line)?;
+        self.keep(Kind::Bx, line)?;
         self.place = self.place.after_extra();
         Ok(())
     }
 
     /// A location or a change of a journey, but for its last location.
-    fn take_call(&mut self, line: &Line) -> Result<(), StopAt>
-        requires { IsOnTheWay (kind_in line.now) }
+    fn take_call(&mut self, kind: Kind, line: &Line) -> Result<(), StopAt>
+        requires kind { kind_in line.now ≡ Some kind }
+        requires on_the_way { IsOnTheWay (kind_in line.now) }
         ensures { IsTaken (record_refusal line.now) line.now (progress_of self.old) result
             (progress_of self.new) }
     {
-        self.keep(line)?;
+        self.keep(kind, line)?;
         self.place = Place::Journey;
         Ok(())
     }
@@ -215,7 +218,7 @@ impl Reading {
         ensures { IsTaken (record_refusal line.now) line.now (progress_of self.old) result
             (progress_of self.new) }
     {
-        self.keep(line)?;
+        self.keep(Kind::Lt, line)?;
         self.place = Place::Schedules;
         match self.opened.take() {
             Some(opened) => self.close(alloc, opened),
@@ -233,17 +236,29 @@ impl Reading {
         Ok(())
     }
 
-    /// Keeps the line of a record as its plain line, if the schedule that is being read has a body.
-    fn keep(&mut self, line: &Line) -> Result<(), StopAt>
+    /// Keeps the line of a record of this kind as its plain line, if the schedule that is being read
+    /// has a body.
+    fn keep(&mut self, kind: Kind, line: &Line) -> Result<(), StopAt>
+        requires { kind_in line.now ≡ Some kind }
         ensures { IsKept (record_refusal line.now) line.now (progress_of self.old) result
             (progress_of self.new) }
     {
-        let plain = plain_line_of(line)?;
-        match &self.opened {
-            Some(_) => push(&mut self.lines, plain)?,
-            None => {}
+        if is_plain_line(kind, line) {
+            self.keep_plain(line)?;
+        } else {
+            self.keep_plain(&plain_line_of(line)?)?;
         }
         Ok(())
+    }
+
+    /// Keeps a plain line, if the schedule that is being read has a body.
+    fn keep_plain(&mut self, line: &Line) -> Result<(), AllocError>
+        ensures { OnOk result (progress_of self.new ≡ keeping (progress_of self.old) line.now) }
+    {
+        match &self.opened {
+            Some(_) => push(&mut self.lines, *line),
+            None => Ok(()),
+        }
     }
 
     fn take_trailer(&mut self, line: &Line) -> Result<(), StopAt>

@@ -4,11 +4,8 @@ use crate::{Stop, report};
 use cif_columns::{MAX_LINES, ReadDevice, Source};
 use cif_extract::read_extract;
 use std::fs;
-use std::io::BufReader;
 use std::rt::{Clock, Files};
 use std::time::Instant;
-
-const INPUT_BUFFER: usize = 65_536;
 
 /// Reads the extract in the file of this name, and prints what it has, the nanoseconds that the
 /// reading took and the most bytes of memory that the process held.
@@ -18,7 +15,7 @@ where
     R::File: ReadDevice,
 {
     let start = Instant::now(rt)?;
-    let input = BufReader::with_capacity(rt.alloc(), INPUT_BUFFER, fs::open(rt, name)?)?;
+    let input = fs::open(rt, name)?;
     let extract = read_extract(rt.alloc(), &mut Source::new(input), MAX_LINES)?;
     let time = start.elapsed(rt)?;
     let memory = peak_memory(rt).ok_or(Stop::Device)?;

@@ -3,12 +3,6 @@ use Rattle.std.proofs.Common.{◌≡◌, ◌≤◌, ℕ, Bool, true, List, Optio
 use Rattle.std.proofs.Props.{props}
 use mathlib.Core.HLevel.{Σ_prop_path}
 use Rattle.cif_columns.specs.Field.{AllStandIn, StandsIn, columns, date, indicator, text, weekdays}
-use Rattle.cif_columns.specs.Line.{IsLine}
-use Rattle.cif_columns.specs.Text.{text_of}
-use Rattle.cif_columns.proofs.PlainColumns.{ArePlain, plain_already}
-use Rattle.cif_columns.proofs.Texts.{is_text_of}
-use Rattle.cif_records.specs.Plain.{IsPlainOf}
-use Rattle.cif_records.proofs.Rows.{◌&◌}
 use Rattle.cif_columns.specs.declared.stp.Stp.{Stp}
 use Rattle.cif_columns.proofs.FieldLaws.{one_date_value, one_indicator, one_text_value, one_weekdays, stp_in-letter}
 use Rattle.cif_columns.proofs.Masks.{days_of-stands}
@@ -126,46 +120,3 @@ no_refusal line r m =
       p.letter,
       stp_in-letter r.letter,
     )
-
--- the key and the body that stand in a line
-abbrev key_in : List ℕ → AssocKey
-key_in line = record {
-  base = columns 4 9 line;
-  associated = columns 10 15 line;
-  location = text_of (columns 38 44 line);
-  base_suffix = text_of (columns 45 45 line);
-  associated_suffix = text_of (columns 46 46 line);
-}
-
-abbrev body_in : List ℕ → AssocBody
-body_in line = record {
-  category = text_of (columns 35 36 line);
-  date_indicator = text_of (columns 37 37 line);
-  diagram = text_of (columns 47 47 line);
-  kind = text_of (columns 48 48 line);
-}
-
--- a line that spells an association with a body and fills its columns as a plain line does is the plain line
-module _ (line : List ℕ) (is_line : IsLine line) (first last : ℕ) (days : List Bool) (letter : Stp) where
-  pub plain_association : columns 1 2 line ≡ codes "AA" → columns 3 3 line ≡ codes "N" → StandsIn (columns 16 21 line) (date first)
-      → StandsIn (columns 22 27 line) (date last) → StandsIn (columns 28 34 line) (weekdays days)
-      → StandsIn (columns 80 80 line) (indicator letter) → first ≤ last → has_body letter ≡ true
-      → ArePlain (association_table (key_in line) first last days letter (Some (body_in line))) line
-      → IsPlainOf Association table_of line line
-  plain_association identity transaction first_there last_there days_there letter_there in_order has plain =
-      let r : Association = record {
-        key = key_in line;
-        first = first;
-        last = last;
-        days = days;
-        letter = letter;
-        body = Some (body_in line);
-        in_order = in_order;
-        bodied = sym has;
-      } in
-      let spelled : AllStandIn line (association_table (key_in line) first last days letter (Some (body_in line))) =
-      identity & transaction & refl & refl & first_there & last_there & days_there
-      & is_text_of (columns 35 36 line) & is_text_of (columns 37 37 line) & is_text_of (columns 38 44 line)
-      & is_text_of (columns 45 45 line) & is_text_of (columns 46 46 line) & is_text_of (columns 47 47 line)
-      & is_text_of (columns 48 48 line) & tt & letter_there & tt in
-      record { value = r; stands = spelled; again = spelled; same = sym (plain_already line is_line (table_of r) refl spelled plain) }

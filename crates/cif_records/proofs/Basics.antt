@@ -3,11 +3,6 @@ use Rattle.std.proofs.Common.{◌≡◌, ◌≤◌, ℕ, Bool, true, List, Optio
 use Rattle.std.proofs.Props.{props}
 use mathlib.Core.HLevel.{Σ_prop_path}
 use Rattle.cif_columns.specs.Field.{FieldValue, AllStandIn, StandsIn, columns, date, indicator, weekdays}
-use Rattle.cif_columns.specs.Line.{IsLine}
-use Rattle.cif_columns.proofs.PlainColumns.{ArePlain, plain_already}
-use Rattle.cif_columns.proofs.Texts.{is_text_of}
-use Rattle.cif_records.specs.Plain.{IsPlainOf}
-use Rattle.cif_records.proofs.Rows.{◌&◌}
 use Rattle.cif_columns.specs.declared.stp.Stp.{Stp}
 use Rattle.cif_columns.proofs.FieldLaws.{one_date_value, one_exactly, one_indicator, one_weekdays, stp_in-letter}
 use Rattle.cif_columns.proofs.Masks.{days_of-stands}
@@ -110,43 +105,3 @@ no_refusal line r m =
       p.back.1.0,
       stp_in-letter r.letter,
     )
-
--- a line that spells a schedule with a detail and fills its columns as a plain line does is the plain line
-module _ (line : List ℕ) (is_line : IsLine line) (first last : ℕ) (days : List Bool) (letter : Stp) where
-  pub plain_basic : columns 1 2 line ≡ codes "BS" → columns 3 3 line ≡ codes "N" → StandsIn (columns 10 15 line) (date first)
-      → StandsIn (columns 16 21 line) (date last) → StandsIn (columns 22 28 line) (weekdays days) → columns 29 29 line ≡ codes " "
-      → StandsIn (columns 80 80 line) (indicator letter) → first ≤ last → has_body letter ≡ true
-      → ArePlain (basic_table (columns 4 9 line) first last days letter (Some (detail_in line))) line
-      → IsPlainOf Basic table_of line line
-  plain_basic identity transaction first_there last_there days_there holiday letter_there in_order has plain =
-      let r : Basic = record {
-        uid = columns 4 9 line;
-        first = first;
-        last = last;
-        days = days;
-        letter = letter;
-        detail = Some (detail_in line);
-        in_order = in_order;
-        bodied = sym has;
-      } in
-      let spelled : AllStandIn line (basic_table (columns 4 9 line) first last days letter (Some (detail_in line))) =
-      identity & transaction & refl & first_there & last_there & days_there & holiday
-      & is_text_of (columns 30 30 line)
-      & is_text_of (columns 31 32 line)
-      & is_text_of (columns 33 36 line)
-      & is_text_of (columns 37 40 line)
-      & is_text_of (columns 41 41 line)
-      & is_text_of (columns 42 49 line)
-      & is_text_of (columns 50 50 line)
-      & is_text_of (columns 51 53 line)
-      & is_text_of (columns 54 57 line)
-      & is_text_of (columns 58 60 line)
-      & is_text_of (columns 61 66 line)
-      & is_text_of (columns 67 67 line)
-      & is_text_of (columns 68 68 line)
-      & is_text_of (columns 69 69 line)
-      & is_text_of (columns 70 70 line)
-      & is_text_of (columns 71 74 line)
-      & is_text_of (columns 75 78 line)
-      & tt & letter_there & tt in
-      record { value = r; stands = spelled; again = spelled; same = sym (plain_already line is_line (table_of r) refl spelled plain) }

@@ -1,12 +1,6 @@
 -- A line spells further details of a schedule in one way at most, and there is no reason to refuse a line that spells one.
-use Rattle.std.proofs.Common.{◌≡◌, ℕ, List, Option, None, refl, ap, get_or, sym, codes}
-use Rattle.cif_columns.specs.Field.{FieldValue, columns}
-use Rattle.cif_columns.specs.Line.{IsLine}
-use Rattle.cif_columns.specs.Text.{text_of}
-use Rattle.cif_columns.proofs.PlainColumns.{ArePlain, plain_already}
-use Rattle.cif_columns.proofs.Texts.{is_text_of}
-use Rattle.cif_records.specs.Plain.{IsPlainOf}
-use Rattle.cif_records.proofs.Rows.{◌&◌}
+use Rattle.std.proofs.Common.{◌≡◌, ℕ, List, Option, None, refl, ap, get_or}
+use Rattle.cif_columns.specs.Field.{FieldValue}
 use Rattle.cif_columns.proofs.TableLaws.{all_read, all_read-stands, one_table, columns_in}
 use Rattle.cif_records.specs.Extra.{extra_refusal}
 use Rattle.cif_records.specs.SpellsExtra.{SpellsExtra, table_of, extra_in}
@@ -34,29 +28,3 @@ extra_in-spells line r s = ap extra_of (all_read-stands line (table_of r) s)
 pub no_refusal : (line : List ℕ) (r : Extra) → SpellsExtra line r → extra_refusal line ≡ None
 unfolding extra_refusal
 no_refusal line r p = rw p.0
-
-module _ (line : List ℕ) where
-  -- what a line spells
-  abbrev extra_with : Extra
-  extra_with = record {
-    traction = text_of (columns 3 6 line);
-    uic = text_of (columns 7 11 line);
-    operator_code = text_of (columns 12 13 line);
-    timetable_code = text_of (columns 14 14 line);
-    reserved_a = text_of (columns 15 22 line);
-    reserved_b = text_of (columns 23 23 line);
-  }
-
-  -- a line that spells further details and fills its columns as a plain line does is the plain line
-  pub plain_extra : IsLine line → (columns 1 2 line ≡ codes "BX")
-      → ArePlain (table_of extra_with) line → IsPlainOf Extra table_of line line
-  plain_extra is_line found plain =
-      let spelled : SpellsExtra line extra_with =
-      found & is_text_of (columns 3 6 line) & is_text_of (columns 7 11 line) & is_text_of (columns 12 13 line)
-      & is_text_of (columns 14 14 line) & is_text_of (columns 15 22 line) & is_text_of (columns 23 23 line) & tt & tt in
-      record {
-        value = extra_with;
-        stands = spelled;
-        again = spelled;
-        same = sym (plain_already line is_line (table_of extra_with) refl spelled plain);
-      }

@@ -7,9 +7,6 @@ use mathlib.Core.HLevel.{Σ_prop_path}
 use Rattle.cif_columns.specs.Day.{ddmmyy_in}
 use Rattle.cif_columns.specs.Field.{AllStandIn, columns}
 use Rattle.cif_columns.specs.Line.{ArePrintable, IsLine}
-use Rattle.cif_columns.proofs.PlainColumns.{ArePlain, plain_already}
-use Rattle.cif_columns.proofs.PlainLines.{printable-columns}
-use Rattle.cif_records.specs.Plain.{IsPlainOf}
 use Rattle.cif_records.specs.Header.{IsFull, header_refusal, header_table, kept}
 use Rattle.cif_records.specs.SpellsHeader.{SpellsHeader}
 use Rattle.cif_records.specs.declared.header.Header.{Header}
@@ -72,26 +69,3 @@ no_refusal line h p =
     ap ddmmyy_in (sym (kept-49 line) ∙ ap (kept 49 54) p.1.0) ∙ h.first_stands in
     let last : ddmmyy_in (columns 55 60 line) ≡ Some h.last = ap ddmmyy_in (sym (kept-55 line) ∙ ap (kept 55 60) p.1.0) ∙ h.last_stands in
     rw (p.0, full, first, last, test)
-
--- a line that spells a header and fills its columns as a plain line does is the plain line
-pub plain_header : (line : List ℕ) (first last : ℕ) → IsLine line → columns 1 2 line ≡ codes "HD" → columns 47 47 line ≡ codes "F"
-    → ddmmyy_in (columns 49 54 line) ≡ Some first → ddmmyy_in (columns 55 60 line) ≡ Some last → first ≤ last
-    → ArePlain (header_table (columns 3 60 line)) line → IsPlainOf Header (λ h. header_table h.columns) line line
-plain_header line first last is_line identity full first_stands last_stands in_order plain =
-    let header_columns = columns 3 60 line in
-    let spelled : AllStandIn line (header_table header_columns) = (identity, (refl, (tt, tt))) in
-    record {
-      value = record {
-        columns = header_columns;
-        first = first;
-        last = last;
-        printable = printable-columns 3 60 line is_line (omega arith) (omega arith) (omega arith);
-        full = kept-47 line ∙ full;
-        first_stands = ap ddmmyy_in (kept-49 line) ∙ first_stands;
-        last_stands = ap ddmmyy_in (kept-55 line) ∙ last_stands;
-        in_order = in_order;
-      };
-      stands = spelled;
-      again = spelled;
-      same = sym (plain_already line is_line (header_table header_columns) refl spelled plain);
-    }

@@ -8,6 +8,7 @@ pub mod Identities
 pub mod Judging
 pub mod Origins
 pub mod PlainRecords
+pub mod PlainTests
 pub mod Records
 pub mod Rows
 pub mod Stops

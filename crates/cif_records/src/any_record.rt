@@ -1,12 +1,14 @@
 //! Lines of records of any kind.
-ghost use Rattle.std.specs.Prelude.{◌≡◌, Ok};
+ghost use Rattle.std.specs.Prelude.{◌≡◌, IsTrue, Ok, Some};
 ghost use Rattle.cif_columns.specs.Field.{plain_line};
 ghost use Rattle.cif_records.specs.Checks.{IsJudged};
+ghost use Rattle.cif_records.specs.Kind.{kind_in};
 ghost use Rattle.cif_records.specs.Plain.{IsPlainOf};
 ghost use Rattle.cif_records.specs.Record.{record_refusal};
 ghost use Rattle.cif_records.specs.SpellsRecord.{SpellsRecord, record_table};
 ghost use Rattle.cif_records.specs.declared.record.Record.{Record};
 
+use crate::layout::Layout;
 use crate::{
     Association, Basic, Change, Extra, Header, Kind, Origin, Record, Stop, Terminus, Tiploc,
     Trailer, kind_of, layout,
@@ -94,5 +96,22 @@ fn plain_line_as(line: &Line) -> Result<Line, Refusal>
         Some(Kind::Zz) => layout::plain_line_of::<Trailer>(line),
         Some(Kind::Td | Kind::Ta) => Err(Refusal::NotFull),
         None => Err(Refusal::UnknownRecord),
+    }
+}
+
+/// Whether the line, of this kind, is the plain line of the record that it spells, as far as one
+/// pass over its columns tells. A `false` costs time alone: `plain_line_of` answers then.
+pub fn is_plain_line(kind: Kind, line: &Line) -> bool
+    requires { kind_in line.now ≡ Some kind }
+    ensures { IsTrue result → IsJudged (record_refusal line.now)
+        (IsPlainOf Record record_table line.now) (Ok line.now) }
+{
+    match kind {
+        Kind::Li => Stop::is_plain(line),
+        Kind::Cr => Change::is_plain(line),
+        Kind::Lt => Terminus::is_plain(line),
+        Kind::Lo => Origin::is_plain(line),
+        Kind::Bx => Extra::is_plain(line),
+        Kind::Hd | Kind::Ti | Kind::Ta | Kind::Td | Kind::Aa | Kind::Bs | Kind::Zz => false,
     }
 }

@@ -14,10 +14,7 @@ use crate::checks::{
 };
 use crate::layout::{self, Layout};
 use crate::{AssocBody, AssocKey};
-use cif_columns::{
-    Day, DaysRun, Field, Line, LineBuilder, Refusal, Stp, are_plain_spare, is_plain_text, text_at,
-    uid_at,
-};
+use cif_columns::{Day, DaysRun, Field, Line, LineBuilder, Refusal, Stp, text_at, uid_at};
 
 /// A record `AA` (the CIF End User Specification): on which dates an association holds, or is
 /// cancelled.
@@ -79,13 +76,6 @@ impl Layout for Association {
             letter: terms.letter,
             body: body_at(line, terms.letter),
         }
-    }
-
-    fn is_plain(line: &Line, terms: &Applicability) -> bool {
-        has_body(terms.letter)
-            & is_plain_text::<35, 36>(line)
-            & is_plain_text::<38, 44>(line)
-            & are_plain_spare::<49, 79>(line)
     }
 
     fn put_rows(&self, line: &mut LineBuilder) {

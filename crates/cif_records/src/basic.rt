@@ -15,10 +15,7 @@ use crate::checks::{
     has_body, letter_of,
 };
 use crate::layout::{self, Layout};
-use cif_columns::{
-    Day, DaysRun, Field, Line, LineBuilder, Refusal, Stp, Uid, are_plain_spare, is_plain_text,
-    uid_at,
-};
+use cif_columns::{Day, DaysRun, Field, Line, LineBuilder, Refusal, Stp, Uid, uid_at};
 
 /// A record `BS` (the CIF End User Specification): on which dates a schedule runs, or is cancelled.
 #[derive(Debug, Drop, PartialEq, Eq)]
@@ -81,21 +78,6 @@ impl Layout for Basic {
             letter: terms.letter,
             detail: detail_at(line, terms.letter),
         }
-    }
-
-    fn is_plain(line: &Line, terms: &Applicability) -> bool {
-        has_body(terms.letter)
-            & is_plain_text::<31, 32>(line)
-            & is_plain_text::<33, 36>(line)
-            & is_plain_text::<37, 40>(line)
-            & is_plain_text::<42, 49>(line)
-            & is_plain_text::<51, 53>(line)
-            & is_plain_text::<54, 57>(line)
-            & is_plain_text::<58, 60>(line)
-            & is_plain_text::<61, 66>(line)
-            & is_plain_text::<71, 74>(line)
-            & is_plain_text::<75, 78>(line)
-            & are_plain_spare::<79, 79>(line)
     }
 
     fn put_rows(&self, line: &mut LineBuilder) {

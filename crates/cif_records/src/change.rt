@@ -6,9 +6,7 @@ ghost use Rattle.cif_records.specs.Change.{change_refusal};
 
 use crate::checks::check_identity;
 use crate::layout::{self, Layout};
-use cif_columns::{
-    Field, Line, LineBuilder, Refusal, Text, are_plain_spare, is_plain_text, text_at,
-};
+use cif_columns::{Field, Line, LineBuilder, PlainTest, Refusal, Text, text_at};
 
 /// A record `CR` (the CIF End User Specification): what is changed at the next location. That its
 /// location is the next one's isn't checked.
@@ -58,6 +56,18 @@ pub struct Change {
     pub reserved_a: Text<8>,
 }
 
+/// The plain lines of `CR`, but for some with rare contents, and for those with a text in columns 63
+/// to 75.
+static PLAIN: PlainTest = PlainTest {
+    least: *b"CR                                                                              ",
+    most: *b"CR~~~~~~~~~~~~~~~~~~~~~~~~~~~~~~~~~~~~~~~~~~~~~~~~~~~~~~~~~~~~                  ",
+    also: *b"CR                                                                              ",
+    next: *b"~~      ~~ ~   ~   ~~       ~~  ~   ~  ~     ~~~~~   ~   ~   ~~~",
+    over: *b"~~~~~~~~~~~~~~~~~~~~~~~~~~~~~~~~~~~~~~~~~~~~~~~~~~~~~~~~~~~~~~~~",
+    back: *b"~~~~~~~~~~~~~~~~~~~~~~~~~~~~~~~~",
+    hour: *b"~~~~~~~~~~~~~~~~~~~~~~~~~~~~~~~~",
+};
+
 impl Layout for Change {
     ghost use Rattle.std.specs.Prelude.{refl, ◌≡◌, codes};
     ghost use Rattle.cif_columns.specs.Field.{columns};
@@ -102,22 +112,8 @@ impl Layout for Change {
         }
     }
 
-    fn is_plain(line: &Line, _checked: &()) -> bool {
-        is_plain_text::<3, 9>(line)
-            & is_plain_text::<11, 12>(line)
-            & is_plain_text::<13, 16>(line)
-            & is_plain_text::<17, 20>(line)
-            & is_plain_text::<22, 29>(line)
-            & is_plain_text::<31, 33>(line)
-            & is_plain_text::<34, 37>(line)
-            & is_plain_text::<38, 40>(line)
-            & is_plain_text::<41, 46>(line)
-            & is_plain_text::<51, 54>(line)
-            & is_plain_text::<55, 58>(line)
-            & is_plain_text::<59, 62>(line)
-            & is_plain_text::<63, 67>(line)
-            & is_plain_text::<68, 75>(line)
-            & are_plain_spare::<76, 80>(line)
+    fn is_plain(line: &Line) -> bool {
+        PLAIN.passes(line)
     }
 
     fn put_rows(&self, line: &mut LineBuilder) {

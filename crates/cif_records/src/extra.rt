@@ -6,9 +6,7 @@ ghost use Rattle.cif_records.specs.Extra.{extra_refusal};
 
 use crate::checks::check_identity;
 use crate::layout::{self, Layout};
-use cif_columns::{
-    Field, Line, LineBuilder, Refusal, Text, are_plain_spare, is_plain_text, text_at,
-};
+use cif_columns::{Field, Line, LineBuilder, PlainTest, Refusal, Text, text_at};
 
 /// A record `BX` (the CIF End User Specification): further details of a basic schedule.
 #[derive(Debug, Drop, PartialEq, Eq)]
@@ -26,6 +24,17 @@ pub struct Extra {
     /// Column 23: reserved; a text of the body (this profile).
     pub reserved_b: Text<1>,
 }
+
+/// The plain lines of `BX`, but for some with rare contents.
+static PLAIN: PlainTest = PlainTest {
+    least: *b"BX                                                                              ",
+    most: *b"BX~~~~~~~~~~~~~~~~~~~~~                                                         ",
+    also: *b"BX                                                                              ",
+    next: *b"~~   ~    ~ ~~       ~~~~~~~~~~~~~~~~~~~~~~~~~~~~~~~~~~~~~~~~~~~",
+    over: *b"~~~~~~~~~~~~~~~~~~~~~~~~~~~~~~~~~~~~~~~~~~~~~~~~~~~~~~~~~~~~~~~~",
+    back: *b"~~~~~~~~~~~~~~~~~~~~~~~~~~~~~~~~",
+    hour: *b"~~~~~~~~~~~~~~~~~~~~~~~~~~~~~~~~",
+};
 
 impl Layout for Extra {
     ghost use Rattle.std.specs.Prelude.{refl, ◌≡◌, codes};
@@ -56,12 +65,8 @@ impl Layout for Extra {
         }
     }
 
-    fn is_plain(line: &Line, _checked: &()) -> bool {
-        is_plain_text::<3, 6>(line)
-            & is_plain_text::<7, 11>(line)
-            & is_plain_text::<12, 13>(line)
-            & is_plain_text::<15, 22>(line)
-            & are_plain_spare::<24, 80>(line)
+    fn is_plain(line: &Line) -> bool {
+        PLAIN.passes(line)
     }
 
     fn put_rows(&self, line: &mut LineBuilder) {

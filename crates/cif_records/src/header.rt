@@ -11,7 +11,7 @@ ghost use Rattle.cif_records.specs.Header.{header_refusal, header_table, kept};
 
 use crate::checks::{Dates, check_identity};
 use crate::layout::{self, Layout};
-use cif_columns::{Day, Line, LineBuilder, Refusal, are_plain_spare, columns_at};
+use cif_columns::{Day, Line, LineBuilder, Refusal, columns_at};
 
 /// A record `HD` of a full extract (the CIF End User Specification): where the extract comes from,
 /// and the window of dates that it speaks of.
@@ -65,10 +65,6 @@ impl Layout for Header {
             first: dates.first,
             last: dates.last,
         }
-    }
-
-    fn is_plain(line: &Line, _dates: &Dates) -> bool {
-        are_plain_spare::<61, 80>(line)
     }
 
     fn put_rows(&self, line: &mut LineBuilder) {

@@ -20,7 +20,7 @@ mod terminus;
 mod tiploc;
 mod trailer;
 
-pub use any_record::{plain_line_of, read_record, write_record};
+pub use any_record::{is_plain_line, plain_line_of, read_record, write_record};
 pub use assoc_body::AssocBody;
 pub use assoc_key::AssocKey;
 pub use association::{Association, permanent_association};

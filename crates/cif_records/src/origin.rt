@@ -7,8 +7,8 @@ ghost use Rattle.cif_records.specs.Origin.{origin_refusal};
 use crate::checks::{EndTimes, check_identity, public_time_at, work_time_at};
 use crate::layout::{self, Layout};
 use cif_columns::{
-    Activities, Field, Line, LineBuilder, PublicTime, Refusal, Text, WorkTime, activities_at,
-    are_plain_activities, are_plain_spare, is_plain_text, text_at,
+    Activities, Field, Line, LineBuilder, PlainTest, PublicTime, Refusal, Text, WorkTime,
+    activities_at, text_at,
 };
 
 /// A record `LO` (the CIF End User Specification): where a journey begins.
@@ -35,6 +35,17 @@ pub struct Origin {
     /// Columns 42 to 43: the performance allowance.
     pub performance: Text<2>,
 }
+
+/// The plain lines of `LO`, but for some with rare contents.
+static PLAIN: PlainTest = PlainTest {
+    least: *b"LO        0000H0000                                                             ",
+    most: *b"LO~~~~~~~~2959H2959~~~~~~~~~~~~~~~~~~~~~~~~                                     ",
+    also: *b"LO                                                                              ",
+    next: *b"~~      ~~    ~   ~  ~  ~ ~ ~ ~ ~ ~ ~ ~ ~ ~~~~~~~~~~~~~~~~~~~~~~",
+    over: *b"~~~~~~~~~~~~~~~~~~~~~~~~~~~~~ ~ ~ ~ ~ ~~~~~~~~~~~~~~~~~~~~~~~~~~",
+    back: *b"~~~~~~~~~~   ~~   ~~~~~~~~~~~~~~",
+    hour: *b"~~~~~~~~~~2~~~~2~~~~~~~~~~~~~~~~",
+};
 
 impl Layout for Origin {
     ghost use Rattle.std.specs.Prelude.{refl, ◌≡◌, codes};
@@ -75,15 +86,8 @@ impl Layout for Origin {
         }
     }
 
-    fn is_plain(line: &Line, _times: &EndTimes) -> bool {
-        is_plain_text::<3, 9>(line)
-            & is_plain_text::<20, 22>(line)
-            & is_plain_text::<23, 25>(line)
-            & is_plain_text::<26, 27>(line)
-            & is_plain_text::<28, 29>(line)
-            & are_plain_activities::<30>(line)
-            & is_plain_text::<42, 43>(line)
-            & are_plain_spare::<44, 80>(line)
+    fn is_plain(line: &Line) -> bool {
+        PLAIN.passes(line)
     }
 
     fn put_rows(&self, line: &mut LineBuilder) {

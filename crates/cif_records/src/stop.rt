@@ -7,8 +7,8 @@ ghost use Rattle.cif_records.specs.Stop.{stop_refusal};
 use crate::checks::{check_identity, public_time_at, work_time_at};
 use crate::layout::{self, Layout};
 use cif_columns::{
-    Activities, Field, Line, LineBuilder, PublicTime, Refusal, Text, WorkTime, activities_at,
-    are_plain_activities, are_plain_spare, is_plain_text, text_at,
+    Activities, Field, Line, LineBuilder, PlainTest, PublicTime, Refusal, Text, WorkTime,
+    activities_at, text_at,
 };
 
 /// A record `LI` (the CIF End User Specification): where a journey stops or passes. Which of its
@@ -54,6 +54,17 @@ pub(crate) struct StopTimes {
     public_arrival: PublicTime,
     public_departure: PublicTime,
 }
+
+/// The plain lines of `LI`, but for some with rare contents.
+static PLAIN: PlainTest = PlainTest {
+    least: *b"LI        0000H0000H0000H00000000                                               ",
+    most: *b"LI~~~~~~~~2959H2959H2959H29592959~~~~~~~~~~~~~~~~~~~~~~~~~~~                    ",
+    also: *b"LI                                                                              ",
+    next: *b"~~      ~~    ~    ~    ~   ~   ~  ~  ~  ~ ~ ~ ~ ~ ~ ~ ~ ~ ~~~~~",
+    over: *b"~~~~~~~~~~~~~~~~~~~~~~~~~~~~~~~~~~~~~~~~~~ ~ ~ ~ ~ ~~~~~~~~~~~~~",
+    back: *b"~~~~~~~~~~   ~~   ~~   ~~   ~   ",
+    hour: *b"~~~~~~~~~~2~~~~2~~~~2~~~~2~~~2~~",
+};
 
 impl Layout for Stop {
     ghost use Rattle.std.specs.Prelude.{refl, ◌≡◌, codes};
@@ -104,16 +115,8 @@ impl Layout for Stop {
         }
     }
 
-    fn is_plain(line: &Line, _times: &StopTimes) -> bool {
-        is_plain_text::<3, 9>(line)
-            & is_plain_text::<34, 36>(line)
-            & is_plain_text::<37, 39>(line)
-            & is_plain_text::<40, 42>(line)
-            & are_plain_activities::<43>(line)
-            & is_plain_text::<55, 56>(line)
-            & is_plain_text::<57, 58>(line)
-            & is_plain_text::<59, 60>(line)
-            & are_plain_spare::<61, 80>(line)
+    fn is_plain(line: &Line) -> bool {
+        PLAIN.passes(line)
     }
 
     fn put_rows(&self, line: &mut LineBuilder) {

@@ -7,8 +7,8 @@ ghost use Rattle.cif_records.specs.Terminus.{terminus_refusal};
 use crate::checks::{EndTimes, check_identity, public_time_at, work_time_at};
 use crate::layout::{self, Layout};
 use cif_columns::{
-    Activities, Field, Line, LineBuilder, PublicTime, Refusal, Text, WorkTime, activities_at,
-    are_plain_activities, are_plain_spare, is_plain_text, text_at,
+    Activities, Field, Line, LineBuilder, PlainTest, PublicTime, Refusal, Text, WorkTime,
+    activities_at, text_at,
 };
 
 /// A record `LT` (the CIF End User Specification): where a journey ends.
@@ -29,6 +29,17 @@ pub struct Terminus {
     /// Columns 26 to 37: the activity codes.
     pub activities: Activities,
 }
+
+/// The plain lines of `LT`, but for some with rare contents.
+static PLAIN: PlainTest = PlainTest {
+    least: *b"LT        0000H0000                                                             ",
+    most: *b"LT~~~~~~~~2959H2959~~~~~~~~~~~~~~~~~~                                           ",
+    also: *b"LT                                                                              ",
+    next: *b"~~      ~~    ~   ~  ~  ~ ~ ~ ~ ~ ~ ~~~~~~~~~~~~~~~~~~~~~~~~~~~~",
+    over: *b"~~~~~~~~~~~~~~~~~~~~~~~~~ ~ ~ ~ ~ ~~~~~~~~~~~~~~~~~~~~~~~~~~~~~~",
+    back: *b"~~~~~~~~~~   ~~   ~~~~~~~~~~~~~~",
+    hour: *b"~~~~~~~~~~2~~~~2~~~~~~~~~~~~~~~~",
+};
 
 impl Layout for Terminus {
     ghost use Rattle.std.specs.Prelude.{refl, ◌≡◌, codes};
@@ -66,12 +77,8 @@ impl Layout for Terminus {
         }
     }
 
-    fn is_plain(line: &Line, _times: &EndTimes) -> bool {
-        is_plain_text::<3, 9>(line)
-            & is_plain_text::<20, 22>(line)
-            & is_plain_text::<23, 25>(line)
-            & are_plain_activities::<26>(line)
-            & are_plain_spare::<38, 80>(line)
+    fn is_plain(line: &Line) -> bool {
+        PLAIN.passes(line)
     }
 
     fn put_rows(&self, line: &mut LineBuilder) {

@@ -7,7 +7,7 @@ ghost use Rattle.cif_records.specs.Tiploc.{tiploc_refusal, tiploc_table};
 
 use crate::checks::check_identity;
 use crate::layout::{self, Layout};
-use cif_columns::{Line, LineBuilder, Refusal, are_plain_spare, columns_at};
+use cif_columns::{Line, LineBuilder, Refusal, columns_at};
 
 /// A record `TI` (the CIF End User Specification): a location by its TIPLOC, and its other codes.
 #[derive(Clone, Copy, Debug, PartialEq, Eq)]
@@ -40,10 +40,6 @@ impl Layout for Tiploc {
         Tiploc {
             columns: columns_at(line, 3),
         }
-    }
-
-    fn is_plain(line: &Line, _checked: &()) -> bool {
-        are_plain_spare::<73, 80>(line)
     }
 
     fn put_rows(&self, line: &mut LineBuilder) {

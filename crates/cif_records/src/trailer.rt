@@ -6,7 +6,7 @@ ghost use Rattle.cif_records.specs.Trailer.{trailer_refusal, trailer_table};
 
 use crate::checks::check_identity;
 use crate::layout::{self, Layout};
-use cif_columns::{Line, LineBuilder, Refusal, are_plain_spare};
+use cif_columns::{Line, LineBuilder, Refusal};
 
 /// A record `ZZ` (the CIF End User Specification): the last record of an extract, which says
 /// nothing but that.
@@ -32,10 +32,6 @@ impl Layout for Trailer {
 
     fn with(_line: &Line, _checked: ()) -> Trailer {
         Trailer
-    }
-
-    fn is_plain(line: &Line, _checked: &()) -> bool {
-        are_plain_spare::<3, 80>(line)
     }
 
     fn put_rows(&self, line: &mut LineBuilder) {

@@ -10,11 +10,8 @@ use cif_columns::{MAX_LINES, ReadDevice, Source};
 use cif_extract::{Extract, Schedule, read_extract};
 use cif_weeks::{Form, Run, runs};
 use std::fs;
-use std::io::BufReader;
 use std::rt::{Clock, Files};
 use std::time::{Duration, Instant};
-
-const INPUT_BUFFER: usize = 65_536;
 
 /// The extract in the file of this name.
 fn read_file<R>(rt: &R, name: &str) -> Result<Extract, Stop>
@@ -22,7 +19,7 @@ where
     R: Files + AllocGlobal,
     R::File: ReadDevice,
 {
-    let input = BufReader::with_capacity(rt.alloc(), INPUT_BUFFER, fs::open(rt, name)?)?;
+    let input = fs::open(rt, name)?;
     let extract = read_extract(rt.alloc(), &mut Source::new(input), MAX_LINES)?;
     Ok(extract)
 }

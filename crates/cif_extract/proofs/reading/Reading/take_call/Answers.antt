@@ -11,5 +11,5 @@ returns c =
     let (fine, taken) = c.in_ok-keep.ensures in
     let (r, spells, again, is) = taken in
     let (keepable, stepped) = step_on_the_way (progress_of c.args.self.now) r
-    (subst IsOnTheWay (spelled_kind c.args.line.now r spells) c.requires) again in
+    (subst IsOnTheWay (spelled_kind c.args.line.now r spells) c.requires.on_the_way) again in
     (fine, (r, spells, keepable, ap (λ (p : Progress). record p { place = at.Journey }) is ∙ stepped))

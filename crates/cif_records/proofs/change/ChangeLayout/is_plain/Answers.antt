@@ -1,27 +1,10 @@
-use Rattle.cif_records.proofs.Changes.{plain_change}
-use Rattle.std.proofs.lemmas.Bool.{and_parts}
-use Rattle.cif_records.proofs.Rows.{◌&◌}
+use Rattle.std.proofs.Common.{refl}
+use Rattle.cif_records.specs.SpellsChange.{change_in, table_of}
+use Rattle.cif_records.proofs.PlainTests.{plain_of}
+use Rattle.cif_records.proofs.Changes.{no_refusal}
 use Rattle.cif_records.proofs.change.ChangeLayout.is_plain.Goals as goal
 
 pub returns : goal.returns
 returns c = λ yes.
-    let p14 = and_parts _ _ yes in
-    let p13 = and_parts _ _ p14.0 in
-    let p12 = and_parts _ _ p13.0 in
-    let p11 = and_parts _ _ p12.0 in
-    let p10 = and_parts _ _ p11.0 in
-    let p9 = and_parts _ _ p10.0 in
-    let p8 = and_parts _ _ p9.0 in
-    let p7 = and_parts _ _ p8.0 in
-    let p6 = and_parts _ _ p7.0 in
-    let p5 = and_parts _ _ p6.0 in
-    let p4 = and_parts _ _ p5.0 in
-    let p3 = and_parts _ _ p4.0 in
-    let p2 = and_parts _ _ p3.0 in
-    let p1 = and_parts _ _ p2.0 in
-    plain_change c.args.line.now c.requires.line c.requires.found
-    (tt & c.is_plain_text.ensures.0 p1.0 & tt & c.is_plain_text-2.ensures.0 p1.1 & c.is_plain_text-3.ensures.0 p2.1
-    & c.is_plain_text-4.ensures.0 p3.1 & tt & c.is_plain_text-5.ensures.0 p4.1 & tt & c.is_plain_text-6.ensures.0 p5.1
-    & c.is_plain_text-7.ensures.0 p6.1 & c.is_plain_text-8.ensures.0 p7.1 & c.is_plain_text-9.ensures.0 p8.1 & tt & tt & tt & tt
-    & c.is_plain_text-10.ensures.0 p9.1 & c.is_plain_text-11.ensures.0 p10.1 & c.is_plain_text-12.ensures.0 p11.1
-    & c.is_plain_text-13.ensures.0 p12.1 & c.is_plain_text-14.ensures.0 p13.1 & c.are_plain_spare.ensures.0 p14.1 & tt)
+    let line = c.args.line.now in
+    plain_of table_of line (change_in line) (no_refusal line (change_in line)) (c.passes.ensures.plain yes (table_of (change_in line)) refl refl)

@@ -1,15 +1,10 @@
-use Rattle.cif_records.proofs.Termini.{plain_terminus}
-use Rattle.std.proofs.lemmas.Bool.{and_parts}
-use Rattle.cif_records.proofs.Rows.{◌&◌}
+use Rattle.std.proofs.Common.{refl}
+use Rattle.cif_records.specs.SpellsTerminus.{terminus_in, table_of}
+use Rattle.cif_records.proofs.PlainTests.{plain_of}
+use Rattle.cif_records.proofs.Termini.{no_refusal}
 use Rattle.cif_records.proofs.terminus.TerminusLayout.is_plain.Goals as goal
 
 pub returns : goal.returns
 returns c = λ yes.
-    let p4 = and_parts _ _ yes in
-    let p3 = and_parts _ _ p4.0 in
-    let p2 = and_parts _ _ p3.0 in
-    let p1 = and_parts _ _ p2.0 in
-    let t = c.args._times.now in
-    plain_terminus c.args.line.now t.working t.public c.requires.line c.requires.found
-    (tt & c.is_plain_text.ensures.0 p1.0 & tt & tt & tt & c.is_plain_text-2.ensures.0 p1.1 & c.is_plain_text-3.ensures.0 p2.1
-    & c.are_plain_activities.ensures.0 p3.1 & c.are_plain_spare.ensures.0 p4.1 & tt)
+    let line = c.args.line.now in
+    plain_of table_of line (terminus_in line) (no_refusal line (terminus_in line)) (c.passes.ensures.plain yes (table_of (terminus_in line)) refl refl)

@@ -1,0 +1,99 @@
+-- A test of a line column by column, and which tables of records it asks for. Columns are counted from 0 in the test's own tables.
+use Rattle.std.specs.Prelude.{◌≡◌, ℕ, ◌+◌, ◌-◌, ◌<◌, ◌≤◌, ◌⊎◌, Bool, true, false, ◌&&◌, ◌||◌, ◌==◌, nat_le}
+use Rattle.std.specs.Prelude.{List, [], ◌∷◌, length, replicate, codes, slice_index, map}
+use Rattle.std.specs.Str.{bytes_eq}
+use Rattle.cif_columns.specs.Activities.{codes_in}
+use Rattle.cif_columns.specs.Field.{AllStandIn, FieldValue, Row, columns, is_whole_from, plain_line, row}
+use Rattle.cif_columns.specs.Field.{exactly, text, activity_codes, working_time, public_time, spare}
+use Rattle.cif_columns.specs.Text.{text_of}
+use Rattle.cif_columns.specs.declared.plain_test.PlainTest.{PlainTest}
+
+-- the line spells the table, and is its plain line
+abbrev pub IsPlainLineOf : List Row → List ℕ → Type 0
+IsPlainLineOf rows line = AllStandIn line rows × (plain_line rows ≡ line)
+
+-- The value of this one's kind that stands in the columns, where one always does. Of other kinds the value stays as it is.
+abbrev pub read_value : List ℕ → FieldValue → FieldValue
+read_value columns (text value) = text (text_of columns)
+read_value columns (activity_codes codes) = activity_codes (codes_in columns)
+read_value columns (working_time time) = working_time columns
+read_value columns (public_time time) = public_time columns
+read_value columns other = other
+
+-- the table with the values that stand in the line
+abbrev pub read_off : List ℕ → List Row → List Row
+read_off line rows = map (λ r. row r.from r.to (read_value (columns r.from r.to line) r.value)) rows
+
+-- ---- what a test wants of a line
+
+-- the column's byte is in its range, or it is the other byte
+abbrev pub IsInRange : PlainTest → List ℕ → ℕ → Type 0
+IsInRange t line k =
+    ((slice_index t.least k ≤ slice_index line k) × (slice_index line k ≤ slice_index t.most k))
+    ⊎ (slice_index line k ≡ slice_index t.also k)
+
+-- a byte that asks for a space in the next column has it, and one that asks for a space in the column after that
+abbrev pub IsFollowed : PlainTest → List ℕ → ℕ → Type 0
+IsFollowed t line k =
+    (slice_index line k ≡ slice_index t.next k → slice_index line (k + 1) ≡ 32)
+    × (slice_index line k ≡ slice_index t.over k → slice_index line (k + 2) ≡ 32)
+
+-- a next byte that asks for a space in this column has it, and a byte that asks for at most `3` in the next column
+abbrev pub IsTimed : PlainTest → List ℕ → ℕ → Type 0
+IsTimed t line k =
+    (slice_index line (k + 1) ≡ slice_index t.back k → slice_index line k ≡ 32)
+    × (slice_index line k ≡ slice_index t.hour k → slice_index line (k + 1) ≤ 51)
+
+-- each column is as the test wants it
+pub record Passes (t : PlainTest) (line : List ℕ) : Type 0 where
+  pub in_range : (k : ℕ) → k < 80 → IsInRange t line k
+  pub followed : (k : ℕ) → k < 64 → IsFollowed t line k
+  pub timed : (k : ℕ) → k < 32 → IsTimed t line k
+
+-- ---- which tables it asks for
+
+-- the columns are these bytes
+abbrev pub are : ℕ → ℕ → List ℕ → List ℕ → Bool
+are from to bytes wanted = bytes_eq (columns from to bytes) wanted
+
+-- the ranges of the columns are these bytes alone
+abbrev pub asks_bytes : PlainTest → ℕ → ℕ → List ℕ → Bool
+asks_bytes t from to bytes = are from to t.least bytes && are from to t.most bytes && are from to t.also bytes
+
+-- the columns are spaces
+abbrev pub asks_spaces : PlainTest → ℕ → ℕ → Bool
+asks_spaces t from to = asks_bytes t from to (replicate (to + 1 - from) 32)
+
+-- in each of the columns but the last a space asks for one in the next
+abbrev pub asks_left : PlainTest → ℕ → ℕ → Bool
+asks_left t from to = nat_le to 65 && are from (to - 1) t.next (replicate (to - from) 32)
+
+-- the four columns from this one on are an hour and a minute, or blank
+abbrev pub asks_clock : PlainTest → ℕ → Bool
+asks_clock t from =
+    are from (from + 3) t.least (codes "0000") && are from (from + 3) t.most (codes "2959")
+    && are from (from + 3) t.also (codes "    ") && are from (from + 2) t.next (codes "   ")
+    && are from (from + 2) t.back (codes "   ") && are from from t.hour (codes "2")
+
+-- The test asks that the columns are filled as in a plain line, with a value of this one's kind: a text is at their left or blank,
+-- codes are packed, a time is one. Of days, masks and letters no test asks anything.
+abbrev pub asks : PlainTest → ℕ → ℕ → FieldValue → Bool
+asks t from to (exactly value) = (length value == to + 1 - from) && asks_bytes t from to value
+asks t from to (text value) = asks_left t from to || asks_spaces t from to
+asks t from to (activity_codes value) =
+    (to == from + 11) && nat_le to 64 && are from to t.next (codes " ~ ~ ~ ~ ~ ~") && are from to t.over (codes " ~ ~ ~ ~ ~~~")
+asks t from to (working_time time) =
+    (to == from + 4) && nat_le to 33 && asks_clock t from && are (from + 3) (from + 3) t.next (codes " ")
+    && are to to t.least (codes "H") && are to to t.most (codes "H") && are to to t.also (codes " ")
+asks t from to (public_time time) = (to == from + 3) && nat_le to 33 && asks_clock t from
+asks t from to spare = asks_spaces t from to
+asks t from to other = false
+
+-- the test asks for each of the rows
+abbrev pub asks_rows : PlainTest → List Row → Bool
+asks_rows t [] = true
+asks_rows t (r ∷ rows) = asks t r.from r.to r.value && asks_rows t rows
+
+-- the test asks for a whole table
+abbrev pub asks_all : PlainTest → List Row → Bool
+asks_all t rows = is_whole_from 1 rows && asks_rows t rows
