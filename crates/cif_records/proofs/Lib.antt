@@ -14,4 +14,5 @@ pub mod Rows
 pub mod Stops
 pub mod Termini
 pub mod Tiplocs
+pub mod Trailers
 pub mod Windows

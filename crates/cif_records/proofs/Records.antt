@@ -7,7 +7,6 @@ use Rattle.cif_records.specs.Kind.{identity, kind_in}
 use Rattle.cif_records.specs.Plain.{IsPlainOf}
 use Rattle.cif_records.specs.Record.{record_refusal, refusal_as}
 use Rattle.cif_records.specs.SpellsRecord.{SpellsRecord, record_table}
-use Rattle.cif_records.specs.Trailer.{trailer_refusal, trailer_table}
 use Rattle.cif_records.specs.declared.association.Association.{Association}
 use Rattle.cif_records.specs.declared.basic.Basic.{Basic}
 use Rattle.cif_records.specs.declared.change.Change.{Change}
@@ -32,6 +31,7 @@ use Rattle.cif_records.proofs.Origins as origins
 use Rattle.cif_records.proofs.Stops as stops
 use Rattle.cif_records.proofs.Termini as termini
 use Rattle.cif_records.proofs.Tiplocs as tiplocs
+use Rattle.cif_records.proofs.Trailers as trailers
 
 -- what a record of a kind holds; amended and deleted locations are never held
 abbrev Held : Kind → Type 0
@@ -143,10 +143,6 @@ one_record line r q m n =
     (subst (SpellsRecord line) (sym (record_with-held r)) m) s)) in
     sym (record_with-held r) ∙ held_twice (held q) (subst (SpellsRecord line) (sym (record_with-held q)) n) ∙ record_with-held q
 
-no_trailer_refusal : (line : List ℕ) → AllStandIn line trailer_table → trailer_refusal line ≡ None
-unfolding trailer_refusal
-no_trailer_refusal line s = rw s.0
-
 -- and none by its kind
 pub no_refusal_as : (line : List ℕ) (r : Record) → SpellsRecord line r → refusal_as (Some (kind_of r)) line ≡ None
 no_refusal_as line (a.Header h) s = headers.no_refusal line h s
@@ -158,7 +154,7 @@ no_refusal_as line (a.Origin h) s = origins.no_refusal line h s
 no_refusal_as line (a.Stop h) s = stops.no_refusal line h s
 no_refusal_as line (a.Change h) s = changes.no_refusal line h s
 no_refusal_as line (a.Terminus h) s = termini.no_refusal line h s
-no_refusal_as line a.Trailer s = no_trailer_refusal line s
+no_refusal_as line a.Trailer s = trailers.no_refusal line s
 
 -- the reason to refuse a line that names a kind
 pub refusal-kind : (line : List ℕ) (k : Kind) → kind_in line ≡ Some k → record_refusal line ≡ refusal_as (Some k) line

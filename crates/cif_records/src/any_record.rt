@@ -1,6 +1,7 @@
 //! Lines of records of any kind.
 ghost use Rattle.std.specs.Prelude.{◌≡◌, IsTrue, Ok, Some};
 ghost use Rattle.cif_columns.specs.Field.{plain_line};
+ghost use Rattle.cif_columns.specs.Line.{IsLine};
 ghost use Rattle.cif_records.specs.Checks.{IsJudged};
 ghost use Rattle.cif_records.specs.Kind.{kind_in};
 ghost use Rattle.cif_records.specs.Plain.{IsPlainOf};
@@ -30,21 +31,29 @@ fn record_of(line: &Line) -> Result<Record, Refusal>
     ensures { IsJudged (record_refusal line.now) (SpellsRecord line.now) result }
 {
     match kind_of(line) {
-        Some(Kind::Li) => Ok(Record::Stop(Stop::read(line)?)),
-        Some(Kind::Cr) => Ok(Record::Change(Change::read(line)?)),
-        Some(Kind::Lt) => Ok(Record::Terminus(Terminus::read(line)?)),
-        Some(Kind::Lo) => Ok(Record::Origin(Origin::read(line)?)),
-        Some(Kind::Bx) => Ok(Record::Extra(Extra::read(line)?)),
-        Some(Kind::Bs) => Ok(Record::Basic(Basic::read(line)?)),
-        Some(Kind::Aa) => Ok(Record::Association(Association::read(line)?)),
-        Some(Kind::Ti) => Ok(Record::Tiploc(Tiploc::read(line)?)),
-        Some(Kind::Hd) => Ok(Record::Header(Header::read(line)?)),
-        Some(Kind::Zz) => {
-            let _ = Trailer::read(line)?;
-            Ok(Record::Trailer)
-        }
+        Some(Kind::Li) => read_as::<Stop>(line),
+        Some(Kind::Cr) => read_as::<Change>(line),
+        Some(Kind::Lt) => read_as::<Terminus>(line),
+        Some(Kind::Lo) => read_as::<Origin>(line),
+        Some(Kind::Bx) => read_as::<Extra>(line),
+        Some(Kind::Bs) => read_as::<Basic>(line),
+        Some(Kind::Aa) => read_as::<Association>(line),
+        Some(Kind::Ti) => read_as::<Tiploc>(line),
+        Some(Kind::Hd) => read_as::<Header>(line),
+        Some(Kind::Zz) => read_as::<Trailer>(line),
         Some(Kind::Ta | Kind::Td) => Err(Refusal::NotFull),
         None => Err(Refusal::UnknownRecord),
+    }
+}
+
+/// What the line, which names the kind of `R`, is read as.
+fn read_as<R: Layout>(line: &Line) -> Result<Record, Refusal>
+    requires { kind_in line.now ≡ Some R.kind }
+    ensures { IsJudged (record_refusal line.now) (SpellsRecord line.now) result }
+{
+    match layout::read::<R>(line) {
+        Ok(value) => Ok(value.into_record()),
+        Err(why) => Err(why),
     }
 }
 
@@ -75,28 +84,37 @@ pub fn plain_line_of(line: &Line) -> Result<Line, Refusal>
     ensures only { (r : Record) → SpellsRecord line.now r
         → result ≡ Ok (plain_line (record_table r)) }
 {
-    plain_line_as(line)
+    plain_line_of_any(line)
 }
 
 /// What `plain_line_of` gives, without the law that no other record is spelled.
 #[tactic(auto, unfolding(crate::specs::Record::record_refusal))]
-fn plain_line_as(line: &Line) -> Result<Line, Refusal>
+fn plain_line_of_any(line: &Line) -> Result<Line, Refusal>
     ensures { IsJudged (record_refusal line.now) (IsPlainOf Record record_table line.now) result }
 {
     match kind_of(line) {
-        Some(Kind::Li) => layout::plain_line_of::<Stop>(line),
-        Some(Kind::Cr) => layout::plain_line_of::<Change>(line),
-        Some(Kind::Lt) => layout::plain_line_of::<Terminus>(line),
-        Some(Kind::Lo) => layout::plain_line_of::<Origin>(line),
-        Some(Kind::Bx) => layout::plain_line_of::<Extra>(line),
-        Some(Kind::Bs) => layout::plain_line_of::<Basic>(line),
-        Some(Kind::Aa) => layout::plain_line_of::<Association>(line),
-        Some(Kind::Ti) => layout::plain_line_of::<Tiploc>(line),
-        Some(Kind::Hd) => layout::plain_line_of::<Header>(line),
-        Some(Kind::Zz) => layout::plain_line_of::<Trailer>(line),
+        Some(Kind::Li) => plain_line_as::<Stop>(line),
+        Some(Kind::Cr) => plain_line_as::<Change>(line),
+        Some(Kind::Lt) => plain_line_as::<Terminus>(line),
+        Some(Kind::Lo) => plain_line_as::<Origin>(line),
+        Some(Kind::Bx) => plain_line_as::<Extra>(line),
+        Some(Kind::Bs) => plain_line_as::<Basic>(line),
+        Some(Kind::Aa) => plain_line_as::<Association>(line),
+        Some(Kind::Ti) => plain_line_as::<Tiploc>(line),
+        Some(Kind::Hd) => plain_line_as::<Header>(line),
+        Some(Kind::Zz) => plain_line_as::<Trailer>(line),
         Some(Kind::Td | Kind::Ta) => Err(Refusal::NotFull),
         None => Err(Refusal::UnknownRecord),
     }
+}
+
+/// The plain line of what the line, which names the kind of `R`, is read as.
+fn plain_line_as<R: Layout>(line: &Line) -> Result<Line, Refusal>
+    requires kind { kind_in line.now ≡ Some R.kind }
+    requires line { IsLine line.now }
+    ensures { IsJudged (record_refusal line.now) (IsPlainOf Record record_table line.now) result }
+{
+    layout::plain_line_of::<R>(line)
 }
 
 /// Whether the line, of this kind, is the plain line of the record that it spells, as far as one
@@ -107,11 +125,21 @@ pub fn is_plain_line(kind: Kind, line: &Line) -> bool
         (IsPlainOf Record record_table line.now) (Ok line.now) }
 {
     match kind {
-        Kind::Li => Stop::is_plain(line),
-        Kind::Cr => Change::is_plain(line),
-        Kind::Lt => Terminus::is_plain(line),
-        Kind::Lo => Origin::is_plain(line),
-        Kind::Bx => Extra::is_plain(line),
+        Kind::Li => is_plain_as::<Stop>(line),
+        Kind::Cr => is_plain_as::<Change>(line),
+        Kind::Lt => is_plain_as::<Terminus>(line),
+        Kind::Lo => is_plain_as::<Origin>(line),
+        Kind::Bx => is_plain_as::<Extra>(line),
         Kind::Hd | Kind::Ti | Kind::Ta | Kind::Td | Kind::Aa | Kind::Bs | Kind::Zz => false,
     }
+}
+
+/// Whether the line, which names the kind of `R`, is the plain line of the record that it spells.
+#[inline]
+fn is_plain_as<R: Layout>(line: &Line) -> bool
+    requires { kind_in line.now ≡ Some R.kind }
+    ensures { IsTrue result → IsJudged (record_refusal line.now)
+        (IsPlainOf Record record_table line.now) (Ok line.now) }
+{
+    R::is_plain(line)
 }

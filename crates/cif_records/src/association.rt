@@ -13,7 +13,7 @@ use crate::checks::{
     Applicability, check_identity, check_transaction, dates_at, days_at, has_body, letter_of,
 };
 use crate::layout::{self, Layout};
-use crate::{AssocBody, AssocKey};
+use crate::{AssocBody, AssocKey, Kind, Record};
 use cif_columns::{Day, DaysRun, Field, Line, LineBuilder, Refusal, Stp, text_at, uid_at};
 
 /// A record `AA` (the CIF End User Specification): on which dates an association holds, or is
@@ -39,8 +39,14 @@ pub struct Association {
 impl Layout for Association {
     ghost use Rattle.std.specs.Prelude.{refl, ◌≡◌, codes};
     ghost use Rattle.cif_columns.specs.Field.{StandsIn, columns, date, indicator, weekdays};
+    ghost use Rattle.cif_records.specs.declared.kind.Kind.TheVariants.{Aa};
+    ghost use Rattle.cif_records.specs.declared.record.Record.TheVariants as of;
 
     type Checked = Applicability;
+
+    ghost kind = { Aa };
+
+    ghost as_record = { of.Association };
 
     ghost table = { λ r. association_table r.key r.first r.last r.days r.letter r.body };
 
@@ -78,6 +84,10 @@ impl Layout for Association {
         }
     }
 
+    fn into_record(self) -> Record {
+        Record::Association(self)
+    }
+
     fn put_rows(&self, line: &mut LineBuilder) {
         put_association(
             &self.key,
@@ -91,6 +101,10 @@ impl Layout for Association {
     }
 
     ghost whole = { λ r. refl };
+
+    ghost same_table = { λ r. refl };
+
+    ghost same_refusal = { λ line. refl };
 }
 
 impl Association {

@@ -9,12 +9,12 @@ ghost use Rattle.cif_records.specs.Bodies.{has_body};
 ghost use Rattle.cif_records.specs.Checks.{IsJudged};
 ghost use Rattle.cif_records.specs.Detail.{detail_rows};
 
-use crate::Detail;
 use crate::checks::{
     Applicability, check_bank_holiday, check_identity, check_transaction, dates_at, days_at,
     has_body, letter_of,
 };
 use crate::layout::{self, Layout};
+use crate::{Detail, Kind, Record};
 use cif_columns::{Day, DaysRun, Field, Line, LineBuilder, Refusal, Stp, Uid, uid_at};
 
 /// A record `BS` (the CIF End User Specification): on which dates a schedule runs, or is cancelled.
@@ -39,8 +39,14 @@ pub struct Basic {
 impl Layout for Basic {
     ghost use Rattle.std.specs.Prelude.{refl, ◌≡◌, codes};
     ghost use Rattle.cif_columns.specs.Field.{StandsIn, columns, date, indicator, weekdays};
+    ghost use Rattle.cif_records.specs.declared.kind.Kind.TheVariants.{Bs};
+    ghost use Rattle.cif_records.specs.declared.record.Record.TheVariants as of;
 
     type Checked = Applicability;
+
+    ghost kind = { Bs };
+
+    ghost as_record = { of.Basic };
 
     ghost table = { λ r. basic_table r.uid r.first r.last r.days r.letter r.detail };
 
@@ -80,6 +86,10 @@ impl Layout for Basic {
         }
     }
 
+    fn into_record(self) -> Record {
+        Record::Basic(self)
+    }
+
     fn put_rows(&self, line: &mut LineBuilder) {
         put_basic(
             &self.uid,
@@ -93,6 +103,10 @@ impl Layout for Basic {
     }
 
     ghost whole = { λ r. refl };
+
+    ghost same_table = { λ r. refl };
+
+    ghost same_refusal = { λ line. refl };
 }
 
 impl Basic {

@@ -4,6 +4,7 @@ ghost use Rattle.cif_columns.specs.Field.{plain_line};
 ghost use Rattle.cif_records.specs.Checks.{IsJudged};
 ghost use Rattle.cif_records.specs.Change.{change_refusal};
 
+use crate::Record;
 use crate::checks::check_identity;
 use crate::layout::{self, Layout};
 use cif_columns::{Field, Line, LineBuilder, PlainTest, Refusal, Text, text_at};
@@ -72,8 +73,14 @@ impl Layout for Change {
     ghost use Rattle.std.specs.Prelude.{refl, ◌≡◌, codes};
     ghost use Rattle.cif_columns.specs.Field.{columns};
     ghost use Rattle.cif_records.specs.SpellsChange.{table_of};
+    ghost use Rattle.cif_records.specs.declared.kind.Kind.TheVariants.{Cr};
+    ghost use Rattle.cif_records.specs.declared.record.Record.TheVariants as of;
 
     type Checked = ();
+
+    ghost kind = { Cr };
+
+    ghost as_record = { of.Change };
 
     ghost table = { table_of };
 
@@ -116,6 +123,10 @@ impl Layout for Change {
         PLAIN.passes(line)
     }
 
+    fn into_record(self) -> Record {
+        Record::Change(self)
+    }
+
     fn put_rows(&self, line: &mut LineBuilder) {
         line.put_columns(b"CR");
         self.location.put_on(line);
@@ -143,6 +154,10 @@ impl Layout for Change {
     }
 
     ghost whole = { λ r. refl };
+
+    ghost same_table = { λ r. refl };
+
+    ghost same_refusal = { λ line. refl };
 }
 
 impl Change {

@@ -4,6 +4,7 @@ ghost use Rattle.cif_columns.specs.Field.{plain_line};
 ghost use Rattle.cif_records.specs.Checks.{IsJudged};
 ghost use Rattle.cif_records.specs.Extra.{extra_refusal};
 
+use crate::Record;
 use crate::checks::check_identity;
 use crate::layout::{self, Layout};
 use cif_columns::{Field, Line, LineBuilder, PlainTest, Refusal, Text, text_at};
@@ -40,8 +41,14 @@ impl Layout for Extra {
     ghost use Rattle.std.specs.Prelude.{refl, ◌≡◌, codes};
     ghost use Rattle.cif_columns.specs.Field.{columns};
     ghost use Rattle.cif_records.specs.SpellsExtra.{table_of};
+    ghost use Rattle.cif_records.specs.declared.kind.Kind.TheVariants.{Bx};
+    ghost use Rattle.cif_records.specs.declared.record.Record.TheVariants as of;
 
     type Checked = ();
+
+    ghost kind = { Bx };
+
+    ghost as_record = { of.Extra };
 
     ghost table = { table_of };
 
@@ -69,6 +76,10 @@ impl Layout for Extra {
         PLAIN.passes(line)
     }
 
+    fn into_record(self) -> Record {
+        Record::Extra(self)
+    }
+
     fn put_rows(&self, line: &mut LineBuilder) {
         line.put_columns(b"BX");
         self.traction.put_on(line);
@@ -81,6 +92,10 @@ impl Layout for Extra {
     }
 
     ghost whole = { λ r. refl };
+
+    ghost same_table = { λ r. refl };
+
+    ghost same_refusal = { λ line. refl };
 }
 
 impl Extra {

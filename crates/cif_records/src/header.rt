@@ -9,6 +9,7 @@ ghost use Rattle.cif_records.specs.Checks.{IsJudged};
 ghost use Rattle.cif_records.specs.Header.{IsFull, full_refusal, header_date_refusal};
 ghost use Rattle.cif_records.specs.Header.{header_refusal, header_table, kept};
 
+use crate::Record;
 use crate::checks::{Dates, check_identity};
 use crate::layout::{self, Layout};
 use cif_columns::{Day, Line, LineBuilder, Refusal, columns_at};
@@ -34,8 +35,14 @@ impl Layout for Header {
     ghost use Rattle.std.specs.Prelude.{refl, ◌≡◌, codes, Some};
     ghost use Rattle.cif_columns.specs.Day.{ddmmyy_in};
     ghost use Rattle.cif_columns.specs.Field.{columns};
+    ghost use Rattle.cif_records.specs.declared.kind.Kind.TheVariants.{Hd};
+    ghost use Rattle.cif_records.specs.declared.record.Record.TheVariants as of;
 
     type Checked = Dates;
+
+    ghost kind = { Hd };
+
+    ghost as_record = { of.Header };
 
     ghost table = { λ h. header_table h.columns };
 
@@ -67,6 +74,10 @@ impl Layout for Header {
         }
     }
 
+    fn into_record(self) -> Record {
+        Record::Header(self)
+    }
+
     fn put_rows(&self, line: &mut LineBuilder) {
         line.put_columns(b"HD");
         line.put_columns(&self.columns);
@@ -74,6 +85,10 @@ impl Layout for Header {
     }
 
     ghost whole = { λ h. refl };
+
+    ghost same_table = { λ r. refl };
+
+    ghost same_refusal = { λ line. refl };
 }
 
 impl Header {

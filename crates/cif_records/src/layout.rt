@@ -1,18 +1,29 @@
 //! What the kinds of record have in common.
-ghost use Rattle.std.specs.Prelude.{◌≡◌, ℕ, List, [], None, Option, true, IsTrue};
+ghost use Rattle.std.specs.Prelude.{◌≡◌, ℕ, List, [], None, Option, Some, true, IsTrue};
 ghost use Rattle.cif_columns.specs.Field.{AllFit, AllStandIn, Row, is_whole_from, plain_line};
 ghost use Rattle.cif_columns.specs.Line.{IsLine};
 ghost use Rattle.cif_columns.specs.declared.refusal.Refusal.{Refusal};
 ghost use Rattle.cif_columns.specs.LineBuilder.{put_all};
 ghost use Rattle.cif_records.specs.Checks.{IsJudged};
 ghost use Rattle.cif_records.specs.Plain.{IsPlainOf};
+ghost use Rattle.cif_records.specs.Record.{refusal_as};
+ghost use Rattle.cif_records.specs.SpellsRecord.{record_table};
+ghost use Rattle.cif_records.specs.declared.kind.Kind.{Kind};
+ghost use Rattle.cif_records.specs.declared.record.Record.{Record};
 
+use crate::Record;
 use cif_columns::{Line, LineBuilder, Refusal};
 
 /// A record that is laid out by a table: each row's value stands in the row's columns.
 pub(crate) trait Layout: Sized + Drop {
     /// What the columns give that can be refused.
     type Checked: Copy;
+
+    // The kind that its lines name.
+    ghost kind: { Kind };
+
+    // It, as a record of any kind.
+    ghost as_record: { Self → Record };
 
     // The record's table.
     ghost table: { Self → List Row };
@@ -42,6 +53,10 @@ pub(crate) trait Layout: Sized + Drop {
         false
     }
 
+    /// It, as a record of any kind.
+    fn into_record(self) -> Record
+        ensures { result ≡ as_record self };
+
     /// Puts the plain columns of each row on an empty line.
     fn put_rows(&self, line: &mut LineBuilder)
         requires { line.old ≡ [] }
@@ -50,6 +65,11 @@ pub(crate) trait Layout: Sized + Drop {
 
     // The table has each of the eighty columns once.
     ghost whole: { (r : Self) → is_whole_from 1 (table r) ≡ true };
+
+    // The table and the reasons are those of a record of its kind.
+    ghost same_table: { (r : Self) → record_table (as_record r) ≡ table r };
+
+    ghost same_refusal: { (line : List ℕ) → refusal_as (Some kind) line ≡ refusal line };
 }
 
 /// The record that the line spells, or the first reason in column order why it spells none.

@@ -4,6 +4,7 @@ ghost use Rattle.cif_columns.specs.Field.{plain_line};
 ghost use Rattle.cif_records.specs.Checks.{IsJudged};
 ghost use Rattle.cif_records.specs.Origin.{origin_refusal};
 
+use crate::Record;
 use crate::checks::{EndTimes, check_identity, public_time_at, work_time_at};
 use crate::layout::{self, Layout};
 use cif_columns::{
@@ -51,8 +52,14 @@ impl Layout for Origin {
     ghost use Rattle.std.specs.Prelude.{refl, ◌≡◌, codes};
     ghost use Rattle.cif_columns.specs.Field.{StandsIn, columns, public_time, working_time};
     ghost use Rattle.cif_records.specs.SpellsOrigin.{table_of};
+    ghost use Rattle.cif_records.specs.declared.kind.Kind.TheVariants.{Lo};
+    ghost use Rattle.cif_records.specs.declared.record.Record.TheVariants as of;
 
     type Checked = EndTimes;
+
+    ghost kind = { Lo };
+
+    ghost as_record = { of.Origin };
 
     ghost table = { table_of };
 
@@ -90,6 +97,10 @@ impl Layout for Origin {
         PLAIN.passes(line)
     }
 
+    fn into_record(self) -> Record {
+        Record::Origin(self)
+    }
+
     fn put_rows(&self, line: &mut LineBuilder) {
         line.put_columns(b"LO");
         self.location.put_on(line);
@@ -106,6 +117,10 @@ impl Layout for Origin {
     }
 
     ghost whole = { λ r. refl };
+
+    ghost same_table = { λ r. refl };
+
+    ghost same_refusal = { λ line. refl };
 }
 
 impl Origin {

@@ -4,6 +4,7 @@ ghost use Rattle.cif_columns.specs.Field.{plain_line};
 ghost use Rattle.cif_records.specs.Checks.{IsJudged};
 ghost use Rattle.cif_records.specs.Stop.{stop_refusal};
 
+use crate::Record;
 use crate::checks::{check_identity, public_time_at, work_time_at};
 use crate::layout::{self, Layout};
 use cif_columns::{
@@ -70,8 +71,14 @@ impl Layout for Stop {
     ghost use Rattle.std.specs.Prelude.{refl, ◌≡◌, codes};
     ghost use Rattle.cif_columns.specs.Field.{StandsIn, columns, public_time, working_time};
     ghost use Rattle.cif_records.specs.SpellsStop.{table_of};
+    ghost use Rattle.cif_records.specs.declared.kind.Kind.TheVariants.{Li};
+    ghost use Rattle.cif_records.specs.declared.record.Record.TheVariants as of;
 
     type Checked = StopTimes;
+
+    ghost kind = { Li };
+
+    ghost as_record = { of.Stop };
 
     ghost table = { table_of };
 
@@ -119,6 +126,10 @@ impl Layout for Stop {
         PLAIN.passes(line)
     }
 
+    fn into_record(self) -> Record {
+        Record::Stop(self)
+    }
+
     fn put_rows(&self, line: &mut LineBuilder) {
         line.put_columns(b"LI");
         self.location.put_on(line);
@@ -139,6 +150,10 @@ impl Layout for Stop {
     }
 
     ghost whole = { λ r. refl };
+
+    ghost same_table = { λ r. refl };
+
+    ghost same_refusal = { λ line. refl };
 }
 
 impl Stop {

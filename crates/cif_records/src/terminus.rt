@@ -4,6 +4,7 @@ ghost use Rattle.cif_columns.specs.Field.{plain_line};
 ghost use Rattle.cif_records.specs.Checks.{IsJudged};
 ghost use Rattle.cif_records.specs.Terminus.{terminus_refusal};
 
+use crate::Record;
 use crate::checks::{EndTimes, check_identity, public_time_at, work_time_at};
 use crate::layout::{self, Layout};
 use cif_columns::{
@@ -45,8 +46,14 @@ impl Layout for Terminus {
     ghost use Rattle.std.specs.Prelude.{refl, ◌≡◌, codes};
     ghost use Rattle.cif_columns.specs.Field.{StandsIn, columns, public_time, working_time};
     ghost use Rattle.cif_records.specs.SpellsTerminus.{table_of};
+    ghost use Rattle.cif_records.specs.declared.kind.Kind.TheVariants.{Lt};
+    ghost use Rattle.cif_records.specs.declared.record.Record.TheVariants as of;
 
     type Checked = EndTimes;
+
+    ghost kind = { Lt };
+
+    ghost as_record = { of.Terminus };
 
     ghost table = { table_of };
 
@@ -81,6 +88,10 @@ impl Layout for Terminus {
         PLAIN.passes(line)
     }
 
+    fn into_record(self) -> Record {
+        Record::Terminus(self)
+    }
+
     fn put_rows(&self, line: &mut LineBuilder) {
         line.put_columns(b"LT");
         self.location.put_on(line);
@@ -94,6 +105,10 @@ impl Layout for Terminus {
     }
 
     ghost whole = { λ r. refl };
+
+    ghost same_table = { λ r. refl };
+
+    ghost same_refusal = { λ line. refl };
 }
 
 impl Terminus {

@@ -5,6 +5,7 @@ ghost use Rattle.cif_columns.specs.Line.{ArePrintable};
 ghost use Rattle.cif_records.specs.Checks.{IsJudged};
 ghost use Rattle.cif_records.specs.Tiploc.{tiploc_refusal, tiploc_table};
 
+use crate::Record;
 use crate::checks::check_identity;
 use crate::layout::{self, Layout};
 use cif_columns::{Line, LineBuilder, Refusal, columns_at};
@@ -22,8 +23,14 @@ pub struct Tiploc {
 impl Layout for Tiploc {
     ghost use Rattle.std.specs.Prelude.{refl, ◌≡◌, codes};
     ghost use Rattle.cif_columns.specs.Field.{columns};
+    ghost use Rattle.cif_records.specs.declared.kind.Kind.TheVariants.{Ti};
+    ghost use Rattle.cif_records.specs.declared.record.Record.TheVariants as of;
 
     type Checked = ();
+
+    ghost kind = { Ti };
+
+    ghost as_record = { of.Tiploc };
 
     ghost table = { λ t. tiploc_table t.columns };
 
@@ -42,6 +49,10 @@ impl Layout for Tiploc {
         }
     }
 
+    fn into_record(self) -> Record {
+        Record::Tiploc(self)
+    }
+
     fn put_rows(&self, line: &mut LineBuilder) {
         line.put_columns(b"TI");
         line.put_columns(&self.columns);
@@ -49,6 +60,10 @@ impl Layout for Tiploc {
     }
 
     ghost whole = { λ t. refl };
+
+    ghost same_table = { λ r. refl };
+
+    ghost same_refusal = { λ line. refl };
 }
 
 impl Tiploc {

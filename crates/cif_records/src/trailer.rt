@@ -4,6 +4,7 @@ ghost use Rattle.cif_columns.specs.Field.{AllStandIn, plain_line};
 ghost use Rattle.cif_records.specs.Checks.{IsJudged};
 ghost use Rattle.cif_records.specs.Trailer.{trailer_refusal, trailer_table};
 
+use crate::Record;
 use crate::checks::check_identity;
 use crate::layout::{self, Layout};
 use cif_columns::{Line, LineBuilder, Refusal};
@@ -16,8 +17,14 @@ pub struct Trailer;
 impl Layout for Trailer {
     ghost use Rattle.std.specs.Prelude.{refl, ◌≡◌, codes};
     ghost use Rattle.cif_columns.specs.Field.{columns};
+    ghost use Rattle.cif_records.specs.declared.kind.Kind.TheVariants.{Zz};
+    ghost use Rattle.cif_records.specs.declared.record.Record.TheVariants as of;
 
     type Checked = ();
+
+    ghost kind = { Zz };
+
+    ghost as_record = { λ t. of.Trailer };
 
     ghost table = { λ t. trailer_table };
 
@@ -34,12 +41,20 @@ impl Layout for Trailer {
         Trailer
     }
 
+    fn into_record(self) -> Record {
+        Record::Trailer
+    }
+
     fn put_rows(&self, line: &mut LineBuilder) {
         line.put_columns(b"ZZ");
         line.put_spare::<78>();
     }
 
     ghost whole = { λ t. refl };
+
+    ghost same_table = { λ r. refl };
+
+    ghost same_refusal = { λ line. refl };
 }
 
 impl Trailer {

@@ -2,4 +2,4 @@ use Rattle.cif_records.proofs.Records.{only_plain}
 use Rattle.cif_records.proofs.any_record.plain_line_of.Goals as goal
 
 pub returns-clause-only : goal.returns-clause-only
-returns-clause-only c r h = only_plain c.args.line.now c.plain_line_as.result c.plain_line_as.ensures r h
+returns-clause-only c r h = only_plain c.args.line.now c.plain_line_of_any.result c.plain_line_of_any.ensures r h
