@@ -28,3 +28,4 @@ pub mod Texts
 pub mod Times
 pub mod TrialPieces
 pub mod WholeLines
+pub mod WrittenTexts

@@ -1,7 +1,7 @@
 //! A writer that isn't written to again once it has failed.
-ghost use Rattle.std.specs.Prelude.{◌≡◌, ◌↔◌, false, IsTrue, IsErr, OnOk, OnErr};
-ghost use Rattle.std.specs.Io.KnownBytes.{Appends, Keeps};
+ghost use Rattle.std.specs.Prelude.{◌≡◌, ◌++◌, ◌∷◌, [], false};
 
+use crate::line::Line;
 use crate::write_device::WriteDevice;
 use thiserror::Error;
 
@@ -18,8 +18,7 @@ pub struct Sink<W> {
 }
 
 impl<W: WriteDevice> Sink<W> {
-    ghost use Rattle.cif_columns.specs.Sink.{writer_of, sink_failed, AppendsFront};
-    ghost use Rattle.cif_columns.specs.Devices.{TellsErrors};
+    ghost use Rattle.cif_columns.specs.Sink.{Writes, sink_failed, writer_of};
 
     /// A sink that hasn't failed.
     pub fn new(writer: W) -> Self
@@ -47,24 +46,9 @@ impl<W: WriteDevice> Sink<W> {
     }
 
     /// Writes all the bytes, or fails after a front of them. The first failure is the last: from
-    /// then on the writer isn't touched.
+    /// then on each call fails, and the writer isn't touched.
     pub fn write_all(&mut self, bytes: &[u8]) -> Result<(), WriteFault>
-        ensures failed { IsTrue (sink_failed self.new) ↔ IsErr result }
-        ensures going { OnOk result ((sink_failed self.old ≡ false)
-            × (sink_failed self.new ≡ false)) }
-        ensures ok { OnOk result (Appends (W.contents (writer_of self.old))
-            (W.contents (writer_of self.new)) bytes.now) }
-        ensures err { OnErr result (AppendsFront (W.contents (writer_of self.old))
-            (W.contents (writer_of self.new)) bytes.now) }
-
-        // A fault comes only where the writer has erred or taken nothing, and then it comes.
-        ensures errors { sink_failed self.old ≡ false
-            → TellsErrors (W.write_errors (writer_of self.old))
-            (W.write_errors (writer_of self.new)) result }
-
-        // After a failure each call fails, and the writer isn't touched.
-        ensures after { IsTrue (sink_failed self.old) → IsErr result }
-        ensures untouched { IsTrue (sink_failed self.old) → self.new ≡ self.old }
+        ensures { Writes W.contents W.write_errors bytes.now self.old self.new result }
     {
         if self.failed {
             return Err(WriteFault);
@@ -82,21 +66,19 @@ impl<W: WriteDevice> Sink<W> {
         Ok(())
     }
 
-    /// Hands on what the writer holds back. A failure is the last, as in `write_all`.
+    /// Writes the line and a line feed, as `write_all` does.
+    pub fn write_line(&mut self, line: &Line) -> Result<(), WriteFault>
+        ensures { Writes W.contents W.write_errors (line.now ++ 10 ∷ []) self.old self.new result }
+    {
+        let mut text = [b'\n'; 81];
+        text[..80].copy_from_slice(line.bytes());
+        self.write_all(&text)
+    }
+
+    /// Hands on what the writer holds back, and writes no bytes of its own. A failure is the last,
+    /// as in `write_all`.
     pub fn flush(&mut self) -> Result<(), WriteFault>
-        ensures failed { IsTrue (sink_failed self.new) ↔ IsErr result }
-        ensures going { OnOk result ((sink_failed self.old ≡ false)
-            × (sink_failed self.new ≡ false)) }
-        ensures bytes { Keeps (W.contents (writer_of self.old)) (W.contents (writer_of self.new)) }
-
-        // A fault comes only where the writer has erred, and where it errs a fault comes.
-        ensures errors { sink_failed self.old ≡ false
-            → TellsErrors (W.write_errors (writer_of self.old))
-            (W.write_errors (writer_of self.new)) result }
-
-        // After a failure each call fails, and the writer isn't touched.
-        ensures after { IsTrue (sink_failed self.old) → IsErr result }
-        ensures untouched { IsTrue (sink_failed self.old) → self.new ≡ self.old }
+        ensures { Writes W.contents W.write_errors [] self.old self.new result }
     {
         if self.failed {
             return Err(WriteFault);

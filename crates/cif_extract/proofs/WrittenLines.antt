@@ -1,43 +1,19 @@
 -- What is written, line by line.
-use Rattle.std.proofs.Common.{◌≡◌, ℕ, ◌+◌, ◌<◌, Bool, true, false, List, [], ◌∷◌, ◌++◌, Option, Some, map, take, drop, length, get_or}
-use Rattle.std.proofs.Common.{sym, ◌∙◌, ap, refl, subst}
-use Rattle.std.proofs.Common.{append_assoc, append-nil, take-append-drop, OnErr, OnOk, Result, Ok, Err}
-use Rattle.std.specs.Io.KnownBytes.{Appends}
-use Rattle.std.proofs.KnownBytes.{Appends-trans}
+use Rattle.std.proofs.Common.{◌≡◌, ℕ, ◌+◌, ◌<◌, Bool, List, [], ◌∷◌, ◌++◌, Option, Some, Result, map, take, drop, length, get_or}
+use Rattle.std.proofs.Common.{sym, ◌∙◌, ap, refl, subst, append-nil, take-append-drop}
 use Rattle.std.proofs.lemmas.Grind.{flat_map-append}
 use Rattle.std.proofs.lemmas.List.{take_more}
 use Rattle.cif_columns.specs.Field.{plain_line}
-use Rattle.cif_columns.specs.Sink.{AppendsFront}
+use Rattle.cif_columns.specs.Sink.{HasFailed, HasWritten, Writes}
+use Rattle.cif_columns.specs.declared.sink.Sink.{Sink}
 use Rattle.cif_columns.specs.declared.stp.Stp.TheVariants.{P}
+use Rattle.cif_columns.proofs.WrittenTexts.{failed_first, failed_second, writes_on, written_both}
 use Rattle.cif_extract.specs.Body.{KeepAll}
 use Rattle.cif_extract.specs.BodyParts.{BodyParts, body_records}
 use Rattle.cif_extract.specs.Texts.{lines_text, schedule_lines}
 use Rattle.cif_records.specs.Basic.{basic_table}
 use Rattle.cif_records.specs.SpellsRecord.{record_table}
 use Rattle.cif_records.specs.declared.record.Record.{Record}
-
--- a front of the first piece is a front of both
-pub front-first : (a b : Option (List ℕ)) (p q : List ℕ) → AppendsFront a b p → AppendsFront a b (p ++ q)
-front-first a b p q h = (h.0, h.1 ++ q, ap (λ l. l ++ q) h.2 ∙ append_assoc h.0 h.1 q, h.3)
-
--- and so is the whole of it with a front of the second
-pub front-second : (a b c : Option (List ℕ)) (p q : List ℕ) → Appends a b p → AppendsFront b c q → AppendsFront a c (p ++ q)
-front-second a b c p q whole h =
-    (p ++ h.0, h.1, ap (λ l. p ++ l) h.2 ∙ sym (append_assoc p h.0 h.1), Appends-trans a b c p h.0 whole h.3)
-
--- what holds anyway holds of an error
-pub of-error : {A E : Type 0} (r : Result A E) (Q : Type 0) → Q → OnErr r Q
-of-error (Ok a) Q h = tt
-of-error (Err e) Q h = h
-
--- what follows of an answer that is given holds of it
-pub if_ok : {A E : Type 0} (r : Result A E) {P Q : Type 0} → (P → Q) → OnOk r P → OnOk r Q
-if_ok (Ok a) f h = f h
-if_ok (Err e) f h = tt
-
-pub if_err : {A E : Type 0} (r : Result A E) {P Q : Type 0} → (P → Q) → OnErr r P → OnErr r Q
-if_err (Ok a) f h = tt
-if_err (Err e) f h = f h
 
 -- the text of the lines so far, and of one more
 lines_more : (lines : List (List ℕ)) (n : ℕ) (line : List ℕ) → n < length lines → line ≡ get_or lines n line →
@@ -48,17 +24,29 @@ lines_more lines n line below is =
     ∙ flat_map-append (λ (l : List ℕ). l ++ (10 ∷ [])) (take n lines) (line ∷ [])
     ∙ ap (λ (l : List ℕ). lines_text (take n lines) ++ l) (append-nil (line ++ (10 ∷ [])))
 
--- a front of one line more is a front of all
-pub lines_stop : (lines : List (List ℕ)) (n : ℕ) (line : List ℕ) → n < length lines → line ≡ get_or lines n line →
-    (a b c : Option (List ℕ)) → Appends a b (lines_text (take n lines)) → AppendsFront b c (line ++ (10 ∷ [])) →
-    AppendsFront a c (lines_text lines)
-lines_stop lines n line below is a b c so_far front =
-    subst (AppendsFront a c)
-    (sym (ap (λ l. l ++ lines_text (drop (n + 1) lines)) (lines_more lines n line below is))
-    ∙ sym (flat_map-append (λ (l : List ℕ). l ++ (10 ∷ [])) (take (n + 1) lines) (drop (n + 1) lines))
-    ∙ ap (λ (ls : List (List ℕ)). lines_text ls) (take-append-drop (n + 1) lines))
-    (front-first a c (lines_text (take n lines) ++ (line ++ (10 ∷ []))) (lines_text (drop (n + 1) lines))
-    (front-second a b c (lines_text (take n lines)) (line ++ (10 ∷ [])) so_far front))
+-- the text of all lines, by the lines so far, one line and the others
+lines_split : (lines : List (List ℕ)) (n : ℕ) (line : List ℕ) → n < length lines → line ≡ get_or lines n line →
+    lines_text lines ≡ (lines_text (take n lines) ++ (line ++ (10 ∷ []))) ++ lines_text (drop (n + 1) lines)
+lines_split lines n line below is =
+    ap (λ (ls : List (List ℕ)). lines_text ls) (sym (take-append-drop (n + 1) lines))
+    ∙ flat_map-append (λ (l : List ℕ). l ++ (10 ∷ [])) (take (n + 1) lines) (drop (n + 1) lines)
+    ∙ ap (λ l. l ++ lines_text (drop (n + 1) lines)) (lines_more lines n line below is)
+
+module _ {W : Type 0} (contents : W → Option (List ℕ)) (errors : W → Option ℕ) (lines : List (List ℕ)) (n : ℕ) (line : List ℕ)
+    (below : n < length lines) (is : line ≡ get_or lines n line) (s t u : Sink W)
+    (so_far : HasWritten contents errors (lines_text (take n lines)) s t) where
+  -- one line more has been written
+  pub line_written : HasWritten contents errors (line ++ (10 ∷ [])) t u → HasWritten contents errors (lines_text (take (n + 1) lines)) s u
+  line_written h =
+      subst (λ text. HasWritten contents errors text s u) (sym (lines_more lines n line below is))
+      (written_both contents errors (lines_text (take n lines)) (line ++ (10 ∷ [])) s t u so_far h)
+
+  -- the writing of one line more has failed
+  pub line_failed : HasFailed contents errors (line ++ (10 ∷ [])) t u → HasFailed contents errors (lines_text lines) s u
+  line_failed h =
+      subst (λ text. HasFailed contents errors text s u) (sym (lines_split lines n line below is))
+      (failed_first contents errors (lines_text (take n lines) ++ (line ++ (10 ∷ []))) (lines_text (drop (n + 1) lines)) s u
+      (failed_second contents errors (lines_text (take n lines)) (line ++ (10 ∷ [])) s t u so_far h))
 
 -- lines that are kept are the plain lines of their tables
 pub kept_plain : (lines : List (List ℕ)) (records : List Record) → KeepAll lines (map record_table records) →
@@ -77,3 +65,26 @@ module _ (uid : List ℕ) (first last : ℕ) (days : List Bool) (p : BodyParts) 
   unfolding schedule_lines
   schedule_text = ap (λ (ls : List (List ℕ)).
       (plain_line (basic_table uid first last days P (Some p.detail)) ++ (10 ∷ [])) ++ lines_text ls) (sym is)
+
+-- the writing of a schedule whose first line is this one
+module _ {W : Type 0} (contents : W → Option (List ℕ)) (errors : W → Option ℕ) (uid : List ℕ) (first last : ℕ) (days : List Bool)
+    (p : BodyParts) (basic : List ℕ) (is : basic ≡ plain_line (basic_table uid first last days P (Some p.detail))) (s t : Sink W) where
+  -- it stops at the first line
+  pub schedule_failed : HasFailed contents errors (basic ++ (10 ∷ [])) s t
+      → HasFailed contents errors (lines_text (schedule_lines uid first last days p)) s t
+  schedule_failed h =
+      let others = map (λ r. plain_line (record_table r)) (body_records p) in
+      subst (λ text. HasFailed contents errors text s t)
+      (ap (λ line. (line ++ (10 ∷ [])) ++ lines_text others) is ∙ sym (schedule_text uid first last days p others refl))
+      (failed_first contents errors (basic ++ (10 ∷ [])) (lines_text others) s t h)
+
+  -- it goes on with the others
+  pub schedule_writes : {A E : Type 0} (rest : List (List ℕ)) (u : Sink W) (result : Result A E)
+      → KeepAll rest (map record_table (body_records p)) → HasWritten contents errors (basic ++ (10 ∷ [])) s t
+      → Writes contents errors (lines_text rest) t u result
+      → Writes contents errors (lines_text (schedule_lines uid first last days p)) s u result
+  schedule_writes rest u result kept written h =
+      subst (λ text. Writes contents errors text s u result)
+      (ap (λ line. (line ++ (10 ∷ [])) ++ lines_text rest) is
+      ∙ sym (schedule_text uid first last days p rest (kept_plain rest (body_records p) kept)))
+      (writes_on contents errors (basic ++ (10 ∷ [])) (lines_text rest) s t u result written h)

@@ -1,9 +1,7 @@
 //! Records as plain lines, each with a line feed.
-ghost use Rattle.std.specs.Prelude.{◌≡◌, ◌↔◌, ◌≤◌, ◌++◌, ◌∷◌, [], false, Some, IsTrue, IsErr, OnOk, OnErr};
-ghost use Rattle.std.specs.Io.KnownBytes.{Appends};
-ghost use Rattle.cif_columns.specs.Devices.{TellsErrors};
+ghost use Rattle.std.specs.Prelude.{◌≡◌, ◌≤◌, ◌++◌, ◌∷◌, [], false, Some};
 ghost use Rattle.cif_columns.specs.Field.{plain_line};
-ghost use Rattle.cif_columns.specs.Sink.{AppendsFront, sink_failed, writer_of};
+ghost use Rattle.cif_columns.specs.Sink.{Writes, sink_failed};
 ghost use Rattle.cif_columns.specs.declared.stp.Stp.TheVariants.{P};
 ghost use Rattle.cif_extract.specs.Texts.{lines_text, schedule_lines};
 ghost use Rattle.cif_records.specs.Association.{association_table};
@@ -17,65 +15,31 @@ use cif_records::{
     AssocBody, AssocKey, Header, Tiploc, Trailer, permanent_association, permanent_basic,
 };
 
-/// Appends a line and a line feed.
-fn write_line<W: WriteDevice>(line: &Line, sink: &mut Sink<W>) -> Result<(), WriteFault>
-    ensures ok { OnOk result (Appends (W.contents (writer_of sink.old)) (W.contents (writer_of sink.new))
-        (line.now ++ 10 ∷ [])) }
-    ensures err { OnErr result (AppendsFront (W.contents (writer_of sink.old))
-        (W.contents (writer_of sink.new)) (line.now ++ 10 ∷ [])) }
-    ensures failed { IsTrue (sink_failed sink.new) ↔ IsErr result }
-    ensures errors { sink_failed sink.old ≡ false → TellsErrors (W.write_errors (writer_of sink.old))
-        (W.write_errors (writer_of sink.new)) result }
-    ensures untouched { IsTrue (sink_failed sink.old) → sink.new ≡ sink.old }
-{
-    let mut text = [b'\n'; 81];
-    text[..80].copy_from_slice(line.bytes());
-    sink.write_all(&text)
-}
-
 /// Appends these lines, each with a line feed.
 fn write_lines<W: WriteDevice>(lines: &[Line], sink: &mut Sink<W>) -> Result<(), WriteFault>
     requires { sink_failed sink.old ≡ false }
-    ensures ok { OnOk result (Appends (W.contents (writer_of sink.old))
-        (W.contents (writer_of sink.new)) (lines_text lines.now)) }
-    ensures err { OnErr result (AppendsFront (W.contents (writer_of sink.old))
-        (W.contents (writer_of sink.new)) (lines_text lines.now)) }
-    ensures failed { IsTrue (sink_failed sink.new) ↔ IsErr result }
-    ensures errors { TellsErrors (W.write_errors (writer_of sink.old))
-        (W.write_errors (writer_of sink.new)) result }
+    ensures { Writes W.contents W.write_errors (lines_text lines.now) sink.old sink.new result }
 {
     for line in lines {
-        write_line(line, sink)?;
+        sink.write_line(line)?;
     }
     Ok(())
 }
 
 /// Appends the plain line of the header and a line feed.
 pub fn write_head<W: WriteDevice>(header: &Header, sink: &mut Sink<W>) -> Result<(), WriteFault>
-    ensures ok { OnOk result (Appends (W.contents (writer_of sink.old)) (W.contents (writer_of sink.new))
-        (plain_line (header_table header.now.columns) ++ 10 ∷ [])) }
-    ensures err { OnErr result (AppendsFront (W.contents (writer_of sink.old))
-        (W.contents (writer_of sink.new)) (plain_line (header_table header.now.columns) ++ 10 ∷ [])) }
-    ensures failed { IsTrue (sink_failed sink.new) ↔ IsErr result }
-    ensures errors { sink_failed sink.old ≡ false → TellsErrors (W.write_errors (writer_of sink.old))
-        (W.write_errors (writer_of sink.new)) result }
-    ensures untouched { IsTrue (sink_failed sink.old) → sink.new ≡ sink.old }
+    ensures { Writes W.contents W.write_errors
+        (plain_line (header_table header.now.columns) ++ 10 ∷ []) sink.old sink.new result }
 {
-    write_line(&header.write(), sink)
+    sink.write_line(&header.write())
 }
 
 /// Appends the plain line of the location and a line feed.
 pub fn write_tiploc<W: WriteDevice>(tiploc: &Tiploc, sink: &mut Sink<W>) -> Result<(), WriteFault>
-    ensures ok { OnOk result (Appends (W.contents (writer_of sink.old)) (W.contents (writer_of sink.new))
-        (plain_line (tiploc_table tiploc.now.columns) ++ 10 ∷ [])) }
-    ensures err { OnErr result (AppendsFront (W.contents (writer_of sink.old))
-        (W.contents (writer_of sink.new)) (plain_line (tiploc_table tiploc.now.columns) ++ 10 ∷ [])) }
-    ensures failed { IsTrue (sink_failed sink.new) ↔ IsErr result }
-    ensures errors { sink_failed sink.old ≡ false → TellsErrors (W.write_errors (writer_of sink.old))
-        (W.write_errors (writer_of sink.new)) result }
-    ensures untouched { IsTrue (sink_failed sink.old) → sink.new ≡ sink.old }
+    ensures { Writes W.contents W.write_errors
+        (plain_line (tiploc_table tiploc.now.columns) ++ 10 ∷ []) sink.old sink.new result }
 {
-    write_line(&tiploc.write(), sink)
+    sink.write_line(&tiploc.write())
 }
 
 /// Appends the plain line of a permanent association and a line feed: transaction type `N`, letter
@@ -89,17 +53,10 @@ pub fn write_association<W: WriteDevice>(
     sink: &mut Sink<W>,
 ) -> Result<(), WriteFault>
     requires { first ≤ last }
-    ensures ok { OnOk result (Appends (W.contents (writer_of sink.old)) (W.contents (writer_of sink.new))
-        (plain_line (association_table key.now first last days P (Some body.now)) ++ 10 ∷ [])) }
-    ensures err { OnErr result (AppendsFront (W.contents (writer_of sink.old))
-        (W.contents (writer_of sink.new))
-        (plain_line (association_table key.now first last days P (Some body.now)) ++ 10 ∷ [])) }
-    ensures failed { IsTrue (sink_failed sink.new) ↔ IsErr result }
-    ensures errors { sink_failed sink.old ≡ false → TellsErrors (W.write_errors (writer_of sink.old))
-        (W.write_errors (writer_of sink.new)) result }
-    ensures untouched { IsTrue (sink_failed sink.old) → sink.new ≡ sink.old }
+    ensures { Writes W.contents W.write_errors
+        (plain_line (association_table key.now first last days P (Some body.now)) ++ 10 ∷ []) sink.old sink.new result }
 {
-    write_line(&permanent_association(key, body, first, last, days), sink)
+    sink.write_line(&permanent_association(key, body, first, last, days))
 }
 
 /// Appends the plain lines of a permanent schedule, each with a line feed: BS (transaction type `N`,
@@ -113,31 +70,18 @@ pub fn write_schedule<W: WriteDevice>(
     sink: &mut Sink<W>,
 ) -> Result<(), WriteFault>
     requires { first ≤ last }
-    ensures ok { OnOk result (Appends (W.contents (writer_of sink.old)) (W.contents (writer_of sink.new))
-        (lines_text (schedule_lines uid.now first last days body.now))) }
-    ensures err { OnErr result (AppendsFront (W.contents (writer_of sink.old))
-        (W.contents (writer_of sink.new))
-        (lines_text (schedule_lines uid.now first last days body.now))) }
-    ensures failed { IsTrue (sink_failed sink.new) ↔ IsErr result }
-    ensures errors { sink_failed sink.old ≡ false → TellsErrors (W.write_errors (writer_of sink.old))
-        (W.write_errors (writer_of sink.new)) result }
-    ensures untouched { IsTrue (sink_failed sink.old) → sink.new ≡ sink.old }
+    ensures { Writes W.contents W.write_errors
+        (lines_text (schedule_lines uid.now first last days body.now)) sink.old sink.new result }
 {
     let basic = permanent_basic(uid, &body.detail(), first, last, days);
-    write_line(&basic, sink)?;
+    sink.write_line(&basic)?;
     write_lines(body.further_lines(), sink)
 }
 
 /// Appends the plain line of the trailer and a line feed.
 pub fn write_trailer<W: WriteDevice>(sink: &mut Sink<W>) -> Result<(), WriteFault>
-    ensures ok { OnOk result (Appends (W.contents (writer_of sink.old)) (W.contents (writer_of sink.new))
-        (plain_line trailer_table ++ 10 ∷ [])) }
-    ensures err { OnErr result (AppendsFront (W.contents (writer_of sink.old))
-        (W.contents (writer_of sink.new)) (plain_line trailer_table ++ 10 ∷ [])) }
-    ensures failed { IsTrue (sink_failed sink.new) ↔ IsErr result }
-    ensures errors { sink_failed sink.old ≡ false → TellsErrors (W.write_errors (writer_of sink.old))
-        (W.write_errors (writer_of sink.new)) result }
-    ensures untouched { IsTrue (sink_failed sink.old) → sink.new ≡ sink.old }
+    ensures { Writes W.contents W.write_errors
+        (plain_line trailer_table ++ 10 ∷ []) sink.old sink.new result }
 {
-    write_line(&Trailer.write(), sink)
+    sink.write_line(&Trailer.write())
 }

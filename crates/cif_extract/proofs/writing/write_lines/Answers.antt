@@ -1,10 +1,17 @@
-use Rattle.cif_columns.specs.Sink.{writer_of}
-use Rattle.cif_extract.proofs.WrittenLines.{lines_stop, of-error}
+use Rattle.cif_columns.proofs.WrittenTexts.{writes_err, written_nothing}
+use Rattle.cif_extract.proofs.WrittenLines.{line_failed, line_written}
 use Rattle.cif_extract.proofs.writing.write_lines.Goals as goal
 
-pub returns-in_err-write_line-clause-err : goal.returns-in_err-write_line-clause-err
-returns-in_err-write_line-clause-err g c =
-    of-error c.from_residual.result _
-    (lines_stop c.args.lines.now c.loop-line.line-index c.line-item.result c.loop-line-test.true c.line-item.is
-    (g.W.Write.contents (writer_of c.args.sink.now)) (g.W.Write.contents (writer_of c.loop-line.sink))
-    (g.W.Write.contents (writer_of c.write_line.new.sink)) c.loop-line.invariant.written c.in_err-write_line.ensures.err)
+pub loop-line-init : goal.loop-line-init
+loop-line-init g c = written_nothing _ _ _ c.requires
+
+pub loop-line-preserved : goal.loop-line-preserved
+loop-line-preserved g c =
+    line_written _ _ c.args.lines.now c.loop-line.line-index c.line-item.result c.loop-line-test.true c.line-item.is _ _ _
+    c.loop-line.invariant c.in_ok-write_line.ensures
+
+pub returns-in_err-write_line : goal.returns-in_err-write_line
+returns-in_err-write_line g c =
+    writes_err _ _ _ _ _ c.from_residual.result c.from_residual.ensures.0
+    (line_failed _ _ c.args.lines.now c.loop-line.line-index c.line-item.result c.loop-line-test.true c.line-item.is _ _ _
+    c.loop-line.invariant c.in_err-write_line.ensures)
