@@ -1,8 +1,6 @@
 -- What is written, piece by piece.
-use Rattle.std.proofs.Common.{◌≡◌, ℕ, ◌+◌, ◌<◌, List, [], ◌∷◌, ◌++◌, Option, Some, take, drop, length, get_or, sym, ◌∙◌, ap, refl, subst}
+use Rattle.std.proofs.Common.{◌≡◌, ℕ, ◌+◌, ◌<◌, List, [], ◌∷◌, ◌++◌, Option, Some, false, take, drop, length, get_or, sym, ◌∙◌, ap, refl, subst}
 use Rattle.std.proofs.Common.{append-nil, take-append-drop}
-use Rattle.std.specs.Io.KnownBytes.{Appends}
-use Rattle.std.proofs.KnownBytes.{Appends-trans, Appends-nil}
 use Rattle.std.proofs.lemmas.Grind.{flat_map-append}
 use Rattle.std.proofs.lemmas.List.Elements.{filter_map-append}
 use Rattle.std.proofs.lemmas.List.{take_more}
@@ -12,12 +10,13 @@ use Rattle.std.specs.declared.cmp.Ordering.{Ordering}
 use Rattle.cif_columns.specs.Day.{weekday_of}
 use Rattle.cif_columns.specs.DaysRun.{only_on}
 use Rattle.cif_columns.specs.Field.{plain_line}
-use Rattle.cif_columns.specs.Sink.{AppendsFront}
+use Rattle.cif_columns.specs.Sink.{HasFailed, HasWritten, sink_failed}
+use Rattle.cif_columns.specs.declared.sink.Sink.{Sink}
+use Rattle.cif_columns.proofs.WrittenTexts.{failed_first, failed_second, written_both, written_nothing}
 use Rattle.cif_columns.specs.declared.stp.Stp.TheVariants.{P}
 use Rattle.cif_calendar.specs.Terms.{Terms}
 use Rattle.cif_calendar.specs.Keys.{IsFirstClashOf}
 use Rattle.cif_calendar.proofs.Winning.{terms_at}
-use Rattle.cif_extract.proofs.WrittenLines.{front-first, front-second}
 use Rattle.cif_records.specs.Association.{association_table}
 use Rattle.cif_records.specs.Header.{header_table}
 use Rattle.cif_records.specs.Trailer.{trailer_table}
@@ -107,44 +106,55 @@ trailer-text : line_text trailer_table ≡ plain_line trailer_table ++ 10 ∷ []
 unfolding line_text
 trailer-text = refl
 
--- three pieces after one another: the header's line, the records' and the trailer's
-module _ (header : Header) (entries : List (AssocKey × Terms AssocBody)) (a b c d : Option (List ℕ)) where
-  pub in-head : AppendsFront a b (plain_line (header_table header.columns) ++ 10 ∷ []) → AppendsFront a b (planned_text header entries)
-  in-head h = front-first a b _ _ (subst (AppendsFront a b) (sym (head-text header)) h)
+-- what is written to a sink
+module _ {W : Type 0} (contents : W → Option (List ℕ)) (errors : W → Option ℕ) where
+  -- three pieces after one another: the header's line, the records' and the trailer's
+  module _ (header : Header) (entries : List (AssocKey × Terms AssocBody)) (s t : Sink W) where
+    pub in-head : HasFailed contents errors (plain_line (header_table header.columns) ++ 10 ∷ []) s t
+        → HasFailed contents errors (planned_text header entries) s t
+    in-head h =
+        failed_first contents errors _ _ s t (subst (λ text. HasFailed contents errors text s t) (sym (head-text header)) h)
 
-  pub in-entries : Appends a b (plain_line (header_table header.columns) ++ 10 ∷ []) → AppendsFront b c (entries_text entries) →
-      AppendsFront a c (planned_text header entries)
-  in-entries h e = front-second a b c _ _ (subst (Appends a b) (sym (head-text header)) h) (front-first b c _ _ e)
+    pub in-entries : (u : Sink W) → HasWritten contents errors (plain_line (header_table header.columns) ++ 10 ∷ []) s t
+        → HasFailed contents errors (entries_text entries) t u → HasFailed contents errors (planned_text header entries) s u
+    in-entries u h e =
+        failed_second contents errors _ _ s t u (subst (λ text. HasWritten contents errors text s t) (sym (head-text header)) h)
+        (failed_first contents errors _ _ t u e)
 
-  pub in-trailer : Appends a b (plain_line (header_table header.columns) ++ 10 ∷ []) → Appends b c (entries_text entries) →
-      AppendsFront c d (plain_line trailer_table ++ 10 ∷ []) → AppendsFront a d (planned_text header entries)
-  in-trailer h e t =
-      front-second a b d _ _ (subst (Appends a b) (sym (head-text header)) h)
-      (front-second b c d _ _ e (subst (AppendsFront c d) (sym trailer-text) t))
+    pub in-trailer : (u v : Sink W) → HasWritten contents errors (plain_line (header_table header.columns) ++ 10 ∷ []) s t
+        → HasWritten contents errors (entries_text entries) t u
+        → HasFailed contents errors (plain_line trailer_table ++ 10 ∷ []) u v → HasFailed contents errors (planned_text header entries) s v
+    in-trailer u v h e w =
+        failed_second contents errors _ _ s t v (subst (λ text. HasWritten contents errors text s t) (sym (head-text header)) h)
+        (failed_second contents errors _ _ t u v e (subst (λ text. HasFailed contents errors text u v) (sym trailer-text) w))
 
-  pub whole : Appends a b (plain_line (header_table header.columns) ++ 10 ∷ []) → Appends b c (entries_text entries) →
-      Appends c d (plain_line trailer_table ++ 10 ∷ []) → Appends a d (planned_text header entries)
-  whole h e t =
-      Appends-trans a b d _ _ (subst (Appends a b) (sym (head-text header)) h)
-      (Appends-trans b c d _ _ e (subst (Appends c d) (sym trailer-text) t))
+    pub whole : (u v : Sink W) → HasWritten contents errors (plain_line (header_table header.columns) ++ 10 ∷ []) s t
+        → HasWritten contents errors (entries_text entries) t u
+        → HasWritten contents errors (plain_line trailer_table ++ 10 ∷ []) u v → HasWritten contents errors (planned_text header entries) s v
+    whole u v h e w =
+        written_both contents errors _ _ s t v (subst (λ text. HasWritten contents errors text s t) (sym (head-text header)) h)
+        (written_both contents errors _ _ t u v e (subst (λ text. HasWritten contents errors text u v) (sym trailer-text) w))
 
--- nothing is written yet
-pub entries-start : (a : Option (List ℕ)) → Appends a a (entries_text [])
-unfolding entries_text
-entries-start a = Appends-nil a
+  -- nothing is written yet
+  pub entries-start : (s : Sink W) → sink_failed s ≡ false → HasWritten contents errors (entries_text []) s s
+  unfolding entries_text
+  entries-start s going = written_nothing contents errors s going
 
-module _ (entries : List (AssocKey × Terms AssocBody)) (plan : List OneDayRecord) (n : ℕ) (item : OneDayRecord) (below : n < length plan)
-    (is : item ≡ get_or plan n item) (a b c : Option (List ℕ))
-    (so_far : Appends a b (entries_text (planned_entries entries (take n plan)))) where
-  -- one item more is written
-  pub entries-step : Appends b c (entries_text (planned_entries entries (item ∷ []))) →
-      Appends a c (entries_text (planned_entries entries (take (n + 1) plan)))
-  entries-step more = subst (Appends a c) (sym (entries-more entries plan n item below is)) (Appends-trans a b c _ _ so_far more)
+  module _ (entries : List (AssocKey × Terms AssocBody)) (plan : List OneDayRecord) (n : ℕ) (item : OneDayRecord) (below : n < length plan)
+      (is : item ≡ get_or plan n item) (s t u : Sink W)
+      (so_far : HasWritten contents errors (entries_text (planned_entries entries (take n plan))) s t) where
+    -- one item more is written
+    pub entries-step : HasWritten contents errors (entries_text (planned_entries entries (item ∷ []))) t u
+        → HasWritten contents errors (entries_text (planned_entries entries (take (n + 1) plan))) s u
+    entries-step more =
+        subst (λ text. HasWritten contents errors text s u) (sym (entries-more entries plan n item below is))
+        (written_both contents errors _ _ s t u so_far more)
 
-  -- a front of it is written
-  pub entries-stop : AppendsFront b c (entries_text (planned_entries entries (item ∷ []))) →
-      AppendsFront a c (entries_text (planned_entries entries plan))
-  entries-stop front =
-      subst (AppendsFront a c) (sym (entries-front entries plan (n + 1)))
-      (front-first a c _ _ (subst (AppendsFront a c) (sym (entries-more entries plan n item below is))
-      (front-second a b c _ _ so_far front)))
+    -- a front of it is written
+    pub entries-stop : HasFailed contents errors (entries_text (planned_entries entries (item ∷ []))) t u
+        → HasFailed contents errors (entries_text (planned_entries entries plan)) s u
+    entries-stop front =
+        subst (λ text. HasFailed contents errors text s u) (sym (entries-front entries plan (n + 1)))
+        (failed_first contents errors _ _ s u
+        (subst (λ text. HasFailed contents errors text s u) (sym (entries-more entries plan n item below is))
+        (failed_second contents errors _ _ s t u so_far front)))

@@ -1,9 +1,8 @@
 //! The canonical extract of an extract of associations, one record a date.
 ghost use Rattle.std.specs.Prelude.{◌≡◌, ◌≢◌, ◌≤◌, ◌↔◌, ◌∷◌, [], Err, IfErr, IfOk, IfSome, IsErr, IsTrue};
 ghost use Rattle.std.specs.Prelude.{ℕ, All, OnErr, OnOk, false, true, length};
-ghost use Rattle.std.specs.Io.KnownBytes.{Appends};
-ghost use Rattle.cif_columns.specs.Devices.{OneError, TellsErrors};
-ghost use Rattle.cif_columns.specs.Sink.{AppendsFront, sink_failed, writer_of};
+ghost use Rattle.cif_columns.specs.Devices.{OneError};
+ghost use Rattle.cif_columns.specs.Sink.{Writes, sink_failed, writer_of};
 ghost use Rattle.cif_columns.specs.Source.{reader_of, source_failed};
 ghost use Rattle.cif_columns.specs.declared.line_reader.TheConstants.{MAX_LINES};
 ghost use Rattle.cif_records.specs.AssocKey.{key_cmp};
@@ -110,19 +109,11 @@ fn write_plan<W: WriteDevice>(
     sink: &mut Sink<W>,
 ) -> Result<Counts, WriteFault>
     requires { All (λ item. HasBody (entries_of associations.now) item.source) plan.now }
-    ensures ok { OnOk result (Appends (W.contents (writer_of sink.old))
-        (W.contents (writer_of sink.new))
-        (planned_text header.now (planned_entries (entries_of associations.now) plan.now))) }
-    ensures err { OnErr result (AppendsFront (W.contents (writer_of sink.old))
-        (W.contents (writer_of sink.new))
-        (planned_text header.now (planned_entries (entries_of associations.now) plan.now))) }
+    ensures writes { Writes W.contents W.write_errors
+        (planned_text header.now (planned_entries (entries_of associations.now) plan.now))
+        sink.old sink.new result }
     ensures counts { IfOk result (λ counts. (counts.tiplocs ≡ 0)
         × (counts.associations ≡ length plan.now) × (counts.schedules ≡ 0)) }
-    ensures failed { IsTrue (sink_failed sink.new) ↔ IsErr result }
-    ensures going { OnOk result (sink_failed sink.old ≡ false) }
-    ensures errors { sink_failed sink.old ≡ false → TellsErrors (W.write_errors (writer_of sink.old))
-        (W.write_errors (writer_of sink.new)) result }
-    ensures untouched { IsTrue (sink_failed sink.old) → sink.new ≡ sink.old }
 {
     write_head(header, sink)?;
     write_items(associations, plan, sink)?;
@@ -142,15 +133,9 @@ fn write_items<W: WriteDevice>(
 ) -> Result<(), WriteFault>
     requires sources { All (λ item. HasBody (entries_of associations.now) item.source) plan.now }
     requires going { sink_failed sink.old ≡ false }
-    ensures ok { OnOk result (Appends (W.contents (writer_of sink.old))
-        (W.contents (writer_of sink.new))
-        (entries_text (planned_entries (entries_of associations.now) plan.now))) }
-    ensures err { OnErr result (AppendsFront (W.contents (writer_of sink.old))
-        (W.contents (writer_of sink.new))
-        (entries_text (planned_entries (entries_of associations.now) plan.now))) }
-    ensures failed { IsTrue (sink_failed sink.new) ↔ IsErr result }
-    ensures errors { TellsErrors (W.write_errors (writer_of sink.old))
-        (W.write_errors (writer_of sink.new)) result }
+    ensures { Writes W.contents W.write_errors
+        (entries_text (planned_entries (entries_of associations.now) plan.now))
+        sink.old sink.new result }
 {
     for item in plan {
         write_item(associations, *item, sink)?;
@@ -165,15 +150,9 @@ fn write_item<W: WriteDevice>(
     sink: &mut Sink<W>,
 ) -> Result<(), WriteFault>
     requires { HasBody (entries_of associations.now) item.source }
-    ensures ok { OnOk result (Appends (W.contents (writer_of sink.old))
-        (W.contents (writer_of sink.new))
-        (entries_text (planned_entries (entries_of associations.now) (item ∷ [])))) }
-    ensures err { OnErr result (AppendsFront (W.contents (writer_of sink.old))
-        (W.contents (writer_of sink.new))
-        (entries_text (planned_entries (entries_of associations.now) (item ∷ [])))) }
-    ensures failed { IsTrue (sink_failed sink.new) ↔ IsErr result }
-    ensures errors { sink_failed sink.old ≡ false → TellsErrors (W.write_errors (writer_of sink.old))
-        (W.write_errors (writer_of sink.new)) result }
+    ensures { Writes W.contents W.write_errors
+        (entries_text (planned_entries (entries_of associations.now) (item ∷ [])))
+        sink.old sink.new result }
 {
     let association = &associations[item.source];
     let days = DaysRun::only(item.day.weekday());

@@ -1,10 +1,8 @@
 //! The lines that name faults.
 ghost use Rattle.std.specs.Prelude.{◌≡◌, ◌+◌, ◌≤◌, ◌++◌, ◌↔◌, length, false};
 ghost use Rattle.std.specs.Prelude.{IsTrue, IsErr, OnOk, OnErr};
-ghost use Rattle.std.specs.Io.KnownBytes.{Appends};
 ghost use Rattle.arrayvec.specs.ArrayVec.{array_vec_len};
-ghost use Rattle.cif_columns.specs.Devices.{TellsErrors};
-ghost use Rattle.cif_columns.specs.Sink.{AppendsFront, sink_failed, writer_of};
+ghost use Rattle.cif_columns.specs.Sink.{Writes};
 ghost use Rattle.cif_tool.specs.Report.{fault_line, fault_text, clash_text, key_text};
 ghost use Rattle.cif_tool.specs.Report.{bracketed, name_of};
 
@@ -19,15 +17,7 @@ const LONGEST: usize = 70;
 
 /// Appends the line that names the fault: `cif: `, what it is, and a line feed.
 pub fn report<W: WriteDevice>(fault: &Fault, sink: &mut Sink<W>) -> Result<(), WriteFault>
-    ensures ok { OnOk result (Appends (W.contents (writer_of sink.old))
-        (W.contents (writer_of sink.new)) (fault_line fault.now)) }
-    ensures err { OnErr result (AppendsFront (W.contents (writer_of sink.old))
-        (W.contents (writer_of sink.new)) (fault_line fault.now)) }
-    ensures failed { IsTrue (sink_failed sink.new) ↔ IsErr result }
-    ensures errors { sink_failed sink.old ≡ false
-        → TellsErrors (W.write_errors (writer_of sink.old))
-        (W.write_errors (writer_of sink.new)) result }
-    ensures untouched { IsTrue (sink_failed sink.old) → sink.new ≡ sink.old }
+    ensures { Writes W.contents W.write_errors (fault_line fault.now) sink.old sink.new result }
 {
     sink.write_all(line_of(fault).as_slice())
 }

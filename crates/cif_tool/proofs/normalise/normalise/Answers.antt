@@ -20,7 +20,7 @@ returns-in_err-write_plan-in-Ok-clause-front g c e =
     (subst (SpellBytes c.args.max_lines bytes header) (sym c.as_slice-associations.ensures.value) spelled)
     c.as_slice.result.now _ _
     (subst (IsDailyPlan _ (entries_of associations) header.first header.last) (sym c.as_slice.ensures.value) c.in-Ok.ensures.plan)
-    c.in_err-write_plan-in-Ok.ensures.err) c.in_ok-extract.ensures.ok
+    c.in_err-write_plan-in-Ok.ensures.writes.front) c.in_ok-extract.ensures.ok
 
 pub returns-in-Ok-clause-ok : goal.returns-in-Ok-clause-ok
 returns-in-Ok-clause-ok g c =
@@ -32,7 +32,7 @@ returns-in-Ok-clause-ok g c =
     (subst (SpellBytes c.args.max_lines bytes header) (sym c.as_slice-associations.ensures.value) spelled)
     c.as_slice.result.now _ _ _
     (subst (IsDailyPlan _ (entries_of associations) header.first header.last) (sym c.as_slice.ensures.value) c.in-Ok.ensures.plan)
-    counts.0 counts.1 counts.2 c.in_ok-write_plan-in-Ok.ensures.ok) c.in_ok-extract.ensures.ok
+    counts.0 counts.1 counts.2 c.in_ok-write_plan-in-Ok.ensures.writes.bytes) c.in_ok-extract.ensures.ok
 
 pub returns-clause-fault : goal.returns-clause-fault
 returns-clause-fault g c =
