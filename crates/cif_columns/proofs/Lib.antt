@@ -19,6 +19,7 @@ pub mod Parts
 pub mod PlainColumns
 pub mod PlainLines
 pub mod PrintableBytes
+pub mod ReadSources
 pub mod TableLaws
 pub mod TestedRows
 pub mod TestedTexts

@@ -6,6 +6,7 @@ use Rattle.cif_columns.specs.declared.ahead.Found.{Found}
 use Rattle.cif_columns.specs.declared.ahead.Found.TheVariants.{Next, End, Refused, Failed}
 use Rattle.cif_columns.specs.declared.source.Source.{Source}
 use Rattle.cif_columns.specs.FirstLine.{first_line, after_content, has_line_feed}
+use Rattle.cif_columns.specs.Source.{HasFailedToRead, HasReadOn}
 
 -- the bytes that are read and not yet given
 abbrev pub held_bytes : Ahead → List ℕ
@@ -35,3 +36,10 @@ IfNext (Next line) P = P
 IfNext End P = Unit {0}
 IfNext (Refused why) P = Unit {0}
 IfNext Failed P = Unit {0}
+
+-- what finding owes the source: it fails to read exactly where nothing was found for that
+abbrev pub FindReads : {R : Type 0} → (R → Option ℕ) → Source R → Source R → Found → Type 0
+FindReads errors old new (Next line) = HasReadOn errors old new
+FindReads errors old new End = HasReadOn errors old new
+FindReads errors old new (Refused why) = HasReadOn errors old new
+FindReads errors old new Failed = HasFailedToRead errors old new

@@ -11,6 +11,7 @@ use Rattle.cif_columns.specs.declared.source.Source.{Source}
 use Rattle.cif_columns.specs.Ahead.{held_bytes, known_left}
 use Rattle.cif_columns.specs.Contents.{contents_of, StandsFirst, HasLineReason}
 use Rattle.cif_columns.specs.Line.{IsLine}
+use Rattle.cif_columns.specs.Source.{HasFailedToRead, HasReadOn}
 
 -- the bytes that are held: read, and not yet given
 abbrev pub held : LineReader → List ℕ
@@ -59,3 +60,9 @@ Answers max count bytes (Ok (Some line)) after = (rest : List ℕ) × (after ≡
 Answers max count bytes (Ok None) after = (bytes ≡ []) × (after ≡ Some [])
 Answers max count bytes (Err (Refused number why)) after = IsNextRefusal max count bytes number why
 Answers max count bytes (Err Read) after = after ≡ Some bytes
+
+-- what a call owes its source: it fails to read exactly where it says so
+abbrev pub LineReads : {R : Type 0} → (R → Option ℕ) → Source R → Source R → Result (Option Line) LineFault → Type 0
+LineReads errors old new (Ok line) = HasReadOn errors old new
+LineReads errors old new (Err (Refused number why)) = HasReadOn errors old new
+LineReads errors old new (Err Read) = HasFailedToRead errors old new

@@ -1,11 +1,10 @@
 //! The bytes that are read ahead of the lines.
 ghost use Rattle.std.specs.Prelude.{◌≡◌, ◌+◌, ◌<◌, ◌≤◌, ◌↔◌, ℕ, List, [], length, take, drop};
-ghost use Rattle.std.specs.Prelude.{slice_range, true, false, Some, Ok, Err, IfOk, OnOk, OnErr};
-ghost use Rattle.std.specs.Prelude.{IfSome, IfNone, IsSome, IsTrue, IsErr, ◌≢◌};
+ghost use Rattle.std.specs.Prelude.{slice_range, true, false, Some, Ok, IfOk, OnErr};
+ghost use Rattle.std.specs.Prelude.{IfSome, IfNone, IsSome, IsTrue, ◌≢◌};
 ghost use Rattle.std.specs.Io.KnownBytes.{Keeps, Consumes, IsAtEnd};
 ghost use Rattle.cif_columns.specs.FirstLine.{is_decided};
-ghost use Rattle.cif_columns.specs.Devices.{TellsErrors, OneError};
-ghost use Rattle.cif_columns.specs.Source.{reader_of, source_failed};
+ghost use Rattle.cif_columns.specs.Source.{Reads, reader_of, source_failed};
 
 use crate::first_line::{FirstLine, first_line_of, first_plain_line, line_of_content};
 use crate::line::Line;
@@ -75,13 +74,8 @@ impl Ahead {
             → length (held_bytes self.old) < length (held_bytes self.new) }
         ensures end { result ≡ Ok false → (held_bytes self.new ≡ held_bytes self.old)
             × IsAtEnd (R.remaining (reader_of source.new)) }
-        ensures going { OnOk result ((source_failed source.old ≡ false)
-            × (source_failed source.new ≡ false)) }
         ensures err { OnErr result (held_bytes self.new ≡ held_bytes self.old) }
-        ensures failed { IsErr result → IsTrue (source_failed source.new) }
-        ensures errors { source_failed source.old ≡ false
-            → TellsErrors (R.read_errors (reader_of source.old))
-            (R.read_errors (reader_of source.new)) result }
+        ensures device { Reads R.read_errors source.old source.new result }
     {
         self.to_front();
         let n = read_after(source, &mut self.buf, self.end)?;
@@ -91,7 +85,7 @@ impl Ahead {
 }
 
 impl Ahead {
-    ghost use Rattle.cif_columns.specs.Ahead.{held_bytes, known_left, Decides, Finds, IfNext};
+    ghost use Rattle.cif_columns.specs.Ahead.{held_bytes, known_left, Decides, FindReads, Finds, IfNext};
 
     /// The line that stands first in the held bytes, if it is 80 bytes and a line feed. Most are, and
     /// this gives them with few copies.
@@ -163,14 +157,7 @@ impl Ahead {
         ensures not_full { IfNext result (is_full ≡ false) }
         ensures undecided { result ≡ Found.Failed
             → is_decided is_full (held_bytes self.new) ≡ false }
-        ensures failed { result ≡ Found.Failed → source_failed source.new ≡ true }
-        ensures erred { result ≡ Found.Failed → source_failed source.old ≡ false
-            → OneError (R.read_errors (reader_of source.old))
-            (R.read_errors (reader_of source.new)) }
-        ensures fine { result ≢ Found.Failed → source_failed source.old ≡ false
-            → R.read_errors (reader_of source.new) ≡ R.read_errors (reader_of source.old) }
-        ensures going { result ≢ Found.Failed
-            → source_failed source.new ≡ source_failed source.old }
+        ensures device { FindReads R.read_errors source.old source.new result }
         ensures ended { result ≡ Found.End → source_failed source.old ≡ false }
     {
         loop {
@@ -211,12 +198,7 @@ fn read_after<R: ReadDevice>(
     ensures end { IfOk result (λ n. n ≡ 0 → IsAtEnd (R.remaining (reader_of source.new))) }
     ensures err { OnErr result (Keeps (R.remaining (reader_of source.old))
         (R.remaining (reader_of source.new))) }
-    ensures going { OnOk result ((source_failed source.old ≡ false)
-        × (source_failed source.new ≡ false)) }
-    ensures failed { IsErr result → IsTrue (source_failed source.new) }
-    ensures errors { source_failed source.old ≡ false
-        → TellsErrors (R.read_errors (reader_of source.old))
-        (R.read_errors (reader_of source.new)) result }
+    ensures device { Reads R.read_errors source.old source.new result }
 {
     source.read(&mut buf[at..])
 }

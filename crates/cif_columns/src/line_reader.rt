@@ -1,9 +1,8 @@
 //! Lines, one by one, from a source that gives its bytes in any pieces.
-ghost use Rattle.std.specs.Prelude.{◌≡◌, ◌≢◌, ◌+◌, ◌≤◌, true, false, [], Err, Ok, None, IfSome};
+ghost use Rattle.std.specs.Prelude.{◌≡◌, ◌≢◌, ◌+◌, ◌≤◌, false, [], Err, Ok, None, IfSome};
 ghost use Rattle.std.specs.Prelude.{OnOk, OnErr, IfOk, OnSome};
 ghost use Rattle.cif_columns.specs.Contents.{DecidesNothing};
-ghost use Rattle.cif_columns.specs.Devices.{OneError};
-ghost use Rattle.cif_columns.specs.Source.{reader_of, source_failed};
+ghost use Rattle.cif_columns.specs.Source.{source_failed};
 ghost use Rattle.cif_columns.specs.declared.line_reader.TheConstants.{MAX_LINES};
 
 use crate::ahead::{Ahead, Found};
@@ -39,7 +38,7 @@ pub struct LineReader {
 
 impl LineReader {
     ghost use Rattle.cif_columns.specs.LineReader.{held, given, limit, past, past_of, left};
-    ghost use Rattle.cif_columns.specs.LineReader.{Answers};
+    ghost use Rattle.cif_columns.specs.LineReader.{Answers, LineReads};
     ghost use Rattle.cif_columns.specs.declared.line_reader.Past.TheVariants.{Reading};
 
     /// A reader that will give at most `max_lines` lines.
@@ -80,23 +79,12 @@ impl LineReader {
 
         // A source that fails is reported where the bytes before the failure decide nothing. One
         // that has failed has no end.
-        ensures failed { past self.old ≡ Reading → result ≡ Err LineFault.Read
-            → source_failed source.new ≡ true }
+        ensures device { past self.old ≡ Reading
+            → LineReads R.read_errors source.old source.new result }
         ensures undecided { past self.old ≡ Reading → result ≡ Err LineFault.Read
             → DecidesNothing (limit self.old) (given self.old) (held self.new) }
         ensures endless { past self.old ≡ Reading → result ≡ Ok None
             → source_failed source.old ≡ false }
-        ensures going { result ≢ Err LineFault.Read
-            → source_failed source.new ≡ source_failed source.old }
-
-        // A read fault comes only where the reader has erred, and then it comes.
-        ensures erred { past self.old ≡ Reading → source_failed source.old ≡ false
-            → result ≡ Err LineFault.Read
-            → OneError (R.read_errors (reader_of source.old))
-            (R.read_errors (reader_of source.new)) }
-        ensures fine { past self.old ≡ Reading → source_failed source.old ≡ false
-            → result ≢ Err LineFault.Read
-            → R.read_errors (reader_of source.new) ≡ R.read_errors (reader_of source.old) }
 
         // After the end, and after a fault, it is answered again, and nothing is read.
         ensures past { past self.new ≡ past_of result }

@@ -1,5 +1,5 @@
 //! A reader that isn't read again once it has failed.
-ghost use Rattle.std.specs.Prelude.{◌≡◌, ◌↔◌, false, IsTrue, IsErr, OnOk};
+ghost use Rattle.std.specs.Prelude.{◌≡◌, false};
 ghost use Rattle.std.specs.Io.{ReadsAtMost};
 ghost use Rattle.std.specs.Io.KnownBytes.{ReadConsumes};
 
@@ -19,8 +19,7 @@ pub struct Source<R> {
 }
 
 impl<R: ReadDevice> Source<R> {
-    ghost use Rattle.cif_columns.specs.Source.{reader_of, source_failed};
-    ghost use Rattle.cif_columns.specs.Devices.{TellsErrors};
+    ghost use Rattle.cif_columns.specs.Source.{Reads, reader_of, source_failed};
 
     /// A source that hasn't failed.
     pub fn new(reader: R) -> Self
@@ -47,23 +46,13 @@ impl<R: ReadDevice> Source<R> {
         self.failed
     }
 
-    /// Reads once. The first error is the last: from then on the reader isn't touched.
+    /// Reads once. The first error is the last: from then on each read fails, and the reader isn't
+    /// touched.
     pub fn read(&mut self, buf: &mut [u8]) -> Result<usize, ReadFault>
-        ensures failed { IsTrue (source_failed self.new) ↔ IsErr result }
-        ensures going { OnOk result ((source_failed self.old ≡ false)
-            × (source_failed self.new ≡ false)) }
         ensures bound { ReadsAtMost result buf.new }
         ensures bytes { ReadConsumes (R.remaining (reader_of self.old))
             (R.remaining (reader_of self.new)) result buf.new }
-
-        // A fault comes only where the reader has erred, and where it errs a fault comes.
-        ensures errors { source_failed self.old ≡ false
-            → TellsErrors (R.read_errors (reader_of self.old))
-            (R.read_errors (reader_of self.new)) result }
-
-        // After a failure each read fails, and the reader isn't touched.
-        ensures after { IsTrue (source_failed self.old) → IsErr result }
-        ensures untouched { IsTrue (source_failed self.old) → self.new ≡ self.old }
+        ensures device { Reads R.read_errors self.old self.new result }
     {
         if self.failed {
             return Err(ReadFault);

@@ -2,6 +2,7 @@ use Rattle.std.proofs.Common.{Ok, length, arith, ap, refl, sym, ◌∙◌}
 use Rattle.std.proofs.KnownBytes.{Keeps-trans}
 use Rattle.cif_columns.specs.Ahead.{held_bytes}
 use Rattle.cif_columns.proofs.DecidedLines.{undecided_short}
+use Rattle.cif_columns.proofs.ReadSources.{failed_after, read_on_both}
 use Rattle.cif_columns.proofs.FoundInHeld.{found_more, decided_not_full, found_not_full}
 use Rattle.cif_columns.proofs.ahead.Ahead.next_line.Goals as goal
 
@@ -26,9 +27,11 @@ loop-found-smaller g c =
 pub loop-found-preserved : goal.loop-found-preserved
 loop-found-preserved g c = record {
   same_bytes = Keeps-trans _ _ _ c.loop-found.invariant.same_bytes (rw (← c.in_default.ensures.kept) c.in-Ok-true.ensures.bytes);
-  same_state = c.in-Ok-true.ensures.going.1 ∙ sym c.in-Ok-true.ensures.going.0 ∙ c.loop-found.invariant.same_state;
-  same_errors = λ fine. c.in-Ok-true.ensures.errors (c.loop-found.invariant.same_state ∙ fine) ∙ c.loop-found.invariant.same_errors fine;
+  read_on = read_on_both _ _ _ _ c.loop-found.invariant.read_on c.in-Ok-true.ensures.device.1;
 }
+
+pub returns-in-Err-clause-device : goal.returns-in-Err-clause-device
+returns-in-Err-clause-device g c = failed_after _ _ _ _ c.loop-found.invariant.read_on c.in-Err.ensures.device
 
 pub returns-in-Some-clause-not_full : goal.returns-in-Some-clause-not_full
 returns-in-Some-clause-not_full g c = decided_not_full _ _ _ _ c.in-Some.ensures.found

@@ -1,14 +1,13 @@
-use Rattle.std.proofs.Common.{◌≡◌, ◌-◌, false, length}
+use Rattle.std.proofs.Common.{◌-◌, length}
 use Rattle.std.specs.Io.KnownBytes.{Keeps}
 use Rattle.cif_columns.specs.Ahead.{held_bytes, known_left}
+use Rattle.cif_columns.specs.Source.{HasReadOn}
 use Rattle.cif_columns.proofs.ahead.Ahead.next_line.Given as goal
 
 abbrev pub invariant-loop-found : goal.invariant-loop-found
 invariant-loop-found g l = record {
   same_bytes : Keeps (known_left g.R.Read.remaining l.initial.self l.initial.source) (known_left g.R.Read.remaining l.self l.source);
-  same_state : l.source.failed ≡ l.initial.source.failed;
-  same_errors : l.initial.source.failed ≡ false
-      → g.R.ReadDevice.read_errors l.source.reader ≡ g.R.ReadDevice.read_errors l.initial.source.reader;
+  read_on : HasReadOn g.R.ReadDevice.read_errors l.initial.source l.source;
 }
 
 abbrev pub decreases-loop-found : goal.decreases-loop-found

@@ -1,0 +1,26 @@
+-- Calls that read, one after another.
+use Rattle.std.proofs.Common.{ℕ, Option, refl, subst, ◌∙◌}
+use Rattle.cif_columns.specs.Devices.{OneError}
+use Rattle.cif_columns.specs.Source.{HasFailedToRead, HasReadOn, reader_of}
+use Rattle.cif_columns.specs.declared.source.Source.{Source}
+
+module _ {R : Type 0} (errors : R → Option ℕ) where
+  -- nothing is read
+  pub read_nothing : (s : Source R) → HasReadOn errors s s
+  read_nothing s = record { going = refl; no_error = refl; untouched = λ stopped. refl }
+
+  -- two calls that went on
+  pub read_on_both : (s t u : Source R) → HasReadOn errors s t → HasReadOn errors t u → HasReadOn errors s u
+  read_on_both s t u p q = record {
+    going = q.going ∙ p.going;
+    no_error = q.no_error ∙ p.no_error;
+    untouched = λ stopped. q.untouched (p.going ∙ stopped) ∙ p.untouched stopped;
+  }
+
+  -- a call that went on, and one that failed
+  pub failed_after : (s t u : Source R) → HasReadOn errors s t → HasFailedToRead errors t u → HasFailedToRead errors s u
+  failed_after s t u p h = record {
+    failed = h.failed;
+    erred = λ fresh. subst (λ n. OneError n (errors (reader_of u))) p.no_error (h.erred (p.going ∙ fresh));
+    untouched = λ stopped. h.untouched (p.going ∙ stopped) ∙ p.untouched stopped;
+  }
