@@ -1,5 +1,7 @@
 -- Why bytes are no extract, or can't be read.
 use Rattle.std.specs.Prelude.{◌≡◌, ℕ, List, Option, IsSomeAnd, Result, Ok, Err}
+use Rattle.cif_columns.specs.Source.{HasFailedToRead, HasReadOn}
+use Rattle.cif_columns.specs.declared.source.Source.{Source}
 use Rattle.cif_extract.specs.ExtractParts.{ExtractParts, extract_parts}
 use Rattle.cif_extract.specs.FirstRefusal.{LineRules, IsFirstRefusal, IsCutBeforeRefusal}
 use Rattle.cif_extract.specs.declared.extract.Extract.{Extract}
@@ -27,3 +29,9 @@ IsReadAs x (Ok extract) = extract_parts extract ≡ x
 IsReadAs x (Err Read) = Unit {0}
 IsReadAs x (Err Memory) = Unit {0}
 IsReadAs x (Err _) = ⊥
+
+-- what reading an extract owes its source: it fails to read exactly where it says so
+abbrev pub ExtractReads : {R : Type 0} → (R → Option ℕ) → Source R → Source R → Result Extract Fault → Type 0
+ExtractReads errors old new (Ok extract) = HasReadOn errors old new
+ExtractReads errors old new (Err Read) = HasFailedToRead errors old new
+ExtractReads errors old new (Err fault) = HasReadOn errors old new

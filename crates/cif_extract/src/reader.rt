@@ -1,11 +1,10 @@
 //! Reading a whole extract, line by line.
-ghost use Rattle.std.specs.Prelude.{◌≡◌, ◌≢◌, ◌≤◌, true, false, Err, IfErr, IfOk, IfSome};
-ghost use Rattle.cif_columns.specs.Devices.{OneError};
+ghost use Rattle.std.specs.Prelude.{◌≡◌, ◌≤◌, false, IfErr, IfOk, IfSome};
 ghost use Rattle.cif_columns.specs.Source.{reader_of, source_failed};
 ghost use Rattle.cif_columns.specs.declared.line_reader.TheConstants.{MAX_LINES};
 ghost use Rattle.cif_extract.specs.ExtractParts.{ExtractParts, extract_parts};
 ghost use Rattle.cif_extract.specs.OrderOfRecords.{rules};
-ghost use Rattle.cif_extract.specs.ReadFault.{IsOfReading, IsReadAs, IsReadFault};
+ghost use Rattle.cif_extract.specs.ReadFault.{ExtractReads, IsOfReading, IsReadAs, IsReadFault};
 ghost use Rattle.cif_extract.specs.SpellsExtract.{BytesSpell};
 
 use crate::reading::Reading;
@@ -31,14 +30,8 @@ pub fn read_extract<R: ReadDevice>(
     ensures fault { IfSome (R.remaining (reader_of source.old)) (λ bytes. IfErr result
         (IsReadFault rules max_lines bytes (R.remaining (reader_of source.new)))) }
     ensures answers { IfErr result IsOfReading }
-    ensures failed { result ≡ Err Fault.Read → source_failed source.new ≡ true }
-    ensures going { result ≢ Err Fault.Read
-        → source_failed source.new ≡ source_failed source.old }
     ensures endless { IfOk result (λ _. source_failed source.old ≡ false) }
-    ensures erred { source_failed source.old ≡ false → result ≡ Err Fault.Read
-        → OneError (R.read_errors (reader_of source.old)) (R.read_errors (reader_of source.new)) }
-    ensures fine { source_failed source.old ≡ false → result ≢ Err Fault.Read
-        → R.read_errors (reader_of source.new) ≡ R.read_errors (reader_of source.old) }
+    ensures device { ExtractReads R.read_errors source.old source.new result }
 {
     let mut lines = LineReader::new(max_lines);
     let mut reading = Reading::new(alloc);

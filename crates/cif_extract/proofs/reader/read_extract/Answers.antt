@@ -1,6 +1,7 @@
 use Rattle.std.proofs.Common.{◌≡◌, ◌+◌, ◌<◌, ◌∙◌, length, [], ◌++◌, ◌∷◌, Err, IfErr, Ok, ap, arith, refl}
 use Rattle.std.proofs.lemmas.Result.{err_from_is_err_and}
 use Rattle.cif_columns.proofs.GivenLinesLaws.{known_so, reading_ends, reading_faults, reading_line}
+use Rattle.cif_columns.proofs.ReadSources.{failed_after, read_nothing, read_on_both}
 use Rattle.cif_columns.specs.LineReader.{given}
 use Rattle.cif_extract.specs.Fault.{of_line_fault}
 use Rattle.cif_extract.specs.OrderOfRecords.{rules}
@@ -14,7 +15,7 @@ use Rattle.cif_extract.proofs.reader.read_extract.Goals as goal
 
 pub loop-reading-preserved : goal.loop-reading-preserved
 loop-reading-preserved g c =
-    let (ls, so_far, come, going, same) = c.loop-reading.invariant in
+    let (ls, so_far, come, read_on) = c.loop-reading.invariant in
     let next = c.in_ok-line.ensures in
     let is = c.in-Some.is in
     let line = c.in-Some.line in
@@ -26,13 +27,12 @@ loop-reading-preserved g c =
           next.limit more,
       come_more c.args.max_lines ls line c.take.ensures.line room (progress_of c.loop-reading.reading) come (progress_of c.take.new.self)
           c.in-Ok.ensures.taken,
-      next.going (λ e. cc) ∙ going,
-      λ healthy. next.fine so_far.reads_on (going ∙ healthy) (λ e. cc) ∙ same healthy,
+      read_on_both _ _ _ _ read_on (next.device so_far.reads_on),
     )
 
 pub returns-in-Err-clause-fault : goal.returns-in-Err-clause-fault
 returns-in-Err-clause-fault g c =
-    let (ls, so_far, come, going, same) = c.loop-reading.invariant in
+    let (ls, so_far, come, read_on) = c.loop-reading.invariant in
     let next = c.in_ok-line.ensures in
     let is = c.in-Some.is in
     let line = c.in-Some.line in
@@ -52,7 +52,7 @@ returns-in-Err-clause-fault g c =
 
 pub returns-in_err-line-clause-fault : goal.returns-in_err-line-clause-fault
 returns-in_err-line-clause-fault g c =
-    let (ls, so_far, come, going, same) = c.loop-reading.invariant in
+    let (ls, so_far, come, read_on) = c.loop-reading.invariant in
     let next = c.in_err-line.ensures in
     let line_fault = c.in_err-line.field-0.0 in
     let after = g.R.Read.remaining c.next.new.source.reader in
@@ -80,7 +80,7 @@ returns-in-Err-clause-only g c =
 
 pub returns-in-None-clause-only : goal.returns-in-None-clause-only
 returns-in-None-clause-only g c =
-    let (ls, so_far, come, going, same) = c.loop-reading.invariant in
+    let (ls, so_far, come, read_on) = c.loop-reading.invariant in
     let next = c.in_ok-line.ensures in
     let is = c.in-None.is in
     let all = reading_ends g.R.Read.remaining _ _ _ _ ls so_far c.next.new.self c.next.new.source (rw is at next.answer) in
