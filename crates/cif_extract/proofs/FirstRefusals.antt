@@ -1,4 +1,4 @@
--- Why a line is refused first, by whatever rules.
+-- Why a line is refused first.
 use Rattle.std.proofs.Common.{◌≡◌, ℕ, ◌+◌, ◌<◌, Bool, true, false, nat_eq, nat_lt, List, [], ◌∷◌, ◌++◌, length, take, Option, Some, None}
 use Rattle.std.proofs.Common.{IfErr, IfSome, IsSomeAnd, Result, Err, refl, sym, ap, ◌∙◌, subst, arith, append_assoc, below_more}
 use Rattle.std.proofs.Common.{get_or, inl, length-append, ne_eqb}
@@ -21,12 +21,15 @@ use Rattle.cif_columns.specs.declared.source.Source.{Source}
 use Rattle.cif_columns.proofs.GivenLinesLaws.{contents_given, known_so}
 use Rattle.cif_columns.proofs.PrintableBytes.{printable_fact, printable_true}
 use Rattle.cif_extract.specs.Fault.{of_line_fault}
-use Rattle.cif_extract.specs.FirstRefusal.{LineRules, NoneRefused, IsCutBeforeRefusal, IsFirstRefusal, IsRefusedLine, kind_refusal}
+use Rattle.cif_extract.specs.FirstRefusal.{NoneRefused, IsCutBeforeRefusal, IsFirstRefusal, IsRefusedLine, order_refusal}
 use Rattle.cif_extract.specs.FirstRefusal.{refusal_of}
+use Rattle.cif_extract.specs.OrderOfRecords.{record_before}
 use Rattle.cif_extract.specs.ReadFault.{IsOfReading, IsReadFault}
 use Rattle.cif_extract.specs.declared.fault.Fault.{Fault}
 use Rattle.cif_extract.specs.declared.fault.Fault.TheVariants as fault
+use Rattle.cif_records.specs.Checks.{first_of}
 use Rattle.cif_records.specs.Kind.{kind_in}
+use Rattle.cif_records.specs.Record.{record_refusal}
 use Rattle.cif_records.proofs.Judging.{none-some}
 
 pub or_none : {A : Type 0} (o : Option A) → option_or o None ≡ o
@@ -38,19 +41,19 @@ pub not_true : (b : Bool) → (b ≡ true → ⊥) → b ≡ false
 not_true true h = absurd (h refl)
 not_true false h = refl
 
-module _ (rules : LineRules) (max : ℕ) where
-  -- a line that isn't one too many is refused by its kind and its fields alone
+module _ (max : ℕ) where
+  -- a line that isn't one too many is refused for the order or its fields alone
   pub line_refusal : (before : List (List ℕ)) (line : List ℕ) → IsLine line → length before < max →
-      refusal_of rules max before line ≡ kind_refusal rules before line (kind_in line)
+      refusal_of max before line ≡ first_of (order_refusal (record_before before) (kind_in line) ∷ record_refusal line ∷ [])
   unfolding refusal_of
   line_refusal before line h room =
       let few : nat_lt (length before) max ≡ true = grind (arith, nat_tests) in
       let wide : nat_eq (length line) 80 ≡ true = (let w = h.width in grind (arith, nat_tests)) in
-      rw (few, wide, printable_true line h.printable) (or_none (kind_refusal rules before line (kind_in line)))
+      rw (few, wide, printable_true line h.printable)
 
   -- the reason why a content is no line is its first reason
   line_reason : (before : List (List ℕ)) (content : List ℕ) (number : ℕ) (why : Refusal) → number ≡ length before + 1 →
-      HasLineReason max number content why → refusal_of rules max before content ≡ Some why
+      HasLineReason max number content why → refusal_of max before content ≡ Some why
   unfolding refusal_of
   line_reason before content number refusal.TooManyLines is h =
       let full : nat_lt (length before) max ≡ false = grind (arith, nat_tests) in rw full
@@ -67,39 +70,39 @@ module _ (rules : LineRules) (max : ℕ) where
   line_reason before content number _ is h = absurd h
 
   -- one content more that isn't refused
-  pub none_refused-more : (lines : List (List ℕ)) (line : List ℕ) → NoneRefused rules max lines →
-      refusal_of rules max lines line ≡ None → NoneRefused rules max (lines ++ line ∷ [])
+  pub none_refused-more : (lines : List (List ℕ)) (line : List ℕ) → NoneRefused max lines →
+      refusal_of max lines line ≡ None → NoneRefused max (lines ++ line ∷ [])
   none_refused-more lines line none fine = record { fine = λ k below. at k (omega (arith, length-append lines (line ∷ []))) }
     where
-      at : (k : ℕ) → k < length lines + 1 → refusal_of rules max (take k (lines ++ line ∷ [])) (get_or (lines ++ line ∷ []) k []) ≡ None
-      at = below_more (λ k. refusal_of rules max (take k (lines ++ line ∷ [])) (get_or (lines ++ line ∷ []) k []) ≡ None) (length lines)
+      at : (k : ℕ) → k < length lines + 1 → refusal_of max (take k (lines ++ line ∷ [])) (get_or (lines ++ line ∷ []) k []) ≡ None
+      at = below_more (λ k. refusal_of max (take k (lines ++ line ∷ [])) (get_or (lines ++ line ∷ []) k []) ≡ None) (length lines)
           (λ k h. rw (take-append-le k lines (line ∷ []) (omega arith), get_or_append_left lines (line ∷ []) [] k h) (none.fine k h))
           (rw (take-append_seam lines (line ∷ []), get_or-append_seam lines line [] []) fine)
 
-  pub none_refused-none : NoneRefused rules max []
+  pub none_refused-none : NoneRefused max []
   none_refused-none = record { fine = λ k below. absurd (omega arith) }
 
   -- where none of the contents is refused, no line is the first that is
-  pub fine-refused : (contents : List (List ℕ)) (number : ℕ) (why : Refusal) → NoneRefused rules max contents →
-      IsRefusedLine rules max contents number why → ⊥
+  pub fine-refused : (contents : List (List ℕ)) (number : ℕ) (why : Refusal) → NoneRefused max contents →
+      IsRefusedLine max contents number why → ⊥
   fine-refused contents number why none r =
-      let fine = subst (NoneRefused rules max) r.parts none in
+      let fine = subst (NoneRefused max) r.parts none in
       let long = length-append r.before (r.content ∷ r.after) in
-      let here : refusal_of rules max (take (length r.before) (r.before ++ r.content ∷ r.after))
+      let here : refusal_of max (take (length r.before) (r.before ++ r.content ∷ r.after))
       (get_or (r.before ++ r.content ∷ r.after) (length r.before) []) ≡ None =
       fine.fine (length r.before) (let z : length r.before < length (r.before ++ r.content ∷ r.after) = omega (arith, long) in z) in
       none-some _ why
-      (ap (λ b. refusal_of rules max b r.content) (sym (take-append_seam r.before (r.content ∷ r.after)))
-      ∙ ap (refusal_of rules max (take (length r.before) (r.before ++ r.content ∷ r.after)))
+      (ap (λ b. refusal_of max b r.content) (sym (take-append_seam r.before (r.content ∷ r.after)))
+      ∙ ap (refusal_of max (take (length r.before) (r.before ++ r.content ∷ r.after)))
       (sym (get_or-append_seam r.before r.content r.after []))
       ∙ here) r.reason
 
   -- where a reading stops, and why
-  module _ (start : Option (List ℕ)) (ls : List (List ℕ)) (fine : NoneRefused rules max ls) where
+  module _ (start : Option (List ℕ)) (ls : List (List ℕ)) (fine : NoneRefused max ls) where
     -- at a fault of the lines
     pub at_fault : (after : Option (List ℕ)) (line_fault : LineFault) →
         IfSome start (λ bytes. AreLinesToFault max bytes after ls line_fault) →
-        IfSome start (λ bytes. IsReadFault rules max bytes after (of_line_fault line_fault))
+        IfSome start (λ bytes. IsReadFault max bytes after (of_line_fault line_fault))
     at_fault after (line_fault.Refused number why) h = known_so start _ _ (λ bytes r. inl (record {
       before = ls;
       content = r.content;
@@ -112,19 +115,19 @@ module _ (rules : LineRules) (max : ℕ) where
     at_fault after line_fault.Read h = known_so start _ _ (λ bytes r. at bytes after r) h
       where
         at : (bytes : List ℕ) (after : Option (List ℕ)) → IsSomeAnd after (λ unread. AreLinesToFailure max bytes unread ls) →
-            IsSomeAnd after (IsCutBeforeRefusal rules max bytes)
+            IsSomeAnd after (IsCutBeforeRefusal max bytes)
         at bytes None r = absurd r
         at bytes (Some unread) r = record { lines = ls; given = r; fine = fine }
 
     -- at a line that is refused
     pub at_line : {R : Type 0} (remaining : R → Option (List ℕ)) (reader : LineReader) (source : Source R) (line : List ℕ) (number : ℕ)
         (why : Refusal)
-        → IsReading remaining start max reader source (ls ++ line ∷ []) → number ≡ length ls + 1 → refusal_of rules max ls line ≡ Some why
-        → IfSome start (λ bytes. IsFirstRefusal rules max bytes number why)
+        → IsReading remaining start max reader source (ls ++ line ∷ []) → number ≡ length ls + 1 → refusal_of max ls line ≡ Some why
+        → IfSome start (λ bytes. IsFirstRefusal max bytes number why)
     at_line remaining reader source line number why so_far is reason = at start (left remaining reader source) so_far.known
       where
         at : (s rest : Option (List ℕ)) → KnownGiven s (ls ++ line ∷ []) rest →
-            IfSome s (λ bytes. IsFirstRefusal rules max bytes number why)
+            IfSome s (λ bytes. IsFirstRefusal max bytes number why)
         at None rest known = tt
         at (Some bytes) None known = absurd known
         at (Some bytes) (Some rest) known = inl (record {

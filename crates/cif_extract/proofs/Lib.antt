@@ -10,6 +10,7 @@ pub mod JourneySteps
 pub mod KeptLines
 pub mod OneExtract
 pub mod OrderLaws
+pub mod Places
 pub mod ReadingRuns
 pub mod ReadingSteps
 pub mod SameLines

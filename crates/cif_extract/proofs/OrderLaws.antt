@@ -1,34 +1,24 @@
 -- The order of records is that of the grammar: no line of an extract is refused.
-use Rattle.std.proofs.Common.{◌≡◌, ℕ, ◌+◌, ◌<◌, ◌≤◌, Bool, true, false, not, List, [], ◌∷◌, ◌++◌, is_some, length, map, Option, Some}
+use Rattle.std.proofs.Common.{◌≡◌, ℕ, ◌+◌, ◌<◌, ◌≤◌, true, false, List, [], ◌∷◌, ◌++◌, is_some, length, map, Option, Some}
 use Rattle.std.proofs.Common.{None, refl, sym}
-use Rattle.std.proofs.Common.{ap, ◌∙◌, subst, arith, cond, codes, append_assoc, append-nil, length-append, ⊎_elim}
+use Rattle.std.proofs.Common.{ap, ◌∙◌, subst, arith, cond, append_assoc, append-nil, length-append, ⊎_elim}
 use Rattle.std.proofs.lemmas.List.Elements.{All-head, All-tail}
 use Rattle.std.specs.Prelude.{All}
-use Rattle.std.specs.Str.{bytes_eq}
 use Rattle.cif_columns.specs.Line.{IsLine}
-use Rattle.cif_columns.specs.Stp.{letter}
-use Rattle.cif_columns.specs.declared.stp.Stp.{Stp}
-use Rattle.cif_columns.specs.declared.stp.Stp.TheVariants.{C, N, O, P}
-use Rattle.cif_columns.proofs.Parts.{stands-back}
 use Rattle.cif_extract.specs.BodyParts.{BodyParts, extra_records, journey_records}
 use Rattle.cif_extract.specs.Call.{call_record}
 use Rattle.cif_extract.specs.ExtractParts.{ExtractParts}
-use Rattle.cif_columns.specs.declared.refusal.Refusal.TheVariants.{OutOfOrder}
-use Rattle.cif_extract.specs.FirstRefusal.{NoneRefused, kind_refusal}
+use Rattle.cif_extract.specs.FirstRefusal.{NoneRefused}
 use Rattle.cif_extract.specs.Grammar.{AreExtract, AreJourney, AreSchedule, AreSchedules, HaveBody}
-use Rattle.cif_extract.specs.OrderOfRecords.{cancels, may_stand, place_after, place_behind, place_from, rules}
+use Rattle.cif_extract.specs.OrderOfRecords.{record_before}
+use Rattle.cif_extract.specs.Place.{may_stand}
 use Rattle.cif_extract.specs.SpellsExtract.{SpellAll, SpellExtract}
 use Rattle.cif_extract.specs.declared.call.Call.{Call}
 use Rattle.cif_extract.specs.declared.call.Call.TheVariants.{At, Turn}
 use Rattle.cif_extract.specs.declared.place.Place.{Place}
 use Rattle.cif_extract.specs.declared.place.Place.TheVariants as at
 use Rattle.cif_extract.specs.declared.schedule.Schedule.{Schedule}
-use Rattle.cif_records.specs.Basic.{basic_back, basic_front}
 use Rattle.cif_records.specs.Bodies.{has_body}
-use Rattle.cif_records.specs.Checks.{first_of, unless}
-use Rattle.cif_records.specs.Record.{refusal_as}
-use Rattle.cif_records.specs.Detail.{detail_rows}
-use Rattle.cif_records.specs.Kind.{kind_in}
 use Rattle.cif_records.specs.SpellsRecord.{SpellsRecord}
 use Rattle.cif_records.specs.declared.association.Association.{Association}
 use Rattle.cif_records.specs.declared.basic.Basic.{Basic}
@@ -41,47 +31,9 @@ use Rattle.cif_records.specs.declared.record.Record.TheVariants as of
 use Rattle.cif_records.specs.declared.terminus.Terminus.{Terminus}
 use Rattle.cif_records.specs.declared.tiploc.Tiploc.{Tiploc}
 use Rattle.cif_records.proofs.Records.{kind_of as record_kind, kind_there as spelled_kind, no_refusal_as}
-use Rattle.cif_extract.proofs.FirstRefusals.{line_refusal, none_refused-more, none_refused-none, or_none}
-use Rattle.cif_extract.proofs.ReadingRuns.{place_from-more}
-
--- the record is a BS of the letter without a body
-abbrev pub record_cancels : Record → Bool
-record_cancels (of.Basic b) = not (has_body b.letter)
-record_cancels _ = false
-
--- the place after a record
-abbrev pub place_past : Place → Record → Place
-place_past place r = place_after place (record_kind r) (record_cancels r)
-
--- column 80 of a BS is the letter C exactly where it has no body
-cancels_basic : (line : List ℕ) (b : Basic) → SpellsRecord line (of.Basic b) → cancels line ≡ not (has_body b.letter)
-cancels_basic line b s =
-    let back = stands-back line (detail_rows b.detail) (basic_back b.letter)
-    (stands-back line (basic_front b.uid b.first b.last b.days) (detail_rows b.detail ++ basic_back b.letter) s) in
-    ap (λ (columns : List ℕ). bytes_eq columns (codes "C")) back.1.0 ∙ by_letter b.letter
-  where
-    by_letter : (l : Stp) → bytes_eq (letter l ∷ []) (codes "C") ≡ not (has_body l)
-    by_letter C = refl
-    by_letter N = refl
-    by_letter O = refl
-    by_letter P = refl
-
--- the place after a line is that after its record
-pub place_spelled : (place : Place) (line : List ℕ) (r : Record) → SpellsRecord line r →
-    place_behind place (kind_in line) line ≡ place_past place r
-place_spelled place line r s = ap (λ k. place_behind place k line) (spelled_kind line r s) ∙ by_record r s
-  where
-    by_record : (r : Record) → SpellsRecord line r → place_after place (record_kind r) (cancels line) ≡ place_past place r
-    by_record (of.Header x) s = refl
-    by_record (of.Tiploc x) s = refl
-    by_record (of.Association x) s = refl
-    by_record (of.Basic x) s = ap (λ c. cond c at.Cancelled at.Basic) (cancels_basic line x s)
-    by_record (of.Extra x) s = refl
-    by_record (of.Origin x) s = refl
-    by_record (of.Stop x) s = refl
-    by_record (of.Change x) s = refl
-    by_record (of.Terminus x) s = refl
-    by_record of.Trailer s = refl
+use Rattle.cif_extract.proofs.FirstRefusals.{none_refused-more, none_refused-none}
+use Rattle.cif_extract.proofs.Places.{place_after, place_more, place_past, refused_at}
+use Rattle.cif_extract.proofs.TakenLines.{refusal_of_fields}
 
 -- from one place to another these records may stand, one after another
 abbrev pub MayStand : Place → List Record → Place → Type 0
@@ -123,7 +75,7 @@ module _ (from : Place) (may : may_stand from Bs ≡ true) (b : Basic) where
     to = at.Schedules;
     stand = (
       may,
-      subst (λ r. MayStand (cond (not r) at.Cancelled at.Basic) (journey_records o calls t) at.Schedules) (sym runs)
+      subst (λ r. MayStand (cond r at.Basic at.Cancelled) (journey_records o calls t) at.Schedules) (sym runs)
           (refl, stand_calls calls t),
     );
     schedule = refl;
@@ -133,7 +85,7 @@ module _ (from : Place) (may : may_stand from Bs ≡ true) (b : Basic) where
     to = at.Schedules;
     stand = (
       may,
-      subst (λ r. MayStand (cond (not r) at.Cancelled at.Basic) (of.Extra x ∷ journey_records o calls t) at.Schedules) (sym runs)
+      subst (λ r. MayStand (cond r at.Basic at.Cancelled) (of.Extra x ∷ journey_records o calls t) at.Schedules) (sym runs)
           (refl, (refl, stand_calls calls t)),
     );
     schedule = refl;
@@ -146,7 +98,7 @@ module _ (from : Place) (may : may_stand from Bs ≡ true) (b : Basic) where
     to = at.Schedules;
     stand = (
       may,
-      subst (λ r. MayStand (cond (not r) at.Cancelled at.Basic) (journey_records o calls t) at.Schedules) (sym none)
+      subst (λ r. MayStand (cond r at.Basic at.Cancelled) (journey_records o calls t) at.Schedules) (sym none)
           (refl, stand_calls calls t),
     );
     schedule = refl;
@@ -156,7 +108,7 @@ module _ (from : Place) (may : may_stand from Bs ≡ true) (b : Basic) where
     to = at.Schedules;
     stand = (
       may,
-      subst (λ r. MayStand (cond (not r) at.Cancelled at.Basic) (of.Extra x ∷ journey_records o calls t) at.Schedules) (sym none)
+      subst (λ r. MayStand (cond r at.Basic at.Cancelled) (of.Extra x ∷ journey_records o calls t) at.Schedules) (sym none)
           (refl, (refl, stand_calls calls t)),
     );
     schedule = refl;
@@ -166,13 +118,13 @@ module _ (from : Place) (may : may_stand from Bs ≡ true) (b : Basic) where
   stand_alone : has_body b.letter ≡ false → (x : Option Extra) → IsOpen from (of.Basic b ∷ (extra_records x ++ []))
   stand_alone none None = record {
     to = at.Cancelled;
-    stand = (may, ap (λ r. cond (not r) at.Cancelled at.Basic) none);
+    stand = (may, ap (λ r. cond r at.Basic at.Cancelled) none);
     schedule = refl;
     trailer = refl;
   }
   stand_alone none (Some x) = record {
     to = at.CancelledExtra;
-    stand = (may, subst (λ r. MayStand (cond (not r) at.Cancelled at.Basic) (of.Extra x ∷ []) at.CancelledExtra) (sym none) (refl, refl));
+    stand = (may, subst (λ r. MayStand (cond r at.Basic at.Cancelled) (of.Extra x ∷ []) at.CancelledExtra) (sym none) (refl, refl));
     schedule = refl;
     trailer = refl;
   }
@@ -236,21 +188,17 @@ stand_extract records x are =
 
 -- lines of which none is refused, and the place behind them
 record AreFine (max : ℕ) (lines : List (List ℕ)) (place : Place) : Type 0 where
-  fine : NoneRefused rules max lines
-  behind : place_from at.Start lines ≡ place
+  fine : NoneRefused max lines
+  behind : place_after (record_before lines) ≡ place
 
 fine_more : (max : ℕ) (lines : List (List ℕ)) (place : Place) (line : List ℕ) (r : Record) → AreFine max lines place → IsLine line →
     length lines < max → SpellsRecord line r → may_stand place (record_kind r) ≡ true → AreFine max (lines ++ (line ∷ []))
     (place_past place r)
 fine_more max lines place line r so_far is_line room spells may = record {
-  fine = none_refused-more rules max lines line so_far.fine
-      (line_refusal rules max lines line is_line room
-      ∙ ap (λ k. kind_refusal rules lines line k) (spelled_kind line r spells)
-      ∙ ap (λ p. first_of (unless (may_stand p (record_kind r)) OutOfOrder ∷ refusal_as (Some (record_kind r)) line ∷ [])) so_far.behind
-      ∙ ap (λ b. first_of (unless b OutOfOrder ∷ refusal_as (Some (record_kind r)) line ∷ [])) may
-      ∙ or_none (refusal_as (Some (record_kind r)) line) ∙ no_refusal_as line r spells);
-  behind = place_from-more at.Start lines line ∙ ap (λ p. place_behind p (kind_in line) line) so_far.behind
-      ∙ place_spelled place line r spells;
+  fine = none_refused-more max lines line so_far.fine
+      (refused_at max lines line place is_line room so_far.behind
+      ∙ refusal_of_fields place line (record_kind r) (spelled_kind line r spells) may ∙ no_refusal_as line r spells);
+  behind = place_more lines line r place so_far.behind spells;
 }
 
 fine_all : (max : ℕ) (front : List (List ℕ)) (place : Place) (lines : List (List ℕ)) (records : List Record) (to : Place) →
@@ -271,9 +219,9 @@ fine_all max front place (line ∷ lines) (r ∷ records) to so_far are_lines ro
 
 -- none of the lines of an extract is refused
 pub spelled_fine : (max : ℕ) (lines : List (List ℕ)) (x : ExtractParts) → length lines ≤ max → All IsLine lines → SpellExtract lines x →
-    NoneRefused rules max lines
+    NoneRefused max lines
 spelled_fine max lines x room are_lines s =
-    let all = fine_all max [] at.Start lines s.records at.Ended (record { fine = none_refused-none rules max; behind = refl }) are_lines
+    let all = fine_all max [] at.Start lines s.records at.Ended (record { fine = none_refused-none max; behind = refl }) are_lines
     (let z : 0 + length lines ≤ max = omega (arith, room) in z)
     s.spelled (stand_extract s.records x s.are) in
     all.fine

@@ -1,23 +1,19 @@
 -- What the lines so far have come to, line by line.
 use Rattle.std.proofs.Common.{◌≡◌, ◌≢◌, ℕ, ◌<◌, Bool, true, false, List, [], ◌∷◌, ◌++◌, length, Option, Some, None, Result, Ok, Err}
 use Rattle.std.proofs.Common.{refl, sym}
-use Rattle.std.proofs.Common.{ap, ◌∙◌, subst, is_some, cond, codes, IfSome, IfErr, IfOk, inr, ⊎_elim, ◌+◌}
+use Rattle.std.proofs.Common.{ap, ◌∙◌, subst, is_some, cond, IfSome, IfErr, IfOk, inr, ⊎_elim, ◌+◌}
 use Rattle.std.proofs.lemmas.List.Elements.{All-cons, All-nil, All-append}
 use Rattle.std.specs.Prelude.{All}
-use Rattle.std.specs.Str.{bytes_eq}
 use Rattle.cif_columns.specs.GivenLines.{AreAllLines}
 use Rattle.cif_columns.specs.Line.{IsLine}
-use Rattle.cif_columns.specs.Stp.{letter}
 use Rattle.cif_columns.specs.declared.refusal.Refusal.{Refusal}
 use Rattle.cif_columns.specs.declared.refusal.Refusal.TheVariants as refusal
-use Rattle.cif_columns.specs.declared.stp.Stp.{Stp}
-use Rattle.cif_columns.specs.declared.stp.Stp.TheVariants.{C, N, O, P}
 use Rattle.cif_columns.proofs.GivenLinesLaws.{known_so}
-use Rattle.cif_columns.proofs.Parts.{stands-back}
 use Rattle.cif_extract.specs.ExtractParts.{ExtractParts, extract_parts}
-use Rattle.cif_extract.specs.FirstRefusal.{NoneRefused, IsFirstRefusal, kind_refusal, refusal_of}
+use Rattle.cif_extract.specs.FirstRefusal.{NoneRefused, IsFirstRefusal, refusal_of}
 use Rattle.cif_extract.specs.Grammar.{AreExtract}
-use Rattle.cif_extract.specs.OrderOfRecords.{cancels, may_stand, place_after, place_behind, place_from, rules}
+use Rattle.cif_extract.specs.OrderOfRecords.{record_before}
+use Rattle.cif_extract.specs.Place.{may_stand}
 use Rattle.cif_extract.specs.ReadFault.{IsOfReading, IsReadFault}
 use Rattle.cif_extract.specs.Reading.{HasRead, HasReadAt, IsHeld, IsTaken, IsUnfinished, Progress, begun, no_progress}
 use Rattle.cif_extract.specs.Reading.{parts_with_header, refusal_here, step}
@@ -30,10 +26,8 @@ use Rattle.cif_extract.specs.declared.place.Place.{Place}
 use Rattle.cif_extract.specs.declared.place.Place.TheVariants as at
 use Rattle.cif_extract.specs.declared.stop_at.StopAt.{StopAt}
 use Rattle.cif_extract.specs.declared.stop_at.StopAt.TheVariants as stop
-use Rattle.cif_records.specs.Basic.{basic_back, basic_front}
 use Rattle.cif_records.specs.Bodies.{has_body}
 use Rattle.cif_records.specs.Checks.{first_of, unless}
-use Rattle.cif_records.specs.Detail.{detail_rows}
 use Rattle.cif_records.specs.Kind.{kind_in}
 use Rattle.cif_records.specs.Record.{refusal_as}
 use Rattle.cif_records.specs.SpellsRecord.{SpellsRecord}
@@ -44,8 +38,9 @@ use Rattle.cif_records.specs.declared.kind.Kind.{Kind}
 use Rattle.cif_records.specs.declared.kind.Kind.TheVariants.{Zz}
 use Rattle.cif_records.specs.declared.record.Record.{Record}
 use Rattle.cif_records.specs.declared.record.Record.TheVariants as of
-use Rattle.cif_extract.proofs.FirstRefusals.{line_refusal, none_refused-more, none_refused-none}
+use Rattle.cif_extract.proofs.FirstRefusals.{none_refused-more, none_refused-none}
 use Rattle.cif_extract.proofs.JourneySteps.{has_read_more}
+use Rattle.cif_extract.proofs.Places.{place_after, place_more, place_past, refused_at}
 use Rattle.cif_records.proofs.Records.{kind_of as record_kind, kind_there as spelled_kind}
 
 -- no trailer
@@ -57,8 +52,8 @@ pub record HasCome (max : ℕ) (lines : List (List ℕ)) (p : Progress) : Type 0
   pub records : List Record
   pub spelled : SpellAll lines records
   pub read : HasRead records p
-  pub fine : NoneRefused rules max lines
-  pub place : place_from at.Start lines ≡ p.place
+  pub fine : NoneRefused max lines
+  pub place : place_after (record_before lines) ≡ p.place
   pub no_trailer : (p.place ≡ at.Ended → ⊥) → All IsNoTrailer lines
 
 pub come_none : (max : ℕ) → HasCome max [] no_progress
@@ -66,7 +61,7 @@ come_none max = record {
   records = [];
   spelled = tt;
   read = record { none = refl; tiplocs = refl; associations = refl; schedules = refl };
-  fine = none_refused-none rules max;
+  fine = none_refused-none max;
   place = refl;
   no_trailer = λ going. All-nil IsNoTrailer;
 }
@@ -78,44 +73,24 @@ spell_more [] (x ∷ records) line r all one = absurd all
 spell_more (l ∷ lines) [] line r all one = absurd all
 spell_more (l ∷ lines) (x ∷ records) line r all one = (all.0, spell_more lines records line r all.1 one)
 
-pub place_from-more : (place : Place) (lines : List (List ℕ)) (line : List ℕ) →
-    place_from place (lines ++ (line ∷ [])) ≡ place_behind (place_from place lines) (kind_in line) line
-place_from-more place [] line = refl
-place_from-more place (l ∷ lines) line = place_from-more (place_behind place (kind_in l) l) lines line
-
 -- the place after a BS
-place_begun : (p : Progress) (b : Basic) (l : Stp) → l ≡ b.letter → (d : Option Detail) (e : is_some d ≡ has_body b.letter) →
-    cond (bytes_eq (letter l ∷ []) (codes "C")) at.Cancelled at.Basic ≡ (begun p b d e).place
-place_begun p b C is None e = refl
-place_begun p b C is (Some d) e = let none : true ≡ false = e ∙ ap has_body (sym is) in cc
-place_begun p b N is None e = let some : false ≡ true = e ∙ ap has_body (sym is) in cc
-place_begun p b N is (Some d) e = refl
-place_begun p b O is None e = let some : false ≡ true = e ∙ ap has_body (sym is) in cc
-place_begun p b O is (Some d) e = refl
-place_begun p b P is None e = let some : false ≡ true = e ∙ ap has_body (sym is) in cc
-place_begun p b P is (Some d) e = refl
+place_begun : (p : Progress) (b : Basic) (d : Option Detail) (e : is_some d ≡ has_body b.letter) →
+    cond (has_body b.letter) at.Basic at.Cancelled ≡ (begun p b d e).place
+place_begun p b None e = ap (λ runs. cond runs at.Basic at.Cancelled) (sym e)
+place_begun p b (Some d) e = ap (λ runs. cond runs at.Basic at.Cancelled) (sym e)
 
-place_basic : (p : Progress) (line : List ℕ) (b : Basic) → SpellsRecord line (of.Basic b) →
-    cond (cancels line) at.Cancelled at.Basic ≡ (step p (of.Basic b)).place
-place_basic p line b s =
-    let back = stands-back line (detail_rows b.detail) (basic_back b.letter)
-    (stands-back line (basic_front b.uid b.first b.last b.days) (detail_rows b.detail ++ basic_back b.letter) s) in
-    ap (λ (columns : List ℕ). cond (bytes_eq columns (codes "C")) at.Cancelled at.Basic) back.1.0
-    ∙ place_begun p b b.letter refl b.detail b.bodied
-
--- the place after a record is the one after its line
-place_step : (p : Progress) (line : List ℕ) (r : Record) → SpellsRecord line r →
-    place_after p.place (record_kind r) (cancels line) ≡ (step p r).place
-place_step p line (of.Header x) s = refl
-place_step p line (of.Tiploc x) s = refl
-place_step p line (of.Association x) s = refl
-place_step p line (of.Basic x) s = place_basic p line x s
-place_step p line (of.Extra x) s = refl
-place_step p line (of.Origin x) s = refl
-place_step p line (of.Stop x) s = refl
-place_step p line (of.Change x) s = refl
-place_step p line (of.Terminus x) s = refl
-place_step p line of.Trailer s = refl
+-- the place after a record is the step's
+place_step : (p : Progress) (r : Record) → place_past p.place r ≡ (step p r).place
+place_step p (of.Header x) = refl
+place_step p (of.Tiploc x) = refl
+place_step p (of.Association x) = refl
+place_step p (of.Basic x) = place_begun p x x.detail x.bodied
+place_step p (of.Extra x) = refl
+place_step p (of.Origin x) = refl
+place_step p (of.Stop x) = refl
+place_step p (of.Change x) = refl
+place_step p (of.Terminus x) = refl
+place_step p of.Trailer = refl
 
 -- what isn't refused for its place may stand there
 allowed : (place : Place) (kind : Kind) (line : List ℕ) → refusal_here place (Some kind) line ≡ None → may_stand place kind ≡ true
@@ -144,14 +119,8 @@ ends_by_trailer p of.Trailer h e = h refl
 module _ (max : ℕ) (lines : List (List ℕ)) (line : List ℕ) (is_line : IsLine line) (room : length lines < max) (before : Progress)
     (so_far : HasCome max lines before) where
   -- why a line is refused here
-  pub refused_here : refusal_of rules max lines line ≡ refusal_here before.place (kind_in line) line
-  refused_here =
-      line_refusal rules max lines line is_line room ∙ by_kind (kind_in line)
-      ∙ ap (λ place. refusal_here place (kind_in line) line) so_far.place
-    where
-      by_kind : (k : Option Kind) → kind_refusal rules lines line k ≡ refusal_here (place_from at.Start lines) k line
-      by_kind None = refl
-      by_kind (Some kind) = refl
+  pub refused_here : refusal_of max lines line ≡ refusal_here before.place (kind_in line) line
+  refused_here = refused_at max lines line before.place is_line room so_far.place
 
   pub come_more : (after : Progress) → IsTaken (refusal_here before.place (kind_in line) line) line before (Ok tt) after →
       HasCome max (lines ++ (line ∷ [])) after
@@ -165,9 +134,8 @@ module _ (max : ℕ) (lines : List (List ℕ)) (line : List ℕ) (is_line : IsLi
         records = so_far.records ++ (r ∷ []);
         spelled = spell_more lines so_far.records line r so_far.spelled spells;
         read = has_read_more so_far.records before r keepable so_far.read may;
-        fine = none_refused-more rules max lines line so_far.fine (refused_here ∙ none);
-        place = place_from-more at.Start lines line ∙ ap (λ place. place_behind place (kind_in line) line) so_far.place
-            ∙ ap (λ k. place_behind before.place k line) kind ∙ place_step before line r spells;
+        fine = none_refused-more max lines line so_far.fine (refused_here ∙ none);
+        place = place_more lines line r before.place so_far.place spells ∙ place_step before r;
         no_trailer = λ going.
             let other = ends_by_trailer before r going in
             All-append IsNoTrailer lines (line ∷ []) (so_far.no_trailer (not_ended before r other may))
@@ -216,7 +184,7 @@ whole_result start max lines p (Err f) all so_far held = known_so start _ _ (λ 
 pub unfinished_result : (start after : Option (List ℕ)) (max : ℕ) (lines : List (List ℕ)) (p : Progress) (number : ℕ)
     (result : Result Extract Fault) → IfSome start (λ bytes. AreAllLines max bytes lines) → HasCome max lines p → number ≡ length lines →
     IfErr result (λ f. (f ≡ fault.Refused (number + 1) refusal.Truncated) × IsUnfinished p) →
-    IfSome start (λ bytes. IfErr result (IsReadFault rules max bytes after))
+    IfSome start (λ bytes. IfErr result (IsReadFault max bytes after))
 unfinished_result start after max lines p number (Ok extract) all so_far is err = known_so start _ _ (λ bytes a. tt) all
 unfinished_result start after max lines p number (Err f) all so_far is err =
     rw err.0 (known_so start _ _ (λ bytes a. inr (record {
@@ -228,8 +196,8 @@ unfinished_result start after max lines p number (Err f) all so_far is err =
 
 -- a stop at a line
 pub stop_result : (start after : Option (List ℕ)) (max number : ℕ) (s : StopAt) →
-    ((why : Refusal) → s ≡ stop.Refused why → IfSome start (λ bytes. IsFirstRefusal rules max bytes number why)) →
-    IfSome start (λ bytes. IsReadFault rules max bytes after (stop_fault number s))
+    ((why : Refusal) → s ≡ stop.Refused why → IfSome start (λ bytes. IsFirstRefusal max bytes number why)) →
+    IfSome start (λ bytes. IsReadFault max bytes after (stop_fault number s))
 stop_result start after max number (stop.Refused why) h = h why refl
 stop_result None after max number stop.Memory h = tt
 stop_result (Some bytes) after max number stop.Memory h = tt

@@ -9,7 +9,6 @@ use Rattle.cif_columns.specs.Line.{IsLine}
 use Rattle.cif_extract.specs.ExtractParts.{ExtractParts, extract_parts}
 use Rattle.cif_extract.specs.FirstRefusal.{IsFirstRefusal, IsTruncated}
 use Rattle.cif_extract.specs.Grammar.{records_before_trailer}
-use Rattle.cif_extract.specs.OrderOfRecords.{rules}
 use Rattle.cif_extract.specs.ReadFault.{IsReadAs, IsReadFault}
 use Rattle.cif_extract.specs.SpellsExtract.{BytesSpell, SpellAll, SpellExtract}
 use Rattle.cif_extract.specs.declared.extract.Extract.{Extract}
@@ -37,20 +36,20 @@ module _ (max : ℕ) (bytes : List ℕ) (x : ExtractParts) (spells : BytesSpell 
   contents_spell : SpellExtract (contents_of bytes) x
   contents_spell = subst (λ lines. SpellExtract lines x) (sym spells.all.contents) spells.spelled
 
-  pub spelled-refused : (number : ℕ) (why : Refusal) → IsFirstRefusal rules max bytes number why → ⊥
+  pub spelled-refused : (number : ℕ) (why : Refusal) → IsFirstRefusal max bytes number why → ⊥
   spelled-refused number why refused =
       let s = contents_spell in
       let room : length (contents_of bytes) ≤ max = subst (λ lines. length lines ≤ max) (sym spells.all.contents) spells.all.within in
       let are_lines = subst (All IsLine) (sym spells.all.contents) spells.all.are_lines in
       ⊎_elim
-      (λ r. fine-refused rules max (contents_of bytes) number why (spelled_fine max (contents_of bytes) x room are_lines s) r)
-      (λ (t : IsTruncated rules max (contents_of bytes) number why).
+      (λ r. fine-refused max (contents_of bytes) number why (spelled_fine max (contents_of bytes) x room are_lines s) r)
+      (λ (t : IsTruncated max (contents_of bytes) number why).
       no_last (contents_of bytes) (records_before_trailer x s.are.schedules)
       (subst (SpellAll (contents_of bytes)) s.are.parts s.spelled) t.no_trailer) refused
 
   -- what is answered, by what the answers say of the bytes
   pub read_as : (after : Option (List ℕ)) (result : Result Extract Fault) →
-      IfOk result (λ extract. BytesSpell max bytes (extract_parts extract)) → IfErr result (IsReadFault rules max bytes after) →
+      IfOk result (λ extract. BytesSpell max bytes (extract_parts extract)) → IfErr result (IsReadFault max bytes after) →
       IsReadAs x result
   read_as after (Ok extract) ok err =
       one_extract (contents_of bytes) (extract_parts extract) x
@@ -67,14 +66,14 @@ module _ (max : ℕ) (bytes : List ℕ) (x : ExtractParts) (spells : BytesSpell 
 -- the same of bytes that may be known
 pub only_read : (start : Option (List ℕ)) (max : ℕ) (after : Option (List ℕ)) (result : Result Extract Fault) →
     IfSome start (λ bytes. IfOk result (λ extract. BytesSpell max bytes (extract_parts extract))) →
-    IfSome start (λ bytes. IfErr result (IsReadFault rules max bytes after)) →
+    IfSome start (λ bytes. IfErr result (IsReadFault max bytes after)) →
     IfSome start (λ bytes. (x : ExtractParts) → BytesSpell max bytes x → IsReadAs x result)
 only_read None max after result ok err = tt
 only_read (Some bytes) max after result ok err = λ x spells. read_as max bytes x spells after result ok err
 
 pub only_fault : (start : Option (List ℕ)) (max : ℕ) (after : Option (List ℕ)) (result : Result Extract Fault) (f : Fault) →
     result ≡ Err f →
-    IfSome start (λ bytes. IfErr result (IsReadFault rules max bytes after)) →
+    IfSome start (λ bytes. IfErr result (IsReadFault max bytes after)) →
     IfSome start (λ bytes. (x : ExtractParts) → BytesSpell max bytes x → IsReadAs x result)
 only_fault None max after result f is err = tt
 only_fault (Some bytes) max after result f is err = λ x spells. read_as max bytes x spells after result (rw is tt) err

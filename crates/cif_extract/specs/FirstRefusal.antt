@@ -1,5 +1,5 @@
 -- The first refused line of an input, and its reason.
-use Rattle.std.specs.Prelude.{◌≡◌, ◌≢◌, ◌⊎◌, ℕ, ◌+◌, ◌<◌, ◌==◌, nat_lt, Bool, List, [], ◌∷◌, ◌++◌, length, All, take, slice_index_or}
+use Rattle.std.specs.Prelude.{◌≡◌, ◌≢◌, ◌⊎◌, ℕ, ◌+◌, ◌<◌, ◌==◌, nat_lt, List, [], ◌∷◌, ◌++◌, length, All, take, slice_index_or}
 use Rattle.std.specs.Prelude.{Option, None, Some}
 use Rattle.std.specs.List.{list_all}
 use Rattle.cif_columns.specs.Contents.{contents_of}
@@ -7,66 +7,57 @@ use Rattle.cif_columns.specs.GivenLines.{AreLinesToFailure}
 use Rattle.cif_columns.specs.FirstLine.{is_printable}
 use Rattle.cif_columns.specs.declared.refusal.Refusal.{Refusal}
 use Rattle.cif_columns.specs.declared.refusal.Refusal.TheVariants.{BadLength, BadByte, UnknownRecord, OutOfOrder, Truncated, TooManyLines}
+use Rattle.cif_extract.specs.OrderOfRecords.{RecordBefore, may_follow, record_before}
 use Rattle.cif_records.specs.Checks.{first_of, unless}
 use Rattle.cif_records.specs.Kind.{kind_in}
+use Rattle.cif_records.specs.Record.{record_refusal}
 use Rattle.cif_records.specs.declared.kind.Kind.{Kind}
 use Rattle.cif_records.specs.declared.kind.Kind.TheVariants.{Zz}
 
--- The rules for a line where it stands: whether its kind is known, whether that may follow the lines before, and the first
--- reason to refuse its fields.
-pub record LineRules : Type 0 where
-  pub is_known : Kind → Bool
-  pub may_follow : List (List ℕ) → Kind → Bool
-  pub fields_refusal : Kind → List ℕ → Option Refusal
-
--- the reasons of a line whose columns 1 and 2 name this kind, or none
-abbrev pub kind_refusal : LineRules → List (List ℕ) → List ℕ → Option Kind → Option Refusal
-kind_refusal rules before line None = Some UnknownRecord
-kind_refusal rules before line (Some kind) = first_of (
-    unless (rules.is_known kind) UnknownRecord
-    ∷ unless (rules.may_follow before kind) OutOfOrder
-    ∷ rules.fields_refusal kind line
-    ∷ [])
+-- why a line whose columns 1 and 2 name this kind, or none, may not come after this record
+abbrev pub order_refusal : RecordBefore → Option Kind → Option Refusal
+order_refusal before None = Some UnknownRecord
+order_refusal before (Some kind) = unless (may_follow before kind) OutOfOrder
 
 -- The first reason to refuse a content that comes after these, where max lines may come: it is one too many, it isn't eighty
--- bytes, one of them may stand in no line, its kind isn't known or may not stand here, or a field of it is refused.
-unfoldable pub refusal_of : LineRules → ℕ → List (List ℕ) → List ℕ → Option Refusal
-refusal_of rules max before content = first_of (
+-- bytes, one of them may stand in no line, its kind isn't known or may not follow, or a field of it is refused.
+unfoldable pub refusal_of : ℕ → List (List ℕ) → List ℕ → Option Refusal
+refusal_of max before content = first_of (
     unless (nat_lt (length before) max) TooManyLines
     ∷ unless (length content == 80) BadLength
     ∷ unless (list_all is_printable content) BadByte
-    ∷ kind_refusal rules before content (kind_in content)
+    ∷ order_refusal (record_before before) (kind_in content)
+    ∷ record_refusal content
     ∷ [])
 
 -- there is no reason to refuse any of these contents, each after those before it
-pub record NoneRefused (rules : LineRules) (max : ℕ) (contents : List (List ℕ)) : Type 0 where
-  pub fine : (k : ℕ) → k < length contents → refusal_of rules max (take k contents) (slice_index_or contents k []) ≡ None
+pub record NoneRefused (max : ℕ) (contents : List (List ℕ)) : Type 0 where
+  pub fine : (k : ℕ) → k < length contents → refusal_of max (take k contents) (slice_index_or contents k []) ≡ None
 
 -- The content of this number, counted from 1, is the first of the contents that is refused, and why is its first reason.
-pub record IsRefusedLine (rules : LineRules) (max : ℕ) (contents : List (List ℕ)) (number : ℕ) (why : Refusal) : Type 0 where
+pub record IsRefusedLine (max : ℕ) (contents : List (List ℕ)) (number : ℕ) (why : Refusal) : Type 0 where
   pub before : List (List ℕ)
   pub content : List ℕ
   pub after : List (List ℕ)
   pub parts : contents ≡ before ++ content ∷ after
-  pub fine : NoneRefused rules max before
+  pub fine : NoneRefused max before
   pub numbered : number ≡ length before + 1
-  pub reason : refusal_of rules max before content ≡ Some why
+  pub reason : refusal_of max before content ≡ Some why
 
 -- No content is refused and none is a trailer: the line after the last is missing.
-pub record IsTruncated (rules : LineRules) (max : ℕ) (contents : List (List ℕ)) (number : ℕ) (why : Refusal) : Type 0 where
-  pub fine : NoneRefused rules max contents
+pub record IsTruncated (max : ℕ) (contents : List (List ℕ)) (number : ℕ) (why : Refusal) : Type 0 where
+  pub fine : NoneRefused max contents
   pub no_trailer : All (λ content. kind_in content ≢ Some Zz) contents
   pub numbered : number ≡ length contents + 1
   pub reason : why ≡ Truncated
 
 -- the first refused line of an input, and its reason
-abbrev pub IsFirstRefusal : LineRules → ℕ → List ℕ → ℕ → Refusal → Type 0
-IsFirstRefusal rules max bytes number why =
-    IsRefusedLine rules max (contents_of bytes) number why ⊎ IsTruncated rules max (contents_of bytes) number why
+abbrev pub IsFirstRefusal : ℕ → List ℕ → ℕ → Refusal → Type 0
+IsFirstRefusal max bytes number why = IsRefusedLine max (contents_of bytes) number why ⊎ IsTruncated max (contents_of bytes) number why
 
 -- A source failed before a refused line was decided: of these bytes it gave all but those unread. What it gave are whole lines,
 -- none of them refused, and then pending bytes, which decide no line.
-pub record IsCutBeforeRefusal (rules : LineRules) (max : ℕ) (bytes unread : List ℕ) : Type 0 where
+pub record IsCutBeforeRefusal (max : ℕ) (bytes unread : List ℕ) : Type 0 where
   pub lines : List (List ℕ)
   pub given : AreLinesToFailure max bytes unread lines
-  pub fine : NoneRefused rules max lines
+  pub fine : NoneRefused max lines

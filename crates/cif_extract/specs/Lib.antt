@@ -7,6 +7,7 @@ pub mod FirstRefusal
 pub mod Grammar
 pub mod OrderOfRecords
 pub mod PartsEq
+pub mod Place
 pub mod ReadFault
 pub mod Reading
 pub mod SameBody

@@ -1,84 +1,76 @@
--- Which kind of record may stand where, and with that which line of an extract is refused first. That this is the order of the
+-- Which kind of record may follow which: the table of docs/FORMAT.md, "Order of records", row by row. That it is the order of the
 -- grammar, no less and no more, are laws (proofs/OrderLaws and proofs/GoesOn).
-use Rattle.std.specs.Prelude.{ℕ, Bool, true, false, cond, List, [], ◌∷◌, Option, None, Some, codes}
+use Rattle.std.specs.Prelude.{ℕ, Bool, List, [], ◌∷◌, Option, None, Some, codes, if◌then◌else◌}
+use Rattle.std.specs.List.{fold, list_any}
 use Rattle.std.specs.Str.{bytes_eq}
 use Rattle.cif_columns.specs.Field.{columns}
-use Rattle.cif_extract.specs.FirstRefusal.{LineRules}
-use Rattle.cif_extract.specs.declared.place.Place.{Place}
-use Rattle.cif_extract.specs.declared.place.Place.TheVariants.{Start, Tiplocs, Associations, Basic, Extra, Cancelled, CancelledExtra}
-use Rattle.cif_extract.specs.declared.place.Place.TheVariants.{Journey, Schedules, Ended}
-use Rattle.cif_records.specs.Kind.{kind_in}
-use Rattle.cif_records.specs.Record.{refusal_as}
+use Rattle.cif_records.specs.Kind.{identity, is_identity, kind_in}
 use Rattle.cif_records.specs.declared.kind.Kind.{Kind}
 use Rattle.cif_records.specs.declared.kind.Kind.TheVariants.{Hd, Ti, Ta, Td, Aa, Bs, Bx, Lo, Li, Cr, Lt, Zz}
 
--- What may stand where. Amended and deleted locations may stand where locations may, and are refused as such.
-abbrev pub may_stand : Place → Kind → Bool
-may_stand Start Hd = true
-may_stand Tiplocs Ti = true
-may_stand Tiplocs Ta = true
-may_stand Tiplocs Td = true
-may_stand Tiplocs Aa = true
-may_stand Tiplocs Bs = true
-may_stand Tiplocs Zz = true
-may_stand Associations Aa = true
-may_stand Associations Bs = true
-may_stand Associations Zz = true
-may_stand Basic Bx = true
-may_stand Basic Lo = true
-may_stand Extra Lo = true
-may_stand Cancelled Bx = true
-may_stand Cancelled Lo = true
-may_stand Cancelled Bs = true
-may_stand Cancelled Zz = true
-may_stand CancelledExtra Lo = true
-may_stand CancelledExtra Bs = true
-may_stand CancelledExtra Zz = true
-may_stand Journey Li = true
-may_stand Journey Cr = true
-may_stand Journey Lt = true
-may_stand Schedules Bs = true
-may_stand Schedules Zz = true
-may_stand _ _ = false
+-- What stands before a line: nothing at the start of the input, or a record. It counts by its kind, a BS also by its letter (C
+-- cancels, and by another the schedule runs), and a BX by that of its BS.
+pub data RecordBefore : Type 0 where
+  start : RecordBefore
+  hd : RecordBefore
+  ti : RecordBefore
+  aa : RecordBefore
+  running_bs : RecordBefore
+  running_bx : RecordBefore
+  cancelling_bs : RecordBefore
+  cancelling_bx : RecordBefore
+  lo : RecordBefore
+  li : RecordBefore
+  cr : RecordBefore
+  lt : RecordBefore
+  zz : RecordBefore
 
--- the place after a BX, which is its schedule's
-abbrev pub after_extra : Place → Place
-after_extra Cancelled = CancelledExtra
-after_extra _ = Extra
+-- the table: the kinds that may follow; TA and TD may where TI may, and are refused for what they are
+abbrev pub followers : RecordBefore → List Kind
+followers start = Hd ∷ []
+followers hd = Ti ∷ Ta ∷ Td ∷ Aa ∷ Bs ∷ Zz ∷ []
+followers ti = Ti ∷ Ta ∷ Td ∷ Aa ∷ Bs ∷ Zz ∷ []
+followers aa = Aa ∷ Bs ∷ Zz ∷ []
+followers running_bs = Bx ∷ Lo ∷ []
+followers running_bx = Lo ∷ []
+followers cancelling_bs = Bx ∷ Lo ∷ Bs ∷ Zz ∷ []
+followers cancelling_bx = Lo ∷ Bs ∷ Zz ∷ []
+followers lo = Li ∷ Cr ∷ Lt ∷ []
+followers li = Li ∷ Cr ∷ Lt ∷ []
+followers cr = Li ∷ Cr ∷ Lt ∷ []
+followers lt = Bs ∷ Zz ∷ []
+followers zz = []
 
--- the place after a record of this kind, which may be the BS of a cancellation
-abbrev pub place_after : Place → Kind → Bool → Place
-place_after place Hd cancels = Tiplocs
-place_after place Ti cancels = Tiplocs
-place_after place Ta cancels = Tiplocs
-place_after place Td cancels = Tiplocs
-place_after place Aa cancels = Associations
-place_after place Bs cancels = cond cancels Cancelled Basic
-place_after place Bx cancels = after_extra place
-place_after place Lo cancels = Journey
-place_after place Li cancels = Journey
-place_after place Cr cancels = Journey
-place_after place Lt cancels = Schedules
-place_after place Zz cancels = Ended
+-- whether a record of this kind may follow
+abbrev pub may_follow : RecordBefore → Kind → Bool
+may_follow before kind = list_any (is_identity (identity kind)) (followers before)
 
 -- column 80 is the letter of a cancellation
 abbrev pub cancels : List ℕ → Bool
 cancels line = bytes_eq (columns 80 80 line) (codes "C")
 
--- the place after a line; one of no kind is refused, so that nothing comes after it
-abbrev pub place_behind : Place → Option Kind → List ℕ → Place
-place_behind place None line = place
-place_behind place (Some kind) line = place_after place kind (cancels line)
+-- what a BX after this BS is before the next line
+abbrev pub bx_of : RecordBefore → RecordBefore
+bx_of cancelling_bs = cancelling_bx
+bx_of _ = running_bx
 
--- the place after lines, from this one
-abbrev pub place_from : Place → List (List ℕ) → Place
-place_from place [] = place
-place_from place (line ∷ lines) = place_from (place_behind place (kind_in line) line) lines
+-- What stands before the next line, where this one is of this kind and comes after `earlier`. TA, TD and a line of no kind are
+-- refused, so that no line is judged by what they leave.
+abbrev pub as_before : RecordBefore → Option Kind → List ℕ → RecordBefore
+as_before earlier None line = earlier
+as_before earlier (Some Hd) line = hd
+as_before earlier (Some Ti) line = ti
+as_before earlier (Some Ta) line = ti
+as_before earlier (Some Td) line = ti
+as_before earlier (Some Aa) line = aa
+as_before earlier (Some Bs) line = if cancels line then cancelling_bs else running_bs
+as_before earlier (Some Bx) line = bx_of earlier
+as_before earlier (Some Lo) line = lo
+as_before earlier (Some Li) line = li
+as_before earlier (Some Cr) line = cr
+as_before earlier (Some Lt) line = lt
+as_before earlier (Some Zz) line = zz
 
--- the rules for the lines of an extract
-abbrev pub rules : LineRules
-rules = record {
-  is_known = λ kind. true;
-  may_follow = λ before kind. may_stand (place_from Start before) kind;
-  fields_refusal = λ kind line. refusal_as (Some kind) line;
-}
+-- what stands before a line that comes after these
+abbrev pub record_before : List (List ℕ) → RecordBefore
+record_before lines = fold (λ earlier line. as_before earlier (kind_in line) line) start lines

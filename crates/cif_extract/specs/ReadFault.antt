@@ -3,18 +3,18 @@ use Rattle.std.specs.Prelude.{◌≡◌, ℕ, List, Option, IsSomeAnd, Result, O
 use Rattle.cif_columns.specs.Source.{HasFailedToRead, HasReadOn}
 use Rattle.cif_columns.specs.declared.source.Source.{Source}
 use Rattle.cif_extract.specs.ExtractParts.{ExtractParts, extract_parts}
-use Rattle.cif_extract.specs.FirstRefusal.{LineRules, IsFirstRefusal, IsCutBeforeRefusal}
+use Rattle.cif_extract.specs.FirstRefusal.{IsFirstRefusal, IsCutBeforeRefusal}
 use Rattle.cif_extract.specs.declared.extract.Extract.{Extract}
 use Rattle.cif_extract.specs.declared.fault.Fault.{Fault}
 use Rattle.cif_extract.specs.declared.fault.Fault.TheVariants.{Refused, Read, Memory}
 
--- Why these bytes are no extract by these rules, or can't be read, where `after` is what the reader has left then: their first
--- refusal, or a failure of the source before a refused line was decided. No contract foretells a want of memory.
-abbrev pub IsReadFault : LineRules → ℕ → List ℕ → Option (List ℕ) → Fault → Type 0
-IsReadFault rules max bytes after (Refused line why) = IsFirstRefusal rules max bytes line why
-IsReadFault rules max bytes after Read = IsSomeAnd after (IsCutBeforeRefusal rules max bytes)
-IsReadFault rules max bytes after Memory = Unit {0}
-IsReadFault rules max bytes after _ = ⊥
+-- Why these bytes are no extract, or can't be read, where `after` is what the reader has left then: their first refusal, or a
+-- failure of the source before a refused line was decided. No contract foretells a want of memory.
+abbrev pub IsReadFault : ℕ → List ℕ → Option (List ℕ) → Fault → Type 0
+IsReadFault max bytes after (Refused line why) = IsFirstRefusal max bytes line why
+IsReadFault max bytes after Read = IsSomeAnd after (IsCutBeforeRefusal max bytes)
+IsReadFault max bytes after Memory = Unit {0}
+IsReadFault max bytes after _ = ⊥
 
 -- the faults of reading, over whatever source
 abbrev pub IsOfReading : Fault → Type 0

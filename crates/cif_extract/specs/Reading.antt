@@ -2,13 +2,13 @@
 use Rattle.std.specs.Prelude.{◌≡◌, ◌⊎◌, ℕ, List, [], ◌∷◌, ◌++◌, Option, None, Some, Result, Ok, Err, IfSome, is_some, map, true, false}
 use Rattle.cif_columns.specs.Field.{AllStandIn, plain_line}
 use Rattle.cif_columns.specs.declared.refusal.Refusal.{Refusal}
-use Rattle.cif_columns.specs.declared.refusal.Refusal.TheVariants.{UnknownRecord, OutOfOrder}
 use Rattle.cif_extract.specs.Body.{KeepAll, kept_tables, parts_in}
 use Rattle.cif_extract.specs.BodyParts.{BodyParts, extra_records}
 use Rattle.cif_extract.specs.Call.{call_record}
 use Rattle.cif_extract.specs.ExtractParts.{ExtractParts}
+use Rattle.cif_extract.specs.FirstRefusal.{order_refusal}
 use Rattle.cif_extract.specs.Grammar.{AreExtract, AreSchedules, HasTerms, records_before_trailer}
-use Rattle.cif_extract.specs.OrderOfRecords.{after_extra, may_stand}
+use Rattle.cif_extract.specs.Place.{after_extra, record_at}
 use Rattle.cif_extract.specs.declared.call.Call.{Call}
 use Rattle.cif_extract.specs.declared.opened.Opened.{Opened}
 use Rattle.cif_extract.specs.declared.place.Place.{Place}
@@ -18,7 +18,7 @@ use Rattle.cif_extract.specs.declared.schedule.Schedule.{Schedule}
 use Rattle.cif_extract.specs.declared.stop_at.StopAt.{StopAt}
 use Rattle.cif_extract.specs.declared.stop_at.StopAt.TheVariants as stop
 use Rattle.cif_records.specs.Bodies.{has_body}
-use Rattle.cif_records.specs.Checks.{first_of, unless}
+use Rattle.cif_records.specs.Checks.{first_of}
 use Rattle.cif_records.specs.Detail.{detail_table}
 use Rattle.cif_records.specs.Record.{refusal_as}
 use Rattle.cif_records.specs.SpellsRecord.{SpellsRecord, record_table}
@@ -144,8 +144,7 @@ step p of.Trailer = record p { place = at.Ended }
 
 -- the first reason to refuse a line that stands here
 abbrev pub refusal_here : Place → Option Kind → List ℕ → Option Refusal
-refusal_here place None line = Some UnknownRecord
-refusal_here place (Some kind) line = first_of (unless (may_stand place kind) OutOfOrder ∷ refusal_as (Some kind) line ∷ [])
+refusal_here place kind line = first_of (order_refusal (record_at place) kind ∷ refusal_as kind line ∷ [])
 
 -- the plain line that is kept of a record, or of its detail, spells it again
 abbrev pub IsKeepable : Record → Type 0

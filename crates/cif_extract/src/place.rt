@@ -1,10 +1,11 @@
 //! Where a record may stand.
 ghost use Rattle.std.specs.Prelude.{◌≡◌};
-ghost use Rattle.cif_extract.specs.OrderOfRecords.{after_extra, may_stand};
+ghost use Rattle.cif_extract.specs.Place.{after_extra, may_stand};
 
 use cif_records::Kind;
 
-/// A place in an extract, by the record before it.
+/// A place in an extract, by the record before it. Records that the same kinds may follow have one
+/// place.
 #[derive(Clone, Copy)]
 pub(crate) enum Place {
     /// The start of the input.

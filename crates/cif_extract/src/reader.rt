@@ -3,7 +3,6 @@ ghost use Rattle.std.specs.Prelude.{◌≡◌, ◌≤◌, false, IfErr, IfOk, If
 ghost use Rattle.cif_columns.specs.Source.{reader_of, source_failed};
 ghost use Rattle.cif_columns.specs.declared.line_reader.TheConstants.{MAX_LINES};
 ghost use Rattle.cif_extract.specs.ExtractParts.{ExtractParts, extract_parts};
-ghost use Rattle.cif_extract.specs.OrderOfRecords.{rules};
 ghost use Rattle.cif_extract.specs.ReadFault.{ExtractReads, IsOfReading, IsReadAs, IsReadFault};
 ghost use Rattle.cif_extract.specs.SpellsExtract.{BytesSpell};
 
@@ -28,7 +27,7 @@ pub fn read_extract<R: ReadDevice>(
     ensures only { IfSome (R.remaining (reader_of source.old)) (λ bytes. (x : ExtractParts)
         → BytesSpell max_lines bytes x → IsReadAs x result) }
     ensures fault { IfSome (R.remaining (reader_of source.old)) (λ bytes. IfErr result
-        (IsReadFault rules max_lines bytes (R.remaining (reader_of source.new)))) }
+        (IsReadFault max_lines bytes (R.remaining (reader_of source.new)))) }
     ensures answers { IfErr result IsOfReading }
     ensures endless { IfOk result (λ _. source_failed source.old ≡ false) }
     ensures device { ExtractReads R.read_errors source.old source.new result }

@@ -11,7 +11,7 @@ use Rattle.cif_columns.specs.Line.{IsLine}
 use Rattle.cif_columns.specs.Contents.{contents_of}
 use Rattle.cif_columns.specs.declared.refusal.Refusal.{Refusal}
 use Rattle.cif_calendar.specs.Keys.{AreClear, IsFirstClashOf}
-use Rattle.cif_extract.specs.FirstRefusal.{NoneRefused, IsTruncated, IsFirstRefusal}
+use Rattle.cif_tool.specs.FirstRefusal.{NoneRefused, IsTruncated, IsFirstRefusal}
 use Rattle.cif_extract.specs.declared.clash.Clash.TheVariants.{Association as OfAssociation, Train}
 use Rattle.cif_extract.specs.declared.fault.Fault.{Fault}
 use Rattle.cif_extract.specs.declared.fault.Fault.TheVariants.{Refused, Ambiguous, WindowsDiffer, OutsideWindow, WindowReversed, Read}
@@ -27,26 +27,26 @@ use Rattle.cif_records.specs.declared.kind.Kind.TheVariants.{Hd, Aa, Zz}
 use Rattle.cif_records.proofs.Associations.{one_association, no_refusal}
 use Rattle.cif_records.proofs.Headers.{one_header, no_refusal as no_header_refusal}
 use Rattle.cif_records.proofs.Identities.{only_kind}
-use Rattle.cif_tool.specs.AssociationRules.{Place, start, inside, place_from, place_after, rules}
+use Rattle.cif_tool.specs.AssociationRules.{Place, start, inside, place_from, place_after}
 use Rattle.cif_tool.specs.Normalised.{entries_of, IsNormaliseFault, BlamesNoAccepted}
 use Rattle.cif_tool.specs.Reading.{IsReadFault}
 use Rattle.cif_tool.specs.Role.{role_of, judged}
 use Rattle.cif_tool.specs.SpellsExtract.{AllSpell, SpellsExtract, SpellBytes}
-use Rattle.cif_extract.proofs.FirstRefusals.{fine-refused, none_refused-more, none_refused-none}
+use Rattle.cif_tool.proofs.FirstRefusals.{fine-refused, none_refused-more, none_refused-none}
 use Rattle.cif_tool.proofs.Refusing.{refusal_is_judged, place_from-more}
 
 -- a line of this kind that isn't refused where it stands
 next_fine : (max : ℕ) (lines : List (List ℕ)) (line : List ℕ) (kind : Kind) (place : Place) → IsLine line → length lines < max →
     kind_in line ≡ Some kind → place_from start lines ≡ place → judged place (role_of (Some kind)) line ≡ None →
-    NoneRefused rules max lines → NoneRefused rules max (lines ++ line ∷ [])
+    NoneRefused max lines → NoneRefused max (lines ++ line ∷ [])
 next_fine max lines line kind place is_line room is_kind at fine none =
-    none_refused-more rules max lines line none
+    none_refused-more max lines line none
     (refusal_is_judged max lines line is_line room ∙ ap (λ p. judged p (role_of (kind_in line)) line) at
     ∙ ap (λ k. judged place (role_of k) line) is_kind ∙ fine)
 
 -- lines of which none is refused, and which a trailer hasn't ended
 record IsOpen (max : ℕ) (lines : List (List ℕ)) : Type 0 where
-  fine : NoneRefused rules max lines
+  fine : NoneRefused max lines
   place : place_from start lines ≡ inside
 
 with_associations : (max : ℕ) (front middle : List (List ℕ)) (associations : List Association) → length front + length middle ≤ max →
@@ -75,7 +75,7 @@ All-front Q xs ys h = λ k d lt.
 -- none of the lines of an extract is refused
 spelled_fine : (max : ℕ) (lines : List (List ℕ)) (header : Header) (associations : List Association) → length lines ≤ max →
     All IsLine lines →
-    SpellsExtract lines header associations → NoneRefused rules max lines
+    SpellsExtract lines header associations → NoneRefused max lines
 spelled_fine max lines header associations room are_lines s =
     let at = subst (All IsLine) s.parts are_lines in
     let few : length ((s.head ∷ s.middle) ++ s.last ∷ []) ≤ max = subst (λ ls. length ls ≤ max) s.parts room in
@@ -85,13 +85,13 @@ spelled_fine max lines header associations room are_lines s =
       fine = next_fine max [] s.head Hd start
           (at 0 s.head (let z : 0 < length ((s.head ∷ s.middle) ++ s.last ∷ []) = omega (arith, long) in z))
           (let z : 0 < max = omega (arith, few, long) in z) head_kind refl (no_header_refusal s.head header s.first)
-          (none_refused-none rules max);
+          (none_refused-none max);
       place = ap place_after head_kind;
     } in
     let before = with_associations max (s.head ∷ []) s.middle associations (let z : 1 + length s.middle ≤ max = omega (arith, few, long) in
     z)
     (All-tail IsLine s.head s.middle (All-front IsLine (s.head ∷ s.middle) (s.last ∷ []) at)) s.between opened in
-    subst (NoneRefused rules max) (sym s.parts)
+    subst (NoneRefused max) (sym s.parts)
     (next_fine max (s.head ∷ s.middle) s.last Zz inside (All-last s.head s.middle s.last at)
     (let z : length (s.head ∷ s.middle) < max = omega (arith, few, long) in z)
     (only_kind (columns 1 2 s.last) Zz s.trailer.0) before.place refl before.fine)
@@ -105,7 +105,7 @@ spelled_fine max lines header associations room are_lines s =
 
 -- and an extract is whole
 spelled-truncated : (max : ℕ) (lines : List (List ℕ)) (header : Header) (associations : List Association) (number : ℕ) (why : Refusal) →
-    SpellsExtract lines header associations → IsTruncated rules max lines number why → ⊥
+    SpellsExtract lines header associations → IsTruncated max lines number why → ⊥
 spelled-truncated max lines header associations number why s t =
     let all = subst (All (λ content. kind_in content ≡ Some Zz → ⊥)) s.parts t.no_trailer in
     let long = length-append (s.head ∷ s.middle) (s.last ∷ []) in
@@ -115,13 +115,13 @@ spelled-truncated max lines header associations number why s t =
 
 -- bytes that spell an extract have no refused line
 pub spelled-refused : (max : ℕ) (bytes : List ℕ) (header : Header) (associations : List Association) (number : ℕ) (why : Refusal) →
-    SpellBytes max bytes header associations → IsFirstRefusal rules max bytes number why → ⊥
+    SpellBytes max bytes header associations → IsFirstRefusal max bytes number why → ⊥
 spelled-refused max bytes header associations number why b refused =
     let s = subst (λ ls. SpellsExtract ls header associations) (sym b.all.contents) b.spelled in
     let room : length (contents_of bytes) ≤ max = subst (λ ls. length ls ≤ max) (sym b.all.contents) b.all.within in
     let are_lines = subst (All IsLine) (sym b.all.contents) b.all.are_lines in
     ⊎_elim
-    (λ r. fine-refused rules max (contents_of bytes) number why (spelled_fine max
+    (λ r. fine-refused max (contents_of bytes) number why (spelled_fine max
     (contents_of bytes) header associations room are_lines s) r)
     (λ t. spelled-truncated max (contents_of bytes) header associations number why s t) refused
 

@@ -5,6 +5,7 @@ pub mod DailySteps
 pub mod DailyTelling
 pub mod DailyWhole
 pub mod FirstFault
+pub mod FirstRefusals
 pub mod HelpNotEntered
 pub mod Normalising
 pub mod OwnSubcommand

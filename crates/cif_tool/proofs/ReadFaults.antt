@@ -8,13 +8,12 @@ use Rattle.cif_columns.specs.GivenLines.{AreAllLines}
 use Rattle.cif_columns.specs.declared.refusal.Refusal.{Refusal}
 use Rattle.cif_columns.specs.declared.refusal.Refusal.TheVariants as refusal
 use Rattle.cif_columns.proofs.GivenLinesLaws.{known_so}
-use Rattle.cif_extract.specs.FirstRefusal.{IsFirstRefusal}
+use Rattle.cif_tool.specs.FirstRefusal.{IsFirstRefusal}
 use Rattle.cif_extract.specs.declared.fault.Fault.{Fault}
 use Rattle.cif_extract.specs.declared.fault.Fault.TheVariants as fault
 use Rattle.cif_records.specs.Kind.{is_identity, kind_in, kinds}
 use Rattle.cif_records.specs.declared.association.Association.{Association as AssociationRecord}
 use Rattle.cif_records.specs.declared.kind.Kind.TheVariants.{Hd, Aa, Zz}
-use Rattle.cif_tool.specs.AssociationRules.{rules}
 use Rattle.cif_tool.specs.Reading.{IsRead, IsReadFault, IsUnended, stop_fault}
 use Rattle.cif_tool.specs.SpellsExtract.{AllSpell}
 use Rattle.cif_tool.specs.declared.extract.Extract.{Extract}
@@ -24,7 +23,7 @@ use Rattle.cif_tool.specs.declared.reading.Stop.{Stop}
 use Rattle.cif_tool.specs.declared.reading.Stop.TheVariants as stop
 
 pub at_stop : (start after : Option (List ℕ)) (max number : ℕ) (s : Stop) →
-    ((why : Refusal) → s ≡ stop.Refused why → IfSome start (λ bytes. IsFirstRefusal rules max bytes number why))
+    ((why : Refusal) → s ≡ stop.Refused why → IfSome start (λ bytes. IsFirstRefusal max bytes number why))
     → IfSome start (λ bytes. IsReadFault max bytes after (stop_fault number s))
 at_stop start after max number (stop.Refused why) h = h why refl
 at_stop None after max number stop.Memory h = tt
@@ -50,7 +49,7 @@ no_trailers (line ∷ lines) (r ∷ rs) h = All-cons IsNoTrailer line lines (λ 
 pub at_end : (start : Option (List ℕ)) (max : ℕ) (ls : List (List ℕ)) (reading : Reading) (number : ℕ) →
     IfSome start (λ bytes. AreAllLines max bytes ls)
     → IsRead max ls reading → IsUnended reading → number ≡ length ls + 1 →
-    IfSome start (λ bytes. IsFirstRefusal rules max bytes number refusal.Truncated)
+    IfSome start (λ bytes. IsFirstRefusal max bytes number refusal.Truncated)
 at_end start max ls reading number all h unended is = known_so start _ _ (λ bytes a. inr (record {
   fine = rw a.contents h.fine;
   no_trailer = rw a.contents (at reading h unended);

@@ -1,13 +1,13 @@
 -- A reading that goes on with a line.
 use Rattle.std.proofs.Common.{◌≡◌, ℕ, ◌<◌, List, [], ◌∷◌, ◌++◌, length, Option, Some, None, refl, ap, ◌∙◌}
 use Rattle.cif_columns.specs.Line.{IsLine}
-use Rattle.cif_extract.specs.FirstRefusal.{NoneRefused}
+use Rattle.cif_tool.specs.FirstRefusal.{NoneRefused}
 use Rattle.cif_records.specs.Kind.{kind_in}
 use Rattle.cif_records.specs.SpellsAssociation.{SpellsAssociation}
 use Rattle.cif_records.specs.declared.association.Association.{Association as AssociationRecord}
 use Rattle.cif_records.specs.declared.kind.Kind.{Kind}
 use Rattle.cif_records.specs.declared.kind.Kind.TheVariants.{Hd, Ti, Ta, Td, Aa, Bs, Bx, Lo, Li, Cr, Lt, Zz}
-use Rattle.cif_tool.specs.AssociationRules.{place_from, start, rules}
+use Rattle.cif_tool.specs.AssociationRules.{place_from, start}
 use Rattle.cif_tool.specs.Reading.{IsRead, BeginsWith, GoesOnWith}
 use Rattle.cif_tool.specs.Role.{role_of, judged}
 use Rattle.cif_tool.specs.SpellsExtract.{AllSpell}
@@ -16,7 +16,7 @@ use Rattle.cif_tool.specs.declared.reading.Reading.{Reading}
 use Rattle.cif_tool.specs.declared.reading.Reading.TheVariants.{Start, Inside, Ended}
 use Rattle.cif_tool.specs.declared.reading.Role.TheVariants.{Header, Association, Trailer}
 use Rattle.cif_records.proofs.Identities.{identity-kind_in}
-use Rattle.cif_extract.proofs.FirstRefusals.{none_refused-more}
+use Rattle.cif_tool.proofs.FirstRefusals.{none_refused-more}
 use Rattle.cif_tool.proofs.Refusing.{refusal_is_judged, place_from-more}
 
 is_header : (kind : Option Kind) → role_of kind ≡ Header → kind ≡ Some Hd
@@ -73,9 +73,9 @@ all_spell-more (l ∷ lines) [] line r h s = absurd h
 all_spell-more (l ∷ lines) (q ∷ rs) line r h s = (h.0, all_spell-more lines rs line r h.1 s)
 
 module _ (max : ℕ) (lines : List (List ℕ)) (line : List ℕ) (is_line : IsLine line) (room : length lines < max) where
-  fine_more : NoneRefused rules max lines → judged (place_from start lines) (role_of (kind_in line)) line ≡ None →
-      NoneRefused rules max (lines ++ line ∷ [])
-  fine_more none fine = none_refused-more rules max lines line none (refusal_is_judged max lines line is_line room ∙ fine)
+  fine_more : NoneRefused max lines → judged (place_from start lines) (role_of (kind_in line)) line ≡ None →
+      NoneRefused max (lines ++ line ∷ [])
+  fine_more none fine = none_refused-more max lines line none (refusal_is_judged max lines line is_line room ∙ fine)
 
   -- the first line
   pub begins : (after : Reading) → IsRead max lines Start → BeginsWith (role_of (kind_in line)) line after →

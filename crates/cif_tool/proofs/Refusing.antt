@@ -3,14 +3,14 @@ use Rattle.std.proofs.Common.{◌≡◌, ℕ, ◌<◌, List, [], ◌∷◌, ◌+
 use Rattle.cif_columns.specs.Line.{IsLine}
 use Rattle.cif_columns.specs.declared.refusal.Refusal.{Refusal}
 use Rattle.cif_columns.specs.declared.refusal.Refusal.TheVariants.{UnknownRecord, OutOfOrder}
-use Rattle.cif_extract.specs.FirstRefusal.{refusal_of, kind_refusal}
+use Rattle.cif_tool.specs.FirstRefusal.{refusal_of, kind_refusal}
 use Rattle.cif_records.specs.Checks.{first_of, unless}
 use Rattle.cif_records.specs.Kind.{kind_in}
 use Rattle.cif_records.specs.declared.kind.Kind.{Kind}
 use Rattle.cif_records.specs.declared.kind.Kind.TheVariants.{Hd, Ti, Ta, Td, Aa, Bs, Bx, Lo, Li, Cr, Lt, Zz}
 use Rattle.cif_tool.specs.AssociationRules.{Place, start, inside, ended, place_from, place_after, is_known, may_stand, fields_refusal}
-use Rattle.cif_extract.proofs.FirstRefusals.{line_refusal, or_none}
-use Rattle.cif_tool.specs.AssociationRules.{rules}
+use Rattle.cif_extract.proofs.FirstRefusals.{or_none}
+use Rattle.cif_tool.proofs.FirstRefusals.{line_refusal}
 use Rattle.cif_tool.specs.Role.{role_of, judged}
 
 at_place : Place → List ℕ → Kind → Option Refusal
@@ -39,15 +39,15 @@ judged_at place line Cr = refl
 judged_at place line Lt = refl
 
 judged_kind : (before : List (List ℕ)) (line : List ℕ) (kind : Option Kind) →
-    kind_refusal rules before line kind ≡ judged (place_from start before) (role_of kind) line
+    kind_refusal before line kind ≡ judged (place_from start before) (role_of kind) line
 unfolding at_place
 judged_kind before line None = refl
 judged_kind before line (Some kind) = judged_at (place_from start before) line kind
 
 -- why a line is refused that isn't one too many
 pub refusal_is_judged : (max : ℕ) (before : List (List ℕ)) (line : List ℕ) → IsLine line → length before < max
-    → refusal_of rules max before line ≡ judged (place_from start before) (role_of (kind_in line)) line
-refusal_is_judged max before line h room = line_refusal rules max before line h room ∙ judged_kind before line (kind_in line)
+    → refusal_of max before line ≡ judged (place_from start before) (role_of (kind_in line)) line
+refusal_is_judged max before line h room = line_refusal max before line h room ∙ judged_kind before line (kind_in line)
 
 pub place_from-more : (place : Place) (lines : List (List ℕ)) (line : List ℕ) →
     place_from place (lines ++ line ∷ []) ≡ place_after (kind_in line)

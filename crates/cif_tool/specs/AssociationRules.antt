@@ -1,7 +1,6 @@
 -- Which lines may stand where in an extract of a header, associations and a trailer, and why one is refused.
 use Rattle.std.specs.Prelude.{ℕ, Bool, true, false, List, [], ◌∷◌, Option, None, Some}
 use Rattle.cif_columns.specs.declared.refusal.Refusal.{Refusal}
-use Rattle.cif_extract.specs.FirstRefusal.{LineRules}
 use Rattle.cif_records.specs.Association.{association_refusal}
 use Rattle.cif_records.specs.Header.{header_refusal}
 use Rattle.cif_records.specs.Kind.{kind_in}
@@ -46,11 +45,3 @@ abbrev pub fields_refusal : Kind → List ℕ → Option Refusal
 fields_refusal Hd line = header_refusal line
 fields_refusal Aa line = association_refusal line
 fields_refusal _ line = None
-
--- the rules for an extract of a header, associations and a trailer
-abbrev pub rules : LineRules
-rules = record {
-  is_known = is_known;
-  may_follow = λ before kind. may_stand (place_from start before) kind;
-  fields_refusal = fields_refusal;
-}

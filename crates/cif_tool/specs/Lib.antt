@@ -2,6 +2,7 @@ pub mod AssociationRules
 pub mod CommandLine
 pub mod Daily
 pub mod ExtractText
+pub mod FirstRefusal
 pub mod Job
 pub mod JobFault
 pub mod Normalised

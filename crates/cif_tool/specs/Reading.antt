@@ -1,15 +1,14 @@
 -- What a reading has come to, for the contracts of the reader's own steps, and its faults.
-use Rattle.std.specs.Prelude.{◌≡◌, ℕ, List, [], ◌∷◌, ◌++◌, Option, None}
-use Rattle.cif_extract.specs.FirstRefusal.{NoneRefused}
-use Rattle.cif_extract.specs.ReadFault.{IsReadFault as IsReadFaultBy}
+use Rattle.std.specs.Prelude.{◌≡◌, ℕ, List, [], ◌∷◌, ◌++◌, Option, None, IsSomeAnd}
 use Rattle.cif_extract.specs.declared.fault.Fault.{Fault}
-use Rattle.cif_extract.specs.declared.fault.Fault.TheVariants.{Refused, Memory}
+use Rattle.cif_extract.specs.declared.fault.Fault.TheVariants.{Refused, Read, Memory}
 use Rattle.cif_records.specs.Association.{association_refusal}
 use Rattle.cif_records.specs.Header.{header_refusal}
 use Rattle.cif_records.specs.SpellsAssociation.{SpellsAssociation}
 use Rattle.cif_records.specs.declared.association.Association.{Association as AssociationRecord}
 use Rattle.cif_records.specs.SpellsHeader.{SpellsHeader}
-use Rattle.cif_tool.specs.AssociationRules.{rules, place_from, start, inside, ended}
+use Rattle.cif_tool.specs.AssociationRules.{place_from, start, inside, ended}
+use Rattle.cif_tool.specs.FirstRefusal.{NoneRefused, IsCutBeforeRefusal, IsFirstRefusal}
 use Rattle.cif_tool.specs.SpellsExtract.{AllSpell, SpellsExtract}
 use Rattle.cif_tool.specs.declared.extract.Extract.{Extract}
 use Rattle.cif_tool.specs.declared.reading.Reading.{Reading}
@@ -48,7 +47,7 @@ IsUnended (Ended extract) = ⊥
 -- the lines so far came to this, and none of them is refused
 pub record IsRead (max : ℕ) (lines : List (List ℕ)) (reading : Reading) : Type 0 where
   pub read : HasRead lines reading
-  pub fine : NoneRefused rules max lines
+  pub fine : NoneRefused max lines
 
 -- a header that the line spells begins an extract
 abbrev pub BeginsWith : Role → List ℕ → Reading → Type 0
@@ -71,4 +70,7 @@ stop_fault line stop.Memory = Memory
 
 -- why these bytes are no extract of a header, associations and a trailer, or can't be read
 abbrev pub IsReadFault : ℕ → List ℕ → Option (List ℕ) → Fault → Type 0
-IsReadFault max bytes after fault = IsReadFaultBy rules max bytes after fault
+IsReadFault max bytes after (Refused line why) = IsFirstRefusal max bytes line why
+IsReadFault max bytes after Read = IsSomeAnd after (IsCutBeforeRefusal max bytes)
+IsReadFault max bytes after Memory = Unit {0}
+IsReadFault max bytes after _ = ⊥

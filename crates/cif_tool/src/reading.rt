@@ -3,10 +3,10 @@ ghost use Rattle.std.specs.Prelude.{◌≡◌, ◌≢◌, ◌+◌, ◌^◌, ◌<
 ghost use Rattle.std.specs.Prelude.{true, false, Some, Err, IfOk, OnOk, IfErr, IfSome};
 ghost use Rattle.cif_columns.specs.Devices.{OneError};
 ghost use Rattle.cif_columns.specs.Source.{reader_of, source_failed};
-ghost use Rattle.cif_extract.specs.FirstRefusal.{refusal_of};
 ghost use Rattle.cif_columns.specs.Line.{IsLine};
 ghost use Rattle.cif_records.specs.Kind.{kind_in};
-ghost use Rattle.cif_tool.specs.AssociationRules.{rules, start, inside, ended};
+ghost use Rattle.cif_tool.specs.AssociationRules.{start, inside, ended};
+ghost use Rattle.cif_tool.specs.FirstRefusal.{refusal_of};
 ghost use Rattle.cif_tool.specs.Role.{role_of, judged};
 ghost use Rattle.cif_tool.specs.SpellsExtract.{SpellBytes};
 ghost use Rattle.cif_columns.specs.declared.line_reader.TheConstants.{MAX_LINES};
@@ -75,7 +75,7 @@ impl Reading {
         ensures ok { IfOk result (λ after. (max : ℕ) (lines : List (List ℕ)) → length lines < max
             → IsRead max lines self → IsRead max (lines ++ line.now ∷ []) after) }
         ensures refused { (why : _) → result ≡ Err (Stop.Refused why) → (max : ℕ) (lines : List (List ℕ))
-            → length lines < max → IsRead max lines self → refusal_of rules max lines line.now ≡ Some why }
+            → length lines < max → IsRead max lines self → refusal_of max lines line.now ≡ Some why }
     {
         let role = role_of(line);
         match self {

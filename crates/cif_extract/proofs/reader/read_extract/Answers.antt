@@ -4,7 +4,6 @@ use Rattle.cif_columns.proofs.GivenLinesLaws.{known_so, reading_ends, reading_fa
 use Rattle.cif_columns.proofs.ReadSources.{failed_after, read_nothing, read_on_both}
 use Rattle.cif_columns.specs.LineReader.{given}
 use Rattle.cif_extract.specs.Fault.{of_line_fault}
-use Rattle.cif_extract.specs.OrderOfRecords.{rules}
 use Rattle.cif_extract.specs.ReadFault.{IsOfReading, IsReadFault}
 use Rattle.cif_extract.specs.Reading.{progress_of}
 use Rattle.cif_extract.proofs.FirstRefusals.{at_fault, at_line, if_error, line_fault_of_reading}
@@ -44,7 +43,7 @@ returns-in-Err-clause-fault g c =
     let number : c.line_number.result ≡ length ls + 1 = omega (arith, c.line_number.ensures, more, so_far.counted) in
     rw c.line.ensures
     (stop_result _ (g.R.Read.remaining c.next.new.source.reader) c.args.max_lines c.line_number.result c.in-Err.stop
-    (λ why e. at_line rules c.args.max_lines _ ls come.fine g.R.Read.remaining c.next.new.self c.next.new.source line
+    (λ why e. at_line c.args.max_lines _ ls come.fine g.R.Read.remaining c.next.new.self c.next.new.source line
     c.line_number.result why
     now number
     (refused_here c.args.max_lines ls line c.take.ensures.line room (progress_of c.loop-reading.reading) come
@@ -57,13 +56,13 @@ returns-in_err-line-clause-fault g c =
     let line_fault = c.in_err-line.field-0.0 in
     let after = g.R.Read.remaining c.next.new.source.reader in
     let p = err_from_is_err_and c.from_residual.result c.from_residual.ensures.1 in
-    known_so (g.R.Read.remaining c.args.source.now.reader) (λ bytes. IsReadFault rules c.args.max_lines bytes after
+    known_so (g.R.Read.remaining c.args.source.now.reader) (λ bytes. IsReadFault c.args.max_lines bytes after
     (of_line_fault line_fault))
-    (λ bytes. IfErr c.from_residual.result (IsReadFault rules c.args.max_lines bytes after))
-    (λ bytes f. if_error (IsReadFault rules c.args.max_lines bytes after) c.from_residual.result (of_line_fault line_fault) (p.1
+    (λ bytes. IfErr c.from_residual.result (IsReadFault c.args.max_lines bytes after))
+    (λ bytes f. if_error (IsReadFault c.args.max_lines bytes after) c.from_residual.result (of_line_fault line_fault) (p.1
     ∙ ap Err p.2)
     f)
-    (at_fault rules c.args.max_lines _ ls come.fine after line_fault
+    (at_fault c.args.max_lines _ ls come.fine after line_fault
     (reading_faults g.R.Read.remaining _ _ _ _ ls so_far c.next.new.self c.next.new.source line_fault next.answer
     (λ e. next.undecided so_far.reads_on (ap Err e))))
 

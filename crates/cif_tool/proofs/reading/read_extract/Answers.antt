@@ -3,9 +3,9 @@ use Rattle.std.proofs.lemmas.Result.{err_from_is_err_and}
 use Rattle.cif_columns.proofs.GivenLinesLaws.{known_so, reading_starts, reading_line, reading_ends, reading_faults}
 use Rattle.cif_columns.specs.LineReader.{given}
 use Rattle.cif_extract.specs.Fault.{of_line_fault}
-use Rattle.cif_tool.specs.AssociationRules.{rules}
 use Rattle.cif_tool.specs.Reading.{IsReadFault}
-use Rattle.cif_extract.proofs.FirstRefusals.{at_fault, at_line, if_error, none_refused-none, not_read}
+use Rattle.cif_extract.proofs.FirstRefusals.{if_error, not_read}
+use Rattle.cif_tool.proofs.FirstRefusals.{at_fault, at_line, none_refused-none}
 use Rattle.cif_tool.proofs.ReadFaults.{at_stop, finished_fault}
 use Rattle.cif_tool.proofs.reading.read_extract.Goals as goal
 
@@ -14,7 +14,7 @@ loop-reading-init g c =
     let new = c.new-lines.ensures in (
       [],
       reading_starts g.R.Read.remaining c.args.max_lines c.new-lines.result c.args.source.now new.held new.given new.limit new.past,
-      record { read = refl; fine = none_refused-none rules c.args.max_lines },
+      record { read = refl; fine = none_refused-none c.args.max_lines },
       refl,
       λ healthy. refl,
     )
@@ -50,7 +50,7 @@ returns-in-Err-clause-fault g c =
     let number : c.line_number.result ≡ length ls + 1 = omega (arith, c.line_number.ensures, more, so_far.counted) in
     rw c.at.ensures
     (at_stop _ (g.R.Read.remaining c.next.new.source.reader) c.args.max_lines c.line_number.result c.in-Err.stop
-    (λ why e. at_line rules c.args.max_lines _ ls read.fine g.R.Read.remaining c.next.new.self c.next.new.source line
+    (λ why e. at_line c.args.max_lines _ ls read.fine g.R.Read.remaining c.next.new.self c.next.new.source line
     c.line_number.result why now
     number (c.in-Err.ensures.refused why (ap Err e) c.args.max_lines ls room read)))
 
@@ -74,7 +74,7 @@ returns-in_err-line-clause-fault g c =
     known_so (g.R.Read.remaining c.args.source.now.reader) (λ bytes. IsReadFault c.args.max_lines bytes after (of_line_fault line_fault))
     (λ bytes. IfErr c.from_residual.result (IsReadFault c.args.max_lines bytes after))
     (λ bytes f. if_error (IsReadFault c.args.max_lines bytes after) c.from_residual.result (of_line_fault line_fault) (p.1 ∙ ap Err p.2) f)
-    (at_fault rules c.args.max_lines _ ls read.fine after line_fault
+    (at_fault c.args.max_lines _ ls read.fine after line_fault
     (reading_faults g.R.Read.remaining _ _ _ _ ls so_far c.next.new.self c.next.new.source line_fault next.answer
     (λ e. next.undecided so_far.reads_on (ap Err e))))
 

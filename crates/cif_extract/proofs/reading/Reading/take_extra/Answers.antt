@@ -1,5 +1,5 @@
 use Rattle.std.proofs.Common.{ap, ◌∙◌}
-use Rattle.cif_extract.specs.OrderOfRecords.{after_extra}
+use Rattle.cif_extract.specs.Place.{after_extra}
 use Rattle.cif_extract.specs.Reading.{Progress, progress_of}
 use Rattle.cif_extract.proofs.TakenLines.{kind_here, step_extra}
 use Rattle.cif_records.specs.declared.kind.Kind.TheVariants.{Bx}

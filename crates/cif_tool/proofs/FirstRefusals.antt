@@ -1,0 +1,126 @@
+-- Why a line is refused first.
+use Rattle.std.proofs.Common.{◌≡◌, ℕ, ◌+◌, ◌<◌, true, false, nat_eq, nat_lt, List, [], ◌∷◌, ◌++◌, length, take, Option, Some, None}
+use Rattle.std.proofs.Common.{IfSome, IsSomeAnd, sym, ap, ◌∙◌, subst, arith, append_assoc, below_more}
+use Rattle.std.proofs.Common.{get_or, inl, length-append, ne_eqb}
+use Rattle.std.proofs.lemmas.Bool.Decides.{nat_tests}
+use Rattle.std.proofs.lemmas.List.{get_or_append_left, take-append-le}
+use Rattle.std.proofs.Math.Seq.{get_or-append_seam, take-append_seam}
+use Rattle.std.specs.List.{list_all}
+use Rattle.cif_columns.specs.Contents.{contents_of, HasLineReason}
+use Rattle.cif_columns.specs.FirstLine.{is_printable}
+use Rattle.cif_columns.specs.GivenLines.{AreLinesToFailure, AreLinesToFault, IsReading, KnownGiven}
+use Rattle.cif_columns.specs.Line.{IsLine}
+use Rattle.cif_columns.specs.LineReader.{left}
+use Rattle.cif_columns.specs.declared.line_fault.LineFault.{LineFault}
+use Rattle.cif_columns.specs.declared.line_fault.LineFault.TheVariants as line_fault
+use Rattle.cif_columns.specs.declared.line_reader.LineReader.{LineReader}
+use Rattle.cif_columns.specs.declared.refusal.Refusal.{Refusal}
+use Rattle.cif_columns.specs.declared.refusal.Refusal.TheVariants as refusal
+use Rattle.cif_columns.specs.declared.source.Source.{Source}
+use Rattle.cif_columns.proofs.GivenLinesLaws.{contents_given, known_so}
+use Rattle.cif_columns.proofs.PrintableBytes.{printable_fact, printable_true}
+use Rattle.cif_extract.specs.Fault.{of_line_fault}
+use Rattle.cif_records.specs.Kind.{kind_in}
+use Rattle.cif_records.proofs.Judging.{none-some}
+use Rattle.cif_extract.proofs.FirstRefusals.{not_true, or_none}
+use Rattle.cif_tool.specs.FirstRefusal.{NoneRefused, IsCutBeforeRefusal, IsFirstRefusal, IsRefusedLine, kind_refusal, refusal_of}
+use Rattle.cif_tool.specs.Reading.{IsReadFault}
+
+module _ (max : ℕ) where
+  -- a line that isn't one too many is refused by its kind and its fields alone
+  pub line_refusal : (before : List (List ℕ)) (line : List ℕ) → IsLine line → length before < max →
+      refusal_of max before line ≡ kind_refusal before line (kind_in line)
+  unfolding refusal_of
+  line_refusal before line h room =
+      let few : nat_lt (length before) max ≡ true = grind (arith, nat_tests) in
+      let wide : nat_eq (length line) 80 ≡ true = (let w = h.width in grind (arith, nat_tests)) in
+      rw (few, wide, printable_true line h.printable) (or_none (kind_refusal before line (kind_in line)))
+
+  -- the reason why a content is no line is its first reason
+  line_reason : (before : List (List ℕ)) (content : List ℕ) (number : ℕ) (why : Refusal) → number ≡ length before + 1 →
+      HasLineReason max number content why → refusal_of max before content ≡ Some why
+  unfolding refusal_of
+  line_reason before content number refusal.TooManyLines is h =
+      let full : nat_lt (length before) max ≡ false = grind (arith, nat_tests) in rw full
+  line_reason before content number refusal.BadLength is h =
+      let room = h.0 in
+      let few : nat_lt (length before) max ≡ true = grind (arith, nat_tests) in
+      rw (few, ne_eqb (length content) 80 h.1)
+  line_reason before content number refusal.BadByte is h =
+      let room = h.0 in
+      let width = h.1 in
+      let few : nat_lt (length before) max ≡ true = grind (arith, nat_tests) in
+      let wide : nat_eq (length content) 80 ≡ true = grind (arith, nat_tests) in
+      rw (few, wide, not_true (list_all is_printable content) (λ all. h.2 (printable_fact content all)))
+  line_reason before content number _ is h = absurd h
+
+  -- one content more that isn't refused
+  pub none_refused-more : (lines : List (List ℕ)) (line : List ℕ) → NoneRefused max lines →
+      refusal_of max lines line ≡ None → NoneRefused max (lines ++ line ∷ [])
+  none_refused-more lines line none fine = record { fine = λ k below. at k (omega (arith, length-append lines (line ∷ []))) }
+    where
+      at : (k : ℕ) → k < length lines + 1 → refusal_of max (take k (lines ++ line ∷ [])) (get_or (lines ++ line ∷ []) k []) ≡ None
+      at = below_more (λ k. refusal_of max (take k (lines ++ line ∷ [])) (get_or (lines ++ line ∷ []) k []) ≡ None) (length lines)
+          (λ k h. rw (take-append-le k lines (line ∷ []) (omega arith), get_or_append_left lines (line ∷ []) [] k h) (none.fine k h))
+          (rw (take-append_seam lines (line ∷ []), get_or-append_seam lines line [] []) fine)
+
+  pub none_refused-none : NoneRefused max []
+  none_refused-none = record { fine = λ k below. absurd (omega arith) }
+
+  -- where none of the contents is refused, no line is the first that is
+  pub fine-refused : (contents : List (List ℕ)) (number : ℕ) (why : Refusal) → NoneRefused max contents →
+      IsRefusedLine max contents number why → ⊥
+  fine-refused contents number why none r =
+      let fine = subst (NoneRefused max) r.parts none in
+      let long = length-append r.before (r.content ∷ r.after) in
+      let here : refusal_of max (take (length r.before) (r.before ++ r.content ∷ r.after))
+      (get_or (r.before ++ r.content ∷ r.after) (length r.before) []) ≡ None =
+      fine.fine (length r.before) (let z : length r.before < length (r.before ++ r.content ∷ r.after) = omega (arith, long) in z) in
+      none-some _ why
+      (ap (λ b. refusal_of max b r.content) (sym (take-append_seam r.before (r.content ∷ r.after)))
+      ∙ ap (refusal_of max (take (length r.before) (r.before ++ r.content ∷ r.after)))
+      (sym (get_or-append_seam r.before r.content r.after []))
+      ∙ here) r.reason
+
+  -- where a reading stops, and why
+  module _ (start : Option (List ℕ)) (ls : List (List ℕ)) (fine : NoneRefused max ls) where
+    -- at a fault of the lines
+    pub at_fault : (after : Option (List ℕ)) (line_fault : LineFault) →
+        IfSome start (λ bytes. AreLinesToFault max bytes after ls line_fault) →
+        IfSome start (λ bytes. IsReadFault max bytes after (of_line_fault line_fault))
+    at_fault after (line_fault.Refused number why) h = known_so start _ _ (λ bytes r. inl (record {
+      before = ls;
+      content = r.content;
+      after = r.others;
+      parts = r.contents;
+      fine = fine;
+      numbered = r.next;
+      reason = line_reason ls r.content number why r.next r.reason;
+    })) h
+    at_fault after line_fault.Read h = known_so start _ _ (λ bytes r. at bytes after r) h
+      where
+        at : (bytes : List ℕ) (after : Option (List ℕ)) → IsSomeAnd after (λ unread. AreLinesToFailure max bytes unread ls) →
+            IsSomeAnd after (IsCutBeforeRefusal max bytes)
+        at bytes None r = absurd r
+        at bytes (Some unread) r = record { lines = ls; given = r; fine = fine }
+
+    -- at a line that is refused
+    pub at_line : {R : Type 0} (remaining : R → Option (List ℕ)) (reader : LineReader) (source : Source R) (line : List ℕ) (number : ℕ)
+        (why : Refusal)
+        → IsReading remaining start max reader source (ls ++ line ∷ []) → number ≡ length ls + 1 → refusal_of max ls line ≡ Some why
+        → IfSome start (λ bytes. IsFirstRefusal max bytes number why)
+    at_line remaining reader source line number why so_far is reason = at start (left remaining reader source) so_far.known
+      where
+        at : (s rest : Option (List ℕ)) → KnownGiven s (ls ++ line ∷ []) rest →
+            IfSome s (λ bytes. IsFirstRefusal max bytes number why)
+        at None rest known = tt
+        at (Some bytes) None known = absurd known
+        at (Some bytes) (Some rest) known = inl (record {
+          before = ls;
+          content = line;
+          after = contents_of rest;
+          parts = contents_given bytes (ls ++ line ∷ []) rest known ∙ append_assoc ls (line ∷ []) (contents_of rest);
+          fine = fine;
+          numbered = is;
+          reason = reason;
+        })
