@@ -11,7 +11,8 @@ use Rattle.cif_columns.specs.Contents.{contents_of, HasLineReason}
 use Rattle.cif_columns.specs.FirstLine.{is_printable}
 use Rattle.cif_columns.specs.GivenLines.{AreLinesToFailure, AreLinesToFault, IsReading, KnownGiven}
 use Rattle.cif_columns.specs.Line.{IsLine}
-use Rattle.cif_columns.specs.LineReader.{left}
+use Rattle.cif_columns.specs.LineReader.{LineReads, left}
+use Rattle.cif_columns.specs.Source.{HasReadOn}
 use Rattle.cif_columns.specs.declared.line_fault.LineFault.{LineFault}
 use Rattle.cif_columns.specs.declared.line_fault.LineFault.TheVariants as line_fault
 use Rattle.cif_columns.specs.declared.line_reader.LineReader.{LineReader}
@@ -19,12 +20,13 @@ use Rattle.cif_columns.specs.declared.refusal.Refusal.{Refusal}
 use Rattle.cif_columns.specs.declared.refusal.Refusal.TheVariants as refusal
 use Rattle.cif_columns.specs.declared.source.Source.{Source}
 use Rattle.cif_columns.proofs.GivenLinesLaws.{contents_given, known_so}
+use Rattle.cif_columns.proofs.ReadSources.{failed_after, read_on_both}
 use Rattle.cif_columns.proofs.PrintableBytes.{printable_fact, printable_true}
 use Rattle.cif_extract.specs.Fault.{of_line_fault}
 use Rattle.cif_extract.specs.FirstRefusal.{NoneRefused, IsCutBeforeRefusal, IsFirstRefusal, IsRefusedLine, order_refusal}
 use Rattle.cif_extract.specs.FirstRefusal.{refusal_of}
 use Rattle.cif_extract.specs.OrderOfRecords.{record_before}
-use Rattle.cif_extract.specs.ReadFault.{IsOfReading, IsReadFault}
+use Rattle.cif_extract.specs.ReadFault.{FaultReads, IsOfReading, IsReadFault}
 use Rattle.cif_extract.specs.declared.fault.Fault.{Fault}
 use Rattle.cif_extract.specs.declared.fault.Fault.TheVariants as fault
 use Rattle.cif_records.specs.Checks.{first_of}
@@ -140,9 +142,11 @@ module _ (max : ℕ) where
           reason = reason;
         })
 
--- a fault that is a failure to read comes of the lines' own
-pub not_read : (l : LineFault) (f : Fault) → f ≡ of_line_fault l → (f ≡ fault.Read → ⊥) → l ≡ line_fault.Read → ⊥
-not_read l f is ne e = ne (is ∙ ap of_line_fault e)
+-- what a call that hands a fault of the lines on owes its source
+pub fault_handed_on : {R A : Type 0} (errors : R → Option ℕ) (s t u : Source R) (l : LineFault) (result : Result A Fault)
+    → result ≡ Err (of_line_fault l) → HasReadOn errors s t → LineReads errors t u (Err l) → FaultReads errors s u result
+fault_handed_on errors s t u (line_fault.Refused number why) result e p h = rw e (read_on_both errors s t u p h)
+fault_handed_on errors s t u line_fault.Read result e p h = rw e (failed_after errors s t u p h)
 
 -- what is said of the error is said of the result
 pub if_error : {A E : Type 0} (P : E → Type 0) (r : Result A E) (e : E) → r ≡ Err e → P e → IfErr r P

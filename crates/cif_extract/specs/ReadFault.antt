@@ -30,8 +30,8 @@ IsReadAs x (Err Read) = Unit {0}
 IsReadAs x (Err Memory) = Unit {0}
 IsReadAs x (Err _) = ⊥
 
--- what reading an extract owes its source: it fails to read exactly where it says so
-abbrev pub ExtractReads : {R : Type 0} → (R → Option ℕ) → Source R → Source R → Result Extract Fault → Type 0
-ExtractReads errors old new (Ok extract) = HasReadOn errors old new
-ExtractReads errors old new (Err Read) = HasFailedToRead errors old new
-ExtractReads errors old new (Err fault) = HasReadOn errors old new
+-- what a call that may answer a fault owes its source: it fails to read exactly where it answers Read
+abbrev pub FaultReads : {R A : Type 0} → (R → Option ℕ) → Source R → Source R → Result A Fault → Type 0
+FaultReads errors old new (Ok done) = HasReadOn errors old new
+FaultReads errors old new (Err Read) = HasFailedToRead errors old new
+FaultReads errors old new (Err fault) = HasReadOn errors old new

@@ -3,7 +3,7 @@ ghost use Rattle.std.specs.Prelude.{◌≡◌, ◌≤◌, false, IfErr, IfOk, If
 ghost use Rattle.cif_columns.specs.Source.{reader_of, source_failed};
 ghost use Rattle.cif_columns.specs.declared.line_reader.TheConstants.{MAX_LINES};
 ghost use Rattle.cif_extract.specs.ExtractParts.{ExtractParts, extract_parts};
-ghost use Rattle.cif_extract.specs.ReadFault.{ExtractReads, IsOfReading, IsReadAs, IsReadFault};
+ghost use Rattle.cif_extract.specs.ReadFault.{FaultReads, IsOfReading, IsReadAs, IsReadFault};
 ghost use Rattle.cif_extract.specs.SpellsExtract.{BytesSpell};
 
 use crate::reading::Reading;
@@ -30,7 +30,7 @@ pub fn read_extract<R: ReadDevice>(
         (IsReadFault max_lines bytes (R.remaining (reader_of source.new)))) }
     ensures answers { IfErr result IsOfReading }
     ensures endless { IfOk result (λ _. source_failed source.old ≡ false) }
-    ensures device { ExtractReads R.read_errors source.old source.new result }
+    ensures device { FaultReads R.read_errors source.old source.new result }
 {
     let mut lines = LineReader::new(max_lines);
     let mut reading = Reading::new(alloc);

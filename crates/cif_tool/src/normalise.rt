@@ -5,6 +5,7 @@ ghost use Rattle.cif_columns.specs.Devices.{OneError};
 ghost use Rattle.cif_columns.specs.Sink.{Writes, sink_failed, writer_of};
 ghost use Rattle.cif_columns.specs.Source.{reader_of, source_failed};
 ghost use Rattle.cif_columns.specs.declared.line_reader.TheConstants.{MAX_LINES};
+ghost use Rattle.cif_extract.specs.ReadFault.{FaultReads};
 ghost use Rattle.cif_records.specs.AssocKey.{key_cmp};
 ghost use Rattle.cif_tool.specs.Daily.{HasBody, IsDailyFault, IsWithin, planned_entries};
 ghost use Rattle.cif_tool.specs.ExtractText.{entries_text, planned_text};
@@ -53,17 +54,11 @@ pub fn normalise<R: ReadDevice, W: WriteDevice>(
         HasWrittenFront max_lines bytes
         (W.contents (writer_of sink.old)) (W.contents (writer_of sink.new))) }
 
-    // Read comes only where the source has failed, and its reader has erred. Otherwise the source
-    // has failed or not as before, and no error is counted.
-    ensures read_failed { result ≡ Err Fault.Read → source_failed source.new ≡ true }
-    ensures read_going { result ≢ Err Fault.Read
-        → source_failed source.new ≡ source_failed source.old }
-    ensures read_erred { source_failed source.old ≡ false → result ≡ Err Fault.Read
-        → OneError (R.read_errors (reader_of source.old)) (R.read_errors (reader_of source.new)) }
-    ensures read_fine { source_failed source.old ≡ false → result ≢ Err Fault.Read
-        → R.read_errors (reader_of source.new) ≡ R.read_errors (reader_of source.old) }
+    // Read comes only where the source has failed, and its reader has erred.
+    ensures source { FaultReads R.read_errors source.old source.new result }
 
-    // So it is with Write, the sink and its writer. A sink that has failed isn't touched.
+    // Write comes only where the sink has failed, and its writer has erred. Otherwise the sink has
+    // failed or not as before, and no error is counted. A sink that has failed isn't touched.
     ensures write_failed { result ≡ Err Fault.Write → sink_failed sink.new ≡ true }
     ensures write_going { result ≢ Err Fault.Write → sink_failed sink.new ≡ sink_failed sink.old }
     ensures write_erred { sink_failed sink.old ≡ false → result ≡ Err Fault.Write

@@ -1,10 +1,10 @@
 //! Reading an extract of associations alone, line by line.
 ghost use Rattle.std.specs.Prelude.{◌≡◌, ◌≢◌, ◌+◌, ◌^◌, ◌<◌, ◌≤◌, ◌++◌, ◌∷◌, [], ℕ, List, length};
-ghost use Rattle.std.specs.Prelude.{true, false, Some, Err, IfOk, OnOk, IfErr, IfSome};
-ghost use Rattle.cif_columns.specs.Devices.{OneError};
+ghost use Rattle.std.specs.Prelude.{false, Some, Err, IfOk, OnOk, IfErr, IfSome};
 ghost use Rattle.cif_columns.specs.Source.{reader_of, source_failed};
 ghost use Rattle.cif_columns.specs.Line.{IsLine};
 ghost use Rattle.cif_records.specs.Kind.{kind_in};
+ghost use Rattle.cif_extract.specs.ReadFault.{FaultReads};
 ghost use Rattle.cif_tool.specs.AssociationRules.{start, inside, ended};
 ghost use Rattle.cif_tool.specs.FirstRefusal.{refusal_of};
 ghost use Rattle.cif_tool.specs.Role.{role_of, judged};
@@ -194,13 +194,8 @@ pub fn read_extract<R: ReadDevice>(
     ensures fault { IfSome (R.remaining (reader_of source.old)) (λ bytes.
         IfErr result (IsReadFault max_lines bytes (R.remaining (reader_of source.new)))) }
     ensures never_write { result ≢ Err Fault.Write }
-    ensures failed { result ≡ Err Fault.Read → source_failed source.new ≡ true }
-    ensures going { result ≢ Err Fault.Read → source_failed source.new ≡ source_failed source.old }
     ensures endless { IfOk result (λ _. source_failed source.old ≡ false) }
-    ensures erred { source_failed source.old ≡ false → result ≡ Err Fault.Read
-        → OneError (R.read_errors (reader_of source.old)) (R.read_errors (reader_of source.new)) }
-    ensures fine { source_failed source.old ≡ false → result ≢ Err Fault.Read
-        → R.read_errors (reader_of source.new) ≡ R.read_errors (reader_of source.old) }
+    ensures device { FaultReads R.read_errors source.old source.new result }
 {
     let mut lines = LineReader::new(max_lines);
     let mut reading = Reading::Start;

@@ -1,12 +1,12 @@
 use Rattle.std.proofs.Common.{◌≡◌, ◌+◌, ◌<◌, ◌∙◌, length, [], ◌++◌, ◌∷◌, Err, IfErr, Ok, ap, arith, refl}
 use Rattle.std.proofs.lemmas.Result.{err_from_is_err_and}
 use Rattle.cif_columns.proofs.GivenLinesLaws.{known_so, reading_ends, reading_faults, reading_line}
-use Rattle.cif_columns.proofs.ReadSources.{failed_after, read_nothing, read_on_both}
+use Rattle.cif_columns.proofs.ReadSources.{read_on_both}
 use Rattle.cif_columns.specs.LineReader.{given}
 use Rattle.cif_extract.specs.Fault.{of_line_fault}
 use Rattle.cif_extract.specs.ReadFault.{IsOfReading, IsReadFault}
 use Rattle.cif_extract.specs.Reading.{progress_of}
-use Rattle.cif_extract.proofs.FirstRefusals.{at_fault, at_line, if_error, line_fault_of_reading}
+use Rattle.cif_extract.proofs.FirstRefusals.{at_fault, at_line, fault_handed_on, if_error, line_fault_of_reading}
 use Rattle.cif_extract.proofs.ReadingRuns.{come_more, refused_here, refused_reason, stop_of_reading, stop_result}
 use Rattle.cif_extract.proofs.ReadingRuns.{unfinished_of_reading, unfinished_result, whole_result}
 use Rattle.cif_extract.proofs.SpelledBytes.{only_fault, only_read}
@@ -103,3 +103,10 @@ returns-in-Err-clause-answers g c = rw c.line.ensures (stop_of_reading c.line_nu
 pub returns-in-None-clause-answers : goal.returns-in-None-clause-answers
 returns-in-None-clause-answers g c =
     unfinished_of_reading (progress_of c.loop-reading.reading) c.line_number-in-None.result c.finish.result c.finish.ensures.truncated
+
+pub returns-in_err-line-clause-device : goal.returns-in_err-line-clause-device
+returns-in_err-line-clause-device g c =
+    let (ls, so_far, come, read_on) = c.loop-reading.invariant in
+    let p = err_from_is_err_and c.from_residual.result c.from_residual.ensures.1 in
+    fault_handed_on _ _ _ _ c.in_err-line.field-0.0 c.from_residual.result (p.1 ∙ ap Err p.2) read_on
+    (c.in_err-line.ensures.device so_far.reads_on)

@@ -1,10 +1,11 @@
 use Rattle.std.proofs.Common.{◌≡◌, ◌+◌, ◌<◌, ◌∙◌, length, [], ◌++◌, ◌∷◌, Err, IfErr, Ok, ap, refl, arith}
 use Rattle.std.proofs.lemmas.Result.{err_from_is_err_and}
 use Rattle.cif_columns.proofs.GivenLinesLaws.{known_so, reading_starts, reading_line, reading_ends, reading_faults}
+use Rattle.cif_columns.proofs.ReadSources.{read_nothing, read_on_both}
 use Rattle.cif_columns.specs.LineReader.{given}
 use Rattle.cif_extract.specs.Fault.{of_line_fault}
 use Rattle.cif_tool.specs.Reading.{IsReadFault}
-use Rattle.cif_extract.proofs.FirstRefusals.{if_error, not_read}
+use Rattle.cif_extract.proofs.FirstRefusals.{fault_handed_on, if_error}
 use Rattle.cif_tool.proofs.FirstRefusals.{at_fault, at_line, none_refused-none}
 use Rattle.cif_tool.proofs.ReadFaults.{at_stop, finished_fault}
 use Rattle.cif_tool.proofs.reading.read_extract.Goals as goal
@@ -15,13 +16,12 @@ loop-reading-init g c =
       [],
       reading_starts g.R.Read.remaining c.args.max_lines c.new-lines.result c.args.source.now new.held new.given new.limit new.past,
       record { read = refl; fine = none_refused-none c.args.max_lines },
-      refl,
-      λ healthy. refl,
+      read_nothing _ _,
     )
 
 pub loop-reading-preserved : goal.loop-reading-preserved
 loop-reading-preserved g c =
-    let (ls, so_far, read, going, same) = c.loop-reading.invariant in
+    let (ls, so_far, read, read_on) = c.loop-reading.invariant in
     let next = c.in_ok-line.ensures in
     let is = c.in-Some.is in
     let line = c.in-Some.line in
@@ -32,13 +32,12 @@ loop-reading-preserved g c =
       reading_line g.R.Read.remaining _ _ _ _ ls so_far c.next.new.self c.next.new.source line (rw is at next.answer) (next.past ∙ rw is)
           next.limit more,
       c.in-Ok.ensures.ok c.args.max_lines ls room read,
-      next.going (λ e. cc) ∙ going,
-      λ healthy. next.fine so_far.reads_on (going ∙ healthy) (λ e. cc) ∙ same healthy,
+      read_on_both _ _ _ _ read_on (next.device so_far.reads_on),
     )
 
 pub returns-in-Err-clause-fault : goal.returns-in-Err-clause-fault
 returns-in-Err-clause-fault g c =
-    let (ls, so_far, read, going, same) = c.loop-reading.invariant in
+    let (ls, so_far, read, read_on) = c.loop-reading.invariant in
     let next = c.in_ok-line.ensures in
     let is = c.in-Some.is in
     let line = c.in-Some.line in
@@ -56,7 +55,7 @@ returns-in-Err-clause-fault g c =
 
 pub returns-in-None-clause-fault : goal.returns-in-None-clause-fault
 returns-in-None-clause-fault g c =
-    let (ls, so_far, read, going, same) = c.loop-reading.invariant in
+    let (ls, so_far, read, read_on) = c.loop-reading.invariant in
     let next = c.in_ok-line.ensures in
     let is = c.in-None.is in
     let all = reading_ends g.R.Read.remaining _ _ _ _ ls so_far c.next.new.self c.next.new.source (rw is at next.answer) in
@@ -66,7 +65,7 @@ returns-in-None-clause-fault g c =
 
 pub returns-in_err-line-clause-fault : goal.returns-in_err-line-clause-fault
 returns-in_err-line-clause-fault g c =
-    let (ls, so_far, read, going, same) = c.loop-reading.invariant in
+    let (ls, so_far, read, read_on) = c.loop-reading.invariant in
     let next = c.in_err-line.ensures in
     let line_fault = c.in_err-line.field-0.0 in
     let after = g.R.Read.remaining c.next.new.source.reader in
@@ -78,15 +77,9 @@ returns-in_err-line-clause-fault g c =
     (reading_faults g.R.Read.remaining _ _ _ _ ls so_far c.next.new.self c.next.new.source line_fault next.answer
     (λ e. next.undecided so_far.reads_on (ap Err e))))
 
-pub returns-in_err-line-clause-going : goal.returns-in_err-line-clause-going
-returns-in_err-line-clause-going g c ne =
-    let (ls, so_far, read, going, same) = c.loop-reading.invariant in
+pub returns-in_err-line-clause-device : goal.returns-in_err-line-clause-device
+returns-in_err-line-clause-device g c =
+    let (ls, so_far, read, read_on) = c.loop-reading.invariant in
     let p = err_from_is_err_and c.from_residual.result c.from_residual.ensures.1 in
-    c.in_err-line.ensures.going (λ e. not_read c.in_err-line.field-0.0 p.0 p.2 (λ is. ne (p.1 ∙ ap Err is)) (cc e)) ∙ going
-
-pub returns-in_err-line-clause-fine : goal.returns-in_err-line-clause-fine
-returns-in_err-line-clause-fine g c healthy ne =
-    let (ls, so_far, read, going, same) = c.loop-reading.invariant in
-    let p = err_from_is_err_and c.from_residual.result c.from_residual.ensures.1 in
-    c.in_err-line.ensures.fine so_far.reads_on (going ∙ healthy)
-    (λ e. not_read c.in_err-line.field-0.0 p.0 p.2 (λ is. ne (p.1 ∙ ap Err is)) (cc e)) ∙ same healthy
+    fault_handed_on _ _ _ _ c.in_err-line.field-0.0 c.from_residual.result (p.1 ∙ ap Err p.2) read_on
+    (c.in_err-line.ensures.device so_far.reads_on)

@@ -1,14 +1,14 @@
-use Rattle.std.proofs.Common.{◌≡◌, ◌-◌, ℕ, List, false}
+use Rattle.std.proofs.Common.{◌-◌, ℕ, List}
 use Rattle.cif_columns.specs.GivenLines.{IsReading}
 use Rattle.cif_columns.specs.LineReader.{given, limit}
+use Rattle.cif_columns.specs.Source.{HasReadOn}
 use Rattle.cif_tool.specs.Reading.{IsRead}
 use Rattle.cif_tool.proofs.reading.read_extract.Given as goal
 
 abbrev pub invariant-loop-reading : goal.invariant-loop-reading
 invariant-loop-reading g l = (ls : List (List ℕ)) × IsReading g.R.Read.remaining (g.R.Read.remaining l.fn.source.reader) l.max_lines l.lines
     l.source ls
-    × IsRead l.max_lines ls l.reading × (l.source.failed ≡ l.fn.source.failed)
-    × (l.fn.source.failed ≡ false → g.R.ReadDevice.read_errors l.source.reader ≡ g.R.ReadDevice.read_errors l.fn.source.reader)
+    × IsRead l.max_lines ls l.reading × HasReadOn g.R.ReadDevice.read_errors l.fn.source l.source
 
 abbrev pub decreases-loop-reading : goal.decreases-loop-reading
 decreases-loop-reading g l = limit l.lines - given l.lines
