@@ -12,6 +12,7 @@ pub mod GivenLinesLaws
 pub mod HeldBytes
 pub mod Letters
 pub mod LineAnswers
+pub mod LineReasons
 pub mod MaskUnion
 pub mod Masks
 pub mod PackedCodes

@@ -4,6 +4,7 @@ use Rattle.std.specs.Io.KnownBytes.{prepend_known}
 use Rattle.cif_columns.specs.declared.ahead.Ahead.{Ahead}
 use Rattle.cif_columns.specs.declared.ahead.Found.{Found}
 use Rattle.cif_columns.specs.declared.ahead.Found.TheVariants.{Next, End, Refused, Failed}
+use Rattle.cif_columns.specs.declared.refusal.Refusal.{Refusal}
 use Rattle.cif_columns.specs.declared.source.Source.{Source}
 use Rattle.cif_columns.specs.FirstLine.{first_line, after_content, has_line_feed}
 use Rattle.cif_columns.specs.Source.{HasFailedToRead, HasReadOn}
@@ -43,3 +44,10 @@ FindReads errors old new (Next line) = HasReadOn errors old new
 FindReads errors old new End = HasReadOn errors old new
 FindReads errors old new (Refused why) = HasReadOn errors old new
 FindReads errors old new Failed = HasFailedToRead errors old new
+
+-- a fact of the reason, where a line was refused
+abbrev pub IfRefused : Found → (Refusal → Type 0) → Type 0
+IfRefused (Next line) P = Unit {0}
+IfRefused End P = Unit {0}
+IfRefused (Refused why) P = P why
+IfRefused Failed P = Unit {0}

@@ -21,6 +21,13 @@ HasLineReason max number content BadLength = (number ≤ max) × (length content
 HasLineReason max number content BadByte = (number ≤ max) × (length content ≡ 80) × (¬ ArePrintable content)
 HasLineReason max number content _ = ⊥
 
+-- the three reasons
+abbrev pub IsLineReason : Refusal → Type 0
+IsLineReason TooManyLines = Unit {0}
+IsLineReason BadLength = Unit {0}
+IsLineReason BadByte = Unit {0}
+IsLineReason _ = ⊥
+
 -- These bytes, after so many lines, decide no line whatever follows them: no line feed ends one, none is too long
 -- already, and none begins that is one too many.
 pub record DecidesNothing (max given : ℕ) (bytes : List ℕ) : Type 0 where

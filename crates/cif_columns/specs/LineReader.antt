@@ -9,7 +9,7 @@ use Rattle.cif_columns.specs.declared.line_reader.Past.TheVariants.{Reading, End
 use Rattle.cif_columns.specs.declared.refusal.Refusal.{Refusal}
 use Rattle.cif_columns.specs.declared.source.Source.{Source}
 use Rattle.cif_columns.specs.Ahead.{held_bytes, known_left}
-use Rattle.cif_columns.specs.Contents.{contents_of, StandsFirst, HasLineReason}
+use Rattle.cif_columns.specs.Contents.{contents_of, StandsFirst, HasLineReason, IsLineReason}
 use Rattle.cif_columns.specs.Line.{IsLine}
 use Rattle.cif_columns.specs.Source.{HasFailedToRead, HasReadOn}
 
@@ -66,3 +66,8 @@ abbrev pub LineReads : {R : Type 0} → (R → Option ℕ) → Source R → Sour
 LineReads errors old new (Ok line) = HasReadOn errors old new
 LineReads errors old new (Err (Refused number why)) = HasReadOn errors old new
 LineReads errors old new (Err Read) = HasFailedToRead errors old new
+
+-- the faults of a call after so many lines, over whatever source: a refusal names the next line, and one of the reasons of lines
+abbrev pub IsNextFault : ℕ → LineFault → Type 0
+IsNextFault count (Refused number why) = (number ≡ count + 1) × IsLineReason why
+IsNextFault count Read = Unit {0}

@@ -86,6 +86,8 @@ impl Ahead {
 
 impl Ahead {
     ghost use Rattle.cif_columns.specs.Ahead.{held_bytes, known_left, Decides, FindReads, Finds, IfNext};
+    ghost use Rattle.cif_columns.specs.Ahead.{IfRefused};
+    ghost use Rattle.cif_columns.specs.Contents.{IsLineReason};
 
     /// The line that stands first in the held bytes, if it is 80 bytes and a line feed. Most are, and
     /// this gives them with few copies.
@@ -158,6 +160,7 @@ impl Ahead {
         ensures undecided { result ≡ Found.Failed
             → is_decided is_full (held_bytes self.new) ≡ false }
         ensures device { FindReads R.read_errors source.old source.new result }
+        ensures reason { IfRefused result IsLineReason }
         ensures ended { result ≡ Found.End → source_failed source.old ≡ false }
     {
         loop {

@@ -1,6 +1,6 @@
 //! Lines, one by one, from a source that gives its bytes in any pieces.
 ghost use Rattle.std.specs.Prelude.{◌≡◌, ◌≢◌, ◌+◌, ◌≤◌, false, [], Err, Ok, None, IfSome};
-ghost use Rattle.std.specs.Prelude.{OnOk, OnErr, IfOk, OnSome};
+ghost use Rattle.std.specs.Prelude.{OnOk, OnErr, IfErr, IfOk, OnSome};
 ghost use Rattle.cif_columns.specs.Contents.{DecidesNothing};
 ghost use Rattle.cif_columns.specs.Source.{source_failed};
 ghost use Rattle.cif_columns.specs.declared.line_reader.TheConstants.{MAX_LINES};
@@ -38,7 +38,7 @@ pub struct LineReader {
 
 impl LineReader {
     ghost use Rattle.cif_columns.specs.LineReader.{held, given, limit, past, past_of, left};
-    ghost use Rattle.cif_columns.specs.LineReader.{Answers, LineReads};
+    ghost use Rattle.cif_columns.specs.LineReader.{Answers, IsNextFault, LineReads};
     ghost use Rattle.cif_columns.specs.declared.line_reader.Past.TheVariants.{Reading};
 
     /// A reader that will give at most `max_lines` lines.
@@ -85,6 +85,9 @@ impl LineReader {
             → DecidesNothing (limit self.old) (given self.old) (held self.new) }
         ensures endless { past self.old ≡ Reading → result ≡ Ok None
             → source_failed source.old ≡ false }
+
+        // Over whatever source: a refusal names the next line, and one of the reasons of lines.
+        ensures fault { past self.old ≡ Reading → IfErr result (IsNextFault (given self.old)) }
 
         // After the end, and after a fault, it is answered again, and nothing is read.
         ensures past { past self.new ≡ past_of result }

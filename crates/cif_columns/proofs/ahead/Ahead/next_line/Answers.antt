@@ -2,6 +2,7 @@ use Rattle.std.proofs.Common.{Ok, length, arith, ap, refl, sym, ◌∙◌}
 use Rattle.std.proofs.KnownBytes.{Keeps-trans}
 use Rattle.cif_columns.specs.Ahead.{held_bytes}
 use Rattle.cif_columns.proofs.DecidedLines.{undecided_short}
+use Rattle.cif_columns.proofs.LineReasons.{reason_decided, reason_found}
 use Rattle.cif_columns.proofs.ReadSources.{failed_after, read_on_both}
 use Rattle.cif_columns.proofs.FoundInHeld.{found_more, decided_not_full, found_not_full}
 use Rattle.cif_columns.proofs.ahead.Ahead.next_line.Goals as goal
@@ -38,3 +39,9 @@ returns-in-Some-clause-not_full g c = decided_not_full _ _ _ _ c.in-Some.ensures
 
 pub returns-in-Ok-false-clause-not_full : goal.returns-in-Ok-false-clause-not_full
 returns-in-Ok-false-clause-not_full g c = found_not_full _ _ _ _ c.last.ensures.found
+
+pub returns-in-Some-clause-reason : goal.returns-in-Some-clause-reason
+returns-in-Some-clause-reason g c = reason_decided _ _ _ _ c.in-Some.ensures.found
+
+pub returns-in-Ok-false-clause-reason : goal.returns-in-Ok-false-clause-reason
+returns-in-Ok-false-clause-reason g c = reason_found _ _ _ _ c.last.ensures.found
