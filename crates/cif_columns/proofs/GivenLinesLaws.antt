@@ -61,6 +61,12 @@ known_so (Some bytes) P Q f h = f bytes h
 
 -- ---- a reader at a source
 
+-- where nothing is left after what is held, the reader has nothing left
+all_given : (held : List ℕ) (rest : Option (List ℕ)) → prepend_known held rest ≡ Some [] → rest ≡ Some []
+all_given held None e = cc
+all_given [] (Some bytes) e = e
+all_given (b ∷ held) (Some bytes) e = cc
+
 module _ {R : Type 0} (remaining : R → Option (List ℕ)) where
   -- a new reader
   pub reading_starts : (max : ℕ) (reader : LineReader) (source : Source R) → held reader ≡ [] → given reader ≡ 0 → limit reader ≡ max
@@ -104,6 +110,19 @@ module _ {R : Type 0} (remaining : R → Option (List ℕ)) where
           at (Some bytes) (Some rest) known next =
               subst (λ r. IsSomeAnd r (λ others. HasGiven bytes (ls ++ line ∷ []) others)) (sym next.1)
               (one_more (limit reader) (given reader) bytes ls rest line next.0 known next.2)
+
+      -- at the end of the input nothing is left, where the bytes were known
+      pub nothing_left : (past reader ≡ Reading → IfSome (left remaining reader source)
+          (λ bytes. Answers (limit reader) (given reader) bytes (Ok None) (left remaining reader' source')))
+          → IfSome start (λ bytes. remaining source'.reader ≡ Some [])
+      nothing_left answer = at start (left remaining reader source) so_far.known (answer so_far.reads_on)
+        where
+          at : (start rest : Option (List ℕ)) → KnownGiven start ls rest
+              → IfSome rest (λ bytes. Answers (limit reader) (given reader) bytes (Ok None) (left remaining reader' source'))
+              → IfSome start (λ bytes. remaining source'.reader ≡ Some [])
+          at None rest known next = tt
+          at (Some bytes) None known next = absurd known
+          at (Some bytes) (Some rest) known next = all_given (held reader') (remaining source'.reader) next.1
 
       -- the end of the input
       pub reading_ends : (past reader ≡ Reading → IfSome (left remaining reader source)

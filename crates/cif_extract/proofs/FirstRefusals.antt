@@ -1,5 +1,5 @@
 -- Why a line is refused first.
-use Rattle.std.proofs.Common.{◌≡◌, ℕ, ◌+◌, ◌<◌, Bool, true, false, nat_eq, nat_lt, List, [], ◌∷◌, ◌++◌, length, take, Option, Some, None}
+use Rattle.std.proofs.Common.{◌≡◌, ℕ, ◌+◌, ◌<◌, ◌≤◌, Bool, true, false, nat_eq, nat_lt, List, [], ◌∷◌, ◌++◌, length, take, Option, Some, None}
 use Rattle.std.proofs.Common.{IfErr, IfSome, IsSomeAnd, Result, Err, refl, sym, ap, ◌∙◌, subst, arith, append_assoc, below_more}
 use Rattle.std.proofs.Common.{get_or, inl, length-append, ne_eqb}
 use Rattle.std.proofs.lemmas.Bool.Decides.{nat_tests}
@@ -11,7 +11,7 @@ use Rattle.cif_columns.specs.Contents.{contents_of, HasLineReason}
 use Rattle.cif_columns.specs.FirstLine.{is_printable}
 use Rattle.cif_columns.specs.GivenLines.{AreLinesToFailure, AreLinesToFault, IsReading, KnownGiven}
 use Rattle.cif_columns.specs.Line.{IsLine}
-use Rattle.cif_columns.specs.LineReader.{LineReads, left}
+use Rattle.cif_columns.specs.LineReader.{IsNextFault, LineReads, left}
 use Rattle.cif_columns.specs.Source.{HasReadOn}
 use Rattle.cif_columns.specs.declared.line_fault.LineFault.{LineFault}
 use Rattle.cif_columns.specs.declared.line_fault.LineFault.TheVariants as line_fault
@@ -153,6 +153,6 @@ pub if_error : {A E : Type 0} (P : E → Type 0) (r : Result A E) (e : E) → r 
 if_error P r e is h = rw is h
 
 -- a fault of the lines is one of reading
-pub line_fault_of_reading : (l : LineFault) → IsOfReading (of_line_fault l)
-line_fault_of_reading (line_fault.Refused number why) = tt
-line_fault_of_reading line_fault.Read = tt
+pub line_fault_of_reading : (max count : ℕ) (l : LineFault) → count ≤ max → IsNextFault count l → IsOfReading max (of_line_fault l)
+line_fault_of_reading max count (line_fault.Refused number why) within h = omega (arith, h.0)
+line_fault_of_reading max count line_fault.Read within h = tt

@@ -1,6 +1,6 @@
 -- What the lines so far have come to, line by line.
-use Rattle.std.proofs.Common.{◌≡◌, ◌≢◌, ℕ, ◌<◌, Bool, true, false, List, [], ◌∷◌, ◌++◌, length, Option, Some, None, Result, Ok, Err}
-use Rattle.std.proofs.Common.{refl, sym}
+use Rattle.std.proofs.Common.{◌≡◌, ◌≤◌, ◌≢◌, ℕ, ◌<◌, Bool, true, false, List, [], ◌∷◌, ◌++◌, length, Option, Some, None, Result, Ok, Err}
+use Rattle.std.proofs.Common.{arith, refl, sym}
 use Rattle.std.proofs.Common.{ap, ◌∙◌, subst, is_some, cond, IfSome, IfErr, IfOk, inr, ⊎_elim, ◌+◌}
 use Rattle.std.proofs.lemmas.List.Elements.{All-cons, All-nil, All-append}
 use Rattle.std.specs.Prelude.{All}
@@ -209,12 +209,12 @@ refused_reason refusal line before after (stop.Refused x) why taken e = taken �
 refused_reason refusal line before after stop.Memory why taken e = cc
 
 -- a stop is a fault of reading
-pub stop_of_reading : (number : ℕ) (s : StopAt) → IsOfReading (stop_fault number s)
-stop_of_reading number (stop.Refused why) = tt
-stop_of_reading number stop.Memory = tt
+pub stop_of_reading : (max number : ℕ) (s : StopAt) → number ≤ max → IsOfReading max (stop_fault number s)
+stop_of_reading max number (stop.Refused why) h = omega arith
+stop_of_reading max number stop.Memory h = tt
 
 -- and so is the want of a trailer
-pub unfinished_of_reading : (p : Progress) (number : ℕ) (result : Result Extract Fault) →
-    IfErr result (λ f. (f ≡ fault.Refused (number + 1) refusal.Truncated) × IsUnfinished p) → IfErr result IsOfReading
-unfinished_of_reading p number (Ok extract) h = tt
-unfinished_of_reading p number (Err f) h = rw h.0 tt
+pub unfinished_of_reading : (max : ℕ) (p : Progress) (number : ℕ) (result : Result Extract Fault) → number ≤ max →
+    IfErr result (λ f. (f ≡ fault.Refused (number + 1) refusal.Truncated) × IsUnfinished p) → IfErr result (IsOfReading max)
+unfinished_of_reading max p number (Ok extract) within h = tt
+unfinished_of_reading max p number (Err f) within h = let bound : number + 1 ≤ max + 1 = omega arith in rw h.0 bound

@@ -1,5 +1,5 @@
 -- Why bytes are no extract, or can't be read.
-use Rattle.std.specs.Prelude.{◌≡◌, ℕ, List, Option, IsSomeAnd, Result, Ok, Err}
+use Rattle.std.specs.Prelude.{◌≡◌, ◌≤◌, ◌+◌, ℕ, List, Option, IsSomeAnd, Result, Ok, Err}
 use Rattle.cif_columns.specs.Source.{HasFailedToRead, HasReadOn}
 use Rattle.cif_columns.specs.declared.source.Source.{Source}
 use Rattle.cif_extract.specs.ExtractParts.{ExtractParts, extract_parts}
@@ -16,12 +16,12 @@ IsReadFault max bytes after Read = IsSomeAnd after (IsCutBeforeRefusal max bytes
 IsReadFault max bytes after Memory = Unit {0}
 IsReadFault max bytes after _ = ⊥
 
--- the faults of reading, over whatever source
-abbrev pub IsOfReading : Fault → Type 0
-IsOfReading (Refused line why) = Unit {0}
-IsOfReading Read = Unit {0}
-IsOfReading Memory = Unit {0}
-IsOfReading _ = ⊥
+-- the faults of reading at most max lines, over whatever source
+abbrev pub IsOfReading : ℕ → Fault → Type 0
+IsOfReading max (Refused line why) = line ≤ max + 1
+IsOfReading max Read = Unit {0}
+IsOfReading max Memory = Unit {0}
+IsOfReading max _ = ⊥
 
 -- what is answered where the bytes spell an extract of these parts: it, but for a failure of the source or a want of memory
 abbrev pub IsReadAs : ExtractParts → Result Extract Fault → Type 0

@@ -1,5 +1,5 @@
 //! Reading a whole extract, line by line.
-ghost use Rattle.std.specs.Prelude.{◌≡◌, ◌≤◌, false, IfErr, IfOk, IfSome};
+ghost use Rattle.std.specs.Prelude.{◌≡◌, ◌≤◌, [], false, Some, IfErr, IfOk, IfSome};
 ghost use Rattle.cif_columns.specs.Source.{reader_of, source_failed};
 ghost use Rattle.cif_columns.specs.declared.line_reader.TheConstants.{MAX_LINES};
 ghost use Rattle.cif_extract.specs.ExtractParts.{ExtractParts, extract_parts};
@@ -15,7 +15,7 @@ use std::alloc::Global;
 ///
 /// Refused names the first refused line and its first reason; Read comes where the source failed
 /// before a refused line was decided, and Memory where what a line says can't be kept, after its
-/// line's checks. No other fault is answered.
+/// line's checks. No other fault is answered. After an extract nothing is left in the source.
 pub fn read_extract<R: ReadDevice>(
     alloc: Global,
     source: &mut Source<R>,
@@ -28,7 +28,9 @@ pub fn read_extract<R: ReadDevice>(
         → BytesSpell max_lines bytes x → IsReadAs x result) }
     ensures fault { IfSome (R.remaining (reader_of source.old)) (λ bytes. IfErr result
         (IsReadFault max_lines bytes (R.remaining (reader_of source.new)))) }
-    ensures answers { IfErr result IsOfReading }
+    ensures answers { IfErr result (IsOfReading max_lines) }
+    ensures end { IfSome (R.remaining (reader_of source.old)) (λ bytes. IfOk result (λ _.
+        R.remaining (reader_of source.new) ≡ Some [])) }
     ensures endless { IfOk result (λ _. source_failed source.old ≡ false) }
     ensures device { FaultReads R.read_errors source.old source.new result }
 {

@@ -1,6 +1,6 @@
-use Rattle.std.proofs.Common.{◌≡◌, ◌+◌, ◌<◌, ◌∙◌, length, [], ◌++◌, ◌∷◌, Err, IfErr, Ok, ap, arith, refl}
+use Rattle.std.proofs.Common.{◌≡◌, ◌+◌, ◌<◌, ◌∙◌, length, [], ◌++◌, ◌∷◌, ◌≤◌, Err, IfErr, IfOk, Ok, Result, ap, arith, refl}
 use Rattle.std.proofs.lemmas.Result.{err_from_is_err_and}
-use Rattle.cif_columns.proofs.GivenLinesLaws.{known_so, reading_ends, reading_faults, reading_line}
+use Rattle.cif_columns.proofs.GivenLinesLaws.{known_so, nothing_left, reading_ends, reading_faults, reading_line}
 use Rattle.cif_columns.proofs.ReadSources.{read_on_both}
 use Rattle.cif_columns.specs.LineReader.{given}
 use Rattle.cif_extract.specs.Fault.{of_line_fault}
@@ -11,6 +11,11 @@ use Rattle.cif_extract.proofs.ReadingRuns.{come_more, refused_here, refused_reas
 use Rattle.cif_extract.proofs.ReadingRuns.{unfinished_of_reading, unfinished_result, whole_result}
 use Rattle.cif_extract.proofs.SpelledBytes.{only_fault, only_read}
 use Rattle.cif_extract.proofs.reader.read_extract.Goals as goal
+
+-- what holds anyway holds where there is an extract
+if_extract : {A E : Type 0} {P : Type 0} (r : Result A E) → P → IfOk r (λ _. P)
+if_extract (Ok a) h = h
+if_extract (Err e) h = tt
 
 pub loop-reading-preserved : goal.loop-reading-preserved
 loop-reading-preserved g c =
@@ -93,16 +98,36 @@ returns-in-None-clause-only g c =
 
 pub returns-in_err-line-clause-answers : goal.returns-in_err-line-clause-answers
 returns-in_err-line-clause-answers g c =
+    let (ls, so_far, come, read_on) = c.loop-reading.invariant in
     let p = err_from_is_err_and c.from_residual.result c.from_residual.ensures.1 in
-    if_error IsOfReading c.from_residual.result (of_line_fault c.in_err-line.field-0.0) (p.1 ∙ ap Err p.2)
-    (line_fault_of_reading c.in_err-line.field-0.0)
+    let within : given c.loop-reading.lines ≤ c.args.max_lines = omega (arith, c.loop-reading.lines.counted, so_far.same_limit) in
+    if_error (IsOfReading c.args.max_lines) c.from_residual.result (of_line_fault c.in_err-line.field-0.0) (p.1 ∙ ap Err p.2)
+    (line_fault_of_reading c.args.max_lines (given c.loop-reading.lines) c.in_err-line.field-0.0 within
+    (c.in_err-line.ensures.fault so_far.reads_on))
 
 pub returns-in-Err-clause-answers : goal.returns-in-Err-clause-answers
-returns-in-Err-clause-answers g c = rw c.line.ensures (stop_of_reading c.line_number.result c.in-Err.stop)
+returns-in-Err-clause-answers g c =
+    let (ls, so_far, come, read_on) = c.loop-reading.invariant in
+    let next = c.in_ok-line.ensures in
+    let within : c.line_number.result ≤ c.args.max_lines =
+    omega (arith, c.line_number.ensures, c.next.new.self.counted, next.limit, so_far.same_limit) in
+    rw c.line.ensures (stop_of_reading c.args.max_lines c.line_number.result c.in-Err.stop within)
 
 pub returns-in-None-clause-answers : goal.returns-in-None-clause-answers
 returns-in-None-clause-answers g c =
-    unfinished_of_reading (progress_of c.loop-reading.reading) c.line_number-in-None.result c.finish.result c.finish.ensures.truncated
+    let (ls, so_far, come, read_on) = c.loop-reading.invariant in
+    let next = c.in_ok-line.ensures in
+    let within : c.line_number-in-None.result ≤ c.args.max_lines =
+    omega (arith, c.line_number-in-None.ensures, c.next.new.self.counted, next.limit, so_far.same_limit) in
+    unfinished_of_reading c.args.max_lines (progress_of c.loop-reading.reading) c.line_number-in-None.result c.finish.result within
+    c.finish.ensures.truncated
+
+pub returns-in-None-clause-end : goal.returns-in-None-clause-end
+returns-in-None-clause-end g c =
+    let (ls, so_far, come, read_on) = c.loop-reading.invariant in
+    let next = c.in_ok-line.ensures in
+    known_so _ _ _ (λ bytes none. if_extract c.finish.result none)
+    (nothing_left g.R.Read.remaining _ _ _ _ ls so_far c.next.new.self c.next.new.source (rw c.in-None.is at next.answer))
 
 pub returns-in_err-line-clause-device : goal.returns-in_err-line-clause-device
 returns-in_err-line-clause-device g c =
