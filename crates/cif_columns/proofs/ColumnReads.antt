@@ -1,5 +1,6 @@
 -- Reads of the columns of a line.
-use Rattle.std.proofs.Common.{◌≡◌, ℕ, zero, suc, ◌+◌, ◌-◌, ◌<◌, ◌≤◌, true, List, [], ◌∷◌, length, get_or, drop, refl, sym, ap, subst, ◌∙◌, arith}
+use Rattle.std.proofs.Common.{◌≡◌, ℕ, zero, suc, ◌+◌, ◌-◌, ◌<◌, ◌≤◌, true, List, [], ◌∷◌, length, get_or, drop, refl, sym, ap, subst}
+use Rattle.std.proofs.Common.{◌∙◌, arith}
 use Rattle.std.proofs.Common.{length-take}
 use Rattle.std.proofs.lemmas.List.{get_or-take, get_or-drop, length-drop}
 use Rattle.std.proofs.lemmas.Slice.Eq.{bytes_eq-Decides}
@@ -13,7 +14,8 @@ read line from to k h =
     get_or-take (to - (from - 1)) (drop (from - 1) line) k 0 h ∙ get_or-drop (from - 1) line k 0
 
 -- how many columns there are
-pub width : (line : List ℕ) (from to : ℕ) → length line ≡ 80 → 1 ≤ from → from ≤ to → to ≤ 80 → length (columns from to line) ≡ to + 1 - from
+pub width : (line : List ℕ) (from to : ℕ) → length line ≡ 80 → 1 ≤ from → from ≤ to → to ≤ 80
+    → length (columns from to line) ≡ to + 1 - from
 width line from to wide start some within =
     omega (arith, wide, length-take (to - (from - 1)) (drop (from - 1) line), length-drop (from - 1) line)
 

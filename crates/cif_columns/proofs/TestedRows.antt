@@ -19,7 +19,8 @@ use Rattle.cif_columns.proofs.Codes.{stands-codes_in}
 use Rattle.cif_columns.proofs.ColumnReads.{asked_at, read, width}
 use Rattle.cif_columns.proofs.PackedCodes.{AreLeft, left_same}
 use Rattle.cif_columns.proofs.Parts.{whole-first}
-use Rattle.cif_columns.proofs.PlainColumns.{ArePlain, IsPlain, IsPlainActivities, IsPlainText, blank-spaces, plain-blank, plain_already, whole-within}
+use Rattle.cif_columns.proofs.PlainColumns.{ArePlain, IsPlain, IsPlainActivities, IsPlainText, blank-spaces, plain-blank}
+use Rattle.cif_columns.proofs.PlainColumns.{plain_already, whole-within}
 use Rattle.cif_columns.proofs.TestedTexts.{text_part}
 use Rattle.cif_columns.proofs.TestedTimes.{InOrSpace, IsClockOrBlank, public_passes, work_passes}
 use Rattle.cif_columns.proofs.Texts.{is_text_of}
@@ -93,7 +94,8 @@ module _ (t : PlainTest) (line : List ℕ) (wide : length line ≡ 80) (fits : P
       (asked_at t.most from to value k q.1 below) (asked_at t.also from to value k p.1 below))
 
   clock_at : (from : ℕ) → 1 ≤ from → from ≤ 30 → asks_clock t from ≡ true
-      → IsClockOrBlank (get_or line (from - 1 + 0) 0) (get_or line (from - 1 + 1) 0) (get_or line (from - 1 + 2) 0) (get_or line (from - 1 + 3) 0)
+      → IsClockOrBlank (get_or line (from - 1 + 0) 0) (get_or line (from - 1 + 1) 0)
+      (get_or line (from - 1 + 2) 0) (get_or line (from - 1 + 3) 0)
   clock_at from start within asks =
       let p5 = and_parts _ _ asks in
       let p4 = and_parts _ _ p5.0 in
@@ -105,10 +107,12 @@ module _ (t : PlainTest) (line : List ℕ) (wide : length line ≡ 80) (fits : P
       range_at (from - 1 + k) least most (omega arith) (asked_at t.least from (from + 3) (codes "0000") k p1.0 (omega arith) ∙ a)
       (asked_at t.most from (from + 3) (codes "2959") k p1.1 (omega arith) ∙ b)
       (asked_at t.also from (from + 3) (codes "    ") k p2.1 (omega arith) ∙ c) in
-      let next : (k : ℕ) → k < 3 → get_or (codes "   ") k 0 ≡ 32 → get_or line (from - 1 + k) 0 ≡ 32 → get_or line (from - 1 + (k + 1)) 0 ≡ 32 =
+      let next : (k : ℕ) → k < 3 → get_or (codes "   ") k 0 ≡ 32 → get_or line (from - 1 + k) 0 ≡ 32
+      → get_or line (from - 1 + (k + 1)) 0 ≡ 32 =
       λ k lt e. next_at (from - 1 + k) (from - 1 + (k + 1)) (omega arith) (omega arith)
       (asked_at t.next from (from + 2) (codes "   ") k p3.1 (omega arith) ∙ e) in
-      let back : (k : ℕ) → k < 3 → get_or (codes "   ") k 0 ≡ 32 → get_or line (from - 1 + (k + 1)) 0 ≡ 32 → get_or line (from - 1 + k) 0 ≡ 32 =
+      let back : (k : ℕ) → k < 3 → get_or (codes "   ") k 0 ≡ 32 → get_or line (from - 1 + (k + 1)) 0 ≡ 32
+      → get_or line (from - 1 + k) 0 ≡ 32 =
       λ k lt e. back_at (from - 1 + k) (from - 1 + (k + 1)) (omega arith) (omega arith)
       (asked_at t.back from (from + 2) (codes "   ") k p4.1 (omega arith) ∙ e) in
       record {
@@ -122,7 +126,8 @@ module _ (t : PlainTest) (line : List ℕ) (wide : length line ≡ 80) (fits : P
         back_a = back 0 (omega arith) refl;
         back_b = back 1 (omega arith) refl;
         back_c = back 2 (omega arith) refl;
-        late = hour_at (from - 1 + 0) (from - 1 + 1) (omega arith) (omega arith) (asked_at t.hour from from (codes "2") 0 p5.1 (omega arith));
+        late = hour_at (from - 1 + 0) (from - 1 + 1) (omega arith) (omega arith)
+            (asked_at t.hour from from (codes "2") 0 p5.1 (omega arith));
       }
 
   -- the columns are spaces
@@ -172,12 +177,14 @@ module _ (t : PlainTest) (line : List ℕ) (wide : length line ≡ 80) (fits : P
       let long : length c ≡ 4 = omega (arith, width line from to wide start (omega arith) (omega arith)) in
       let here : (k : ℕ) → k < 4 → get_or line (from - 1 + k) 0 ≡ get_or c k 0 = λ k lt. sym (read line from to k (omega arith)) in
       let clock : IsClockOrBlank (get_or c 0 0) (get_or c 1 0) (get_or c 2 0) (get_or c 3 0) =
-      rw (here 0 (omega arith), here 1 (omega arith), here 2 (omega arith), here 3 (omega arith)) at (clock_at from start (omega arith) asks) in
+      rw (here 0 (omega arith), here 1 (omega arith), here 2 (omega arith), here 3 (omega arith)) at
+      (clock_at from start (omega arith) asks) in
       let passes : is_public_time c ≡ true =
       subst (λ l. is_public_time l ≡ true) (sym (four c long)) (public_passes _ _ _ _ clock) in
       public-stands c long passes
 
-  work_part : (from to : ℕ) → 1 ≤ from → to ≡ from + 4 → to ≤ 33 → asks_clock t from ≡ true → are (from + 3) (from + 3) t.next (codes " ") ≡ true
+  work_part : (from to : ℕ) → 1 ≤ from → to ≡ from + 4 → to ≤ 33 → asks_clock t from ≡ true
+      → are (from + 3) (from + 3) t.next (codes " ") ≡ true
       → are to to t.least (codes "H") ≡ true → are to to t.most (codes "H") ≡ true → are to to t.also (codes " ") ≡ true
       → WorkTimeStandsIn (columns from to line) (columns from to line)
   work_part from to start end within asks then least most also =
@@ -185,7 +192,8 @@ module _ (t : PlainTest) (line : List ℕ) (wide : length line ≡ 80) (fits : P
       let long : length c ≡ 5 = omega (arith, width line from to wide start (omega arith) (omega arith)) in
       let here : (k : ℕ) → k < 5 → get_or line (from - 1 + k) 0 ≡ get_or c k 0 = λ k lt. sym (read line from to k (omega arith)) in
       let clock : IsClockOrBlank (get_or c 0 0) (get_or c 1 0) (get_or c 2 0) (get_or c 3 0) =
-      rw (here 0 (omega arith), here 1 (omega arith), here 2 (omega arith), here 3 (omega arith)) at (clock_at from start (omega arith) asks) in
+      rw (here 0 (omega arith), here 1 (omega arith), here 2 (omega arith), here 3 (omega arith)) at
+      (clock_at from start (omega arith) asks) in
       let place : to - 1 + 0 ≡ from - 1 + 4 = omega arith in
       let mark_at = range_at (to - 1 + 0) 72 72 (omega arith) (asked_at t.least to to (codes "H") 0 least (omega arith))
       (asked_at t.most to to (codes "H") 0 most (omega arith)) (asked_at t.also to to (codes " ") 0 also (omega arith)) in

@@ -18,7 +18,8 @@ AppendsFront old new bytes = (front rest : List ℕ) × (bytes ≡ front ++ rest
 
 -- A call has written the whole text: the sink hadn't failed and hasn't now, the writer's known bytes have grown by the text, and
 -- its errors, where they are known, are those of before.
-pub record HasWritten {W : Type 0} (contents : W → Option (List ℕ)) (errors : W → Option ℕ) (text : List ℕ) (old new : Sink W) : Type 0 where
+pub record HasWritten {W : Type 0} (contents : W → Option (List ℕ)) (errors : W → Option ℕ) (text : List ℕ) (old new : Sink W) :
+    Type 0 where
   pub fresh : sink_failed old ≡ false
   pub going : sink_failed new ≡ false
   pub bytes : Appends (contents (writer_of old)) (contents (writer_of new)) text
@@ -26,7 +27,8 @@ pub record HasWritten {W : Type 0} (contents : W → Option (List ℕ)) (errors 
 
 -- A call has failed to write the text: the sink has failed now, a front of the text went out, and a writer that hadn't failed
 -- before has erred, once. A sink that had failed before is as it was.
-pub record HasFailed {W : Type 0} (contents : W → Option (List ℕ)) (errors : W → Option ℕ) (text : List ℕ) (old new : Sink W) : Type 0 where
+pub record HasFailed {W : Type 0} (contents : W → Option (List ℕ)) (errors : W → Option ℕ) (text : List ℕ) (old new : Sink W) :
+    Type 0 where
   pub failed : sink_failed new ≡ true
   pub front : AppendsFront (contents (writer_of old)) (contents (writer_of new)) text
   pub erred : sink_failed old ≡ false → OneError (errors (writer_of old)) (errors (writer_of new))

@@ -1,5 +1,6 @@
 -- Why a line is refused first.
-use Rattle.std.proofs.Common.{◌≡◌, ℕ, ◌+◌, ◌<◌, ◌≤◌, Bool, true, false, nat_eq, nat_lt, List, [], ◌∷◌, ◌++◌, length, take, Option, Some, None}
+use Rattle.std.proofs.Common.{◌≡◌, ℕ, ◌+◌, ◌<◌, ◌≤◌, Bool, true, false, nat_eq, nat_lt, List, [], ◌∷◌, ◌++◌, length, take, Option}
+use Rattle.std.proofs.Common.{Some, None}
 use Rattle.std.proofs.Common.{IfErr, IfSome, IsSomeAnd, Result, Err, refl, sym, ap, ◌∙◌, subst, arith, append_assoc, below_more}
 use Rattle.std.proofs.Common.{get_or, inl, length-append, ne_eqb}
 use Rattle.std.proofs.lemmas.Bool.Decides.{nat_tests}

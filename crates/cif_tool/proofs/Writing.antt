@@ -1,5 +1,6 @@
 -- What is written, piece by piece.
-use Rattle.std.proofs.Common.{◌≡◌, ℕ, ◌+◌, ◌<◌, List, [], ◌∷◌, ◌++◌, Option, Some, false, take, drop, length, get_or, sym, ◌∙◌, ap, refl, subst}
+use Rattle.std.proofs.Common.{◌≡◌, ℕ, ◌+◌, ◌<◌, List, [], ◌∷◌, ◌++◌, Option, Some, false, take, drop, length, get_or, sym, ◌∙◌, ap}
+use Rattle.std.proofs.Common.{refl, subst}
 use Rattle.std.proofs.Common.{append-nil, take-append-drop}
 use Rattle.std.proofs.lemmas.Grind.{flat_map-append}
 use Rattle.std.proofs.lemmas.List.Elements.{filter_map-append}
@@ -123,14 +124,16 @@ module _ {W : Type 0} (contents : W → Option (List ℕ)) (errors : W → Optio
 
     pub in-trailer : (u v : Sink W) → HasWritten contents errors (plain_line (header_table header.columns) ++ 10 ∷ []) s t
         → HasWritten contents errors (entries_text entries) t u
-        → HasFailed contents errors (plain_line trailer_table ++ 10 ∷ []) u v → HasFailed contents errors (planned_text header entries) s v
+        → HasFailed contents errors (plain_line trailer_table ++ 10 ∷ []) u v
+        → HasFailed contents errors (planned_text header entries) s v
     in-trailer u v h e w =
         failed_second contents errors _ _ s t v (subst (λ text. HasWritten contents errors text s t) (sym (head-text header)) h)
         (failed_second contents errors _ _ t u v e (subst (λ text. HasFailed contents errors text u v) (sym trailer-text) w))
 
     pub whole : (u v : Sink W) → HasWritten contents errors (plain_line (header_table header.columns) ++ 10 ∷ []) s t
         → HasWritten contents errors (entries_text entries) t u
-        → HasWritten contents errors (plain_line trailer_table ++ 10 ∷ []) u v → HasWritten contents errors (planned_text header entries) s v
+        → HasWritten contents errors (plain_line trailer_table ++ 10 ∷ []) u v
+        → HasWritten contents errors (planned_text header entries) s v
     whole u v h e w =
         written_both contents errors _ _ s t v (subst (λ text. HasWritten contents errors text s t) (sym (head-text header)) h)
         (written_both contents errors _ _ t u v e (subst (λ text. HasWritten contents errors text u v) (sym trailer-text) w))

@@ -14,7 +14,8 @@ returns-in-None g c =
     let xs = map g.E.Entry.terms c.args.entries.now in
     let none : get_or c.args.week.now.row c.args.weekday None ≡ None =
     ap (λ v. get_or c.args.week.now.row v None) (sym c.from.ensures) ∙ c.in-None.is in (
-      step-idle c.args.form xs c.args.calendar.now c.requires.sources c.args.week.now.number c.args.weekday c.requires.weekday
+      step-idle c.args.form xs c.args.calendar.now c.requires.sources c.args.week.now.number c.args.weekday
+      c.requires.weekday
           c.args.week.now.row c.requires.week.row c.args.runs.now.items c.requires.made none,
       rw c.of.ensures (days-none xs c.args.week.now.row c.args.weekday none),
     )
@@ -72,10 +73,12 @@ pub longest-requires-clause-earliest : goal.longest-requires-clause-earliest
 longest-requires-clause-earliest g c n same runs =
     let xs = map g.E.Entry.terms c.args.entries.now in
     let is_source = source g (goal.at.longest-requires-clause-earliest g c).In-Some in
-    first-day c.args.form xs c.args.calendar.now c.requires.sources c.args.week.now.number c.args.weekday c.requires.weekday
+    first-day c.args.form xs c.args.calendar.now c.requires.sources c.args.week.now.number c.args.weekday
+      c.requires.weekday
     c.args.week.now.row c.requires.week.row c.args.runs.now.items c.requires.made c.in-Some.source is_source c.mask_of-days.result
     c.mask_of-days.ensures c.args.before.now c.requires.before
-    (first-weekday c.args.form xs c.args.calendar.now c.requires.sources c.args.week.now.number c.args.weekday c.requires.weekday
+    (first-weekday c.args.form xs c.args.calendar.now c.requires.sources c.args.week.now.number c.args.weekday
+      c.requires.weekday
     c.args.week.now.row c.requires.week.row c.args.runs.now.items c.requires.made c.in-Some.source is_source c.mask_of-days.result
     c.mask_of-days.ensures c.requires.first)
     c.in-Some-day_in.first n (omega (arith, c.in-Some-day_in.ensures.0, c.in-Some-day_in.ensures.1)) same runs
@@ -84,10 +87,12 @@ pub returns : goal.returns
 returns g c =
     let xs = map g.E.Entry.terms c.args.entries.now in
     let is_source = source g (goal.at.returns g c).In-Some in (
-      rw c.in_ok-push.ensures.items (step-push c.args.form xs c.args.calendar.now c.requires.sources c.args.week.now.number c.args.weekday c.requires.weekday
+      rw c.in_ok-push.ensures.items (step-push c.args.form xs c.args.calendar.now c.requires.sources c.args.week.now.number c.args.weekday
+      c.requires.weekday
           c.args.week.now.row c.requires.week.row c.args.runs.now.items c.requires.made c.in-Some.source is_source c.mask_of-days.result
           c.mask_of-days.ensures c.args.before.now c.requires.before
-          (first-weekday c.args.form xs c.args.calendar.now c.requires.sources c.args.week.now.number c.args.weekday c.requires.weekday
+          (first-weekday c.args.form xs c.args.calendar.now c.requires.sources c.args.week.now.number c.args.weekday
+      c.requires.weekday
           c.args.week.now.row c.requires.week.row c.args.runs.now.items c.requires.made c.in-Some.source is_source c.mask_of-days.result
           c.mask_of-days.ensures c.requires.first) c.if-goes_on.ensures c.in-Some-day_in.first
           (omega (arith, c.in-Some-day_in.ensures.0, c.in-Some-day_in.ensures.1)) c.longest.result c.longest.ensures.first

@@ -6,7 +6,8 @@ use Rattle.cif_weeks.proofs.Growth.{ended-differs, ended-rests, ended-over, grow
 use Rattle.cif_weeks.proofs.SourcesIn.{source_in-inside}
 use Rattle.cif_weeks.proofs.longest.longest.Given.{Over}
 use Rattle.cif_weeks.proofs.longest.longest.Goals as goal
-use Rattle.cif_weeks.proofs.longest.longest.Goals.{After-unwrap_or, After-union-mask, then-number-end, else-number-end+in_default-2, else-number-end+in_default}
+use Rattle.cif_weeks.proofs.longest.longest.Goals.{After-unwrap_or, After-union-mask, then-number-end, else-number-end+in_default-2}
+use Rattle.cif_weeks.proofs.longest.longest.Goals.{else-number-end+in_default}
 
 pub last_day-requires-clause-days : goal.last_day-requires-clause-days
 last_day-requires-clause-days g c =

@@ -7,4 +7,5 @@ use Rattle.cif_records.proofs.stop.StopLayout.is_plain.Goals as goal
 pub returns : goal.returns
 returns c = λ yes.
     let line = c.args.line.now in
-    plain_of table_of line (stop_in line) (no_refusal line (stop_in line)) (c.passes.ensures.plain yes (table_of (stop_in line)) refl refl)
+    plain_of table_of line (stop_in line) (no_refusal line (stop_in line))
+    (c.passes.ensures.plain yes (table_of (stop_in line)) refl refl)

@@ -7,4 +7,5 @@ use Rattle.cif_records.proofs.terminus.TerminusLayout.is_plain.Goals as goal
 pub returns : goal.returns
 returns c = λ yes.
     let line = c.args.line.now in
-    plain_of table_of line (terminus_in line) (no_refusal line (terminus_in line)) (c.passes.ensures.plain yes (table_of (terminus_in line)) refl refl)
+    plain_of table_of line (terminus_in line) (no_refusal line (terminus_in line))
+    (c.passes.ensures.plain yes (table_of (terminus_in line)) refl refl)
