@@ -5,7 +5,8 @@ use Rattle.cif_columns.specs.declared.refusal.Refusal.TheVariants.{BadLength, Ba
 use Rattle.cif_columns.specs.declared.refusal.Refusal.TheVariants.{OpenEnd, DatesReversed, BadDays, BankHoliday, BadStp, BadTime}
 use Rattle.cif_columns.specs.declared.refusal.Refusal.TheVariants.{Truncated, TooManyLines}
 
--- the number of a refusal: first the reasons of one line in the order in which they are looked for, then those of the whole input
+-- The number of a refusal: first the reasons that stand in one line, in the order in which they are looked for, then those of the
+-- whole input. TooManyLines is looked for before all others, and Truncated at the end.
 abbrev pub number_of : Refusal → ℕ
 number_of BadLength = 1
 number_of BadByte = 2

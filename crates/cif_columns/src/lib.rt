@@ -32,7 +32,7 @@ pub use activities::Activities;
 pub use day::{Day, order_of_days};
 pub use days_run::DaysRun;
 pub use field::{Field, activities_at, columns_at, field_at, text_at, uid_at};
-pub use line::Line;
+pub use line::{Line, are_printable};
 pub use line_builder::LineBuilder;
 pub use line_fault::LineFault;
 pub use line_reader::{LineReader, MAX_LINES};
