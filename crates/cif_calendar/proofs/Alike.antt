@@ -9,7 +9,7 @@ use Rattle.cif_calendar.specs.Wins.{Wins}
 use Rattle.cif_calendar.specs.Clash.{IsClear}
 use Rattle.cif_calendar.specs.Source.{IsChosen, IsSource}
 use Rattle.cif_calendar.specs.Pieces.{IsUnbroken, IsPiece}
-use Rattle.cif_calendar.specs.PieceSteps.{IsWeekFrom}
+use Rattle.cif_calendar.specs.Steps.PieceSteps.{IsWeekFrom}
 
 -- d and e are days of one weekday in the stretch
 record AreAlike (first last d e : ℕ) : Type 0 where

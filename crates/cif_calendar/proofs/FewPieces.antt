@@ -5,7 +5,7 @@ use Rattle.std.specs.Prelude.{Contains, slice_get}
 use Rattle.std.proofs.lemmas.Bool.Decides.{nat_tests}
 use Rattle.cif_calendar.specs.Terms.{Terms}
 use Rattle.cif_calendar.specs.Source.{IsChosen}
-use Rattle.cif_calendar.specs.PieceSteps.{BreaksAfter, BreaksOff}
+use Rattle.cif_calendar.specs.Steps.PieceSteps.{BreaksAfter, BreaksOff}
 use Rattle.cif_calendar.proofs.Elements.{Contains-cases}
 
 -- how many of a record's two breaks come after a piece that begins on day d has begun

@@ -6,7 +6,7 @@ use Rattle.cif_columns.specs.Day.{weekday_of}
 use Rattle.cif_calendar.specs.Terms.{Terms}
 use Rattle.cif_calendar.specs.Clash.{IsClear}
 use Rattle.cif_calendar.specs.Source.{IsChosen, IsSource}
-use Rattle.cif_calendar.specs.PieceSteps.{IsWeekFrom}
+use Rattle.cif_calendar.specs.Steps.PieceSteps.{IsWeekFrom}
 
 weekday-below : (d : ℕ) → weekday_of d < 7
 weekday-below d = omega arith

@@ -8,7 +8,7 @@ use Rattle.cif_calendar.specs.Terms.{Terms}
 use Rattle.cif_calendar.specs.Clash.{IsClear, IsFirstClash}
 use Rattle.cif_calendar.specs.Source.{IsChosen, IsSource}
 use Rattle.cif_calendar.specs.Pieces.{IsPiece, IsBoundary, ChangesOn, BeginsPiece, Tiles, source_at}
-use Rattle.cif_calendar.specs.PieceSteps.{BreaksAfter}
+use Rattle.cif_calendar.specs.Steps.PieceSteps.{BreaksAfter}
 use Rattle.cif_calendar.specs.Calendar.{IsCalendar, IsFault}
 use Rattle.cif_calendar.specs.declared.piece.Piece.{Piece}
 use Rattle.cif_calendar.specs.declared.calendar_fault.CalendarFault.{CalendarFault}

@@ -14,7 +14,7 @@ use Rattle.cif_calendar.specs.Applies.{Applies}
 use Rattle.cif_calendar.specs.Wins.{Wins}
 use Rattle.cif_calendar.specs.Runs.{Runs}
 use Rattle.cif_calendar.specs.Source.{IsChosen}
-use Rattle.cif_calendar.specs.Standing.{NoneApplies}
+use Rattle.cif_calendar.specs.Steps.Standing.{NoneApplies}
 use Rattle.cif_calendar.proofs.Elements.{Contains-first, Contains-rest, Contains-cases}
 use Rattle.cif_calendar.proofs.Sets.{Wins-same}
 use Rattle.cif_calendar.proofs.Winning.{IsWith, wins-keeps, wins-new, none-keeps}

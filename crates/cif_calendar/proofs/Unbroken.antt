@@ -3,7 +3,7 @@ use Rattle.std.proofs.Common.{◌≡◌, ℕ, ◌<◌, ◌≤◌, subst, sym, �
 use Rattle.std.specs.Prelude.{◌⊎◌}
 use Rattle.cif_calendar.specs.Terms.{Terms, Records}
 use Rattle.cif_calendar.specs.Pieces.{IsUnbroken}
-use Rattle.cif_calendar.specs.PieceSteps.{BreaksOff, BreaksAfter}
+use Rattle.cif_calendar.specs.Steps.PieceSteps.{BreaksOff, BreaksAfter}
 use Rattle.cif_calendar.proofs.Winning.{IsWith}
 
 module _ {B : Type 0} (ys zs : Records B) (first : ℕ) (r : Terms B) (a : IsWith ys r zs) (end nearer : ℕ) (upto : nearer ≤ end) where

@@ -11,7 +11,7 @@ use Rattle.cif_calendar.specs.Terms.{Terms, Records}
 use Rattle.cif_calendar.specs.Applies.{Applies}
 use Rattle.cif_calendar.specs.Wins.{Wins}
 use Rattle.cif_calendar.specs.Source.{IsChosen}
-use Rattle.cif_calendar.specs.Standing.{Leads, IsDisputed, NoneApplies, StandsAt, Stands}
+use Rattle.cif_calendar.specs.Steps.Standing.{Leads, IsDisputed, NoneApplies, StandsAt, Stands}
 use Rattle.cif_calendar.specs.declared.winner.Standing.{Standing}
 use Rattle.cif_calendar.specs.declared.winner.Standing.TheVariants.{Nobody, Leader, Disputed}
 

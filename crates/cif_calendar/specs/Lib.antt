@@ -1,14 +1,13 @@
 pub mod Applies
-pub mod Bodied
 pub mod Calendar
 pub mod Clash
 pub mod Keys
+pub mod Laws
 pub mod Meaning
 pub mod OneDay
-pub mod PieceSteps
 pub mod Pieces
 pub mod Runs
 pub mod Source
-pub mod Standing
+pub mod Steps
 pub mod Terms
 pub mod Wins

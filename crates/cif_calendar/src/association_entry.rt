@@ -10,7 +10,7 @@ impl Entry for Association {
 
     ghost use Rattle.std.proofs.Common.{rules};
     ghost use Rattle.std.proofs.lemmas.Grind.{common_steps};
-    ghost use Rattle.cif_calendar.specs.Bodied.{cancelled-from_bodied};
+    ghost use Rattle.cif_calendar.specs.Laws.Bodied.{cancelled-from_bodied};
     ghost use Rattle.std.specs.Cmp.Lexicographic.{pointwise_decides, bytes_decides};
 
     ghost key = { λ a. a.key };

@@ -10,8 +10,8 @@ impl Entry for Schedule {
 
     ghost use Rattle.std.proofs.Common.{rules};
     ghost use Rattle.std.proofs.lemmas.Grind.{common_steps};
-    ghost use Rattle.cif_calendar.specs.Bodied.{cancelled-from_bodied};
-    ghost use Rattle.cif_extract.specs.SameBody.{same_body};
+    ghost use Rattle.cif_calendar.specs.Laws.Bodied.{cancelled-from_bodied};
+    ghost use Rattle.cif_extract.specs.Laws.SameBody.{same_body};
     ghost use Rattle.std.specs.Cmp.Lexicographic.{pointwise_decides, bytes_decides};
 
     ghost key = { λ s. s.uid };

@@ -4,7 +4,7 @@ ghost use Rattle.std.specs.Prelude.{◌≡◌, ◌<◌, ◌≤◌, ◌+◌, ℕ,
 ghost use Rattle.std.specs.Prelude.{IfOk, IfErr, OnOk, Err, ◌⊎◌, ◌++◌, ◌∷◌, []};
 ghost use Rattle.cif_calendar.specs.Calendar.{IsCalendar, IsFault};
 ghost use Rattle.cif_calendar.specs.Clash.{IsFirstClash};
-ghost use Rattle.cif_calendar.specs.PieceSteps.{BreaksAfter, BreaksOff, IsWeekFrom};
+ghost use Rattle.cif_calendar.specs.Steps.PieceSteps.{BreaksAfter, BreaksOff, IsWeekFrom};
 ghost use Rattle.cif_calendar.specs.Pieces.{IsPiece, IsUnbroken};
 ghost use Rattle.cif_calendar.specs.Source.{IsChosen};
 ghost use Rattle.cif_calendar.specs.declared.calendar_fault.CalendarFault.TheVariants.{Memory};

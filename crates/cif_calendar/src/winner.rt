@@ -6,7 +6,7 @@ ghost use Rattle.cif_columns.specs.Stp.{letter};
 ghost use Rattle.cif_calendar.specs.Applies.{Applies};
 ghost use Rattle.cif_calendar.specs.Clash.{IsClash, IsClear};
 ghost use Rattle.cif_calendar.specs.Source.{IsChosen, IsSource};
-ghost use Rattle.cif_calendar.specs.Standing.{Stands, IsBelow};
+ghost use Rattle.cif_calendar.specs.Steps.Standing.{Stands, IsBelow};
 
 use crate::entry::Entry;
 use cif_columns::Day;

@@ -3,7 +3,7 @@ use Rattle.std.proofs.Common.{◌≡◌, ℕ, List, [], ◌∷◌, ◌++◌, Opt
 use Rattle.cif_columns.specs.Field.{AllStandIn, plain_line}
 use Rattle.cif_columns.specs.declared.refusal.Refusal.{Refusal}
 use Rattle.cif_extract.specs.Grammar.{HasTerms}
-use Rattle.cif_extract.specs.Reading.{IsClosed, IsKeepable, IsTaken, Progress, begun, cancellation, closed, kept, opened_by, step}
+use Rattle.cif_extract.specs.Steps.Reading.{IsClosed, IsKeepable, IsTaken, Progress, begun, cancellation, closed, kept, opened_by, step}
 use Rattle.cif_extract.specs.declared.opened.Opened.{Opened}
 use Rattle.cif_extract.specs.declared.place.Place.TheVariants as at
 use Rattle.cif_extract.specs.declared.schedule.Schedule.{Schedule}

@@ -9,8 +9,8 @@ use Rattle.cif_columns.proofs.Parts.{stands-plain_line}
 use Rattle.cif_columns.proofs.PrintableBytes.{printable_fact}
 use Rattle.cif_extract.specs.ExtractParts.{ExtractParts}
 use Rattle.cif_extract.specs.Grammar.{AreExtract}
-use Rattle.cif_extract.specs.Place.{may_stand}
-use Rattle.cif_extract.specs.Reading.{HasRead, HasReadAt, Progress, parts_with_header, step}
+use Rattle.cif_extract.specs.Steps.Place.{may_stand}
+use Rattle.cif_extract.specs.Steps.Reading.{HasRead, HasReadAt, Progress, parts_with_header, step}
 use Rattle.cif_extract.specs.declared.place.Place.{Place}
 use Rattle.cif_extract.specs.declared.place.Place.TheVariants as at
 use Rattle.cif_records.specs.SpellsOrigin.{table_of as origin_table}

@@ -5,7 +5,7 @@ use Rattle.cif_columns.specs.Field.{Row, AllStandIn, plain_line}
 use Rattle.cif_extract.specs.Body.{KeepAll, KeepBody, kept_tables}
 use Rattle.cif_extract.specs.BodyParts.{extra_records, journey_records}
 use Rattle.cif_extract.specs.Call.{call_record}
-use Rattle.cif_extract.specs.Reading.{begun_journey}
+use Rattle.cif_extract.specs.Steps.Reading.{begun_journey}
 use Rattle.cif_extract.specs.declared.call.Call.{Call}
 use Rattle.cif_records.specs.Detail.{detail_table}
 use Rattle.cif_records.specs.SpellsRecord.{record_table}

@@ -21,7 +21,7 @@ use Rattle.cif_records.specs.declared.record.Record.TheVariants as of
 use Rattle.cif_records.specs.declared.terminus.Terminus.{Terminus}
 use Rattle.cif_records.specs.declared.tiploc.Tiploc.{Tiploc}
 use Rattle.cif_records.proofs.Records.{kind_of, one_record}
-use Rattle.cif_extract.specs.SameBody.{same_values as same_parts}
+use Rattle.cif_extract.specs.Laws.SameBody.{same_values as same_parts}
 use Rattle.cif_extract.proofs.Schedules.{same_schedule}
 
 -- P holds of each record

@@ -11,7 +11,7 @@ use Rattle.cif_extract.specs.ExtractParts.{ExtractParts}
 use Rattle.cif_extract.specs.FirstRefusal.{NoneRefused}
 use Rattle.cif_extract.specs.Grammar.{AreExtract, AreJourney, AreSchedule, AreSchedules, HaveBody}
 use Rattle.cif_extract.specs.OrderOfRecords.{record_before}
-use Rattle.cif_extract.specs.Place.{may_stand}
+use Rattle.cif_extract.specs.Steps.Place.{may_stand}
 use Rattle.cif_extract.specs.SpellsExtract.{SpellAll, SpellExtract}
 use Rattle.cif_extract.specs.declared.call.Call.{Call}
 use Rattle.cif_extract.specs.declared.call.Call.TheVariants.{At, Turn}

@@ -12,8 +12,8 @@ use Rattle.cif_columns.proofs.Parts.{stands-back}
 use Rattle.cif_extract.specs.FirstRefusal.{order_refusal, refusal_of}
 use Rattle.cif_extract.specs.OrderOfRecords.{RecordBefore, start, hd, ti, aa, running_bs, running_bx, cancelling_bs, cancelling_bx}
 use Rattle.cif_extract.specs.OrderOfRecords.{lo, li, cr, lt, zz, as_before, bx_of, followers, record_before}
-use Rattle.cif_extract.specs.Place.{after_extra, record_at}
-use Rattle.cif_extract.specs.Reading.{refusal_here}
+use Rattle.cif_extract.specs.Steps.Place.{after_extra, record_at}
+use Rattle.cif_extract.specs.Steps.Reading.{refusal_here}
 use Rattle.cif_extract.specs.declared.place.Place.{Place}
 use Rattle.cif_extract.specs.declared.place.Place.TheVariants as at
 use Rattle.cif_records.specs.Basic.{basic_back, basic_front}

@@ -13,12 +13,12 @@ use Rattle.cif_extract.specs.ExtractParts.{ExtractParts, extract_parts}
 use Rattle.cif_extract.specs.FirstRefusal.{NoneRefused, IsFirstRefusal, refusal_of}
 use Rattle.cif_extract.specs.Grammar.{AreExtract}
 use Rattle.cif_extract.specs.OrderOfRecords.{record_before}
-use Rattle.cif_extract.specs.Place.{may_stand}
+use Rattle.cif_extract.specs.Steps.Place.{may_stand}
 use Rattle.cif_extract.specs.ReadFault.{IsOfReading, IsReadFault}
-use Rattle.cif_extract.specs.Reading.{HasRead, HasReadAt, IsHeld, IsTaken, IsUnfinished, Progress, begun, no_progress}
-use Rattle.cif_extract.specs.Reading.{parts_with_header, refusal_here, step}
+use Rattle.cif_extract.specs.Steps.Reading.{HasRead, HasReadAt, IsHeld, IsTaken, IsUnfinished, Progress, begun, no_progress}
+use Rattle.cif_extract.specs.Steps.Reading.{parts_with_header, refusal_here, step}
 use Rattle.cif_extract.specs.SpellsExtract.{BytesSpell, SpellAll, SpellExtract}
-use Rattle.cif_extract.specs.StopAt.{stop_fault}
+use Rattle.cif_extract.specs.Steps.StopAt.{stop_fault}
 use Rattle.cif_extract.specs.declared.extract.Extract.{Extract}
 use Rattle.cif_extract.specs.declared.fault.Fault.{Fault}
 use Rattle.cif_extract.specs.declared.fault.Fault.TheVariants as fault

@@ -5,7 +5,7 @@ use Rattle.std.specs.Cmp.Lexicographic.{pointwise, pointwise_decides, bytes_deci
 use Rattle.cif_extract.specs.Body.{KeepBody, KeepSomeBody, parts_in}
 use Rattle.cif_extract.specs.BodyParts.{BodyParts}
 use Rattle.cif_extract.specs.PartsEq.{parts_eq}
-use Rattle.cif_extract.specs.SameBody.{same_body}
+use Rattle.cif_extract.specs.Laws.SameBody.{same_body}
 use Rattle.cif_extract.proofs.Bodies.{keeps_view, same_lines}
 
 pub lines_eq : (xs ys : List (List ℕ)) (a b : BodyParts) → KeepSomeBody xs → parts_in xs ≡ a → KeepSomeBody ys → parts_in ys ≡ b

@@ -1,8 +1,8 @@
 -- What a line that is taken comes to, by its kind.
 use Rattle.std.proofs.Common.{◌≡◌, ℕ, true, List, Some, refl}
 use Rattle.cif_columns.specs.Field.{AllStandIn, plain_line}
-use Rattle.cif_extract.specs.Place.{after_extra, may_stand}
-use Rattle.cif_extract.specs.Reading.{IsKeepable, IsOnTheWay, Progress, kept, refusal_here, step}
+use Rattle.cif_extract.specs.Steps.Place.{after_extra, may_stand}
+use Rattle.cif_extract.specs.Steps.Reading.{IsKeepable, IsOnTheWay, Progress, kept, refusal_here, step}
 use Rattle.cif_extract.specs.declared.place.Place.{Place}
 use Rattle.cif_extract.specs.declared.place.Place.TheVariants as at
 use Rattle.cif_records.specs.Kind.{kind_in}

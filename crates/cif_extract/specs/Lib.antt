@@ -5,12 +5,10 @@ pub mod ExtractParts
 pub mod Fault
 pub mod FirstRefusal
 pub mod Grammar
+pub mod Laws
 pub mod OrderOfRecords
 pub mod PartsEq
-pub mod Place
 pub mod ReadFault
-pub mod Reading
-pub mod SameBody
 pub mod SpellsExtract
-pub mod StopAt
+pub mod Steps
 pub mod Texts

@@ -178,7 +178,7 @@ impl Body {
 
 impl PartialEq for Body {
     ghost use Rattle.cif_extract.specs.PartsEq.{parts_eq};
-    ghost use Rattle.cif_extract.specs.SameBody.{parts_per};
+    ghost use Rattle.cif_extract.specs.Laws.SameBody.{parts_per};
 
     ghost eq = { parts_eq };
 
@@ -190,7 +190,7 @@ impl PartialEq for Body {
 }
 
 impl Eq for Body {
-    ghost use Rattle.cif_extract.specs.SameBody.{parts_equiv};
+    ghost use Rattle.cif_extract.specs.Laws.SameBody.{parts_equiv};
 
     ghost laws = { parts_equiv };
 }

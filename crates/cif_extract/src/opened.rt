@@ -18,7 +18,7 @@ pub(crate) struct Opened {
 }
 
 impl Opened {
-    ghost use Rattle.cif_extract.specs.Reading.{schedule_with};
+    ghost use Rattle.cif_extract.specs.Steps.Reading.{schedule_with};
 
     /// The schedule with its body.
     pub(crate) fn schedule(self, body: Body) -> Schedule

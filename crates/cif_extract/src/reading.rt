@@ -35,9 +35,9 @@ pub(crate) struct Reading {
 
 impl Reading {
     ghost use Rattle.cif_extract.specs.Body.{KeepSomeBody};
-    ghost use Rattle.cif_extract.specs.Reading.{HasRead, IsClosed, IsKept, IsOnTheWay, IsTaken};
-    ghost use Rattle.cif_extract.specs.Reading.{IsHeld, IsUnfinished, keeping, no_progress, progress_of};
-    ghost use Rattle.cif_extract.specs.Reading.{refusal_here};
+    ghost use Rattle.cif_extract.specs.Steps.Reading.{HasRead, IsClosed, IsKept, IsOnTheWay, IsTaken};
+    ghost use Rattle.cif_extract.specs.Steps.Reading.{IsHeld, IsUnfinished, keeping, no_progress, progress_of};
+    ghost use Rattle.cif_extract.specs.Steps.Reading.{refusal_here};
     ghost use Rattle.cif_extract.specs.ExtractParts.{extract_parts};
     ghost use Rattle.cif_records.specs.declared.record.Record.{Record};
 

@@ -33,7 +33,7 @@ impl From<AllocError> for StopAt {
 }
 
 impl StopAt {
-    ghost use Rattle.cif_extract.specs.StopAt.{stop_fault};
+    ghost use Rattle.cif_extract.specs.Steps.StopAt.{stop_fault};
 
     /// The stop as a fault at the line of this number.
     pub(crate) fn line(self, number: u64) -> Fault

@@ -6,7 +6,7 @@ use Rattle.cif_columns.specs.Field.{AllStandIn, StandsIn, columns, date, indicat
 use Rattle.cif_columns.specs.declared.stp.Stp.{Stp}
 use Rattle.cif_columns.proofs.FieldLaws.{one_date_value, one_indicator, one_text_value, one_weekdays, stp_in-letter}
 use Rattle.cif_columns.proofs.Masks.{days_of-stands}
-use Rattle.cif_records.specs.AssocBody.{SpellsBody}
+use Rattle.cif_records.specs.Steps.AssocBody.{SpellsBody}
 use Rattle.cif_records.specs.Association.{association_refusal, association_table}
 use Rattle.cif_records.specs.Bodies.{has_body}
 use Rattle.cif_records.specs.SpellsAssociation.{SpellsAssociation, table_of}

@@ -9,7 +9,7 @@ use Rattle.cif_columns.proofs.DayDigits.{is_day-ddmmyy}
 use Rattle.cif_columns.proofs.Parts.{stands-plain_line}
 use Rattle.cif_columns.proofs.PlainLines.{length-columns, line-plain_line, fits-text_at, fits-exactly_at}
 use Rattle.cif_columns.proofs.PrintableBytes.{printable_fact}
-use Rattle.cif_records.specs.AssocBody.{SpellsBody}
+use Rattle.cif_records.specs.Steps.AssocBody.{SpellsBody}
 use Rattle.cif_records.specs.Association.{association_table}
 use Rattle.cif_records.specs.Header.{header_table, kept}
 use Rattle.cif_records.specs.SpellsAssociation.{SpellsAssociation}

@@ -1,4 +1,3 @@
-pub mod AssocBody
 pub mod AssocKey
 pub mod Association
 pub mod Basic
@@ -22,6 +21,7 @@ pub mod SpellsRecord
 pub mod SpellsStop
 pub mod SpellsTerminus
 pub mod SpellsTiploc
+pub mod Steps
 pub mod Stop
 pub mod Terminus
 pub mod Tiploc

@@ -4,7 +4,7 @@ ghost use Rattle.std.specs.Option.{option_copied};
 ghost use Rattle.cif_columns.specs.Field.{StandsIn, AllStandIn, Fits, AllFit, columns, text};
 ghost use Rattle.cif_columns.specs.Field.{plain_columns, plain_line};
 ghost use Rattle.cif_columns.specs.LineBuilder.{put_all};
-ghost use Rattle.cif_records.specs.AssocBody.{SpellsBody};
+ghost use Rattle.cif_records.specs.Steps.AssocBody.{SpellsBody};
 ghost use Rattle.cif_records.specs.Association.{association_table, association_refusal};
 ghost use Rattle.cif_records.specs.Bodies.{has_body, of_body};
 ghost use Rattle.cif_records.specs.Checks.{IsJudged};

@@ -27,7 +27,7 @@ use Rattle.cif_columns.specs.Day.{weekday_of}
 use Rattle.cif_columns.specs.DaysRun.{only_on}
 use Rattle.cif_columns.specs.Sink.{AppendsFront}
 use Rattle.cif_columns.specs.declared.stp.Stp.TheVariants.{P}
-use Rattle.cif_calendar.specs.Bodied.{cancelled-from_bodied}
+use Rattle.cif_calendar.specs.Laws.Bodied.{cancelled-from_bodied}
 use Rattle.cif_calendar.specs.Terms.{Terms}
 use Rattle.cif_calendar.specs.Meaning.{SameMeaning}
 use Rattle.cif_calendar.specs.OneDay.{IsDayByDay}

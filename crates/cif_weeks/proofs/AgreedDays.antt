@@ -7,7 +7,7 @@ use Rattle.cif_weeks.specs.declared.form.Form.{Form}
 use Rattle.cif_weeks.specs.declared.form.Form.TheVariants.{Two}
 use Rattle.cif_weeks.specs.Window.{Window}
 use Rattle.cif_weeks.specs.Separate.{ExactlyOne}
-use Rattle.cif_weeks.specs.WeekMasks.{Agree, Counts}
+use Rattle.cif_weeks.specs.Steps.WeekMasks.{Agree, Counts}
 
 -- form 2: the day of the weekday and the day seven later lie in the window
 pub counts-within : (window : Window) (week next w : ℕ) → week + 1 ≡ next → w < 7 → window.first + 11 ≤ next * 7 + w →

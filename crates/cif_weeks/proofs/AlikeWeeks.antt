@@ -8,8 +8,8 @@ use Rattle.cif_calendar.specs.Pieces.{Tiles, winner_of}
 use Rattle.cif_calendar.specs.Calendar.{CalendarParts}
 use Rattle.cif_calendar.specs.declared.piece.Piece.{Piece}
 use Rattle.cif_calendar.proofs.PieceLists.{tiles-from, tiles-ends, source_at-piece}
-use Rattle.cif_weeks.specs.WeekMasks.{AreAlike}
-use Rattle.cif_weeks.specs.WeekRows.{source_in, body_in, AreAlikeUpTo, IsInPiece, IsRowBefore, IsWeek}
+use Rattle.cif_weeks.specs.Steps.WeekMasks.{AreAlike}
+use Rattle.cif_weeks.specs.Steps.WeekRows.{source_in, body_in, AreAlikeUpTo, IsInPiece, IsRowBefore, IsWeek}
 use Rattle.cif_weeks.specs.declared.week.Week.{Week}
 use Rattle.cif_weeks.proofs.SourcesIn.{source_in-within}
 

@@ -11,8 +11,8 @@ use Rattle.cif_weeks.specs.declared.run.Run.{Run}
 use Rattle.cif_weeks.specs.Permanent.{Permanent}
 use Rattle.cif_weeks.specs.Meets.{Meets}
 use Rattle.cif_weeks.specs.Runs.{AreSources, AreCanonicalRuns, window_of}
-use Rattle.cif_weeks.specs.WeekRows.{source_in, body_in, IsRowBefore, AreAlikeUpTo}
-use Rattle.cif_weeks.specs.MadeRecords.{AreMade, AreRunsUpTo}
+use Rattle.cif_weeks.specs.Steps.WeekRows.{source_in, body_in, IsRowBefore, AreAlikeUpTo}
+use Rattle.cif_weeks.specs.Steps.MadeRecords.{AreMade, AreRunsUpTo}
 use Rattle.cif_weeks.proofs.SourcesIn.{source_in-within, source_in-before}
 use Rattle.cif_weeks.proofs.AlikeWeeks.{alike-bodies}
 use Rattle.cif_weeks.proofs.Growth.{inside}

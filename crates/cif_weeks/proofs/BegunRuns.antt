@@ -10,11 +10,11 @@ use Rattle.cif_calendar.specs.Calendar.{CalendarParts}
 use Rattle.cif_weeks.specs.declared.form.Form.{Form}
 use Rattle.cif_weeks.specs.declared.run.Run.{Run}
 use Rattle.cif_weeks.specs.Permanent.{Permanent}
-use Rattle.cif_weeks.specs.Growing.{IsGrown, HasEnded}
-use Rattle.cif_weeks.specs.WeekMasks.{IsMask}
+use Rattle.cif_weeks.specs.Steps.Growing.{IsGrown, HasEnded}
+use Rattle.cif_weeks.specs.Steps.WeekMasks.{IsMask}
 use Rattle.cif_weeks.specs.Runs.{AreSources, AreRunsOf, IsRunOf, record_of, window_of}
-use Rattle.cif_weeks.specs.WeekRows.{source_in, body_in, IsRowBefore, IsMaskOf, HaveOneBody, GoesOn, Begins}
-use Rattle.cif_weeks.specs.MadeRecords.{IsCovered, AreRunsUpTo}
+use Rattle.cif_weeks.specs.Steps.WeekRows.{source_in, body_in, IsRowBefore, IsMaskOf, HaveOneBody, GoesOn, Begins}
+use Rattle.cif_weeks.specs.Steps.MadeRecords.{IsCovered, AreRunsUpTo}
 use Rattle.cif_weeks.proofs.WeekDays.{RunsOn-below}
 use Rattle.cif_weeks.proofs.Growth.{inside, source-body, mask-of_row}
 use Rattle.cif_weeks.proofs.Made.{made_idle, made_covered, made_more}

@@ -7,14 +7,14 @@ use Rattle.cif_columns.specs.DaysRun.{RunsOn}
 use Rattle.cif_weeks.specs.declared.form.Form.{Form}
 use Rattle.cif_weeks.specs.Window.{Window, IsWithin}
 use Rattle.cif_weeks.specs.Permanent.{Permanent}
-use Rattle.cif_weeks.specs.WeekMasks.{IsMask, Agree, Differ, AreAlike}
-use Rattle.cif_weeks.specs.Growing.{Breaks, IsGrown}
+use Rattle.cif_weeks.specs.Steps.WeekMasks.{IsMask, Agree, Differ, AreAlike}
+use Rattle.cif_weeks.specs.Steps.Growing.{Breaks, IsGrown}
 use Rattle.cif_weeks.proofs.WeekDays.{week_of-rises}
 use Rattle.cif_weeks.proofs.AlignedDays.{week_of-applies, tight, day_in_week}
 use Rattle.cif_weeks.proofs.Grown.{grown_runs, grown_applies, grown_aligned}
 use Rattle.cif_weeks.proofs.JoiningWeeks.{agree_joins, alike_joins, never_differ}
 use Rattle.cif_weeks.proofs.Jump.{day_before, alike_fewer, alike_last}
-use Rattle.cif_weeks.specs.MadeRecords.{IsCovered, AreMade}
+use Rattle.cif_weeks.specs.Steps.MadeRecords.{IsCovered, AreMade}
 use Rattle.cif_weeks.proofs.Made.{grown_in, ended_in, begun_in, made_later}
 
 module _ {B : Type 0} (window : Window) (body_on : ℕ → Option B)

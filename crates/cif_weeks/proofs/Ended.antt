@@ -7,8 +7,8 @@ use Rattle.cif_weeks.specs.declared.form.Form.TheVariants.{One, Two}
 use Rattle.cif_weeks.specs.Window.{Window, IsWithin}
 use Rattle.cif_weeks.specs.Permanent.{Permanent}
 use Rattle.cif_weeks.specs.Separate.{ExactlyOne}
-use Rattle.cif_weeks.specs.WeekMasks.{IsMask, Differ}
-use Rattle.cif_weeks.specs.Growing.{IsGrown, HasEnded}
+use Rattle.cif_weeks.specs.Steps.WeekMasks.{IsMask, Differ}
+use Rattle.cif_weeks.specs.Steps.Growing.{IsGrown, HasEnded}
 use Rattle.cif_weeks.proofs.WeekDays.{week_of-rises, week_of-next, weekday_of-next}
 use Rattle.cif_weeks.proofs.Masks.{mask_runs, one_mask}
 use Rattle.cif_weeks.proofs.Grown.{fits_last}

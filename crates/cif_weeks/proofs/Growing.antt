@@ -7,8 +7,8 @@ use Rattle.cif_weeks.specs.declared.form.Form.{Form}
 use Rattle.cif_weeks.specs.declared.form.Form.TheVariants.{One, Two}
 use Rattle.cif_weeks.specs.Window.{Window, IsWithin}
 use Rattle.cif_weeks.specs.Permanent.{Permanent}
-use Rattle.cif_weeks.specs.WeekMasks.{IsMask, Agree, IsLastDay}
-use Rattle.cif_weeks.specs.Growing.{Fits, IsGrown}
+use Rattle.cif_weeks.specs.Steps.WeekMasks.{IsMask, Agree, IsLastDay}
+use Rattle.cif_weeks.specs.Steps.Growing.{Fits, IsGrown}
 use Rattle.cif_weeks.proofs.WeekDays.{day_rises, week_of-next, weekday_of-next, RunsOn-below}
 use Rattle.cif_weeks.proofs.Masks.{mask_runs, mask_moved, last_runs, last_latest}
 use Rattle.cif_weeks.proofs.Grown.{fits_last}

@@ -10,8 +10,8 @@ use Rattle.cif_weeks.specs.Permanent.{Permanent}
 use Rattle.cif_weeks.specs.Applies.{Applies}
 use Rattle.cif_weeks.specs.Aligned.{IsAligned}
 use Rattle.cif_weeks.specs.Separate.{Change}
-use Rattle.cif_weeks.specs.WeekMasks.{IsMask}
-use Rattle.cif_weeks.specs.Growing.{Fits, IsGrown, HasEnded}
+use Rattle.cif_weeks.specs.Steps.WeekMasks.{IsMask}
+use Rattle.cif_weeks.specs.Steps.Growing.{Fits, IsGrown, HasEnded}
 use Rattle.cif_weeks.proofs.WeekDays.{week_of-rises, day_rises_week, week_of-next}
 use Rattle.cif_weeks.proofs.Masks.{mask_runs}
 use Rattle.cif_weeks.proofs.Separate.{change-seven_days}

@@ -11,10 +11,10 @@ use Rattle.cif_calendar.specs.Source.{body_at}
 use Rattle.cif_calendar.specs.Calendar.{CalendarParts}
 use Rattle.cif_weeks.specs.declared.form.Form.{Form}
 use Rattle.cif_weeks.specs.Window.{IsWithin}
-use Rattle.cif_weeks.specs.Growing.{IsGrown, HasEnded}
-use Rattle.cif_weeks.specs.WeekMasks.{Agree, Differ, IsLastDay, IsMask}
+use Rattle.cif_weeks.specs.Steps.Growing.{IsGrown, HasEnded}
+use Rattle.cif_weeks.specs.Steps.WeekMasks.{Agree, Differ, IsLastDay, IsMask}
 use Rattle.cif_weeks.specs.Runs.{AreSources, window_of}
-use Rattle.cif_weeks.specs.WeekRows.{source_in, body_in, IsRowBefore, IsMaskOf, ArePositions, AreAlikeUpTo, IsWeek}
+use Rattle.cif_weeks.specs.Steps.WeekRows.{source_in, body_in, IsRowBefore, IsMaskOf, ArePositions, AreAlikeUpTo, IsWeek}
 use Rattle.cif_weeks.specs.declared.week.Week.{Week}
 use Rattle.cif_weeks.proofs.Growing.{grown_start, grown_more}
 use Rattle.cif_weeks.proofs.Ended.{ended_differ, ended_rest, ended_window}

@@ -7,8 +7,8 @@ use Rattle.cif_weeks.specs.declared.form.Form.{Form}
 use Rattle.cif_weeks.specs.declared.form.Form.TheVariants.{One, Two}
 use Rattle.cif_weeks.specs.Window.{Window, IsWithin}
 use Rattle.cif_weeks.specs.Permanent.{Permanent}
-use Rattle.cif_weeks.specs.WeekMasks.{IsMask, Agree, Differ, AreAlike}
-use Rattle.cif_weeks.specs.Growing.{Breaks, IsGrown}
+use Rattle.cif_weeks.specs.Steps.WeekMasks.{IsMask, Agree, Differ, AreAlike}
+use Rattle.cif_weeks.specs.Steps.Growing.{Breaks, IsGrown}
 use Rattle.cif_weeks.proofs.WeekDays.{week_of-next, weekday_of-next, RunsOn-below, masks_equal}
 use Rattle.cif_weeks.proofs.Masks.{mask_runs, one_mask}
 use Rattle.cif_weeks.proofs.Grown.{fits_last}

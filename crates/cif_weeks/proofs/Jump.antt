@@ -7,8 +7,8 @@ use Rattle.cif_weeks.specs.declared.form.Form.{Form}
 use Rattle.cif_weeks.specs.declared.form.Form.TheVariants.{One, Two}
 use Rattle.cif_weeks.specs.Window.{Window, IsWithin}
 use Rattle.cif_weeks.specs.Permanent.{Permanent}
-use Rattle.cif_weeks.specs.WeekMasks.{IsMask, AreAlike}
-use Rattle.cif_weeks.specs.Growing.{Fits, IsGrown}
+use Rattle.cif_weeks.specs.Steps.WeekMasks.{IsMask, AreAlike}
+use Rattle.cif_weeks.specs.Steps.Growing.{Fits, IsGrown}
 use Rattle.cif_weeks.proofs.WeekDays.{day_rises, week_later, week_of-next, weekday_of-next}
 use Rattle.cif_weeks.proofs.Masks.{mask_moved}
 use Rattle.cif_weeks.proofs.Grown.{fits_last}

@@ -12,9 +12,9 @@ use Rattle.cif_weeks.specs.Permanent.{Permanent}
 use Rattle.cif_weeks.specs.Applies.{Applies}
 use Rattle.cif_weeks.specs.Aligned.{IsAligned}
 use Rattle.cif_weeks.specs.Meets.{Meets}
-use Rattle.cif_weeks.specs.Growing.{IsGrown, HasEnded}
+use Rattle.cif_weeks.specs.Steps.Growing.{IsGrown, HasEnded}
 use Rattle.cif_weeks.proofs.WeekDays.{week_of-rises}
-use Rattle.cif_weeks.specs.MadeRecords.{IsApartFrom, IsCovered, AreMade}
+use Rattle.cif_weeks.specs.Steps.MadeRecords.{IsApartFrom, IsCovered, AreMade}
 use Rattle.cif_weeks.proofs.Meeting.{meets}
 use Rattle.cif_weeks.proofs.Grown.{grown_runs, grown_applies, grown_first, grown_aligned, grown_change}
 

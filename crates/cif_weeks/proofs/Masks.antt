@@ -2,7 +2,7 @@
 use Rattle.std.proofs.Common.{◌≡◌, ℕ, ◌≤◌, List, Bool, Option, Some, sym, ◌∙◌, subst}
 use Rattle.cif_columns.specs.Day.{week_of, weekday_of}
 use Rattle.cif_columns.specs.DaysRun.{RunsOn}
-use Rattle.cif_weeks.specs.WeekMasks.{IsMask, IsLastDay}
+use Rattle.cif_weeks.specs.Steps.WeekMasks.{IsMask, IsLastDay}
 use Rattle.cif_weeks.proofs.WeekDays.{same_day, masks_equal}
 
 module _ {B : Type 0} (body_on : ℕ → Option B) (b : B) (week : ℕ) where

@@ -7,7 +7,7 @@ use Rattle.std.proofs.lemmas.List.{get_or-set_same, get_or-set_other, get_or_pas
 use Rattle.std.proofs.lemmas.Option.{get_or_from_slice_get, slice_get-get_or}
 use Rattle.cif_calendar.specs.Terms.{Terms}
 use Rattle.cif_calendar.specs.Source.{body_at}
-use Rattle.cif_weeks.specs.WeekRows.{IsMaskOf}
+use Rattle.cif_weeks.specs.Steps.WeekRows.{IsMaskOf}
 use Rattle.cif_weeks.proofs.WeekDays.{RunsOn-below}
 
 module _ {B : Type 0} (xs : List (Terms B)) (row : List (Option ℕ)) (position : ℕ) where

@@ -5,7 +5,7 @@ use Rattle.std.proofs.lemmas.Bool.{cases_lt}
 use Rattle.std.proofs.lemmas.List.{get_or-set_same, get_or-set_other}
 use Rattle.cif_columns.specs.Day.{week_of, weekday_of}
 use Rattle.cif_calendar.specs.Calendar.{CalendarParts}
-use Rattle.cif_weeks.specs.WeekRows.{source_in, IsRowBefore}
+use Rattle.cif_weeks.specs.Steps.WeekRows.{source_in, IsRowBefore}
 use Rattle.cif_weeks.proofs.WeekDays.{same_day}
 
 -- the row has the sources of the weekdays before k, and none from k on

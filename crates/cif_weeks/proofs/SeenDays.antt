@@ -8,7 +8,7 @@ use Rattle.std.proofs.lemmas.List.{get_or-replicate}
 use Rattle.cif_columns.specs.DaysRun.{RunsOn}
 use Rattle.cif_calendar.specs.Terms.{Terms}
 use Rattle.cif_calendar.specs.Source.{body_at}
-use Rattle.cif_weeks.specs.WeekRows.{HaveOneBody, AreDaysOf, AreSeen, IsMaskOf}
+use Rattle.cif_weeks.specs.Steps.WeekRows.{HaveOneBody, AreDaysOf, AreSeen, IsMaskOf}
 
 -- no weekday is in an empty mask
 none-on : (v : ℕ) → RunsOn (replicate 7 false) v → ⊥

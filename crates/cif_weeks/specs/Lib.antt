@@ -1,14 +1,11 @@
 pub mod Aligned
 pub mod Applies
 pub mod Canonical
-pub mod Growing
 pub mod HaveForm
-pub mod MadeRecords
 pub mod Meets
 pub mod Permanent
 pub mod Runs
 pub mod Separate
-pub mod WeekMasks
-pub mod WeekRows
+pub mod Steps
 pub mod WhatRuns
 pub mod Window

@@ -2,9 +2,9 @@
 
 ghost use Rattle.std.specs.Prelude.{◌≡◌, ◌<◌, ◌≤◌, ◌+◌, ◌*◌, ℕ, length, map, IfOk, MatchBool};
 ghost use Rattle.cif_columns.specs.Day.{IsDay};
-ghost use Rattle.cif_weeks.specs.MadeRecords.{AreRunsUpTo};
+ghost use Rattle.cif_weeks.specs.Steps.MadeRecords.{AreRunsUpTo};
 ghost use Rattle.cif_weeks.specs.Runs.{AreCanonicalRuns, AreSources};
-ghost use Rattle.cif_weeks.specs.WeekRows.{AreDaysOf, ArePositions, Begins, GoesOn, HaveOneBody, IsRowBefore, IsWeek};
+ghost use Rattle.cif_weeks.specs.Steps.WeekRows.{AreDaysOf, ArePositions, Begins, GoesOn, HaveOneBody, IsRowBefore, IsWeek};
 
 use crate::form::Form;
 use crate::longest::{agree, longest};

@@ -4,10 +4,10 @@ ghost use Rattle.std.specs.Prelude.{◌≡◌, ◌<◌, ◌≤◌, ◌+◌, ◌*
 ghost use Rattle.std.specs.Prelude.{length, map, IsTrue, MatchBool};
 ghost use Rattle.cif_columns.specs.Day.{week_of};
 ghost use Rattle.cif_calendar.specs.Source.{body_at};
-ghost use Rattle.cif_weeks.specs.Growing.{HasEnded, IsGrown};
+ghost use Rattle.cif_weeks.specs.Steps.Growing.{HasEnded, IsGrown};
 ghost use Rattle.cif_weeks.specs.Runs.{AreSources, record_of, window_of};
-ghost use Rattle.cif_weeks.specs.WeekMasks.{Agree, Counts, Differ};
-ghost use Rattle.cif_weeks.specs.WeekRows.{body_in, source_in, IsMaskOf, IsWeek};
+ghost use Rattle.cif_weeks.specs.Steps.WeekMasks.{Agree, Counts, Differ};
+ghost use Rattle.cif_weeks.specs.Steps.WeekRows.{body_in, source_in, IsMaskOf, IsWeek};
 
 use crate::form::Form;
 use crate::run::Run;

@@ -2,7 +2,7 @@
 
 ghost use Rattle.std.specs.Prelude.{◌≡◌, ◌<◌, ◌≤◌, ◌+◌, ◌-◌, ◌*◌, ℕ, IfSome, MatchOption};
 ghost use Rattle.cif_columns.specs.Day.{IsDay, week_of, weekday_of};
-ghost use Rattle.cif_weeks.specs.WeekRows.{IsInPiece, IsRowBefore, IsWeek};
+ghost use Rattle.cif_weeks.specs.Steps.WeekRows.{IsInPiece, IsRowBefore, IsWeek};
 
 use cif_calendar::{Calendar, Piece};
 use cif_columns::Day;

@@ -5,8 +5,8 @@ ghost use Rattle.std.specs.Prelude.{slice_index_or};
 ghost use Rattle.cif_columns.specs.Day.{IsDay, week_of, weekday_of};
 ghost use Rattle.cif_columns.specs.DaysRun.{RunsOn};
 ghost use Rattle.cif_calendar.specs.Source.{body_at};
-ghost use Rattle.cif_weeks.specs.WeekMasks.{IsLastDay};
-ghost use Rattle.cif_weeks.specs.WeekRows.{IsMaskOf, ArePositions};
+ghost use Rattle.cif_weeks.specs.Steps.WeekMasks.{IsLastDay};
+ghost use Rattle.cif_weeks.specs.Steps.WeekRows.{IsMaskOf, ArePositions};
 
 use crate::week::{Row, day_in};
 use cif_calendar::{Entry, same_body};

@@ -1,6 +1,6 @@
 use Rattle.std.proofs.Common.{◌≡◌, ◌≤◌, ◌+◌, length}
 use Rattle.std.specs.Prelude.{map}
-use Rattle.cif_calendar.specs.PieceSteps.{IsWeekFrom}
+use Rattle.cif_calendar.specs.Steps.PieceSteps.{IsWeekFrom}
 use Rattle.cif_calendar.proofs.stretches.week_from.Given as goal
 
 abbrev pub invariant-loop : goal.invariant-loop

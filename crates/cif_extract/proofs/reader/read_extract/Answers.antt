@@ -5,7 +5,7 @@ use Rattle.cif_columns.proofs.ReadSources.{read_on_both}
 use Rattle.cif_columns.specs.LineReader.{given}
 use Rattle.cif_extract.specs.Fault.{of_line_fault}
 use Rattle.cif_extract.specs.ReadFault.{IsOfReading, IsReadFault}
-use Rattle.cif_extract.specs.Reading.{progress_of}
+use Rattle.cif_extract.specs.Steps.Reading.{progress_of}
 use Rattle.cif_extract.proofs.FirstRefusals.{at_fault, at_line, fault_handed_on, if_error, line_fault_of_reading}
 use Rattle.cif_extract.proofs.ReadingRuns.{come_more, refused_here, refused_reason, stop_of_reading, stop_result}
 use Rattle.cif_extract.proofs.ReadingRuns.{unfinished_of_reading, unfinished_result, whole_result}

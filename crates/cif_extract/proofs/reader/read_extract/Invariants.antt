@@ -2,7 +2,7 @@ use Rattle.std.proofs.Common.{◌-◌, ℕ, List}
 use Rattle.cif_columns.specs.GivenLines.{IsReading}
 use Rattle.cif_columns.specs.LineReader.{given, limit}
 use Rattle.cif_columns.specs.Source.{HasReadOn}
-use Rattle.cif_extract.specs.Reading.{progress_of}
+use Rattle.cif_extract.specs.Steps.Reading.{progress_of}
 use Rattle.cif_extract.proofs.ReadingRuns.{HasCome}
 use Rattle.cif_extract.proofs.reader.read_extract.Given as goal
 

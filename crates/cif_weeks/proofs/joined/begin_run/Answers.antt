@@ -1,6 +1,6 @@
 use Rattle.std.proofs.Common.{◌≡◌, ◌<◌, ◌≤◌, None, Some, map, length, get_or, ap, sym, ◌∙◌, subst, arith}
 use Rattle.std.proofs.lemmas.List.{length-map}
-use Rattle.cif_weeks.specs.WeekRows.{source_in}
+use Rattle.cif_weeks.specs.Steps.WeekRows.{source_in}
 use Rattle.cif_weeks.proofs.Growth.{row-positions}
 use Rattle.cif_weeks.proofs.SourcesIn.{source_in-inside}
 use Rattle.cif_weeks.proofs.SeenDays.{days-mask, days-none}
@@ -15,7 +15,7 @@ returns-in-None g c =
     let none : get_or c.args.week.now.row c.args.weekday None ≡ None =
     ap (λ v. get_or c.args.week.now.row v None) (sym c.from.ensures) ∙ c.in-None.is in (
       step-idle c.args.form xs c.args.calendar.now c.requires.sources c.args.week.now.number c.args.weekday
-      c.requires.weekday
+          c.requires.weekday
           c.args.week.now.row c.requires.week.row c.args.runs.now.items c.requires.made none,
       rw c.of.ensures (days-none xs c.args.week.now.row c.args.weekday none),
     )
@@ -74,11 +74,11 @@ longest-requires-clause-earliest g c n same runs =
     let xs = map g.E.Entry.terms c.args.entries.now in
     let is_source = source g (goal.at.longest-requires-clause-earliest g c).In-Some in
     first-day c.args.form xs c.args.calendar.now c.requires.sources c.args.week.now.number c.args.weekday
-      c.requires.weekday
+    c.requires.weekday
     c.args.week.now.row c.requires.week.row c.args.runs.now.items c.requires.made c.in-Some.source is_source c.mask_of-days.result
     c.mask_of-days.ensures c.args.before.now c.requires.before
     (first-weekday c.args.form xs c.args.calendar.now c.requires.sources c.args.week.now.number c.args.weekday
-      c.requires.weekday
+    c.requires.weekday
     c.args.week.now.row c.requires.week.row c.args.runs.now.items c.requires.made c.in-Some.source is_source c.mask_of-days.result
     c.mask_of-days.ensures c.requires.first)
     c.in-Some-day_in.first n (omega (arith, c.in-Some-day_in.ensures.0, c.in-Some-day_in.ensures.1)) same runs
@@ -88,11 +88,11 @@ returns g c =
     let xs = map g.E.Entry.terms c.args.entries.now in
     let is_source = source g (goal.at.returns g c).In-Some in (
       rw c.in_ok-push.ensures.items (step-push c.args.form xs c.args.calendar.now c.requires.sources c.args.week.now.number c.args.weekday
-      c.requires.weekday
+          c.requires.weekday
           c.args.week.now.row c.requires.week.row c.args.runs.now.items c.requires.made c.in-Some.source is_source c.mask_of-days.result
           c.mask_of-days.ensures c.args.before.now c.requires.before
           (first-weekday c.args.form xs c.args.calendar.now c.requires.sources c.args.week.now.number c.args.weekday
-      c.requires.weekday
+          c.requires.weekday
           c.args.week.now.row c.requires.week.row c.args.runs.now.items c.requires.made c.in-Some.source is_source c.mask_of-days.result
           c.mask_of-days.ensures c.requires.first) c.if-goes_on.ensures c.in-Some-day_in.first
           (omega (arith, c.in-Some-day_in.ensures.0, c.in-Some-day_in.ensures.1)) c.longest.result c.longest.ensures.first

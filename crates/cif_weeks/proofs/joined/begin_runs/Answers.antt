@@ -4,7 +4,7 @@ use Rattle.cif_calendar.specs.Terms.{Terms}
 use Rattle.cif_calendar.specs.Calendar.{CalendarParts}
 use Rattle.cif_weeks.specs.declared.form.Form.{Form}
 use Rattle.cif_weeks.specs.declared.run.Run.{Run}
-use Rattle.cif_weeks.specs.MadeRecords.{AreRunsUpTo}
+use Rattle.cif_weeks.specs.Steps.MadeRecords.{AreRunsUpTo}
 use Rattle.cif_weeks.proofs.BegunRuns.{step-same}
 use Rattle.cif_weeks.proofs.SeenDays.{seen-none, seen-same, seen-more}
 use Rattle.cif_weeks.proofs.joined.begin_runs.Goals as goal

@@ -1,6 +1,6 @@
 use Rattle.std.proofs.Common.{◌+◌, ◌*◌, map}
-use Rattle.cif_weeks.specs.MadeRecords.{AreRunsUpTo}
-use Rattle.cif_weeks.specs.WeekRows.{AreSeen}
+use Rattle.cif_weeks.specs.Steps.MadeRecords.{AreRunsUpTo}
+use Rattle.cif_weeks.specs.Steps.WeekRows.{AreSeen}
 use Rattle.cif_weeks.proofs.joined.begin_runs.Given as goal
 
 abbrev pub invariant-loop-weekday : goal.invariant-loop-weekday

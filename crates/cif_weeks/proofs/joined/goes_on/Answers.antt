@@ -5,8 +5,8 @@ use Rattle.cif_calendar.specs.Terms.{Terms}
 use Rattle.cif_calendar.specs.Calendar.{CalendarParts}
 use Rattle.cif_weeks.specs.declared.form.Form.{Form}
 use Rattle.cif_weeks.specs.Runs.{window_of}
-use Rattle.cif_weeks.specs.WeekMasks.{Agree, Differ}
-use Rattle.cif_weeks.specs.WeekRows.{IsMaskOf, GoesOn, Begins}
+use Rattle.cif_weeks.specs.Steps.WeekMasks.{Agree, Differ}
+use Rattle.cif_weeks.specs.Steps.WeekRows.{IsMaskOf, GoesOn, Begins}
 use Rattle.cif_weeks.proofs.joined.goes_on.Goals as goal
 
 -- what the test of a mask that isn't empty says

@@ -1,7 +1,7 @@
 use Rattle.std.proofs.Common.{◌≡◌, ◌<◌, ◌≤◌, ◌*◌, List, map, sym, ◌∙◌, ap, subst, arith}
 use Rattle.cif_columns.specs.Day.{week_of}
 use Rattle.cif_weeks.specs.declared.run.Run.{Run}
-use Rattle.cif_weeks.specs.MadeRecords.{AreRunsUpTo}
+use Rattle.cif_weeks.specs.Steps.MadeRecords.{AreRunsUpTo}
 use Rattle.cif_weeks.proofs.AllWeeks.{row-none, row-jump, upto-none, upto-jump, upto-all}
 use Rattle.cif_weeks.proofs.joined.runs.Goals as goal
 

@@ -1,7 +1,7 @@
 use Rattle.std.proofs.Common.{◌≡◌, ◌≤◌, ◌+◌, ◌-◌, ◌*◌, map}
 use Rattle.cif_columns.specs.Day.{IsDay, week_of}
-use Rattle.cif_weeks.specs.MadeRecords.{AreRunsUpTo}
-use Rattle.cif_weeks.specs.WeekRows.{IsRowBefore}
+use Rattle.cif_weeks.specs.Steps.MadeRecords.{AreRunsUpTo}
+use Rattle.cif_weeks.specs.Steps.WeekRows.{IsRowBefore}
 use Rattle.cif_weeks.proofs.joined.runs.Given as goal
 
 abbrev pub invariant-loop-number : goal.invariant-loop-number

@@ -1,4 +1,4 @@
-use Rattle.cif_extract.specs.SameBody.{same_body}
+use Rattle.cif_extract.specs.Laws.SameBody.{same_body}
 use Rattle.cif_extract.proofs.body.Body.equality_of_bodies.Goals as goal
 
 pub returns : goal.returns

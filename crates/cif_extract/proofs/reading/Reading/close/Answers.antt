@@ -1,7 +1,7 @@
 use Rattle.std.proofs.Common.{◌∙◌, ◌++◌, ◌∷◌, [], List, ap}
 use Rattle.std.proofs.lemmas.Result.{err_from_is_err_and}
 use Rattle.cif_extract.specs.Body.{parts_in}
-use Rattle.cif_extract.specs.Reading.{progress_of, schedule_with, Progress}
+use Rattle.cif_extract.specs.Steps.Reading.{progress_of, schedule_with, Progress}
 use Rattle.cif_extract.specs.declared.schedule.Schedule.{Schedule}
 use Rattle.cif_extract.proofs.reading.Reading.close.Goals as goal
 

@@ -1,5 +1,5 @@
 use Rattle.std.proofs.Common.{sym, subst, ◌∙◌}
-use Rattle.cif_extract.specs.Reading.{IsTaken, progress_of}
+use Rattle.cif_extract.specs.Steps.Reading.{IsTaken, progress_of}
 use Rattle.cif_extract.proofs.TakenLines.{refusal_of_record}
 use Rattle.cif_extract.proofs.reading.Reading.take.Goals as goal
 

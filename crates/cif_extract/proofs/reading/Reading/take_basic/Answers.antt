@@ -1,5 +1,5 @@
 use Rattle.std.proofs.Common.{refl, ◌≡◌, List, [], ◌∷◌, ℕ, None, Some}
-use Rattle.cif_extract.specs.Reading.{progress_of}
+use Rattle.cif_extract.specs.Steps.Reading.{progress_of}
 use Rattle.cif_records.specs.declared.record.Record.TheVariants as of
 use Rattle.cif_extract.proofs.BasicSteps.{begun_none, begun_some, keepable_none, keepable_some}
 use Rattle.cif_extract.proofs.reading.Reading.take_basic.Goals as goal

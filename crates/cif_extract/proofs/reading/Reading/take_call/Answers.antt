@@ -1,6 +1,6 @@
 use Rattle.std.proofs.Common.{ap, subst, ◌∙◌}
-use Rattle.cif_extract.specs.Reading.{IsOnTheWay, Progress}
-use Rattle.cif_extract.specs.Reading.{progress_of}
+use Rattle.cif_extract.specs.Steps.Reading.{IsOnTheWay, Progress}
+use Rattle.cif_extract.specs.Steps.Reading.{progress_of}
 use Rattle.cif_extract.specs.declared.place.Place.TheVariants as at
 use Rattle.cif_records.proofs.Records.{kind_there as spelled_kind}
 use Rattle.cif_extract.proofs.TakenLines.{step_on_the_way}

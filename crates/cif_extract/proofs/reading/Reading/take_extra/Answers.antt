@@ -1,6 +1,6 @@
 use Rattle.std.proofs.Common.{ap, ◌∙◌}
-use Rattle.cif_extract.specs.Place.{after_extra}
-use Rattle.cif_extract.specs.Reading.{Progress, progress_of}
+use Rattle.cif_extract.specs.Steps.Place.{after_extra}
+use Rattle.cif_extract.specs.Steps.Reading.{Progress, progress_of}
 use Rattle.cif_extract.proofs.TakenLines.{kind_here, step_extra}
 use Rattle.cif_records.specs.declared.kind.Kind.TheVariants.{Bx}
 use Rattle.cif_extract.proofs.reading.Reading.take_extra.Goals as goal

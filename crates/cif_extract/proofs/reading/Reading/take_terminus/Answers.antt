@@ -1,6 +1,6 @@
 use Rattle.std.proofs.Common.{◌≡◌, Some, sym, ◌∙◌, subst, ap}
 use Rattle.cif_extract.specs.Body.{KeepSomeBody}
-use Rattle.cif_extract.specs.Reading.{Progress, kept, progress_of}
+use Rattle.cif_extract.specs.Steps.Reading.{Progress, kept, progress_of}
 use Rattle.cif_records.specs.declared.kind.Kind.TheVariants.{Lt}
 use Rattle.cif_records.specs.declared.record.Record.TheVariants as of
 use Rattle.cif_extract.proofs.BasicSteps.{closing, terminus_none}

@@ -8,7 +8,7 @@ use Rattle.cif_extract.specs.Call.{call_record}
 use Rattle.cif_extract.specs.ExtractParts.{ExtractParts}
 use Rattle.cif_extract.specs.FirstRefusal.{order_refusal}
 use Rattle.cif_extract.specs.Grammar.{AreExtract, AreSchedules, HasTerms, records_before_trailer}
-use Rattle.cif_extract.specs.Place.{after_extra, record_at}
+use Rattle.cif_extract.specs.Steps.Place.{after_extra, record_at}
 use Rattle.cif_extract.specs.declared.call.Call.{Call}
 use Rattle.cif_extract.specs.declared.opened.Opened.{Opened}
 use Rattle.cif_extract.specs.declared.place.Place.{Place}

@@ -7,7 +7,7 @@ use Rattle.cif_weeks.specs.declared.form.Form.TheVariants.{One, Two}
 use Rattle.cif_weeks.specs.Window.{Window, IsWithin}
 use Rattle.cif_weeks.specs.Permanent.{Permanent}
 use Rattle.cif_weeks.specs.Separate.{ExactlyOne}
-use Rattle.cif_weeks.specs.WeekMasks.{IsMask}
+use Rattle.cif_weeks.specs.Steps.WeekMasks.{IsMask}
 
 -- form 2: on the days of a week that are in the window, the mask has just the weekdays on which the body runs
 pub record FitsWithin {B : Type 0} (window : Window) (body_on : ℕ → Option B) (r : Permanent B) (week : ℕ) : Type 0 where

@@ -11,7 +11,7 @@ use Rattle.cif_calendar.specs.Calendar.{CalendarParts}
 use Rattle.cif_weeks.specs.declared.form.Form.{Form}
 use Rattle.cif_weeks.specs.declared.week.Week.{Week}
 use Rattle.cif_weeks.specs.Runs.{window_of}
-use Rattle.cif_weeks.specs.WeekMasks.{Agree, Differ}
+use Rattle.cif_weeks.specs.Steps.WeekMasks.{Agree, Differ}
 
 -- the source of day n, and none outside the window
 abbrev pub source_in : CalendarParts → ℕ → Option ℕ

@@ -9,9 +9,9 @@ use Rattle.cif_weeks.specs.Window.{Window}
 use Rattle.cif_weeks.specs.Permanent.{Permanent}
 use Rattle.cif_weeks.specs.Applies.{Applies}
 use Rattle.cif_weeks.specs.Separate.{Change}
-use Rattle.cif_weeks.specs.Growing.{IsGrown, HasEnded}
+use Rattle.cif_weeks.specs.Steps.Growing.{IsGrown, HasEnded}
 use Rattle.cif_weeks.specs.Runs.{AreRunsOf, window_of}
-use Rattle.cif_weeks.specs.WeekRows.{body_in}
+use Rattle.cif_weeks.specs.Steps.WeekRows.{body_in}
 
 -- r ends in a week before that in which s begins, and where that is the very next week, there is a change between them
 pub record IsApartFrom {B : Type 0} (form : Form) (window : Window) (r s : Permanent B) : Type 0 where
