@@ -1,5 +1,6 @@
 -- The contents of bytes, the lines among them, and why a content is no line.
 use Rattle.std.specs.Prelude.{◌≡◌, ◌≢◌, ◌⊎◌, ℕ, ◌<◌, ◌≤◌, List, [], ◌∷◌, ◌++◌, length, All}
+use Rattle.std.specs.List.{flat_map}
 use Rattle.std.specs.Str.Lines.{lines}
 use Rattle.cif_columns.specs.declared.refusal.Refusal.{Refusal}
 use Rattle.cif_columns.specs.declared.refusal.Refusal.TheVariants.{BadLength, BadByte, TooManyLines}
@@ -9,6 +10,10 @@ use Rattle.cif_columns.specs.Line.{ArePrintable}
 -- feed follows loses one carriage return at its end.
 abbrev pub contents_of : List ℕ → List (List ℕ)
 contents_of bytes = lines bytes
+
+-- the text of lines, each with a line feed
+abbrev pub lines_text : List (List ℕ) → List ℕ
+lines_text lines = flat_map (λ line. line ++ (10 ∷ [])) lines
 
 -- the line stands first, rest after it: a line feed ends the line, or a carriage return and a line feed, or the end of the bytes
 abbrev pub StandsFirst : List ℕ → List ℕ → List ℕ → Type 0

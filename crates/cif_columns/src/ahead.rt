@@ -1,7 +1,7 @@
 //! The bytes that are read ahead of the lines.
-ghost use Rattle.std.specs.Prelude.{◌≡◌, ◌+◌, ◌<◌, ◌≤◌, ◌↔◌, ℕ, List, [], length, take, drop};
-ghost use Rattle.std.specs.Prelude.{slice_range, true, false, Some, Ok, IfOk, OnErr};
-ghost use Rattle.std.specs.Prelude.{IfSome, IfNone, IsSome, IsTrue, ◌≢◌};
+ghost use Rattle.std.specs.Prelude.{◌≡◌, ◌+◌, ◌<◌, ◌≤◌, [], length, take, drop};
+ghost use Rattle.std.specs.Prelude.{true, false, Some, Ok, IfOk, OnErr};
+ghost use Rattle.std.specs.Prelude.{IfSome, IfNone, IsSome, ◌≢◌};
 ghost use Rattle.std.specs.Io.KnownBytes.{Keeps, Consumes, IsAtEnd};
 ghost use Rattle.cif_columns.specs.FirstLine.{is_decided};
 ghost use Rattle.cif_columns.specs.Source.{Reads, reader_of, source_failed};

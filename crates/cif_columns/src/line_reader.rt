@@ -1,6 +1,6 @@
 //! Lines, one by one, from a source that gives its bytes in any pieces.
 ghost use Rattle.std.specs.Prelude.{◌≡◌, ◌≢◌, ◌+◌, ◌≤◌, false, [], Err, Ok, None, IfSome};
-ghost use Rattle.std.specs.Prelude.{OnOk, OnErr, IfErr, IfOk, OnSome};
+ghost use Rattle.std.specs.Prelude.{OnErr, IfErr, IfOk, OnSome};
 ghost use Rattle.cif_columns.specs.Contents.{DecidesNothing};
 ghost use Rattle.cif_columns.specs.Source.{source_failed};
 ghost use Rattle.cif_columns.specs.declared.line_reader.TheConstants.{MAX_LINES};

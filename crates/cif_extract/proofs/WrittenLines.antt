@@ -10,7 +10,8 @@ use Rattle.cif_columns.specs.declared.stp.Stp.TheVariants.{P}
 use Rattle.cif_columns.proofs.WrittenTexts.{failed_first, failed_second, writes_on, written_both}
 use Rattle.cif_extract.specs.Body.{KeepAll}
 use Rattle.cif_extract.specs.BodyParts.{BodyParts, body_records}
-use Rattle.cif_extract.specs.Texts.{lines_text, schedule_lines}
+use Rattle.cif_columns.specs.Contents.{lines_text}
+use Rattle.cif_extract.specs.Texts.{schedule_lines}
 use Rattle.cif_records.specs.Basic.{basic_table}
 use Rattle.cif_records.specs.SpellsRecord.{record_table}
 use Rattle.cif_records.specs.declared.record.Record.{Record}

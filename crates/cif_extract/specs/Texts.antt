@@ -1,15 +1,10 @@
--- The text of lines, each with a line feed.
-use Rattle.std.specs.Prelude.{ℕ, Bool, List, [], ◌∷◌, ◌++◌, Some, map}
-use Rattle.std.specs.List.{flat_map}
+-- The plain lines of what is written.
+use Rattle.std.specs.Prelude.{ℕ, Bool, List, ◌∷◌, Some, map}
 use Rattle.cif_columns.specs.Field.{plain_line}
 use Rattle.cif_columns.specs.declared.stp.Stp.TheVariants.{P}
 use Rattle.cif_extract.specs.BodyParts.{BodyParts, body_records}
 use Rattle.cif_records.specs.Basic.{basic_table}
 use Rattle.cif_records.specs.SpellsRecord.{record_table}
-
--- lines, each with a line feed
-abbrev pub lines_text : List (List ℕ) → List ℕ
-lines_text lines = flat_map (λ line. line ++ (10 ∷ [])) lines
 
 -- the plain lines of a permanent schedule: its BS, its BX if there is one, and its journey
 unfoldable pub schedule_lines : List ℕ → ℕ → ℕ → List Bool → BodyParts → List (List ℕ)

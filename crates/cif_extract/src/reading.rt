@@ -6,7 +6,6 @@ ghost use Rattle.cif_records.specs.Basic.{basic_refusal};
 ghost use Rattle.cif_records.specs.Header.{header_refusal};
 ghost use Rattle.cif_records.specs.Kind.{kind_in};
 ghost use Rattle.cif_records.specs.Record.{record_refusal};
-ghost use Rattle.cif_records.specs.Terminus.{terminus_refusal};
 ghost use Rattle.cif_records.specs.Tiploc.{tiploc_refusal};
 ghost use Rattle.cif_records.specs.Trailer.{trailer_refusal};
 

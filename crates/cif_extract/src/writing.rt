@@ -3,7 +3,8 @@ ghost use Rattle.std.specs.Prelude.{◌≡◌, ◌≤◌, ◌++◌, ◌∷◌, [
 ghost use Rattle.cif_columns.specs.Field.{plain_line};
 ghost use Rattle.cif_columns.specs.Sink.{Writes, sink_failed};
 ghost use Rattle.cif_columns.specs.declared.stp.Stp.TheVariants.{P};
-ghost use Rattle.cif_extract.specs.Texts.{lines_text, schedule_lines};
+ghost use Rattle.cif_columns.specs.Contents.{lines_text};
+ghost use Rattle.cif_extract.specs.Texts.{schedule_lines};
 ghost use Rattle.cif_records.specs.Association.{association_table};
 ghost use Rattle.cif_records.specs.Header.{header_table};
 ghost use Rattle.cif_records.specs.Tiploc.{tiploc_table};

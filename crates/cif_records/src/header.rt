@@ -1,5 +1,5 @@
 //! The header of an extract.
-ghost use Rattle.std.specs.Prelude.{◌≡◌, ◌+◌, ◌≤◌, Some, Ok, codes};
+ghost use Rattle.std.specs.Prelude.{◌≡◌, ◌≤◌, Some, Ok, codes};
 ghost use Rattle.std.proofs.Props.{props};
 ghost use Rattle.cif_columns.specs.Day.{ddmmyy_in};
 ghost use Rattle.cif_columns.specs.DayDigits.{ddmmyy_of};

@@ -1,6 +1,6 @@
 //! The canonical extract of an extract of associations, one record a date.
-ghost use Rattle.std.specs.Prelude.{◌≡◌, ◌≢◌, ◌≤◌, ◌↔◌, ◌∷◌, [], Err, IfErr, IfOk, IfSome, IsErr, IsTrue};
-ghost use Rattle.std.specs.Prelude.{ℕ, All, OnErr, OnOk, false, true, length};
+ghost use Rattle.std.specs.Prelude.{◌≡◌, ◌≢◌, ◌≤◌, ◌∷◌, [], Err, IfErr, IfOk, IfSome, IsTrue};
+ghost use Rattle.std.specs.Prelude.{ℕ, All, OnOk, false, true, length};
 ghost use Rattle.cif_columns.specs.Devices.{OneError};
 ghost use Rattle.cif_columns.specs.Sink.{Writes, sink_failed, writer_of};
 ghost use Rattle.cif_columns.specs.Source.{reader_of, source_failed};

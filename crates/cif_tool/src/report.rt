@@ -1,6 +1,5 @@
 //! The lines that name faults.
-ghost use Rattle.std.specs.Prelude.{◌≡◌, ◌+◌, ◌≤◌, ◌++◌, ◌↔◌, length, false};
-ghost use Rattle.std.specs.Prelude.{IsTrue, IsErr, OnOk, OnErr};
+ghost use Rattle.std.specs.Prelude.{◌≡◌, ◌+◌, ◌≤◌, ◌++◌, length};
 ghost use Rattle.arrayvec.specs.ArrayVec.{array_vec_len};
 ghost use Rattle.cif_columns.specs.Sink.{Writes};
 ghost use Rattle.cif_tool.specs.Report.{fault_line, fault_text, clash_text, key_text};

@@ -1,6 +1,6 @@
 use Rattle.std.proofs.Common.{take}
 use Rattle.cif_columns.specs.Sink.{HasWritten}
-use Rattle.cif_extract.specs.Texts.{lines_text}
+use Rattle.cif_columns.specs.Contents.{lines_text}
 use Rattle.cif_extract.proofs.writing.write_lines.Given as goal
 
 abbrev pub invariant-loop-line : goal.invariant-loop-line

@@ -1,6 +1,6 @@
 use Rattle.std.proofs.Common.{sym}
 use Rattle.cif_columns.proofs.TextOrder as order
-use Rattle.cif_columns.proofs.text.order_of_texts.Goals as goal
+use Rattle.cif_columns.proofs.laws.order_of_texts.Goals as goal
 
 pub returns-clause-order : goal.returns-clause-order
 returns-clause-order g c a b s t la lb = sym (order.order_of_columns g.row.N a b s t la lb)

@@ -1,0 +1,16 @@
+use Rattle.std.proofs.Common.{◌<◌, length}
+use Rattle.std.specs.Prelude.{All}
+use Rattle.cif_calendar.specs.Keys.{keyed}
+use Rattle.cif_canon.specs.Records.{window_from}
+use Rattle.cif_canon.proofs.MadeRecords.{IsMade}
+use Rattle.cif_canon.proofs.records.canonical_records.Given as goal
+
+abbrev pub invariant-loop-rest : goal.invariant-loop-rest
+invariant-loop-rest g l = record {
+  within : All (λ i. i < length l.entries) l.rest;
+  made : IsMade g.E.Key.Ord.cmp l.form (window_from l.window.first l.window.last) (keyed g.E.Entry.key g.E.Entry.terms l.entries)
+      l.records.items l.rest;
+}
+
+abbrev pub decreases-loop-rest : goal.decreases-loop-rest
+decreases-loop-rest g l = length l.rest

@@ -1,0 +1,60 @@
+//! The positions of entries in the order of their keys.
+ghost use Rattle.std.specs.Prelude.{◌≡◌, ℕ, ◌<◌, ◌≤◌, All, Contains, length, map};
+ghost use Rattle.std.specs.Prelude.{IfOk, slice_get};
+ghost use Rattle.std.specs.List.{range_with_len};
+ghost use Rattle.std.specs.Option.{option_cmp};
+ghost use Rattle.cif_calendar.specs.Keys.{keyed};
+ghost use Rattle.cif_canon.specs.Turns.{IsFirstRun, IsRising};
+
+use cif_calendar::Entry;
+use std::alloc::{AllocError, Global};
+use std::cmp::Ordering;
+
+/// How the entries at two positions compare by their keys. A position without an entry is first: that
+/// the positions have entries isn't known to the closure of a sort.
+fn compare_keys<E: Entry>(entries: &[E], one: usize, other: usize) -> Ordering
+    ensures { result ≡ option_cmp E.Key.cmp (slice_get (map E.key entries.now) one)
+        (slice_get (map E.key entries.now) other) }
+{
+    match (entries.get(one), entries.get(other)) {
+        (Some(x), Some(y)) => x.key().cmp(y.key()),
+        (Some(_), None) => Ordering::Greater,
+        (None, Some(_)) => Ordering::Less,
+        (None, None) => Ordering::Equal,
+    }
+}
+
+/// The positions of `count` entries.
+fn all_positions(alloc: Global, count: usize) -> Result<Vec<usize>, AllocError>
+    ensures { IfOk result (λ positions. positions.items ≡ range_with_len 0 count) }
+{
+    (0..count).collect(alloc)
+}
+
+/// The positions of all entries, in the order of their keys.
+pub(crate) fn positions_by_key<E: Entry>(alloc: Global, entries: &[E]) -> Result<Vec<usize>, AllocError>
+    ensures within { IfOk result (λ positions. All (λ i. i < length entries.now) positions.items) }
+    ensures whole { IfOk result (λ positions. (i : ℕ) → i < length entries.now →
+        Contains positions.items i) }
+    ensures rising { IfOk result (λ positions.
+        IsRising E.Key.cmp (keyed E.key E.terms entries.now) positions.items) }
+{
+    let mut positions = all_positions(alloc, entries.len())?;
+    positions.sort_by(|one, other| compare_keys(entries, *one, *other))?;
+    Ok(positions)
+}
+
+/// How many of the positions, from the first on, are of entries with one key.
+pub(crate) fn first_run<E: Entry>(entries: &[E], positions: &[usize]) -> usize
+    requires within { All (λ i. i < length entries.now) positions.now }
+    requires some { 0 < length positions.now }
+    ensures { IsFirstRun (keyed E.key E.terms entries.now) positions.now result }
+{
+    let key = entries[positions[0]].key();
+    for (count, i) in positions.iter().enumerate() {
+        if entries[*i].key() != key {
+            return count;
+        }
+    }
+    positions.len()
+}
