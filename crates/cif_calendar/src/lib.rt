@@ -18,6 +18,3 @@ pub use piece::Piece;
 pub use stretches::calendar;
 pub use window::Window;
 pub use winner::{BodiesDiffer, same_body, winner_on};
-
-#[cfg(test)]
-mod tests;

@@ -50,8 +50,3 @@ pub use trial_writer::TrialWriter;
 pub use uid::Uid;
 pub use work_time::WorkTime;
 pub use write_device::WriteDevice;
-
-#[cfg(test)]
-mod stream_tests;
-#[cfg(test)]
-mod value_tests;

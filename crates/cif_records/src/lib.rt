@@ -36,8 +36,3 @@ pub use stop::Stop;
 pub use terminus::Terminus;
 pub use tiploc::Tiploc;
 pub use trailer::Trailer;
-
-#[cfg(test)]
-mod record_tests;
-#[cfg(test)]
-mod tests;

@@ -4,8 +4,6 @@
 mod command_line;
 mod daily;
 mod extract;
-#[cfg(test)]
-mod fault_tests;
 mod job;
 mod normalise;
 mod program;

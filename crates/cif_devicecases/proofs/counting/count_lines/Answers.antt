@@ -1,0 +1,40 @@
+use Rattle.std.proofs.Common.{◌≡◌, ◌∙◌, ℕ, List, length, [], ◌++◌, ◌∷◌, Err, Ok, ap}
+use Rattle.cif_columns.specs.GivenLines.{AreAllLines, AreLinesToFault}
+use Rattle.cif_columns.proofs.GivenLinesLaws.{reading_starts, reading_line, reading_ends, reading_faults, known_so}
+use Rattle.cif_devicecases.proofs.counting.count_lines.Goals as goal
+
+pub loop-lines-init : goal.loop-lines-init
+loop-lines-init g c =
+    let new = c.new-lines.ensures in
+    ([], reading_starts g.R.Read.remaining c.args.max_lines c.new-lines.result c.args.source.now new.held new.given new.limit new.past)
+
+pub loop-lines-preserved : goal.loop-lines-preserved
+loop-lines-preserved g c =
+    let (ls, so_far) = c.loop-lines.invariant in
+    let next = c.in-Ok-Some.ensures in
+    let line = c.in-Ok-Some.field-0-0 in
+    let is = c.in-Ok-Some.field-0-is in (
+      ls ++ line ∷ [],
+      reading_line g.R.Read.remaining _ _ _ _ ls so_far c.next.new.self c.next.new.source line
+          (rw is at next.answer) (next.past ∙ rw is) next.limit (rw is at next.counted),
+    )
+
+pub returns-in-Ok-None-clause-all : goal.returns-in-Ok-None-clause-all
+returns-in-Ok-None-clause-all g c =
+    let (ls, so_far) = c.loop-lines.invariant in
+    let next = c.in-Ok-None.ensures in
+    let is = c.in-Ok-None.field-0-is in
+    known_so _ (λ bytes. AreAllLines c.args.max_lines bytes ls)
+    (λ bytes. (lines : List (List ℕ)) × (c.line_number.result ≡ length lines) × AreAllLines c.args.max_lines bytes lines)
+    (λ bytes h. (ls, c.line_number.ensures ∙ next.ended (ap Ok is) ∙ so_far.counted, h))
+    (reading_ends g.R.Read.remaining _ _ _ _ ls so_far c.next.new.self c.next.new.source (rw is at next.answer))
+
+pub returns-in-Err-clause-fault : goal.returns-in-Err-clause-fault
+returns-in-Err-clause-fault g c =
+    let (ls, so_far) = c.loop-lines.invariant in
+    let next = c.in-Err.ensures in
+    known_so _ (λ bytes. AreLinesToFault c.args.max_lines bytes (g.R.Read.remaining c.next.new.source.reader) ls c.in-Err.fault)
+    (λ bytes. (lines : List (List ℕ)) × AreLinesToFault c.args.max_lines bytes (g.R.Read.remaining c.next.new.source.reader) lines
+    c.in-Err.fault) (λ bytes h. (ls, h))
+    (reading_faults g.R.Read.remaining _ _ _ _ ls so_far c.next.new.self c.next.new.source c.in-Err.fault next.answer
+    (λ e. next.undecided so_far.reads_on (ap Err e)))

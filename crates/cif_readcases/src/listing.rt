@@ -1,0 +1,94 @@
+//! What an extract has, by plain lines.
+use cif_cases::text_of;
+use cif_columns::Line;
+use cif_extract::{Body, Call, Extract, Schedule};
+use cif_records::Basic;
+use std::alloc::{AllocError, Global};
+use std::fmt::Write;
+
+/// Appends the window of the extract, and the plain lines of its records but the trailer.
+pub(crate) fn push_extract(
+    alloc: Global,
+    out: &mut String,
+    extract: &Extract,
+) -> Result<(), AllocError> {
+    let first = extract.header.first.to_yymmdd();
+    let last = extract.header.last.to_yymmdd();
+    writeln!(out, "window {} to {}", text_of(&first), text_of(&last))?;
+    push_line(out, &extract.header.write())?;
+    for tiploc in &extract.tiplocs {
+        push_line(out, &tiploc.write())?;
+    }
+    for association in &extract.associations {
+        push_line(out, &association.write())?;
+    }
+    for (at, schedule) in extract.schedules.iter().enumerate() {
+        push_line(out, &basic_of(schedule).write())?;
+        push_body(alloc, out, extract.schedules.as_slice(), at, schedule)?;
+    }
+    Ok(())
+}
+
+fn push_line(out: &mut String, line: &Line) -> Result<(), AllocError> {
+    writeln!(out, "{}", text_of(line.bytes()))
+}
+
+/// The first record of a schedule.
+fn basic_of(schedule: &Schedule) -> Basic {
+    Basic {
+        uid: schedule.uid,
+        first: schedule.first,
+        last: schedule.last,
+        days: schedule.days,
+        letter: schedule.letter,
+        detail: match &schedule.body {
+            Some(body) => Some(body.detail()),
+            None => None,
+        },
+    }
+}
+
+/// Appends the body of the schedule at this position.
+fn push_body(
+    alloc: Global,
+    out: &mut String,
+    schedules: &[Schedule],
+    at: usize,
+    schedule: &Schedule,
+) -> Result<(), AllocError> {
+    let Some(body) = &schedule.body else {
+        return writeln!(out, "no body");
+    };
+    match schedules
+        .iter()
+        .position(|other| other.body == schedule.body)
+    {
+        Some(first) if first != at => writeln!(out, "the body of schedule {first}:")?,
+        _ => writeln!(out, "body of schedule {at}:")?,
+    }
+    if made_again(alloc, body)? != *body {
+        writeln!(out, "its parts make another body:")?;
+    }
+    if let Some(extra) = body.extra() {
+        push_line(out, &extra.write())?;
+    }
+    push_line(out, &body.origin().write())?;
+    for call in body.calls() {
+        push_line(out, &call.write())?;
+    }
+    push_line(out, &body.terminus().write())
+}
+
+/// The body of the parts of this one.
+fn made_again(alloc: Global, body: &Body) -> Result<Body, AllocError> {
+    let calls = body.calls().collect::<Vec<Call>>(alloc)?;
+    let extra = body.extra();
+    Body::of(
+        alloc,
+        &body.detail(),
+        extra.as_ref(),
+        &body.origin(),
+        &calls,
+        &body.terminus(),
+    )
+}

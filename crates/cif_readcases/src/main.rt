@@ -1,0 +1,75 @@
+//! Reads extracts as the cases on its standard input ask, and prints what each came to.
+//!
+//! `cif_cases` says how a case is written. Here its lines are those of an extract, whole or
+//! damaged, and CALL is one of these, where `max=N` is how many lines may come (100 if left out):
+//!
+//! - `read`: reads the input. The answer is what that came to; of an extract follow its window and
+//!   the plain lines of its records, and for each schedule whether it has a body, and whether an
+//!   earlier one has the same.
+//! - `fails`: reads the input from a reader that fails after it.
+//! - `goes-on from=K`: reads the input from a reader that goes on with its bytes from K, for ever.
+//!   The answer has the number of reads too.
+//! - `cuts`: reads each front of the input, from no byte to all.
+//! - `failing-cuts`: does what `fails` does with each front.
+//! - `limits`: reads the input with each `max` from 0 to N.
+//! - `replace byte=NN`: reads the input with the byte NN, in hexadecimal digits, in place of each of
+//!   its bytes in turn.
+//! - `kinds others=NAME`: puts each line of the case NAME behind each front of whole lines, as it
+//!   stands and then with other columns 3 to 80, and tells of those that are not out of order.
+//! - `keep`: keeps the input for other cases.
+//!
+//! Each reading is done of a slice and again with one byte a read (`fails` and `failing-cuts`: with
+//! one byte a read and again with a hundred). Where these differ, the answer says so.
+#![tactic(auto)]
+
+mod answer;
+mod kinds;
+mod listing;
+mod readings;
+mod sweeps;
+
+use cif_cases::{Case, cases_of};
+use kinds::push_kinds;
+use readings::{push_endless, push_failing, push_reading};
+use std::alloc::{AllocError, Global};
+use std::fmt::Write;
+use std::io;
+use sweeps::{push_cuts, push_failing_cuts, push_limits, push_replaced};
+
+fn main(rt: HostRuntime) -> io::Result<()> {
+    let text = io::read_to_string(rt.alloc(), rt.reader())?;
+    let cases = cases_of(rt.alloc(), text.as_str())?;
+    for case in &cases {
+        let mut out = String::new(rt.alloc());
+        push_answer(rt.alloc(), &mut out, case, cases.as_slice())?;
+        print!(rt; "== {}\n{}", case.name, out.as_str())?;
+    }
+    Ok(())
+}
+
+/// Appends what the case's call answers.
+fn push_answer(
+    alloc: Global,
+    out: &mut String,
+    case: &Case,
+    cases: &[Case],
+) -> Result<(), AllocError> {
+    let bytes = case.input.as_slice();
+    let max_lines = case.number("max", 100);
+    match case.call {
+        "read" => push_reading(alloc, out, bytes, max_lines),
+        "fails" => push_failing(alloc, out, bytes, max_lines),
+        "goes-on" => push_endless(alloc, out, bytes, case.number("from", 0), max_lines),
+        "cuts" => push_cuts(alloc, out, bytes, max_lines),
+        "failing-cuts" => push_failing_cuts(alloc, out, bytes, max_lines),
+        "limits" => push_limits(alloc, out, bytes, max_lines),
+        "replace" => {
+            let digits = case.value("byte").unwrap_or("");
+            let byte = u8::from_str_radix(digits, 16).unwrap_or(b'?');
+            push_replaced(alloc, out, bytes, byte, max_lines)
+        }
+        "kinds" => push_kinds(alloc, out, bytes, case.named("others", cases)),
+        "keep" => writeln!(out, "{} bytes", bytes.len()),
+        _ => writeln!(out, "no such call"),
+    }
+}
