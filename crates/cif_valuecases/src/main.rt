@@ -13,6 +13,9 @@
 //! - `up-to`: two days. The answer is the day after the first, unless it is after the second.
 //! - `kind`: the kind of record that a line names.
 //! - `plain`: the plain line of the record that a line spells.
+//! - `damaged`: whether a line is known for a plain one in one pass, and whether the line, with each of
+//!   its columns changed to each byte of lines in turn, has the same plain line by `plain_line_of` as by
+//!   reading a record and writing it.
 //! - `fields`: the fields of that record, each by its columns.
 //! - `HD`, `AA`: the plain line of a line that is read as a header, as an association.
 //! - `window first=YYMMDD last=YYMMDD`: the plain line of a header with this window.
@@ -22,6 +25,7 @@
 //! says so.
 #![tactic(auto)]
 
+mod damaged;
 mod days;
 mod fields;
 mod records;
@@ -29,6 +33,7 @@ mod values;
 
 use cif_cases::{Case, cases_of};
 use cif_columns::Line;
+use damaged::push_damaged;
 use days::{push_day_after, push_ddmmyy, push_number, push_yymmdd};
 use records::{push_association, push_fields, push_header, push_kind, push_plain, push_window};
 use std::alloc::{AllocError, Global};
@@ -93,6 +98,7 @@ fn push_of_line(
     match case.call {
         "kind" => push_kind(out, &line),
         "plain" => push_plain(out, &line),
+        "damaged" => push_damaged(out, &line),
         "fields" => push_fields(alloc, out, &line),
         "HD" => push_header(out, &line),
         "AA" => push_association(out, &line),
