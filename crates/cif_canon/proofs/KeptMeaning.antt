@@ -32,7 +32,7 @@ module _ {K B : Type 0} where
     cancelled = λ t h.
         let (r, listed, is) = of-entries records k t h in (
           λ none. absurd (some-none r.body (subst (λ (v : Terms B). IsNone v.body) (sym is) none)),
-          λ c. absurd (P≢C (subst (λ (v : Terms B). v.letter ≡ C) (sym is) c))
+          λ c. absurd (P≢C (subst (λ (v : Terms B). v.letter ≡ C) (sym is) c)),
         );
   }
 

@@ -111,7 +111,7 @@ module _ {K B : Type 0} (cmp : K → K → Ordering) (total : IsTotalOrder cmp) 
     λ x. ⊎_elim
         (λ a. record { it = x.it; listed = a.0; applies = x.applies; body = x.body })
         (λ a. absurd (not-done j h a.0))
-        (cases j x.it x.listed)
+        (cases j x.it x.listed),
   )
 
   said-now : (d : ℕ) (b : B) → HasBody (Contains rs) d b ↔ HasBody (of_key more k) d b
@@ -120,7 +120,7 @@ module _ {K B : Type 0} (cmp : K → K → Ordering) (total : IsTotalOrder cmp) 
     λ x. ⊎_elim
         (λ a. absurd (not-done k a.1 refl))
         (λ a. record { it = x.it; listed = a.1; applies = x.applies; body = x.body })
-        (cases k x.it x.listed)
+        (cases k x.it x.listed),
   )
 
   -- with this key too

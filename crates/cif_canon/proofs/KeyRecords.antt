@@ -53,7 +53,7 @@ module _ {E K B : Type 0} (key : E → K) (terms : E → Terms B) (cancelled : (
     λ is.
         let chosen : Runs (IsChosen (map terms es) members) d (Some b) =
         subst (λ o. Runs (IsChosen (map terms es) members) d o) is (cal.runs d from upto) in
-        Runs-same (IsChosen (map terms es) members) (of_key (keyed key terms es) k) (positions-records key terms es k members p) d (Some b) chosen
+        Runs-same (IsChosen (map terms es) members) (of_key (keyed key terms es) k) (positions-records key terms es k members p) d (Some b) chosen,
   )
 
   -- so the records of the runs say what runs
@@ -133,7 +133,7 @@ module _ {E K B : Type 0} (key : E → K) (terms : E → Terms B) (cancelled : (
         (λ now.
         let (r, at) = turn.positions.found h.position now in
         inr (one-key entries h.position j k h.has (record { terms = r; at = at })))
-        (Contains-append_cases before members h.position h.member)
+        (Contains-append_cases before members h.position h.member),
   )
 
   -- the runs of the calendar add the members' key

@@ -84,7 +84,7 @@ module _ {K B : Type 0} (cmp : K → K → Ordering) (form : Form) (window : Win
           clear = λ k _. clear.key k;
           say = λ k d b _ within. (
             λ runs. (made.so_far.so_far.say k d b (done k runs.winner runs.wins.listed) within).0 runs,
-            λ has. (made.so_far.so_far.say k d b (made.so_far.so_far.only k has.it has.listed) within).1 has
+            λ has. (made.so_far.so_far.say k d b (made.so_far.so_far.only k has.it has.listed) within).1 has,
           );
         };
       }

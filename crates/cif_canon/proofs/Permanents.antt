@@ -61,7 +61,7 @@ module _ {K B : Type 0} where
     same = λ k. record {
       same = λ d b within. (
         λ h. runs-body ys k d b ((m.same k d (Some b) within.from within.upto).0 (body-runs xs k d b h)),
-        λ h. runs-body xs k d b ((m.same k d (Some b) within.from within.upto).1 (body-runs ys k d b h))
+        λ h. runs-body xs k d b ((m.same k d (Some b) within.from within.upto).1 (body-runs ys k d b h)),
       );
     };
   }

@@ -53,7 +53,7 @@ body_are (Some d) extra journey (Some c) b is h =
     subst (λ (v : BodyParts). (Some d ≡ Some v.detail) × (extra_records extra ++ journey ≡ body_records v)) same (
       ap Some (sym h.0),
       ap (λ (e : Option Extra). extra_records e ++ journey) (sym h.1)
-      ∙ ap (λ (js : List Record). extra_records c.extra ++ js) h.2,
+          ∙ ap (λ (js : List Record). extra_records c.extra ++ js) h.2,
     )
 
 -- the plain line of a BS goes by its columns

@@ -32,7 +32,10 @@ fn all_positions(alloc: Global, count: usize) -> Result<Vec<usize>, AllocError>
 }
 
 /// The positions of all entries, in the order of their keys.
-pub(crate) fn positions_by_key<E: Entry>(alloc: Global, entries: &[E]) -> Result<Vec<usize>, AllocError>
+pub(crate) fn positions_by_key<E: Entry>(
+    alloc: Global,
+    entries: &[E],
+) -> Result<Vec<usize>, AllocError>
     ensures within { IfOk result (λ positions. All (λ i. i < length entries.now) positions.items) }
     ensures whole { IfOk result (λ positions. (i : ℕ) → i < length entries.now →
         Contains positions.items i) }
