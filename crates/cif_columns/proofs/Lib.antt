@@ -21,6 +21,7 @@ pub mod PlainColumns
 pub mod PlainLines
 pub mod PrintableBytes
 pub mod ReadSources
+pub mod StoodValues
 pub mod TableLaws
 pub mod TestedRows
 pub mod TestedTexts

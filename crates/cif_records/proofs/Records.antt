@@ -1,15 +1,23 @@
 -- A line spells one record at most, of the kind that it names, and there is no reason to refuse a line that spells one.
-use Rattle.std.proofs.Common.{◌≡◌, ℕ, List, Option, Some, None, Result, Ok, Err, refl, sym, ap, ◌∙◌, subst}
+use Rattle.std.proofs.Common.{◌≡◌, ℕ, Bool, true, List, Option, Some, None, Result, Ok, Err, refl, sym, ap, ◌∙◌, subst}
 use Rattle.cif_columns.specs.Field.{AllStandIn, Row, columns, plain_line}
+use Rattle.cif_columns.specs.Line.{IsLine}
 use Rattle.cif_columns.specs.declared.refusal.Refusal.{Refusal}
+use Rattle.cif_columns.specs.declared.stp.Stp.{Stp}
+use Rattle.cif_columns.proofs.StoodValues as stood
+use Rattle.cif_records.specs.Association.{association_table}
+use Rattle.cif_records.specs.Basic.{basic_table}
 use Rattle.cif_records.specs.Checks.{IsJudged}
 use Rattle.cif_records.specs.Kind.{identity, kind_in}
 use Rattle.cif_records.specs.Plain.{IsPlainOf}
 use Rattle.cif_records.specs.Record.{record_refusal, refusal_as}
 use Rattle.cif_records.specs.SpellsRecord.{SpellsRecord, record_table}
+use Rattle.cif_records.specs.declared.assoc_body.AssocBody.{AssocBody}
+use Rattle.cif_records.specs.declared.assoc_key.AssocKey.{AssocKey}
 use Rattle.cif_records.specs.declared.association.Association.{Association}
 use Rattle.cif_records.specs.declared.basic.Basic.{Basic}
 use Rattle.cif_records.specs.declared.change.Change.{Change}
+use Rattle.cif_records.specs.declared.detail.Detail.{Detail}
 use Rattle.cif_records.specs.declared.extra.Extra.{Extra}
 use Rattle.cif_records.specs.declared.header.Header.{Header}
 use Rattle.cif_records.specs.declared.kind.Kind.{Kind}
@@ -186,3 +194,30 @@ pub only_plain : (line : List ℕ) (result : Result (List ℕ) Refusal)
     → (r : Record) → SpellsRecord line r → result ≡ Ok (plain_line (record_table r))
 only_plain line (Ok plain) h r s = ap Ok (h.1.same ∙ ap (λ q. plain_line (record_table q)) (one_record line h.1.value r h.1.stands s))
 only_plain line (Err why) h r s = absurd (none-some (record_refusal line) why (no_refusal line r s) h)
+
+-- a body takes its columns, or they are spare
+with_body : (key : AssocKey) (first last : ℕ) (days : List Bool) (letter : Stp) (o : Option AssocBody)
+    → stood.have_widths (association_table key first last days letter o) ≡ true
+with_body key first last days letter None = refl
+with_body key first last days letter (Some b) = refl
+
+with_detail : (uid : List ℕ) (first last : ℕ) (days : List Bool) (letter : Stp) (o : Option Detail)
+    → stood.have_widths (basic_table uid first last days letter o) ≡ true
+with_detail uid first last days letter None = refl
+with_detail uid first last days letter (Some d) = refl
+
+-- the plain line of a record that a line spells is a line, and spells the record again
+pub plain_again : (line : List ℕ) → IsLine line → (r : Record) → SpellsRecord line r
+    → IsLine (plain_line (record_table r)) × SpellsRecord (plain_line (record_table r)) r
+plain_again line is_line (a.Header h) s = stood.plain_again line is_line (record_table (a.Header h)) refl refl s
+plain_again line is_line (a.Tiploc h) s = stood.plain_again line is_line (record_table (a.Tiploc h)) refl refl s
+plain_again line is_line (a.Association h) s = stood.plain_again line is_line (record_table (a.Association h)) refl
+    (with_body h.key h.first h.last h.days h.letter h.body) s
+plain_again line is_line (a.Basic h) s = stood.plain_again line is_line (record_table (a.Basic h)) refl
+    (with_detail h.uid h.first h.last h.days h.letter h.detail) s
+plain_again line is_line (a.Extra h) s = stood.plain_again line is_line (record_table (a.Extra h)) refl refl s
+plain_again line is_line (a.Origin h) s = stood.plain_again line is_line (record_table (a.Origin h)) refl refl s
+plain_again line is_line (a.Stop h) s = stood.plain_again line is_line (record_table (a.Stop h)) refl refl s
+plain_again line is_line (a.Change h) s = stood.plain_again line is_line (record_table (a.Change h)) refl refl s
+plain_again line is_line (a.Terminus h) s = stood.plain_again line is_line (record_table (a.Terminus h)) refl refl s
+plain_again line is_line a.Trailer s = stood.plain_again line is_line (record_table a.Trailer) refl refl s

@@ -12,6 +12,7 @@ mod detail;
 mod extra;
 mod header;
 mod kind;
+pub mod laws;
 mod layout;
 mod origin;
 mod record;

@@ -1,0 +1,76 @@
+-- What stands in the columns of a line fits them. So the plain line of a table that a line spells is a line, and spells it again.
+use Rattle.std.proofs.Common.{◌≡◌, ◌≤◌, ℕ, ◌+◌, ◌-◌, ◌&&◌, ◌==◌, Bool, true, nat_eq, List, [], ◌∷◌, length, subst, sym, arith}
+use Rattle.std.proofs.lemmas.Bool.{and_parts}
+use Rattle.std.proofs.lemmas.Bool.Decides.{nat_tests}
+use Rattle.cif_columns.specs.Activities.{AreCodes}
+use Rattle.cif_columns.specs.Field.{AllFit, AllStandIn, FieldValue, Fits, Row, StandsIn, columns, is_whole_from, plain_line, width_of}
+use Rattle.cif_columns.specs.Field.{exactly, text, activity_codes, working_time, public_time, date, weekdays, indicator, spare}
+use Rattle.cif_columns.specs.Line.{IsLine}
+use Rattle.cif_columns.specs.PublicTime.{IsPublicTime}
+use Rattle.cif_columns.specs.WorkTime.{IsWorkTime}
+use Rattle.cif_columns.proofs.Codes.{are_codes-codes_in, codes_in-stands}
+use Rattle.cif_columns.proofs.DayDigits.{is_day-yymmdd}
+use Rattle.cif_columns.proofs.Parts.{stands-plain_line, whole-first}
+use Rattle.cif_columns.proofs.PlainColumns.{whole-within}
+use Rattle.cif_columns.proofs.PlainLines.{fits-exactly_at, fits-text_at, length-columns, line-plain_line, printable-columns}
+
+-- a value of this kind can take so many columns
+abbrev pub has_width : ℕ → FieldValue → Bool
+has_width width (activity_codes codes) = width == 12
+has_width width (working_time time) = width == 5
+has_width width (public_time time) = width == 4
+has_width width (date day) = width == 6
+has_width width (weekdays days) = width == 7
+has_width width (indicator stp) = width == 1
+has_width width other = true
+
+-- and so can those of a table
+abbrev pub have_widths : List Row → Bool
+have_widths [] = true
+have_widths (r ∷ rows) = has_width (width_of r) r.value && have_widths rows
+
+same_number : (a b : ℕ) → nat_eq a b ≡ true → a ≡ b
+same_number a b h = grind (arith, nat_tests)
+
+module _ (line : List ℕ) (is_line : IsLine line) where
+  -- a value that stands in columns of a line fits them
+  fits_there : (from to : ℕ) → 1 ≤ from → from ≤ to → to ≤ 80 → (value : FieldValue) → has_width (to + 1 - from) value ≡ true
+      → StandsIn (columns from to line) value → Fits (to + 1 - from) value
+  fits_there from to start some within (exactly value) h s = fits-exactly_at from to line is_line start some within value s
+  fits_there from to start some within (text value) h s = fits-text_at from to line is_line start some within value s
+  fits_there from to start some within (activity_codes codes) h s =
+      let c = columns from to line in
+      let wide : to + 1 - from ≡ 12 = same_number (to + 1 - from) 12 h in
+      let long : length c ≡ 12 = omega (arith, wide, length-columns from to line is_line start some within) in
+      (wide, subst AreCodes (codes_in-stands c codes s) (are_codes-codes_in c long (printable-columns from to line is_line start some within)))
+  fits_there from to start some within (working_time time) h s =
+      let wide : to + 1 - from ≡ 5 = same_number (to + 1 - from) 5 h in
+      let long : length (columns from to line) ≡ 5 = omega (arith, wide, length-columns from to line is_line start some within) in
+      (wide, subst (λ c. length c ≡ 5) s.same long, subst IsWorkTime s.same s.form)
+  fits_there from to start some within (public_time time) h s =
+      let wide : to + 1 - from ≡ 4 = same_number (to + 1 - from) 4 h in
+      let long : length (columns from to line) ≡ 4 = omega (arith, wide, length-columns from to line is_line start some within) in
+      (wide, subst (λ c. length c ≡ 4) s.same long, subst IsPublicTime s.same s.form)
+  fits_there from to start some within (date day) h s = (same_number (to + 1 - from) 6 h, is_day-yymmdd (columns from to line) day s)
+  fits_there from to start some within (weekdays days) h s = (same_number (to + 1 - from) 7 h, s.week)
+  fits_there from to start some within (indicator stp) h s = same_number (to + 1 - from) 1 h
+  fits_there from to start some within spare h s = tt
+
+  -- the rows of a table from this column on
+  fit_from : (column : ℕ) (rows : List Row) → 1 ≤ column → is_whole_from column rows ≡ true → have_widths rows ≡ true
+      → AllStandIn line rows → AllFit rows
+  fit_from column [] start whole h s = tt
+  fit_from column (r ∷ rows) start whole h s =
+      let first = whole-first column r rows whole in
+      let rest = whole-within (r.to + 1) rows first.2 in
+      let widths = and_parts _ _ h in (
+        fits_there r.from r.to (omega (arith, first.0)) first.1 (omega (arith, rest)) r.value widths.0 s.0,
+        fit_from (r.to + 1) rows (omega arith) first.2 widths.1 s.1,
+      )
+
+  -- the plain line of a table that a line spells is a line, and spells the table again
+  pub plain_again : (rows : List Row) → is_whole_from 1 rows ≡ true → have_widths rows ≡ true → AllStandIn line rows
+      → IsLine (plain_line rows) × AllStandIn (plain_line rows) rows
+  plain_again rows whole h s =
+      let fits = fit_from 1 rows (omega arith) whole h s in
+      (line-plain_line rows whole fits, stands-plain_line rows whole fits)
