@@ -11,8 +11,8 @@
 //!   line it is asked for once more.
 //! - `count max=N`: asks for lines until there is none. The answer is their number or the fault, and
 //!   how often the reader was read.
-//! - `devices max=N`: counts the lines of a slice, of a reader behind a buffer and of a borrowed
-//!   reader.
+//! - `devices max=N`: tells whether a slice begins with a line, and counts the lines of a slice, of a
+//!   reader behind a buffer and of a borrowed reader.
 //! - `reads`: reads up to 100 bytes at a time, until there are none or the reader fails, and once
 //!   more. The answer is what each read gave, how often the reader was read, and whether it failed.
 //! - `records first=YYMMDD last=YYMMDD days=NNNNNNN`: the input is an extract. Its header, its

@@ -97,6 +97,9 @@ fn push_count(out: &mut String, count: Result<u64, LineFault>) -> Result<(), All
 
 /// Appends how many lines these bytes are, over several devices.
 fn push_devices(alloc: Global, out: &mut String, bytes: &[u8], max_lines: u16) -> io::Result<()> {
+    if begins_with_line(bytes, max_lines) {
+        writeln!(out, "begins with a line")?;
+    }
     let max_lines = u64::from(max_lines);
     push_count(out, count_lines(&mut Source::new(bytes), max_lines))?;
     let reader = BufReader::with_capacity(alloc, 16, bytes)?;
@@ -104,6 +107,16 @@ fn push_devices(alloc: Global, out: &mut String, bytes: &[u8], max_lines: u16) -
     let mut reader = TrialReader::new(bytes, 9, End::Stop);
     push_count(out, count_lines(&mut Source::new(&mut reader), max_lines))?;
     Ok(())
+}
+
+/// Whether a line stands first in the bytes. A slice never fails.
+fn begins_with_line(bytes: &[u8], max_lines: u16) -> bool {
+    let mut lines = LineReader::new(u64::from(max_lines));
+    match lines.next(&mut Source::new(bytes)) {
+        Ok(line) => line.is_some(),
+        Err(LineFault::Refused { line: _, why: _ }) => false,
+        Err(LineFault::Read) => unreachable!(),
+    }
 }
 
 /// Appends what each read gives.
