@@ -24,7 +24,7 @@ use Rattle.cif_weeks.specs.declared.form.Form.{Form}
 use Rattle.cif_weeks.proofs.AlignedDays.{tight}
 use Rattle.cif_canon.specs.Canonical.{IsCanonicalExtract, window_of}
 use Rattle.cif_canon.specs.Entries.{association_entries, schedule_entries}
-use Rattle.cif_canon.specs.KeyByKey.{AreRecordsOf}
+use Rattle.cif_canon.specs.Steps.KeyByKey.{AreRecordsOf}
 use Rattle.cif_canon.specs.Meaning.{SameMeaning}
 use Rattle.cif_canon.proofs.KeptMeaning.{kept-meaning}
 use Rattle.cif_canon.proofs.MadeExtract.{IsDated, associations_of, schedules_of, entries-of_associations, entries-of_schedules}

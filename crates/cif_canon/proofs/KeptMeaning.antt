@@ -12,7 +12,7 @@ use Rattle.cif_calendar.proofs.Meaning.{nothing-body}
 use Rattle.cif_weeks.specs.Permanent.{Permanent, terms_of}
 use Rattle.cif_weeks.specs.Window.{Window, IsWithin}
 use Rattle.cif_weeks.specs.declared.form.Form.{Form}
-use Rattle.cif_canon.specs.KeyByKey.{AreRecordsOf}
+use Rattle.cif_canon.specs.Steps.KeyByKey.{AreRecordsOf}
 use Rattle.cif_canon.proofs.Permanents.{entry_of, of-entries, runs-body, body-runs}
 
 P≢C : P ≡ C → ⊥

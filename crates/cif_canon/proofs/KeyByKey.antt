@@ -21,7 +21,7 @@ use Rattle.cif_weeks.specs.WhatRuns.{HasBody}
 use Rattle.cif_weeks.specs.Window.{Window, IsWithin}
 use Rattle.cif_weeks.specs.declared.form.Form.{Form}
 use Rattle.cif_weeks.proofs.RisingLists.{not_less}
-use Rattle.cif_canon.specs.KeyByKey.{AreRecordsOf}
+use Rattle.cif_canon.specs.Steps.KeyByKey.{AreRecordsOf}
 use Rattle.cif_canon.proofs.Mapped.{to-map, of-map}
 
 -- two lists in an order, where each element of one is before each of the other

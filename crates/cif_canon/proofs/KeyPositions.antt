@@ -20,7 +20,7 @@ use Rattle.std.proofs.lemmas.List.Sorted.{ranks_by, sorted_far}
 use Rattle.cif_calendar.specs.Terms.{Terms}
 use Rattle.cif_calendar.specs.Keys.{keyed, of_key}
 use Rattle.cif_calendar.proofs.Winning.{terms_at}
-use Rattle.cif_canon.specs.Turns.{HasKey, IsRising, IsFirstRun}
+use Rattle.cif_canon.specs.Steps.Turns.{HasKey, IsRising, IsFirstRun}
 use Rattle.cif_canon.proofs.KeyTurns.{one-key}
 
 -- the numbers below n

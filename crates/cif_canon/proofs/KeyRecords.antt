@@ -26,9 +26,9 @@ use Rattle.cif_weeks.specs.Window.{Window, IsWithin}
 use Rattle.cif_weeks.specs.declared.form.Form.{Form}
 use Rattle.cif_weeks.specs.declared.run.Run.{Run}
 use Rattle.cif_weeks.specs.HaveForm.{HaveForm}
-use Rattle.cif_canon.specs.KeyByKey.{AreRecordsOf}
-use Rattle.cif_canon.specs.Records.{items_of, HasBodyAt, AreItemsOf, AddsKey, IsKeyFault, records_fault, window_from}
-use Rattle.cif_canon.specs.Turns.{HasKey, AnyHasKey, IsTurnOf}
+use Rattle.cif_canon.specs.Steps.KeyByKey.{AreRecordsOf}
+use Rattle.cif_canon.specs.Steps.Records.{items_of, HasBodyAt, AreItemsOf, AddsKey, IsKeyFault, records_fault, window_from}
+use Rattle.cif_canon.specs.Steps.Turns.{HasKey, AnyHasKey, IsTurnOf}
 use Rattle.cif_canon.specs.declared.records.KeyedRun.{KeyedRun}
 use Rattle.cif_canon.proofs.KeyByKey.{one-more}
 use Rattle.cif_canon.proofs.KeyTurns.{one-key}

@@ -12,7 +12,7 @@ use Rattle.std.proofs.lemmas.Option.{same_Some}
 use Rattle.std.proofs.lemmas.List.{length-take-le, length-drop, get_or-take, get_or-drop, get_or_default, take-append-drop}
 use Rattle.std.proofs.lemmas.List.Elements.{Contains-append_left, Contains-append_right, Contains-append_cases, Contains-get_or}
 use Rattle.cif_calendar.specs.Terms.{Terms}
-use Rattle.cif_canon.specs.Turns.{HasKey, AnyHasKey, IsRising, IsFirstRun, IsTurnOf}
+use Rattle.cif_canon.specs.Steps.Turns.{HasKey, AnyHasKey, IsRising, IsFirstRun, IsTurnOf}
 
 Less≢Equal : Less ≡ Equal → ⊥
 Less≢Equal e = absurd (false≢true (sym (ap is_lt e)))

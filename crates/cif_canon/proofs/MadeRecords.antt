@@ -14,9 +14,9 @@ use Rattle.cif_calendar.proofs.Positions.{at-contains, AreClear-from_entries}
 use Rattle.cif_weeks.specs.Permanent.{Permanent}
 use Rattle.cif_weeks.specs.Window.{Window}
 use Rattle.cif_weeks.specs.declared.form.Form.{Form}
-use Rattle.cif_canon.specs.KeyByKey.{AreRecordsOf}
-use Rattle.cif_canon.specs.Records.{AreItemsSoFar, AddsKey, IsKeyFault, AreCanonicalRecords, IsRecordsFault}
-use Rattle.cif_canon.specs.Turns.{HasKey, AnyHasKey, IsRising, IsFirstRun}
+use Rattle.cif_canon.specs.Steps.KeyByKey.{AreRecordsOf}
+use Rattle.cif_canon.specs.Steps.Records.{AreItemsSoFar, AddsKey, IsKeyFault, AreCanonicalRecords, IsRecordsFault}
+use Rattle.cif_canon.specs.Steps.Turns.{HasKey, AnyHasKey, IsRising, IsFirstRun}
 use Rattle.cif_canon.specs.declared.records.KeyedRun.{KeyedRun}
 use Rattle.cif_canon.specs.declared.records.RecordsFault.{RecordsFault}
 use Rattle.cif_canon.specs.declared.records.RecordsFault.TheVariants.{Clash, Memory}

@@ -2,8 +2,8 @@
 ghost use Rattle.std.specs.Prelude.{◌≡◌, ℕ, ◌<◌, ◌++◌, ◌∷◌, [], All, length, map};
 ghost use Rattle.std.specs.Prelude.{IfOk, IfErr, OnOk};
 ghost use Rattle.cif_calendar.specs.Keys.{keyed};
-ghost use Rattle.cif_canon.specs.Records.{AddsKey, AreCanonicalRecords, IsKeyFault, IsRecordsFault};
-ghost use Rattle.cif_canon.specs.Records.{items_of, records_fault, window_from};
+ghost use Rattle.cif_canon.specs.Steps.Records.{AddsKey, AreCanonicalRecords, IsKeyFault, IsRecordsFault};
+ghost use Rattle.cif_canon.specs.Steps.Records.{items_of, records_fault, window_from};
 
 use crate::turns::{first_run, positions_by_key};
 use cif_calendar::{CalendarFault, Entry, Window, calendar};
@@ -89,8 +89,8 @@ fn add_key<E: Entry>(
 /// The canonical records of the entries in a form: for each key, in order, those that say what its
 /// entries say of the window, rising by first date.
 ///
-/// `Clash` comes exactly where on some date two winners of a key have different bodies, and names
-/// the first such key and its first such date; `Memory` where a growth was refused.
+/// `Clash` comes only where on some date two winners of a key have different bodies, and names the
+/// first such key and its first such date; `Memory` where a growth was refused.
 pub(crate) fn canonical_records<E: Entry>(
     alloc: Global,
     entries: &[E],

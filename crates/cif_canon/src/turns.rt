@@ -4,7 +4,7 @@ ghost use Rattle.std.specs.Prelude.{IfOk, slice_get};
 ghost use Rattle.std.specs.List.{range_with_len};
 ghost use Rattle.std.specs.Option.{option_cmp};
 ghost use Rattle.cif_calendar.specs.Keys.{keyed};
-ghost use Rattle.cif_canon.specs.Turns.{IsFirstRun, IsRising};
+ghost use Rattle.cif_canon.specs.Steps.Turns.{IsFirstRun, IsRising};
 
 use cif_calendar::Entry;
 use std::alloc::{AllocError, Global};

@@ -12,7 +12,8 @@ use Rattle.cif_columns.specs.declared.plain_test.PlainTest.{PlainTest}
 abbrev pub IsPlainLineOf : List Row → List ℕ → Type 0
 IsPlainLineOf rows line = AllStandIn line rows × (plain_line rows ≡ line)
 
--- The value of this one's kind that stands in the columns, where one always does. Of other kinds the value stays as it is.
+-- The value of this one's kind that stands in the columns, for the kinds of which any columns have one. Of other kinds the value
+-- stays as it is.
 abbrev pub read_value : List ℕ → FieldValue → FieldValue
 read_value columns (text value) = text (text_of columns)
 read_value columns (activity_codes codes) = activity_codes (codes_in columns)
@@ -44,7 +45,8 @@ IsTimed t line k =
     (slice_index line (k + 1) ≡ slice_index t.back k → slice_index line k ≡ 32)
     × (slice_index line k ≡ slice_index t.hour k → slice_index line (k + 1) ≤ 51)
 
--- each column is as the test wants it
+-- Each column is as the test wants it: as many as each of its tables has. What that means for records is the clause `plain` of
+-- `passes`.
 pub record Passes (t : PlainTest) (line : List ℕ) : Type 0 where
   pub in_range : (k : ℕ) → k < 80 → IsInRange t line k
   pub followed : (k : ℕ) → k < 64 → IsFollowed t line k

@@ -91,9 +91,11 @@ pub(crate) fn push_bytes(alloc: Global, out: &mut String, bytes: &[u8]) -> io::R
 
 fn push_buffered(alloc: Global, out: &mut String, bytes: &[u8]) -> io::Result<()> {
     let mut kept = Vec::new(alloc);
-    let mut sink = Sink::new(BufWriter::with_capacity(alloc, 16, &mut kept)?);
+    let mut buffer = BufWriter::with_capacity(alloc, 16, &mut kept)?;
+    let mut sink = Sink::new(&mut buffer);
     let is_written = sink.write_all(bytes).is_ok() && sink.flush().is_ok();
-    drop(sink);
+    // A `BufWriter` that is dropped writes what it holds: what the flush handed on is out by now.
+    let _ = buffer.into_parts();
     if !is_written {
         writeln!(out, "the sink has failed")?;
     }

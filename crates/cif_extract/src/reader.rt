@@ -14,8 +14,8 @@ use std::alloc::Global;
 /// The extract that the source's lines spell, of which at most `max_lines` may come.
 ///
 /// Refused names the first refused line and its first reason; Read comes where the source failed
-/// before a refused line was decided, and Memory where what a line says can't be kept, after its
-/// line's checks. No other fault is answered. After an extract nothing is left in the source.
+/// before a refused line was decided, and Memory where what a line says can't be kept. No other
+/// fault is answered. After an extract nothing is left in the source.
 pub fn read_extract<R: ReadDevice>(
     alloc: Global,
     source: &mut Source<R>,

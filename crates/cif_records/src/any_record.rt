@@ -77,7 +77,8 @@ pub fn write_record(record: &Record) -> Line
 }
 
 /// The plain line of the record that the line spells, or the first reason why it spells none: what
-/// `read_record` and then `write_record` give. Of a line that is plain already no record is built.
+/// `read_record` and then `write_record` give. Of most plain lines of a journey no
+/// record is built.
 pub fn plain_line_of(line: &Line) -> Result<Line, Refusal>
     ensures exact { IsJudged (record_refusal line.now) (IsPlainOf Record record_table line.now)
         result }

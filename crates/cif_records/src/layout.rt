@@ -91,7 +91,7 @@ pub(crate) fn write<R: Layout>(value: &R) -> Line
 }
 
 /// The plain line of the record that the line spells, or the first reason in column order why it
-/// spells none. Of a line that is plain already no record is built.
+/// spells none. Of a line that the kind's test knows for a plain one no record is built.
 pub(crate) fn plain_line_of<R: Layout>(line: &Line) -> Result<Line, Refusal>
     requires { IsLine line.now }
     ensures { IsJudged (R.refusal line.now) (IsPlainOf R R.table line.now) result }

@@ -1,4 +1,5 @@
--- The first refused line of an input of a header, associations and a trailer, and its reason.
+-- The first refused line of an input of a header, associations and a trailer, and its reason. But for which line may stand where,
+-- these are the definitions of `cif_extract`, again; they go with this reader.
 use Rattle.std.specs.Prelude.{◌≡◌, ◌≢◌, ◌⊎◌, ℕ, ◌+◌, ◌<◌, ◌==◌, nat_lt, List, [], ◌∷◌, ◌++◌, length, All, take, slice_index_or}
 use Rattle.std.specs.Prelude.{Option, None, Some}
 use Rattle.std.specs.List.{list_all}

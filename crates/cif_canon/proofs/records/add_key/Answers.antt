@@ -1,7 +1,7 @@
 use Rattle.std.proofs.Common.{◌≡◌, ◌++◌, List, map, sym, ◌∙◌, ap, subst}
 use Rattle.std.proofs.lemmas.List.Elements.{Contains-get_or}
 use Rattle.cif_calendar.specs.Keys.{keyed}
-use Rattle.cif_canon.specs.Records.{AddsKey, IsKeyFault, items_of, window_from}
+use Rattle.cif_canon.specs.Steps.Records.{AddsKey, IsKeyFault, items_of, window_from}
 use Rattle.cif_canon.specs.declared.records.KeyedRun.{KeyedRun}
 use Rattle.cif_canon.proofs.KeyRecords.{adds-key, key-fault}
 use Rattle.cif_canon.proofs.records.add_key.Goals as goal

@@ -1,5 +1,5 @@
 use Rattle.std.proofs.Common.{◌≡◌, ◌++◌, take}
-use Rattle.cif_canon.specs.Records.{items_of}
+use Rattle.cif_canon.specs.Steps.Records.{items_of}
 use Rattle.cif_canon.proofs.records.append.Given as goal
 
 abbrev pub invariant-loop-run : goal.invariant-loop-run

@@ -7,7 +7,7 @@ use Rattle.std.proofs.lemmas.List.Elements.{All-weaker, All-drop}
 use Rattle.cif_calendar.specs.Keys.{keyed}
 use Rattle.cif_calendar.proofs.FirstClash.{same_key-cmp}
 use Rattle.cif_canon.specs.declared.records.KeyedRun.{KeyedRun}
-use Rattle.cif_canon.specs.Records.{AddsKey, IsKeyFault, window_from}
+use Rattle.cif_canon.specs.Steps.Records.{AddsKey, IsKeyFault, window_from}
 use Rattle.cif_canon.proofs.KeyPositions.{within-keyed, within-entries}
 use Rattle.cif_canon.proofs.MadeRecords.{IsMade, made-nothing, made-key, made-faults, made-all}
 use Rattle.cif_canon.proofs.records.canonical_records.Goals as goal

@@ -1,7 +1,7 @@
 use Rattle.std.proofs.Common.{◌≡◌, Bool, true, false, not, get_or, refl, sym, ◌∙◌, ap, subst}
 use Rattle.std.proofs.lemmas.Bool.{false≢true}
 use Rattle.cif_calendar.specs.Keys.{keyed}
-use Rattle.cif_canon.specs.Turns.{HasKey}
+use Rattle.cif_canon.specs.Steps.Turns.{HasKey}
 use Rattle.cif_canon.proofs.KeyPositions.{has-key, alike-more, alike-none, run-ends}
 use Rattle.cif_canon.proofs.turns.first_run.Goals as goal
 

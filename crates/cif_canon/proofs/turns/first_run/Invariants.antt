@@ -1,6 +1,6 @@
 use Rattle.std.proofs.Common.{get_or}
 use Rattle.cif_calendar.specs.Keys.{keyed}
-use Rattle.cif_canon.specs.Turns.{HasKey}
+use Rattle.cif_canon.specs.Steps.Turns.{HasKey}
 use Rattle.cif_canon.proofs.KeyPositions.{IsAlike}
 use Rattle.cif_canon.proofs.turns.first_run.Given as goal
 

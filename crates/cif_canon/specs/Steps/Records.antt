@@ -11,8 +11,8 @@ use Rattle.cif_weeks.specs.Runs.{record_of}
 use Rattle.cif_weeks.specs.Window.{Window}
 use Rattle.cif_weeks.specs.declared.form.Form.{Form}
 use Rattle.cif_weeks.specs.declared.run.Run.{Run}
-use Rattle.cif_canon.specs.KeyByKey.{AreRecordsOf}
-use Rattle.cif_canon.specs.Turns.{HasKey, AnyHasKey, IsTurnOf}
+use Rattle.cif_canon.specs.Steps.KeyByKey.{AreRecordsOf}
+use Rattle.cif_canon.specs.Steps.Turns.{HasKey, AnyHasKey, IsTurnOf}
 use Rattle.cif_canon.specs.declared.records.KeyedRun.{KeyedRun}
 use Rattle.cif_canon.specs.declared.records.RecordsFault.{RecordsFault}
 use Rattle.cif_canon.specs.declared.records.RecordsFault.TheVariants.{Clash, Memory}
