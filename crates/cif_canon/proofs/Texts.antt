@@ -13,7 +13,7 @@ use Rattle.cif_columns.specs.Contents.{lines_text}
 use Rattle.cif_extract.specs.declared.schedule.Schedule.{Schedule}
 use Rattle.cif_records.specs.Association.{association_table}
 use Rattle.cif_records.specs.Basic.{basic_table}
-use Rattle.cif_records.specs.Header.{header_table}
+use Rattle.cif_records.specs.SpellsHeader.{header_table}
 use Rattle.cif_records.specs.Tiploc.{tiploc_table}
 use Rattle.cif_records.specs.Trailer.{trailer_table}
 use Rattle.cif_records.specs.SpellsRecord.{record_table}

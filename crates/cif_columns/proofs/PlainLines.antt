@@ -1,7 +1,7 @@
 -- A plain line is a line, a line feed ends it, and what a line says fits its columns.
 use Rattle.std.proofs.Common.{◌≡◌, ℕ, ◌+◌, ◌-◌, ◌%◌, ◌<◌, ◌≤◌, Bool, true, false, cond, nat_eq, List, [], ◌∷◌, ◌++◌, length, map, replicate}
 use Rattle.std.proofs.Common.{drop, length-take}
-use Rattle.std.proofs.Common.{get_or, refl, ap, ◌∙◌, arith, subst, length-append}
+use Rattle.std.proofs.Common.{All, append_assoc, get_or, refl, ap, ◌∙◌, arith, subst, length-append}
 use Rattle.std.proofs.lemmas.Bool.Decides.{nat_tests}
 use Rattle.std.proofs.lemmas.List.{length-drop, get_or_append_left, get_or-append_right}
 use Rattle.std.proofs.lemmas.List.Elements.{All-nil, All-cons, All-append, All-replicate, All-head, All-tail, All-take, All-drop}
@@ -10,6 +10,7 @@ use Rattle.std.specs.Prelude.{pos}
 use Rattle.std.specs.Str.Lines.{lines, strip_carriage_return}
 use Rattle.jiff_core.proofs.CalendarLemmas.{days_in_month_bounds}
 use Rattle.cif_columns.specs.Activities.{packed}
+use Rattle.cif_columns.specs.Contents.{contents_of, lines_text}
 use Rattle.cif_columns.specs.DayDigits.{yymmdd_of, date_of}
 use Rattle.cif_columns.specs.DaysRun.{days_columns}
 use Rattle.cif_columns.specs.Digits.{two_digits}
@@ -105,6 +106,14 @@ lines-line line more h =
     lines_to_feed line more
     ∙ ap (λ parts. map strip_carriage_return parts ++ lines more) (unsplit line h.printable)
     ∙ ap (λ l. l ∷ lines more) (unstripped line h)
+
+-- so the contents of lines that each end with a line feed are the lines
+pub contents-lines_text : (ls : List (List ℕ)) → All IsLine ls → contents_of (lines_text ls) ≡ ls
+contents-lines_text [] h = refl
+contents-lines_text (line ∷ others) h =
+    ap contents_of (append_assoc line (10 ∷ []) (lines_text others))
+    ∙ lines-line line (lines_text others) (All-head IsLine line others h)
+    ∙ ap (λ ls. line ∷ ls) (contents-lines_text others (All-tail IsLine line others h))
 
 -- ---- what stands in a line fits its columns
 

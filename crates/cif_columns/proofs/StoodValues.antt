@@ -1,18 +1,18 @@
--- What stands in the columns of a line fits them. So the plain line of a table that a line spells is a line, and spells it again.
+-- What stands in the columns of a line fits them.
 use Rattle.std.proofs.Common.{◌≡◌, ◌≤◌, ℕ, ◌+◌, ◌-◌, ◌&&◌, ◌==◌, Bool, true, nat_eq, List, [], ◌∷◌, length, subst, sym, arith}
 use Rattle.std.proofs.lemmas.Bool.{and_parts}
 use Rattle.std.proofs.lemmas.Bool.Decides.{nat_tests}
 use Rattle.cif_columns.specs.Activities.{AreCodes}
-use Rattle.cif_columns.specs.Field.{AllFit, AllStandIn, FieldValue, Fits, Row, StandsIn, columns, is_whole_from, plain_line, width_of}
+use Rattle.cif_columns.specs.Field.{AllFit, AllStandIn, FieldValue, Fits, Row, StandsIn, columns, is_whole_from, width_of}
 use Rattle.cif_columns.specs.Field.{exactly, text, activity_codes, working_time, public_time, date, weekdays, indicator, spare}
 use Rattle.cif_columns.specs.Line.{IsLine}
 use Rattle.cif_columns.specs.PublicTime.{IsPublicTime}
 use Rattle.cif_columns.specs.WorkTime.{IsWorkTime}
 use Rattle.cif_columns.proofs.Codes.{are_codes-codes_in, codes_in-stands}
 use Rattle.cif_columns.proofs.DayDigits.{is_day-yymmdd}
-use Rattle.cif_columns.proofs.Parts.{stands-plain_line, whole-first}
+use Rattle.cif_columns.proofs.Parts.{whole-first}
 use Rattle.cif_columns.proofs.PlainColumns.{whole-within}
-use Rattle.cif_columns.proofs.PlainLines.{fits-exactly_at, fits-text_at, length-columns, line-plain_line, printable-columns}
+use Rattle.cif_columns.proofs.PlainLines.{fits-exactly_at, fits-text_at, length-columns, printable-columns}
 
 -- a value of this kind can take so many columns
 abbrev pub has_width : ℕ → FieldValue → Bool
@@ -68,9 +68,6 @@ module _ (line : List ℕ) (is_line : IsLine line) where
         fit_from (r.to + 1) rows (omega arith) first.2 widths.1 s.1,
       )
 
-  -- the plain line of a table that a line spells is a line, and spells the table again
-  pub plain_again : (rows : List Row) → is_whole_from 1 rows ≡ true → have_widths rows ≡ true → AllStandIn line rows
-      → IsLine (plain_line rows) × AllStandIn (plain_line rows) rows
-  plain_again rows whole h s =
-      let fits = fit_from 1 rows (omega arith) whole h s in
-      (line-plain_line rows whole fits, stands-plain_line rows whole fits)
+  -- what a table says of a line fits its columns
+  pub fit : (rows : List Row) → is_whole_from 1 rows ≡ true → have_widths rows ≡ true → AllStandIn line rows → AllFit rows
+  fit rows whole h s = fit_from 1 rows (omega arith) whole h s

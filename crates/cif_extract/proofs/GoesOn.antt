@@ -8,7 +8,7 @@ use Rattle.cif_columns.specs.Line.{IsPrintable}
 use Rattle.cif_columns.proofs.Parts.{stands-plain_line}
 use Rattle.cif_columns.proofs.PrintableBytes.{printable_fact}
 use Rattle.cif_extract.specs.ExtractParts.{ExtractParts}
-use Rattle.cif_extract.specs.Grammar.{AreExtract}
+use Rattle.cif_extract.specs.Grammar.{AreExtract, BeginExtract}
 use Rattle.cif_extract.specs.Steps.Place.{may_stand}
 use Rattle.cif_extract.specs.Steps.Reading.{HasRead, HasReadAt, Progress, parts_with_header, step}
 use Rattle.cif_extract.specs.declared.place.Place.{Place}
@@ -67,12 +67,6 @@ terminus_again =
     stands-plain_line (terminus_table blank_terminus) refl
     ((refl, printable_fact (codes "LT") refl) & no_text 7 & no_text 1 & (refl, refl, inl refl) & (refl, refl, inl refl) & no_text 3
     & no_text 3 & (refl, no_codes) & tt & tt)
-
--- these records begin an extract
-pub record BeginExtract (records : List Record) : Type 0 where
-  pub more : List Record
-  pub parts : ExtractParts
-  pub are : AreExtract (records ++ more) parts
 
 -- where one record more begins an extract, so do these
 by_one : (records : List Record) (r : Record) → BeginExtract (records ++ (r ∷ [])) → BeginExtract records

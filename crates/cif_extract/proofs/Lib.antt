@@ -10,7 +10,10 @@ pub mod JourneySteps
 pub mod KeptLines
 pub mod OneExtract
 pub mod OrderLaws
+pub mod OrderOfLines
 pub mod Places
+pub mod PlainRecords
+pub mod PlainTexts
 pub mod ReadingRuns
 pub mod ReadingSteps
 pub mod SameLines

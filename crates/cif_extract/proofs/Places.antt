@@ -47,7 +47,7 @@ place_after lt = at.Schedules
 place_after zz = at.Ended
 
 -- records with the same place have the same followers
-same_followers : (before : RecordBefore) → followers (record_at (place_after before)) ≡ followers before
+pub same_followers : (before : RecordBefore) → followers (record_at (place_after before)) ≡ followers before
 same_followers start = refl
 same_followers hd = refl
 same_followers ti = refl

@@ -17,7 +17,7 @@ use Rattle.cif_extract.specs.Steps.Place.{may_stand}
 use Rattle.cif_extract.specs.ReadFault.{IsOfReading, IsReadFault}
 use Rattle.cif_extract.specs.Steps.Reading.{HasRead, HasReadAt, IsHeld, IsTaken, IsUnfinished, Progress, begun, no_progress}
 use Rattle.cif_extract.specs.Steps.Reading.{parts_with_header, refusal_here, step}
-use Rattle.cif_extract.specs.SpellsExtract.{BytesSpell, SpellAll, SpellExtract}
+use Rattle.cif_extract.specs.SpellsExtract.{BytesSpellWithin, SpellAll, SpellExtract}
 use Rattle.cif_extract.specs.Steps.StopAt.{stop_fault}
 use Rattle.cif_extract.specs.declared.extract.Extract.{Extract}
 use Rattle.cif_extract.specs.declared.fault.Fault.{Fault}
@@ -80,7 +80,7 @@ place_begun p b None e = ap (λ runs. cond runs at.Basic at.Cancelled) (sym e)
 place_begun p b (Some d) e = ap (λ runs. cond runs at.Basic at.Cancelled) (sym e)
 
 -- the place after a record is the step's
-place_step : (p : Progress) (r : Record) → place_past p.place r ≡ (step p r).place
+pub place_step : (p : Progress) (r : Record) → place_past p.place r ≡ (step p r).place
 place_step p (of.Header x) = refl
 place_step p (of.Tiploc x) = refl
 place_step p (of.Association x) = refl
@@ -166,18 +166,22 @@ module _ (max : ℕ) (lines : List (List ℕ)) (p : Progress) (so_far : HasCome 
           let there = whole.is_header in
           cc
 
+-- lines that are all of an input, and spell an extract
+all_lines_spell : (max : ℕ) (bytes : List ℕ) (lines : List (List ℕ)) → AreAllLines max bytes lines → (x : ExtractParts) →
+    SpellExtract lines x → BytesSpellWithin max bytes x
+all_lines_spell max bytes lines all x spelled =
+    subst (λ ls. All IsLine ls → length ls ≤ max → SpellExtract ls x → BytesSpellWithin max bytes x) all.contents
+    (λ are_lines within s. record { spell = record { are_lines = are_lines; spelled = s }; within = within })
+    all.are_lines all.within spelled
+
 -- the end of the input, where a reading is whole
 pub whole_result : (start : Option (List ℕ)) (max : ℕ) (lines : List (List ℕ)) (p : Progress) (result : Result Extract Fault) →
     IfSome start (λ bytes. AreAllLines max bytes lines) → HasCome max lines p →
     IfOk result (λ extract. IsHeld p (extract_parts extract)) →
-    IfSome start (λ bytes. IfOk result (λ extract. BytesSpell max bytes (extract_parts extract)))
+    IfSome start (λ bytes. IfOk result (λ extract. BytesSpellWithin max bytes (extract_parts extract)))
 whole_result start max lines p (Ok extract) all so_far held =
-    known_so start _ _ (λ bytes a. record {
-      lines = lines;
-      all = a;
-      spelled = held_spells max lines p so_far
-          (extract_parts extract) held;
-    }) all
+    known_so start _ _ (λ bytes a. all_lines_spell max bytes lines a (extract_parts extract)
+    (held_spells max lines p so_far (extract_parts extract) held)) all
 whole_result start max lines p (Err f) all so_far held = known_so start _ _ (λ bytes a. tt) all
 
 -- and where it isn't

@@ -10,7 +10,7 @@ use Rattle.cif_extract.specs.ExtractParts.{ExtractParts, extract_parts}
 use Rattle.cif_extract.specs.FirstRefusal.{IsFirstRefusal, IsTruncated}
 use Rattle.cif_extract.specs.Grammar.{records_before_trailer}
 use Rattle.cif_extract.specs.ReadFault.{IsReadAs, IsReadFault}
-use Rattle.cif_extract.specs.SpellsExtract.{BytesSpell, SpellAll, SpellExtract}
+use Rattle.cif_extract.specs.SpellsExtract.{BytesSpell, BytesSpellWithin, SpellAll}
 use Rattle.cif_extract.specs.declared.extract.Extract.{Extract}
 use Rattle.cif_extract.specs.declared.fault.Fault.{Fault}
 use Rattle.cif_extract.specs.declared.fault.Fault.TheVariants as fault
@@ -32,28 +32,27 @@ no_last (line ∷ lines) [] spell all = all 0 [] (omega arith) (kind_there line 
 no_last (line ∷ lines) (r ∷ records) spell all =
     no_last lines records spell.1 (All-tail (λ content. kind_in content ≡ Some Zz → ⊥) line lines all)
 
-module _ (max : ℕ) (bytes : List ℕ) (x : ExtractParts) (spells : BytesSpell max bytes x) where
-  contents_spell : SpellExtract (contents_of bytes) x
-  contents_spell = subst (λ lines. SpellExtract lines x) (sym spells.all.contents) spells.spelled
+-- bytes spell one extract at most
+pub one_spelled : (bytes : List ℕ) (x y : ExtractParts) → BytesSpell bytes x → BytesSpell bytes y → x ≡ y
+one_spelled bytes x y p q = one_extract (contents_of bytes) x y p.spelled q.spelled
 
+module _ (max : ℕ) (bytes : List ℕ) (x : ExtractParts) (spells : BytesSpellWithin max bytes x) where
   pub spelled-refused : (number : ℕ) (why : Refusal) → IsFirstRefusal max bytes number why → ⊥
   spelled-refused number why refused =
-      let s = contents_spell in
-      let room : length (contents_of bytes) ≤ max = subst (λ lines. length lines ≤ max) (sym spells.all.contents) spells.all.within in
-      let are_lines = subst (All IsLine) (sym spells.all.contents) spells.all.are_lines in
+      let s = spells.spell.spelled in
       ⊎_elim
-      (λ r. fine-refused max (contents_of bytes) number why (spelled_fine max (contents_of bytes) x room are_lines s) r)
+      (λ r. fine-refused max (contents_of bytes) number why
+      (spelled_fine max (contents_of bytes) x spells.within spells.spell.are_lines s) r)
       (λ (t : IsTruncated max (contents_of bytes) number why).
       no_last (contents_of bytes) (records_before_trailer x s.are.schedules)
       (subst (SpellAll (contents_of bytes)) s.are.parts s.spelled) t.no_trailer) refused
 
   -- what is answered, by what the answers say of the bytes
   pub read_as : (after : Option (List ℕ)) (result : Result Extract Fault) →
-      IfOk result (λ extract. BytesSpell max bytes (extract_parts extract)) → IfErr result (IsReadFault max bytes after) →
+      IfOk result (λ extract. BytesSpellWithin max bytes (extract_parts extract)) → IfErr result (IsReadFault max bytes after) →
       IsReadAs x result
   read_as after (Ok extract) ok err =
-      one_extract (contents_of bytes) (extract_parts extract) x
-      (subst (λ lines. SpellExtract lines (extract_parts extract)) (sym ok.all.contents) ok.spelled) contents_spell
+      one_spelled bytes (extract_parts extract) x ok.spell spells.spell
   read_as after (Err (fault.Refused number why)) ok err = absurd (spelled-refused number why err)
   read_as after (Err (fault.Ambiguous clash)) ok err = absurd err
   read_as after (Err fault.WindowsDiffer) ok err = absurd err
@@ -65,15 +64,15 @@ module _ (max : ℕ) (bytes : List ℕ) (x : ExtractParts) (spells : BytesSpell 
 
 -- the same of bytes that may be known
 pub only_read : (start : Option (List ℕ)) (max : ℕ) (after : Option (List ℕ)) (result : Result Extract Fault) →
-    IfSome start (λ bytes. IfOk result (λ extract. BytesSpell max bytes (extract_parts extract))) →
+    IfSome start (λ bytes. IfOk result (λ extract. BytesSpellWithin max bytes (extract_parts extract))) →
     IfSome start (λ bytes. IfErr result (IsReadFault max bytes after)) →
-    IfSome start (λ bytes. (x : ExtractParts) → BytesSpell max bytes x → IsReadAs x result)
+    IfSome start (λ bytes. (x : ExtractParts) → BytesSpellWithin max bytes x → IsReadAs x result)
 only_read None max after result ok err = tt
 only_read (Some bytes) max after result ok err = λ x spells. read_as max bytes x spells after result ok err
 
 pub only_fault : (start : Option (List ℕ)) (max : ℕ) (after : Option (List ℕ)) (result : Result Extract Fault) (f : Fault) →
     result ≡ Err f →
     IfSome start (λ bytes. IfErr result (IsReadFault max bytes after)) →
-    IfSome start (λ bytes. (x : ExtractParts) → BytesSpell max bytes x → IsReadAs x result)
+    IfSome start (λ bytes. (x : ExtractParts) → BytesSpellWithin max bytes x → IsReadAs x result)
 only_fault None max after result f is err = tt
 only_fault (Some bytes) max after result f is err = λ x spells. read_as max bytes x spells after result (rw is tt) err

@@ -3,7 +3,7 @@ use Rattle.std.proofs.Common.{◌≡◌, ℕ, ◌+◌, ◌<◌, Bool, List, [], 
 use Rattle.std.proofs.Common.{sym, ◌∙◌, ap, refl, subst, append-nil, take-append-drop}
 use Rattle.std.proofs.lemmas.Grind.{flat_map-append}
 use Rattle.std.proofs.lemmas.List.{take_more}
-use Rattle.cif_columns.specs.Field.{plain_line}
+use Rattle.cif_columns.specs.Field.{Row, plain_line}
 use Rattle.cif_columns.specs.Sink.{HasFailed, HasWritten, Writes}
 use Rattle.cif_columns.specs.declared.sink.Sink.{Sink}
 use Rattle.cif_columns.specs.declared.stp.Stp.TheVariants.{P}
@@ -14,7 +14,6 @@ use Rattle.cif_columns.specs.Contents.{lines_text}
 use Rattle.cif_extract.specs.Texts.{schedule_lines}
 use Rattle.cif_records.specs.Basic.{basic_table}
 use Rattle.cif_records.specs.SpellsRecord.{record_table}
-use Rattle.cif_records.specs.declared.record.Record.{Record}
 
 -- the text of the lines so far, and of one more
 lines_more : (lines : List (List ℕ)) (n : ℕ) (line : List ℕ) → n < length lines → line ≡ get_or lines n line →
@@ -50,18 +49,17 @@ module _ {W : Type 0} (contents : W → Option (List ℕ)) (errors : W → Optio
       (failed_second contents errors (lines_text (take n lines)) (line ++ (10 ∷ [])) s t u so_far h))
 
 -- lines that are kept are the plain lines of their tables
-pub kept_plain : (lines : List (List ℕ)) (records : List Record) → KeepAll lines (map record_table records) →
-    lines ≡ map (λ r. plain_line (record_table r)) records
+pub kept_plain : (lines : List (List ℕ)) (tables : List (List Row)) → KeepAll lines tables → lines ≡ map plain_line tables
 kept_plain [] [] kept = refl
-kept_plain [] (r ∷ records) kept = absurd kept
+kept_plain [] (t ∷ tables) kept = absurd kept
 kept_plain (line ∷ lines) [] kept = absurd kept
-kept_plain (line ∷ lines) (r ∷ records) kept =
-    ap (λ l. l ∷ lines) kept.1 ∙ ap (λ ls. plain_line (record_table r) ∷ ls) (kept_plain lines records kept.2)
+kept_plain (line ∷ lines) (t ∷ tables) kept =
+    ap (λ l. l ∷ lines) kept.1 ∙ ap (λ ls. plain_line t ∷ ls) (kept_plain lines tables kept.2)
 
 -- the text of a schedule is that of its first line and of these
 module _ (uid : List ℕ) (first last : ℕ) (days : List Bool) (p : BodyParts) (rest : List (List ℕ))
-    (is : rest ≡ map (λ r. plain_line (record_table r)) (body_records p)) where
-  pub schedule_text : lines_text (schedule_lines uid first last days p)
+    (is : rest ≡ map plain_line (map record_table (body_records p))) where
+  pub schedule_text : lines_text (schedule_lines uid first last days P (Some p))
       ≡ (plain_line (basic_table uid first last days P (Some p.detail)) ++ (10 ∷ [])) ++ lines_text rest
   unfolding schedule_lines
   schedule_text = ap (λ (ls : List (List ℕ)).
@@ -72,9 +70,9 @@ module _ {W : Type 0} (contents : W → Option (List ℕ)) (errors : W → Optio
     (p : BodyParts) (basic : List ℕ) (is : basic ≡ plain_line (basic_table uid first last days P (Some p.detail))) (s t : Sink W) where
   -- it stops at the first line
   pub schedule_failed : HasFailed contents errors (basic ++ (10 ∷ [])) s t
-      → HasFailed contents errors (lines_text (schedule_lines uid first last days p)) s t
+      → HasFailed contents errors (lines_text (schedule_lines uid first last days P (Some p))) s t
   schedule_failed h =
-      let others = map (λ r. plain_line (record_table r)) (body_records p) in
+      let others = map plain_line (map record_table (body_records p)) in
       subst (λ text. HasFailed contents errors text s t)
       (ap (λ line. (line ++ (10 ∷ [])) ++ lines_text others) is ∙ sym (schedule_text uid first last days p others refl))
       (failed_first contents errors (basic ++ (10 ∷ [])) (lines_text others) s t h)
@@ -83,9 +81,9 @@ module _ {W : Type 0} (contents : W → Option (List ℕ)) (errors : W → Optio
   pub schedule_writes : {A E : Type 0} (rest : List (List ℕ)) (u : Sink W) (result : Result A E)
       → KeepAll rest (map record_table (body_records p)) → HasWritten contents errors (basic ++ (10 ∷ [])) s t
       → Writes contents errors (lines_text rest) t u result
-      → Writes contents errors (lines_text (schedule_lines uid first last days p)) s u result
+      → Writes contents errors (lines_text (schedule_lines uid first last days P (Some p))) s u result
   schedule_writes rest u result kept written h =
       subst (λ text. Writes contents errors text s u result)
       (ap (λ line. (line ++ (10 ∷ [])) ++ lines_text rest) is
-      ∙ sym (schedule_text uid first last days p rest (kept_plain rest (body_records p) kept)))
+      ∙ sym (schedule_text uid first last days p rest (kept_plain rest (map record_table (body_records p)) kept)))
       (writes_on contents errors (basic ++ (10 ∷ [])) (lines_text rest) s t u result written h)

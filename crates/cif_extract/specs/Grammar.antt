@@ -61,3 +61,9 @@ pub record AreExtract (records : List Record) (x : ExtractParts) : Type 0 where
   pub schedules : List Record
   pub parts : records ≡ records_before_trailer x schedules ++ (of.Trailer ∷ [])
   pub are_schedules : AreSchedules schedules x.schedules
+
+-- the records begin an extract
+pub record BeginExtract (records : List Record) : Type 0 where
+  pub more : List Record
+  pub parts : ExtractParts
+  pub are : AreExtract (records ++ more) parts

@@ -1,6 +1,6 @@
 -- Which kind of record may follow which: the table of docs/FORMAT.md, "Order of records", row by row. That it is the order of the
 -- grammar, no less and no more, are laws (proofs/OrderLaws and proofs/GoesOn).
-use Rattle.std.specs.Prelude.{ℕ, Bool, List, [], ◌∷◌, Option, None, Some, codes, if◌then◌else◌}
+use Rattle.std.specs.Prelude.{◌≡◌, ℕ, Bool, true, List, [], ◌∷◌, ◌++◌, Option, None, Some, codes, if◌then◌else◌}
 use Rattle.std.specs.List.{fold, list_any}
 use Rattle.std.specs.Str.{bytes_eq}
 use Rattle.cif_columns.specs.Field.{columns}
@@ -74,3 +74,12 @@ as_before earlier (Some Zz) line = zz
 -- what stands before a line that comes after these
 abbrev pub record_before : List (List ℕ) → RecordBefore
 record_before lines = fold (λ earlier line. as_before earlier (kind_in line) line) start lines
+
+-- the line names a kind that may follow these lines
+abbrev pub MayComeAfter : List (List ℕ) → List ℕ → Type 0
+MayComeAfter before line = (kind : Kind) → kind_in line ≡ Some kind → may_follow (record_before before) kind ≡ true
+
+-- each of the lines may follow those before it, and these earlier ones
+abbrev pub AreInOrder : List (List ℕ) → List (List ℕ) → Type 0
+AreInOrder earlier [] = Unit {0}
+AreInOrder earlier (line ∷ lines) = MayComeAfter earlier line × AreInOrder (earlier ++ (line ∷ [])) lines

@@ -1,6 +1,7 @@
 -- When lines, and bytes, spell an extract.
-use Rattle.std.specs.Prelude.{ℕ, List, [], ◌∷◌}
-use Rattle.cif_columns.specs.GivenLines.{AreAllLines}
+use Rattle.std.specs.Prelude.{ℕ, ◌≤◌, List, [], ◌∷◌, All, length}
+use Rattle.cif_columns.specs.Contents.{contents_of}
+use Rattle.cif_columns.specs.Line.{IsLine}
 use Rattle.cif_extract.specs.ExtractParts.{ExtractParts}
 use Rattle.cif_extract.specs.Grammar.{AreExtract}
 use Rattle.cif_records.specs.SpellsRecord.{SpellsRecord}
@@ -19,8 +20,12 @@ pub record SpellExtract (lines : List (List ℕ)) (x : ExtractParts) : Type 0 wh
   pub spelled : SpellAll lines records
   pub are : AreExtract records x
 
--- the bytes are at most max lines, and these spell an extract of these parts
-pub record BytesSpell (max : ℕ) (bytes : List ℕ) (x : ExtractParts) : Type 0 where
-  pub lines : List (List ℕ)
-  pub all : AreAllLines max bytes lines
-  pub spelled : SpellExtract lines x
+-- the bytes spell an extract of these parts: their contents are lines, and these spell it
+pub record BytesSpell (bytes : List ℕ) (x : ExtractParts) : Type 0 where
+  pub are_lines : All IsLine (contents_of bytes)
+  pub spelled : SpellExtract (contents_of bytes) x
+
+-- the same, in at most max lines
+pub record BytesSpellWithin (max : ℕ) (bytes : List ℕ) (x : ExtractParts) : Type 0 where
+  pub spell : BytesSpell bytes x
+  pub within : length (contents_of bytes) ≤ max

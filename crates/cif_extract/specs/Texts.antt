@@ -1,12 +1,57 @@
--- The plain lines of what is written.
-use Rattle.std.specs.Prelude.{ℕ, Bool, List, ◌∷◌, Some, map}
-use Rattle.cif_columns.specs.Field.{plain_line}
-use Rattle.cif_columns.specs.declared.stp.Stp.TheVariants.{P}
+-- The plain lines of an extract and its text.
+use Rattle.std.specs.Prelude.{ℕ, Bool, List, [], ◌∷◌, ◌++◌, Option, None, Some, map}
+use Rattle.std.specs.List.{flat_map}
+use Rattle.std.specs.Option.{option_map}
+use Rattle.cif_columns.specs.Contents.{lines_text}
+use Rattle.cif_columns.specs.Field.{AllFit, Row, plain_line}
+use Rattle.cif_columns.specs.declared.stp.Stp.{Stp}
 use Rattle.cif_extract.specs.BodyParts.{BodyParts, body_records}
+use Rattle.cif_extract.specs.ExtractParts.{ExtractParts}
+use Rattle.cif_extract.specs.declared.schedule.Schedule.{Schedule}
 use Rattle.cif_records.specs.Basic.{basic_table}
+use Rattle.cif_records.specs.SpellsAssociation.{table_of as association_table_of}
+use Rattle.cif_records.specs.SpellsHeader.{header_table}
 use Rattle.cif_records.specs.SpellsRecord.{record_table}
+use Rattle.cif_records.specs.Tiploc.{tiploc_table}
+use Rattle.cif_records.specs.Trailer.{trailer_table}
 
--- the plain lines of a permanent schedule: its BS, its BX if there is one, and its journey
-unfoldable pub schedule_lines : List ℕ → ℕ → ℕ → List Bool → BodyParts → List (List ℕ)
-schedule_lines uid first last days body =
-    plain_line (basic_table uid first last days P (Some body.detail)) ∷ map (λ r. plain_line (record_table r)) (body_records body)
+-- the tables of the records that follow a BS: its BX if there is one, and its journey; a cancellation needs none
+abbrev pub body_tables : Option BodyParts → List (List Row)
+body_tables None = []
+body_tables (Some body) = map record_table (body_records body)
+
+-- the tables of a schedule with these terms: its BS, and those of its body
+abbrev pub schedule_tables : List ℕ → ℕ → ℕ → List Bool → Stp → Option BodyParts → List (List Row)
+schedule_tables uid first last days letter body =
+    basic_table uid first last days letter (option_map (λ (b : BodyParts). b.detail) body) ∷ body_tables body
+
+-- the plain lines of a schedule with these terms
+unfoldable pub schedule_lines : List ℕ → ℕ → ℕ → List Bool → Stp → Option BodyParts → List (List ℕ)
+schedule_lines uid first last days letter body = map plain_line (schedule_tables uid first last days letter body)
+
+-- the tables of a schedule
+abbrev pub tables_of : Schedule → List (List Row)
+tables_of s = schedule_tables s.uid s.first s.last s.days s.letter s.body
+
+-- the tables of an extract: header, locations, associations, schedules, trailer
+abbrev pub extract_tables : ExtractParts → List (List Row)
+extract_tables x =
+    header_table x.header ∷ (map (λ t. tiploc_table t.columns) x.tiplocs
+    ++ (map association_table_of x.associations ++ (flat_map tables_of x.schedules ++ (trailer_table ∷ []))))
+
+-- the plain lines of an extract
+abbrev pub extract_lines : ExtractParts → List (List ℕ)
+extract_lines x = map plain_line (extract_tables x)
+
+-- its text: its plain lines, each with a line feed, and nothing else
+abbrev pub extract_text : ExtractParts → List ℕ
+extract_text x = lines_text (extract_lines x)
+
+-- the values of these tables can stand in their columns
+abbrev pub AllTablesFit : List (List Row) → Type 0
+AllTablesFit [] = Unit {0}
+AllTablesFit (table ∷ tables) = AllFit table × AllTablesFit tables
+
+-- what the extract says can stand in the columns of lines
+abbrev pub FitsColumns : ExtractParts → Type 0
+FitsColumns x = AllTablesFit (extract_tables x)

@@ -7,6 +7,7 @@ mod calls;
 mod clash;
 mod extract;
 mod fault;
+pub mod laws;
 mod opened;
 mod place;
 mod reader;

@@ -4,7 +4,7 @@ ghost use Rattle.cif_columns.specs.Source.{reader_of, source_failed};
 ghost use Rattle.cif_columns.specs.declared.line_reader.TheConstants.{MAX_LINES};
 ghost use Rattle.cif_extract.specs.ExtractParts.{ExtractParts, extract_parts};
 ghost use Rattle.cif_extract.specs.ReadFault.{FaultReads, IsOfReading, IsReadAs, IsReadFault};
-ghost use Rattle.cif_extract.specs.SpellsExtract.{BytesSpell};
+ghost use Rattle.cif_extract.specs.SpellsExtract.{BytesSpellWithin};
 
 use crate::reading::Reading;
 use crate::{Extract, Fault};
@@ -23,9 +23,9 @@ pub fn read_extract<R: ReadDevice>(
 ) -> Result<Extract, Fault>
     requires within { max_lines ≤ MAX_LINES }
     ensures ok { IfSome (R.remaining (reader_of source.old)) (λ bytes. IfOk result (λ extract.
-        BytesSpell max_lines bytes (extract_parts extract))) }
+        BytesSpellWithin max_lines bytes (extract_parts extract))) }
     ensures only { IfSome (R.remaining (reader_of source.old)) (λ bytes. (x : ExtractParts)
-        → BytesSpell max_lines bytes x → IsReadAs x result) }
+        → BytesSpellWithin max_lines bytes x → IsReadAs x result) }
     ensures fault { IfSome (R.remaining (reader_of source.old)) (λ bytes. IfErr result
         (IsReadFault max_lines bytes (R.remaining (reader_of source.new)))) }
     ensures answers { IfErr result (IsOfReading max_lines) }

@@ -6,7 +6,7 @@ ghost use Rattle.cif_columns.specs.declared.stp.Stp.TheVariants.{P};
 ghost use Rattle.cif_columns.specs.Contents.{lines_text};
 ghost use Rattle.cif_extract.specs.Texts.{schedule_lines};
 ghost use Rattle.cif_records.specs.Association.{association_table};
-ghost use Rattle.cif_records.specs.Header.{header_table};
+ghost use Rattle.cif_records.specs.SpellsHeader.{header_table};
 ghost use Rattle.cif_records.specs.Tiploc.{tiploc_table};
 ghost use Rattle.cif_records.specs.Trailer.{trailer_table};
 
@@ -30,7 +30,7 @@ fn write_lines<W: WriteDevice>(lines: &[Line], sink: &mut Sink<W>) -> Result<(),
 /// Appends the plain line of the header and a line feed.
 pub fn write_head<W: WriteDevice>(header: &Header, sink: &mut Sink<W>) -> Result<(), WriteFault>
     ensures { Writes W.contents W.write_errors
-        (plain_line (header_table header.now.columns) ++ 10 ∷ []) sink.old sink.new result }
+        (plain_line (header_table header.now) ++ 10 ∷ []) sink.old sink.new result }
 {
     sink.write_line(&header.write())
 }
@@ -72,7 +72,7 @@ pub fn write_schedule<W: WriteDevice>(
 ) -> Result<(), WriteFault>
     requires { first ≤ last }
     ensures { Writes W.contents W.write_errors
-        (lines_text (schedule_lines uid.now first last days body.now)) sink.old sink.new result }
+        (lines_text (schedule_lines uid.now first last days P (Some body.now))) sink.old sink.new result }
 {
     let basic = permanent_basic(uid, &body.detail(), first, last, days);
     sink.write_line(&basic)?;

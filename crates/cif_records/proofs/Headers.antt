@@ -1,15 +1,22 @@
--- A line spells at most one header, and there is no reason to refuse a line that spells one.
-use Rattle.std.proofs.Common.{◌≡◌, ◌+◌, ◌≤◌, ℕ, nat_le, true, List, Option, Some, None, refl, sym, ap, ◌∙◌, codes, arith, take, drop}
+-- What stands in a header's columns; a line spells at most one header, and there is no reason to refuse a line that spells one.
+use Rattle.std.proofs.Common.{◌≡◌, ◌+◌, ◌≤◌, ℕ, nat_le, true, List, ◌++◌, length, Option, Some, None, refl, sym, ap, ◌∙◌, codes, arith}
+use Rattle.std.proofs.Common.{take, drop, subst, length-take, length-drop, append_assoc, take-append-drop}
 use Rattle.std.proofs.Props.{props}
 use Rattle.std.proofs.lemmas.Bool.Decides.{nat_tests}
-use Rattle.std.proofs.lemmas.List.{drop-drop, drop-take, take-take}
+use Rattle.std.proofs.lemmas.List.{drop-drop, drop-take, take-take, take_all, take_at, length-take-le}
+use Rattle.std.proofs.lemmas.List.Elements.{All-take, All-drop}
 use mathlib.Core.HLevel.{Σ_prop_path}
-use Rattle.cif_columns.specs.Day.{ddmmyy_in}
-use Rattle.cif_columns.specs.Field.{AllStandIn, columns}
-use Rattle.cif_columns.specs.Line.{ArePrintable, IsLine}
-use Rattle.cif_records.specs.Header.{IsFull, header_refusal, header_table, kept}
-use Rattle.cif_records.specs.SpellsHeader.{SpellsHeader}
+use Rattle.cif_columns.specs.Day.{IsDay, ddmmyy_in}
+use Rattle.cif_columns.specs.DayDigits.{ddmmyy_of}
+use Rattle.cif_columns.specs.Field.{AllFit, AllStandIn, columns}
+use Rattle.cif_columns.specs.Line.{IsPrintable, ArePrintable, IsLine}
+use Rattle.cif_columns.proofs.DayColumns.{stands-ddmmyy_in}
+use Rattle.cif_columns.proofs.DayDigits.{ddmmyy_of-stands, is_day-ddmmyy}
+use Rattle.cif_columns.proofs.PrintableBytes.{printable_fact}
+use Rattle.cif_records.specs.Header.{IsFull, header_refusal, kept, with_window}
+use Rattle.cif_records.specs.SpellsHeader.{SpellsHeader, header_table}
 use Rattle.cif_records.specs.declared.header.Header.{Header}
+use Rattle.cif_records.proofs.Rows.{◌&◌}
 
 -- columns of the kept columns are those of the line
 part_of_kept : (a n m : ℕ) (line : List ℕ) → a + (n + m) ≡ 58 → take n (drop a (take 58 (drop 2 line))) ≡ take n (drop (2 + a) line)
@@ -20,8 +27,14 @@ part_of_kept a n m line e =
     ∙ take-take n (n + m) (drop (2 + a) line) (omega arith)
 
 module _ (line : List ℕ) where
+  pub kept-3 : kept 3 46 (columns 3 60 line) ≡ columns 3 46 line
+  kept-3 = part_of_kept 0 44 14 line refl
+
   pub kept-47 : kept 47 47 (columns 3 60 line) ≡ columns 47 47 line
   kept-47 = part_of_kept 44 1 13 line refl
+
+  pub kept-48 : kept 48 48 (columns 3 60 line) ≡ columns 48 48 line
+  kept-48 = part_of_kept 45 1 12 line refl
 
   pub kept-49 : kept 49 54 (columns 3 60 line) ≡ columns 49 54 line
   kept-49 = part_of_kept 46 6 6 line refl
@@ -29,34 +42,152 @@ module _ (line : List ℕ) where
   pub kept-55 : kept 55 60 (columns 3 60 line) ≡ columns 55 60 line
   kept-55 = part_of_kept 52 6 0 line refl
 
+-- fifty-eight columns are their parts
+cut : (a n : ℕ) (c : List ℕ) → drop a c ≡ take n (drop a c) ++ drop (a + n) c
+cut a n c = sym (take-append-drop n (drop a c)) ∙ ap (λ (l : List ℕ). take n (drop a c) ++ l) (drop-drop n a c)
+
+all_kept : (c : List ℕ) → length c ≡ 58 → c ≡ kept 3 46 c ++ (kept 47 47 c ++ (kept 48 48 c ++ (kept 49 54 c ++ kept 55 60 c)))
+all_kept c wide =
+    cut 0 44 c
+    ∙ ap (λ (l : List ℕ). kept 3 46 c ++ l) (cut 44 1 c
+    ∙ ap (λ (l : List ℕ). kept 47 47 c ++ l) (cut 45 1 c
+    ∙ ap (λ (l : List ℕ). kept 48 48 c ++ l) (cut 46 6 c
+    ∙ ap (λ (l : List ℕ). kept 49 54 c ++ l) (sym (take_all 6 (drop 52 c) (omega (arith, wide, length-drop 52 c)))))))
+
+front_kept : (c : List ℕ) → kept 3 48 c ≡ kept 3 46 c ++ (kept 47 47 c ++ kept 48 48 c)
+front_kept c =
+    sym (take-append-drop 44 (take 46 c))
+    ∙ ap (λ (l : List ℕ). l ++ drop 44 (take 46 c)) (take-take 44 46 c (omega arith))
+    ∙ ap (λ (l : List ℕ). kept 3 46 c ++ l) (drop-take 44 2 c
+    ∙ sym (take-append-drop 1 (take 2 (drop 44 c)))
+    ∙ ap (λ (l : List ℕ). l ++ drop 1 (take 2 (drop 44 c))) (take-take 1 2 (drop 44 c) (omega arith))
+    ∙ ap (λ (l : List ℕ). kept 47 47 c ++ l) (drop-take 1 1 (drop 44 c) ∙ ap (take 1) (drop-drop 1 44 c)))
+
+-- six columns that name a day are its digits
+pub digits_of : (c : List ℕ) (day : ℕ) → length c ≡ 6 → ddmmyy_in c ≡ Some day → c ≡ ddmmyy_of day
+digits_of c day wide named = ddmmyy_of-stands c day (stands-ddmmyy_in c day wide named)
+
+-- what the columns of a header are
+module _ (h : Header) where
+  wide_part : (a n m : ℕ) → a + (n + m) ≡ 58 → length (take n (drop a h.columns)) ≡ n
+  wide_part a n m e =
+      let wide = h.wide in omega (arith, wide, e, length-take n (drop a h.columns), length-drop a h.columns)
+
+  printable_part : (a n : ℕ) → ArePrintable (take n (drop a h.columns))
+  printable_part a n = All-take IsPrintable n (drop a h.columns) (All-drop IsPrintable a h.columns h.printable)
+
+  first_digits : kept 49 54 h.columns ≡ ddmmyy_of h.first
+  first_digits = digits_of (kept 49 54 h.columns) h.first (wide_part 46 6 6 refl) h.first_stands
+
+  last_digits : kept 55 60 h.columns ≡ ddmmyy_of h.last
+  last_digits = digits_of (kept 55 60 h.columns) h.last (wide_part 52 6 0 refl) h.last_stands
+
+  -- its window is of days
+  pub first_is_day : IsDay h.first
+  first_is_day =
+      is_day-ddmmyy (kept 49 54 h.columns) h.first
+      (stands-ddmmyy_in (kept 49 54 h.columns) h.first (wide_part 46 6 6 refl) h.first_stands)
+
+  pub last_is_day : IsDay h.last
+  last_is_day =
+      is_day-ddmmyy (kept 55 60 h.columns) h.last
+      (stands-ddmmyy_in (kept 55 60 h.columns) h.last (wide_part 52 6 0 refl) h.last_stands)
+
+  pub columns_are : h.columns ≡ kept 3 46 h.columns ++ (codes "F" ++ (kept 48 48 h.columns ++ (ddmmyy_of h.first ++ ddmmyy_of h.last)))
+  columns_are =
+      all_kept h.columns h.wide
+      ∙ ap (λ (l : List ℕ). kept 3 46 h.columns ++ (l ++ (kept 48 48 h.columns ++ (kept 49 54 h.columns ++ kept 55 60 h.columns)))) h.full
+      ∙ ap (λ (l : List ℕ). kept 3 46 h.columns ++ (codes "F" ++ (kept 48 48 h.columns ++ (l ++ kept 55 60 h.columns)))) first_digits
+      ∙ ap (λ (l : List ℕ). kept 3 46 h.columns ++ (codes "F" ++ (kept 48 48 h.columns ++ (ddmmyy_of h.first ++ l)))) last_digits
+
+  -- its own window changes nothing
+  pub own_window : with_window h.first h.last h.columns ≡ h.columns
+  own_window =
+      ap (λ (l : List ℕ). l ++ (ddmmyy_of h.first ++ ddmmyy_of h.last)) (front_kept h.columns)
+      ∙ append_assoc (kept 3 46 h.columns) (kept 47 47 h.columns ++ kept 48 48 h.columns) (ddmmyy_of h.first ++ ddmmyy_of h.last)
+      ∙ ap (λ (l : List ℕ). kept 3 46 h.columns ++ l)
+      (append_assoc (kept 47 47 h.columns) (kept 48 48 h.columns) (ddmmyy_of h.first ++ ddmmyy_of h.last))
+      ∙ ap (λ (l : List ℕ). kept 3 46 h.columns ++ (l ++ (kept 48 48 h.columns ++ (ddmmyy_of h.first ++ ddmmyy_of h.last)))) h.full
+      ∙ sym columns_are
+
+  -- of two windows the last holds
+  pub last_window : (first last earlier_first earlier_last : ℕ) →
+      with_window first last (with_window earlier_first earlier_last h.columns) ≡ with_window first last h.columns
+  last_window first last earlier_first earlier_last =
+      ap (λ (l : List ℕ). l ++ (ddmmyy_of first ++ ddmmyy_of last))
+      (take_at (kept 3 48 h.columns) (ddmmyy_of earlier_first ++ ddmmyy_of earlier_last) 46 (wide_part 0 46 12 refl))
+
+  -- its values fit their columns
+  pub fits : AllFit (header_table h)
+  fits =
+      (refl, printable_fact (codes "HD") refl)
+      & (wide_part 0 44 14 refl, printable_part 0 44)
+      & (refl, printable_fact (codes "F") refl)
+      & (wide_part 45 1 12 refl, printable_part 45 1)
+      & (subst (λ d. (length d ≡ 6) × ArePrintable d) first_digits (wide_part 46 6 6 refl, printable_part 46 6))
+      & (subst (λ d. (length d ≡ 6) × ArePrintable d) last_digits (wide_part 52 6 0 refl, printable_part 52 6))
+      & tt & tt
+
+  -- its plain columns one behind another are its columns
+  pub put-columns : (front : List ℕ) →
+      ((((front ++ kept 3 46 h.columns) ++ codes "F") ++ kept 48 48 h.columns) ++ ddmmyy_of h.first) ++ ddmmyy_of h.last
+      ≡ front ++ h.columns
+  put-columns front =
+      let a = kept 3 46 h.columns in
+      let b = kept 48 48 h.columns in
+      let c = ddmmyy_of h.first in
+      let d = ddmmyy_of h.last in
+      append_assoc (((front ++ a) ++ codes "F") ++ b) c d
+      ∙ append_assoc ((front ++ a) ++ codes "F") b (c ++ d)
+      ∙ append_assoc (front ++ a) (codes "F") (b ++ (c ++ d))
+      ∙ append_assoc front a (codes "F" ++ (b ++ (c ++ d)))
+      ∙ ap (λ (l : List ℕ). front ++ l) (sym columns_are)
+
 -- what the type keeps of its fields
 abbrev Facts : List ℕ × ℕ × ℕ → Type 0
-Facts v = ArePrintable v.0 × IsFull v.0 × (ddmmyy_in (kept 49 54 v.0) ≡ Some v.1) × (ddmmyy_in (kept 55 60 v.0) ≡ Some v.2) × (v.1 ≤ v.2)
+Facts v = (length v.0 ≡ 58) × ArePrintable v.0 × IsFull v.0 × (ddmmyy_in (kept 49 54 v.0) ≡ Some v.1)
+    × (ddmmyy_in (kept 55 60 v.0) ≡ Some v.2) × (v.1 ≤ v.2)
 
-same_header : (h k : Header) → h.columns ≡ k.columns → h ≡ k
+pub same_header : (h k : Header) → h.columns ≡ k.columns → h ≡ k
 same_header h k e =
     let first : h.first ≡ k.first = (let same : ◌≡◌ {A = Option ℕ} (Some h.first) (Some k.first) =
     sym h.first_stands ∙ ap (λ c. ddmmyy_in (kept 49 54 c)) e ∙ k.first_stands in cc) in
     let last : h.last ≡ k.last = (let same : ◌≡◌ {A = Option ℕ} (Some h.last) (Some k.last) =
     sym h.last_stands ∙ ap (λ c. ddmmyy_in (kept 55 60 c)) e ∙ k.last_stands in cc) in
     let parts : ◌≡◌ {A = (v : List ℕ × ℕ × ℕ) × Facts v}
-    ((h.columns, h.first, h.last), (h.printable, h.full, h.first_stands, h.last_stands, h.in_order))
-    ((k.columns, k.first, k.last), (k.printable, k.full, k.first_stands, k.last_stands, k.in_order)) =
+    ((h.columns, h.first, h.last), (h.wide, h.printable, h.full, h.first_stands, h.last_stands, h.in_order))
+    ((k.columns, k.first, k.last), (k.wide, k.printable, k.full, k.first_stands, k.last_stands, k.in_order)) =
     Σ_prop_path (λ v. hlevel props) (cc) in
     ap (λ v. record {
       columns = v.0.0;
       first = v.0.1;
       last = v.0.2;
-      printable = v.1.0;
-      full = v.1.1;
-      first_stands = v.1.2;
-      last_stands = v.1.3;
-      in_order = v.1.4;
+      wide = v.1.0;
+      printable = v.1.1;
+      full = v.1.2;
+      first_stands = v.1.3;
+      last_stands = v.1.4;
+      in_order = v.1.5;
     }) parts
+
+-- a header is determined by columns 3 to 48 and its window
+pub by_window : (h k : Header) → kept 3 48 h.columns ≡ kept 3 48 k.columns → h.first ≡ k.first → h.last ≡ k.last → h ≡ k
+by_window h k front first last =
+    same_header h k (sym (own_window h)
+    ∙ ap (λ (l : List ℕ). l ++ (ddmmyy_of h.first ++ ddmmyy_of h.last)) front
+    ∙ ap (λ n. kept 3 48 k.columns ++ (ddmmyy_of n ++ ddmmyy_of h.last)) first
+    ∙ ap (λ n. kept 3 48 k.columns ++ (ddmmyy_of k.first ++ ddmmyy_of n)) last ∙ own_window k)
 
 -- two headers that a line spells are one
 pub one_header : (line : List ℕ) (h k : Header) → SpellsHeader line h → SpellsHeader line k → h ≡ k
-one_header line h k p q = same_header h k (sym p.1.0 ∙ q.1.0)
+one_header line h k p q =
+    let front : kept 3 46 h.columns ≡ kept 3 46 k.columns = sym p.1.0 ∙ q.1.0 in
+    let back : kept 48 48 h.columns ≡ kept 48 48 k.columns = sym p.1.1.1.0 ∙ q.1.1.1.0 in
+    let first : ddmmyy_of h.first ≡ ddmmyy_of k.first = sym p.1.1.1.1.0 ∙ q.1.1.1.1.0 in
+    let last : ddmmyy_of h.last ≡ ddmmyy_of k.last = sym p.1.1.1.1.1.0 ∙ q.1.1.1.1.1.0 in
+    let whole : kept 3 46 h.columns ++ (codes "F" ++ (kept 48 48 h.columns ++ (ddmmyy_of h.first ++ ddmmyy_of h.last)))
+    ≡ kept 3 46 k.columns ++ (codes "F" ++ (kept 48 48 k.columns ++ (ddmmyy_of k.first ++ ddmmyy_of k.last))) = cc in
+    same_header h k (columns_are h ∙ whole ∙ sym (columns_are k))
 
 -- there is no reason to refuse a line that spells a header
 pub no_refusal : (line : List ℕ) (h : Header) → SpellsHeader line h → header_refusal line ≡ None
@@ -64,8 +195,6 @@ unfolding header_refusal
 no_refusal line h p =
     let in_order = h.in_order in
     let test : nat_le h.first h.last ≡ true = grind (arith, nat_tests) in
-    let full : columns 47 47 line ≡ codes "F" = sym (kept-47 line) ∙ ap (kept 47 47) p.1.0 ∙ h.full in
-    let first : ddmmyy_in (columns 49 54 line) ≡ Some h.first =
-    ap ddmmyy_in (sym (kept-49 line) ∙ ap (kept 49 54) p.1.0) ∙ h.first_stands in
-    let last : ddmmyy_in (columns 55 60 line) ≡ Some h.last = ap ddmmyy_in (sym (kept-55 line) ∙ ap (kept 55 60) p.1.0) ∙ h.last_stands in
-    rw (p.0, full, first, last, test)
+    let first : ddmmyy_in (columns 49 54 line) ≡ Some h.first = ap ddmmyy_in (p.1.1.1.1.0 ∙ sym (first_digits h)) ∙ h.first_stands in
+    let last : ddmmyy_in (columns 55 60 line) ≡ Some h.last = ap ddmmyy_in (p.1.1.1.1.1.0 ∙ sym (last_digits h)) ∙ h.last_stands in
+    rw (p.0, p.1.1.0, first, last, test)

@@ -1,33 +1,25 @@
 -- Plain lines of what a line spells are lines, and spell it again.
-use Rattle.std.proofs.Common.{◌≡◌, ℕ, Bool, List, length, Some, codes, refl, sym, ap, ◌∙◌, arith, subst}
-use Rattle.cif_columns.specs.Day.{IsDay, ddmmyy_in}
-use Rattle.cif_columns.specs.Field.{AllFit, AllStandIn, columns, plain_line}
+use Rattle.std.proofs.Common.{◌≡◌, ℕ, Bool, List, length, Some, codes, refl, arith, subst}
+use Rattle.cif_columns.specs.Day.{IsDay}
+use Rattle.cif_columns.specs.Field.{AllFit, AllStandIn, plain_line}
 use Rattle.cif_columns.specs.Line.{IsLine}
 use Rattle.cif_columns.specs.declared.stp.Stp.TheVariants.{P}
-use Rattle.cif_columns.proofs.DayColumns.{stands-ddmmyy_in}
-use Rattle.cif_columns.proofs.DayDigits.{is_day-ddmmyy}
 use Rattle.cif_columns.proofs.Parts.{stands-plain_line}
-use Rattle.cif_columns.proofs.PlainLines.{length-columns, line-plain_line, fits-text_at, fits-exactly_at}
+use Rattle.cif_columns.proofs.PlainLines.{line-plain_line, fits-text_at, fits-exactly_at}
 use Rattle.cif_columns.proofs.PrintableBytes.{printable_fact}
 use Rattle.cif_records.specs.Steps.AssocBody.{SpellsBody}
 use Rattle.cif_records.specs.Association.{association_table}
-use Rattle.cif_records.specs.Header.{header_table, kept}
 use Rattle.cif_records.specs.SpellsAssociation.{SpellsAssociation}
-use Rattle.cif_records.specs.SpellsHeader.{SpellsHeader}
+use Rattle.cif_records.specs.SpellsHeader.{SpellsHeader, header_table}
 use Rattle.cif_records.specs.Trailer.{trailer_table}
 use Rattle.cif_records.specs.declared.assoc_body.AssocBody.{AssocBody}
 use Rattle.cif_records.specs.declared.association.Association.{Association}
 use Rattle.cif_records.specs.declared.header.Header.{Header}
 use Rattle.cif_records.proofs.Associations.{parts_of}
-use Rattle.cif_records.proofs.Headers.{kept-55}
+use Rattle.cif_records.proofs.Headers.{fits, last_is_day}
 use Rattle.cif_records.proofs.Rows.{◌&◌}
 
 module _ (line : List ℕ) (is_line : IsLine line) where
-  fits-header : (h : Header) → SpellsHeader line h → AllFit (header_table h.columns)
-  fits-header h p =
-      (refl, printable_fact (codes "HD") refl) & fits-exactly_at 3 60 line is_line (omega arith) (omega arith)
-      (omega arith) h.columns p.1.0 & tt & tt
-
   fits-permanent : (r : Association) (b : AssocBody) (first last : ℕ) (days : List Bool) → SpellsAssociation line r → r.body ≡ Some b →
       IsDay first → IsDay last → length days ≡ 7 → AllFit (association_table r.key first last days P (Some b))
   fits-permanent r b first last days p holds from upto week =
@@ -48,17 +40,12 @@ module _ (line : List ℕ) (is_line : IsLine line) where
 
   -- the last day of a window is a day
   pub is_day-last : (h : Header) → SpellsHeader line h → IsDay h.last
-  is_day-last h p =
-      is_day-ddmmyy (columns 55 60 line) h.last
-      (stands-ddmmyy_in (columns 55 60 line) h.last (length-columns 55 60 line is_line (omega arith) (omega arith) (omega arith))
-      (ap ddmmyy_in (sym (ap (kept 55 60) (sym p.1.0) ∙ kept-55 line)) ∙ h.last_stands))
+  is_day-last h p = last_is_day h
 
   -- the plain line of a header that a line spells
-  pub plain-header : (h : Header) → SpellsHeader line h → IsLine (plain_line (header_table h.columns))
-      × SpellsHeader (plain_line (header_table h.columns)) h
-  plain-header h p =
-      let fits = fits-header h p in
-      (line-plain_line (header_table h.columns) refl fits, stands-plain_line (header_table h.columns) refl fits)
+  pub plain-header : (h : Header) → SpellsHeader line h → IsLine (plain_line (header_table h))
+      × SpellsHeader (plain_line (header_table h)) h
+  plain-header h p = (line-plain_line (header_table h) refl (fits h), stands-plain_line (header_table h) refl (fits h))
 
   -- the plain line of a permanent association with the key and the body of one that a line spells
   pub plain-permanent : (r : Association) (b : AssocBody) (first last : ℕ) (days : List Bool) → SpellsAssociation line r → r.body ≡ Some b →

@@ -1,9 +1,11 @@
 -- A line spells one record at most, of the kind that it names, and there is no reason to refuse a line that spells one.
 use Rattle.std.proofs.Common.{◌≡◌, ℕ, Bool, true, List, Option, Some, None, Result, Ok, Err, refl, sym, ap, ◌∙◌, subst}
-use Rattle.cif_columns.specs.Field.{AllStandIn, Row, columns, plain_line}
+use Rattle.cif_columns.specs.Field.{AllFit, AllStandIn, Row, columns, is_whole_from, plain_line}
 use Rattle.cif_columns.specs.Line.{IsLine}
 use Rattle.cif_columns.specs.declared.refusal.Refusal.{Refusal}
 use Rattle.cif_columns.specs.declared.stp.Stp.{Stp}
+use Rattle.cif_columns.proofs.Parts.{stands-plain_line}
+use Rattle.cif_columns.proofs.PlainLines.{line-plain_line}
 use Rattle.cif_columns.proofs.StoodValues as stood
 use Rattle.cif_records.specs.Association.{association_table}
 use Rattle.cif_records.specs.Basic.{basic_table}
@@ -206,18 +208,37 @@ with_detail : (uid : List ℕ) (first last : ℕ) (days : List Bool) (letter : S
 with_detail uid first last days letter None = refl
 with_detail uid first last days letter (Some d) = refl
 
--- the plain line of a record that a line spells is a line, and spells the record again
-pub plain_again : (line : List ℕ) → IsLine line → (r : Record) → SpellsRecord line r
-    → IsLine (plain_line (record_table r)) × SpellsRecord (plain_line (record_table r)) r
-plain_again line is_line (a.Header h) s = stood.plain_again line is_line (record_table (a.Header h)) refl refl s
-plain_again line is_line (a.Tiploc h) s = stood.plain_again line is_line (record_table (a.Tiploc h)) refl refl s
-plain_again line is_line (a.Association h) s = stood.plain_again line is_line (record_table (a.Association h)) refl
+-- what a line says of a record fits its columns
+pub fit : (line : List ℕ) → IsLine line → (r : Record) → SpellsRecord line r → AllFit (record_table r)
+fit line is_line (a.Header h) s = headers.fits h
+fit line is_line (a.Association h) s = stood.fit line is_line (record_table (a.Association h)) refl
     (with_body h.key h.first h.last h.days h.letter h.body) s
-plain_again line is_line (a.Basic h) s = stood.plain_again line is_line (record_table (a.Basic h)) refl
+fit line is_line (a.Basic h) s = stood.fit line is_line (record_table (a.Basic h)) refl
     (with_detail h.uid h.first h.last h.days h.letter h.detail) s
-plain_again line is_line (a.Extra h) s = stood.plain_again line is_line (record_table (a.Extra h)) refl refl s
-plain_again line is_line (a.Origin h) s = stood.plain_again line is_line (record_table (a.Origin h)) refl refl s
-plain_again line is_line (a.Stop h) s = stood.plain_again line is_line (record_table (a.Stop h)) refl refl s
-plain_again line is_line (a.Change h) s = stood.plain_again line is_line (record_table (a.Change h)) refl refl s
-plain_again line is_line (a.Terminus h) s = stood.plain_again line is_line (record_table (a.Terminus h)) refl refl s
-plain_again line is_line a.Trailer s = stood.plain_again line is_line (record_table a.Trailer) refl refl s
+fit line is_line (a.Tiploc h) s = stood.fit line is_line (record_table (a.Tiploc h)) refl refl s
+fit line is_line (a.Extra h) s = stood.fit line is_line (record_table (a.Extra h)) refl refl s
+fit line is_line (a.Origin h) s = stood.fit line is_line (record_table (a.Origin h)) refl refl s
+fit line is_line (a.Stop h) s = stood.fit line is_line (record_table (a.Stop h)) refl refl s
+fit line is_line (a.Change h) s = stood.fit line is_line (record_table (a.Change h)) refl refl s
+fit line is_line (a.Terminus h) s = stood.fit line is_line (record_table (a.Terminus h)) refl refl s
+fit line is_line a.Trailer s = stood.fit line is_line (record_table a.Trailer) refl refl s
+
+-- a record's table has each column once
+whole : (r : Record) → is_whole_from 1 (record_table r) ≡ true
+whole (a.Header h) = refl
+whole (a.Tiploc h) = refl
+whole (a.Association h) = refl
+whole (a.Basic h) = refl
+whole (a.Extra h) = refl
+whole (a.Origin h) = refl
+whole (a.Stop h) = refl
+whole (a.Change h) = refl
+whole (a.Terminus h) = refl
+whole a.Trailer = refl
+
+-- where a record's values fit, its plain line is a line, and spells it
+pub line : (r : Record) → AllFit (record_table r) → IsLine (plain_line (record_table r))
+line r fits = line-plain_line (record_table r) (whole r) fits
+
+pub spells : (r : Record) → AllFit (record_table r) → SpellsRecord (plain_line (record_table r)) r
+spells r fits = stands-plain_line (record_table r) (whole r) fits

@@ -8,12 +8,15 @@ use Rattle.cif_records.specs.SpellsTiploc.{SpellsTiploc}
 use Rattle.cif_records.specs.Tiploc.{tiploc_refusal, tiploc_table}
 use Rattle.cif_records.specs.declared.tiploc.Tiploc.{Tiploc}
 
-pub one_tiploc : (line : List ℕ) (t u : Tiploc) → SpellsTiploc line t → SpellsTiploc line u → t ≡ u
-one_tiploc line t u p q =
-    let same : t.columns ≡ u.columns = sym p.1.0 ∙ q.1.0 in
+-- a location is determined by its columns
+pub same_tiploc : (t u : Tiploc) → t.columns ≡ u.columns → t ≡ u
+same_tiploc t u same =
     let parts : ◌≡◌ {A = (c : List ℕ) × ArePrintable c} (t.columns, t.printable) (u.columns, u.printable) =
     Σ_prop_path (λ c. hlevel props) same in
     ap (λ v. record { columns = v.0; printable = v.1 }) parts
+
+pub one_tiploc : (line : List ℕ) (t u : Tiploc) → SpellsTiploc line t → SpellsTiploc line u → t ≡ u
+one_tiploc line t u p q = same_tiploc t u (sym p.1.0 ∙ q.1.0)
 
 pub no_refusal : (line : List ℕ) (t : Tiploc) → SpellsTiploc line t → tiploc_refusal line ≡ None
 unfolding tiploc_refusal

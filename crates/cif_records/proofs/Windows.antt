@@ -31,7 +31,7 @@ within old first wide first_wide = omega (arith, length-put_mid old first wide f
 
 module _ (old first last : List ℕ) (wide : length old ≡ 58) (first_wide : length first ≡ 6) (last_wide : length last ≡ 6) where
   -- columns 3 to 48 as they were, and then the two dates
-  written : put_mid 52 6 (put_mid 46 6 old first) last ≡ take 46 old ++ (first ++ last)
+  pub written : put_mid 52 6 (put_mid 46 6 old first) last ≡ take 46 old ++ (first ++ last)
   written =
       let once = put_mid 46 6 old first in
       let once_wide = length-put_mid old first wide first_wide in
@@ -40,6 +40,18 @@ module _ (old first last : List ℕ) (wide : length old ≡ 58) (first_wide : le
       ∙ ap (λ (l : List ℕ). (take 46 old ++ first) ++ (last ++ l)) none
       ∙ ap (λ (l : List ℕ). (take 46 old ++ first) ++ l) (append-nil last)
       ∙ append_assoc (take 46 old) first last
+
+  -- they are as many as before
+  pub still_wide : length (put_mid 52 6 (put_mid 46 6 old first) last) ≡ 58
+  still_wide = omega (
+    arith,
+    ap length written,
+    front_width old wide,
+    first_wide,
+    last_wide,
+    length-append (take 46 old) (first ++ last),
+    length-append first last,
+  )
 
   -- columns 3 to 48 are as they were
   pub kept-front : kept 3 48 (put_mid 52 6 (put_mid 46 6 old first) last) ≡ kept 3 48 old

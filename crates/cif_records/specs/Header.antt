@@ -1,7 +1,8 @@
--- HD: the header of an extract, its columns, and the reasons to refuse one.
-use Rattle.std.specs.Prelude.{◌≡◌, ℕ, ◌-◌, List, [], ◌∷◌, Option, is_some, codes}
+-- HD: the header of an extract, and the reasons to refuse one.
+use Rattle.std.specs.Prelude.{◌≡◌, ℕ, ◌-◌, List, [], ◌∷◌, ◌++◌, Option, is_some, codes}
 use Rattle.cif_columns.specs.Day.{ddmmyy_in}
-use Rattle.cif_columns.specs.Field.{Row, row, columns, exactly, spare}
+use Rattle.cif_columns.specs.DayDigits.{ddmmyy_of}
+use Rattle.cif_columns.specs.Field.{columns}
 use Rattle.cif_columns.specs.declared.refusal.Refusal.{Refusal}
 use Rattle.cif_columns.specs.declared.refusal.Refusal.TheVariants.{NotFull, BadDate, DatesReversed}
 use Rattle.cif_records.specs.Checks.{first_of, unless, are, are_in_order, identity_refusal}
@@ -14,13 +15,9 @@ kept from to header_columns = columns (from - 2) (to - 2) header_columns
 abbrev pub IsFull : List ℕ → Type 0
 IsFull header_columns = kept 47 47 header_columns ≡ codes "F"
 
--- the columns of a header
-abbrev pub header_table : List ℕ → List Row
-header_table header_columns =
-    row 1 2 (exactly (codes "HD"))
-    ∷ row 3 60 (exactly header_columns)
-    ∷ row 61 80 spare
-    ∷ []
+-- columns 3 to 60 with another window: its first and its last day are put into columns 49 to 60
+abbrev pub with_window : ℕ → ℕ → List ℕ → List ℕ
+with_window first last header_columns = kept 3 48 header_columns ++ (ddmmyy_of first ++ ddmmyy_of last)
 
 -- column 47 is the update indicator of a full extract
 abbrev pub full_refusal : List ℕ → Option Refusal

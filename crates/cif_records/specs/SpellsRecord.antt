@@ -1,7 +1,7 @@
 -- When a line spells a record of any kind.
 use Rattle.std.specs.Prelude.{ℕ, List}
 use Rattle.cif_columns.specs.Field.{Row, AllStandIn}
-use Rattle.cif_records.specs.Header.{header_table}
+use Rattle.cif_records.specs.SpellsHeader.{header_table}
 use Rattle.cif_records.specs.SpellsAssociation.{table_of as table_of_association}
 use Rattle.cif_records.specs.SpellsBasic.{table_of as table_of_basic}
 use Rattle.cif_records.specs.SpellsChange.{table_of as table_of_change}
@@ -17,7 +17,7 @@ use Rattle.cif_records.specs.declared.record.Record.TheVariants.{Origin, Stop, C
 
 -- the columns of this record
 abbrev pub record_table : Record → List Row
-record_table (Header h) = header_table h.columns
+record_table (Header h) = header_table h
 record_table (Tiploc t) = tiploc_table t.columns
 record_table (Association r) = table_of_association r
 record_table (Basic r) = table_of_basic r

@@ -1,5 +1,5 @@
 //! What holds between two trains.
-ghost use Rattle.std.specs.Prelude.{◌≡◌};
+ghost use Rattle.std.specs.Prelude.{◌≡◌, ◌↔◌, IsTrue};
 
 use cif_columns::Text;
 
@@ -17,6 +17,8 @@ pub struct AssocBody {
 }
 
 impl AssocBody {
+    ghost use Rattle.cif_records.specs.declared.assoc_body.AssocBody.{AssocBody};
+
     /// The same body.
     pub fn copy(&self) -> AssocBody
         ensures { result ≡ self.now }
@@ -28,4 +30,9 @@ impl AssocBody {
             kind: self.kind.copy(),
         }
     }
+
+    /// A law for proofs: bodies are equal where their fields are.
+    pub fn equality_of_bodies()
+        ensures { (a b : AssocBody) → IsTrue (⟦<AssocBody as PartialEq>⟧.eq a b) ↔ (a ≡ b) }
+    {}
 }

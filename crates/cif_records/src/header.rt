@@ -1,13 +1,12 @@
 //! The header of an extract.
-ghost use Rattle.std.specs.Prelude.{◌≡◌, ◌≤◌, Some, Ok, codes};
+ghost use Rattle.std.specs.Prelude.{◌≡◌, ◌≤◌, ◌↔◌, Some, Ok, IsTrue, codes, length};
 ghost use Rattle.std.proofs.Props.{props};
 ghost use Rattle.cif_columns.specs.Day.{ddmmyy_in};
-ghost use Rattle.cif_columns.specs.DayDigits.{ddmmyy_of};
 ghost use Rattle.cif_columns.specs.Field.{columns, columns_from, plain_line};
 ghost use Rattle.cif_columns.specs.Line.{ArePrintable};
 ghost use Rattle.cif_records.specs.Checks.{IsJudged};
 ghost use Rattle.cif_records.specs.Header.{IsFull, full_refusal, header_date_refusal};
-ghost use Rattle.cif_records.specs.Header.{header_refusal, header_table, kept};
+ghost use Rattle.cif_records.specs.Header.{header_refusal, kept, with_window as columns_with_window};
 
 use crate::Record;
 use crate::checks::{Dates, check_identity};
@@ -24,6 +23,7 @@ pub struct Header {
     pub first: Day,
     /// Columns 55 to 60: the user extract end date, by day, month and year.
     pub last: Day,
+    ghost wide: { length columns ≡ 58 },
     ghost printable: { ArePrintable columns },
     ghost full: { IsFull columns },
     ghost first_stands: { ddmmyy_in (kept 49 54 columns) ≡ Some first } by { Prim.hlevel props },
@@ -35,6 +35,7 @@ impl Layout for Header {
     ghost use Rattle.std.specs.Prelude.{refl, ◌≡◌, codes, Some};
     ghost use Rattle.cif_columns.specs.Day.{ddmmyy_in};
     ghost use Rattle.cif_columns.specs.Field.{columns};
+    ghost use Rattle.cif_records.specs.SpellsHeader.{header_table};
     ghost use Rattle.cif_records.specs.declared.kind.Kind.TheVariants.{Hd};
     ghost use Rattle.cif_records.specs.declared.record.Record.TheVariants as of;
 
@@ -44,7 +45,7 @@ impl Layout for Header {
 
     ghost as_record = { of.Header };
 
-    ghost table = { λ h. header_table h.columns };
+    ghost table = { header_table };
 
     ghost refusal = { header_refusal };
 
@@ -93,7 +94,7 @@ impl Layout for Header {
 
 impl Header {
     ghost use Rattle.cif_records.specs.declared.header.Header.{Header};
-    ghost use Rattle.cif_records.specs.SpellsHeader.{SpellsHeader};
+    ghost use Rattle.cif_records.specs.SpellsHeader.{SpellsHeader, header_table};
 
     /// The header that the line spells, or the first reason in column order why it spells none:
     /// UnknownRecord (columns 1 to 2), NotFull (column 47), BadDate and DatesReversed (columns 49
@@ -107,7 +108,7 @@ impl Header {
 
     /// The plain line: columns 61 to 80 are spaces.
     pub fn write(&self) -> Line
-        ensures plain { result ≡ plain_line (header_table self.now.columns) }
+        ensures plain { result ≡ plain_line (header_table self.now) }
         ensures again { SpellsHeader result self.now }
     {
         layout::write(self)
@@ -119,9 +120,7 @@ impl Header {
         requires { first ≤ last }
         ensures first { result.first ≡ first }
         ensures last { result.last ≡ last }
-        ensures kept { kept 3 48 result.columns ≡ kept 3 48 self.now.columns }
-        ensures first_columns { kept 49 54 result.columns ≡ ddmmyy_of first }
-        ensures last_columns { kept 55 60 result.columns ≡ ddmmyy_of last }
+        ensures columns { result.columns ≡ columns_with_window first last self.now.columns }
     {
         let mut columns = self.columns;
         columns[46..52].copy_from_slice(&first.to_ddmmyy());
@@ -132,6 +131,11 @@ impl Header {
             last,
         }
     }
+
+    /// A law for proofs: headers are equal where their columns are.
+    pub fn equality_of_headers()
+        ensures { (h k : Header) → IsTrue (⟦<Header as PartialEq>⟧.eq h k) ↔ (h ≡ k) }
+    {}
 }
 
 /// Whether column 47 is the update indicator of a full extract, `F`.

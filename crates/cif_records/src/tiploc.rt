@@ -1,5 +1,7 @@
 //! A location of the timetable.
-ghost use Rattle.std.specs.Prelude.{◌≡◌, Ok};
+ghost use Rattle.std.specs.Prelude.{◌≡◌, ◌↔◌, Ok, IsTrue};
+ghost use Rattle.std.specs.Cmp.Lexicographic.{slice_cmp};
+ghost use Rattle.std.specs.Ordering.{nat_cmp};
 ghost use Rattle.cif_columns.specs.Field.{plain_line};
 ghost use Rattle.cif_columns.specs.Line.{ArePrintable};
 ghost use Rattle.cif_records.specs.Checks.{IsJudged};
@@ -11,7 +13,8 @@ use crate::layout::{self, Layout};
 use cif_columns::{Line, LineBuilder, Refusal, columns_at};
 
 /// A record `TI` (the CIF End User Specification): a location by its TIPLOC, and its other codes.
-#[derive(Clone, Copy, Debug, PartialEq, Eq)]
+/// Locations are ordered by these columns (this profile).
+#[derive(Clone, Copy, Debug, PartialEq, Eq, PartialOrd, Ord)]
 pub struct Tiploc {
     /// Columns 3 to 72, as they stand: the TIPLOC (3 to 9), capitals (10 to 11), NALCO (12 to 17),
     /// NLC check (18), TPS description (19 to 44), STANOX (45 to 49), PO MCP code (50 to 53), CRS
@@ -85,4 +88,11 @@ impl Tiploc {
     {
         layout::write(self)
     }
+
+    /// A law for proofs: locations are equal where their columns are, and ordered by them.
+    pub fn order_of_tiplocs()
+        ensures equality { (s t : Tiploc) → IsTrue (⟦<Tiploc as PartialEq>⟧.eq s t) ↔ (s ≡ t) }
+        ensures order { (s t : Tiploc)
+            → ⟦<Tiploc as Ord>⟧.cmp s t ≡ slice_cmp nat_cmp s.columns t.columns }
+    {}
 }

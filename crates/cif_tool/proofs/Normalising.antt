@@ -15,7 +15,7 @@ use Rattle.cif_columns.specs.declared.stp.Stp.TheVariants.{C}
 use Rattle.cif_calendar.specs.Keys.{AreClear}
 use Rattle.cif_calendar.proofs.Positions.{contains-at}
 use Rattle.cif_records.specs.AssocKey.{key_cmp}
-use Rattle.cif_records.specs.Header.{header_table}
+use Rattle.cif_records.specs.SpellsHeader.{header_table}
 use Rattle.cif_records.specs.SpellsAssociation.{SpellsAssociation, table_of}
 use Rattle.cif_records.specs.SpellsHeader.{SpellsHeader}
 use Rattle.cif_records.specs.Trailer.{trailer_table}
@@ -149,18 +149,18 @@ text-lines (a ∷ output) more plain =
     ∙ ap (λ ls. plain_line (table_of a) ∷ ls) (text-lines output more (All-tail IsPlain a output plain))
 
 -- the text of an extract spells it
-spelled-text : (header : Header) (output : List Association) → IsLine (plain_line (header_table header.columns)) →
-    SpellsHeader (plain_line (header_table header.columns)) header → All IsPlain output →
+spelled-text : (header : Header) (output : List Association) → IsLine (plain_line (header_table header)) →
+    SpellsHeader (plain_line (header_table header)) header → All IsPlain output →
     SpellBytes (length output + 2) (extract_text header output) header output
 spelled-text header output is_line spells plain =
-    let head = plain_line (header_table header.columns) in
+    let head = plain_line (header_table header) in
     let middle = map plain_of output in
     let last = plain_line trailer_table in
     let many : length middle ≡ length output = length-map output plain_of in
     record {
       lines = (head ∷ middle) ++ last ∷ [];
       all = record {
-        contents = text-line (header_table header.columns) (flat_map (λ a. line_text (table_of a)) output ++ line_text trailer_table)
+        contents = text-line (header_table header) (flat_map (λ a. line_text (table_of a)) output ++ line_text trailer_table)
             is_line
             ∙ ap (λ ls. head ∷ ls) (text-lines output (line_text trailer_table) plain
             ∙ ap (λ ls. middle ++ ls) (ap lines (sym (append-nil (line_text trailer_table))) ∙ text-line trailer_table [] plain-trailer.0));

@@ -19,7 +19,7 @@ use Rattle.cif_calendar.specs.Terms.{Terms}
 use Rattle.cif_calendar.specs.Keys.{IsFirstClashOf}
 use Rattle.cif_calendar.proofs.Winning.{terms_at}
 use Rattle.cif_records.specs.Association.{association_table}
-use Rattle.cif_records.specs.Header.{header_table}
+use Rattle.cif_records.specs.SpellsHeader.{header_table}
 use Rattle.cif_records.specs.Trailer.{trailer_table}
 use Rattle.cif_records.specs.declared.assoc_body.AssocBody.{AssocBody}
 use Rattle.cif_records.specs.declared.assoc_key.AssocKey.{AssocKey}
@@ -94,12 +94,12 @@ pub extract_text-planned : (header : Header) (associations : List Association) �
     extract_text header associations ≡ planned_text header (entries_of associations)
 unfolding entries_text
 extract_text-planned header associations =
-    ap (λ (between : List ℕ). line_text (header_table header.columns) ++ (between ++ line_text trailer_table))
+    ap (λ (between : List ℕ). line_text (header_table header) ++ (between ++ line_text trailer_table))
     (sym (flat_map-map (λ (e : AssocKey × Terms AssocBody). line_text
     (association_table e.0 e.1.first e.1.last e.1.days e.1.letter e.1.body))
     (λ (a : Association). (a.key, terms_of a)) associations))
 
-head-text : (header : Header) → line_text (header_table header.columns) ≡ plain_line (header_table header.columns) ++ 10 ∷ []
+head-text : (header : Header) → line_text (header_table header) ≡ plain_line (header_table header) ++ 10 ∷ []
 unfolding line_text
 head-text header = refl
 
@@ -111,18 +111,18 @@ trailer-text = refl
 module _ {W : Type 0} (contents : W → Option (List ℕ)) (errors : W → Option ℕ) where
   -- three pieces after one another: the header's line, the records' and the trailer's
   module _ (header : Header) (entries : List (AssocKey × Terms AssocBody)) (s t : Sink W) where
-    pub in-head : HasFailed contents errors (plain_line (header_table header.columns) ++ 10 ∷ []) s t
+    pub in-head : HasFailed contents errors (plain_line (header_table header) ++ 10 ∷ []) s t
         → HasFailed contents errors (planned_text header entries) s t
     in-head h =
         failed_first contents errors _ _ s t (subst (λ text. HasFailed contents errors text s t) (sym (head-text header)) h)
 
-    pub in-entries : (u : Sink W) → HasWritten contents errors (plain_line (header_table header.columns) ++ 10 ∷ []) s t
+    pub in-entries : (u : Sink W) → HasWritten contents errors (plain_line (header_table header) ++ 10 ∷ []) s t
         → HasFailed contents errors (entries_text entries) t u → HasFailed contents errors (planned_text header entries) s u
     in-entries u h e =
         failed_second contents errors _ _ s t u (subst (λ text. HasWritten contents errors text s t) (sym (head-text header)) h)
         (failed_first contents errors _ _ t u e)
 
-    pub in-trailer : (u v : Sink W) → HasWritten contents errors (plain_line (header_table header.columns) ++ 10 ∷ []) s t
+    pub in-trailer : (u v : Sink W) → HasWritten contents errors (plain_line (header_table header) ++ 10 ∷ []) s t
         → HasWritten contents errors (entries_text entries) t u
         → HasFailed contents errors (plain_line trailer_table ++ 10 ∷ []) u v
         → HasFailed contents errors (planned_text header entries) s v
@@ -130,7 +130,7 @@ module _ {W : Type 0} (contents : W → Option (List ℕ)) (errors : W → Optio
         failed_second contents errors _ _ s t v (subst (λ text. HasWritten contents errors text s t) (sym (head-text header)) h)
         (failed_second contents errors _ _ t u v e (subst (λ text. HasFailed contents errors text u v) (sym trailer-text) w))
 
-    pub whole : (u v : Sink W) → HasWritten contents errors (plain_line (header_table header.columns) ++ 10 ∷ []) s t
+    pub whole : (u v : Sink W) → HasWritten contents errors (plain_line (header_table header) ++ 10 ∷ []) s t
         → HasWritten contents errors (entries_text entries) t u
         → HasWritten contents errors (plain_line trailer_table ++ 10 ∷ []) u v
         → HasWritten contents errors (planned_text header entries) s v

@@ -1,7 +1,7 @@
 use Rattle.std.proofs.Common.{◌≡◌, ℕ, ◌∷◌, ◌++◌, List, map, sym, ◌∙◌, ap, subst}
 use Rattle.cif_columns.specs.Field.{plain_line}
 use Rattle.cif_columns.specs.Contents.{lines_text}
-use Rattle.cif_records.specs.Header.{header_table}
+use Rattle.cif_records.specs.SpellsHeader.{header_table}
 use Rattle.cif_records.specs.Trailer.{trailer_table}
 use Rattle.cif_canon.specs.Canonical.{IsCanonicalExtract}
 use Rattle.cif_canon.specs.Entries.{association_entries, schedule_entries}

@@ -1,0 +1,14 @@
+use Rattle.std.proofs.Common.{arith}
+use Rattle.cif_extract.proofs.OneExtract.{one_extract}
+use Rattle.cif_extract.proofs.SpelledBytes.{one_spelled}
+use Rattle.cif_extract.proofs.laws.bytes_spell_one_extract.Goals as goal
+
+pub returns-clause-lines : goal.returns-clause-lines
+returns-clause-lines c = one_extract
+
+pub returns-clause-bytes : goal.returns-clause-bytes
+returns-clause-bytes c = one_spelled
+
+pub returns-clause-greater : goal.returns-clause-greater
+returns-clause-greater c max greater bytes x s le =
+    let within = s.within in record { spell = s.spell; within = omega (arith, within, le) }

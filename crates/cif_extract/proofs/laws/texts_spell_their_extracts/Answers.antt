@@ -1,0 +1,13 @@
+use Rattle.cif_extract.proofs.PlainTexts.{spelled-fits, text-lines, text-spells}
+use Rattle.cif_extract.specs.SpellsExtract.{BytesSpell}
+use Rattle.cif_columns.specs.Contents.{contents_of}
+use Rattle.cif_extract.proofs.laws.texts_spell_their_extracts.Goals as goal
+
+pub returns-clause-fits : goal.returns-clause-fits
+returns-clause-fits c bytes x s = spelled-fits (contents_of bytes) x s.are_lines s.spelled
+
+pub returns-clause-spells : goal.returns-clause-spells
+returns-clause-spells c = text-spells
+
+pub returns-clause-lines : goal.returns-clause-lines
+returns-clause-lines c = text-lines

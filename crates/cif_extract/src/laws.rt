@@ -1,0 +1,46 @@
+//! Laws for proofs: which extract bytes spell, and what the text of an extract spells.
+ghost use Rattle.std.specs.Prelude.{◌≡◌, ◌≤◌, ℕ, All, List, [], ◌∷◌, length};
+ghost use Rattle.cif_columns.specs.Contents.{contents_of};
+ghost use Rattle.cif_columns.specs.Line.{IsLine};
+ghost use Rattle.cif_extract.specs.ExtractParts.{ExtractParts};
+ghost use Rattle.cif_extract.specs.FirstRefusal.{NoneRefused};
+ghost use Rattle.cif_extract.specs.Grammar.{BeginExtract};
+ghost use Rattle.cif_extract.specs.OrderOfRecords.{AreInOrder};
+ghost use Rattle.cif_extract.specs.SpellsExtract.{BytesSpell, BytesSpellWithin};
+ghost use Rattle.cif_extract.specs.SpellsExtract.{SpellAll, SpellExtract};
+ghost use Rattle.cif_extract.specs.Texts.{FitsColumns, extract_lines, extract_text};
+ghost use Rattle.cif_records.specs.declared.record.Record.{Record};
+
+/// Lines, and bytes, spell one extract at most.
+pub fn bytes_spell_one_extract()
+    ensures lines { (lines : List (List ℕ)) (x y : ExtractParts)
+        → SpellExtract lines x → SpellExtract lines y → x ≡ y }
+    ensures bytes { (bytes : List ℕ) (x y : ExtractParts)
+        → BytesSpell bytes x → BytesSpell bytes y → x ≡ y }
+    // The limit only counts the lines: what is spelled within one is spelled within a greater one.
+    ensures greater { (max greater : ℕ) (bytes : List ℕ) (x : ExtractParts)
+        → BytesSpellWithin max bytes x → max ≤ greater → BytesSpellWithin greater bytes x }
+{}
+
+/// The text of an extract spells it, in so many lines as the extract has plain lines, where what it
+/// says fits the columns of lines: as what bytes spell does.
+pub fn texts_spell_their_extracts()
+    ensures fits { (bytes : List ℕ) (x : ExtractParts) → BytesSpell bytes x → FitsColumns x }
+    ensures spells { (x : ExtractParts) → FitsColumns x → BytesSpell (extract_text x) x }
+    ensures lines { (x : ExtractParts) → FitsColumns x
+        → contents_of (extract_text x) ≡ extract_lines x }
+{}
+
+/// The order of records is that of the grammar, no less and no more.
+pub fn order_of_lines_is_the_grammar()
+    // The lines of an extract are in order, and none of them is refused where they are not too many.
+    ensures in_order { (lines : List (List ℕ)) (x : ExtractParts)
+        → SpellExtract lines x → AreInOrder [] lines }
+    ensures fine { (max : ℕ) (lines : List (List ℕ)) (x : ExtractParts) → length lines ≤ max
+        → All IsLine lines → SpellExtract lines x → NoneRefused max lines }
+    // Lines that spell records, and are in order, begin an extract: so a line that is out of order is
+    // one after which no extract goes on, and no other line is.
+    ensures begins { (line : List ℕ) (lines : List (List ℕ)) (records : List Record)
+        → All IsLine (line ∷ lines) → SpellAll (line ∷ lines) records
+        → AreInOrder [] (line ∷ lines) → BeginExtract records }
+{}

@@ -1,0 +1,20 @@
+use Rattle.std.proofs.Common.{◌≡◌, true, nat_eq, ap, arith}
+use Rattle.std.proofs.lemmas.Bool.{and_parts}
+use Rattle.std.proofs.lemmas.Bool.Decides.{nat_tests}
+use Rattle.std.specs.Cmp.Lexicographic.{pointwise, bytes_decides}
+use Rattle.cif_records.specs.declared.header.Header.{Header}
+use Rattle.cif_records.proofs.Headers.{same_header}
+use Rattle.cif_records.proofs.header.Header.equality_of_headers.Goals as goal
+
+pub returns : goal.returns
+returns c h k =
+    let told = bytes_decides h.columns k.columns in (
+      λ eq. same_header h k (told.0 (and_parts _ _ eq).0),
+      λ same.
+          let columns : pointwise nat_eq h.columns k.columns ≡ true = told.1 (ap (λ (j : Header). j.columns) same) in
+          let first_is = ap (λ (j : Header). j.first) same in
+          let last_is = ap (λ (j : Header). j.last) same in
+          let first : nat_eq h.first k.first ≡ true = grind (arith, nat_tests) in
+          let last : nat_eq h.last k.last ≡ true = grind (arith, nat_tests) in
+          rw (columns, first, last),
+    )

@@ -1,0 +1,10 @@
+use Rattle.std.proofs.Common.{◌≡◌, ap}
+use Rattle.std.specs.Cmp.Lexicographic.{bytes_decides}
+use Rattle.cif_records.specs.declared.tiploc.Tiploc.{Tiploc}
+use Rattle.cif_records.proofs.Tiplocs.{same_tiploc}
+use Rattle.cif_records.proofs.tiploc.Tiploc.order_of_tiplocs.Goals as goal
+
+pub returns-clause-equality : goal.returns-clause-equality
+returns-clause-equality c s t =
+    let told = bytes_decides s.columns t.columns in
+    (λ eq. same_tiploc s t (told.0 eq), λ same. told.1 (ap (λ (u : Tiploc). u.columns) same))
