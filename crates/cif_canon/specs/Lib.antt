@@ -1,3 +1,4 @@
+pub mod Asked
 pub mod Canonical
 pub mod Entries
 pub mod Meaning

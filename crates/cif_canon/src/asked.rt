@@ -1,0 +1,69 @@
+//! The window that is asked for, and extracts that are narrowed to it.
+ghost use Rattle.std.specs.Prelude.{◌≡◌, ◌≤◌, IfErr, IfOk, IfSome, unwrap_or};
+ghost use Rattle.cif_extract.specs.ExtractParts.{extract_parts};
+ghost use Rattle.cif_extract.specs.declared.fault.Fault.TheVariants.{OutsideWindow};
+ghost use Rattle.cif_weeks.specs.Window.{IsWithin};
+ghost use Rattle.cif_canon.specs.Asked.{AreWithin, IsNarrowed, IsNarrowFault};
+ghost use Rattle.cif_canon.specs.Asked.{window_asked as window_asked_of, window_of};
+
+use cif_calendar::Window;
+use cif_columns::Day;
+use cif_extract::{Extract, Fault};
+use cif_records::Header;
+
+/// The part of an extract's window that is asked for, both dates included. A date that is absent is
+/// that of the header.
+#[derive(Clone, Copy, Debug, PartialEq, Eq)]
+pub struct Asked {
+    /// The first date.
+    pub from: Option<Day>,
+    /// The last date.
+    pub to: Option<Day>,
+}
+
+/// Narrows the extract to the window that is asked for: columns 49 to 60 of its header, and nothing
+/// else.
+///
+/// OutsideWindow comes where a date that is given isn't in the header's window, and else
+/// WindowReversed where the first date that is asked for is after the last. The extract is then as
+/// it was.
+pub fn narrow(extract: &mut Extract, asked: &Asked) -> Result<(), Fault>
+    ensures ok { IfOk result (λ _.
+        IsNarrowed asked.now (extract_parts extract.old) (extract_parts extract.new)) }
+    ensures fault { IfErr result (IsNarrowFault asked.now extract.old.header) }
+    ensures unchanged { IfErr result (λ _. extract.new ≡ extract.old) }
+{
+    let window = window_asked(&extract.header, asked)?;
+    extract.header = extract.header.with_window(window.first, window.last);
+    Ok(())
+}
+
+/// The window that is asked for of an extract with this header.
+fn window_asked(header: &Header, asked: &Asked) -> Result<Window, Fault>
+    ensures ok { IfOk result (λ window. AreWithin asked.now header.now
+        × (window.first ≡ (window_asked_of asked.now header.now).first)
+        × (window.last ≡ (window_asked_of asked.now header.now).last)) }
+    ensures fault { IfErr result (IsNarrowFault asked.now header.now) }
+{
+    let first = date_asked(header, asked.from, header.first)?;
+    let last = date_asked(header, asked.to, header.last)?;
+    if first <= last {
+        Ok(Window { first, last })
+    } else {
+        Err(Fault::WindowReversed)
+    }
+}
+
+/// The date that is given, which has to be in the header's window, or else the header's own.
+fn date_asked(header: &Header, given: Option<Day>, own: Day) -> Result<Day, Fault>
+    ensures ok { IfOk result (λ day. IfSome given (IsWithin (window_of header.now))
+        × (day ≡ unwrap_or given own)) }
+    ensures fault { IfErr result (λ fault. (fault ≡ OutsideWindow)
+        × ¬ IfSome given (IsWithin (window_of header.now))) }
+{
+    match given {
+        Some(day) if header.first <= day && day <= header.last => Ok(day),
+        Some(_) => Err(Fault::OutsideWindow),
+        None => Ok(own),
+    }
+}
