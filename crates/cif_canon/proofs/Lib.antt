@@ -1,3 +1,4 @@
+pub mod DistinctTiplocs
 mod KeptExtract
 mod KeptMeaning
 mod KeyByKey

@@ -2,8 +2,11 @@
 #![tactic(auto)]
 
 mod asked;
+mod counts;
 pub mod laws;
 mod records;
+mod tiplocs;
 mod turns;
 
 pub use asked::{Asked, narrow};
+pub use counts::Counts;
