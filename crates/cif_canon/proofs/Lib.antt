@@ -1,12 +1,8 @@
 mod KeptExtract
-mod KeptMeaning
-mod KeyByKey
 mod KeyPositions
 mod KeyRecords
 mod KeyTurns
 mod MadeExtract
 mod MadeRecords
-mod Mapped
-mod Permanents
 mod Texts
 mod Unique

@@ -6,10 +6,9 @@ use Rattle.cif_columns.specs.Field.{plain_line}
 use Rattle.cif_columns.specs.declared.stp.Stp.{Stp}
 use Rattle.cif_columns.specs.declared.stp.Stp.TheVariants.{P}
 use Rattle.cif_calendar.specs.Terms.{Terms}
-use Rattle.cif_extract.specs.BodyParts.{BodyParts, body_records, extra_records, journey_records}
+use Rattle.cif_extract.specs.BodyParts.{BodyParts, body_records, extra_records}
 use Rattle.cif_extract.specs.ExtractParts.{ExtractParts}
-use Rattle.cif_extract.specs.Grammar.{AreSchedule, AreSchedules, AreExtract, HaveBody, HasTerms, records_before_trailer}
-use Rattle.cif_columns.specs.Contents.{lines_text}
+use Rattle.cif_extract.specs.Grammar.{AreSchedule, AreSchedules, AreExtract, HaveBody, records_before_trailer}
 use Rattle.cif_extract.specs.declared.schedule.Schedule.{Schedule}
 use Rattle.cif_records.specs.Association.{association_table}
 use Rattle.cif_records.specs.Basic.{basic_table}
@@ -24,10 +23,9 @@ use Rattle.cif_records.specs.declared.detail.Detail.{Detail}
 use Rattle.cif_records.specs.declared.extra.Extra.{Extra}
 use Rattle.cif_records.specs.declared.record.Record.{Record}
 use Rattle.cif_records.specs.declared.record.Record.TheVariants as of
-use Rattle.cif_weeks.specs.Permanent.{Permanent, terms_of}
+use Rattle.cif_weeks.specs.Permanent.{Permanent, terms_of, permanent_entries}
 use Rattle.cif_records.specs.declared.tiploc.Tiploc.{Tiploc}
 use Rattle.cif_canon.specs.Entries.{association_entry, association_entries, schedule_entry, schedule_terms, schedule_entries}
-use Rattle.cif_canon.proofs.Permanents.{entry_of}
 
 -- the plain line of a record
 abbrev pub plain : Record → List ℕ
@@ -57,8 +55,8 @@ body_are (Some d) extra journey (Some c) b is h =
     )
 
 -- the plain line of a BS goes by its columns
-basic-line : (u v : List ℕ) (f g l m : ℕ) (d e : List Bool) (s t : Stp) (b c : Option Detail) → u ≡ v → f ≡ g → l ≡ m → d ≡ e → s ≡ t → b ≡ c
-    → plain_line (basic_table u f l d s b) ≡ plain_line (basic_table v g m e t c)
+basic-line : (u v : List ℕ) (f g l m : ℕ) (d e : List Bool) (s t : Stp) (b c : Option Detail) → u ≡ v → f ≡ g → l ≡ m → d ≡ e → s ≡ t
+    → b ≡ c → plain_line (basic_table u f l d s b) ≡ plain_line (basic_table v g m e t c)
 basic-line u v f g l m d e s t b c hu hf hl hd hs hb =
     ap (λ x. plain_line (basic_table x f l d s b)) hu
     ∙ ap (λ x. plain_line (basic_table v x l d s b)) hf
@@ -69,7 +67,7 @@ basic-line u v f g l m d e s t b c hu hf hl hd hs hb =
 
 -- the lines of one schedule
 schedule-lines : (own : List Record) (s : Schedule) (e : List ℕ × Permanent BodyParts) → AreSchedule own s
-    → schedule_entry s ≡ entry_of e → map plain own ≡ permanent_lines e
+    → schedule_entry s ≡ (e.0, terms_of e.1) → map plain own ≡ permanent_lines e
 schedule-lines own s (uid, r) a is =
     let terms : schedule_terms s ≡ terms_of r = ap (λ (e : List ℕ × Terms BodyParts). e.1) is in
     let body = body_are a.basic.detail a.extra a.journey s.body r.body (ap (λ (t : Terms BodyParts). t.body) terms) a.body in
@@ -84,14 +82,14 @@ schedule-lines own s (uid, r) a is =
 
 -- the lines of permanent schedules
 pub schedules-lines : (records : List Record) (ss : List Schedule) (es : List (List ℕ × Permanent BodyParts)) → AreSchedules records ss
-    → schedule_entries ss ≡ map entry_of es → map plain records ≡ all_lines es
+    → schedule_entries ss ≡ permanent_entries es → map plain records ≡ all_lines es
 schedules-lines records [] [] a is = ap (map plain) a
 schedules-lines records [] (e ∷ es) a is = absurd (cc)
 schedules-lines records (s ∷ ss) [] a is = absurd (cc)
 schedules-lines records (s ∷ ss) (e ∷ es) a is =
     let (own, others, parts, first, rest) = a in
-    let head : schedule_entry s ≡ entry_of e = cc in
-    let tail : schedule_entries ss ≡ map entry_of es = cc in
+    let head : schedule_entry s ≡ (e.0, terms_of e.1) = cc in
+    let tail : schedule_entries ss ≡ permanent_entries es = cc in
     ap (map plain) parts ∙ map-append plain own others ∙ ap (λ lines. lines ++ map plain others) (schedule-lines own s e first head)
     ∙ ap (λ lines. permanent_lines e ++ lines) (schedules-lines others ss es rest tail)
 
@@ -115,7 +113,7 @@ extract_lines header tiplocs associations schedules =
     ++ (map association_line associations ++ all_lines schedules)) ++ (plain_line trailer_table ∷ []))
 
 pub extract-lines : (records : List Record) (x : ExtractParts) (es : List (List ℕ × Permanent BodyParts)) → AreExtract records x
-    → schedule_entries x.schedules ≡ map entry_of es
+    → schedule_entries x.schedules ≡ permanent_entries es
     → map plain records ≡ extract_lines x.header.columns x.tiplocs (association_entries x.associations) es
 extract-lines records x es a is =
     ap (map plain) a.parts ∙ map-append plain (records_before_trailer x a.schedules) (of.Trailer ∷ [])

@@ -1,5 +1,5 @@
 -- Canonical bytes are unique.
-use Rattle.std.proofs.Common.{◌≡◌, List, map, sym, ◌∙◌, ap, subst}
+use Rattle.std.proofs.Common.{◌≡◌, List, sym, ◌∙◌, ap, subst}
 use Rattle.std.specs.declared.cmp.Ordering.{Ordering}
 use Rattle.std.specs.Cmp.{IsTotalOrder}
 use Rattle.std.specs.Cmp.Lexicographic.{slice_cmp, nat_list_cmp_total}
@@ -9,6 +9,8 @@ use Rattle.cif_calendar.specs.Terms.{Terms}
 use Rattle.cif_calendar.specs.Meaning.{SameMeaning as SayTheSame}
 use Rattle.cif_weeks.specs.declared.form.Form.{Form}
 use Rattle.cif_weeks.specs.Window.{Window}
+use Rattle.cif_weeks.specs.Permanent.{permanent_entries}
+use Rattle.cif_weeks.proofs.PermanentEntries.{same-meaning}
 use Rattle.cif_weeks.proofs.UniqueByKey.{unique_same}
 use Rattle.cif_weeks.proofs.RisingLists.{IsOneWay, same_members, less_one_way}
 use Rattle.cif_columns.specs.Day.{ddmmyy_in}
@@ -24,22 +26,22 @@ use Rattle.cif_canon.specs.Canonical.{AreCanonicalEntries, IsCanonicalExtract, w
 use Rattle.cif_canon.specs.Entries.{association_entries, schedule_entries}
 use Rattle.cif_canon.specs.Meaning.{SameMeaning}
 use Rattle.cif_canon.proofs.Texts.{extract_lines}
-use Rattle.cif_canon.proofs.Permanents.{entry_of, same-by_key}
 
 module _ {K B : Type 0} (cmp : K → K → Ordering) (total : IsTotalOrder cmp) (form : Form) (window : Window) where
   -- the records of canonical entries that say the same are equal
-  records-unique : (xs ys : List (K × Terms B)) (x : AreCanonicalEntries cmp form window xs) {w : Window} (y : AreCanonicalEntries cmp form w ys) →
+  records-unique : (xs ys : List (K × Terms B)) (x : AreCanonicalEntries cmp form window xs) {w : Window}
+      (y : AreCanonicalEntries cmp form w ys) →
       AreCanonical cmp form window y.records → SayTheSame xs ys window.first window.last → x.records ≡ y.records
   records-unique xs ys x y canonical same =
       unique_same cmp total form window x.records y.records x.canonical canonical
-      (same-by_key window x.records y.records
-      (subst (λ us. SayTheSame us (map entry_of y.records) window.first window.last) x.are
+      ((same-meaning window x.records y.records).0
+      (subst (λ us. SayTheSame us (permanent_entries y.records) window.first window.last) x.are
       (subst (λ vs. SayTheSame xs vs window.first window.last) y.are same)))
 
   -- and so are the entries
   entries-unique : (xs ys : List (K × Terms B)) → AreCanonicalEntries cmp form window xs → AreCanonicalEntries cmp form window ys →
       SayTheSame xs ys window.first window.last → xs ≡ ys
-  entries-unique xs ys x y same = x.are ∙ ap (map entry_of) (records-unique xs ys x y y.canonical same) ∙ sym y.are
+  entries-unique xs ys x y same = x.are ∙ ap permanent_entries (records-unique xs ys x y y.canonical same) ∙ sym y.are
 
 -- an order by what stands in a record
 order-of : {X K : Type 0} (cmp : K → K → Ordering) (total : IsTotalOrder cmp) (f : X → K) → IsTotalOrder (λ a b. cmp (f a) (f b))
@@ -63,8 +65,8 @@ keys-total =
 -- no two locations come each before the other
 tiplocs-one_way : IsOneWay (λ (s t : Tiploc). slice_cmp nat_cmp s.columns t.columns ≡ Less)
 tiplocs-one_way s t up down =
-    less_one_way (λ (a b : Tiploc). slice_cmp nat_cmp a.columns b.columns) (order-of (slice_cmp nat_cmp) bytes-total (λ (a : Tiploc). a.columns))
-    s t up down
+    less_one_way (λ (a b : Tiploc). slice_cmp nat_cmp a.columns b.columns)
+    (order-of (slice_cmp nat_cmp) bytes-total (λ (a : Tiploc). a.columns)) s t up down
 
 -- the windows of headers with one text are one
 one-window : (x y : ExtractParts) → x.header.columns ≡ y.header.columns → window_of x ≡ window_of y

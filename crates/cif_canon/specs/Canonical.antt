@@ -1,5 +1,5 @@
 -- The canonical form of an extract.
-use Rattle.std.specs.Prelude.{◌≡◌, ℕ, List, map, AllPairs}
+use Rattle.std.specs.Prelude.{◌≡◌, ℕ, List, AllPairs}
 use Rattle.std.specs.Ordering.{nat_cmp}
 use Rattle.std.specs.Cmp.Lexicographic.{slice_cmp}
 use Rattle.std.specs.declared.cmp.Ordering.{Ordering}
@@ -8,7 +8,7 @@ use Rattle.cif_calendar.specs.Terms.{Terms}
 use Rattle.cif_extract.specs.ExtractParts.{ExtractParts}
 use Rattle.cif_records.specs.AssocKey.{key_cmp}
 use Rattle.cif_weeks.specs.Canonical.{AreCanonical}
-use Rattle.cif_weeks.specs.Permanent.{Permanent, terms_of}
+use Rattle.cif_weeks.specs.Permanent.{Permanent, permanent_entries}
 use Rattle.cif_weeks.specs.Window.{Window}
 use Rattle.cif_weeks.specs.declared.form.Form.{Form}
 use Rattle.cif_canon.specs.Entries.{association_entries, schedule_entries}
@@ -18,7 +18,7 @@ use Rattle.cif_canon.specs.PlainText.{IsPlainText}
 pub record AreCanonicalEntries {K B : Type 0} (cmp : K → K → Ordering) (form : Form) (window : Window) (entries : List (K × Terms B))
     : Type 0 where
   pub records : List (K × Permanent B)
-  pub are : entries ≡ map (λ (e : K × Permanent B). (e.0, terms_of e.1)) records
+  pub are : entries ≡ permanent_entries records
   pub canonical : AreCanonical cmp form window records
 
 -- the window of a header

@@ -1,18 +1,7 @@
-use Rattle.std.proofs.Common.{◌≡◌, ℕ, ◌∷◌, ◌++◌, List, map, sym, ◌∙◌, ap, subst}
-use Rattle.cif_columns.specs.Field.{plain_line}
+use Rattle.std.proofs.Common.{sym, ◌∙◌, ap}
 use Rattle.cif_columns.specs.Contents.{lines_text}
-use Rattle.cif_records.specs.Header.{header_table}
-use Rattle.cif_records.specs.Trailer.{trailer_table}
-use Rattle.cif_canon.specs.Canonical.{IsCanonicalExtract}
-use Rattle.cif_canon.specs.Entries.{association_entries, schedule_entries}
-use Rattle.cif_canon.proofs.Permanents.{entry_of}
-use Rattle.cif_canon.proofs.MadeExtract.{are-extract}
-use Rattle.cif_canon.proofs.KeptExtract.{same-meaning}
-use Rattle.cif_canon.proofs.KeptMeaning.{kept-meaning}
-use Rattle.cif_canon.proofs.KeyByKey.{one-more}
-use Rattle.cif_canon.proofs.KeyRecords.{key-says}
 use Rattle.cif_canon.proofs.Unique.{extracts-unique}
-use Rattle.cif_canon.proofs.Texts.{extract_lines, extract-lines}
+use Rattle.cif_canon.proofs.Texts.{extract-lines}
 use Rattle.cif_canon.proofs.laws.canonical_bytes_are_unique.Goals as goal
 
 pub returns : goal.returns
