@@ -4,6 +4,9 @@ pub mod Meaning
 pub mod Total
 pub mod SayTheSame
 pub mod Positions
+pub mod KeyCalendar
+pub mod NoEntries
+pub mod PermanentRecords
 pub mod FirstClash
 pub mod DayByDay
 pub mod Telling

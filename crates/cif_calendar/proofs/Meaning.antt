@@ -1,11 +1,13 @@
 -- What runs on a day is one thing, and the source of the day has it.
 use Rattle.std.proofs.Common.{◌≡◌, ℕ, List, Option, None, Some, sym, ◌∙◌, ap, subst, refl}
-use Rattle.std.specs.Prelude.{IsNone, IsSome}
-use Rattle.std.specs.Option.{option_and_then}
+use Rattle.std.specs.Prelude.{IsNone, IsSome, ◌↔◌}
+use Rattle.std.specs.Option.{option_and_then, is_some}
+use Rattle.cif_columns.specs.declared.stp.Stp.TheVariants.{C}
 use Rattle.cif_calendar.specs.Terms.{Terms, Records, AreLawful}
 use Rattle.cif_calendar.specs.Clash.{IsClear}
 use Rattle.cif_calendar.specs.Runs.{Runs, BodyRuns, NothingRuns}
 use Rattle.cif_calendar.specs.Source.{IsChosen, IsSource, body_at}
+use Rattle.cif_calendar.specs.Wins.{Wins}
 
 none-some : {B : Type 0} (r : Terms B) (b : B) → r.body ≡ Some b → IsNone r.body → ⊥
 none-some r b e n = let h = rw e at n in cc
@@ -15,6 +17,23 @@ pub nothing-body : {B : Type 0} (records : Records B) (d : ℕ) (b : B) → AreL
     BodyRuns records d b → ⊥
 nothing-body records d b l n q =
     none-some q.winner b q.body ((l.cancelled q.winner q.wins.listed).1 (n.cancelled q.winner q.wins))
+
+-- where no body runs, nothing does
+no_body-cancelled : {B : Type 0} (records : Records B) (d : ℕ) → AreLawful records → ((b : B) → BodyRuns records d b → ⊥) →
+    (r : Terms B) → Wins records d r → (o : Option B) → r.body ≡ o → r.letter ≡ C
+no_body-cancelled records d l none r w None e = (l.cancelled r w.listed).0 (ap is_some e)
+no_body-cancelled records d l none r w (Some b) e = absurd (none b (record { winner = r; wins = w; body = e }))
+
+pub no_body-nothing : {B : Type 0} (records : Records B) (d : ℕ) → AreLawful records → ((b : B) → BodyRuns records d b → ⊥) →
+    NothingRuns records d
+no_body-nothing records d l none = record { cancelled = λ r w. no_body-cancelled records d l none r w r.body refl }
+
+-- lawful records of which the same bodies run
+pub Runs-from_bodies : {B : Type 0} (xs ys : Records B) (d : ℕ) → AreLawful xs → AreLawful ys →
+    ((b : B) → BodyRuns xs d b ↔ BodyRuns ys d b) → (o : Option B) → Runs xs d o → Runs ys d o
+Runs-from_bodies xs ys d lawful_xs lawful_ys same None n =
+    no_body-nothing ys d lawful_ys (λ b runs. nothing-body xs d b lawful_xs n ((same b).1 runs))
+Runs-from_bodies xs ys d lawful_xs lawful_ys same (Some b) runs = (same b).0 runs
 
 -- one body runs
 pub body-unique : {B : Type 0} (records : Records B) (d : ℕ) (a b : B) → IsClear records d → BodyRuns records d a →

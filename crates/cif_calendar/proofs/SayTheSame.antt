@@ -1,10 +1,12 @@
 -- When two lists of records say the same.
-use Rattle.std.proofs.Common.{ℕ, List}
+use Rattle.std.proofs.Common.{ℕ, ◌≤◌, List}
 use Rattle.std.specs.Prelude.{Contains, ◌↔◌}
-use Rattle.cif_calendar.specs.Terms.{Terms, SameRecords}
+use Rattle.cif_calendar.specs.Terms.{Terms, SameRecords, AreLawful}
 use Rattle.cif_calendar.specs.Keys.{of_key}
 use Rattle.cif_calendar.specs.Meaning.{SameMeaning}
+use Rattle.cif_calendar.specs.Runs.{BodyRuns}
 use Rattle.cif_calendar.proofs.Sets.{SameRecords-sym, Runs-same}
+use Rattle.cif_calendar.proofs.Meaning.{Runs-from_bodies}
 
 module _ {K B : Type 0} where
   pub SameMeaning-refl : (xs : List (K × Terms B)) (first last : ℕ) → SameMeaning xs xs first last
@@ -39,3 +41,16 @@ module _ {K B : Type 0} where
       SameMeaning xs ys first last
   SameMeaning-from_members xs ys first last e =
       SameMeaning-from_records xs ys first last (λ k. record { same = λ r. e (k, r) })
+
+  -- lists of lawful records say the same where the same bodies run
+  pub SameMeaning-from_bodies : (xs ys : List (K × Terms B)) (first last : ℕ) → ((k : K) → AreLawful (of_key xs k)) →
+      ((k : K) → AreLawful (of_key ys k)) →
+      ((k : K) (d : ℕ) (b : B) → first ≤ d → d ≤ last → BodyRuns (of_key xs k) d b ↔ BodyRuns (of_key ys k) d b) →
+      SameMeaning xs ys first last
+  SameMeaning-from_bodies xs ys first last lawful_xs lawful_ys same = record {
+    same = λ k d o from upto. (
+      Runs-from_bodies (of_key xs k) (of_key ys k) d (lawful_xs k) (lawful_ys k) (λ b. same k d b from upto) o,
+      Runs-from_bodies (of_key ys k) (of_key xs k) d (lawful_ys k) (lawful_xs k)
+          (λ b. ((same k d b from upto).1, (same k d b from upto).0)) o,
+    );
+  }

@@ -5,6 +5,7 @@ mod association_entry;
 mod calendar_fault;
 mod entry;
 mod key_calendar;
+pub mod laws;
 mod piece;
 mod schedule_entry;
 mod stretches;

@@ -1,27 +1,23 @@
--- Positions in the order of their keys, and how many of the first have one key.
-use Rattle.std.proofs.Common.{◌≡◌, ℕ, zero, suc, ◌+◌, ◌<◌, ◌≤◌, List, [], ◌++◌, Option, Some, None, false, map, take, drop, length, get_or}
-use Rattle.std.proofs.Common.{refl, sym, ◌∙◌, ap, subst, arith}
-use Rattle.std.proofs.Common.{⊎_elim}
+-- Positions in the order of their keys.
+use Rattle.std.proofs.Common.{◌≡◌, ℕ, ◌+◌, ◌<◌, ◌≤◌, List, Option, Some, None, Bool, true, false, map, length, get_or}
+use Rattle.std.proofs.Common.{refl, sym, ◌∙◌, ap, arith}
 use Rattle.std.specs.Prelude.{Contains, All, slice_get, option_map}
-use Rattle.std.specs.List.{range_with_len}
+use Rattle.std.specs.List.{range_with_len, IsAllAdjacentAnswer}
 use Rattle.std.specs.List.Sorted.{IsSortedBy}
 use Rattle.std.specs.Option.{option_cmp}
-use Rattle.std.specs.Ordering.{is_gt, is_lt, ordering_reverse}
+use Rattle.std.specs.Ordering.{is_gt, is_lt, is_le, ordering_reverse}
 use Rattle.std.specs.Cmp.{IsTotalOrder}
 use Rattle.std.specs.Cmp.Lexicographic.{options_total}
 use Rattle.std.specs.declared.cmp.Ordering.{Ordering}
 use Rattle.std.specs.declared.cmp.Ordering.TheVariants.{Less, Equal, Greater}
-use Rattle.std.proofs.lemmas.Bool.{cases_lt}
-use Rattle.std.proofs.lemmas.Option.{slice_get-map, slice_get_within}
+use Rattle.std.proofs.lemmas.Option.{slice_get-map}
 use Rattle.std.proofs.lemmas.List.{length-map}
 use Rattle.std.proofs.lemmas.List.FromFn.{length-range_with_len, get_or-range_with_len}
-use Rattle.std.proofs.lemmas.List.Elements.{All-weaker, Contains-append_cases}
 use Rattle.std.proofs.lemmas.List.Sorted.{ranks_by, sorted_far}
 use Rattle.cif_calendar.specs.Terms.{Terms}
-use Rattle.cif_calendar.specs.Keys.{keyed, of_key}
+use Rattle.cif_calendar.specs.Keys.{keyed}
 use Rattle.cif_calendar.proofs.Winning.{terms_at}
-use Rattle.cif_canon.specs.Steps.Turns.{HasKey, IsRising, IsFirstRun}
-use Rattle.cif_canon.proofs.KeyTurns.{one-key}
+use Rattle.cif_canon.specs.Steps.Turns.{HasKey, IsRising}
 
 -- the numbers below n
 pub range-within : (n : ℕ) → All (λ i. i < n) (range_with_len 0 n)
@@ -40,6 +36,11 @@ not_gt : (o : Ordering) → is_lt o ≡ false → is_gt (ordering_reverse o) ≡
 not_gt Less h = h
 not_gt Equal h = refl
 not_gt Greater h = refl
+
+not_lt : (o : Ordering) → is_le o ≡ true → is_lt (ordering_reverse o) ≡ false
+not_lt Less h = refl
+not_lt Equal h = refl
+not_lt Greater h = sym h
 
 module _ {E K B : Type 0} (key : E → K) (terms : E → Terms B) where
   key-found : (o : Option E) (k : K) (r : Terms B) → option_map {U = K × Terms B} (λ e. (key e, terms e)) o ≡ Some (k, r) →
@@ -79,42 +80,12 @@ module _ {E K B : Type 0} (key : E → K) (terms : E → Terms B) where
         ap is_gt (total.antisymm a b) ∙ not_gt (cmp b a) plain;
   }
 
-module _ {K B : Type 0} (es : List (K × Terms B)) (positions : List ℕ) where
-  -- the first n positions have the key of the first
-  pub record IsAlike (n : ℕ) : Type 0 where
-    pub same : (i : ℕ) (k : K) → i < n → HasKey es (get_or positions 0 0) k → HasKey es (get_or positions i 0) k
-
-  alike : (i : ℕ) (j k : K) → HasKey es i j → HasKey es i k → j ≡ k
-  alike i j k p q = one-key es i j k p q
-
-  pub alike-none : IsAlike 0
-  alike-none = record { same = λ i k lt q. absurd (let z : i < 0 = lt in omega arith) }
-
-  pub alike-more : (n : ℕ) (j k : K) → IsAlike n → HasKey es (get_or positions 0 0) k → HasKey es (get_or positions n 0) j → j ≡ k →
-      IsAlike (n + 1)
-  alike-more n j k a leads has e = record {
-    same = λ i l lt q. ⊎_elim
-        (λ less. a.same i l less q)
-        (λ (more : n ≤ i). let at : i ≡ n = omega arith in
-        subst (λ m. HasKey es (get_or positions m 0) l) (sym at) (subst (λ b. HasKey es (get_or positions n 0) b)
-        (e ∙ alike (get_or positions 0 0) k l leads q) has))
-        (cases_lt i n);
-  }
-
-  pub run-ends : (n : ℕ) (j k : K) → n < length positions → IsAlike n → HasKey es (get_or positions 0 0) k →
-      HasKey es (get_or positions n 0) j → (j ≡ k → ⊥) → IsFirstRun es positions n
-  run-ends zero j k below a leads has apart = absurd (apart (alike (get_or positions 0 0) j k has leads))
-  run-ends (suc n) j k below a leads has apart = record {
-    some = (let z : 0 < suc n = omega arith in z);
-    upto = (let z : suc n ≤ length positions = omega arith in z);
-    same = a.same;
-    other = λ l lt q r. apart (alike (get_or positions (suc n) 0) j l has r ∙ alike (get_or positions 0 0) l k q leads);
-  }
-
-  pub run-of_all : 0 < length positions → IsAlike (length positions) → IsFirstRun es positions (length positions)
-  run-of_all filled a = record {
-    some = filled;
-    upto = (let z : length positions ≤ length positions = omega arith in z);
-    same = a.same;
-    other = λ k lt q r. let z : length positions < length positions = lt in omega arith;
-  }
+  -- so are those that the test takes
+  pub rising-from_test : (cmp : K → K → Ordering) → IsTotalOrder cmp → (es : List E) (positions : List ℕ) (r : Bool) →
+      IsAllAdjacentAnswer (λ i j b. b ≡ is_le (option_cmp cmp (slice_get (map key es) i) (slice_get (map key es) j))) positions r →
+      r ≡ true → IsRising cmp (keyed key terms es) positions
+  rising-from_test cmp total es positions false up no_rise = absurd (cc)
+  rising-from_test cmp total es positions true up rise = rising-from_sort cmp total es positions (λ k d from within.
+      ap is_lt ((options_total total).antisymm (slice_get (map key es) (get_or positions (k + 1) d))
+      (slice_get (map key es) (get_or positions k d)))
+      ∙ not_lt _ (sym (up k d within)))

@@ -1,13 +1,10 @@
 pub mod DistinctTiplocs
-mod KeptExtract
-mod KeptMeaning
-mod KeyByKey
-mod KeyPositions
-mod KeyRecords
-mod KeyTurns
-mod MadeExtract
-mod MadeRecords
-mod Mapped
-mod Permanents
-mod Texts
-mod Unique
+pub mod KeptExtract
+pub mod KeyPositions
+pub mod KeyRecords
+pub mod KeyTurns
+pub mod MadeExtract
+pub mod MadeRecords
+pub mod NormalForms
+pub mod SameExtracts
+pub mod Unique

@@ -1,22 +1,15 @@
 -- The extract of canonical records.
-use Rattle.std.proofs.Common.{◌≡◌, ℕ, ◌≤◌, List, [], ◌∷◌, ◌++◌, Option, Some, None, map, refl, ap, sym, ◌∙◌, subst}
+use Rattle.std.proofs.Common.{◌≡◌, ℕ, ◌≤◌, List, [], ◌∷◌, Some, refl, ap}
 use Rattle.std.specs.Prelude.{All}
 use Rattle.std.proofs.lemmas.List.Elements.{All-head, All-tail}
 use Rattle.cif_columns.specs.declared.stp.Stp.TheVariants.{P}
-use Rattle.cif_calendar.specs.Terms.{Terms}
-use Rattle.cif_extract.specs.BodyParts.{BodyParts, body_records, extra_records, journey_records}
-use Rattle.cif_extract.specs.ExtractParts.{ExtractParts}
-use Rattle.cif_extract.specs.Grammar.{AreSchedule, AreSchedules, AreExtract, HaveBody, HasTerms, records_before_trailer}
+use Rattle.cif_extract.specs.BodyParts.{BodyParts}
 use Rattle.cif_extract.specs.declared.schedule.Schedule.{Schedule}
 use Rattle.cif_records.specs.declared.assoc_body.AssocBody.{AssocBody}
 use Rattle.cif_records.specs.declared.assoc_key.AssocKey.{AssocKey}
 use Rattle.cif_records.specs.declared.association.Association.{Association}
-use Rattle.cif_records.specs.declared.basic.Basic.{Basic}
-use Rattle.cif_records.specs.declared.record.Record.{Record}
-use Rattle.cif_records.specs.declared.record.Record.TheVariants as of
-use Rattle.cif_weeks.specs.Permanent.{Permanent, terms_of}
+use Rattle.cif_weeks.specs.Permanent.{Permanent, terms_of, permanent_entries}
 use Rattle.cif_canon.specs.Entries.{association_entries, schedule_entries}
-use Rattle.cif_canon.proofs.Permanents.{entry_of}
 
 -- a record that doesn't end before it begins
 abbrev pub IsDated : {K B : Type 0} → K × Permanent B → Type 0
@@ -40,11 +33,11 @@ associations_of [] h = []
 associations_of (e ∷ es) h = association_of e (All-head IsDated e es h) ∷ associations_of es (All-tail IsDated e es h)
 
 pub entries-of_associations : (es : List (AssocKey × Permanent AssocBody)) (h : All IsDated es)
-    → association_entries (associations_of es h) ≡ map entry_of es
+    → association_entries (associations_of es h) ≡ permanent_entries es
 entries-of_associations [] h = refl
-entries-of_associations (e ∷ es) h = ap (λ rest. entry_of e ∷ rest) (entries-of_associations es (All-tail IsDated e es h))
+entries-of_associations (e ∷ es) h = ap (λ rest. (e.0, terms_of e.1) ∷ rest) (entries-of_associations es (All-tail IsDated e es h))
 
--- a permanent schedule, and its records
+-- a permanent schedule
 abbrev pub schedule_of : (e : List ℕ × Permanent BodyParts) → IsDated e → Schedule
 schedule_of (uid, r) h = record {
   uid = uid;
@@ -62,54 +55,6 @@ schedules_of [] h = []
 schedules_of (e ∷ es) h = schedule_of e (All-head IsDated e es h) ∷ schedules_of es (All-tail IsDated e es h)
 
 pub entries-of_schedules : (es : List (List ℕ × Permanent BodyParts)) (h : All IsDated es)
-    → schedule_entries (schedules_of es h) ≡ map entry_of es
+    → schedule_entries (schedules_of es h) ≡ permanent_entries es
 entries-of_schedules [] h = refl
-entries-of_schedules (e ∷ es) h = ap (λ rest. entry_of e ∷ rest) (entries-of_schedules es (All-tail IsDated e es h))
-
-abbrev basic_of : (e : List ℕ × Permanent BodyParts) → IsDated e → Basic
-basic_of (uid, r) h = record {
-  uid = uid;
-  first = r.first;
-  last = r.last;
-  days = r.days;
-  letter = P;
-  detail = Some r.body.detail;
-  in_order = h;
-  bodied = refl;
-}
-
-abbrev pub records_of : (e : List ℕ × Permanent BodyParts) → IsDated e → List Record
-records_of e h = of.Basic (basic_of e h) ∷ body_records e.1.body
-
-abbrev pub group_of : (es : List (List ℕ × Permanent BodyParts)) → All IsDated es → List Record
-group_of [] h = []
-group_of (e ∷ es) h = records_of e (All-head IsDated e es h) ++ group_of es (All-tail IsDated e es h)
-
-are-schedule : (e : List ℕ × Permanent BodyParts) (h : IsDated e) → AreSchedule (records_of e h) (schedule_of e h)
-are-schedule (uid, r) h = record {
-  basic = basic_of (uid, r) h;
-  extra = r.body.extra;
-  journey = journey_records r.body.origin r.body.calls r.body.terminus;
-  parts = refl;
-  terms = record { uid = refl; first = refl; last = refl; days = refl; letter = refl };
-  body = (refl, refl, refl);
-}
-
-are-schedules : (es : List (List ℕ × Permanent BodyParts)) (h : All IsDated es) → AreSchedules (group_of es h) (schedules_of es h)
-are-schedules [] h = refl
-are-schedules (e ∷ es) h = (
-  records_of e (All-head IsDated e es h),
-  group_of es (All-tail IsDated e es h),
-  refl,
-  are-schedule e (All-head IsDated e es h),
-  are-schedules es (All-tail IsDated e es h),
-)
-
--- the records are those of the extract
-pub are-extract : (x : ExtractParts) (es : List (List ℕ × Permanent BodyParts)) (h : All IsDated es) → x.schedules ≡ schedules_of es h
-    → AreExtract (records_before_trailer x (group_of es h) ++ (of.Trailer ∷ [])) x
-are-extract x es h is = record {
-  schedules = group_of es h;
-  parts = refl;
-  are_schedules = subst (λ ss. AreSchedules (group_of es h) ss) (sym is) (are-schedules es h);
-}
+entries-of_schedules (e ∷ es) h = ap (λ rest. (e.0, terms_of e.1) ∷ rest) (entries-of_schedules es (All-tail IsDated e es h))

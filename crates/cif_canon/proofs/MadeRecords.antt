@@ -1,140 +1,209 @@
 -- The canonical records are made key by key, over positions in the order of their keys.
-use Rattle.std.proofs.Common.{◌≡◌, ℕ, zero, suc, ◌+◌, ◌<◌, ◌≤◌, List, [], ◌∷◌, ◌++◌, Option, Some, None, take, drop, length, get_or}
-use Rattle.std.proofs.Common.{refl, sym, ◌∙◌, ap, subst, arith, ⊎_elim}
-use Rattle.std.specs.Prelude.{Contains, All, slice_get}
-use Rattle.std.specs.Cmp.{IsTotalOrder}
+use Rattle.std.proofs.Common.{◌≡◌, ◌⊎◌, inl, inr, ℕ, ◌<◌, List, [], ◌++◌, take, drop, length, get_or}
+use Rattle.std.proofs.Common.{refl, sym, subst, arith, ⊎_elim}
+use Rattle.std.specs.Prelude.{Contains, ◌↔◌}
+use Rattle.std.specs.List.{AllZip}
+use Rattle.std.specs.Cmp.{IsTotalOrder, tied_itself}
 use Rattle.std.specs.declared.cmp.Ordering.{Ordering}
-use Rattle.std.specs.declared.cmp.Ordering.TheVariants.{Less, Equal}
+use Rattle.std.specs.declared.cmp.Ordering.TheVariants.{Less, Equal, Greater}
 use Rattle.std.proofs.lemmas.Option.{slice_get_within}
-use Rattle.std.proofs.lemmas.List.Elements.{Contains-append_cases}
-use Rattle.cif_calendar.specs.Terms.{Terms}
-use Rattle.cif_calendar.specs.Clash.{IsClear, IsClearFrom}
-use Rattle.cif_calendar.specs.Keys.{of_key, AreClear}
-use Rattle.cif_calendar.proofs.Positions.{at-contains, AreClear-from_entries}
-use Rattle.cif_weeks.specs.Permanent.{Permanent}
+use Rattle.std.proofs.lemmas.List.{length-take-le, take-append-drop}
+use Rattle.std.proofs.lemmas.List.Elements.{All-contains, Contains-get_or}
+use Rattle.std.proofs.lemmas.List.Elements.{Contains-append_left, Contains-append_right, Contains-append_cases}
+use Rattle.cif_calendar.specs.Terms.{Terms, AreLawful}
+use Rattle.cif_calendar.specs.Keys.{of_key, ArePositionsOf}
+use Rattle.cif_calendar.proofs.Positions.{at-contains}
+use Rattle.cif_calendar.proofs.NoEntries.{none-clear}
+use Rattle.cif_weeks.specs.Canonical.{AreCanonical, with_key}
+use Rattle.cif_weeks.specs.Permanent.{Permanent, Permanents}
 use Rattle.cif_weeks.specs.Window.{Window}
 use Rattle.cif_weeks.specs.declared.form.Form.{Form}
-use Rattle.cif_canon.specs.Steps.KeyByKey.{AreRecordsOf}
-use Rattle.cif_canon.specs.Steps.Records.{AreItemsSoFar, AddsKey, IsKeyFault, AreCanonicalRecords, IsRecordsFault}
+use Rattle.cif_weeks.specs.declared.run.Run.{Run}
+use Rattle.cif_weeks.proofs.JoinedLists.{AllZip-append}
+use Rattle.cif_weeks.proofs.KeyByKey.{HasBody-more, canonical-none, of_key-more, canonical-more}
+use Rattle.cif_weeks.proofs.PermanentEntries.{records-meaning}
+use Rattle.cif_weeks.proofs.RisingLists.{Contains-none, less_one_way, not_less}
+use Rattle.cif_canon.specs.Steps.Records.{IsRunOf, AreSaid, AreRunsOfKey, AreCanonicalRecords, IsKeyFault, IsRecordsFault}
 use Rattle.cif_canon.specs.Steps.Turns.{HasKey, AnyHasKey, IsRising, IsFirstRun}
-use Rattle.cif_canon.specs.declared.records.KeyedRun.{KeyedRun}
 use Rattle.cif_canon.specs.declared.records.RecordsFault.{RecordsFault}
 use Rattle.cif_canon.specs.declared.records.RecordsFault.TheVariants.{Clash, Memory}
-use Rattle.cif_canon.proofs.KeyTurns.{some-key, members-key, turn, order-after, not-before, rising-after, whole-after}
+use Rattle.cif_canon.proofs.KeyTurns.{one-key, rising-after}
+
+-- sets of records that are the same say the same of a key
+AreSaid-same : {K B : Type 0} (window : Window) (es : List (K × Terms B)) (k : K) (xs ys : Permanents B) →
+    ((r : Permanent B) → xs r ↔ ys r) → AreSaid window es k xs → AreSaid window es k ys
+AreSaid-same window es k xs ys same a = record {
+  clear = a.clear;
+  say = λ n b within. (
+    λ runs. HasBody-more xs ys (λ r. (same r).0) n b ((a.say n b within).0 runs),
+    λ has. (a.say n b within).1 (HasBody-more ys xs (λ r. (same r).1) n b has),
+  );
+}
 
 module _ {K B : Type 0} (cmp : K → K → Ordering) (form : Form) (window : Window) (es : List (K × Terms B)) where
-  -- the items are those of the keys but those at `rest`, which are after them
-  pub record IsMade (items : List KeyedRun) (rest : List ℕ) : Type 0 where
-    pub before : List ℕ
-    pub whole : (i : ℕ) (x : K × Terms B) → slice_get es i ≡ Some x → Contains (before ++ rest) i
-    pub order : (j k : K) → AnyHasKey es before j → AnyHasKey es rest k → cmp j k ≡ Less
+  -- the runs are those of all keys but the ones with entries at `rest`, which are after them
+  pub record IsMade (runs : List Run) (rest : List ℕ) : Type 0 where
     pub rising : IsRising cmp es rest
-    pub so_far : AreItemsSoFar cmp form window es (AnyHasKey es before) items
+    -- a key has all its entries at `rest`, or none
+    pub whole : (i : ℕ) (k : K) → AnyHasKey es rest k → HasKey es i k → Contains rest i
+    pub records : List (K × Permanent B)
+    pub runs_of : AllZip (IsRunOf es) runs records
+    pub canonical : AreCanonical cmp form window records
+    pub before : (j k : K) (r : Permanent B) → of_key records j r → AnyHasKey es rest k → cmp j k ≡ Less
+    pub said : (k : K) → (AnyHasKey es rest k → ⊥) → AreSaid window es k (of_key records k)
 
-  nobody : (k : K) → AnyHasKey es [] k → ⊥
-  nobody k any = let h : any.member.0 < 0 = any.member.1 in omega arith
+  -- at first all positions are left
+  module _ (rest : List ℕ) (whole : (i : ℕ) → i < length es → Contains rest i) where
+    no-entry : (k : K) → (AnyHasKey es rest k → ⊥) → (r : Terms B) → of_key es k r → ⊥
+    no-entry k none r in' =
+        let (i, at) = at-contains es (k, r) in' in
+        none (record { position = i; member = whole i (slice_get_within es i (k, r) at); has = record { terms = r; at = at } })
 
-  none-listed : (k : K) (r : Permanent B) → of_key [] k r → ⊥
-  none-listed k r h = let l : h.0 < 0 = h.1 in omega arith
-
-  pub made-nothing : (rest : List ℕ) → ((i : ℕ) → i < length es → Contains rest i) → IsRising cmp es rest → IsMade [] rest
-  made-nothing rest whole rising = record {
-    before = [];
-    whole = λ i x at. whole i (slice_get_within es i x at);
-    order = λ j k early late. absurd (nobody j early);
-    rising = rising;
-    so_far = record {
+    pub made-nothing : IsRising cmp es rest → IsMade [] rest
+    made-nothing rising = record {
+      rising = rising;
+      whole = λ i k any has. whole i (slice_get_within es i (k, has.terms) has.at);
       records = [];
-      are = tt;
-      so_far = record {
-        canonical = record {
-          rising = λ i j d lt within. absurd (omega arith);
-          have_form = λ k. record {
-            single = λ n r s in_r in_s on_r on_s. absurd (none-listed k r in_r);
-            aligned = λ r in_r. absurd (none-listed k r in_r);
-            separate = λ r s in_r in_s apart same. absurd (none-listed k r in_r);
-          };
-        };
-        only = λ k r h. absurd (none-listed k r h);
-        clear = λ k done. absurd (nobody k done);
-        say = λ k d b done within. absurd (nobody k done);
+      runs_of = tt;
+      canonical = canonical-none cmp form window;
+      before = λ j k r in' any. absurd (Contains-none (j, r) in');
+      said = λ k none. record {
+        clear = none-clear (of_key es k) (no-entry k none) window.first window.last;
+        say = λ n b within. (
+          λ runs. absurd (no-entry k none runs.winner runs.wins.listed),
+          λ has. absurd (Contains-none (k, has.it) has.listed),
+        );
       };
-    };
-  }
-
-  -- no position is left
-  pub made-all : (items : List KeyedRun) → IsMade items [] → AreCanonicalRecords cmp form window es items
-  made-all items made =
-      let done : (k : K) (r : Terms B) → of_key es k r → AnyHasKey es made.before k =
-      λ k r in'. let f = at-contains es (k, r) in' in record {
-        position = f.0;
-        member = ⊎_elim (λ early. early) (λ late. absurd (let h : late.0 < 0 = late.1 in omega arith))
-            (Contains-append_cases made.before [] f.0 (made.whole f.0 (k, r) f.1));
-        has = record { terms = r; at = f.1 };
-      } in
-      let clear : AreClear es window.first window.last =
-      AreClear-from_entries es window.first window.last (λ k r in'. made.so_far.so_far.clear k (done k r in')) in
-      record {
-        clear = clear;
-        records = made.so_far.records;
-        are = made.so_far.are;
-        so_far = record {
-          canonical = made.so_far.so_far.canonical;
-          only = λ k r h. tt;
-          clear = λ k _. clear.key k;
-          say = λ k d b _ within. (
-            λ runs. (made.so_far.so_far.say k d b (done k runs.winner runs.wins.listed) within).0 runs,
-            λ has. (made.so_far.so_far.say k d b (made.so_far.so_far.only k has.it has.listed) within).1 has,
-          );
-        };
-      }
-
-module _ {K B : Type 0} (cmp : K → K → Ordering) (total : IsTotalOrder cmp) (same : (j k : K) → cmp j k ≡ Equal → j ≡ k)
-    (form : Form) (window : Window) (es : List (K × Terms B)) where
-  module _ (rest : List ℕ) (n : ℕ) (run : IsFirstRun es rest n) (within : All (λ i. i < length es) rest)
-      (old : List KeyedRun) (made : IsMade cmp form window es old rest) where
-    leader : (k : K) × HasKey es (get_or rest 0 0) k
-    leader =
-        let a : 0 < n = run.some in
-        let b : n ≤ length rest = run.upto in
-        let c : 0 < length rest = omega arith in some-key es (get_or rest 0 0) (within 0 0 c)
-
-    pub made-key : (new : List KeyedRun) → AddsKey cmp form window es (take n rest) old new → IsMade cmp form window es new (drop n rest)
-    made-key new adds = record {
-      before = made.before ++ take n rest;
-      whole = whole-after cmp total same es made.before rest n run made.rising within made.order made.whole leader.0 leader.1;
-      order = order-after cmp total same es made.before rest n run made.rising within made.order made.whole leader.0 leader.1;
-      rising = rising-after cmp total same es made.before rest n run made.rising within made.order made.whole leader.0 leader.1;
-      so_far = adds.adds made.before leader.0
-          (turn cmp total same es made.before rest n run made.rising within made.order made.whole leader.0 leader.1) made.so_far;
     }
 
-    clear-at : (j : K) (r : Terms B) → of_key es j r → cmp j leader.0 ≡ Less → IsClearFrom (of_key es j) window.first window.last
-    clear-at j r in' less =
-        let f = at-contains es (j, r) in' in
-        let has : HasKey es f.0 j = record { terms = r; at = f.1 } in
-        ⊎_elim
-        (λ early. made.so_far.so_far.clear j (record { position = f.0; member = early; has = has }))
-        (λ late. absurd (not-before cmp total same es made.before rest n run made.rising within made.order made.whole leader.0 leader.1
-        j (record { position = f.0; member = late; has = has }) less))
-        (Contains-append_cases made.before rest f.0 (made.whole f.0 (j, r) f.1))
+  nobody : (k : K) → AnyHasKey es [] k → ⊥
+  nobody k any = Contains-none any.position any.member
+
+  -- in the end none is
+  pub made-all : ((k : K) → AreLawful (of_key es k)) → (runs : List Run) → IsMade runs [] → AreCanonicalRecords cmp form window es runs
+  made-all lawful runs made = record {
+    clear = record { key = λ k. (made.said k (nobody k)).clear };
+    records = made.records;
+    canonical = made.canonical;
+    same_meaning = records-meaning window es made.records lawful (λ k n b within. (made.said k (nobody k)).say n b within);
+    runs_of = made.runs_of;
+  }
+
+  module _ (total : IsTotalOrder cmp) (same : (j k : K) → cmp j k ≡ Equal → j ≡ k) (runs : List Run) (rest : List ℕ)
+      (made : IsMade runs rest) (n : ℕ) (run : IsFirstRun cmp es rest n) where
+    at-run : (i : ℕ) → Contains (take n rest) i → HasKey es i run.key
+    at-run i c = All-contains (λ i. HasKey es i run.key) (take n rest) i run.same c
+
+    at-later : (i : ℕ) (k : K) → Contains (drop n rest) i → HasKey es i k → cmp run.key k ≡ Less
+    at-later i k c has = All-contains (λ i. (k : K) → HasKey es i k → cmp run.key k ≡ Less) (drop n rest) i run.later c k has
+
+    -- a position is one of the run, or after it
+    either : (i : ℕ) → Contains rest i → Contains (take n rest) i ⊎ Contains (drop n rest) i
+    either i c = Contains-append_cases (take n rest) (drop n rest) i
+        (subst (λ (xs : List ℕ). Contains xs i) (sym (take-append-drop n rest)) c)
+
+    -- the keys after the run and its own are left
+    left : (k : K) → AnyHasKey es (drop n rest) k → AnyHasKey es rest k
+    left k any = record {
+      position = any.position;
+      member = subst (λ (xs : List ℕ). Contains xs any.position) (take-append-drop n rest)
+          (Contains-append_right (take n rest) (drop n rest) any.position any.member);
+      has = any.has;
+    }
+
+    leads : AnyHasKey es rest run.key
+    leads =
+        let len : length (take n rest) ≡ n = length-take-le n rest run.upto in
+        let some : 0 < n = run.some in
+        let c : Contains (take n rest) (get_or (take n rest) 0 0) = Contains-get_or (take n rest) 0 0 (omega arith) in
+        record {
+          position = get_or (take n rest) 0 0;
+          member = subst (λ (xs : List ℕ). Contains xs (get_or (take n rest) 0 0)) (take-append-drop n rest)
+              (Contains-append_left (take n rest) (drop n rest) (get_or (take n rest) 0 0) c);
+          has = at-run (get_or (take n rest) 0 0) c;
+        }
+
+    decided : (j k : K) (o : Ordering) → cmp j k ≡ o → (j ≡ k) ⊎ (j ≡ k → ⊥)
+    decided j k Equal e = inl (same j k e)
+    decided j k Less e = inr (λ is. not_less cmp total j k is e)
+    decided j k Greater e = inr (λ is. let tied : cmp j k ≡ Equal = subst (λ z. cmp j z ≡ Equal) is (tied_itself total j) in cc)
+
+    -- the run has the positions of its key
+    turn : ArePositionsOf es run.key (take n rest)
+    turn = record {
+      found = λ i c. let has = at-run i c in (has.terms, has.at);
+      all = λ i r at.
+          let has : HasKey es i run.key = record { terms = r; at = at } in
+          ⊎_elim
+          (λ here. here)
+          (λ after. absurd (not_less cmp total run.key run.key refl (at-later i run.key after has)))
+          (either i (made.whole i run.key leads has));
+    }
+
+    -- no key that is left is before the run's
+    not-before : (j : K) → cmp j run.key ≡ Less → AnyHasKey es rest j → ⊥
+    not-before j less any = ⊎_elim
+        (λ here. not_less cmp total j run.key (one-key es any.position j run.key any.has (at-run any.position here)) less)
+        (λ after. less_one_way cmp total j run.key less (at-later any.position j after any.has))
+        (either any.position any.member)
 
     -- a fault of the run's key is the first, as the keys before are clear
-    pub made-faults : (fault : RecordsFault) → IsKeyFault window es (take n rest) fault → IsRecordsFault cmp es window fault
-    made-faults Memory f = tt
-    made-faults (Clash m d) f =
-        let has = members-key cmp total same es made.before rest n run made.rising within made.order made.whole leader.0 leader.1 m f.0 in
-        let positions =
-        (turn cmp total same es made.before rest n run made.rising within made.order made.whole leader.0 leader.1).positions in
-        record {
-          entry = (leader.0, has.terms);
+    pub made-fault : (fault : RecordsFault) →
+        ((k : K) → ArePositionsOf es k (take n rest) → IsKeyFault window es (take n rest) k fault) → IsRecordsFault cmp es window fault
+    made-fault Memory f = tt
+    made-fault (Clash m d) f =
+        let (member, clash) = f run.key turn in
+        let has = at-run m member in record {
+          entry = (run.key, has.terms);
           at = has.at;
-          clash = record {
-            clash = f.1 leader.0 positions;
-            clear_before = λ j less. record {
-              clear = λ e from upto. record {
-                agree = λ r s v w. ((clear-at j r v.listed less).clear e from upto).agree r s v w;
-              };
-            };
-          };
+          clash = record { clash = clash; clear_before = λ j less. (made.said j (not-before j less)).clear };
         }
+
+    module _ (own : List Run) (owns : (k : K) → ArePositionsOf es k (take n rest) → AreRunsOfKey form window es k own) where
+      a : AreRunsOfKey form window es run.key own
+      a = owns run.key turn
+
+      -- with the records of the run's key the list says what runs for it too
+      said-more : (k : K) → (AnyHasKey es (drop n rest) k → ⊥) → (k ≡ run.key) ⊎ (k ≡ run.key → ⊥) →
+          AreSaid window es k (of_key (made.records ++ with_key run.key a.records) k)
+      said-more k none (inl is) =
+          subst (λ i. AreSaid window es i (of_key (made.records ++ with_key run.key a.records) i)) (sym is)
+          (AreSaid-same window es run.key (Contains a.records) (of_key (made.records ++ with_key run.key a.records) run.key)
+          (λ r.
+          let more = of_key-more made.records run.key a.records run.key r in (
+            λ new. more.1 (inr (refl, new)),
+            λ h. ⊎_elim
+                (λ old. absurd (not_less cmp total run.key run.key refl (made.before run.key run.key r old leads)))
+                (λ new. new.1)
+                (more.0 h),
+          )) a.said)
+      said-more k none (inr apart) =
+          AreSaid-same window es k (of_key made.records k) (of_key (made.records ++ with_key run.key a.records) k)
+          (λ r.
+          let more = of_key-more made.records run.key a.records k r in (
+            λ old. more.1 (inl old),
+            λ h. ⊎_elim (λ old. old) (λ new. absurd (apart new.0)) (more.0 h),
+          ))
+          (made.said k (λ any. ⊎_elim
+          (λ here. apart (one-key es any.position k run.key any.has (at-run any.position here)))
+          (λ after. none (record { position = any.position; member = after; has = any.has }))
+          (either any.position any.member)))
+
+      pub made-key : IsMade (runs ++ own) (drop n rest)
+      made-key = record {
+        rising = rising-after cmp es rest made.rising n;
+        whole = λ i k any has. ⊎_elim
+            (λ here. absurd (not_less cmp total run.key k (one-key es i run.key k (at-run i here) has)
+            (at-later any.position k any.member any.has)))
+            (λ after. after)
+            (either i (made.whole i k (left k any) has));
+        records = made.records ++ with_key run.key a.records;
+        runs_of = AllZip-append (IsRunOf es) runs own made.records (with_key run.key a.records) made.runs_of a.runs_of;
+        canonical = canonical-more made.records run.key a.records cmp total form window made.canonical
+            (λ j r in'. made.before j run.key r in' leads) a.rising a.have_form;
+        before = λ j k r in' any. ⊎_elim
+            (λ old. made.before j k r old (left k any))
+            (λ new. subst (λ i. cmp i k ≡ Less) (sym new.0) (at-later any.position k any.member any.has))
+            ((of_key-more made.records run.key a.records j r).0 in');
+        said = λ k none. said-more k none (decided k run.key (cmp k run.key) refl);
+      }

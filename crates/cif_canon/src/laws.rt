@@ -2,11 +2,23 @@
 ghost use Rattle.std.specs.Prelude.{◌≡◌, ℕ, List};
 ghost use Rattle.cif_extract.specs.ExtractParts.{ExtractParts};
 ghost use Rattle.cif_weeks.specs.declared.form.Form.{Form};
-ghost use Rattle.cif_canon.specs.Canonical.{IsCanonical};
-ghost use Rattle.cif_canon.specs.Meaning.{SameMeaning};
+ghost use Rattle.cif_canon.specs.Accepted.{IsAccepted};
+ghost use Rattle.cif_canon.specs.Canonical.{IsCanonicalOf};
+ghost use Rattle.cif_canon.specs.NormalForm.{IsItsOwn, IsReachedFromForms, IsUnique};
+ghost use Rattle.cif_canon.specs.declared.asked.Asked.{Asked};
 
-/// Canonical bytes of one form that say the same are equal.
+/// Canonical bytes of one form are equal exactly if what they are made of says the same; they are
+/// their own canonical form, and that of each form's canonical bytes of the same.
 pub fn canonical_bytes_are_unique()
-    ensures { (form : Form) (b c : List ℕ) (x y : ExtractParts)
-        → IsCanonical form b x → IsCanonical form c y → SameMeaning x y → b ≡ c }
+    // An input is accepted as one extract for a window that is asked for.
+    ensures accepted { (asked : Asked) (input : List ℕ) (x y : ExtractParts)
+        → IsAccepted asked input x → IsAccepted asked input y → x ≡ y }
+    ensures unique { (form : Form) (x : ExtractParts) (bytes : List ℕ)
+        → IsCanonicalOf form x bytes → IsUnique form x bytes }
+    ensures again { (form : Form) (asked : Asked) (input : List ℕ) (x : ExtractParts)
+        (bytes : List ℕ) → IsAccepted asked input x → IsCanonicalOf form x bytes
+        → IsItsOwn form asked bytes }
+    ensures forms { (form : Form) (asked : Asked) (input : List ℕ) (x : ExtractParts)
+        (bytes : List ℕ) → IsAccepted asked input x → IsCanonicalOf form x bytes
+        → IsReachedFromForms form asked x bytes }
 {}

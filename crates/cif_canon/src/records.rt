@@ -1,24 +1,15 @@
 //! The canonical records of all keys.
-ghost use Rattle.std.specs.Prelude.{◌≡◌, ℕ, ◌<◌, ◌++◌, ◌∷◌, [], All, length, map};
-ghost use Rattle.std.specs.Prelude.{IfOk, IfErr, OnOk};
-ghost use Rattle.cif_calendar.specs.Keys.{keyed};
-ghost use Rattle.cif_canon.specs.Steps.Records.{AddsKey, AreCanonicalRecords, IsKeyFault, IsRecordsFault};
-ghost use Rattle.cif_canon.specs.Steps.Records.{items_of, records_fault, window_from};
+ghost use Rattle.std.specs.Prelude.{◌≡◌, ◌<◌, All, length};
+ghost use Rattle.std.specs.Prelude.{IfOk, IfErr};
+ghost use Rattle.cif_calendar.specs.Keys.{keyed, ArePositionsOf};
+ghost use Rattle.cif_canon.specs.Steps.Records.{AreCanonicalRecords, IsRecordsFault};
+ghost use Rattle.cif_canon.specs.Steps.Records.{AreRunsOfKey, IsKeyFault, records_fault, window_from};
 
 use crate::turns::{first_run, positions_by_key};
 use cif_calendar::{CalendarFault, Entry, Window, calendar};
 use cif_columns::Day;
 use cif_weeks::{Form, Run, runs};
 use std::alloc::{AllocError, Global};
-
-/// A canonical record: its dates, mask and body, and its key.
-#[derive(Clone, Copy, Debug, PartialEq, Eq)]
-pub(crate) struct KeyedRun {
-    /// The position of an entry with the key.
-    pub(crate) key: usize,
-    /// The dates and the mask, and the position of an entry with the body.
-    pub(crate) run: Run,
-}
 
 /// Why there are no canonical records.
 #[derive(Clone, Copy, Debug, PartialEq, Eq)]
@@ -50,44 +41,36 @@ fn fault_of(fault: CalendarFault, member: usize) -> RecordsFault
     }
 }
 
-/// Appends the runs, with the position of an entry with their key.
-fn append(records: &mut Vec<KeyedRun>, runs: &[Run], key: usize) -> Result<(), AllocError>
-    ensures { OnOk result (records.new.items ≡ records.old.items ++ items_of key runs.now) }
-{
-    for run in runs {
-        records.push(KeyedRun { key, run: *run })?;
-    }
-    Ok(())
-}
-
-/// Appends the canonical records of one key. The key's entries are at `members`.
-fn add_key<E: Entry>(
+/// The runs of one key's canonical records. The key's entries are at `members`.
+fn runs_of_key<E: Entry>(
     alloc: Global,
-    records: &mut Vec<KeyedRun>,
     entries: &[E],
     members: &[usize],
     window: &Window,
     form: Form,
-) -> Result<(), RecordsFault>
+) -> Result<Vec<Run>, RecordsFault>
     requires within { All (λ i. i < length entries.now) members.now }
     requires some { 0 < length members.now }
-    ensures adds { OnOk result (AddsKey E.Key.cmp form (window_from window.now.first window.now.last)
-        (keyed E.key E.terms entries.now) members.now records.old.items records.new.items) }
-    ensures fault { IfErr result (IsKeyFault (window_from window.now.first window.now.last)
-        (keyed E.key E.terms entries.now) members.now) }
+    ensures runs { IfOk result (λ runs. (k : E.Key) →
+        ArePositionsOf (keyed E.key E.terms entries.now) k members.now →
+        AreRunsOfKey form (window_from window.now.first window.now.last)
+        (keyed E.key E.terms entries.now) k runs.items) }
+    ensures fault { IfErr result (λ fault. (k : E.Key) →
+        ArePositionsOf (keyed E.key E.terms entries.now) k members.now →
+        IsKeyFault (window_from window.now.first window.now.last)
+        (keyed E.key E.terms entries.now) members.now k fault) }
 {
-    let key = members[0];
     let calendar = match calendar(alloc, entries, members, *window) {
         Ok(calendar) => calendar,
-        Err(fault) => return Err(fault_of(fault, key)),
+        Err(fault) => return Err(fault_of(fault, members[0])),
     };
     let own = runs(alloc, entries, &calendar, form)?;
-    append(records, own.as_slice(), key)?;
-    Ok(())
+    Ok(own)
 }
 
-/// The canonical records of the entries in a form: for each key, in order, those that say what its
-/// entries say of the window, rising by first date.
+/// The runs of the canonical records of the entries in a form: for each key, in order, those that
+/// say what its entries say of the window, rising by first date. The source of a run is the
+/// position of an entry with the record's key and body.
 ///
 /// `Clash` comes only where on some date two winners of a key have different bodies, and names the
 /// first such key and its first such date; `Memory` where a growth was refused.
@@ -96,20 +79,21 @@ pub(crate) fn canonical_records<E: Entry>(
     entries: &[E],
     window: Window,
     form: Form,
-) -> Result<Vec<KeyedRun>, RecordsFault>
-    ensures records { IfOk result (λ records.
+) -> Result<Vec<Run>, RecordsFault>
+    ensures records { IfOk result (λ runs.
         AreCanonicalRecords E.Key.cmp form (window_from window.first window.last)
-        (keyed E.key E.terms entries.now) records.items) }
+        (keyed E.key E.terms entries.now) runs.items) }
     ensures fault { IfErr result (IsRecordsFault E.Key.cmp (keyed E.key E.terms entries.now)
         (window_from window.first window.last)) }
 {
     let positions = positions_by_key(alloc, entries)?;
-    let mut records = Vec::new(alloc);
+    let mut all = Vec::new(alloc);
     let mut rest = positions.as_slice();
     while !rest.is_empty() {
         let (members, later) = rest.split_at(first_run(entries, rest));
-        add_key(alloc, &mut records, entries, members, &window, form)?;
+        let own = runs_of_key(alloc, entries, members, &window, form)?;
+        all.extend_from_slice(own.as_slice())?;
         rest = later;
     }
-    Ok(records)
+    Ok(all)
 }

@@ -31,7 +31,7 @@ fn all_positions(alloc: Global, count: usize) -> Result<Vec<usize>, AllocError>
     (0..count).collect(alloc)
 }
 
-/// The positions of all entries, in the order of their keys.
+/// The positions of all entries, in the order of their keys. Entries that are in it are not sorted.
 pub(crate) fn positions_by_key<E: Entry>(
     alloc: Global,
     entries: &[E],
@@ -43,15 +43,20 @@ pub(crate) fn positions_by_key<E: Entry>(
         IsRising E.Key.cmp (keyed E.key E.terms entries.now) positions.items) }
 {
     let mut positions = all_positions(alloc, entries.len())?;
+    if positions.is_sorted_by(|one, other| compare_keys(entries, *one, *other).is_le()) {
+        return Ok(positions);
+    }
     positions.sort_by(|one, other| compare_keys(entries, *one, *other))?;
     Ok(positions)
 }
 
-/// How many of the positions, from the first on, are of entries with one key.
+/// How many of the positions, from the first on, are of entries with one key. The positions are in
+/// the order of the keys.
 pub(crate) fn first_run<E: Entry>(entries: &[E], positions: &[usize]) -> usize
     requires within { All (λ i. i < length entries.now) positions.now }
     requires some { 0 < length positions.now }
-    ensures { IsFirstRun (keyed E.key E.terms entries.now) positions.now result }
+    requires rising { IsRising E.Key.cmp (keyed E.key E.terms entries.now) positions.now }
+    ensures { IsFirstRun E.Key.cmp (keyed E.key E.terms entries.now) positions.now result }
 {
     let key = entries[positions[0]].key();
     for (count, i) in positions.iter().enumerate() {

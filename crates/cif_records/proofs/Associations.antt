@@ -41,7 +41,7 @@ same_key x y a b c d e =
 abbrev Facts : AssocKey × ℕ × ℕ × List Bool × Stp × Option AssocBody → Type 0
 Facts v = (v.1 ≤ v.2) × (is_some v.5 ≡ has_body v.4)
 
-same_association : (r q : Association) → r.key ≡ q.key → r.first ≡ q.first → r.last ≡ q.last → r.days ≡ q.days → r.letter ≡ q.letter
+pub same_association : (r q : Association) → r.key ≡ q.key → r.first ≡ q.first → r.last ≡ q.last → r.days ≡ q.days → r.letter ≡ q.letter
     → r.body ≡ q.body → r ≡ q
 same_association r q a b c d e f =
     let parts : ◌≡◌ {A = (v : AssocKey × ℕ × ℕ × List Bool × Stp × Option AssocBody) × Facts v}

@@ -21,8 +21,8 @@ pub(crate) fn checksum_of_calendar(calendar: &Calendar) -> u64 {
 }
 
 /// The sum of the runs: of each its first and its last date by number, and for each weekday one
-/// where its mask has it, and else none. Its source counts for nothing, since any position of its
-/// body may be that.
+/// where its mask has it, and else none. Its source counts for nothing, since any winner of its
+/// first date may be that.
 pub(crate) fn checksum_of_runs(runs: &[Run]) -> u64 {
     let mut sum = EMPTY;
     for run in runs {

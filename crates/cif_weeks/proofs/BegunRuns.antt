@@ -6,27 +6,22 @@ use Rattle.cif_columns.specs.Day.{week_of, weekday_of}
 use Rattle.cif_columns.specs.DaysRun.{RunsOn, IsFirstOf}
 use Rattle.cif_calendar.specs.Terms.{Terms}
 use Rattle.cif_calendar.specs.Source.{body_at}
+use Rattle.cif_calendar.specs.Pieces.{source_at}
 use Rattle.cif_calendar.specs.Calendar.{CalendarParts}
 use Rattle.cif_weeks.specs.declared.form.Form.{Form}
 use Rattle.cif_weeks.specs.declared.run.Run.{Run}
-use Rattle.cif_weeks.specs.Permanent.{Permanent}
+use Rattle.cif_weeks.specs.Window.{IsWithin}
 use Rattle.cif_weeks.specs.Steps.Growing.{IsGrown, HasEnded}
 use Rattle.cif_weeks.specs.Steps.WeekMasks.{IsMask}
-use Rattle.cif_weeks.specs.Runs.{AreSources, AreRunsOf, IsRunOf, record_of, window_of}
+use Rattle.cif_weeks.specs.Runs.{AreSources, IsRunOf, record_of, window_of}
 use Rattle.cif_weeks.specs.Steps.WeekRows.{source_in, body_in, IsRowBefore, IsMaskOf, HaveOneBody, GoesOn, Begins}
 use Rattle.cif_weeks.specs.Steps.MadeRecords.{IsCovered, AreRunsUpTo}
 use Rattle.cif_weeks.proofs.WeekDays.{RunsOn-below}
 use Rattle.cif_weeks.proofs.Growth.{inside, source-body, mask-of_row}
 use Rattle.cif_weeks.proofs.Made.{made_idle, made_covered, made_more}
+use Rattle.cif_weeks.proofs.SourcesIn.{source_in-within, source_in-inside}
+use Rattle.cif_weeks.proofs.JoinedLists.{AllZip-append}
 use Rattle.cif_weeks.proofs.Covered.{covered_same_week, covered_joined, free_after_rest, free_after_change}
-
--- one run more
-runs_of-push : {B : Type 0} (xs : List (Terms B)) (runs : List Run) (records : List (Permanent B)) (run : Run) (r : Permanent B) →
-    AreRunsOf xs runs records → IsRunOf xs run r → AreRunsOf xs (runs ++ run ∷ []) (records ++ r ∷ [])
-runs_of-push xs [] [] run r h is = (is, tt)
-runs_of-push xs [] (s ∷ records) run r h is = absurd h
-runs_of-push xs (q ∷ runs) [] run r h is = absurd h
-runs_of-push xs (q ∷ runs) (s ∷ records) run r h is = (h.0, runs_of-push xs runs records run r h.1 is)
 
 module _ {B : Type 0} (form : Form) (xs : List (Terms B)) (c : CalendarParts) (sources : AreSources xs c) (week w : ℕ) (below : w < 7)
     (row : List (Option ℕ)) (r : IsRowBefore c (week + 1) row) (runs : List Run) (u : AreRunsUpTo form xs c (week * 7 + w) runs) where
@@ -140,10 +135,18 @@ module _ {B : Type 0} (form : Form) (xs : List (Terms B)) (c : CalendarParts) (s
             let (n, at_n, starts) = row-day w source below is in
             let (b, has) = source-body xs c sources n source starts in
             let same : n ≡ run.first = omega arith in
+            let within : IsWithin (window_of c) n = source_in-inside c n source starts in
+            let is : source_at c.pieces n ≡ Some source = sym (source_in-within c n within.from within.upto) ∙ starts in
             record {
               records = u.records ++ record_of run b ∷ [];
-              runs_of = runs_of-push xs runs u.records run (record_of run b) u.runs_of
-                  (record { dates = refl; body = ap (λ v. body_at xs (Some v)) is_source ∙ has });
+              runs_of = AllZip-append (IsRunOf xs c) runs (run ∷ []) u.records (record_of run b ∷ []) u.runs_of (
+                record {
+                  dates = refl;
+                  source = ap (source_at c.pieces) (sym same) ∙ is ∙ ap Some (sym is_source);
+                  body = ap (λ v. body_at xs (Some v)) is_source ∙ has;
+                },
+                tt,
+              );
               made = made_more (window_of c) (body_in xs c) (inside xs c sources) form (week * 7 + w) u.records u.made (record_of run b)
                   (grown b has) (ended b has) (omega arith)
                   (subst (λ v. ¬ IsCovered u.records v) same (free b has g n at_n (ap (body_at xs) starts ∙ has)));

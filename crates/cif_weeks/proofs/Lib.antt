@@ -4,10 +4,13 @@ pub mod Ended
 pub mod Growing
 pub mod Grown
 pub mod JoiningWeeks
+pub mod JoinedLists
 pub mod Jump
+pub mod KeyByKey
 pub mod Made
 pub mod Masks
 pub mod Meeting
+pub mod PermanentEntries
 pub mod RisingLists
 pub mod Separate
 pub mod Unique

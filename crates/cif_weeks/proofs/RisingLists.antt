@@ -9,7 +9,7 @@ use Rattle.std.proofs.lemmas.Cmp.{tied_itself}
 use Rattle.cif_calendar.proofs.Elements.{Contains-first, Contains-rest, Contains-cases}
 
 -- an empty list has no member
-Contains-none : {X : Type 0} (x : X) → Contains [] x → ⊥
+pub Contains-none : {X : Type 0} (x : X) → Contains [] x → ⊥
 Contains-none x (k, below, is) = omega arith
 
 -- what holds of the pairs of a list holds of its head with each other member, and of the pairs of its tail

@@ -1,5 +1,5 @@
 -- The canonical records of all keys, whatever runs, in one list of pairs of a key and one of its records.
-use Rattle.std.specs.Prelude.{◌≡◌, ℕ, ◌<◌, ◌⊎◌, List, Option, AllPairs}
+use Rattle.std.specs.Prelude.{◌≡◌, ℕ, ◌<◌, ◌⊎◌, List, map, Option, AllPairs}
 use Rattle.std.specs.declared.cmp.Ordering.{Ordering}
 use Rattle.std.specs.declared.cmp.Ordering.TheVariants.{Less}
 use Rattle.cif_weeks.specs.declared.form.Form.{Form}
@@ -8,6 +8,10 @@ use Rattle.cif_calendar.specs.Keys.{of_key}
 use Rattle.cif_weeks.specs.Permanent.{Permanent}
 use Rattle.cif_weeks.specs.HaveForm.{HaveForm}
 use Rattle.cif_weeks.specs.WhatRuns.{SayWhatRuns, SayTheSame}
+
+-- the records of one key, each with it
+abbrev pub with_key : {K B : Type 0} → K → List (Permanent B) → List (K × Permanent B)
+with_key k records = map (λ r. (k, r)) records
 
 -- one comes before the other: by key, and for one key by first day; `cmp` is the order of the keys
 abbrev pub Precedes : {K B : Type 0} → (K → K → Ordering) → K × Permanent B → K × Permanent B → Type 0

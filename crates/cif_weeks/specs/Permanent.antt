@@ -1,5 +1,5 @@
--- Permanent records of one key, and sets of them.
-use Rattle.std.specs.Prelude.{ℕ, List, Bool, Some}
+-- Permanent records, sets of them, and what they are as entries of the calendar.
+use Rattle.std.specs.Prelude.{ℕ, List, map, Bool, Some}
 use Rattle.cif_columns.specs.declared.stp.Stp.TheVariants.{P}
 use Rattle.cif_calendar.specs.Terms.{Terms}
 
@@ -18,3 +18,7 @@ Permanents B = Permanent B → Type 0
 -- its terms as those of an entry: the letter is P
 abbrev pub terms_of : {B : Type 0} → Permanent B → Terms B
 terms_of r = record { first = r.first; last = r.last; days = r.days; letter = P; body = Some r.body }
+
+-- records with their keys, as entries
+abbrev pub permanent_entries : {K B : Type 0} → List (K × Permanent B) → List (K × Terms B)
+permanent_entries {K} {B} records = map (λ (e : K × Permanent B). (e.0, terms_of e.1)) records

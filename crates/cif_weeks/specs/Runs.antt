@@ -1,5 +1,6 @@
 -- The runs of a calendar: its canonical records, by the positions of their bodies.
-use Rattle.std.specs.Prelude.{◌≡◌, ℕ, ◌≤◌, List, [], ◌∷◌, Some, IsSome}
+use Rattle.std.specs.Prelude.{◌≡◌, ℕ, ◌≤◌, List, Some, IsSome}
+use Rattle.std.specs.List.{AllZip}
 use Rattle.cif_calendar.specs.Terms.{Terms}
 use Rattle.cif_calendar.specs.Source.{body_at}
 use Rattle.cif_calendar.specs.Pieces.{source_at}
@@ -22,20 +23,15 @@ window_of c = record { first = c.first; last = c.last }
 abbrev pub record_of : {B : Type 0} → Run → B → Permanent B
 record_of run b = record { first = run.first; last = run.last; days = run.days; body = b }
 
--- The run has the dates and the mask of permanent record r, and its source is the position of an entry with r's body.
-pub record IsRunOf {B : Type 0} (xs : List (Terms B)) (run : Run) (r : Permanent B) : Type 0 where
+-- The run has the dates and the mask of permanent record r. Its source is that of its first day by the calendar, and the position
+-- of an entry with r's body.
+pub record IsRunOf {B : Type 0} (xs : List (Terms B)) (c : CalendarParts) (run : Run) (r : Permanent B) : Type 0 where
   pub dates : r ≡ record_of run r.body
+  pub source : source_at c.pieces run.first ≡ Some run.source
   pub body : body_at xs (Some run.source) ≡ Some r.body
 
--- the runs are those of the records, one by one
-abbrev pub AreRunsOf : {B : Type 0} → List (Terms B) → List Run → List (Permanent B) → Type 0
-AreRunsOf xs [] [] = Unit {0}
-AreRunsOf xs [] (r ∷ rs) = ⊥
-AreRunsOf xs (run ∷ runs) [] = ⊥
-AreRunsOf xs (run ∷ runs) (r ∷ rs) = IsRunOf xs run r × AreRunsOf xs runs rs
-
--- The runs are those of the canonical records of the form: these say what runs by the calendar on each day of its window.
+-- The runs are, one by one, those of the canonical records of the form: these say what runs by the calendar on each day of its window.
 pub record AreCanonicalRuns {B : Type 0} (form : Form) (xs : List (Terms B)) (c : CalendarParts) (runs : List Run) : Type 0 where
   pub records : List (Permanent B)
-  pub runs_of : AreRunsOf xs runs records
+  pub runs_of : AllZip (IsRunOf xs c) runs records
   pub meets : Meets form (window_of c) (body_on xs c) records

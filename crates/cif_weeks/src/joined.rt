@@ -113,8 +113,8 @@ fn begin_runs<E: Entry>(
 
 /// The canonical runs of a calendar in a form, rising by first date.
 ///
-/// Hand in the entries of which the calendar tells. Of several entries with one body any may be a
-/// run's source. The cost goes by the runs and the pieces of the calendar, and not by its dates.
+/// Hand in the entries of which the calendar tells. A run's source is the calendar's on the run's
+/// first date. The cost goes by the runs and the pieces of the calendar, and not by its dates.
 pub fn runs<E: Entry>(
     alloc: Global,
     entries: &[E],

@@ -1,21 +1,31 @@
-//! Laws for proofs: what the two forms mean, and that what runs determines canonical records.
+//! Laws for proofs: what the two forms mean, that what runs determines canonical records, and what
+//! these say as entries of a calendar.
 ghost use Rattle.std.specs.Prelude.{◌≡◌, ◌≢◌, ◌↔◌, ◌⊎◌, ℕ, ◌+◌, ◌<◌, ◌≤◌};
-ghost use Rattle.std.specs.Prelude.{List, Option, Some, AllPairs, Contains};
+ghost use Rattle.std.specs.Prelude.{List, [], ◌++◌, Option, Some, All, AllPairs, Contains};
+ghost use Rattle.std.specs.declared.cmp.Ordering.{Ordering};
 ghost use Rattle.std.specs.declared.cmp.Ordering.TheVariants.{Less};
 ghost use Rattle.cif_columns.specs.Day.{week_of, weekday_of};
 ghost use Rattle.cif_columns.specs.DaysRun.{RunsOn};
-ghost use Rattle.cif_calendar.specs.Terms.{Terms};
+ghost use Rattle.cif_calendar.specs.Terms.{Terms, AreLawful};
+ghost use Rattle.cif_calendar.specs.Runs.{BodyRuns};
+ghost use Rattle.cif_calendar.specs.Source.{IsWinnerAt};
 ghost use Rattle.cif_calendar.specs.Calendar.{CalendarParts, IsCalendar};
-ghost use Rattle.cif_weeks.specs.Runs.{AreSources};
+ghost use Rattle.cif_calendar.specs.Keys.{of_key, AreClear};
+ghost use Rattle.cif_calendar.specs.Meaning.{SameMeaning};
+ghost use Rattle.cif_weeks.specs.Runs.{AreSources, AreCanonicalRuns};
+ghost use Rattle.cif_weeks.specs.declared.run.Run.{Run};
 ghost use Rattle.cif_weeks.specs.declared.form.Form.{Form};
 ghost use Rattle.cif_weeks.specs.declared.form.Form.TheVariants.{One, Two};
 ghost use Rattle.cif_weeks.specs.Window.{Window, IsWithin};
-ghost use Rattle.cif_weeks.specs.Permanent.{Permanent};
+ghost use Rattle.cif_weeks.specs.Permanent.{Permanent, terms_of, permanent_entries};
 ghost use Rattle.cif_weeks.specs.Applies.{Applies, IsWeekOf};
 ghost use Rattle.cif_weeks.specs.Aligned.{IsAligned};
 ghost use Rattle.cif_weeks.specs.Separate.{ExactlyOne, Change, AreSeparate};
+ghost use Rattle.cif_weeks.specs.HaveForm.{HaveForm};
+ghost use Rattle.cif_weeks.specs.WhatRuns.{HasBody};
 ghost use Rattle.cif_weeks.specs.Meets.{Meets};
 ghost use Rattle.cif_weeks.specs.Canonical.{AreCanonical, SayWhatRunsByKey, SayTheSameByKey};
+ghost use Rattle.cif_weeks.specs.Canonical.{with_key};
 
 /// What it means that a record is aligned: on which days it applies.
 pub fn days_of_aligned_records<B>()
@@ -133,8 +143,70 @@ pub fn records_of_all_keys_are_unique<K: Ord, B>()
         → SayTheSameByKey window xs ys → xs ≡ ys }
 {}
 
+/// Canonical records are made one key after another.
+pub fn canonical_records_key_by_key<K: Ord, B>()
+    ensures none { (form : Form) (window : Window)
+        → AreCanonical {B = B} K.cmp form window [] }
+    // Canonical records of keys before k, and after them those of k.
+    ensures more { (form : Form) (window : Window) (records : List (K × Permanent B)) (k : K)
+        (own : List (Permanent B))
+        → AreCanonical K.cmp form window records
+        → ((j : K) (r : Permanent B) → of_key records j r → K.cmp j k ≡ Less)
+        → AllPairs (λ r s. r.first < s.first) own → HaveForm form window (Contains own)
+        → AreCanonical K.cmp form window (records ++ with_key k own) }
+    // Which records that list has of each key.
+    ensures of_key { (records : List (K × Permanent B)) (k : K) (own : List (Permanent B)) (j : K)
+        (r : Permanent B)
+        → of_key (records ++ with_key k own) j r
+        ↔ (of_key records j r ⊎ ((j ≡ k) × Contains own r)) }
+{}
+
+/// What permanent records say as entries of a calendar.
+pub fn permanent_records_as_entries<K, B>()
+    // The entries of a key are its records, and they are lawful.
+    ensures of_key { (records : List (K × Permanent B)) (k : K) (t : Terms B)
+        → of_key (permanent_entries records) k t
+        ↔ ((r : Permanent B) × of_key records k r × (terms_of r ≡ t)) }
+    ensures lawful { (records : List (K × Permanent B)) (k : K)
+        → AreLawful (of_key (permanent_entries records) k) }
+    // A body runs for a key where a record of the key applies that has it.
+    ensures runs { (records : List (K × Permanent B)) (k : K) (n : ℕ) (b : B)
+        → BodyRuns (of_key (permanent_entries records) k) n b ↔ HasBody (of_key records k) n b }
+    // Two lists mean the same where they say the same for each key.
+    ensures same_meaning { (window : Window) (xs ys : List (K × Permanent B))
+        → SameMeaning (permanent_entries xs) (permanent_entries ys) window.first window.last
+        ↔ SayTheSameByKey window xs ys }
+    // Lawful entries mean what the records mean, if a body runs where a record applies that has it.
+    ensures meaning { (window : Window) (entries : List (K × Terms B))
+        (records : List (K × Permanent B)) → ((k : K) → AreLawful (of_key entries k))
+        → ((k : K) (n : ℕ) (b : B) → IsWithin window n
+        → BodyRuns (of_key entries k) n b ↔ HasBody (of_key records k) n b)
+        → SameMeaning entries (permanent_entries records) window.first window.last }
+{}
+
+/// What canonical records say as entries of a calendar.
+pub fn canonical_records_as_entries<K, B>()
+    // No date has a clash, in the window or outside it.
+    ensures clear { (cmp : K → K → Ordering) (form : Form) (window : Window)
+        (records : List (K × Permanent B)) (first last : ℕ)
+        → AreCanonical cmp form window records
+        → AreClear (permanent_entries records) first last }
+    // None ends before it begins.
+    ensures dated { (cmp : K → K → Ordering) (form : Form) (window : Window)
+        (records : List (K × Permanent B)) → AreCanonical cmp form window records
+        → All (λ e. e.1.first ≤ e.1.last) records }
+{}
+
 /// Each source of a calendar is the position of an entry with a body, which is what `runs` asks for.
 pub fn sources_of_a_calendar<B>()
     ensures { (xs : List (Terms B)) (members : List ℕ) (first last : ℕ) (c : CalendarParts)
         → IsCalendar xs members first last c → AreSources xs c }
+{}
+
+/// The source of a run is one of the calendar's members: a winner of the run's first date.
+pub fn sources_of_runs<B>()
+    ensures { (form : Form) (xs : List (Terms B)) (members : List ℕ) (first last : ℕ)
+        (c : CalendarParts) (runs : List Run)
+        → IsCalendar xs members first last c → AreCanonicalRuns form xs c runs
+        → All (λ run. IsWinnerAt xs members run.first run.source) runs }
 {}

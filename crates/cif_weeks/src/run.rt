@@ -10,6 +10,6 @@ pub struct Run {
     pub last: Day,
     /// The weekdays on which the body runs between them.
     pub days: DaysRun,
-    /// The position of an entry with the body.
+    /// The position of an entry with the body, which is a winner of the first date.
     pub source: usize,
 }

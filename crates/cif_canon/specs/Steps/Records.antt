@@ -1,83 +1,73 @@
--- The canonical records of all keys, as the runs of their calendars.
-use Rattle.std.specs.Prelude.{◌≡◌, ℕ, List, [], ◌∷◌, ◌++◌, Some, ⊤, Contains, map, slice_get}
+-- The canonical records of all keys, as runs. No public clause cites them.
+use Rattle.std.specs.Prelude.{◌≡◌, ℕ, ◌<◌, List, Some, ⊤, ◌↔◌, AllPairs, Contains, slice_get}
+use Rattle.std.specs.List.{AllZip}
 use Rattle.std.specs.declared.cmp.Ordering.{Ordering}
 use Rattle.cif_calendar.specs.Terms.{Terms}
-use Rattle.cif_calendar.specs.Clash.{IsFirstClash}
-use Rattle.cif_calendar.specs.Keys.{of_key, ArePositionsOf, AreClear, IsFirstClashOf}
+use Rattle.cif_calendar.specs.Clash.{IsClearFrom, IsFirstClash}
+use Rattle.cif_calendar.specs.Keys.{of_key, AreClear, IsFirstClashOf}
+use Rattle.cif_calendar.specs.Meaning.{SameMeaning}
+use Rattle.cif_calendar.specs.Runs.{BodyRuns}
 use Rattle.cif_calendar.specs.declared.calendar_fault.CalendarFault.{CalendarFault}
 use Rattle.cif_calendar.specs.declared.calendar_fault.CalendarFault.TheVariants as calendar
-use Rattle.cif_weeks.specs.Permanent.{Permanent}
+use Rattle.cif_weeks.specs.Canonical.{AreCanonical, with_key}
+use Rattle.cif_weeks.specs.HaveForm.{HaveForm}
+use Rattle.cif_weeks.specs.Permanent.{Permanent, Permanents, permanent_entries}
 use Rattle.cif_weeks.specs.Runs.{record_of}
-use Rattle.cif_weeks.specs.Window.{Window}
+use Rattle.cif_weeks.specs.WhatRuns.{HasBody}
+use Rattle.cif_weeks.specs.Window.{Window, IsWithin}
 use Rattle.cif_weeks.specs.declared.form.Form.{Form}
 use Rattle.cif_weeks.specs.declared.run.Run.{Run}
-use Rattle.cif_canon.specs.Steps.KeyByKey.{AreRecordsOf}
-use Rattle.cif_canon.specs.Steps.Turns.{HasKey, AnyHasKey, IsTurnOf}
-use Rattle.cif_canon.specs.declared.records.KeyedRun.{KeyedRun}
 use Rattle.cif_canon.specs.declared.records.RecordsFault.{RecordsFault}
 use Rattle.cif_canon.specs.declared.records.RecordsFault.TheVariants.{Clash, Memory}
 
 abbrev pub window_from : ℕ → ℕ → Window
 window_from first last = record { first = first; last = last }
 
--- runs with the position of an entry with their key
-abbrev pub items_of : ℕ → List Run → List KeyedRun
-items_of key runs = map (λ run. record { key = key; run = run }) runs
+-- The run has the dates and the mask of the record of e, and its source is the position of an entry with e's key and the record's
+-- body.
+pub record IsRunOf {K B : Type 0} (entries : List (K × Terms B)) (run : Run) (e : K × Permanent B) : Type 0 where
+  pub dates : e.1 ≡ record_of run e.1.body
+  pub terms : Terms B
+  pub at : slice_get entries run.source ≡ Some (e.0, terms)
+  pub body : terms.body ≡ Some e.1.body
 
--- body b is that of the entry at this position
-pub record HasBodyAt {K B : Type 0} (entries : List (K × Terms B)) (position : ℕ) (b : B) : Type 0 where
-  pub entry : K × Terms B
-  pub at : slice_get entries position ≡ Some entry
-  pub body : entry.1.body ≡ Some b
-
--- The item is this record of this key: the entries at its positions have its key and its body, and the dates and the mask are the record's.
-pub record IsItemOf {K B : Type 0} (entries : List (K × Terms B)) (item : KeyedRun) (e : K × Permanent B) : Type 0 where
-  pub key : HasKey entries item.key e.0
-  pub dates : e.1 ≡ record_of item.run e.1.body
-  pub body : HasBodyAt entries item.run.source e.1.body
-
--- the items are these records, one by one
-abbrev pub AreItemsOf : {K B : Type 0} → List (K × Terms B) → List KeyedRun → List (K × Permanent B) → Type 0
-AreItemsOf entries [] [] = Unit {0}
-AreItemsOf entries [] (e ∷ es) = ⊥
-AreItemsOf entries (item ∷ items) [] = ⊥
-AreItemsOf entries (item ∷ items) (e ∷ es) = IsItemOf entries item e × AreItemsOf entries items es
-
--- the items so far are records of the keys that are done
-pub record AreItemsSoFar {K B : Type 0} (cmp : K → K → Ordering) (form : Form) (window : Window) (entries : List (K × Terms B))
-    (done : K → Type 0) (items : List KeyedRun) : Type 0 where
+-- The entries are clear. The runs are, one by one, those of canonical records that say the same as the entries.
+pub record AreCanonicalRecords {K B : Type 0} (cmp : K → K → Ordering) (form : Form) (window : Window) (entries : List (K × Terms B))
+    (runs : List Run) : Type 0 where
+  pub clear : AreClear entries window.first window.last
   pub records : List (K × Permanent B)
-  pub are : AreItemsOf entries items records
-  pub so_far : AreRecordsOf cmp form window entries done records
+  pub canonical : AreCanonical cmp form window records
+  pub same_meaning : SameMeaning entries (permanent_entries records) window.first window.last
+  pub runs_of : AllZip (IsRunOf entries) runs records
 
--- where `old` is what is done of the keys before, `new` is that with the members' key too
-pub record AddsKey {K B : Type 0} (cmp : K → K → Ordering) (form : Form) (window : Window) (entries : List (K × Terms B))
-    (members : List ℕ) (old new : List KeyedRun) : Type 0 where
-  pub adds : (before : List ℕ) (k : K) → IsTurnOf cmp entries before members k →
-      AreItemsSoFar cmp form window entries (AnyHasKey entries before) old →
-      AreItemsSoFar cmp form window entries (AnyHasKey entries (before ++ members)) new
+-- of key k the entries are clear, and the records say what runs
+pub record AreSaid {K B : Type 0} (window : Window) (entries : List (K × Terms B)) (k : K) (records : Permanents B) : Type 0 where
+  pub clear : IsClearFrom (of_key entries k) window.first window.last
+  pub say : (n : ℕ) (b : B) → IsWithin window n → BodyRuns (of_key entries k) n b ↔ HasBody records n b
+
+-- the runs are those of the canonical records of key k
+pub record AreRunsOfKey {K B : Type 0} (form : Form) (window : Window) (entries : List (K × Terms B)) (k : K) (runs : List Run)
+    : Type 0 where
+  pub records : List (Permanent B)
+  pub runs_of : AllZip (IsRunOf entries) runs (with_key k records)
+  pub rising : AllPairs (λ r s. r.first < s.first) records
+  pub have_form : HaveForm form window (Contains records)
+  pub said : AreSaid window entries k (Contains records)
 
 -- a fault of a key's calendar as one of the records
 abbrev pub records_fault : CalendarFault → ℕ → RecordsFault
 records_fault (calendar.Ambiguous day) member = Clash member day
 records_fault calendar.Memory member = Memory
 
--- what a fault says of the members' key
-abbrev pub IsKeyFault : {K B : Type 0} → Window → List (K × Terms B) → List ℕ → RecordsFault → Type 0
-IsKeyFault {K} window entries members (Clash member day) = Contains members member
-    × ((k : K) → ArePositionsOf entries k members → IsFirstClash (of_key entries k) window.first window.last day)
-IsKeyFault window entries members Memory = ⊤
-
--- The entries are clear, and the items are canonical records that say what runs by them.
-pub record AreCanonicalRecords {K B : Type 0} (cmp : K → K → Ordering) (form : Form) (window : Window) (entries : List (K × Terms B))
-    (items : List KeyedRun) : Type 0 where
-  pub clear : AreClear entries window.first window.last
-  pub records : List (K × Permanent B)
-  pub are : AreItemsOf entries items records
-  pub so_far : AreRecordsOf cmp form window entries (λ k. ⊤) records
+-- what a fault says of key k, whose entries are at the members
+abbrev pub IsKeyFault : {K B : Type 0} → Window → List (K × Terms B) → List ℕ → K → RecordsFault → Type 0
+IsKeyFault window entries members k (Clash member day) =
+    Contains members member × IsFirstClash (of_key entries k) window.first window.last day
+IsKeyFault window entries members k Memory = ⊤
 
 -- the first clash is on this day, of the key of the entry at this position
-pub record IsClashAt {K B : Type 0} (cmp : K → K → Ordering) (entries : List (K × Terms B)) (window : Window) (member day : ℕ) : Type 0 where
+pub record IsClashAt {K B : Type 0} (cmp : K → K → Ordering) (entries : List (K × Terms B)) (window : Window) (member day : ℕ)
+    : Type 0 where
   pub entry : K × Terms B
   pub at : slice_get entries member ≡ Some entry
   pub clash : IsFirstClashOf cmp entries window.first window.last entry.0 day

@@ -1,5 +1,6 @@
 -- Steps to the runs: the list of records as it is built, one day after another. No public clause cites them.
 use Rattle.std.specs.Prelude.{◌≡◌, ℕ, ◌+◌, ◌<◌, List, Option, Some, All, AllPairs, Contains}
+use Rattle.std.specs.List.{AllZip}
 use Rattle.cif_columns.specs.Day.{week_of}
 use Rattle.cif_calendar.specs.Terms.{Terms}
 use Rattle.cif_calendar.specs.Calendar.{CalendarParts}
@@ -10,7 +11,7 @@ use Rattle.cif_weeks.specs.Permanent.{Permanent}
 use Rattle.cif_weeks.specs.Applies.{Applies}
 use Rattle.cif_weeks.specs.Separate.{Change}
 use Rattle.cif_weeks.specs.Steps.Growing.{IsGrown, HasEnded}
-use Rattle.cif_weeks.specs.Runs.{AreRunsOf, window_of}
+use Rattle.cif_weeks.specs.Runs.{IsRunOf, window_of}
 use Rattle.cif_weeks.specs.Steps.WeekRows.{body_in}
 
 -- r ends in a week before that in which s begins, and where that is the very next week, there is a change between them
@@ -38,5 +39,5 @@ pub record AreMade {B : Type 0} (form : Form) (window : Window) (body_on : ℕ �
 -- The runs so far are those of the records that begin before a weekday, where `limit` is seven times its week plus the weekday.
 pub record AreRunsUpTo {B : Type 0} (form : Form) (xs : List (Terms B)) (c : CalendarParts) (limit : ℕ) (runs : List Run) : Type 0 where
   pub records : List (Permanent B)
-  pub runs_of : AreRunsOf xs runs records
+  pub runs_of : AllZip (IsRunOf xs c) runs records
   pub made : AreMade form (window_of c) (body_in xs c) limit records

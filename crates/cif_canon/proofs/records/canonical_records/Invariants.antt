@@ -9,7 +9,7 @@ abbrev pub invariant-loop-rest : goal.invariant-loop-rest
 invariant-loop-rest g l = record {
   within : All (λ i. i < length l.entries) l.rest;
   made : IsMade g.E.Key.Ord.cmp l.form (window_from l.window.first l.window.last) (keyed g.E.Entry.key g.E.Entry.terms l.entries)
-      l.records.items l.rest;
+      l.all.items l.rest;
 }
 
 abbrev pub decreases-loop-rest : goal.decreases-loop-rest

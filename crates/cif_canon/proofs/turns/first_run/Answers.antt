@@ -1,8 +1,12 @@
-use Rattle.std.proofs.Common.{◌≡◌, Bool, true, false, not, get_or, refl, sym, ◌∙◌, ap, subst}
+use Rattle.std.proofs.Common.{◌≡◌, Bool, true, false, not, get_or, length, take, refl, sym, ◌∙◌, ap, subst, arith}
+use Rattle.std.specs.Prelude.{All}
 use Rattle.std.proofs.lemmas.Bool.{false≢true}
+use Rattle.std.proofs.lemmas.List.Elements.{All-nil, All-more}
 use Rattle.cif_calendar.specs.Keys.{keyed}
+use Rattle.cif_calendar.proofs.FirstClash.{same_key-cmp}
 use Rattle.cif_canon.specs.Steps.Turns.{HasKey}
-use Rattle.cif_canon.proofs.KeyPositions.{has-key, alike-more, alike-none, run-ends}
+use Rattle.cif_canon.proofs.KeyPositions.{has-key}
+use Rattle.cif_canon.proofs.KeyTurns.{run-ends, run-of_all}
 use Rattle.cif_canon.proofs.turns.first_run.Goals as goal
 
 true_from_not : (b : Bool) → not b ≡ false → b ≡ true
@@ -15,7 +19,7 @@ loop-count-init g c = record {
       (sym c.key-key.ensures)
       (has-key g.E.Entry.key g.E.Entry.terms c.args.entries.now (get_or c.args.positions.now 0 0) c.index-entries-positions.result
       (c.requires.within 0 0 c.requires.some) c.index-entries-positions.is);
-  alike = alike-none _ _;
+  alike = All-nil _;
 }
 
 pub returns-then-ne : goal.returns-then-ne
@@ -26,8 +30,9 @@ returns-then-ne g c =
     subst (λ k. HasKey es (get_or c.args.positions.now count 0) k) (sym c.key.ensures)
     (has-key g.E.Entry.key g.E.Entry.terms c.args.entries.now (get_or c.args.positions.now count 0) c.index-entries-i.result
     (c.requires.within count 0 c.loop-count-test.true) c.index-entries-i.is) in
-    run-ends es c.args.positions.now count c.key.result.now c.key-key.result.now c.loop-count-test.true c.loop-count.invariant.alike
-    c.loop-count.invariant.leads has
+    run-ends g.E.Key.Ord.cmp es c.args.positions.now c.requires.rising g.met.E.Key.Ord.total
+    (same_key-cmp g.E.Key.PartialEq.eq g.E.Key.Ord.cmp g.met.E.Key.Ord.matches_eq g.met.E.Entry.same_key) count c.key-key.result.now
+    c.key.result.now c.loop-count-test.true c.loop-count.invariant.alike c.loop-count.invariant.leads has
     (λ e. false≢true (sym (ap not ((g.met.E.Entry.same_key c.key.result.now c.key-key.result.now).1 e)) ∙ sym c.ne.ensures ∙ c.if-ne.true))
 
 pub loop-count-preserved : goal.loop-count-preserved
@@ -40,7 +45,15 @@ loop-count-preserved g c =
     (c.requires.within count 0 c.loop-count-test.true) c.index-entries-i.is) in
     record {
       leads = c.loop-count.invariant.leads;
-      alike = alike-more es c.args.positions.now count c.key.result.now c.key-key.result.now c.loop-count.invariant.alike
-          c.loop-count.invariant.leads has
-          ((g.met.E.Entry.same_key c.key.result.now c.key-key.result.now).0 (true_from_not _ (sym c.ne.ensures ∙ c.if-ne.false)));
+      alike = All-more (λ i. HasKey es i c.key-key.result.now) c.args.positions.now count 0 c.loop-count-test.true
+          c.loop-count.invariant.alike (subst (λ k. HasKey es (get_or c.args.positions.now count 0) k)
+          ((g.met.E.Entry.same_key c.key.result.now c.key-key.result.now).0 (true_from_not _ (sym c.ne.ensures ∙ c.if-ne.false))) has);
     }
+
+pub returns : goal.returns
+returns g c =
+    let end : c.loop-count.count ≡ length c.args.positions.now = omega (arith, c.loop-count-test.false, c.loop-count.auto.count-end) in
+    run-of_all g.E.Key.Ord.cmp (keyed g.E.Entry.key g.E.Entry.terms c.args.entries.now) c.args.positions.now c.requires.rising
+    c.key-key.result.now c.requires.some
+    (subst (λ n. All (λ i. HasKey (keyed g.E.Entry.key g.E.Entry.terms c.args.entries.now) i c.key-key.result.now)
+    (take n c.args.positions.now)) end c.loop-count.invariant.alike)

@@ -1,0 +1,69 @@
+//! Laws for proofs: what a calendar says of a key, and when lists of entries say the same.
+ghost use Rattle.std.specs.Prelude.{◌≡◌, ◌↔◌, ◌≤◌, ℕ};
+ghost use Rattle.std.specs.Prelude.{List, Option, Some, IsSome, map, slice_get};
+ghost use Rattle.cif_calendar.specs.Terms.{Terms, AreLawful};
+ghost use Rattle.cif_calendar.specs.Wins.{Wins};
+ghost use Rattle.cif_calendar.specs.Clash.{IsClearFrom};
+ghost use Rattle.cif_calendar.specs.Runs.{Runs, BodyRuns, NothingRuns};
+ghost use Rattle.cif_calendar.specs.Source.{IsChosen};
+ghost use Rattle.cif_calendar.specs.Pieces.{source_at};
+ghost use Rattle.cif_calendar.specs.Calendar.{CalendarParts, IsCalendar, IsFault, body_on};
+ghost use Rattle.cif_calendar.specs.Keys.{keyed, of_key, ArePositionsOf};
+ghost use Rattle.cif_calendar.specs.Meaning.{SameMeaning};
+ghost use Rattle.cif_calendar.specs.declared.calendar_fault.CalendarFault.{CalendarFault};
+
+use crate::entry::Entry;
+
+/// A calendar of all of a key's entries says what runs for the key.
+pub fn calendar_of_a_key<E: Entry>()
+    // On each date of its window it has the body that runs, and none where nothing does.
+    ensures runs { (entries : List E) (k : E.Key) (members : List ℕ) (first last : ℕ)
+        (c : CalendarParts) (d : ℕ) (o : Option E.Body)
+        → ArePositionsOf (keyed E.key E.terms entries) k members
+        → IsCalendar (map E.terms entries) members first last c → first ≤ d → d ≤ last
+        → (body_on (map E.terms entries) c d ≡ o)
+        ↔ Runs (of_key (keyed E.key E.terms entries) k) d o }
+    // None of these dates has a clash.
+    ensures clear { (entries : List E) (k : E.Key) (members : List ℕ) (first last : ℕ)
+        (c : CalendarParts)
+        → ArePositionsOf (keyed E.key E.terms entries) k members
+        → IsCalendar (map E.terms entries) members first last c
+        → IsClearFrom (of_key (keyed E.key E.terms entries) k) first last }
+    // A date's source is the position of an entry of the key that wins on it and has a body.
+    ensures source { (entries : List E) (k : E.Key) (members : List ℕ) (first last : ℕ)
+        (c : CalendarParts) (d i : ℕ)
+        → ArePositionsOf (keyed E.key E.terms entries) k members
+        → IsCalendar (map E.terms entries) members first last c → first ≤ d → d ≤ last
+        → source_at c.pieces d ≡ Some i
+        → (r : Terms E.Body) × (slice_get (keyed E.key E.terms entries) i ≡ Some (k, r))
+        × Wins (of_key (keyed E.key E.terms entries) k) d r × IsSome r.body }
+    // Where there is no calendar for a clash, that is the first of the key.
+    ensures fault { (entries : List E) (k : E.Key) (members : List ℕ) (first last : ℕ)
+        (fault : CalendarFault)
+        → ArePositionsOf (keyed E.key E.terms entries) k members
+        → IsFault (IsChosen (map E.terms entries) members) first last fault
+        → IsFault (of_key (keyed E.key E.terms entries) k) first last fault }
+{}
+
+/// Of a key without entries nothing runs.
+pub fn key_without_entries<K, B>()
+    ensures idle { (entries : List (K × Terms B)) (k : K) (d : ℕ)
+        → ((r : Terms B) → ¬ of_key entries k r) → NothingRuns (of_key entries k) d }
+    // So none of its dates has a clash.
+    ensures clear { (entries : List (K × Terms B)) (k : K) (first last : ℕ)
+        → ((r : Terms B) → ¬ of_key entries k r) → IsClearFrom (of_key entries k) first last }
+{}
+
+/// The cancellations of entries, and they alone, have no body.
+pub fn entries_are_lawful<E: Entry>()
+    ensures { (entries : List E) (k : E.Key) → AreLawful (of_key (keyed E.key E.terms entries) k) }
+{}
+
+/// Lists of lawful records say the same where the same bodies run for each key on each date.
+pub fn bodies_determine_the_meaning<K, B>()
+    ensures { (xs ys : List (K × Terms B)) (first last : ℕ)
+        → ((k : K) → AreLawful (of_key xs k)) → ((k : K) → AreLawful (of_key ys k))
+        → ((k : K) (d : ℕ) (b : B) → first ≤ d → d ≤ last
+        → BodyRuns (of_key xs k) d b ↔ BodyRuns (of_key ys k) d b)
+        → SameMeaning xs ys first last }
+{}

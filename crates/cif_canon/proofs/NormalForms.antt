@@ -1,0 +1,240 @@
+-- Canonical bytes are the only ones that say what they say, their own canonical form, and reached from each form.
+use Rattle.std.proofs.Common.{◌≡◌, ℕ, ◌≤◌, List, [], ◌∷◌, ◌++◌, map, length, Option, None, Some, IfSome, refl, sym, ap, ◌∙◌, subst, arith}
+use Rattle.std.proofs.Common.{length-append}
+use Rattle.std.specs.Prelude.{unwrap_or}
+use Rattle.std.specs.List.{flat_map}
+use Rattle.std.specs.Cmp.Lexicographic.{slice_cmp}
+use Rattle.std.specs.Ordering.{nat_cmp}
+use Rattle.std.proofs.lemmas.List.{drop_at}
+use Rattle.cif_calendar.specs.Keys.{AreClear}
+use Rattle.cif_columns.specs.Contents.{contents_of, lines_text}
+use Rattle.cif_columns.specs.Field.{plain_line}
+use Rattle.cif_columns.proofs.Parts.{length-plain_line}
+use Rattle.cif_extract.specs.ExtractParts.{ExtractParts}
+use Rattle.cif_extract.specs.SpellsExtract.{BytesSpell}
+use Rattle.cif_extract.specs.Texts.{FitsColumns, extract_text, tables_of}
+use Rattle.cif_extract.specs.declared.schedule.Schedule.{Schedule}
+use Rattle.cif_extract.proofs.PlainTexts.{text-spells, spelled-fits}
+use Rattle.cif_extract.proofs.SpelledBytes.{one_spelled}
+use Rattle.cif_records.specs.AssocKey.{key_cmp}
+use Rattle.cif_records.specs.Header.{with_window}
+use Rattle.cif_records.specs.SpellsAssociation.{table_of as association_table_of}
+use Rattle.cif_records.specs.SpellsHeader.{header_table}
+use Rattle.cif_records.specs.Tiploc.{tiploc_table}
+use Rattle.cif_records.specs.Trailer.{trailer_table}
+use Rattle.cif_records.specs.declared.association.Association.{Association}
+use Rattle.cif_records.specs.declared.header.Header.{Header}
+use Rattle.cif_records.specs.declared.tiploc.Tiploc.{Tiploc}
+use Rattle.cif_records.proofs.Headers as headers
+use Rattle.cif_weeks.specs.Window.{Window, IsWithin}
+use Rattle.cif_weeks.specs.declared.form.Form.{Form}
+use Rattle.cif_weeks.proofs.PermanentEntries.{canonical-clear}
+use Rattle.cif_canon.specs.Accepted.{IsAccepted, IsClear}
+use Rattle.cif_canon.specs.Asked.{AreWithin, IsNarrowed, window_asked, window_of}
+use Rattle.cif_canon.specs.Canonical.{IsCanonicalExtract, IsCanonicalOf}
+use Rattle.cif_canon.specs.Meaning.{Agree, SameMeaning}
+use Rattle.cif_canon.specs.NormalForm.{IsItsOwn, IsNormalFormOf, IsReachedFromForms, IsUnique, after_first_line, nothing_asked}
+use Rattle.cif_canon.specs.declared.asked.Asked.{Asked}
+use Rattle.cif_canon.proofs.SameExtracts.{agree-sym, agree-trans, agree-with_header, one-window, same-parts, same-sym, same-trans}
+use Rattle.cif_canon.proofs.Unique.{extracts-unique, one-associations, one-schedules, one-tiplocs}
+
+-- ---- what is accepted is one extract
+
+one-narrowed : (asked : Asked) (whole x y : ExtractParts) → IsNarrowed asked whole x → IsNarrowed asked whole y → x ≡ y
+one-narrowed asked whole x y p q =
+    same-parts x y (headers.same_header x.header y.header (p.columns ∙ sym q.columns)) (p.tiplocs ∙ sym q.tiplocs)
+    (p.associations ∙ sym q.associations) (p.schedules ∙ sym q.schedules)
+
+pub one-accepted : (asked : Asked) (input : List ℕ) (x y : ExtractParts) → IsAccepted asked input x → IsAccepted asked input y → x ≡ y
+one-accepted asked input x y p q =
+    one-narrowed asked p.whole x y p.narrowed
+    (subst (λ w. IsNarrowed asked w y) (one_spelled input q.whole p.whole q.spelled p.spelled) q.narrowed)
+
+-- ---- canonical bytes of what says the same
+
+made-unique : (form : Form) (x y : ExtractParts) (b c : List ℕ) (p : IsCanonicalOf form x b) (q : IsCanonicalOf form y c) →
+    SameMeaning x y → p.made ≡ q.made
+made-unique form x y b c p q same =
+    extracts-unique form p.made q.made p.canonical.canonical q.canonical.canonical
+    (same-trans p.made x q.made (same-sym x p.made p.same) (same-trans x y q.made same q.same))
+
+-- two canonical bytes are equal where they are made of the same
+bytes-unique : (form : Form) (x y : ExtractParts) (b c : List ℕ) → IsCanonicalOf form x b → IsCanonicalOf form y c → SameMeaning x y → b ≡ c
+bytes-unique form x y b c p q same =
+    p.canonical.text ∙ ap extract_text (made-unique form x y b c p q same) ∙ sym q.canonical.text
+
+-- and what they are made of says the same where they are equal
+meaning-unique : (form : Form) (x y : ExtractParts) (b c : List ℕ) → IsCanonicalOf form x b → IsCanonicalOf form y c → b ≡ c → SameMeaning x y
+meaning-unique form x y b c p q is =
+    let made = one_spelled c p.made q.made (subst (λ l. BytesSpell l p.made) is p.canonical.spelled) q.canonical.spelled in
+    same-trans x p.made y p.same (subst (λ m. SameMeaning m y) (sym made) (same-sym y q.made q.same))
+
+-- ---- canonical bytes after their first lines
+
+-- the lines behind the header's
+abbrev further_lines : List Tiploc → List Association → List Schedule → List (List ℕ)
+further_lines tiplocs associations schedules =
+    map plain_line (map (λ t. tiploc_table t.columns) tiplocs
+    ++ (map association_table_of associations ++ (flat_map tables_of schedules ++ (trailer_table ∷ []))))
+
+abbrev further_text : ExtractParts → List ℕ
+further_text x = lines_text (further_lines x.tiplocs x.associations x.schedules)
+
+-- the line of a header, with its line feed
+abbrev first_line : Header → List ℕ
+first_line h = plain_line (header_table h) ++ (10 ∷ [])
+
+first_length : (h : Header) → length (first_line h) ≡ 81
+first_length h =
+    omega (arith, length-append (plain_line (header_table h)) (10 ∷ []), length-plain_line (header_table h) refl (headers.fits h))
+
+text-after : (x : ExtractParts) → after_first_line (extract_text x) ≡ further_text x
+text-after x = drop_at (first_line x.header) (further_text x) 81 (first_length x.header)
+
+-- what the further lines say doesn't depend on the header
+further-unique : (x y : ExtractParts) → BytesSpell (extract_text x) x → BytesSpell (extract_text y) y →
+    further_text x ≡ further_text y → (window : Window) → Agree window x y
+further-unique x y p q same window =
+    let z : ExtractParts = record { header = y.header; tiplocs = x.tiplocs; associations = x.associations; schedules = x.schedules } in
+    let fits : FitsColumns z = (headers.fits y.header, (spelled-fits (contents_of (extract_text x)) x p.are_lines p.spelled).1) in
+    let text : extract_text z ≡ extract_text y = ap (λ (t : List ℕ). first_line y.header ++ t) same in
+    let is : z ≡ y = one_spelled (extract_text y) z y (subst (λ t. BytesSpell t z) text (text-spells z fits)) q in
+    subst (Agree window x) is (agree-with_header window x y.header)
+
+module _ (form : Form) (x y : ExtractParts) (b c : List ℕ) (p : IsCanonicalOf form x b) (q : IsCanonicalOf form y c)
+    (windows : window_of x.header ≡ window_of y.header) where
+  made-windows : window_of p.made.header ≡ window_of q.made.header
+  made-windows = sym (one-window x p.made p.same) ∙ windows ∙ one-window y q.made q.same
+
+  -- what is made agrees where that of which it is made agrees
+  made-agree : Agree (window_of x.header) x y → Agree (window_of x.header) p.made q.made
+  made-agree a =
+      agree-trans (window_of x.header) p.made x q.made (agree-sym (window_of x.header) x p.made p.same.agree)
+      (agree-trans (window_of x.header) x y q.made a (subst (λ w. Agree w y q.made) (sym windows) q.same.agree))
+
+  meant-agree : Agree (window_of x.header) p.made q.made → Agree (window_of x.header) x y
+  meant-agree a =
+      agree-trans (window_of x.header) x p.made y p.same.agree
+      (agree-trans (window_of x.header) p.made q.made y a
+      (subst (λ w. Agree w q.made y) (sym windows) (agree-sym (window_of y.header) y q.made q.same.agree)))
+
+  pub after-unique : Agree (window_of x.header) x y → after_first_line b ≡ after_first_line c
+  after-unique a =
+      let made : Agree (window_of p.made.header) p.made q.made =
+      subst (λ w. Agree w p.made q.made) (one-window x p.made p.same) (made-agree a) in
+      let one = p.canonical.canonical in
+      let two = q.canonical.canonical in
+      ap after_first_line p.canonical.text ∙ text-after p.made
+      ∙ ap (λ ts. lines_text (further_lines ts p.made.associations p.made.schedules))
+      (one-tiplocs form p.made q.made one two made-windows made)
+      ∙ ap (λ rs. lines_text (further_lines q.made.tiplocs rs p.made.schedules))
+      (one-associations form p.made q.made one two made-windows made)
+      ∙ ap (λ ss. lines_text (further_lines q.made.tiplocs q.made.associations ss))
+      (one-schedules form p.made q.made one two made-windows made)
+      ∙ sym (text-after q.made) ∙ ap after_first_line (sym q.canonical.text)
+
+  pub after-meaning : after_first_line b ≡ after_first_line c → Agree (window_of x.header) x y
+  after-meaning same =
+      meant-agree (further-unique p.made q.made
+      (subst (λ t. BytesSpell t p.made) p.canonical.text p.canonical.spelled)
+      (subst (λ t. BytesSpell t q.made) q.canonical.text q.canonical.spelled)
+      (sym (text-after p.made) ∙ ap after_first_line (sym p.canonical.text) ∙ same ∙ ap after_first_line q.canonical.text
+      ∙ text-after q.made) (window_of x.header))
+
+-- canonical bytes are unique
+pub normal-unique : (form : Form) (x : ExtractParts) (bytes : List ℕ) → IsCanonicalOf form x bytes → IsUnique form x bytes
+normal-unique form x bytes p = record {
+  unique = λ asked input other q. (
+    λ is. record { meant = q.meant; accepted = q.accepted; same = meaning-unique form q.meant x other bytes q.normal p is },
+    λ says.
+        bytes-unique form q.meant x other bytes q.normal p
+        (subst (λ y. SameMeaning y x) (one-accepted asked input says.meant q.meant says.accepted q.accepted) says.same),
+  );
+  after_header = λ asked input other y q accepted windows.
+      let n : IsCanonicalOf form y other =
+      subst (λ m. IsCanonicalOf form m other) (one-accepted asked input q.meant y q.accepted accepted) q.normal in (
+        λ same. subst (λ w. Agree w y x) windows (after-meaning form y x other bytes n p windows same),
+        λ agree. after-unique form y x other bytes n p windows (subst (λ w. Agree w y x) (sym windows) agree),
+      );
+}
+
+-- ---- what is canonical is accepted again
+
+canonical-extract-clear : (form : Form) (x : ExtractParts) → IsCanonicalExtract form x → IsClear x
+canonical-extract-clear form x c = record {
+  associations = subst (λ es. AreClear es x.header.first x.header.last) (sym c.associations.are)
+      (canonical-clear key_cmp form (window_of x.header) c.associations.records c.associations.canonical x.header.first x.header.last);
+  schedules = subst (λ es. AreClear es x.header.first x.header.last) (sym c.schedules.are)
+      (canonical-clear (slice_cmp nat_cmp) form (window_of x.header) c.schedules.records c.schedules.canonical x.header.first x.header.last);
+}
+
+-- a date that was asked for is in the window that was asked for, and is its own
+asked-first : (o : Option ℕ) (own first last : ℕ) → first ≡ unwrap_or o own → first ≤ last →
+    IfSome o (λ d. IsWithin (record { first = first; last = last }) d) × (unwrap_or o first ≡ first)
+asked-first None own first last e order = (tt, refl)
+asked-first (Some f) own first last e order = (record { from = omega (arith, e); upto = omega (arith, e, order) }, sym e)
+
+asked-last : (o : Option ℕ) (own first last : ℕ) → last ≡ unwrap_or o own → first ≤ last →
+    IfSome o (λ d. IsWithin (record { first = first; last = last }) d) × (unwrap_or o last ≡ last)
+asked-last None own first last e order = (tt, refl)
+asked-last (Some f) own first last e order = (record { from = omega (arith, e, order); upto = omega (arith, e) }, sym e)
+
+-- where the window that is asked for is its own, an extract is itself, narrowed
+self-narrowed : (asked : Asked) (x : ExtractParts) → AreWithin asked x.header → window_asked asked x.header ≡ window_of x.header →
+    IsNarrowed asked x x
+self-narrowed asked x within own = record {
+  within = within;
+  in_order = subst (λ (w : Window). w.first ≤ w.last) (sym own) x.header.in_order;
+  window = sym own;
+  columns = sym (ap (λ (w : Window). with_window w.first w.last x.header.columns) own ∙ headers.own_window x.header);
+  tiplocs = refl;
+  associations = refl;
+  schedules = refl;
+}
+
+pub asked-again : (asked : Asked) (whole x : ExtractParts) → IsNarrowed asked whole x → (made : ExtractParts) → SameMeaning x made →
+    IsNarrowed asked made made
+asked-again asked whole x n made same =
+    let h = made.header in
+    let window : window_of h ≡ window_asked asked whole.header = sym (one-window x made same) ∙ n.window in
+    let first = asked-first asked.from whole.header.first h.first h.last (ap (λ (w : Window). w.first) window) h.in_order in
+    let last = asked-last asked.to whole.header.last h.first h.last (ap (λ (w : Window). w.last) window) h.in_order in
+    self-narrowed asked made (record { from = first.0; to = last.0 })
+    (ap (λ f. record { first = f; last = unwrap_or asked.to h.last }) first.1 ∙ ap (λ l. record { first = h.first; last = l }) last.1)
+
+pub unasked : (made : ExtractParts) → IsNarrowed nothing_asked made made
+unasked made = self-narrowed nothing_asked made (record { from = tt; to = tt }) refl
+
+-- canonical bytes are accepted, and each canonical bytes of the same are their canonical form
+pub normal-again : (form other_form : Form) (asked : Asked) (x : ExtractParts) (bytes other : List ℕ) → IsCanonicalOf form x bytes →
+    (q : IsCanonicalOf other_form x other) → IsNarrowed asked q.made q.made → IsNormalFormOf form asked other bytes
+normal-again form other_form asked x bytes other p q narrowed = record {
+  meant = q.made;
+  accepted = record {
+    whole = q.made;
+    spelled = q.canonical.spelled;
+    narrowed = narrowed;
+    clear = canonical-extract-clear other_form q.made q.canonical.canonical;
+  };
+  normal = record {
+    made = p.made;
+    canonical = p.canonical;
+    same = same-trans q.made x p.made (same-sym x q.made q.same) p.same;
+  };
+}
+
+-- where x is what was asked for of some input
+module _ (form : Form) (asked : Asked) (input : List ℕ) (x : ExtractParts) (bytes : List ℕ) (a : IsAccepted asked input x)
+    (p : IsCanonicalOf form x bytes) where
+  pub its-own : IsItsOwn form asked bytes
+  its-own = record {
+    asked_again = normal-again form form asked x bytes bytes p p (asked-again asked a.whole x a.narrowed p.made p.same);
+    unasked = normal-again form form nothing_asked x bytes bytes p p (unasked p.made);
+  }
+
+  pub reached : IsReachedFromForms form asked x bytes
+  reached = record {
+    asked_again = λ other_form other q.
+        normal-again form other_form asked x bytes other p q (asked-again asked a.whole x a.narrowed q.made q.same);
+    unasked = λ other_form other q. normal-again form other_form nothing_asked x bytes other p q (unasked q.made);
+  }

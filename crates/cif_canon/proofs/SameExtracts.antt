@@ -1,0 +1,104 @@
+-- Extracts with equal parts, and that saying the same is an equivalence.
+use Rattle.std.proofs.Common.{◌≡◌, ℕ, List, [], ◌∷◌, map, refl, sym, ap, ◌∙◌, subst}
+use Rattle.std.proofs.lemmas.Option.{same_Some}
+use Rattle.cif_calendar.specs.Terms.{Terms}
+use Rattle.cif_calendar.proofs.SayTheSame.{SameMeaning-refl, SameMeaning-sym, SameMeaning-trans}
+use Rattle.cif_columns.specs.Day.{ddmmyy_in}
+use Rattle.cif_extract.specs.BodyParts.{BodyParts}
+use Rattle.cif_extract.specs.ExtractParts.{ExtractParts}
+use Rattle.cif_extract.specs.declared.schedule.Schedule.{Schedule}
+use Rattle.cif_extract.proofs.Schedules.{same_schedule}
+use Rattle.cif_records.specs.declared.assoc_body.AssocBody.{AssocBody}
+use Rattle.cif_records.specs.declared.assoc_key.AssocKey.{AssocKey}
+use Rattle.cif_records.specs.declared.association.Association.{Association}
+use Rattle.cif_records.specs.declared.header.Header.{Header}
+use Rattle.cif_records.specs.declared.tiploc.Tiploc.{Tiploc}
+use Rattle.cif_records.proofs.Associations.{same_association}
+use Rattle.cif_records.proofs.Headers.{same_header}
+use Rattle.cif_weeks.specs.Window.{Window}
+use Rattle.cif_canon.specs.Asked.{window_of}
+use Rattle.cif_canon.specs.Entries.{association_entry, association_entries, schedule_entry, schedule_entries}
+use Rattle.cif_canon.specs.Meaning.{Agree, SameMeaning}
+
+-- ---- equal parts
+
+one-association : (a b : Association) → association_entry a ≡ association_entry b → a ≡ b
+one-association a b e =
+    let terms = ap (λ (p : AssocKey × Terms AssocBody). p.1) e in
+    same_association a b (ap (λ (p : AssocKey × Terms AssocBody). p.0) e) (ap (λ (t : Terms AssocBody). t.first) terms)
+    (ap (λ (t : Terms AssocBody). t.last) terms) (ap (λ (t : Terms AssocBody). t.days) terms)
+    (ap (λ (t : Terms AssocBody). t.letter) terms) (ap (λ (t : Terms AssocBody). t.body) terms)
+
+one-schedule : (s t : Schedule) → schedule_entry s ≡ schedule_entry t → s ≡ t
+one-schedule s t e =
+    let terms = ap (λ (p : List ℕ × Terms BodyParts). p.1) e in
+    same_schedule s t (ap (λ (p : List ℕ × Terms BodyParts). p.0) e) (ap (λ (u : Terms BodyParts). u.first) terms)
+    (ap (λ (u : Terms BodyParts). u.last) terms) (ap (λ (u : Terms BodyParts). u.days) terms)
+    (ap (λ (u : Terms BodyParts). u.letter) terms) (ap (λ (u : Terms BodyParts). u.body) terms)
+
+-- values whose images are equal, where the images of two are equal only where they are
+same-mapped : {X Y : Type 0} (f : X → Y) → ((a b : X) → f a ≡ f b → a ≡ b) → (xs ys : List X) → map f xs ≡ map f ys → xs ≡ ys
+same-mapped f one [] [] e = refl
+same-mapped f one [] (y ∷ ys) e = absurd (cc)
+same-mapped f one (x ∷ xs) [] e = absurd (cc)
+same-mapped f one (x ∷ xs) (y ∷ ys) e =
+    let head : f x ≡ f y = cc in
+    let tail : map f xs ≡ map f ys = cc in
+    ap (λ z. z ∷ xs) (one x y head) ∙ ap (λ zs. y ∷ zs) (same-mapped f one xs ys tail)
+
+pub same-associations : (xs ys : List Association) → association_entries xs ≡ association_entries ys → xs ≡ ys
+same-associations xs ys e = same-mapped association_entry one-association xs ys e
+
+pub same-schedules : (ss ts : List Schedule) → schedule_entries ss ≡ schedule_entries ts → ss ≡ ts
+same-schedules ss ts e = same-mapped schedule_entry one-schedule ss ts e
+
+pub same-parts : (x y : ExtractParts) → x.header ≡ y.header → x.tiplocs ≡ y.tiplocs → x.associations ≡ y.associations →
+    x.schedules ≡ y.schedules → x ≡ y
+same-parts x y a b c d =
+    let parts : ◌≡◌ {A = Header × List Tiploc × List Association × List Schedule}
+    (x.header, x.tiplocs, x.associations, x.schedules) (y.header, y.tiplocs, y.associations, y.schedules) = cc in
+    ap (λ v. record { header = v.0; tiplocs = v.1; associations = v.2; schedules = v.3 }) parts
+
+-- ---- saying the same
+
+-- the windows of headers with equal columns are equal
+pub one-window : (x y : ExtractParts) → SameMeaning x y → window_of x.header ≡ window_of y.header
+one-window x y same = ap window_of (same_header x.header y.header same.header)
+
+-- the header is no part of it
+pub agree-with_header : (window : Window) (x : ExtractParts) (h : Header) →
+    Agree window x (record { header = h; tiplocs = x.tiplocs; associations = x.associations; schedules = x.schedules })
+agree-with_header window x h = record {
+  tiplocs = λ t. (λ h. h, λ h. h);
+  associations = SameMeaning-refl (association_entries x.associations) window.first window.last;
+  schedules = SameMeaning-refl (schedule_entries x.schedules) window.first window.last;
+}
+
+pub agree-sym : (window : Window) (x y : ExtractParts) → Agree window x y → Agree window y x
+agree-sym window x y a = record {
+  tiplocs = λ t. ((a.tiplocs t).1, (a.tiplocs t).0);
+  associations = SameMeaning-sym (association_entries x.associations) (association_entries y.associations) window.first window.last
+      a.associations;
+  schedules = SameMeaning-sym (schedule_entries x.schedules) (schedule_entries y.schedules) window.first window.last a.schedules;
+}
+
+pub agree-trans : (window : Window) (x y z : ExtractParts) → Agree window x y → Agree window y z → Agree window x z
+agree-trans window x y z a b = record {
+  tiplocs = λ t. (λ h. (b.tiplocs t).0 ((a.tiplocs t).0 h), λ h. (a.tiplocs t).1 ((b.tiplocs t).1 h));
+  associations = SameMeaning-trans (association_entries x.associations) (association_entries y.associations)
+      (association_entries z.associations) window.first window.last a.associations b.associations;
+  schedules = SameMeaning-trans (schedule_entries x.schedules) (schedule_entries y.schedules) (schedule_entries z.schedules)
+      window.first window.last a.schedules b.schedules;
+}
+
+pub same-sym : (x y : ExtractParts) → SameMeaning x y → SameMeaning y x
+same-sym x y s = record {
+  header = sym s.header;
+  agree = subst (λ w. Agree w y x) (one-window x y s) (agree-sym (window_of x.header) x y s.agree);
+}
+
+pub same-trans : (x y z : ExtractParts) → SameMeaning x y → SameMeaning y z → SameMeaning x z
+same-trans x y z s t = record {
+  header = s.header ∙ t.header;
+  agree = agree-trans (window_of x.header) x y z s.agree (subst (λ w. Agree w y z) (sym (one-window x y s)) t.agree);
+}
