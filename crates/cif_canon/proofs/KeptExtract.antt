@@ -15,7 +15,7 @@ use Rattle.cif_weeks.specs.Canonical.{AreCanonical}
 use Rattle.cif_weeks.specs.Permanent.{Permanent, permanent_entries}
 use Rattle.cif_weeks.specs.declared.form.Form.{Form}
 use Rattle.cif_weeks.proofs.PermanentEntries.{canonical-dated}
-use Rattle.cif_canon.specs.Asked.{window_of}
+use Rattle.cif_canon.specs.Asked.{header_window}
 use Rattle.cif_canon.specs.Canonical.{IsCanonicalExtract}
 use Rattle.cif_canon.specs.Entries.{association_entries, schedule_entries}
 use Rattle.cif_canon.specs.Meaning.{SameMeaning}
@@ -25,16 +25,16 @@ module _ (form : Form) (x : ExtractParts) (tiplocs : List Tiploc)
     (rising : AllPairs (λ s t. slice_cmp nat_cmp s.columns t.columns ≡ Less) tiplocs)
     (members : (t : Tiploc) → Contains x.tiplocs t ↔ Contains tiplocs t)
     (associations : List (AssocKey × Permanent AssocBody))
-    (canonical_associations : AreCanonical key_cmp form (window_of x.header) associations)
+    (canonical_associations : AreCanonical key_cmp form (header_window x.header) associations)
     (meant_associations : SayTheSame (association_entries x.associations) (permanent_entries associations) x.header.first x.header.last)
     (schedules : List (List ℕ × Permanent BodyParts))
-    (canonical_schedules : AreCanonical (slice_cmp nat_cmp) form (window_of x.header) schedules)
+    (canonical_schedules : AreCanonical (slice_cmp nat_cmp) form (header_window x.header) schedules)
     (meant_schedules : SayTheSame (schedule_entries x.schedules) (permanent_entries schedules) x.header.first x.header.last) where
   pub dated-associations : All IsDated associations
-  dated-associations = canonical-dated key_cmp form (window_of x.header) associations canonical_associations
+  dated-associations = canonical-dated key_cmp form (header_window x.header) associations canonical_associations
 
   pub dated-schedules : All IsDated schedules
-  dated-schedules = canonical-dated (slice_cmp nat_cmp) form (window_of x.header) schedules canonical_schedules
+  dated-schedules = canonical-dated (slice_cmp nat_cmp) form (header_window x.header) schedules canonical_schedules
 
   -- the canonical extract
   abbrev pub canonical_of : ExtractParts

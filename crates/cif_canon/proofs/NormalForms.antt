@@ -29,11 +29,11 @@ use Rattle.cif_records.proofs.Headers as headers
 use Rattle.cif_weeks.specs.Window.{Window, IsWithin}
 use Rattle.cif_weeks.specs.declared.form.Form.{Form}
 use Rattle.cif_weeks.proofs.PermanentEntries.{canonical-clear}
-use Rattle.cif_canon.specs.Accepted.{IsAccepted, IsClear}
-use Rattle.cif_canon.specs.Asked.{AreWithin, IsNarrowed, window_asked, window_of}
+use Rattle.cif_canon.specs.Accepted.{IsAccepted, IsClearExtract}
+use Rattle.cif_canon.specs.Asked.{AskedDatesAreWithin, IsNarrowed, header_window, nothing_asked, window_asked}
 use Rattle.cif_canon.specs.Canonical.{IsCanonicalExtract, IsCanonicalOf}
 use Rattle.cif_canon.specs.Meaning.{Agree, SameMeaning}
-use Rattle.cif_canon.specs.NormalForm.{IsItsOwn, IsNormalFormOf, IsReachedFromForms, IsUnique, after_first_line, nothing_asked}
+use Rattle.cif_canon.specs.NormalForm.{IsNormalFormAgain, IsNormalFormOf, IsReachedFromForms, IsUnique, after_first_line}
 use Rattle.cif_canon.specs.declared.asked.Asked.{Asked}
 use Rattle.cif_canon.proofs.SameExtracts.{agree-sym, agree-trans, agree-with_header, one-window, same-parts, same-sym, same-trans}
 use Rattle.cif_canon.proofs.Unique.{extracts-unique, one-associations, one-schedules, one-tiplocs}
@@ -45,7 +45,7 @@ one-narrowed asked whole x y p q =
     same-parts x y (headers.same_header x.header y.header (p.columns ∙ sym q.columns)) (p.tiplocs ∙ sym q.tiplocs)
     (p.associations ∙ sym q.associations) (p.schedules ∙ sym q.schedules)
 
-pub one-accepted : (asked : Asked) (input : List ℕ) (x y : ExtractParts) → IsAccepted asked input x → IsAccepted asked input y → x ≡ y
+pub one-accepted : (asked : Asked) (input : List ℕ) (x y : ExtractParts) → IsAccepted asked x input → IsAccepted asked y input → x ≡ y
 one-accepted asked input x y p q =
     one-narrowed asked p.whole x y p.narrowed
     (subst (λ w. IsNarrowed asked w y) (one_spelled input q.whole p.whole q.spelled p.spelled) q.narrowed)
@@ -102,25 +102,25 @@ further-unique x y p q same window =
     subst (Agree window x) is (agree-with_header window x y.header)
 
 module _ (form : Form) (x y : ExtractParts) (b c : List ℕ) (p : IsCanonicalOf form x b) (q : IsCanonicalOf form y c)
-    (windows : window_of x.header ≡ window_of y.header) where
-  made-windows : window_of p.made.header ≡ window_of q.made.header
+    (windows : header_window x.header ≡ header_window y.header) where
+  made-windows : header_window p.made.header ≡ header_window q.made.header
   made-windows = sym (one-window x p.made p.same) ∙ windows ∙ one-window y q.made q.same
 
   -- what is made agrees where that of which it is made agrees
-  made-agree : Agree (window_of x.header) x y → Agree (window_of x.header) p.made q.made
+  made-agree : Agree (header_window x.header) x y → Agree (header_window x.header) p.made q.made
   made-agree a =
-      agree-trans (window_of x.header) p.made x q.made (agree-sym (window_of x.header) x p.made p.same.agree)
-      (agree-trans (window_of x.header) x y q.made a (subst (λ w. Agree w y q.made) (sym windows) q.same.agree))
+      agree-trans (header_window x.header) p.made x q.made (agree-sym (header_window x.header) x p.made p.same.agree)
+      (agree-trans (header_window x.header) x y q.made a (subst (λ w. Agree w y q.made) (sym windows) q.same.agree))
 
-  meant-agree : Agree (window_of x.header) p.made q.made → Agree (window_of x.header) x y
+  meant-agree : Agree (header_window x.header) p.made q.made → Agree (header_window x.header) x y
   meant-agree a =
-      agree-trans (window_of x.header) x p.made y p.same.agree
-      (agree-trans (window_of x.header) p.made q.made y a
-      (subst (λ w. Agree w q.made y) (sym windows) (agree-sym (window_of y.header) y q.made q.same.agree)))
+      agree-trans (header_window x.header) x p.made y p.same.agree
+      (agree-trans (header_window x.header) p.made q.made y a
+      (subst (λ w. Agree w q.made y) (sym windows) (agree-sym (header_window y.header) y q.made q.same.agree)))
 
-  pub after-unique : Agree (window_of x.header) x y → after_first_line b ≡ after_first_line c
+  pub after-unique : Agree (header_window x.header) x y → after_first_line b ≡ after_first_line c
   after-unique a =
-      let made : Agree (window_of p.made.header) p.made q.made =
+      let made : Agree (header_window p.made.header) p.made q.made =
       subst (λ w. Agree w p.made q.made) (one-window x p.made p.same) (made-agree a) in
       let one = p.canonical.canonical in
       let two = q.canonical.canonical in
@@ -133,39 +133,35 @@ module _ (form : Form) (x y : ExtractParts) (b c : List ℕ) (p : IsCanonicalOf 
       (one-schedules form p.made q.made one two made-windows made)
       ∙ sym (text-after q.made) ∙ ap after_first_line (sym q.canonical.text)
 
-  pub after-meaning : after_first_line b ≡ after_first_line c → Agree (window_of x.header) x y
+  pub after-meaning : after_first_line b ≡ after_first_line c → Agree (header_window x.header) x y
   after-meaning same =
       meant-agree (further-unique p.made q.made
       (subst (λ t. BytesSpell t p.made) p.canonical.text p.canonical.spelled)
       (subst (λ t. BytesSpell t q.made) q.canonical.text q.canonical.spelled)
       (sym (text-after p.made) ∙ ap after_first_line (sym p.canonical.text) ∙ same ∙ ap after_first_line q.canonical.text
-      ∙ text-after q.made) (window_of x.header))
+      ∙ text-after q.made) (header_window x.header))
 
 -- canonical bytes are unique
 pub normal-unique : (form : Form) (x : ExtractParts) (bytes : List ℕ) → IsCanonicalOf form x bytes → IsUnique form x bytes
 normal-unique form x bytes p = record {
-  unique = λ asked input other q. (
-    λ is. record { meant = q.meant; accepted = q.accepted; same = meaning-unique form q.meant x other bytes q.normal p is },
-    λ says.
-        bytes-unique form q.meant x other bytes q.normal p
-        (subst (λ y. SameMeaning y x) (one-accepted asked input says.meant q.meant says.accepted q.accepted) says.same),
+  whole = λ asked input other n. (
+    meaning-unique form n.meant x other bytes n.canonical p,
+    bytes-unique form n.meant x other bytes n.canonical p,
   );
-  after_header = λ asked input other y q accepted windows.
-      let n : IsCanonicalOf form y other =
-      subst (λ m. IsCanonicalOf form m other) (one-accepted asked input q.meant y q.accepted accepted) q.normal in (
-        λ same. subst (λ w. Agree w y x) windows (after-meaning form y x other bytes n p windows same),
-        λ agree. after-unique form y x other bytes n p windows (subst (λ w. Agree w y x) (sym windows) agree),
-      );
+  after_header = λ asked input other n windows. (
+    λ same. subst (λ w. Agree w n.meant x) windows (after-meaning form n.meant x other bytes n.canonical p windows same),
+    λ agree. after-unique form n.meant x other bytes n.canonical p windows (subst (λ w. Agree w n.meant x) (sym windows) agree),
+  );
 }
 
 -- ---- what is canonical is accepted again
 
-canonical-extract-clear : (form : Form) (x : ExtractParts) → IsCanonicalExtract form x → IsClear x
+canonical-extract-clear : (form : Form) (x : ExtractParts) → IsCanonicalExtract form x → IsClearExtract x
 canonical-extract-clear form x c = record {
   associations = subst (λ es. AreClear es x.header.first x.header.last) (sym c.associations.are)
-      (canonical-clear key_cmp form (window_of x.header) c.associations.records c.associations.canonical x.header.first x.header.last);
+      (canonical-clear key_cmp form (header_window x.header) c.associations.records c.associations.canonical x.header.first x.header.last);
   schedules = subst (λ es. AreClear es x.header.first x.header.last) (sym c.schedules.are)
-      (canonical-clear (slice_cmp nat_cmp) form (window_of x.header) c.schedules.records c.schedules.canonical x.header.first x.header.last);
+      (canonical-clear (slice_cmp nat_cmp) form (header_window x.header) c.schedules.records c.schedules.canonical x.header.first x.header.last);
 }
 
 -- a date that was asked for is in the window that was asked for, and is its own
@@ -180,7 +176,7 @@ asked-last None own first last e order = (tt, refl)
 asked-last (Some f) own first last e order = (record { from = omega (arith, e, order); upto = omega (arith, e) }, sym e)
 
 -- where the window that is asked for is its own, an extract is itself, narrowed
-self-narrowed : (asked : Asked) (x : ExtractParts) → AreWithin asked x.header → window_asked asked x.header ≡ window_of x.header →
+self-narrowed : (asked : Asked) (x : ExtractParts) → AskedDatesAreWithin asked x.header → window_asked asked x.header ≡ header_window x.header →
     IsNarrowed asked x x
 self-narrowed asked x within own = record {
   within = within;
@@ -196,7 +192,7 @@ pub asked-again : (asked : Asked) (whole x : ExtractParts) → IsNarrowed asked 
     IsNarrowed asked made made
 asked-again asked whole x n made same =
     let h = made.header in
-    let window : window_of h ≡ window_asked asked whole.header = sym (one-window x made same) ∙ n.window in
+    let window : header_window h ≡ window_asked asked whole.header = sym (one-window x made same) ∙ n.window in
     let first = asked-first asked.from whole.header.first h.first h.last (ap (λ (w : Window). w.first) window) h.in_order in
     let last = asked-last asked.to whole.header.last h.first h.last (ap (λ (w : Window). w.last) window) h.in_order in
     self-narrowed asked made (record { from = first.0; to = last.0 })
@@ -216,7 +212,7 @@ normal-again form other_form asked x bytes other p q narrowed = record {
     narrowed = narrowed;
     clear = canonical-extract-clear other_form q.made q.canonical.canonical;
   };
-  normal = record {
+  canonical = record {
     made = p.made;
     canonical = p.canonical;
     same = same-trans q.made x p.made (same-sym x q.made q.same) p.same;
@@ -224,17 +220,16 @@ normal-again form other_form asked x bytes other p q narrowed = record {
 }
 
 -- where x is what was asked for of some input
-module _ (form : Form) (asked : Asked) (input : List ℕ) (x : ExtractParts) (bytes : List ℕ) (a : IsAccepted asked input x)
+module _ (form : Form) (asked : Asked) (input : List ℕ) (x : ExtractParts) (bytes : List ℕ) (a : IsAccepted asked x input)
     (p : IsCanonicalOf form x bytes) where
-  pub its-own : IsItsOwn form asked bytes
-  its-own = record {
-    asked_again = normal-again form form asked x bytes bytes p p (asked-again asked a.whole x a.narrowed p.made p.same);
-    unasked = normal-again form form nothing_asked x bytes bytes p p (unasked p.made);
-  }
-
   pub reached : IsReachedFromForms form asked x bytes
   reached = record {
-    asked_again = λ other_form other q.
-        normal-again form other_form asked x bytes other p q (asked-again asked a.whole x a.narrowed q.made q.same);
-    unasked = λ other_form other q. normal-again form other_form nothing_asked x bytes other p q (unasked q.made);
+    from = λ other_form others q. record {
+      asked_again = normal-again form other_form asked x bytes others p q (asked-again asked a.whole x a.narrowed q.made q.same);
+      unasked = normal-again form other_form nothing_asked x bytes others p q (unasked q.made);
+    };
   }
+
+  pub its-own : IsNormalFormAgain form asked bytes bytes
+  unfolding reached
+  its-own = reached.from form bytes p

@@ -16,7 +16,7 @@ use Rattle.cif_records.specs.declared.tiploc.Tiploc.{Tiploc}
 use Rattle.cif_records.proofs.Associations.{same_association}
 use Rattle.cif_records.proofs.Headers.{same_header}
 use Rattle.cif_weeks.specs.Window.{Window}
-use Rattle.cif_canon.specs.Asked.{window_of}
+use Rattle.cif_canon.specs.Asked.{header_window}
 use Rattle.cif_canon.specs.Entries.{association_entry, association_entries, schedule_entry, schedule_entries}
 use Rattle.cif_canon.specs.Meaning.{Agree, SameMeaning}
 
@@ -62,8 +62,8 @@ same-parts x y a b c d =
 -- ---- saying the same
 
 -- the windows of headers with equal columns are equal
-pub one-window : (x y : ExtractParts) → SameMeaning x y → window_of x.header ≡ window_of y.header
-one-window x y same = ap window_of (same_header x.header y.header same.header)
+pub one-window : (x y : ExtractParts) → SameMeaning x y → header_window x.header ≡ header_window y.header
+one-window x y same = ap header_window (same_header x.header y.header same.header)
 
 -- the header is no part of it
 pub agree-with_header : (window : Window) (x : ExtractParts) (h : Header) →
@@ -94,11 +94,11 @@ agree-trans window x y z a b = record {
 pub same-sym : (x y : ExtractParts) → SameMeaning x y → SameMeaning y x
 same-sym x y s = record {
   header = sym s.header;
-  agree = subst (λ w. Agree w y x) (one-window x y s) (agree-sym (window_of x.header) x y s.agree);
+  agree = subst (λ w. Agree w y x) (one-window x y s) (agree-sym (header_window x.header) x y s.agree);
 }
 
 pub same-trans : (x y z : ExtractParts) → SameMeaning x y → SameMeaning y z → SameMeaning x z
 same-trans x y z s t = record {
   header = s.header ∙ t.header;
-  agree = agree-trans (window_of x.header) x y z s.agree (subst (λ w. Agree w y z) (sym (one-window x y s)) t.agree);
+  agree = agree-trans (header_window x.header) x y z s.agree (subst (λ w. Agree w y z) (sym (one-window x y s)) t.agree);
 }

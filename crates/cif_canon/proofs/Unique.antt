@@ -7,7 +7,7 @@ use Rattle.std.specs.Cmp.Lexicographic.{slice_cmp, nat_list_cmp_total}
 use Rattle.std.specs.Ordering.{nat_cmp}
 use Rattle.std.proofs.lemmas.Cmp.{then_total}
 use Rattle.cif_calendar.specs.Terms.{Terms}
-use Rattle.cif_calendar.specs.Meaning.{SameMeaning as SayTheSame}
+use Rattle.cif_calendar.specs.Meaning.{SameMeaning as EntriesSayTheSame}
 use Rattle.cif_extract.specs.ExtractParts.{ExtractParts}
 use Rattle.cif_records.specs.AssocKey.{key_cmp}
 use Rattle.cif_records.specs.declared.assoc_key.AssocKey.{AssocKey}
@@ -19,7 +19,7 @@ use Rattle.cif_weeks.specs.declared.form.Form.{Form}
 use Rattle.cif_weeks.proofs.PermanentEntries.{same-meaning}
 use Rattle.cif_weeks.proofs.RisingLists.{IsOneWay, same_members, less_one_way}
 use Rattle.cif_weeks.proofs.UniqueByKey.{unique_same}
-use Rattle.cif_canon.specs.Asked.{window_of}
+use Rattle.cif_canon.specs.Asked.{header_window}
 use Rattle.cif_canon.specs.Canonical.{AreCanonicalEntries, IsCanonicalExtract}
 use Rattle.cif_canon.specs.Entries.{association_entries, schedule_entries}
 use Rattle.cif_canon.specs.Meaning.{Agree, SameMeaning}
@@ -28,13 +28,13 @@ use Rattle.cif_canon.proofs.SameExtracts.{one-window, same-associations, same-pa
 module _ {K B : Type 0} (cmp : K → K → Ordering) (total : IsTotalOrder cmp) (form : Form) (window : Window) where
   -- canonical entries that say the same are equal
   entries-unique : (xs ys : List (K × Terms B)) → AreCanonicalEntries cmp form window xs → AreCanonicalEntries cmp form window ys →
-      SayTheSame xs ys window.first window.last → xs ≡ ys
+      EntriesSayTheSame xs ys window.first window.last → xs ≡ ys
   entries-unique xs ys x y same =
       x.are
       ∙ ap permanent_entries (unique_same cmp total form window x.records y.records x.canonical y.canonical
       ((same-meaning window x.records y.records).0
-      (subst (λ us. SayTheSame us (permanent_entries y.records) window.first window.last) x.are
-      (subst (λ vs. SayTheSame xs vs window.first window.last) y.are same))))
+      (subst (λ us. EntriesSayTheSame us (permanent_entries y.records) window.first window.last) x.are
+      (subst (λ vs. EntriesSayTheSame xs vs window.first window.last) y.are same))))
       ∙ sym y.are
 
 -- an order by what stands in a record
@@ -64,7 +64,7 @@ tiplocs-one_way s t up down =
 
 -- in one window, canonical extracts that agree have the same records
 module _ (form : Form) (x y : ExtractParts) (p : IsCanonicalExtract form x) (q : IsCanonicalExtract form y)
-    (window : window_of x.header ≡ window_of y.header) (agree : Agree (window_of x.header) x y) where
+    (window : header_window x.header ≡ header_window y.header) (agree : Agree (header_window x.header) x y) where
   pub one-tiplocs : x.tiplocs ≡ y.tiplocs
   one-tiplocs =
       same_members (λ s t. slice_cmp nat_cmp s.columns t.columns ≡ Less) tiplocs-one_way x.tiplocs y.tiplocs p.tiplocs q.tiplocs
@@ -73,14 +73,14 @@ module _ (form : Form) (x y : ExtractParts) (p : IsCanonicalExtract form x) (q :
   pub one-associations : x.associations ≡ y.associations
   one-associations =
       same-associations x.associations y.associations
-      (entries-unique key_cmp keys-total form (window_of x.header) (association_entries x.associations) (association_entries y.associations)
+      (entries-unique key_cmp keys-total form (header_window x.header) (association_entries x.associations) (association_entries y.associations)
       p.associations (subst (λ w. AreCanonicalEntries key_cmp form w (association_entries y.associations)) (sym window) q.associations)
       agree.associations)
 
   pub one-schedules : x.schedules ≡ y.schedules
   one-schedules =
       same-schedules x.schedules y.schedules
-      (entries-unique (slice_cmp nat_cmp) bytes-total form (window_of x.header) (schedule_entries x.schedules) (schedule_entries y.schedules)
+      (entries-unique (slice_cmp nat_cmp) bytes-total form (header_window x.header) (schedule_entries x.schedules) (schedule_entries y.schedules)
       p.schedules (subst (λ w. AreCanonicalEntries (slice_cmp nat_cmp) form w (schedule_entries y.schedules)) (sym window) q.schedules)
       agree.schedules)
 

@@ -1,26 +1,27 @@
 -- Which bytes are accepted, for a window that is asked for.
-use Rattle.std.specs.Prelude.{ℕ, ◌≤◌, List, length}
+use Rattle.std.specs.Prelude.{ℕ, List}
 use Rattle.cif_calendar.specs.Keys.{AreClear}
-use Rattle.cif_columns.specs.Contents.{contents_of}
 use Rattle.cif_extract.specs.ExtractParts.{ExtractParts}
-use Rattle.cif_extract.specs.SpellsExtract.{BytesSpell}
+use Rattle.cif_extract.specs.SpellsExtract.{BytesSpell, BytesSpellWithin}
 use Rattle.cif_canon.specs.Asked.{IsNarrowed}
 use Rattle.cif_canon.specs.Entries.{association_entries, schedule_entries}
 use Rattle.cif_canon.specs.declared.asked.Asked.{Asked}
 
 -- An extract is clear: on no day of its window do two winners of an association's key, or of a train, have different bodies.
-pub record IsClear (x : ExtractParts) : Type 0 where
+pub record IsClearExtract (x : ExtractParts) : Type 0 where
   pub associations : AreClear (association_entries x.associations) x.header.first x.header.last
   pub schedules : AreClear (schedule_entries x.schedules) x.header.first x.header.last
 
 -- The bytes are accepted as x: they spell an extract, which narrowed to the window that is asked for is x, and x is clear.
-pub record IsAccepted (asked : Asked) (bytes : List ℕ) (x : ExtractParts) : Type 0 where
+pub record IsAccepted (asked : Asked) (x : ExtractParts) (bytes : List ℕ) : Type 0 where
   pub whole : ExtractParts
   pub spelled : BytesSpell bytes whole
   pub narrowed : IsNarrowed asked whole x
-  pub clear : IsClear x
+  pub clear : IsClearExtract x
 
 -- the same, in at most max lines
-pub record IsAcceptedWithin (max : ℕ) (asked : Asked) (bytes : List ℕ) (x : ExtractParts) : Type 0 where
-  pub accepted : IsAccepted asked bytes x
-  pub within : length (contents_of bytes) ≤ max
+pub record IsAcceptedWithin (max : ℕ) (asked : Asked) (x : ExtractParts) (bytes : List ℕ) : Type 0 where
+  pub whole : ExtractParts
+  pub spelled : BytesSpellWithin max bytes whole
+  pub narrowed : IsNarrowed asked whole x
+  pub clear : IsClearExtract x

@@ -3,8 +3,8 @@ ghost use Rattle.std.specs.Prelude.{◌≡◌, ◌≤◌, IfErr, IfOk, IfSome, u
 ghost use Rattle.cif_extract.specs.ExtractParts.{extract_parts};
 ghost use Rattle.cif_extract.specs.declared.fault.Fault.TheVariants.{OutsideWindow};
 ghost use Rattle.cif_weeks.specs.Window.{IsWithin};
-ghost use Rattle.cif_canon.specs.Asked.{AreWithin, IsNarrowed, IsNarrowFault};
-ghost use Rattle.cif_canon.specs.Asked.{window_asked as window_asked_of, window_of};
+ghost use Rattle.cif_canon.specs.Asked.{AskedDatesAreWithin, IsNarrowed, IsNarrowingFault};
+ghost use Rattle.cif_canon.specs.Asked.{header_window, window_asked as window_asked_of};
 
 use cif_calendar::Window;
 use cif_columns::Day;
@@ -30,7 +30,7 @@ pub struct Asked {
 pub fn narrow(extract: &mut Extract, asked: &Asked) -> Result<(), Fault>
     ensures ok { IfOk result (λ _.
         IsNarrowed asked.now (extract_parts extract.old) (extract_parts extract.new)) }
-    ensures fault { IfErr result (IsNarrowFault asked.now extract.old.header) }
+    ensures fault { IfErr result (IsNarrowingFault asked.now extract.old.header) }
     ensures unchanged { IfErr result (λ _. extract.new ≡ extract.old) }
 {
     let window = window_asked(&extract.header, asked)?;
@@ -40,10 +40,10 @@ pub fn narrow(extract: &mut Extract, asked: &Asked) -> Result<(), Fault>
 
 /// The window that is asked for of an extract with this header.
 fn window_asked(header: &Header, asked: &Asked) -> Result<Window, Fault>
-    ensures ok { IfOk result (λ window. AreWithin asked.now header.now
+    ensures ok { IfOk result (λ window. AskedDatesAreWithin asked.now header.now
         × (window.first ≡ (window_asked_of asked.now header.now).first)
         × (window.last ≡ (window_asked_of asked.now header.now).last)) }
-    ensures fault { IfErr result (IsNarrowFault asked.now header.now) }
+    ensures fault { IfErr result (IsNarrowingFault asked.now header.now) }
 {
     let first = date_asked(header, asked.from, header.first)?;
     let last = date_asked(header, asked.to, header.last)?;
@@ -56,10 +56,10 @@ fn window_asked(header: &Header, asked: &Asked) -> Result<Window, Fault>
 
 /// The date that is given, which has to be in the header's window, or else the header's own.
 fn date_asked(header: &Header, given: Option<Day>, own: Day) -> Result<Day, Fault>
-    ensures ok { IfOk result (λ day. IfSome given (IsWithin (window_of header.now))
+    ensures ok { IfOk result (λ day. IfSome given (IsWithin (header_window header.now))
         × (day ≡ unwrap_or given own)) }
     ensures fault { IfErr result (λ fault. (fault ≡ OutsideWindow)
-        × ¬ IfSome given (IsWithin (window_of header.now))) }
+        × ¬ IfSome given (IsWithin (header_window header.now))) }
 {
     match given {
         Some(day) if header.first <= day && day <= header.last => Ok(day),

@@ -4,7 +4,7 @@ ghost use Rattle.cif_extract.specs.ExtractParts.{ExtractParts};
 ghost use Rattle.cif_weeks.specs.declared.form.Form.{Form};
 ghost use Rattle.cif_canon.specs.Accepted.{IsAccepted};
 ghost use Rattle.cif_canon.specs.Canonical.{IsCanonicalOf};
-ghost use Rattle.cif_canon.specs.NormalForm.{IsItsOwn, IsReachedFromForms, IsUnique};
+ghost use Rattle.cif_canon.specs.NormalForm.{IsNormalFormAgain, IsReachedFromForms, IsUnique};
 ghost use Rattle.cif_canon.specs.declared.asked.Asked.{Asked};
 
 /// Canonical bytes of one form are equal exactly if what they are made of says the same; they are
@@ -12,13 +12,13 @@ ghost use Rattle.cif_canon.specs.declared.asked.Asked.{Asked};
 pub fn canonical_bytes_are_unique()
     // An input is accepted as one extract for a window that is asked for.
     ensures accepted { (asked : Asked) (input : List ℕ) (x y : ExtractParts)
-        → IsAccepted asked input x → IsAccepted asked input y → x ≡ y }
+        → IsAccepted asked x input → IsAccepted asked y input → x ≡ y }
     ensures unique { (form : Form) (x : ExtractParts) (bytes : List ℕ)
         → IsCanonicalOf form x bytes → IsUnique form x bytes }
     ensures again { (form : Form) (asked : Asked) (input : List ℕ) (x : ExtractParts)
-        (bytes : List ℕ) → IsAccepted asked input x → IsCanonicalOf form x bytes
-        → IsItsOwn form asked bytes }
+        (bytes : List ℕ) → IsAccepted asked x input → IsCanonicalOf form x bytes
+        → IsNormalFormAgain form asked bytes bytes }
     ensures forms { (form : Form) (asked : Asked) (input : List ℕ) (x : ExtractParts)
-        (bytes : List ℕ) → IsAccepted asked input x → IsCanonicalOf form x bytes
+        (bytes : List ℕ) → IsAccepted asked x input → IsCanonicalOf form x bytes
         → IsReachedFromForms form asked x bytes }
 {}

@@ -1,52 +1,16 @@
 -- What is written, line by line.
-use Rattle.std.proofs.Common.{◌≡◌, ℕ, ◌+◌, ◌<◌, Bool, List, [], ◌∷◌, ◌++◌, Option, Some, Result, map, take, drop, length, get_or}
-use Rattle.std.proofs.Common.{sym, ◌∙◌, ap, refl, subst, append-nil, take-append-drop}
-use Rattle.std.proofs.lemmas.Grind.{flat_map-append}
-use Rattle.std.proofs.lemmas.List.{take_more}
+use Rattle.std.proofs.Common.{◌≡◌, ℕ, Bool, List, [], ◌∷◌, ◌++◌, Option, Some, Result, map, sym, ◌∙◌, ap, refl, subst}
 use Rattle.cif_columns.specs.Field.{Row, plain_line}
 use Rattle.cif_columns.specs.Sink.{HasFailed, HasWritten, Writes}
 use Rattle.cif_columns.specs.declared.sink.Sink.{Sink}
 use Rattle.cif_columns.specs.declared.stp.Stp.TheVariants.{P}
-use Rattle.cif_columns.proofs.WrittenTexts.{failed_first, failed_second, writes_on, written_both}
+use Rattle.cif_columns.proofs.WrittenTexts.{failed_first, writes_on}
 use Rattle.cif_extract.specs.Body.{KeepAll}
 use Rattle.cif_extract.specs.BodyParts.{BodyParts, body_records}
 use Rattle.cif_columns.specs.Contents.{lines_text}
 use Rattle.cif_extract.specs.Texts.{schedule_lines}
 use Rattle.cif_records.specs.Basic.{basic_table}
 use Rattle.cif_records.specs.SpellsRecord.{record_table}
-
--- the text of the lines so far, and of one more
-lines_more : (lines : List (List ℕ)) (n : ℕ) (line : List ℕ) → n < length lines → line ≡ get_or lines n line →
-    lines_text (take (n + 1) lines) ≡ lines_text (take n lines) ++ (line ++ (10 ∷ []))
-lines_more lines n line below is =
-    ap (λ (ls : List (List ℕ)). lines_text ls)
-    (take_more lines n line below ∙ ap (λ (l : List ℕ). take n lines ++ (l ∷ [])) (sym is))
-    ∙ flat_map-append (λ (l : List ℕ). l ++ (10 ∷ [])) (take n lines) (line ∷ [])
-    ∙ ap (λ (l : List ℕ). lines_text (take n lines) ++ l) (append-nil (line ++ (10 ∷ [])))
-
--- the text of all lines, by the lines so far, one line and the others
-lines_split : (lines : List (List ℕ)) (n : ℕ) (line : List ℕ) → n < length lines → line ≡ get_or lines n line →
-    lines_text lines ≡ (lines_text (take n lines) ++ (line ++ (10 ∷ []))) ++ lines_text (drop (n + 1) lines)
-lines_split lines n line below is =
-    ap (λ (ls : List (List ℕ)). lines_text ls) (sym (take-append-drop (n + 1) lines))
-    ∙ flat_map-append (λ (l : List ℕ). l ++ (10 ∷ [])) (take (n + 1) lines) (drop (n + 1) lines)
-    ∙ ap (λ l. l ++ lines_text (drop (n + 1) lines)) (lines_more lines n line below is)
-
-module _ {W : Type 0} (contents : W → Option (List ℕ)) (errors : W → Option ℕ) (lines : List (List ℕ)) (n : ℕ) (line : List ℕ)
-    (below : n < length lines) (is : line ≡ get_or lines n line) (s t u : Sink W)
-    (so_far : HasWritten contents errors (lines_text (take n lines)) s t) where
-  -- one line more has been written
-  pub line_written : HasWritten contents errors (line ++ (10 ∷ [])) t u → HasWritten contents errors (lines_text (take (n + 1) lines)) s u
-  line_written h =
-      subst (λ text. HasWritten contents errors text s u) (sym (lines_more lines n line below is))
-      (written_both contents errors (lines_text (take n lines)) (line ++ (10 ∷ [])) s t u so_far h)
-
-  -- the writing of one line more has failed
-  pub line_failed : HasFailed contents errors (line ++ (10 ∷ [])) t u → HasFailed contents errors (lines_text lines) s u
-  line_failed h =
-      subst (λ text. HasFailed contents errors text s u) (sym (lines_split lines n line below is))
-      (failed_first contents errors (lines_text (take n lines) ++ (line ++ (10 ∷ []))) (lines_text (drop (n + 1) lines)) s u
-      (failed_second contents errors (lines_text (take n lines)) (line ++ (10 ∷ [])) s t u so_far h))
 
 -- lines that are kept are the plain lines of their tables
 pub kept_plain : (lines : List (List ℕ)) (tables : List (List Row)) → KeepAll lines tables → lines ≡ map plain_line tables

@@ -1,4 +1,4 @@
--- The days of which it is asked what runs.
+-- A window: the days from its first to its last.
 use Rattle.std.specs.Prelude.{ℕ, ◌≤◌}
 
 -- the days from `first` to `last`
