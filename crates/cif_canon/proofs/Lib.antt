@@ -6,5 +6,7 @@ pub mod KeyTurns
 pub mod MadeExtract
 pub mod MadeRecords
 pub mod NormalForms
+pub mod RunTexts
 pub mod SameExtracts
 pub mod Unique
+pub mod WrittenCanon

@@ -1,8 +1,10 @@
 pub mod Accepted
 pub mod Asked
+pub mod Canon
 pub mod Canonical
 pub mod Counts
 pub mod Entries
+pub mod Fault
 pub mod Meaning
 pub mod NormalForm
 pub mod Steps

@@ -2,6 +2,7 @@
 #![tactic(auto)]
 
 mod asked;
+mod canonical;
 mod counts;
 pub mod laws;
 mod records;
@@ -9,4 +10,5 @@ mod tiplocs;
 mod turns;
 
 pub use asked::{Asked, narrow};
+pub use canonical::Canon;
 pub use counts::Counts;

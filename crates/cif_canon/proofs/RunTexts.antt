@@ -1,0 +1,36 @@
+-- What is written of a run is the text of its record.
+use Rattle.std.proofs.Common.{◌≡◌, ℕ, ◌<◌, List, Option, None, Some, map, length, get_or, refl, sym, ap, ◌∙◌, arith}
+use Rattle.std.specs.Prelude.{slice_get}
+use Rattle.std.specs.Option.{option_and_then, option_map}
+use Rattle.std.proofs.lemmas.List.{length-map}
+use Rattle.std.proofs.lemmas.Option.{slice_get_within}
+use Rattle.cif_calendar.specs.Terms.{Terms}
+use Rattle.cif_calendar.proofs.Winning.{terms_at}
+use Rattle.cif_weeks.specs.Permanent.{Permanent}
+use Rattle.cif_weeks.specs.Runs.{record_of}
+use Rattle.cif_weeks.specs.declared.run.Run.{Run}
+use Rattle.cif_canon.specs.Steps.Texts.{HasRecord, record_at, text_if}
+
+-- the record of a run whose source is an entry with a body
+pub record-of_entry : {K B : Type 0} (entries : List (K × Terms B)) (run : Run) (e : K × Terms B) (b : B) →
+    slice_get entries run.source ≡ Some e → e.1.body ≡ Some b → record_at entries run ≡ Some (e.0, record_of run b)
+record-of_entry {K} {B} entries run e b at body =
+    ap (option_and_then (λ (e : K × Terms B). option_map (λ b. (e.0, record_of run b)) e.1.body)) at
+    ∙ ap (option_map (λ b. (e.0, record_of run b))) body
+
+-- the source of a run with a record is a position
+pub record-within : {X K B : Type 0} (entry : X → K × Terms B) (xs : List X) (run : Run) → HasRecord (map entry xs) run → run.source < length xs
+record-within {X} {K} {B} entry xs run h = found (slice_get (map entry xs) run.source) refl h.is
+  where
+    found : (o : Option (K × Terms B)) → o ≡ slice_get (map entry xs) run.source →
+        option_and_then (λ (e : K × Terms B). option_map (λ b. (e.0, record_of run b)) e.1.body) o ≡ Some h.it → run.source < length xs
+    found None is e = absurd (cc)
+    found (Some e) is f = omega (arith, slice_get_within (map entry xs) run.source e (sym is), length-map xs entry)
+
+-- the text of a run, by the value that stands at its source
+pub run-text : {X K B : Type 0} (entry : X → K × Terms B) (xs : List X) (run : Run) (x : X) (b : B)
+    (text : K × Permanent B → List ℕ) → HasRecord (map entry xs) run → x ≡ get_or xs run.source x → (entry x).1.body ≡ Some b →
+    text_if text (record_at (map entry xs) run) ≡ text ((entry x).0, record_of run b)
+run-text entry xs run x b text h is body =
+    ap (text_if text)
+    (record-of_entry (map entry xs) run (entry x) b (terms_at entry xs run.source x (record-within entry xs run h) is) body)

@@ -1,0 +1,55 @@
+-- Why there is no canonical form.
+use Rattle.std.specs.Prelude.{ℕ, ⊤, List, Option}
+use Rattle.std.specs.Ordering.{nat_cmp}
+use Rattle.std.specs.Cmp.Lexicographic.{slice_cmp}
+use Rattle.cif_calendar.specs.Keys.{AreClear, IsFirstClashOf}
+use Rattle.cif_extract.specs.ExtractParts.{ExtractParts}
+use Rattle.cif_extract.specs.ReadFault.{IsReadFault}
+use Rattle.cif_extract.specs.SpellsExtract.{BytesSpellWithin}
+use Rattle.cif_extract.specs.declared.clash.Clash.{Clash}
+use Rattle.cif_extract.specs.declared.clash.Clash.TheVariants.{Association, Train}
+use Rattle.cif_extract.specs.declared.fault.Fault.{Fault}
+use Rattle.cif_extract.specs.declared.fault.Fault.TheVariants.{Ambiguous, WindowsDiffer, OutsideWindow, WindowReversed, Write, Memory}
+use Rattle.cif_records.specs.AssocKey.{key_cmp}
+use Rattle.cif_canon.specs.Asked.{IsNarrowed, IsNarrowingFault}
+use Rattle.cif_canon.specs.Entries.{association_entries, schedule_entries}
+use Rattle.cif_canon.specs.declared.asked.Asked.{Asked}
+
+-- The first clash of an extract in its window: that of associations, by the least key and its first day, or, where these are clear,
+-- that of trains.
+abbrev pub IsFirstClashIn : ExtractParts → Clash → Type 0
+IsFirstClashIn x (Association key day) =
+    IsFirstClashOf key_cmp (association_entries x.associations) x.header.first x.header.last key day
+IsFirstClashIn x (Train uid day) =
+    AreClear (association_entries x.associations) x.header.first x.header.last
+    × IsFirstClashOf (slice_cmp nat_cmp) (schedule_entries x.schedules) x.header.first x.header.last uid day
+
+-- why an extract has no canonical form: its first clash, or a want of memory, of which no contract tells
+abbrev pub IsCanonFault : ExtractParts → Fault → Type 0
+IsCanonFault x (Ambiguous clash) = IsFirstClashIn x clash
+IsCanonFault x Memory = ⊤
+IsCanonFault x _ = ⊥
+
+-- the bytes are at most max lines, which spell an extract, and narrowed to the window that is asked for it has this first clash
+pub record SpellsClash (max : ℕ) (asked : Asked) (bytes : List ℕ) (clash : Clash) : Type 0 where
+  pub whole : ExtractParts
+  pub spelled : BytesSpellWithin max bytes whole
+  pub narrowed : ExtractParts
+  pub is : IsNarrowed asked whole narrowed
+  pub clash_is : IsFirstClashIn narrowed clash
+
+-- the bytes are at most max lines, which spell an extract, and it isn't narrowed, for this fault
+pub record SpellsOtherWindow (max : ℕ) (asked : Asked) (bytes : List ℕ) (fault : Fault) : Type 0 where
+  pub whole : ExtractParts
+  pub spelled : BytesSpellWithin max bytes whole
+  pub fault_is : IsNarrowingFault asked whole.header fault
+
+-- Why bytes have no canonical form for the window that is asked for, or can't be read, where `after` is what the reader has left then:
+-- the first refusal, or else a window that can't be asked for, or else the first clash.
+abbrev pub IsNormaliseFault : ℕ → Asked → List ℕ → Option (List ℕ) → Fault → Type 0
+IsNormaliseFault max asked bytes after (Ambiguous clash) = SpellsClash max asked bytes clash
+IsNormaliseFault max asked bytes after OutsideWindow = SpellsOtherWindow max asked bytes OutsideWindow
+IsNormaliseFault max asked bytes after WindowReversed = SpellsOtherWindow max asked bytes WindowReversed
+IsNormaliseFault max asked bytes after WindowsDiffer = ⊥
+IsNormaliseFault max asked bytes after Write = ⊤
+IsNormaliseFault max asked bytes after fault = IsReadFault max bytes after fault

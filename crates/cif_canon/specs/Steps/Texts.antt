@@ -1,0 +1,62 @@
+-- The text of runs, as it is written from an extract. No public clause cites it.
+use Rattle.std.specs.Prelude.{◌≡◌, ℕ, ◌≤◌, List, [], ◌∷◌, ◌++◌, Option, None, Some, slice_get}
+use Rattle.std.specs.List.{flat_map}
+use Rattle.std.specs.Option.{option_and_then, option_map}
+use Rattle.cif_calendar.specs.Terms.{Terms}
+use Rattle.cif_columns.specs.Contents.{lines_text}
+use Rattle.cif_columns.specs.Field.{plain_line}
+use Rattle.cif_columns.specs.declared.stp.Stp.TheVariants.{P}
+use Rattle.cif_extract.specs.BodyParts.{BodyParts}
+use Rattle.cif_extract.specs.ExtractParts.{ExtractParts}
+use Rattle.cif_extract.specs.Texts.{schedule_lines}
+use Rattle.cif_records.specs.Association.{association_table}
+use Rattle.cif_records.specs.SpellsHeader.{header_table}
+use Rattle.cif_records.specs.Tiploc.{tiploc_table}
+use Rattle.cif_records.specs.Trailer.{trailer_table}
+use Rattle.cif_records.specs.declared.assoc_body.AssocBody.{AssocBody}
+use Rattle.cif_records.specs.declared.assoc_key.AssocKey.{AssocKey}
+use Rattle.cif_records.specs.declared.tiploc.Tiploc.{Tiploc}
+use Rattle.cif_weeks.specs.Permanent.{Permanent}
+use Rattle.cif_weeks.specs.Runs.{record_of}
+use Rattle.cif_weeks.specs.declared.run.Run.{Run}
+use Rattle.cif_canon.specs.Entries.{association_entries, schedule_entries}
+
+-- the record of a run, with the key and the body of the entry at its source
+abbrev pub record_at : {K B : Type 0} → List (K × Terms B) → Run → Option (K × Permanent B)
+record_at {K} {B} entries run =
+    option_and_then (λ (e : K × Terms B). option_map (λ b. (e.0, record_of run b)) e.1.body) (slice_get entries run.source)
+
+-- a run that can be written: it has a record, which doesn't end before it begins
+pub record HasRecord {K B : Type 0} (entries : List (K × Terms B)) (run : Run) : Type 0 where
+  pub it : K × Permanent B
+  pub is : record_at entries run ≡ Some it
+  pub in_order : it.1.first ≤ it.1.last
+
+-- the text of what is there
+abbrev pub text_if : {A : Type 0} → (A → List ℕ) → Option A → List ℕ
+text_if text None = []
+text_if text (Some a) = text a
+
+-- the lines of a location, a permanent association, a permanent schedule
+abbrev pub tiploc_text : Tiploc → List ℕ
+tiploc_text t = plain_line (tiploc_table t.columns) ++ (10 ∷ [])
+
+abbrev pub association_text : AssocKey × Permanent AssocBody → List ℕ
+association_text e = plain_line (association_table e.0 e.1.first e.1.last e.1.days P (Some e.1.body)) ++ (10 ∷ [])
+
+abbrev pub schedule_text : List ℕ × Permanent BodyParts → List ℕ
+schedule_text e = lines_text (schedule_lines e.0 e.1.first e.1.last e.1.days P (Some e.1.body))
+
+-- the text of the runs of associations, of schedules
+abbrev pub association_run_text : List (AssocKey × Terms AssocBody) → Run → List ℕ
+association_run_text entries run = text_if association_text (record_at entries run)
+
+abbrev pub schedule_run_text : List (List ℕ × Terms BodyParts) → Run → List ℕ
+schedule_run_text entries run = text_if schedule_text (record_at entries run)
+
+-- the text that is written of an extract, by its locations and its runs
+unfoldable pub canon_text : ExtractParts → List Tiploc → List Run → List Run → List ℕ
+canon_text x tiplocs associations schedules =
+    (plain_line (header_table x.header) ++ (10 ∷ [])) ++ (flat_map tiploc_text tiplocs
+    ++ (flat_map (association_run_text (association_entries x.associations)) associations
+    ++ (flat_map (schedule_run_text (schedule_entries x.schedules)) schedules ++ (plain_line trailer_table ++ (10 ∷ [])))))
