@@ -14,7 +14,6 @@ use Rattle.cif_records.specs.declared.tiploc.Tiploc.{Tiploc}
 use Rattle.cif_weeks.specs.Canonical.{AreCanonical}
 use Rattle.cif_weeks.specs.Permanent.{Permanent, permanent_entries}
 use Rattle.cif_weeks.specs.declared.form.Form.{Form}
-use Rattle.cif_weeks.proofs.PermanentEntries.{canonical-dated}
 use Rattle.cif_canon.specs.Asked.{header_window}
 use Rattle.cif_canon.specs.Canonical.{IsCanonicalExtract}
 use Rattle.cif_canon.specs.Entries.{association_entries, schedule_entries}
@@ -26,23 +25,19 @@ module _ (form : Form) (x : ExtractParts) (tiplocs : List Tiploc)
     (members : (t : Tiploc) → Contains x.tiplocs t ↔ Contains tiplocs t)
     (associations : List (AssocKey × Permanent AssocBody))
     (canonical_associations : AreCanonical key_cmp form (header_window x.header) associations)
+    (dated_associations : All IsDated associations)
     (meant_associations : SayTheSame (association_entries x.associations) (permanent_entries associations) x.header.first x.header.last)
     (schedules : List (List ℕ × Permanent BodyParts))
     (canonical_schedules : AreCanonical (slice_cmp nat_cmp) form (header_window x.header) schedules)
+    (dated_schedules : All IsDated schedules)
     (meant_schedules : SayTheSame (schedule_entries x.schedules) (permanent_entries schedules) x.header.first x.header.last) where
-  pub dated-associations : All IsDated associations
-  dated-associations = canonical-dated key_cmp form (header_window x.header) associations canonical_associations
-
-  pub dated-schedules : All IsDated schedules
-  dated-schedules = canonical-dated (slice_cmp nat_cmp) form (header_window x.header) schedules canonical_schedules
-
   -- the canonical extract
   abbrev pub canonical_of : ExtractParts
   canonical_of = record {
     header = x.header;
     tiplocs = tiplocs;
-    associations = associations_of associations dated-associations;
-    schedules = schedules_of schedules dated-schedules;
+    associations = associations_of associations dated_associations;
+    schedules = schedules_of schedules dated_schedules;
   }
 
   pub is-canonical : IsCanonicalExtract form canonical_of
@@ -50,12 +45,12 @@ module _ (form : Form) (x : ExtractParts) (tiplocs : List Tiploc)
     tiplocs = rising;
     associations = record {
       records = associations;
-      are = entries-of_associations associations dated-associations;
+      are = entries-of_associations associations dated_associations;
       canonical = canonical_associations;
     };
     schedules = record {
       records = schedules;
-      are = entries-of_schedules schedules dated-schedules;
+      are = entries-of_schedules schedules dated_schedules;
       canonical = canonical_schedules;
     };
   }
@@ -66,8 +61,8 @@ module _ (form : Form) (x : ExtractParts) (tiplocs : List Tiploc)
     agree = record {
       tiplocs = members;
       associations = subst (λ es. SayTheSame (association_entries x.associations) es x.header.first x.header.last)
-          (sym (entries-of_associations associations dated-associations)) meant_associations;
+          (sym (entries-of_associations associations dated_associations)) meant_associations;
       schedules = subst (λ es. SayTheSame (schedule_entries x.schedules) es x.header.first x.header.last)
-          (sym (entries-of_schedules schedules dated-schedules)) meant_schedules;
+          (sym (entries-of_schedules schedules dated_schedules)) meant_schedules;
     };
   }

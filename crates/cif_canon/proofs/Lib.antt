@@ -1,9 +1,12 @@
+pub mod CanonForm
+pub mod CanonTexts
 pub mod DistinctTiplocs
 pub mod KeptExtract
 pub mod KeyPositions
 pub mod KeyRecords
 pub mod KeyTurns
 pub mod MadeExtract
+pub mod MadeFits
 pub mod MadeRecords
 pub mod NormalForms
 pub mod RunTexts

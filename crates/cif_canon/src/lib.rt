@@ -3,6 +3,7 @@
 
 mod asked;
 mod canonical;
+mod canonical_form;
 mod counts;
 pub mod laws;
 mod records;
@@ -10,5 +11,6 @@ mod tiplocs;
 mod turns;
 
 pub use asked::{Asked, narrow};
-pub use canonical::Canon;
+pub use canonical::canon;
+pub use canonical_form::Canon;
 pub use counts::Counts;

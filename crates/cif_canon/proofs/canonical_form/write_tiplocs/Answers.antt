@@ -1,6 +1,6 @@
 use Rattle.cif_columns.proofs.WrittenTexts.{item_failed, item_written, writes_err, written_nothing}
 use Rattle.cif_canon.specs.Steps.Texts.{tiploc_text}
-use Rattle.cif_canon.proofs.canonical.write_tiplocs.Goals as goal
+use Rattle.cif_canon.proofs.canonical_form.write_tiplocs.Goals as goal
 
 pub loop-tiploc-init : goal.loop-tiploc-init
 loop-tiploc-init g c = written_nothing _ _ _ c.requires

@@ -1,7 +1,7 @@
 use Rattle.cif_columns.proofs.WrittenTexts.{item_failed, item_written, writes_err, written_nothing}
 use Rattle.cif_canon.specs.Entries.{schedule_entries}
 use Rattle.cif_canon.specs.Steps.Texts.{schedule_run_text}
-use Rattle.cif_canon.proofs.canonical.write_schedules.Goals as goal
+use Rattle.cif_canon.proofs.canonical_form.write_schedules.Goals as goal
 
 pub loop-run-init : goal.loop-run-init
 loop-run-init g c = written_nothing _ _ _ c.requires.going

@@ -2,7 +2,7 @@ use Rattle.std.proofs.Common.{take}
 use Rattle.std.specs.List.{flat_map}
 use Rattle.cif_columns.specs.Sink.{HasWritten}
 use Rattle.cif_canon.specs.Steps.Texts.{tiploc_text}
-use Rattle.cif_canon.proofs.canonical.write_tiplocs.Given as goal
+use Rattle.cif_canon.proofs.canonical_form.write_tiplocs.Given as goal
 
 abbrev pub invariant-loop-tiploc : goal.invariant-loop-tiploc
 invariant-loop-tiploc g l =

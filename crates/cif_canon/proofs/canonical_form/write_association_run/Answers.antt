@@ -3,7 +3,7 @@ use Rattle.cif_columns.specs.Sink.{Writes}
 use Rattle.cif_canon.specs.Entries.{association_entry}
 use Rattle.cif_canon.specs.Steps.Texts.{association_text}
 use Rattle.cif_canon.proofs.RunTexts.{run-text}
-use Rattle.cif_canon.proofs.canonical.write_association_run.Goals as goal
+use Rattle.cif_canon.proofs.canonical_form.write_association_run.Goals as goal
 
 pub returns : goal.returns
 returns g c =

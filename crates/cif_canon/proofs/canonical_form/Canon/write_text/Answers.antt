@@ -4,7 +4,7 @@ use Rattle.cif_columns.proofs.WrittenTexts.{writes_err}
 use Rattle.cif_extract.specs.ExtractParts.{extract_parts}
 use Rattle.cif_canon.specs.Canon.{CanonParts}
 use Rattle.cif_canon.proofs.WrittenCanon.{in-associations, in-head, in-schedules, in-tiplocs, in-trailer}
-use Rattle.cif_canon.proofs.canonical.Canon.write_text.Goals as goal
+use Rattle.cif_canon.proofs.canonical_form.Canon.write_text.Goals as goal
 
 pub returns-in_err-write_head : goal.returns-in_err-write_head
 returns-in_err-write_head g c =

@@ -1,0 +1,144 @@
+-- The text that is written of an extract's runs is that of the canonical extract.
+use Rattle.std.proofs.Common.{◌≡◌, ℕ, suc, List, [], ◌∷◌, ◌++◌, map, length, Option, Some, refl, sym, ap, ◌∙◌}
+use Rattle.std.specs.Prelude.{All}
+use Rattle.std.specs.List.{AllZip, flat_map}
+use Rattle.std.proofs.lemmas.Grind.{flat_map-append}
+use Rattle.std.proofs.lemmas.List.{map-append}
+use Rattle.std.proofs.lemmas.List.Elements.{All-nil, All-cons, All-head, All-tail}
+use Rattle.cif_calendar.specs.Terms.{Terms}
+use Rattle.cif_columns.specs.Contents.{lines_text}
+use Rattle.cif_columns.specs.Field.{Row, plain_line}
+use Rattle.cif_columns.specs.declared.stp.Stp.TheVariants.{P}
+use Rattle.cif_extract.specs.BodyParts.{BodyParts}
+use Rattle.cif_extract.specs.ExtractParts.{ExtractParts}
+use Rattle.cif_extract.specs.Texts.{extract_text, schedule_lines, tables_of}
+use Rattle.cif_extract.specs.declared.schedule.Schedule.{Schedule}
+use Rattle.cif_records.specs.SpellsAssociation.{table_of as association_table_of}
+use Rattle.cif_records.specs.SpellsHeader.{header_table}
+use Rattle.cif_records.specs.Tiploc.{tiploc_table}
+use Rattle.cif_records.specs.Trailer.{trailer_table}
+use Rattle.cif_records.specs.declared.assoc_body.AssocBody.{AssocBody}
+use Rattle.cif_records.specs.declared.assoc_key.AssocKey.{AssocKey}
+use Rattle.cif_records.specs.declared.association.Association.{Association}
+use Rattle.cif_records.specs.declared.header.Header.{Header}
+use Rattle.cif_records.specs.declared.tiploc.Tiploc.{Tiploc}
+use Rattle.cif_weeks.specs.Permanent.{Permanent}
+use Rattle.cif_weeks.specs.Runs.{record_of}
+use Rattle.cif_weeks.specs.declared.run.Run.{Run}
+use Rattle.cif_canon.specs.Entries.{association_entries, schedule_entries}
+use Rattle.cif_canon.specs.Steps.Records.{IsRunOf}
+use Rattle.cif_canon.specs.Steps.Texts.{HasRecord, association_run_text, association_text, canon_text, record_at, schedule_run_text}
+use Rattle.cif_canon.specs.Steps.Texts.{schedule_text, text_if, tiploc_text}
+use Rattle.cif_canon.proofs.MadeExtract.{IsDated, association_of, associations_of, schedule_of, schedules_of}
+use Rattle.cif_canon.proofs.RunTexts.{record-of_entry}
+
+-- ---- the runs of records
+
+module _ {K B : Type 0} (entries : List (K × Terms B)) where
+  record-of_run : (run : Run) (e : K × Permanent B) → IsRunOf entries run e → record_at entries run ≡ Some e
+  record-of_run run e h =
+      record-of_entry entries run (e.0, h.terms) e.1.body h.at h.body
+      ∙ ap (λ (r : Permanent B). Some (e.0, r)) (sym h.dates)
+
+  pub have-records : (runs : List Run) (records : List (K × Permanent B)) → AllZip (IsRunOf entries) runs records → All IsDated records →
+      All (HasRecord entries) runs
+  have-records [] [] zip dated = All-nil (HasRecord entries)
+  have-records [] (e ∷ records) zip dated = absurd zip
+  have-records (run ∷ runs) [] zip dated = absurd zip
+  have-records (run ∷ runs) (e ∷ records) zip dated =
+      All-cons (HasRecord entries) run runs
+      (record { it = e; is = record-of_run run e zip.0; in_order = All-head IsDated e records dated })
+      (have-records runs records zip.1 (All-tail IsDated e records dated))
+
+  pub same-number : (runs : List Run) (records : List (K × Permanent B)) → AllZip (IsRunOf entries) runs records → length runs ≡ length records
+  same-number [] [] zip = refl
+  same-number [] (e ∷ records) zip = absurd zip
+  same-number (run ∷ runs) [] zip = absurd zip
+  same-number (run ∷ runs) (e ∷ records) zip = ap suc (same-number runs records zip.1)
+
+  texts-of_runs : (text : K × Permanent B → List ℕ) (runs : List Run) (records : List (K × Permanent B)) →
+      AllZip (IsRunOf entries) runs records → flat_map (λ run. text_if text (record_at entries run)) runs ≡ flat_map text records
+  texts-of_runs text [] [] zip = refl
+  texts-of_runs text [] (e ∷ records) zip = absurd zip
+  texts-of_runs text (run ∷ runs) [] zip = absurd zip
+  texts-of_runs text (run ∷ runs) (e ∷ records) zip =
+      ap (λ (l : List ℕ). l ++ flat_map (λ run. text_if text (record_at entries run)) runs) (ap (text_if text) (record-of_run run e zip.0))
+      ∙ ap (λ (l : List ℕ). text e ++ l) (texts-of_runs text runs records zip.1)
+
+-- ---- the text of tables
+
+abbrev text_of : List (List Row) → List ℕ
+text_of tables = lines_text (map plain_line tables)
+
+text-append : (a b : List (List Row)) → text_of (a ++ b) ≡ text_of a ++ text_of b
+text-append a b =
+    ap lines_text (map-append plain_line a b)
+    ∙ flat_map-append (λ (line : List ℕ). line ++ (10 ∷ [])) (map plain_line a) (map plain_line b)
+
+tiplocs-text : (ts : List Tiploc) → flat_map tiploc_text ts ≡ text_of (map (λ t. tiploc_table t.columns) ts)
+tiplocs-text [] = refl
+tiplocs-text (t ∷ ts) = ap (λ (l : List ℕ). tiploc_text t ++ l) (tiplocs-text ts)
+
+associations-text : (es : List (AssocKey × Permanent AssocBody)) (h : All IsDated es) →
+    flat_map association_text es ≡ text_of (map association_table_of (associations_of es h))
+associations-text [] h = refl
+associations-text ((k, r) ∷ es) h =
+    ap (λ (l : List ℕ). association_text (k, r) ++ l) (associations-text es (All-tail IsDated (k, r) es h))
+
+one-schedule : (e : List ℕ × Permanent BodyParts) (h : IsDated e) → schedule_text e ≡ text_of (tables_of (schedule_of e h))
+unfolding schedule_lines
+one-schedule (uid, r) h = refl
+
+schedules-text : (es : List (List ℕ × Permanent BodyParts)) (h : All IsDated es) →
+    flat_map schedule_text es ≡ text_of (flat_map tables_of (schedules_of es h))
+schedules-text [] h = refl
+schedules-text (e ∷ es) h =
+    let head = All-head IsDated e es h in
+    let tail = All-tail IsDated e es h in
+    ap (λ (l : List ℕ). l ++ flat_map schedule_text es) (one-schedule e head)
+    ∙ ap (λ (l : List ℕ). text_of (tables_of (schedule_of e head)) ++ l) (schedules-text es tail)
+    ∙ sym (text-append (tables_of (schedule_of e head)) (flat_map tables_of (schedules_of es tail)))
+
+-- the number of what is made
+pub number-of_associations : (es : List (AssocKey × Permanent AssocBody)) (h : All IsDated es) → length es ≡ length (associations_of es h)
+number-of_associations [] h = refl
+number-of_associations (e ∷ es) h = ap suc (number-of_associations es (All-tail IsDated e es h))
+
+pub number-of_schedules : (es : List (List ℕ × Permanent BodyParts)) (h : All IsDated es) → length es ≡ length (schedules_of es h)
+number-of_schedules [] h = refl
+number-of_schedules (e ∷ es) h = ap suc (number-of_schedules es (All-tail IsDated e es h))
+
+-- ---- the whole text
+
+module _ (x : ExtractParts) (tiplocs : List Tiploc) (associations : List Run) (associated : List (AssocKey × Permanent AssocBody))
+    (dated_associations : All IsDated associated)
+    (zip_associations : AllZip (IsRunOf (association_entries x.associations)) associations associated)
+    (schedules : List Run) (scheduled : List (List ℕ × Permanent BodyParts)) (dated_schedules : All IsDated scheduled)
+    (zip_schedules : AllZip (IsRunOf (schedule_entries x.schedules)) schedules scheduled) where
+  pub written-text : canon_text x tiplocs associations schedules ≡ extract_text (record {
+    header = x.header;
+    tiplocs = tiplocs;
+    associations = associations_of associated dated_associations;
+    schedules = schedules_of scheduled dated_schedules;
+  })
+  unfolding canon_text
+  written-text =
+      let head : List ℕ = plain_line (header_table x.header) ++ (10 ∷ []) in
+      let end : List ℕ = plain_line trailer_table ++ (10 ∷ []) in
+      let first = map (λ t. tiploc_table t.columns) tiplocs in
+      let second = map association_table_of (associations_of associated dated_associations) in
+      let third = flat_map tables_of (schedules_of scheduled dated_schedules) in
+      let last : List (List Row) = trailer_table ∷ [] in
+      let associations_are = texts-of_runs (association_entries x.associations) association_text associations associated zip_associations
+      ∙ associations-text associated dated_associations in
+      let schedules_are = texts-of_runs (schedule_entries x.schedules) schedule_text schedules scheduled zip_schedules
+      ∙ schedules-text scheduled dated_schedules in
+      ap (λ (l : List ℕ). head ++ l)
+      (ap (λ (l : List ℕ). l ++ (flat_map (association_run_text (association_entries x.associations)) associations
+      ++ (flat_map (schedule_run_text (schedule_entries x.schedules)) schedules ++ end))) (tiplocs-text tiplocs)
+      ∙ ap (λ (l : List ℕ). text_of first ++ l)
+      (ap (λ (l : List ℕ). l ++ (flat_map (schedule_run_text (schedule_entries x.schedules)) schedules ++ end)) associations_are
+      ∙ ap (λ (l : List ℕ). text_of second ++ l)
+      (ap (λ (l : List ℕ). l ++ end) schedules_are ∙ sym (text-append third last))
+      ∙ sym (text-append second (third ++ last)))
+      ∙ sym (text-append first (second ++ (third ++ last))))
