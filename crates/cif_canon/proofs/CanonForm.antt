@@ -1,5 +1,5 @@
 -- The runs of an extract's canonical records, and its locations, make its canonical form.
-use Rattle.std.proofs.Common.{◌≡◌, ℕ, List, length, map, sym, ap, ◌∙◌, subst}
+use Rattle.std.proofs.Common.{◌≡◌, ℕ, List, length, map, refl, sym, ap, ◌∙◌, subst}
 use Rattle.std.specs.Prelude.{All}
 use Rattle.std.specs.Cmp.Lexicographic.{slice_cmp}
 use Rattle.std.specs.Ordering.{nat_cmp}
@@ -93,3 +93,8 @@ canonical-of form x c is fits = record {
   };
   same = is.same;
 }
+
+pub made-of : (form : Form) (x : ExtractParts) (c : CanonParts) (is : IsCanonOf form x c) (fits : FitsColumns x) →
+    (canonical-of form x c is fits).made ≡ is.made
+unfolding canonical-of
+made-of form x c is fits = refl

@@ -9,6 +9,7 @@ pub mod MadeExtract
 pub mod MadeFits
 pub mod MadeRecords
 pub mod NormalForms
+pub mod Normalising
 pub mod RunTexts
 pub mod SameExtracts
 pub mod Unique

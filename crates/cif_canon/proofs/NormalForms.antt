@@ -40,7 +40,7 @@ use Rattle.cif_canon.proofs.Unique.{extracts-unique, one-associations, one-sched
 
 -- ---- what is accepted is one extract
 
-one-narrowed : (asked : Asked) (whole x y : ExtractParts) → IsNarrowed asked whole x → IsNarrowed asked whole y → x ≡ y
+pub one-narrowed : (asked : Asked) (whole x y : ExtractParts) → IsNarrowed asked whole x → IsNarrowed asked whole y → x ≡ y
 one-narrowed asked whole x y p q =
     same-parts x y (headers.same_header x.header y.header (p.columns ∙ sym q.columns)) (p.tiplocs ∙ sym q.tiplocs)
     (p.associations ∙ sym q.associations) (p.schedules ∙ sym q.schedules)

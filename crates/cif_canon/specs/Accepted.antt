@@ -19,9 +19,13 @@ pub record IsAccepted (asked : Asked) (x : ExtractParts) (bytes : List ℕ) : Ty
   pub narrowed : IsNarrowed asked whole x
   pub clear : IsClearExtract x
 
--- the same, in at most max lines
-pub record IsAcceptedWithin (max : ℕ) (asked : Asked) (x : ExtractParts) (bytes : List ℕ) : Type 0 where
+-- the bytes are at most max lines, which spell an extract, and narrowed to the window that is asked for it is x
+pub record SpellsNarrowed (max : ℕ) (asked : Asked) (x : ExtractParts) (bytes : List ℕ) : Type 0 where
   pub whole : ExtractParts
   pub spelled : BytesSpellWithin max bytes whole
   pub narrowed : IsNarrowed asked whole x
+
+-- the bytes are accepted as x, in at most max lines
+pub record IsAcceptedWithin (max : ℕ) (asked : Asked) (x : ExtractParts) (bytes : List ℕ) : Type 0 where
+  pub spelled : SpellsNarrowed max asked x bytes
   pub clear : IsClearExtract x

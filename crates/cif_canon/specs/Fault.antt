@@ -4,14 +4,16 @@ use Rattle.std.specs.Ordering.{nat_cmp}
 use Rattle.std.specs.Cmp.Lexicographic.{slice_cmp}
 use Rattle.cif_calendar.specs.Keys.{AreClear, IsFirstClashOf}
 use Rattle.cif_extract.specs.ExtractParts.{ExtractParts}
-use Rattle.cif_extract.specs.ReadFault.{IsReadFault}
+use Rattle.cif_extract.specs.ReadFault.{IsOfReading, IsReadFault}
 use Rattle.cif_extract.specs.SpellsExtract.{BytesSpellWithin}
 use Rattle.cif_extract.specs.declared.clash.Clash.{Clash}
 use Rattle.cif_extract.specs.declared.clash.Clash.TheVariants.{Association, Train}
 use Rattle.cif_extract.specs.declared.fault.Fault.{Fault}
-use Rattle.cif_extract.specs.declared.fault.Fault.TheVariants.{Ambiguous, WindowsDiffer, OutsideWindow, WindowReversed, Write, Memory}
+use Rattle.cif_extract.specs.declared.fault.Fault.TheVariants.{Refused, Ambiguous, WindowsDiffer, OutsideWindow, WindowReversed}
+use Rattle.cif_extract.specs.declared.fault.Fault.TheVariants.{Read, Write, Memory}
 use Rattle.cif_records.specs.AssocKey.{key_cmp}
-use Rattle.cif_canon.specs.Asked.{IsNarrowed, IsNarrowingFault}
+use Rattle.cif_canon.specs.Accepted.{SpellsNarrowed}
+use Rattle.cif_canon.specs.Asked.{IsNarrowingFault}
 use Rattle.cif_canon.specs.Entries.{association_entries, schedule_entries}
 use Rattle.cif_canon.specs.declared.asked.Asked.{Asked}
 
@@ -30,12 +32,10 @@ IsCanonFault x (Ambiguous clash) = IsFirstClashIn x clash
 IsCanonFault x Memory = ⊤
 IsCanonFault x _ = ⊥
 
--- the bytes are at most max lines, which spell an extract, and narrowed to the window that is asked for it has this first clash
+-- the bytes spell an extract that has this first clash in the window that is asked for
 pub record SpellsClash (max : ℕ) (asked : Asked) (bytes : List ℕ) (clash : Clash) : Type 0 where
-  pub whole : ExtractParts
-  pub spelled : BytesSpellWithin max bytes whole
   pub narrowed : ExtractParts
-  pub is : IsNarrowed asked whole narrowed
+  pub spelled : SpellsNarrowed max asked narrowed bytes
   pub clash_is : IsFirstClashIn narrowed clash
 
 -- the bytes are at most max lines, which spell an extract, and it isn't narrowed, for this fault
@@ -53,3 +53,21 @@ IsNormaliseFault max asked bytes after WindowReversed = SpellsOtherWindow max as
 IsNormaliseFault max asked bytes after WindowsDiffer = ⊥
 IsNormaliseFault max asked bytes after Write = ⊤
 IsNormaliseFault max asked bytes after fault = IsReadFault max bytes after fault
+
+-- the faults of `normalise`, over whatever devices
+abbrev pub IsOfNormalise : ℕ → Fault → Type 0
+IsOfNormalise max (Refused line why) = IsOfReading max (Refused line why)
+IsOfNormalise max WindowsDiffer = ⊥
+IsOfNormalise max _ = ⊤
+
+-- and those of `check`, which writes nothing
+abbrev pub IsOfCheck : ℕ → Fault → Type 0
+IsOfCheck max Write = ⊥
+IsOfCheck max fault = IsOfNormalise max fault
+
+-- a fault that says nothing of the bytes: a device failed, or memory was refused
+abbrev pub IsDeviceOrMemory : Fault → Type 0
+IsDeviceOrMemory Read = ⊤
+IsDeviceOrMemory Write = ⊤
+IsDeviceOrMemory Memory = ⊤
+IsDeviceOrMemory _ = ⊥

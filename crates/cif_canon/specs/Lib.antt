@@ -7,4 +7,5 @@ pub mod Entries
 pub mod Fault
 pub mod Meaning
 pub mod NormalForm
+pub mod Normalised
 pub mod Steps

@@ -32,12 +32,21 @@ pub fn canon<'a>(alloc: Global, extract: &'a Extract, form: Form) -> Result<Cano
     let Ok(tiplocs) = distinct_tiplocs(alloc, extract.tiplocs.as_slice()) else {
         return Err(Fault::Memory);
     };
-    let associations =
-        match canonical_records(alloc, extract.associations.as_slice(), window_of(extract), form) {
-            Ok(runs) => runs,
-            Err(fault) => return Err(association_fault(extract, fault)),
-        };
-    let schedules = match canonical_records(alloc, extract.schedules.as_slice(), window_of(extract), form) {
+    let associations = match canonical_records(
+        alloc,
+        extract.associations.as_slice(),
+        window_of(extract),
+        form,
+    ) {
+        Ok(runs) => runs,
+        Err(fault) => return Err(association_fault(extract, fault)),
+    };
+    let schedules = match canonical_records(
+        alloc,
+        extract.schedules.as_slice(),
+        window_of(extract),
+        form,
+    ) {
         Ok(runs) => runs,
         Err(fault) => return Err(schedule_fault(extract, fault)),
     };

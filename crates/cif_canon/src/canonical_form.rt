@@ -9,8 +9,10 @@ ghost use Rattle.cif_canon.specs.Steps.Texts.{schedule_run_text, tiploc_text};
 
 use crate::Counts;
 use cif_columns::{Sink, WriteDevice, WriteFault};
-use cif_extract::{Extract, Fault, Schedule};
-use cif_extract::{write_association, write_head, write_schedule, write_tiploc, write_trailer};
+use cif_extract::{
+    Extract, Fault, Schedule, write_association, write_head, write_schedule, write_tiploc,
+    write_trailer,
+};
 use cif_records::{Association, Tiploc};
 use cif_weeks::Run;
 use std::marker::Model;
@@ -64,10 +66,8 @@ impl<'a> Canon<'a> {
         associations: Vec<Run>,
         schedules: Vec<Run>,
     ) -> Canon<'a>
-        requires associations {
-            All (HasRecord (association_entries extract.now.associations.items)) associations.items }
-        requires schedules {
-            All (HasRecord (schedule_entries extract.now.schedules.items)) schedules.items }
+        requires associations { All (HasRecord (association_entries extract.now.associations.items)) associations.items }
+        requires schedules { All (HasRecord (schedule_entries extract.now.schedules.items)) schedules.items }
         ensures text { result.text ≡
             canon_text (extract_parts extract.now) tiplocs.items associations.items schedules.items }
         ensures counts { result.counts ≡ record {

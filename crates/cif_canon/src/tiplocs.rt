@@ -6,10 +6,7 @@ use cif_records::Tiploc;
 use std::alloc::{AllocError, Global};
 
 /// The locations, each once, rising by their columns.
-pub(crate) fn distinct_tiplocs(
-    alloc: Global,
-    tiplocs: &[Tiploc],
-) -> Result<Vec<Tiploc>, AllocError>
+pub(crate) fn distinct_tiplocs(alloc: Global, tiplocs: &[Tiploc]) -> Result<Vec<Tiploc>, AllocError>
     ensures { IfOk result (λ distinct. AreDistinct tiplocs.now distinct.items) }
 {
     let mut distinct = Vec::with_capacity(alloc, tiplocs.len())?;

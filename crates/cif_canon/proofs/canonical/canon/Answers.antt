@@ -55,11 +55,14 @@ returns-clause-ok c =
     c.as_slice-3.result.now x.schedules c.in-Ok-canonical_records-2.runs.items c.window_of-2.ensures.first c.window_of-2.ensures.last
     c.as_slice-3.ensures.value c.in-Ok-canonical_records-2.ensures.records in
     subst (IsCanonOf c.args.form x)
-    (ap (λ t. record { text = t; counts = record {
-      tiplocs = length c.in-Ok.tiplocs.items;
-      associations = length c.in-Ok-canonical_records.runs.items;
-      schedules = length c.in-Ok-canonical_records-2.runs.items;
-    } }) (sym c.of.ensures.text)
+    (ap (λ t. record {
+      text = t;
+      counts = record {
+        tiplocs = length c.in-Ok.tiplocs.items;
+        associations = length c.in-Ok-canonical_records.runs.items;
+        schedules = length c.in-Ok-canonical_records-2.runs.items;
+      };
+    }) (sym c.of.ensures.text)
     ∙ ap (λ n. record { text = c.of.result.text; counts = n }) (sym c.of.ensures.counts))
     (is-canon c.args.form x c.in-Ok.tiplocs.items distinct c.in-Ok-canonical_records.runs.items associations
     c.in-Ok-canonical_records-2.runs.items schedules)

@@ -1,0 +1,142 @@
+-- What an input that is read and narrowed comes to.
+use Rattle.std.proofs.Common.{◌≡◌, ◌≤◌, ℕ, List, Option, None, Some, Result, Ok, Err, IfErr, refl, sym, ap, ◌∙◌, subst, arith}
+use Rattle.cif_calendar.proofs.FirstClash.{first_clash-clear}
+use Rattle.cif_columns.specs.Contents.{contents_of}
+use Rattle.cif_columns.specs.Sink.{HasFailed}
+use Rattle.cif_columns.specs.declared.sink.Sink.{Sink}
+use Rattle.cif_extract.specs.ExtractParts.{ExtractParts}
+use Rattle.cif_extract.specs.Texts.{FitsColumns}
+use Rattle.cif_extract.specs.declared.clash.Clash.{Clash}
+use Rattle.cif_extract.specs.declared.clash.Clash.TheVariants.{Association, Train}
+use Rattle.cif_extract.specs.declared.fault.Fault.{Fault}
+use Rattle.cif_extract.specs.declared.fault.Fault.TheVariants as fault
+use Rattle.cif_extract.proofs.PlainTexts.{spelled-fits}
+use Rattle.cif_extract.proofs.SpelledBytes.{one_spelled, spelled-refused}
+use Rattle.cif_records.proofs.Headers as headers
+use Rattle.cif_weeks.specs.declared.form.Form.{Form}
+use Rattle.cif_canon.specs.Accepted.{IsAccepted, IsAcceptedWithin, IsClearExtract, SpellsNarrowed}
+use Rattle.cif_canon.specs.Asked.{AskedDatesAreWithin, IsNarrowed, IsNarrowingFault, window_asked}
+use Rattle.cif_canon.specs.Canon.{CanonParts, IsCanonOf}
+use Rattle.cif_canon.specs.Fault.{IsCanonFault, IsDeviceOrMemory, IsFirstClashIn, IsNormaliseFault}
+use Rattle.cif_canon.specs.Normalised.{FaultWrites, IsNormalised, Normalises}
+use Rattle.cif_canon.specs.declared.asked.Asked.{Asked}
+use Rattle.cif_canon.specs.declared.counts.Counts.{Counts}
+use Rattle.cif_extract.specs.SpellsExtract.{BytesSpellWithin}
+use Rattle.cif_extract.proofs.FirstRefusals.{if_error}
+use Rattle.cif_canon.specs.Counts.{counts_of}
+use Rattle.cif_canon.proofs.SameExtracts.{same-parts}
+use Rattle.cif_canon.proofs.CanonForm.{canonical-of, made-of}
+use Rattle.cif_canon.proofs.NormalForms.{its-own, normal-unique, one-narrowed, reached}
+
+module _ (max : ℕ) (asked : Asked) (bytes : List ℕ) where
+  -- a window that can't be asked for
+  pub narrowing-fault : (after : Option (List ℕ)) (whole : ExtractParts) → BytesSpellWithin max bytes whole → (f : Fault) →
+      IsNarrowingFault asked whole.header f → IsNormaliseFault max asked bytes after f
+  narrowing-fault after whole s fault.OutsideWindow h = record { whole = whole; spelled = s; fault_is = h }
+  narrowing-fault after whole s fault.WindowReversed h = record { whole = whole; spelled = s; fault_is = h }
+  narrowing-fault after whole s (fault.Refused line why) h = absurd h
+  narrowing-fault after whole s (fault.Ambiguous clash) h = absurd h
+  narrowing-fault after whole s fault.WindowsDiffer h = absurd h
+  narrowing-fault after whole s fault.Read h = absurd h
+  narrowing-fault after whole s fault.Write h = absurd h
+  narrowing-fault after whole s fault.Memory h = absurd h
+
+  -- an extract without a canonical form
+  pub canon-fault : (after : Option (List ℕ)) (x : ExtractParts) → SpellsNarrowed max asked x bytes → (f : Fault) → IsCanonFault x f →
+      IsNormaliseFault max asked bytes after f
+  canon-fault after x s (fault.Ambiguous clash) h = record { narrowed = x; spelled = s; clash_is = h }
+  canon-fault after x s fault.Memory h = tt
+  canon-fault after x s (fault.Refused line why) h = absurd h
+  canon-fault after x s fault.OutsideWindow h = absurd h
+  canon-fault after x s fault.WindowReversed h = absurd h
+  canon-fault after x s fault.WindowsDiffer h = absurd h
+  canon-fault after x s fault.Read h = absurd h
+  canon-fault after x s fault.Write h = absurd h
+
+  one-spelled_narrowed : (x y : ExtractParts) → SpellsNarrowed max asked x bytes → SpellsNarrowed max asked y bytes → x ≡ y
+  one-spelled_narrowed x y p q =
+      one-narrowed asked p.whole x y p.narrowed
+      (subst (λ w. IsNarrowed asked w y) (one_spelled bytes q.whole p.whole q.spelled.spell p.spelled.spell) q.narrowed)
+
+  clash-clear : (x : ExtractParts) → IsClearExtract x → (c : Clash) → IsFirstClashIn x c → ⊥
+  clash-clear x clear (Association key day) h =
+      first_clash-clear _ x.header.first x.header.last day h.clash (clear.associations.key key)
+  clash-clear x clear (Train uid day) h = first_clash-clear _ x.header.first x.header.last day h.1.clash (clear.schedules.key uid)
+
+  -- what is accepted isn't blamed
+  pub blames-none : (after : Option (List ℕ)) (x : ExtractParts) → IsAcceptedWithin max asked x bytes → (f : Fault) →
+      IsNormaliseFault max asked bytes after f → IsDeviceOrMemory f
+  blames-none after x a (fault.Refused line why) h =
+      absurd (spelled-refused max bytes a.spelled.whole a.spelled.spelled line why h)
+  blames-none after x a (fault.Ambiguous clash) h =
+      absurd (clash-clear h.narrowed
+      (subst IsClearExtract (one-spelled_narrowed x h.narrowed a.spelled h.spelled) a.clear) clash h.clash_is)
+  blames-none after x a fault.WindowsDiffer h = absurd h
+  blames-none after x a fault.OutsideWindow h =
+      absurd (h.fault_is (subst (λ (w : ExtractParts). AskedDatesAreWithin asked w.header)
+      (one_spelled bytes a.spelled.whole h.whole a.spelled.spelled.spell h.spelled.spell) a.spelled.narrowed.within))
+  blames-none after x a fault.WindowReversed h =
+      let order = subst (λ (w : ExtractParts). (window_asked asked w.header).first ≤ (window_asked asked w.header).last)
+      (one_spelled bytes a.spelled.whole h.whole a.spelled.spelled.spell h.spelled.spell) a.spelled.narrowed.in_order in
+      let reversed = h.fault_is.1 in
+      absurd (omega (arith, order, reversed))
+  blames-none after x a fault.Read h = tt
+  blames-none after x a fault.Write h = tt
+  blames-none after x a fault.Memory h = tt
+
+  -- what is read fits its columns, and so does what is narrowed
+  narrowed-fits : (x : ExtractParts) → SpellsNarrowed max asked x bytes → FitsColumns x
+  narrowed-fits x s =
+      let n = s.narrowed in
+      let w = s.whole in
+      let fits : FitsColumns w = spelled-fits (contents_of bytes) w s.spelled.spell.are_lines s.spelled.spell.spelled in
+      let moved : ExtractParts =
+      record { header = x.header; tiplocs = w.tiplocs; associations = w.associations; schedules = w.schedules } in
+      subst FitsColumns (same-parts moved x refl (sym n.tiplocs) (sym n.associations) (sym n.schedules)) (headers.fits x.header, fits.1)
+
+  -- the canonical form of what is read and narrowed
+  pub is-normalised : (form : Form) (x : ExtractParts) → SpellsNarrowed max asked x bytes → (c : CanonParts) → IsCanonOf form x c →
+      IsNormalised form asked max bytes c.text c.counts
+  is-normalised form x s c is =
+      let canonical = canonical-of form x c is (narrowed-fits x s) in
+      let accepted : IsAccepted asked x bytes =
+      record { whole = s.whole; spelled = s.spelled.spell; narrowed = s.narrowed; clear = is.clear } in
+      record {
+        meant = x;
+        accepted = record { spelled = s; clear = is.clear };
+        canonical = canonical;
+        unique = normal-unique form x c.text canonical;
+        again = its-own form asked bytes x c.text accepted canonical;
+        reached = reached form asked bytes x c.text accepted canonical;
+        counted = is.counted ∙ ap counts_of (sym (made-of form x c is (narrowed-fits x s)));
+      }
+
+  -- ---- the same, as the calls say it
+
+  pub spells-narrowed : (whole x : ExtractParts) → BytesSpellWithin max bytes whole → IsNarrowed asked whole x →
+      SpellsNarrowed max asked x bytes
+  spells-narrowed whole x s n = record { whole = whole; spelled = s; narrowed = n }
+
+  pub blamed : {A : Type 0} (after : Option (List ℕ)) (result : Result A Fault) (f : Fault) → result ≡ Err f →
+      IsNormaliseFault max asked bytes after f → (x : ExtractParts) → IsAcceptedWithin max asked x bytes → IfErr result IsDeviceOrMemory
+  blamed after result f is h x a = if_error IsDeviceOrMemory result f is (blames-none after x a f h)
+
+  pub counted-text : (form : Form) (x : ExtractParts) → SpellsNarrowed max asked x bytes → (c : CanonParts) → IsCanonOf form x c →
+      (n : Counts) → n ≡ c.counts → (text : List ℕ) × IsNormalised form asked max bytes text n
+  counted-text form x s c is n same = (c.text, subst (IsNormalised form asked max bytes c.text) (sym same) (is-normalised form x s c is))
+
+  pub normalises-whole : (form : Form) (x : ExtractParts) → SpellsNarrowed max asked x bytes → (c : CanonParts) → IsCanonOf form x c →
+      (n : Counts) → n ≡ c.counts → Normalises form asked max bytes c.text (Ok n)
+  normalises-whole form x s c is n same = subst (IsNormalised form asked max bytes c.text) (sym same) (is-normalised form x s c is)
+
+  pub normalises-front : (form : Form) (x : ExtractParts) → SpellsNarrowed max asked x bytes → (c : CanonParts) → IsCanonOf form x c →
+      (result : Result Counts Fault) (f : Fault) → result ≡ Err f → f ≡ fault.Write → Normalises form asked max bytes c.text result
+  normalises-front form x s c is result f failed write =
+      subst (Normalises form asked max bytes c.text) (sym (failed ∙ ap Err write)) (c.counts, is-normalised form x s c is)
+
+-- a front of the text went out
+pub fault-writes : {W A : Type 0} (contents : W → Option (List ℕ)) (errors : W → Option ℕ) (text : List ℕ) (old new : Sink W)
+    (result : Result A Fault) (f : Fault) → result ≡ Err f → f ≡ fault.Write → HasFailed contents errors text old new →
+    FaultWrites contents errors text old new result
+fault-writes contents errors text old new result f failed write h =
+    subst (FaultWrites contents errors text old new) (sym (failed ∙ ap Err write)) h

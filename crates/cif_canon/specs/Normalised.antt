@@ -1,0 +1,41 @@
+-- What `normalise` and `check` answer.
+use Rattle.std.specs.Prelude.{◌≡◌, ℕ, ⊤, List, Option, Result, Ok, Err}
+use Rattle.cif_columns.specs.Sink.{HasFailed, HasWritten}
+use Rattle.cif_columns.specs.declared.sink.Sink.{Sink}
+use Rattle.cif_extract.specs.ExtractParts.{ExtractParts}
+use Rattle.cif_extract.specs.declared.fault.Fault.{Fault}
+use Rattle.cif_extract.specs.declared.fault.Fault.TheVariants.{Write}
+use Rattle.cif_weeks.specs.declared.form.Form.{Form}
+use Rattle.cif_canon.specs.Accepted.{IsAcceptedWithin}
+use Rattle.cif_canon.specs.Canonical.{IsCanonicalOf}
+use Rattle.cif_canon.specs.Counts.{counts_of}
+use Rattle.cif_canon.specs.NormalForm.{IsNormalFormAgain, IsReachedFromForms, IsUnique}
+use Rattle.cif_canon.specs.declared.asked.Asked.{Asked}
+use Rattle.cif_canon.specs.declared.counts.Counts.{Counts}
+
+-- The input is accepted, in at most max lines and for the window that is asked for, and this is its canonical text and its counts.
+pub record IsNormalised (form : Form) (asked : Asked) (max : ℕ) (input text : List ℕ) (counts : Counts) : Type 0 where
+  pub meant : ExtractParts
+  pub accepted : IsAcceptedWithin max asked meant input
+  -- the text is canonical and says what is meant
+  pub canonical : IsCanonicalOf form meant text
+  -- it is equal to other canonical texts exactly if their inputs say the same
+  pub unique : IsUnique form meant text
+  -- it is its own canonical text
+  pub again : IsNormalFormAgain form asked text text
+  -- it is the canonical text of what either form has
+  pub reached : IsReachedFromForms form asked meant text
+  -- the counts are those of its records
+  pub counted : counts ≡ counts_of canonical.made
+
+-- what a text is to an input, where it was written, or a front of it was
+abbrev pub Normalises : Form → Asked → ℕ → List ℕ → List ℕ → Result Counts Fault → Type 0
+Normalises form asked max input text (Ok counts) = IsNormalised form asked max input text counts
+Normalises form asked max input text (Err Write) = (counts : Counts) × IsNormalised form asked max input text counts
+Normalises form asked max input text (Err fault) = ⊤
+
+-- what a call that may answer a fault owes its sink: the whole text at Ok, a front of it at Write, and nothing at any other fault
+abbrev pub FaultWrites : {W A : Type 0} → (W → Option (List ℕ)) → (W → Option ℕ) → List ℕ → Sink W → Sink W → Result A Fault → Type 0
+FaultWrites contents errors text old new (Ok done) = HasWritten contents errors text old new
+FaultWrites contents errors text old new (Err Write) = HasFailed contents errors text old new
+FaultWrites contents errors text old new (Err fault) = new ≡ old

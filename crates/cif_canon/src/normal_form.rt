@@ -1,0 +1,91 @@
+//! The canonical form of an input.
+ghost use Rattle.std.specs.Prelude.{◌≢◌, ◌≤◌, ℕ, List, IfErr, IfOk, IfSome};
+ghost use Rattle.cif_columns.specs.Source.{reader_of};
+ghost use Rattle.cif_columns.specs.declared.line_reader.TheConstants.{MAX_LINES};
+ghost use Rattle.cif_extract.specs.ExtractParts.{ExtractParts, extract_parts};
+ghost use Rattle.cif_extract.specs.ReadFault.{FaultReads};
+ghost use Rattle.cif_canon.specs.Accepted.{IsAcceptedWithin, SpellsNarrowed};
+ghost use Rattle.cif_canon.specs.Fault.{IsDeviceOrMemory, IsNormaliseFault};
+ghost use Rattle.cif_canon.specs.Fault.{IsOfCheck, IsOfNormalise};
+ghost use Rattle.cif_canon.specs.Normalised.{FaultWrites, IsNormalised, Normalises};
+
+use crate::{Asked, Counts, canon, narrow};
+use cif_columns::{ReadDevice, Sink, Source, WriteDevice};
+use cif_extract::{Extract, Fault, read_extract};
+use cif_weeks::Form;
+use std::alloc::Global;
+
+/// Reads an extract, of which at most `max_lines` lines may come, and appends its canonical text in
+/// this form, for the window that is asked for. The answer is how many records that text has.
+///
+/// The faults come in this order: Refused and Read, OutsideWindow, WindowReversed, Ambiguous with the
+/// first clash, and then Write; Memory where a growth was refused. Nothing is written before the
+/// whole input is accepted.
+pub fn normalise<R: ReadDevice, W: WriteDevice>(
+    alloc: Global,
+    source: &mut Source<R>,
+    sink: &mut Sink<W>,
+    max_lines: u64,
+    asked: &Asked,
+    form: Form,
+) -> Result<Counts, Fault>
+    requires within { max_lines ≤ MAX_LINES }
+    ensures normal { (text : List ℕ)
+        × FaultWrites W.contents W.write_errors text sink.old sink.new result
+        × IfSome (R.remaining (reader_of source.old)) (λ bytes.
+        Normalises form asked.now max_lines bytes text result) }
+    ensures fault { IfSome (R.remaining (reader_of source.old)) (λ bytes. IfErr result
+        (IsNormaliseFault max_lines asked.now bytes (R.remaining (reader_of source.new)))) }
+    ensures accepted { IfSome (R.remaining (reader_of source.old)) (λ bytes. (x : ExtractParts)
+        → IsAcceptedWithin max_lines asked.now x bytes → IfErr result IsDeviceOrMemory) }
+    ensures answers { IfErr result (IsOfNormalise max_lines) }
+    ensures source { FaultReads R.read_errors source.old source.new result }
+{
+    let extract = read_narrowed(alloc, source, max_lines, asked)?;
+    let canon = canon(alloc, &extract, form)?;
+    canon.write(sink)?;
+    Ok(canon.counts())
+}
+
+/// Says how many records `normalise` would write of an extract, or why it would write none; it
+/// answers as `normalise` does, but never Write.
+pub fn check<R: ReadDevice>(
+    alloc: Global,
+    source: &mut Source<R>,
+    max_lines: u64,
+    asked: &Asked,
+    form: Form,
+) -> Result<Counts, Fault>
+    requires within { max_lines ≤ MAX_LINES }
+    ensures ok { IfSome (R.remaining (reader_of source.old)) (λ bytes. IfOk result (λ counts.
+        (text : List ℕ) × IsNormalised form asked.now max_lines bytes text counts)) }
+    ensures fault { IfSome (R.remaining (reader_of source.old)) (λ bytes. IfErr result
+        (IsNormaliseFault max_lines asked.now bytes (R.remaining (reader_of source.new)))) }
+    ensures accepted { IfSome (R.remaining (reader_of source.old)) (λ bytes. (x : ExtractParts)
+        → IsAcceptedWithin max_lines asked.now x bytes → IfErr result IsDeviceOrMemory) }
+    ensures answers { IfErr result (IsOfCheck max_lines) }
+    ensures source { FaultReads R.read_errors source.old source.new result }
+{
+    let extract = read_narrowed(alloc, source, max_lines, asked)?;
+    Ok(canon(alloc, &extract, form)?.counts())
+}
+
+/// The extract that the source's lines spell, narrowed to the window that is asked for.
+fn read_narrowed<R: ReadDevice>(
+    alloc: Global,
+    source: &mut Source<R>,
+    max_lines: u64,
+    asked: &Asked,
+) -> Result<Extract, Fault>
+    requires within { max_lines ≤ MAX_LINES }
+    ensures ok { IfSome (R.remaining (reader_of source.old)) (λ bytes. IfOk result (λ extract.
+        SpellsNarrowed max_lines asked.now (extract_parts extract) bytes)) }
+    ensures fault { IfSome (R.remaining (reader_of source.old)) (λ bytes. IfErr result
+        (IsNormaliseFault max_lines asked.now bytes (R.remaining (reader_of source.new)))) }
+    ensures answers { IfErr result (IsOfCheck max_lines) }
+    ensures source { FaultReads R.read_errors source.old source.new result }
+{
+    let mut extract = read_extract(alloc, source, max_lines)?;
+    narrow(&mut extract, asked)?;
+    Ok(extract)
+}
