@@ -5,8 +5,9 @@ use Rattle.cif_columns.specs.declared.refusal.Refusal.TheVariants.{BadLength, Ba
 use Rattle.cif_columns.specs.declared.refusal.Refusal.TheVariants.{OpenEnd, DatesReversed, BadDays, BankHoliday, BadStp, BadTime}
 use Rattle.cif_columns.specs.declared.refusal.Refusal.TheVariants.{Truncated, TooManyLines}
 
--- The number of a refusal: first the reasons that stand in one line, in the order in which they are looked for, then those of the
--- whole input. TooManyLines is looked for before all others, and Truncated at the end.
+-- The number of a refusal. It doesn't say which of several reasons is answered: of one line that is TooManyLines, else BadLength,
+-- BadByte, UnknownRecord, OutOfOrder, and then the first of its fields' reasons in the order of their columns (docs/FORMAT.md).
+-- Truncated is answered where no line is refused.
 abbrev pub number_of : Refusal → ℕ
 number_of BadLength = 1
 number_of BadByte = 2

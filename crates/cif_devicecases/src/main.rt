@@ -26,7 +26,6 @@
 //! The answer says so, or where first it isn't so.
 #![tactic(auto)]
 
-mod counting;
 mod reading;
 mod trials;
 mod writing;

@@ -1,7 +1,6 @@
 //! What is read.
-use crate::counting::count_lines;
 use cif_cases::{Case, text_of};
-use cif_columns::{End, LineFault, LineReader, ReadFault, Source, TrialReader};
+use cif_columns::{End, LineFault, LineReader, ReadFault, Source, TrialReader, count_lines};
 use std::alloc::{AllocError, Global};
 use std::fmt::Write;
 use std::io;
