@@ -1,5 +1,5 @@
--- The numbers of the refusals.
-use Rattle.std.specs.Prelude.{ℕ}
+-- The numbers and the names of the refusals.
+use Rattle.std.specs.Prelude.{ℕ, List, codes}
 use Rattle.cif_columns.specs.declared.refusal.Refusal.{Refusal}
 use Rattle.cif_columns.specs.declared.refusal.Refusal.TheVariants.{BadLength, BadByte, UnknownRecord, OutOfOrder, NotFull, BadDate}
 use Rattle.cif_columns.specs.declared.refusal.Refusal.TheVariants.{OpenEnd, DatesReversed, BadDays, BankHoliday, BadStp, BadTime}
@@ -23,3 +23,20 @@ number_of BadStp = 11
 number_of BadTime = 12
 number_of Truncated = 13
 number_of TooManyLines = 14
+
+-- the name of a refusal
+abbrev pub name_of : Refusal → List ℕ
+name_of BadLength = codes "BadLength"
+name_of BadByte = codes "BadByte"
+name_of UnknownRecord = codes "UnknownRecord"
+name_of OutOfOrder = codes "OutOfOrder"
+name_of NotFull = codes "NotFull"
+name_of BadDate = codes "BadDate"
+name_of OpenEnd = codes "OpenEnd"
+name_of DatesReversed = codes "DatesReversed"
+name_of BadDays = codes "BadDays"
+name_of BankHoliday = codes "BankHoliday"
+name_of BadStp = codes "BadStp"
+name_of BadTime = codes "BadTime"
+name_of Truncated = codes "Truncated"
+name_of TooManyLines = codes "TooManyLines"

@@ -34,7 +34,7 @@ pub use activities::Activities;
 pub use day::Day;
 pub use days_run::DaysRun;
 pub use field::{Field, activities_at, columns_at, field_at, text_at, uid_at};
-pub use line::{Line, are_printable};
+pub use line::{Line, are_printable, as_text};
 pub use line_builder::LineBuilder;
 pub use line_count::count_lines;
 pub use line_fault::LineFault;
