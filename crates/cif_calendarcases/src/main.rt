@@ -70,7 +70,7 @@ fn push_call(
         ("sizes", _) => {
             let first = extract.header.first;
             let last = extract.header.last;
-            push_sizes(alloc, out, case, associations, Window { first, last })
+            push_sizes(alloc, out, case, associations, &Window { first, last })
         }
         ("winners", Some("AA")) => push_winners(alloc, out, case, associations),
         ("winners", _) => push_winners(alloc, out, case, trains),

@@ -9,7 +9,7 @@ use cif_calendar::{Calendar, Entry, Window};
 use cif_cases::Case;
 use cif_columns::{Day, Stp};
 use cif_records::Association;
-use cif_weeks::{Form, runs};
+use cif_weeks::{Form, Run, runs};
 use std::alloc::{AllocError, Global};
 use std::fmt::Write;
 
@@ -23,24 +23,34 @@ pub(crate) fn push_sizes(
     out: &mut String,
     case: &Case,
     associations: &[Association],
-    window: Window,
+    window: &Window,
 ) -> Result<(), AllocError> {
     let Some(first) = associations.first() else {
         return writeln!(out, "no association");
     };
     for size in SIZES {
         let entries = entries_of(alloc, first, size, case.number("apart", 0))?;
-        let members = all_positions(alloc, entries.len())?;
         write!(out, "{size} members: ")?;
-        if !are_below(members.as_slice(), entries.len()) {
-            return writeln!(out, "no such record");
-        }
-        match calendar_of(alloc, entries.as_slice(), members.as_slice(), window) {
-            Ok(calendar) => push_size(alloc, out, entries.as_slice(), &calendar)?,
-            Err(fault) => writeln!(out, "{fault}")?,
-        }
+        push_members(alloc, out, entries.as_slice(), window)?;
     }
     Ok(())
+}
+
+/// Appends what the calendar of all of these records has.
+fn push_members<E: Entry>(
+    alloc: Global,
+    out: &mut String,
+    entries: &[E],
+    window: &Window,
+) -> Result<(), AllocError> {
+    let members = all_positions(alloc, entries.len())?;
+    if !are_below(members.as_slice(), entries.len()) {
+        return writeln!(out, "no such record");
+    }
+    match calendar_of(alloc, entries, members.as_slice(), *window) {
+        Ok(calendar) => push_size(alloc, out, entries, &calendar),
+        Err(fault) => writeln!(out, "{fault}"),
+    }
 }
 
 /// So many associations like this one, each on one date, so many days after the one before.
@@ -83,10 +93,20 @@ fn push_size<E: Entry>(
         .iter()
         .filter(|entry| place_on(entries, calendar, entry.first()) != Place(None))
         .count();
-    let one = runs(alloc, entries, calendar, Form::One)?.len();
-    let two = runs(alloc, entries, calendar, Form::Two)?.len();
-    writeln!(
-        out,
-        "{pieces} pieces, {dates} dates, {one} runs in form 1, {two} in form 2"
-    )
+    write!(out, "{pieces} pieces, {dates} dates")?;
+    push_count(out, "1", &runs(alloc, entries, calendar, Form::One))?;
+    push_count(out, "2", &runs(alloc, entries, calendar, Form::Two))?;
+    writeln!(out)
+}
+
+/// Appends how many runs there are in this form, or that memory was refused.
+fn push_count(
+    out: &mut String,
+    form: &str,
+    runs: &Result<Vec<Run>, AllocError>,
+) -> Result<(), AllocError> {
+    match runs {
+        Ok(runs) => write!(out, ", {} runs in form {form}", runs.len()),
+        Err(_) => write!(out, ", no memory for those in form {form}"),
+    }
 }
