@@ -7,4 +7,5 @@ use Rattle.cif_columns.proofs.line.as_text.Goals as goal
 pub unreachable-requires : goal.unreachable-requires
 unreachable-requires c =
     let bytes = c.args.bytes.now in
-    c.in-Err.ensures.cases.0 (IsUtf8-from_ascii bytes (IsAscii-from_all bytes (λ k d below. let printable = c.requires k d below in omega arith)))
+    let ascii = IsAscii-from_all bytes (λ k d below. let printable = c.requires k d below in omega arith) in
+    c.in-Err.ensures.cases.0 (IsUtf8-from_ascii bytes ascii)
