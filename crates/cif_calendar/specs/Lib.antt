@@ -1,5 +1,6 @@
 pub mod Applies
 pub mod Calendar
+pub mod CalendarFault
 pub mod Clash
 pub mod Keys
 pub mod Laws

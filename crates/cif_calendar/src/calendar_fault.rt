@@ -1,5 +1,9 @@
 //! Why there is no calendar.
-use cif_columns::Day;
+ghost use Rattle.std.specs.Prelude.{Some};
+
+use cif_columns::{Day, as_text};
+use std::error::Error;
+use std::fmt;
 
 /// Why there is no calendar.
 #[derive(Clone, Copy, Debug, PartialEq, Eq)]
@@ -9,3 +13,22 @@ pub enum CalendarFault {
     /// There is no memory for the pieces.
     Memory,
 }
+
+/// As `Ambiguous on 260106`, or Memory.
+impl fmt::Display for CalendarFault {
+    ghost use Rattle.cif_calendar.specs.CalendarFault.{text_of};
+
+    ghost output = { λ fault. Some (text_of fault) };
+
+    fn fmt<W: fmt::Write>(&self, f: &mut fmt::Formatter<W>) -> fmt::Result {
+        match self {
+            CalendarFault::Ambiguous(day) => {
+                f.write_str("Ambiguous on ")?;
+                f.write_str(as_text(&day.to_yymmdd()))
+            }
+            CalendarFault::Memory => f.write_str("Memory"),
+        }
+    }
+}
+
+impl Error for CalendarFault {}

@@ -5,7 +5,7 @@ ghost use Rattle.cif_weeks.specs.Runs.{AreSources};
 use crate::positions::{all_positions, are_below, positions_of};
 use crate::report::{push_pieces, push_run, push_sources, push_window};
 use cif_calendar::{Calendar, CalendarFault, Entry, Window, calendar};
-use cif_cases::{Case, text_of};
+use cif_cases::Case;
 use cif_columns::Day;
 use cif_weeks::{Form, runs};
 use std::alloc::{AllocError, Global};
@@ -32,7 +32,7 @@ pub(crate) fn push_calendar<E: Entry>(
     }
     match calendar_of(alloc, entries, members.as_slice(), Window { first, last }) {
         Ok(calendar) => push_dates(alloc, out, entries, &calendar),
-        Err(fault) => push_fault(out, fault),
+        Err(fault) => writeln!(out, "{fault}"),
     }
 }
 
@@ -52,18 +52,9 @@ fn push_dates<E: Entry>(
     push_runs(alloc, out, entries, calendar, Form::Two)
 }
 
-fn push_fault(out: &mut String, fault: CalendarFault) -> Result<(), AllocError> {
-    match fault {
-        CalendarFault::Ambiguous(day) => {
-            writeln!(out, "ambiguous on {}", text_of(&day.to_yymmdd()))
-        }
-        CalendarFault::Memory => Err(AllocError),
-    }
-}
-
 /// The calendar of these members.
 #[tactic(auto, using(cif_weeks::proofs::CalendarSources::calendar_sources))]
-fn calendar_of<E: Entry>(
+pub(crate) fn calendar_of<E: Entry>(
     alloc: Global,
     entries: &[E],
     members: &[usize],

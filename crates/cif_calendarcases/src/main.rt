@@ -9,6 +9,10 @@
 //!   dates with their sources, the pieces with the sources of their weekdays from Monday on, and the
 //!   runs in both forms with their sources; or the date on which the extract is ambiguous.
 //! - `winners YYMMDD=N,N ..`: for each word the source on that date by the records at these positions.
+//! - `sizes apart=N`: makes calendars of 0, 1, 2, 8, 9 and 1,000 associations over the header's window.
+//!   Each is the first one of the input on one date, N days after the one before. The answer is how
+//!   many pieces a calendar has, on how many of the associations' dates something runs, and how many
+//!   runs there are in each form.
 //!
 //! A source is named by the first position of a record with the same body, as several records may
 //! have it; where there is none, by a hyphen.
@@ -17,12 +21,15 @@
 mod calendars;
 mod positions;
 mod report;
+mod sizes;
 mod winners;
 
 use calendars::push_calendar;
+use cif_calendar::Window;
 use cif_cases::{Case, cases_of};
 use cif_columns::{Day, Source};
 use cif_extract::{Extract, read_extract};
+use sizes::push_sizes;
 use std::alloc::{AllocError, Global};
 use std::fmt::Write;
 use std::io;
@@ -60,6 +67,11 @@ fn push_call(
     match (case.call, case.value("of")) {
         ("calendar", Some("AA")) => push_calendar(alloc, out, case, associations, first, last),
         ("calendar", _) => push_calendar(alloc, out, case, trains, first, last),
+        ("sizes", _) => {
+            let first = extract.header.first;
+            let last = extract.header.last;
+            push_sizes(alloc, out, case, associations, &Window { first, last })
+        }
         ("winners", Some("AA")) => push_winners(alloc, out, case, associations),
         ("winners", _) => push_winners(alloc, out, case, trains),
         _ => writeln!(out, "no such call"),

@@ -50,7 +50,7 @@ pub(crate) fn push_sources<E: Entry>(
 }
 
 /// The source of the date, which is in the window.
-fn place_on<E: Entry>(entries: &[E], calendar: &Calendar, day: Day) -> Place {
+pub(crate) fn place_on<E: Entry>(entries: &[E], calendar: &Calendar, day: Day) -> Place {
     let window = calendar.window();
     if window.first <= day && day <= window.last {
         first_alike(entries, calendar.source_on(day))

@@ -39,14 +39,13 @@ decided_some f p d = grind (arith, nat_tests)
 -- ---- the last content
 
 pub last_line : (f : Bool) (p : List ℕ) → is_decided f p ≡ false → 0 < length p → first_line f p ≡ line_of p
-unfolding first_line first_content
+unfolding first_line
 last_line f p d some =
     ap (λ b. cond b (Err TooManyLines) (line_of (cond (has_line_feed p) (strip_carriage_return (take (place p) p)) p)))
     (undecided_not_full f p d some)
     ∙ ap (λ b. line_of (cond b (strip_carriage_return (take (place p) p)) p)) (undecided_no_feed f p d)
 
 pub last_after : (f : Bool) (p : List ℕ) → is_decided f p ≡ false → after_content p ≡ []
-unfolding after_content
 last_after f p d =
     let none : length p ≤ place p = ltb-false (place p) (length p) (undecided_no_feed f p d) in
     drop_of_length-le p {i = place p + 1} (omega arith)
@@ -61,13 +60,11 @@ module _ (p more : List ℕ) where
       (same, below, grind (arith, nat_tests, length-append {A = ℕ}))
 
   pub after_more : has_line_feed p ≡ true → after_content (p ++ more) ≡ after_content p ++ more
-  unfolding after_content
   after_more h =
       let feed = feed_stays h in
       ap (λ n. drop (n + 1) (p ++ more)) feed.0 ∙ drop-append-le (place p + 1) p more (omega (arith, feed.1))
 
   content_more : has_line_feed p ≡ true → first_content (p ++ more) ≡ first_content p
-  unfolding first_content
   content_more h =
       let feed = feed_stays h in
       ap (λ b. cond b (strip_carriage_return (take (place (p ++ more)) (p ++ more))) (p ++ more)) feed.2
@@ -87,7 +84,6 @@ module _ (p more : List ℕ) where
       at false = omega arith
 
   long_content : (q : List ℕ) → 82 ≤ length q → 82 ≤ place q → 80 < length (first_content q)
-  unfolding first_content
   long_content q long far = at (has_line_feed q) (stripped_long (take (place q) q))
     where
       at : (b : Bool) → length (take (place q) q) ≤ length (strip_carriage_return (take (place q) q)) + 1
@@ -133,7 +129,6 @@ pub contents_none : lines [] ≡ []
 contents_none = refl
 
 pub contents_first : (bytes : List ℕ) → 0 < length bytes → lines bytes ≡ first_content bytes ∷ lines (after_content bytes)
-unfolding first_content after_content
 contents_first bytes some = at (has_line_feed bytes) refl
   where
     at : (b : Bool) → b ≡ has_line_feed bytes
@@ -157,6 +152,5 @@ contents_first bytes some = at (has_line_feed bytes) refl
 pub plain_rest : {L : Type 0} (bytes : List ℕ) (line : Option L) → IfSome line (λ _. position_or_len is_line_feed bytes ≡ 80) →
     IsSome line →
     drop 81 bytes ≡ after_content bytes
-unfolding after_content
 plain_rest bytes None h some = absurd (cc)
 plain_rest bytes (Some l) h some = ap (λ n. drop (n + 1) bytes) (sym h)

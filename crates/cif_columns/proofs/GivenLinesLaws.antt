@@ -13,25 +13,25 @@ use Rattle.cif_columns.specs.declared.source.Source.{Source}
 use Rattle.cif_columns.specs.Contents.{contents_of, HasLineReason, DecidesNothing}
 use Rattle.cif_columns.specs.Line.{IsLine}
 use Rattle.cif_columns.specs.LineReader.{held, given, limit, past, left, IsNextLine, Answers}
-use Rattle.cif_columns.specs.GivenLines.{HasGiven, KnownGiven, IsReading, AreAllLines, AreLinesToRefusal, AreLinesToFailure}
+use Rattle.cif_columns.specs.GivenLines.{AreWholeLinesAndRest, KnownGiven, IsReading, AreAllLines, AreLinesToRefusal, AreLinesToFailure}
 use Rattle.cif_columns.specs.GivenLines.{AreLinesToFault, EndsLine}
 use Rattle.cif_columns.proofs.WholeLines.{lines_whole, piece_of, ends_after, ends_before, lines_piece}
 use mathlib.Core.Logic.{◌⊎◌, inl, inr}
 
 -- ---- known bytes
 
-none_given : (bytes : List ℕ) → HasGiven bytes [] bytes
+none_given : (bytes : List ℕ) → AreWholeLinesAndRest bytes [] bytes
 none_given bytes = record { whole = []; parts = refl; ended = inl refl; contents = refl; are_lines = λ k d below. absurd (omega arith) }
 
 -- the contents of the bytes are the lines that were given and the contents of the rest
-pub contents_given : (bytes : List ℕ) (ls : List (List ℕ)) (rest : List ℕ) → HasGiven bytes ls rest
+pub contents_given : (bytes : List ℕ) (ls : List (List ℕ)) (rest : List ℕ) → AreWholeLinesAndRest bytes ls rest
     → contents_of bytes ≡ ls ++ contents_of rest
 contents_given bytes ls rest so_far =
     ap lines so_far.parts ∙ lines_whole so_far.whole rest so_far.ended ∙ ap (λ l. l ++ lines rest) so_far.contents
 
-one_more : (max count : ℕ) (bytes : List ℕ) (ls : List (List ℕ)) (rest line rest' : List ℕ) → HasGiven bytes ls rest
+one_more : (max count : ℕ) (bytes : List ℕ) (ls : List (List ℕ)) (rest line rest' : List ℕ) → AreWholeLinesAndRest bytes ls rest
     → IsNextLine max count rest line rest'
-    → HasGiven bytes (ls ++ line ∷ []) rest'
+    → AreWholeLinesAndRest bytes (ls ++ line ∷ []) rest'
 one_more max count bytes ls rest line rest' so_far next =
     let (piece, parts, ended) = piece_of rest line rest' next.stands in
     let one = lines_piece piece rest' line ended (ap lines (sym parts) ∙ next.contents) in
@@ -81,7 +81,7 @@ module _ {R : Type 0} (remaining : R → Option (List ℕ)) where
     where
       at : (start rest : Option (List ℕ)) → rest ≡ prepend_known [] start → KnownGiven start [] rest
       at None rest e = tt
-      at (Some bytes) rest e = subst (λ r. IsSomeAnd r (λ others. HasGiven bytes [] others)) (sym e) (none_given bytes)
+      at (Some bytes) rest e = subst (λ r. IsSomeAnd r (λ others. AreWholeLinesAndRest bytes [] others)) (sym e) (none_given bytes)
 
   module _ (start : Option (List ℕ)) (max : ℕ) (reader : LineReader) (source : Source R) (ls : List (List ℕ))
       (so_far : IsReading remaining start max reader source ls) where
@@ -108,7 +108,7 @@ module _ {R : Type 0} (remaining : R → Option (List ℕ)) where
           at None rest known next = tt
           at (Some bytes) None known next = absurd known
           at (Some bytes) (Some rest) known next =
-              subst (λ r. IsSomeAnd r (λ others. HasGiven bytes (ls ++ line ∷ []) others)) (sym next.1)
+              subst (λ r. IsSomeAnd r (λ others. AreWholeLinesAndRest bytes (ls ++ line ∷ []) others)) (sym next.1)
               (one_more (limit reader) (given reader) bytes ls rest line next.0 known next.2)
 
       -- at the end of the input nothing is left, where the bytes were known
@@ -181,13 +181,16 @@ module _ {R : Type 0} (remaining : R → Option (List ℕ)) where
               let front : (known.whole ≡ []) ⊎ EndsLine known.whole (held reader' ++ unread) =
               subst (λ l. (known.whole ≡ []) ⊎ EndsLine known.whole l) parts known.ended in
               subst (λ r. IsSomeAnd r (λ others. AreLinesToFailure max bytes others ls)) (sym is) (record {
-                whole = known.whole;
-                pending = held reader';
+                before = known.whole ++ held reader';
+                rest = held reader';
                 parts = known.parts ∙ ap (λ l. known.whole ++ l) parts ∙ sym (append_assoc known.whole (held reader') unread);
-                contents = known.contents;
-                seen = lines_whole known.whole (held reader') (ends_before known.whole (held reader') unread front)
-                    ∙ ap (λ l. l ++ lines (held reader')) known.contents;
-                are_lines = known.are_lines;
+                whole_lines_and_rest = record {
+                  whole = known.whole;
+                  parts = refl;
+                  ended = ends_before known.whole (held reader') unread front;
+                  contents = known.contents;
+                  are_lines = known.are_lines;
+                };
                 within = within;
                 undecided = subst (λ m. DecidesNothing m (length ls) (held reader')) so_far.same_limit
                     (subst (λ n. DecidesNothing (limit reader) n (held reader')) so_far.counted undecided);

@@ -53,7 +53,6 @@ stripped part line is = at (nat_eq (slice_index part (length part - 1)) 13) refl
     at false w is = inl is
 
 stands : (bytes line : List ℕ) → first_content bytes ≡ line → StandsFirst bytes line (after_content bytes)
-unfolding first_content after_content
 stands bytes line is = at (has_line_feed bytes) refl is
   where
     at : (b : Bool) → b ≡ has_line_feed bytes → cond b (strip_carriage_return (before_first is_line_feed bytes)) bytes ≡ line

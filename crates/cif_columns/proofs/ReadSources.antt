@@ -1,7 +1,10 @@
 -- Calls that read, one after another.
-use Rattle.std.proofs.Common.{ℕ, Option, refl, subst, ◌∙◌}
+use Rattle.std.proofs.Common.{ℕ, Option, Err, refl, subst, ◌∙◌}
 use Rattle.cif_columns.specs.Devices.{OneError}
+use Rattle.cif_columns.specs.LineReader.{LineReads}
 use Rattle.cif_columns.specs.Source.{HasFailedToRead, HasReadOn, reader_of}
+use Rattle.cif_columns.specs.declared.line_fault.LineFault.{LineFault}
+use Rattle.cif_columns.specs.declared.line_fault.LineFault.TheVariants.{Refused, Read}
 use Rattle.cif_columns.specs.declared.source.Source.{Source}
 
 module _ {R : Type 0} (errors : R → Option ℕ) where
@@ -24,3 +27,9 @@ module _ {R : Type 0} (errors : R → Option ℕ) where
     erred = λ fresh. subst (λ n. OneError n (errors (reader_of u))) p.no_error (h.erred (p.going ∙ fresh));
     untouched = λ stopped. h.untouched (p.going ∙ stopped) ∙ p.untouched stopped;
   }
+
+  -- a call that went on, and one that answered a fault of the lines, which is handed on
+  pub line_reads_on : (A B : Type 0) (s t u : Source R) (fault : LineFault) → HasReadOn errors s t
+      → LineReads {A = A} errors t u (Err fault) → LineReads {A = B} errors s u (Err fault)
+  line_reads_on A B s t u (Refused number why) p h = read_on_both s t u p h
+  line_reads_on A B s t u Read p h = failed_after s t u p h

@@ -1,5 +1,5 @@
 -- What stands in the columns of a line fits them.
-use Rattle.std.proofs.Common.{◌≡◌, ◌≤◌, ℕ, ◌+◌, ◌-◌, ◌&&◌, ◌==◌, Bool, true, nat_eq, List, [], ◌∷◌, length, subst, sym, arith}
+use Rattle.std.proofs.Common.{◌≡◌, ◌≤◌, ℕ, ◌+◌, ◌-◌, ◌&&◌, ◌==◌, Bool, true, nat_eq, List, [], ◌∷◌, length, subst, arith}
 use Rattle.std.proofs.lemmas.Bool.{and_parts}
 use Rattle.std.proofs.lemmas.Bool.Decides.{nat_tests}
 use Rattle.cif_columns.specs.Activities.{AreCodes}
@@ -42,7 +42,8 @@ module _ (line : List ℕ) (is_line : IsLine line) where
       let c = columns from to line in
       let wide : to + 1 - from ≡ 12 = same_number (to + 1 - from) 12 h in
       let long : length c ≡ 12 = omega (arith, wide, length-columns from to line is_line start some within) in
-      (wide, subst AreCodes (codes_in-stands c codes s) (are_codes-codes_in c long (printable-columns from to line is_line start some within)))
+      let plain = printable-columns from to line is_line start some within in
+      (wide, subst AreCodes (codes_in-stands c codes s) (are_codes-codes_in c long plain))
   fits_there from to start some within (working_time time) h s =
       let wide : to + 1 - from ≡ 5 = same_number (to + 1 - from) 5 h in
       let long : length (columns from to line) ≡ 5 = omega (arith, wide, length-columns from to line is_line start some within) in

@@ -18,11 +18,11 @@ abbrev pub has_line_feed : List ℕ → Bool
 has_line_feed bytes = nat_lt (position_or_len is_line_feed bytes) (length bytes)
 
 -- what stands before the first line feed, without the one carriage return at its end; with no line feed, all of it
-unfoldable pub first_content : List ℕ → List ℕ
+abbrev pub first_content : List ℕ → List ℕ
 first_content bytes = if has_line_feed bytes then strip_carriage_return (before_first is_line_feed bytes) else bytes
 
 -- what stands after the first line feed
-unfoldable pub after_content : List ℕ → List ℕ
+abbrev pub after_content : List ℕ → List ℕ
 after_content bytes = after_first is_line_feed bytes
 
 -- a content as a line, or why it is none

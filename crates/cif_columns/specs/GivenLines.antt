@@ -14,8 +14,8 @@ use Rattle.cif_columns.specs.LineReader.{given, limit, past, left}
 abbrev pub EndsLine : List ℕ → List ℕ → Type 0
 EndsLine bytes after = ((front : List ℕ) × (bytes ≡ front ++ 10 ∷ [])) ⊎ (after ≡ [])
 
--- the bytes are these whole lines, each with its ending, and then what is left
-pub record HasGiven (bytes : List ℕ) (lines : List (List ℕ)) (rest : List ℕ) : Type 0 where
+-- the bytes are these whole lines, each with its ending, and then a rest
+pub record AreWholeLinesAndRest (bytes : List ℕ) (lines : List (List ℕ)) (rest : List ℕ) : Type 0 where
   pub whole : List ℕ
   pub parts : bytes ≡ whole ++ rest
   pub ended : (whole ≡ []) ⊎ EndsLine whole rest
@@ -24,7 +24,7 @@ pub record HasGiven (bytes : List ℕ) (lines : List (List ℕ)) (rest : List �
 
 -- the same, where the bytes at the start are known, and with them what is left
 abbrev pub KnownGiven : Option (List ℕ) → List (List ℕ) → Option (List ℕ) → Type 0
-KnownGiven start lines rest = IfSome start (λ bytes. IsSomeAnd rest (λ others. HasGiven bytes lines others))
+KnownGiven start lines rest = IfSome start (λ bytes. IsSomeAnd rest (λ others. AreWholeLinesAndRest bytes lines others))
 
 -- The reader reads on within this limit. These are the lines that it has given so far of the bytes that were left at the start.
 pub record IsReading {R : Type 0} (remaining : R → Option (List ℕ)) (start : Option (List ℕ)) (max : ℕ) (reader : LineReader)
@@ -50,17 +50,15 @@ pub record AreLinesToRefusal (max : ℕ) (bytes : List ℕ) (lines : List (List 
   pub next : number ≡ length lines + 1
   pub reason : HasLineReason max number content why
 
--- Of the bytes the source gave all but those unread before it failed. What it gave are whole lines, at most max, and then
--- pending bytes, which decide no line.
+-- Before it failed the source gave all of the bytes but those unread. What it gave are these whole lines, at most max, and a rest,
+-- which decides no line.
 pub record AreLinesToFailure (max : ℕ) (bytes unread : List ℕ) (lines : List (List ℕ)) : Type 0 where
-  pub whole : List ℕ
-  pub pending : List ℕ
-  pub parts : bytes ≡ (whole ++ pending) ++ unread
-  pub contents : contents_of whole ≡ lines
-  pub seen : contents_of (whole ++ pending) ≡ lines ++ contents_of pending
-  pub are_lines : All IsLine lines
+  pub before : List ℕ
+  pub rest : List ℕ
+  pub parts : bytes ≡ before ++ unread
+  pub whole_lines_and_rest : AreWholeLinesAndRest before lines rest
   pub within : length lines ≤ max
-  pub undecided : DecidesNothing max (length lines) pending
+  pub undecided : DecidesNothing max (length lines) rest
 
 -- the lines that were given of the bytes before this fault, where `after` is what the reader has left then
 abbrev pub AreLinesToFault : ℕ → List ℕ → Option (List ℕ) → List (List ℕ) → LineFault → Type 0

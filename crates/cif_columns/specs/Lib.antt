@@ -13,6 +13,7 @@ pub mod FirstLine
 pub mod GivenLines
 pub mod Line
 pub mod LineBuilder
+pub mod LineFault
 pub mod LineReader
 pub mod PlainTest
 pub mod PublicTime

@@ -61,9 +61,9 @@ Answers max count bytes (Ok None) after = (bytes ≡ []) × (after ≡ Some [])
 Answers max count bytes (Err (Refused number why)) after = IsNextRefusal max count bytes number why
 Answers max count bytes (Err Read) after = after ≡ Some bytes
 
--- what a call owes its source: it fails to read exactly where it says so
-abbrev pub LineReads : {R : Type 0} → (R → Option ℕ) → Source R → Source R → Result (Option Line) LineFault → Type 0
-LineReads errors old new (Ok line) = HasReadOn errors old new
+-- what a call that may answer a fault of the lines owes its source: it fails to read exactly where it answers Read
+abbrev pub LineReads : {R A : Type 0} → (R → Option ℕ) → Source R → Source R → Result A LineFault → Type 0
+LineReads errors old new (Ok done) = HasReadOn errors old new
 LineReads errors old new (Err (Refused number why)) = HasReadOn errors old new
 LineReads errors old new (Err Read) = HasFailedToRead errors old new
 

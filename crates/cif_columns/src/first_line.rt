@@ -16,7 +16,7 @@ pub(crate) struct FirstLine {
 }
 
 /// The first line of the bytes, where whatever follows them it is known.
-#[tactic(auto, unfolding(crate::specs::FirstLine::first_line, crate::specs::FirstLine::is_decided, crate::specs::FirstLine::after_content, crate::specs::FirstLine::first_content))]
+#[tactic(auto, unfolding(crate::specs::FirstLine::first_line, crate::specs::FirstLine::is_decided))]
 pub(crate) fn first_line_of(bytes: &[u8], is_full: bool) -> Option<FirstLine>
     ensures decided { IsSome result ↔ IsTrue (is_decided is_full bytes.now) }
     ensures line { IfSome result (λ first. first.line ≡ first_line is_full bytes.now) }
@@ -51,7 +51,7 @@ pub(crate) fn first_line_of(bytes: &[u8], is_full: bool) -> Option<FirstLine>
 }
 
 /// The first line of the bytes, where that is 80 bytes and a line feed.
-#[tactic(auto, unfolding(crate::specs::FirstLine::first_line, crate::specs::FirstLine::is_decided, crate::specs::FirstLine::after_content, crate::specs::FirstLine::first_content))]
+#[tactic(auto, unfolding(crate::specs::FirstLine::first_line, crate::specs::FirstLine::is_decided))]
 pub(crate) fn first_plain_line(bytes: &[u8]) -> Option<Line>
     ensures line { IfSome result (λ line. first_line false bytes.now ≡ Ok line) }
     ensures decided { IsSome result → is_decided false bytes.now ≡ true }

@@ -1,10 +1,12 @@
-//! Laws for proofs: how values are ordered, and what lines stand in a text of lines.
+//! Laws for proofs: how values are ordered, what lines stand in a text of lines, and how many lines
+//! may be asked for.
 ghost use Rattle.std.specs.Prelude.{◌≡◌, ◌↔◌, ◌≤◌, ℕ, All, IsTrue, List, length};
 ghost use Rattle.std.specs.Cmp.Lexicographic.{slice_cmp};
 ghost use Rattle.std.specs.Ordering.{nat_cmp};
 ghost use Rattle.cif_columns.specs.Contents.{contents_of, lines_text};
 ghost use Rattle.cif_columns.specs.Line.{IsLine};
 ghost use Rattle.cif_columns.specs.Text.{IsText, left_justified as justified};
+ghost use Rattle.cif_columns.specs.declared.line_reader.TheConstants.{MAX_LINES};
 
 use crate::day::Day;
 use crate::text::Text;
@@ -13,6 +15,11 @@ use crate::uid::Uid;
 /// The contents of lines that each end with a line feed are the lines.
 pub fn contents_of_lines()
     ensures { (lines : List (List ℕ)) → All IsLine lines → contents_of (lines_text lines) ≡ lines }
+{}
+
+/// The most lines that may be asked for.
+pub fn most_lines()
+    ensures { MAX_LINES ≡ 100000000 }
 {}
 
 /// Days are equal and ordered as their numbers are.

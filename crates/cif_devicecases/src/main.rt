@@ -1,7 +1,7 @@
 //! Reads lines and bytes of readers and writes records and bytes to writers, as the cases on its
 //! standard input ask: of devices that cut, end, fail or never end.
 //!
-//! `cif_cases` says how a case is written. CALL is one of these, of which the first four are about a
+//! `cif_cases` says how a case is written. CALL is one of these, of which the first five are about a
 //! reader that has the input. It gives at most N bytes a read, by the word `by=N` (1 if left out),
 //! and ends after them; or it fails then, by the word `end=fail`, or goes on with its bytes from K
 //! for ever, by the word `from=K`.
@@ -11,6 +11,8 @@
 //!   line it is asked for once more.
 //! - `count max=N`: asks for lines until there is none. The answer is their number or the fault, and
 //!   how often the reader was read.
+//! - `extract max=N`: reads the input as an extract. The answer is how many records it has or the
+//!   fault, and how often the reader was read.
 //! - `devices max=N`: tells whether a slice begins with a line, and counts the lines of a slice, of a
 //!   reader behind a buffer and of a borrowed reader.
 //! - `reads`: reads up to 100 bytes at a time, until there are none or the reader fails, and once
@@ -19,23 +21,36 @@
 //!   locations, its associations and schedules that have bodies (these on the dates that are asked
 //!   for) and its trailer go to one sink. The answer is what the sink has got.
 //! - `bytes`: the input goes to a sink over a buffer. The answer is what came through.
+//! - `writes takes=N`: gives each line of the input, by one write, to a trial writer itself, which
+//!   takes N bytes and then fails, or answers 0 by the word `then=zero`; and then flushes it. The
+//!   answer is what each of these gave, what the writer has, and how often it was called.
+//! - `flushes takes=N`: the input goes to a sink over a buffer that has room for it, before such a
+//!   trial writer, and the sink is flushed twice. The answer is as before.
+//! - `sizes from=K to=L`: reads the input as an extract with its lines K to L, counted from 1, so
+//!   many times: 0, 1, 2, 8, 9 and 1,000. The answer is how many records each has; and where they
+//!   don't make the same bytes when they are written, with bodies that are made again of their
+//!   parts, it says so.
 //!
-//! What the last two write is then written, each record by itself, to trial writers that take fewer
-//! bytes than it has, every number of them, and then fail or answer 0. Such a sink has to fail, to
-//! have the bytes that fit, and not to be touched again; one that takes all of them has to have them.
-//! The answer says so, or where first it isn't so.
+//! What `records` and `bytes` write is then written, each record by itself, to trial writers. One
+//! takes all bytes, and then it is flushed; the answer says how often it was called for each. The
+//! others take fewer bytes, every number of them, and then fail or answer 0. Such a sink has to fail,
+//! to have the bytes that fit, by one write a line (of `bytes` by one) and then the one that failed,
+//! and not to be touched again. The answer says so, or where first it isn't so.
 #![tactic(auto)]
 
-mod counting;
 mod reading;
+mod sizes;
 mod trials;
+mod writers;
 mod writing;
 mod written;
 
 use cif_cases::{Case, cases_of};
 use reading::push_read;
+use sizes::push_sizes;
 use std::alloc::Global;
 use std::io;
+use writers::{push_flushes, push_writes};
 use writing::{push_bytes, push_records};
 
 fn main(rt: HostRuntime) -> io::Result<()> {
@@ -53,6 +68,9 @@ fn push_answer(alloc: Global, out: &mut String, case: &Case) -> io::Result<()> {
     match case.call {
         "records" => Ok(push_records(alloc, out, case)?),
         "bytes" => push_bytes(alloc, out, case.input.as_slice()),
+        "writes" => Ok(push_writes(out, case)?),
+        "flushes" => push_flushes(alloc, out, case),
+        "sizes" => Ok(push_sizes(alloc, out, case)?),
         _ => push_read(alloc, out, case),
     }
 }

@@ -1,7 +1,7 @@
 //! What is read.
-use crate::counting::count_lines;
 use cif_cases::{Case, text_of};
-use cif_columns::{End, LineFault, LineReader, ReadFault, Source, TrialReader};
+use cif_columns::{End, LineFault, LineReader, Source, TrialReader, count_lines};
+use cif_extract::{Extract, read_extract};
 use std::alloc::{AllocError, Global};
 use std::fmt::Write;
 use std::io;
@@ -21,6 +21,7 @@ pub(crate) fn push_read(alloc: Global, out: &mut String, case: &Case) -> io::Res
             writeln!(out, "reads {}", source.reader().calls())?;
         }
         "devices" => push_devices(alloc, out, case.input.as_slice(), max_lines)?,
+        "extract" => push_extract(alloc, out, &mut source, max_lines)?,
         "reads" => push_reads(out, &mut source)?,
         _ => writeln!(out, "no such call")?,
     }
@@ -80,10 +81,8 @@ fn push_lines(
 
 fn push_fault(out: &mut String, fault: LineFault) -> Result<(), AllocError> {
     match fault {
-        LineFault::Refused { line, why } => {
-            writeln!(out, "line {line}: {why:?}, number {}", why.number())
-        }
-        LineFault::Read => writeln!(out, "{ReadFault}"),
+        LineFault::Refused { line: _, why } => writeln!(out, "{fault}, number {}", why.number()),
+        LineFault::Read => writeln!(out, "{fault}"),
     }
 }
 
@@ -93,6 +92,28 @@ fn push_count(out: &mut String, count: Result<u64, LineFault>) -> Result<(), All
         Ok(count) => writeln!(out, "lines {count}"),
         Err(fault) => push_fault(out, fault),
     }
+}
+
+/// Appends what the source is read as, and how often it is read.
+fn push_extract(
+    alloc: Global,
+    out: &mut String,
+    source: &mut Source<TrialReader>,
+    max_lines: u16,
+) -> Result<(), AllocError> {
+    match read_extract(alloc, source, u64::from(max_lines)) {
+        Ok(extract) => push_counts(out, &extract)?,
+        Err(fault) => write!(out, "{fault}")?,
+    }
+    writeln!(out, ", after {} reads", source.reader().calls())
+}
+
+/// Appends how many records the extract has.
+pub(crate) fn push_counts(out: &mut String, extract: &Extract) -> Result<(), AllocError> {
+    let tiplocs = extract.tiplocs.len();
+    let associations = extract.associations.len();
+    let schedules = extract.schedules.len();
+    write!(out, "{tiplocs} TI, {associations} AA, {schedules} BS")
 }
 
 /// Appends how many lines these bytes are, over several devices.

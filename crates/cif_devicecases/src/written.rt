@@ -1,6 +1,7 @@
 //! What is written.
 ghost use Rattle.std.specs.Prelude.{◌≤◌};
 
+use cif_cases::LINE_BYTES;
 use cif_columns::{Day, DaysRun, Sink, WriteDevice, WriteFault};
 use cif_extract::{
     Extract, write_association, write_head, write_schedule, write_tiploc, write_trailer,
@@ -10,15 +11,22 @@ use std::alloc::{AllocError, Global};
 /// What is written at once.
 pub(crate) trait Written {
     fn write<W: WriteDevice>(&self, sink: &mut Sink<W>) -> Result<(), WriteFault>;
+
+    /// By how many writes so many of its bytes go out, to a writer that takes no more.
+    fn writes_of(&self, count: usize) -> u64;
 }
 
-/// Bytes as they are.
+/// Bytes as they are, at once.
 #[derive(Clone, Copy)]
 pub(crate) struct Bytes<'a>(pub(crate) &'a [u8]);
 
 impl Written for Bytes<'_> {
     fn write<W: WriteDevice>(&self, sink: &mut Sink<W>) -> Result<(), WriteFault> {
         sink.write_all(self.0)
+    }
+
+    fn writes_of(&self, count: usize) -> u64 {
+        u64::from(count > 0)
     }
 }
 
@@ -58,7 +66,7 @@ pub(crate) struct Dates {
     ghost in_order: { first ≤ last },
 }
 
-/// A record of an extract; where it has dates, these.
+/// A record of an extract, line by line; where it has dates, these.
 #[derive(Clone, Copy)]
 pub(crate) struct Dated<'a> {
     pub(crate) extract: &'a Extract,
@@ -80,6 +88,10 @@ impl Written for Dated<'_> {
             Part::Schedule(at) => write_schedule_at(extract, at, self.dates, sink),
             Part::Trailer => write_trailer(sink),
         }
+    }
+
+    fn writes_of(&self, count: usize) -> u64 {
+        count.div_ceil(LINE_BYTES) as u64
     }
 }
 

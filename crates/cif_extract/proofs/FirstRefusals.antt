@@ -14,6 +14,7 @@ use Rattle.cif_columns.specs.GivenLines.{AreLinesToFailure, AreLinesToFault, IsR
 use Rattle.cif_columns.specs.Line.{IsLine}
 use Rattle.cif_columns.specs.LineReader.{IsNextFault, LineReads, left}
 use Rattle.cif_columns.specs.Source.{HasReadOn}
+use Rattle.cif_columns.specs.declared.line.Line.{Line}
 use Rattle.cif_columns.specs.declared.line_fault.LineFault.{LineFault}
 use Rattle.cif_columns.specs.declared.line_fault.LineFault.TheVariants as line_fault
 use Rattle.cif_columns.specs.declared.line_reader.LineReader.{LineReader}
@@ -145,7 +146,7 @@ module _ (max : ℕ) where
 
 -- what a call that hands a fault of the lines on owes its source
 pub fault_handed_on : {R A : Type 0} (errors : R → Option ℕ) (s t u : Source R) (l : LineFault) (result : Result A Fault)
-    → result ≡ Err (of_line_fault l) → HasReadOn errors s t → LineReads errors t u (Err l) → FaultReads errors s u result
+    → result ≡ Err (of_line_fault l) → HasReadOn errors s t → LineReads {A = Option Line} errors t u (Err l) → FaultReads errors s u result
 fault_handed_on errors s t u (line_fault.Refused number why) result e p h = rw e (read_on_both errors s t u p h)
 fault_handed_on errors s t u line_fault.Read result e p h = rw e (failed_after errors s t u p h)
 
@@ -155,5 +156,5 @@ if_error P r e is h = rw is h
 
 -- a fault of the lines is one of reading
 pub line_fault_of_reading : (max count : ℕ) (l : LineFault) → count ≤ max → IsNextFault count l → IsOfReading max (of_line_fault l)
-line_fault_of_reading max count (line_fault.Refused number why) within h = omega (arith, h.0)
+line_fault_of_reading max count (line_fault.Refused number why) within h = (omega (arith, h.0), omega (arith, h.0))
 line_fault_of_reading max count line_fault.Read within h = tt

@@ -14,7 +14,7 @@ use Rattle.cif_extract.specs.FirstRefusal.{NoneRefused, IsFirstRefusal, refusal_
 use Rattle.cif_extract.specs.Grammar.{AreExtract}
 use Rattle.cif_extract.specs.OrderOfRecords.{record_before}
 use Rattle.cif_extract.specs.Steps.Place.{may_stand}
-use Rattle.cif_extract.specs.ReadFault.{IsOfReading, IsReadFault}
+use Rattle.cif_extract.specs.ReadFault.{IsLineNumber, IsOfReading, IsReadFault}
 use Rattle.cif_extract.specs.Steps.Reading.{HasRead, HasReadAt, IsHeld, IsTaken, IsUnfinished, Progress, begun, no_progress}
 use Rattle.cif_extract.specs.Steps.Reading.{parts_with_header, refusal_here, step}
 use Rattle.cif_extract.specs.SpellsExtract.{BytesSpellWithin, SpellAll, SpellExtract}
@@ -213,12 +213,12 @@ refused_reason refusal line before after (stop.Refused x) why taken e = taken �
 refused_reason refusal line before after stop.Memory why taken e = cc
 
 -- a stop is a fault of reading
-pub stop_of_reading : (max number : ℕ) (s : StopAt) → number ≤ max → IsOfReading max (stop_fault number s)
-stop_of_reading max number (stop.Refused why) h = omega arith
-stop_of_reading max number stop.Memory h = tt
+pub stop_of_reading : (max number : ℕ) (s : StopAt) → 1 ≤ number → number ≤ max → IsOfReading max (stop_fault number s)
+stop_of_reading max number (stop.Refused why) first h = (first, omega arith)
+stop_of_reading max number stop.Memory first h = tt
 
 -- and so is the want of a trailer
 pub unfinished_of_reading : (max : ℕ) (p : Progress) (number : ℕ) (result : Result Extract Fault) → number ≤ max →
     IfErr result (λ f. (f ≡ fault.Refused (number + 1) refusal.Truncated) × IsUnfinished p) → IfErr result (IsOfReading max)
 unfinished_of_reading max p number (Ok extract) within h = tt
-unfinished_of_reading max p number (Err f) within h = let bound : number + 1 ≤ max + 1 = omega arith in rw h.0 bound
+unfinished_of_reading max p number (Err f) within h = let bound : IsLineNumber max (number + 1) = (omega arith, omega arith) in rw h.0 bound

@@ -1,8 +1,10 @@
--- The numbers of faults.
-use Rattle.std.specs.Prelude.{ℕ}
-use Rattle.cif_columns.specs.Refusal.{number_of as refusal_number}
+-- The numbers, names and texts of faults.
+use Rattle.std.specs.Prelude.{ℕ, List, ◌++◌, codes}
+use Rattle.cif_columns.specs.LineFault.{text_of as line_fault_text}
+use Rattle.cif_columns.specs.Refusal.{name_of as refusal_name, number_of as refusal_number}
 use Rattle.cif_columns.specs.declared.line_fault.LineFault.{LineFault}
 use Rattle.cif_columns.specs.declared.line_fault.LineFault.TheVariants as line_fault
+use Rattle.cif_extract.specs.Clash.{text_of as clash_text}
 use Rattle.cif_extract.specs.declared.fault.Fault.{Fault}
 use Rattle.cif_extract.specs.declared.fault.Fault.TheVariants.{Refused, Ambiguous, WindowsDiffer, OutsideWindow, WindowReversed, Read}
 use Rattle.cif_extract.specs.declared.fault.Fault.TheVariants.{Write, Memory}
@@ -17,6 +19,23 @@ number_of Read = 18
 number_of Write = 19
 number_of Memory = 20
 number_of WindowReversed = 21
+
+-- the name of a fault
+abbrev pub name_of : Fault → List ℕ
+name_of (Refused line why) = refusal_name why
+name_of (Ambiguous clash) = codes "Ambiguous"
+name_of WindowsDiffer = codes "WindowsDiffer"
+name_of OutsideWindow = codes "OutsideWindow"
+name_of WindowReversed = codes "WindowReversed"
+name_of Read = codes "ReadFault"
+name_of Write = codes "WriteFault"
+name_of Memory = codes "Memory"
+
+-- what a fault is: its name, behind the line that is refused, or before what clashes
+unfoldable pub text_of : Fault → List ℕ
+text_of (Refused line why) = line_fault_text (line_fault.Refused line why)
+text_of (Ambiguous clash) = name_of (Ambiguous clash) ++ codes ": " ++ clash_text clash
+text_of fault = name_of fault
 
 -- a fault of the line reader as one of the extract
 abbrev pub of_line_fault : LineFault → Fault

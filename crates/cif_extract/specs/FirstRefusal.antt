@@ -6,7 +6,7 @@ use Rattle.cif_columns.specs.Contents.{contents_of}
 use Rattle.cif_columns.specs.GivenLines.{AreLinesToFailure}
 use Rattle.cif_columns.specs.FirstLine.{is_printable}
 use Rattle.cif_columns.specs.declared.refusal.Refusal.{Refusal}
-use Rattle.cif_columns.specs.declared.refusal.Refusal.TheVariants.{BadLength, BadByte, UnknownRecord, OutOfOrder, Truncated, TooManyLines}
+use Rattle.cif_columns.specs.declared.refusal.Refusal.TheVariants.{BadLength, BadByte, OutOfOrder, Truncated, TooManyLines}
 use Rattle.cif_extract.specs.OrderOfRecords.{RecordBefore, may_follow, record_before}
 use Rattle.cif_records.specs.Checks.{first_of, unless}
 use Rattle.cif_records.specs.Kind.{kind_in}
@@ -14,13 +14,13 @@ use Rattle.cif_records.specs.Record.{record_refusal}
 use Rattle.cif_records.specs.declared.kind.Kind.{Kind}
 use Rattle.cif_records.specs.declared.kind.Kind.TheVariants.{Zz}
 
--- why a line whose columns 1 and 2 name this kind, or none, may not come after this record
+-- why a line whose columns 1 and 2 name this kind may not come after this record; one that names none is refused as a record
 abbrev pub order_refusal : RecordBefore → Option Kind → Option Refusal
-order_refusal before None = Some UnknownRecord
+order_refusal before None = None
 order_refusal before (Some kind) = unless (may_follow before kind) OutOfOrder
 
 -- The first reason to refuse a content that comes after these, where max lines may come: it is one too many, it isn't eighty
--- bytes, one of them may stand in no line, its kind isn't known or may not follow, or a field of it is refused.
+-- bytes, one of them may stand in no line, its kind may not follow, or it is refused as a record, for its kind or for a field.
 unfoldable pub refusal_of : ℕ → List (List ℕ) → List ℕ → Option Refusal
 refusal_of max before content = first_of (
     unless (nat_lt (length before) max) TooManyLines
@@ -56,7 +56,7 @@ abbrev pub IsFirstRefusal : ℕ → List ℕ → ℕ → Refusal → Type 0
 IsFirstRefusal max bytes number why = IsRefusedLine max (contents_of bytes) number why ⊎ IsTruncated max (contents_of bytes) number why
 
 -- A source failed before a refused line was decided: of these bytes it gave all but those unread. What it gave are whole lines,
--- none of them refused, and then pending bytes, which decide no line.
+-- none of them refused, and then a rest, which decides no line.
 pub record IsCutBeforeRefusal (max : ℕ) (bytes unread : List ℕ) : Type 0 where
   pub lines : List (List ℕ)
   pub given : AreLinesToFailure max bytes unread lines

@@ -1,6 +1,7 @@
 pub mod Body
 pub mod BodyParts
 pub mod Call
+pub mod Clash
 pub mod ExtractParts
 pub mod Fault
 pub mod FirstRefusal

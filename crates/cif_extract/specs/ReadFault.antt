@@ -16,9 +16,13 @@ IsReadFault max bytes after Read = IsSomeAnd after (IsCutBeforeRefusal max bytes
 IsReadFault max bytes after Memory = Unit {0}
 IsReadFault max bytes after _ = ⊥
 
+-- the number, counted from 1, of one of at most max lines, or of the line behind them
+abbrev pub IsLineNumber : ℕ → ℕ → Type 0
+IsLineNumber max number = (1 ≤ number) × (number ≤ max + 1)
+
 -- the faults of reading at most max lines, over whatever source
 abbrev pub IsOfReading : ℕ → Fault → Type 0
-IsOfReading max (Refused line why) = line ≤ max + 1
+IsOfReading max (Refused line why) = IsLineNumber max line
 IsOfReading max Read = Unit {0}
 IsOfReading max Memory = Unit {0}
 IsOfReading max _ = ⊥

@@ -1,8 +1,12 @@
 //! Why a job on an extract isn't done.
-ghost use Rattle.std.specs.Prelude.{◌≡◌};
+ghost use Rattle.std.specs.Prelude.{◌≡◌, Some};
 
 use crate::Clash;
+use arrayvec::ArrayString;
 use cif_columns::{LineFault, Refusal, WriteFault};
+use itoa::Buffer;
+use std::error::Error;
+use std::fmt;
 
 /// Why a job on an extract isn't done.
 #[derive(Debug, Drop, PartialEq, Eq)]
@@ -25,8 +29,11 @@ pub enum Fault {
     Memory,
 }
 
+/// The bytes of the longest text: that of associations that clash.
+const LONGEST: usize = 64;
+
 impl Fault {
-    ghost use Rattle.cif_extract.specs.Fault.{number_of};
+    ghost use Rattle.cif_extract.specs.Fault.{name_of, number_of, text_of};
 
     /// The number of the fault: 1 to 14 for a refusal, and then 15 Ambiguous, 16 WindowsDiffer, 17
     /// OutsideWindow, 18 Read, 19 Write, 20 Memory, 21 WindowReversed.
@@ -44,7 +51,60 @@ impl Fault {
             Fault::WindowReversed => 21,
         }
     }
+
+    /// The name of the fault: that of the refusal, or Ambiguous, WindowsDiffer, OutsideWindow,
+    /// WindowReversed, ReadFault, WriteFault or Memory.
+    pub fn name(&self) -> &'static str
+        ensures { result.now ≡ name_of self.now }
+    {
+        match self {
+            Fault::Refused { line: _, why } => why.name(),
+            Fault::Ambiguous(_) => "Ambiguous",
+            Fault::WindowsDiffer => "WindowsDiffer",
+            Fault::OutsideWindow => "OutsideWindow",
+            Fault::WindowReversed => "WindowReversed",
+            Fault::Read => "ReadFault",
+            Fault::Write => "WriteFault",
+            Fault::Memory => "Memory",
+        }
+    }
+
+    /// What the fault is: its name, behind the line that is refused, as `line 2: BadDays`, or before
+    /// what clashes. It takes no memory.
+    #[tactic(auto, unfolding(crate::specs::Fault::text_of))]
+    pub fn text(&self) -> ArrayString<LONGEST>
+        ensures { result.bytes ≡ text_of self.now }
+    {
+        let mut text = ArrayString::new();
+        match self {
+            Fault::Refused { line, why } => {
+                text.push_str("line ");
+                text.push_str(Buffer::new().format(*line));
+                text.push_str(": ");
+                text.push_str(why.name());
+            }
+            Fault::Ambiguous(clash) => {
+                text.push_str("Ambiguous: ");
+                text.push_str(clash.text().as_str());
+            }
+            _ => text.push_str(self.name()),
+        }
+        text
+    }
 }
+
+/// Its text.
+impl fmt::Display for Fault {
+    ghost use Rattle.cif_extract.specs.Fault.{text_of};
+
+    ghost output = { λ fault. Some (text_of fault) };
+
+    fn fmt<W: fmt::Write>(&self, f: &mut fmt::Formatter<W>) -> fmt::Result {
+        f.write_str(self.text().as_str())
+    }
+}
+
+impl Error for Fault {}
 
 impl From<LineFault> for Fault {
     ghost use Rattle.cif_extract.specs.Fault.{of_line_fault};

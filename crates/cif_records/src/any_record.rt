@@ -118,10 +118,9 @@ fn plain_line_as<R: Layout>(line: &Line) -> Result<Line, Refusal>
     layout::plain_line_of::<R>(line)
 }
 
-/// Whether the line, of this kind, is the plain line of the record that it spells, as far as one
-/// pass over its columns tells. A `false` costs time alone: `plain_line_of` answers then.
+/// Whether the line is the plain line of a record of this kind, and spells it, as far as one pass
+/// over its columns tells. A `false` costs time alone: `plain_line_of` answers then.
 pub fn is_plain_line(kind: Kind, line: &Line) -> bool
-    requires { kind_in line.now ≡ Some kind }
     ensures { IsTrue result → IsJudged (record_refusal line.now)
         (IsPlainOf Record record_table line.now) (Ok line.now) }
 {
@@ -135,10 +134,9 @@ pub fn is_plain_line(kind: Kind, line: &Line) -> bool
     }
 }
 
-/// Whether the line, which names the kind of `R`, is the plain line of the record that it spells.
+/// Whether the line is the plain line of an `R`, and spells it.
 #[inline]
 fn is_plain_as<R: Layout>(line: &Line) -> bool
-    requires { kind_in line.now ≡ Some R.kind }
     ensures { IsTrue result → IsJudged (record_refusal line.now)
         (IsPlainOf Record record_table line.now) (Ok line.now) }
 {

@@ -60,7 +60,7 @@ IsFirstRefusal max bytes number why =
     IsRefusedLine max (contents_of bytes) number why ⊎ IsTruncated max (contents_of bytes) number why
 
 -- A source failed before a refused line was decided: of these bytes it gave all but those unread. What it gave are whole lines,
--- none of them refused, and then pending bytes, which decide no line.
+-- none of them refused, and then a rest, which decides no line.
 pub record IsCutBeforeRefusal (max : ℕ) (bytes unread : List ℕ) : Type 0 where
   pub lines : List (List ℕ)
   pub given : AreLinesToFailure max bytes unread lines

@@ -1,7 +1,5 @@
 use Rattle.std.proofs.Common.{◌+◌, ap, sym, drop}
-use Rattle.cif_columns.specs.FirstLine.{after_content}
 use Rattle.cif_columns.proofs.first_line.first_line_of.Goals as goal
 
 pub returns-in-Some-clause-rest : goal.returns-in-Some-clause-rest
-unfolding after_content
 returns-in-Some-clause-rest c _ = ap (λ n. drop (n + 1) c.args.bytes.now) (sym c.in-Some.ensures.ended)

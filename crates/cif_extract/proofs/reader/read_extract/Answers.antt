@@ -111,7 +111,9 @@ returns-in-Err-clause-answers g c =
     let next = c.in_ok-line.ensures in
     let within : c.line_number.result ≤ c.args.max_lines =
     omega (arith, c.line_number.ensures, c.next.new.self.counted, next.limit, so_far.same_limit) in
-    rw c.line.ensures (stop_of_reading c.args.max_lines c.line_number.result c.in-Err.stop within)
+    let more : given c.next.new.self ≡ given c.loop-reading.lines + 1 = rw c.in-Some.is at next.counted in
+    let first : 1 ≤ c.line_number.result = omega (arith, c.line_number.ensures, more) in
+    rw c.line.ensures (stop_of_reading c.args.max_lines c.line_number.result c.in-Err.stop first within)
 
 pub returns-in-None-clause-answers : goal.returns-in-None-clause-answers
 returns-in-None-clause-answers g c =

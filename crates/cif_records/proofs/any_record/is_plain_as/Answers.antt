@@ -1,5 +1,7 @@
-use Rattle.std.proofs.Common.{Ok, sym, ◌∙◌}
-use Rattle.cif_records.proofs.Records.{plain_as, refusal-kind}
+use Rattle.std.proofs.Common.{None, Ok, refl, subst, sym}
+use Rattle.cif_columns.specs.Field.{AllStandIn}
+use Rattle.cif_records.specs.SpellsRecord.{SpellsRecord}
+use Rattle.cif_records.proofs.Records.{no_refusal, plain_as}
 use Rattle.cif_records.proofs.any_record.is_plain_as.Goals as goal
 
 pub returns : goal.returns
@@ -7,5 +9,8 @@ returns g c = λ yes.
     let R = g.R.Layout in
     let met = g.met.R.Layout in
     let line = c.args.line.now in
-    plain_as R.table R.as_record (λ r. sym (met.same_table r)) line _ (Ok line)
-    (refusal-kind line R.kind c.requires ∙ met.same_refusal line) (c.is_plain.ensures yes)
+    let plain = (c.is_plain.ensures yes).1 in
+    let spelled : SpellsRecord line (R.as_record plain.value) =
+    subst (AllStandIn line) (sym (met.same_table plain.value)) plain.stands in
+    plain_as R.table R.as_record (λ r. sym (met.same_table r)) line None (Ok line)
+    (no_refusal line (R.as_record plain.value) spelled) (refl, plain)

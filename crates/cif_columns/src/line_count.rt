@@ -1,22 +1,26 @@
 //! The lines of a whole run.
-ghost use Rattle.std.specs.Prelude.{◌≡◌, ◌≤◌, ℕ, List, length, IfSome, IfOk, IfErr};
-ghost use Rattle.cif_columns.specs.Source.{reader_of};
+ghost use Rattle.std.specs.Prelude.{◌≡◌, ◌≤◌, ℕ, List, length, false, IfSome, IfOk, IfErr};
 ghost use Rattle.cif_columns.specs.GivenLines.{AreAllLines, AreLinesToFault};
+ghost use Rattle.cif_columns.specs.LineReader.{LineReads};
+ghost use Rattle.cif_columns.specs.Source.{reader_of, source_failed};
 ghost use Rattle.cif_columns.specs.declared.line_reader.TheConstants.{MAX_LINES};
 
-use cif_columns::{LineFault, LineReader, ReadDevice, Source};
+use crate::line_fault::LineFault;
+use crate::line_reader::LineReader;
+use crate::read_device::ReadDevice;
+use crate::source::Source;
 
-/// How many lines the source has, or why it has no further line.
-pub(crate) fn count_lines<R: ReadDevice>(
-    source: &mut Source<R>,
-    max_lines: u64,
-) -> Result<u64, LineFault>
+/// How many lines the source has, of which at most `max_lines` may come, or why it has no further
+/// line.
+pub fn count_lines<R: ReadDevice>(source: &mut Source<R>, max_lines: u64) -> Result<u64, LineFault>
     requires { max_lines ≤ MAX_LINES }
     ensures all { IfSome (R.remaining (reader_of source.old)) (λ bytes. IfOk result (λ count.
         (lines : List (List ℕ)) × (count ≡ length lines) × AreAllLines max_lines bytes lines)) }
     ensures fault { IfSome (R.remaining (reader_of source.old)) (λ bytes. IfErr result (λ fault.
         (lines : List (List ℕ))
         × AreLinesToFault max_lines bytes (R.remaining (reader_of source.new)) lines fault)) }
+    ensures endless { IfOk result (λ _. source_failed source.old ≡ false) }
+    ensures device { LineReads R.read_errors source.old source.new result }
 {
     let mut lines = LineReader::new(max_lines);
     loop {

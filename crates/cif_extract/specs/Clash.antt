@@ -1,0 +1,21 @@
+-- The text of a clash.
+use Rattle.std.specs.Prelude.{ℕ, List, ◌++◌, codes}
+use Rattle.cif_columns.specs.DayDigits.{yymmdd_of}
+use Rattle.cif_columns.specs.Text.{left_justified}
+use Rattle.cif_extract.specs.declared.clash.Clash.{Clash}
+use Rattle.cif_extract.specs.declared.clash.Clash.TheVariants.{Association, Train}
+use Rattle.cif_records.specs.declared.assoc_key.AssocKey.{AssocKey}
+
+-- columns between brackets
+abbrev pub bracketed : List ℕ → List ℕ
+bracketed columns = codes "[" ++ columns ++ codes "]"
+
+-- an association's key: the plain columns of each field, in the order in which keys are compared
+unfoldable pub key_text : AssocKey → List ℕ
+key_text key = bracketed key.base ++ bracketed key.associated ++ bracketed (left_justified 7 key.location)
+    ++ bracketed (left_justified 1 key.base_suffix) ++ bracketed (left_justified 1 key.associated_suffix)
+
+-- what clashes, and on which date
+unfoldable pub text_of : Clash → List ℕ
+text_of (Association key day) = codes "association " ++ key_text key ++ codes " on " ++ yymmdd_of day
+text_of (Train uid day) = codes "train " ++ bracketed uid ++ codes " on " ++ yymmdd_of day
