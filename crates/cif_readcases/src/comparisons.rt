@@ -1,63 +1,12 @@
-//! Compares what is read from extracts with what a plain look at their whole contents says, as the
-//! cases on its standard input ask.
-//!
-//! `cif_cases` says how a case is written. Here its lines are those of an extract, and CALL is one
-//! of these:
-//!
-//! - `compare max=N`: reads the input, of which at most N lines may come (100 if left out).
-//! - `damage count=N others=NAME`: reads N inputs that are made from this one by damages that look
-//!   random, the same in each run: lines are swapped, dropped, repeated, or stand beside or in place
-//!   of lines of the case NAME, and then bytes are. The answer has the numbers of the refusals that
-//!   were met, 0 for none. An input that is read in another way is printed as a case of `compare`.
-//! - `keep`: keeps the input for other cases.
-#![tactic(auto)]
-
-mod damage;
-mod numbers;
-mod plain_reading;
-
-use cif_cases::{Case, cases_of, push_case};
-use cif_columns::Source;
-use cif_extract::{Fault, read_extract};
-use damage::damaged;
-use numbers::Numbers;
-use plain_reading::{contents_of, first_refusal, has_records_of};
+//! Readings beside a plain look at the whole contents.
+use crate::damage::damaged;
+use crate::numbers::Numbers;
+use crate::plain_reading::{contents_of, first_refusal, has_records_of};
+use crate::readings::read_slice;
+use cif_cases::push_case;
+use cif_extract::Fault;
 use std::alloc::{AllocError, Global};
 use std::fmt::Write;
-use std::io;
-
-fn main(rt: HostRuntime) -> io::Result<()> {
-    let text = io::read_to_string(rt.alloc(), rt.reader())?;
-    let cases = cases_of(rt.alloc(), text.as_str())?;
-    for case in &cases {
-        let mut out = String::new(rt.alloc());
-        push_answer(rt.alloc(), &mut out, case, cases.as_slice())?;
-        print!(rt; "== {}\n{}", case.name, out.as_str())?;
-    }
-    Ok(())
-}
-
-/// Appends what the case's call answers.
-fn push_answer(
-    alloc: Global,
-    out: &mut String,
-    case: &Case,
-    cases: &[Case],
-) -> Result<(), AllocError> {
-    let bytes = case.input.as_slice();
-    match case.call {
-        "compare" => {
-            let compared = compare(alloc, bytes, case.number("max", 100))?;
-            push_compared(out, compared)
-        }
-        "damage" => {
-            let others = case.named("others", cases);
-            push_damage(alloc, out, bytes, others, case.number("count", 1))
-        }
-        "keep" => writeln!(out, "{} bytes", bytes.len()),
-        _ => writeln!(out, "no such call"),
-    }
-}
 
 /// What a reading and a look at the contents came to.
 #[derive(Clone, Copy)]
@@ -70,7 +19,7 @@ struct Comparison {
 /// Whether the bytes are read as their contents say, and what they say.
 fn compare(alloc: Global, bytes: &[u8], max_lines: u16) -> Result<Comparison, AllocError> {
     let contents = contents_of(alloc, bytes)?;
-    let given = read_extract(alloc, &mut Source::new(bytes), u64::from(max_lines));
+    let given = read_slice(alloc, bytes, max_lines);
     Ok(match first_refusal(&contents, max_lines) {
         Some((line, why)) => Comparison {
             is_same: given.err() == Some(Fault::Refused { line, why }),
@@ -83,7 +32,14 @@ fn compare(alloc: Global, bytes: &[u8], max_lines: u16) -> Result<Comparison, Al
     })
 }
 
-fn push_compared(out: &mut String, compared: Comparison) -> Result<(), AllocError> {
+/// Appends whether the bytes are read as their contents say.
+pub(crate) fn push_compared(
+    alloc: Global,
+    out: &mut String,
+    bytes: &[u8],
+    max_lines: u16,
+) -> Result<(), AllocError> {
+    let compared = compare(alloc, bytes, max_lines)?;
     let number = compared.number;
     if compared.is_same {
         writeln!(out, "read as its contents say: {number}")
@@ -94,7 +50,7 @@ fn push_compared(out: &mut String, compared: Comparison) -> Result<(), AllocErro
 
 /// Appends how so many damaged extracts are read, up to the first that is not read as its contents
 /// say.
-fn push_damage(
+pub(crate) fn push_damage(
     alloc: Global,
     out: &mut String,
     bytes: &[u8],
@@ -119,6 +75,11 @@ fn push_damage(
         }
     }
     writeln!(out, "{count} inputs, each read as its contents say")?;
+    push_met(out, &met)
+}
+
+/// Appends the numbers that were met.
+fn push_met(out: &mut String, met: &[bool; 15]) -> Result<(), AllocError> {
     write!(out, "met")?;
     for (number, is_met) in met.iter().enumerate() {
         if *is_met {
