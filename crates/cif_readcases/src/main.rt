@@ -16,19 +16,31 @@
 //!   its bytes in turn.
 //! - `kinds others=NAME`: puts each line of the case NAME behind each front of whole lines, as it
 //!   stands and then with other columns 3 to 80, and tells of those that are not out of order.
+//! - `compare`: compares what the input is read as with what a plain look at its whole contents says.
+//! - `damage count=N others=NAME`: does that with N inputs that are made from this one by damages that
+//!   look random, the same in each run: lines are swapped, dropped, repeated, or stand beside or in
+//!   place of lines of the case NAME, and then bytes are. The answer has the numbers of the refusals
+//!   that were met, 0 for none. An input that is read in another way is printed as a case of
+//!   `compare`.
 //! - `keep`: keeps the input for other cases.
 //!
 //! Each reading is done of a slice and again with one byte a read (`fails` and `failing-cuts`: with
-//! one byte a read and again with a hundred). Where these differ, the answer says so.
+//! one byte a read and again with a hundred; `compare` and `damage`: of a slice alone). Where these
+//! differ, the answer says so.
 #![tactic(auto)]
 
 mod answer;
+mod comparisons;
+mod damage;
 mod kinds;
 mod listing;
+mod numbers;
+mod plain_reading;
 mod readings;
 mod sweeps;
 
 use cif_cases::{Case, cases_of};
+use comparisons::{push_compared, push_damage};
 use kinds::push_kinds;
 use readings::{push_endless, push_failing, push_reading};
 use std::alloc::{AllocError, Global};
@@ -69,6 +81,11 @@ fn push_answer(
             push_replaced(alloc, out, bytes, byte, max_lines)
         }
         "kinds" => push_kinds(alloc, out, bytes, case.named("others", cases)),
+        "compare" => push_compared(alloc, out, bytes, max_lines),
+        "damage" => {
+            let others = case.named("others", cases);
+            push_damage(alloc, out, bytes, others, case.number("count", 1))
+        }
         "keep" => writeln!(out, "{} bytes", bytes.len()),
         _ => writeln!(out, "no such call"),
     }

@@ -1,0 +1,84 @@
+//! Does a piece of work that is measured: `cif_bench JOB [FILE [REPEATS [FORM]]]`. Without FILE it
+//! reads the standard input. JOB is one of these:
+//!
+//! - `lines`: copies lines of 80 columns to the standard output.
+//! - `plain-lines`: writes the plain line of each line to the standard output.
+//! - `time-records`: says how long the calls on records take for the lines.
+//! - `read`: reads an extract, and says what it has.
+//! - `time-read`: reads an extract, and says what it has and how long that took.
+//! - `calendar`: makes the calendar of all schedules of an extract, and the runs of that in form 2,
+//!   and says what these have.
+//! - `time-calendar FILE REPEATS`: makes the calendar, says what it has, makes it so many times again,
+//!   and says the least time that one took.
+//! - `time-runs FILE REPEATS FORM`: does the same with the runs of the calendar in the form, 1 or 2,
+//!   and makes the calendar once.
+//!
+//! It is no part of the product: `bench/` has the scripts that measure it, and the plain Rust
+//! programs to compare it with. `tests/memory/run_bench` refuses it memory.
+#![tactic(auto)]
+
+mod calendars;
+mod checksum;
+mod extracts;
+mod fault;
+mod job;
+mod joined;
+mod lines;
+mod records;
+mod report;
+mod train;
+
+use calendars::{say_calendar, time_calendar};
+use cif_columns::{ReadDevice, Source};
+use extracts::{say_extract, time_reading};
+use fault::Fault;
+use job::{Job, job_of, words_of};
+use joined::time_runs;
+use lines::{Made, write_lines};
+use records::time_records;
+use std::fs;
+use std::process::ExitCode;
+use std::rt::{Clock, Files};
+
+fn main(rt: HostRuntime) -> ExitCode {
+    let outcome = match words_of(&rt) {
+        Ok(words) => do_what_they_say(&rt, words.as_slice()),
+        Err(fault) => Err(fault),
+    };
+    match outcome {
+        Ok(()) => ExitCode::SUCCESS,
+        Err(fault) => ExitCode::from(fault.status(&rt)),
+    }
+}
+
+fn do_what_they_say<R>(rt: &R, words: &[String]) -> Result<(), Fault>
+where
+    R: Clock + Files + Input + Print + AllocGlobal,
+    R::File: ReadDevice,
+    R::Reader: ReadDevice,
+{
+    let Some(job) = job_of(words) else {
+        return Err(Fault::Words);
+    };
+    match words.get(2) {
+        None => do_job(rt, job, &mut Source::new(rt.reader())),
+        Some(name) => do_job(rt, job, &mut Source::new(fs::open(rt, name.as_str())?)),
+    }
+}
+
+fn do_job<D: ReadDevice>(
+    rt: &(impl Clock + Print + AllocGlobal),
+    job: Job,
+    source: &mut Source<D>,
+) -> Result<(), Fault> {
+    match job {
+        Job::Lines => write_lines(rt, source, Made::Copied),
+        Job::PlainLines => write_lines(rt, source, Made::Plain),
+        Job::TimeRecords => time_records(rt, source),
+        Job::Read => say_extract(rt, source),
+        Job::TimeRead => time_reading(rt, source),
+        Job::Calendar => say_calendar(rt, source),
+        Job::TimeCalendar { repeats } => time_calendar(rt, source, repeats),
+        Job::TimeRuns { repeats, form } => time_runs(rt, source, repeats, form),
+    }
+}
