@@ -57,8 +57,8 @@ pub(crate) fn say_runs(rt: &impl Print, runs: &[Run]) -> Result<(), Fault> {
 }
 
 /// The sum of the runs: of each its first and its last date by number, and for each weekday one
-/// where its mask has it, and else none. Its source counts for nothing, since any position of its
-/// body may be that.
+/// where its mask has it, and else none. Its source counts for nothing, since any winner of its
+/// first date may be that.
 fn checksum_of(runs: &[Run]) -> Checksum {
     let mut sum = Checksum::new();
     for run in runs {
