@@ -22,7 +22,7 @@ pub struct AssocKey {
 
 impl AssocKey {
     ghost use Rattle.cif_records.specs.declared.assoc_key.AssocKey.{AssocKey};
-    ghost use Rattle.cif_records.specs.AssocKey.{key_cmp};
+    ghost use Rattle.cif_records.specs.AssocKey.{HasTexts, key_cmp, written_key_cmp};
 
     /// The same key.
     pub fn copy(&self) -> AssocKey
@@ -38,9 +38,10 @@ impl AssocKey {
     }
 
     /// A law for proofs: keys are equal where their fields are, and ordered by their fields, each by
-    /// its bytes.
+    /// its bytes, and so by its written columns.
     pub fn order_of_keys()
         ensures equality { (a b : AssocKey) → IsTrue (⟦<AssocKey as PartialEq>⟧.eq a b) ↔ (a ≡ b) }
         ensures order { (a b : AssocKey) → ⟦<AssocKey as Ord>⟧.cmp a b ≡ key_cmp a b }
+        ensures written { (a b : AssocKey) → HasTexts a → HasTexts b → key_cmp a b ≡ written_key_cmp a b }
     {}
 }

@@ -1,0 +1,6 @@
+use Rattle.std.specs.Cmp.{booleans_Decides}
+use Rattle.std.specs.Cmp.Lexicographic.{pointwise_decides}
+use Rattle.cif_columns.proofs.laws.equality_of_days_runs.Goals as goal
+
+pub returns : goal.returns
+returns c = pointwise_decides booleans_Decides
