@@ -8,4 +8,5 @@ pub mod Fault
 pub mod Meaning
 pub mod NormalForm
 pub mod Normalised
+pub mod Report
 pub mod Steps

@@ -1,15 +1,4 @@
-pub mod Accepting
 pub mod CommandBuilt
-pub mod DailyKeys
-pub mod DailySteps
-pub mod DailyTelling
-pub mod DailyWhole
 pub mod FirstFault
-pub mod FirstRefusals
 pub mod HelpNotEntered
-pub mod Normalising
 pub mod OwnSubcommand
-pub mod ReadFaults
-pub mod ReadingLaws
-pub mod Refusing
-pub mod Writing

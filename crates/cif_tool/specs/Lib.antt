@@ -1,14 +1,4 @@
-pub mod AssociationRules
 pub mod CommandLine
-pub mod Daily
-pub mod ExtractText
-pub mod FirstRefusal
 pub mod Job
 pub mod JobFault
-pub mod Normalised
-pub mod Planned
-pub mod Reading
-pub mod Report
-pub mod Role
-pub mod SpellsExtract
 pub mod Status

@@ -2,13 +2,8 @@
 #![tactic(auto)]
 
 mod command_line;
-mod daily;
-mod extract;
 mod job;
-mod normalise;
 mod program;
-mod reading;
-mod report;
 mod status;
 
 use std::process::ExitCode;

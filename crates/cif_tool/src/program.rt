@@ -7,11 +7,11 @@ ghost use Rattle.cif_tool.specs.Status.{status_of};
 
 use crate::command_line::job_of;
 use crate::job::{Job, JobFault};
-use crate::normalise::normalise;
-use crate::report::report;
 use crate::status::status;
+use cif_canon::{Asked, normalise, report};
 use cif_columns::{MAX_LINES, ReadDevice, Sink, Source, WriteDevice};
 use cif_extract::Fault;
+use cif_weeks::Form;
 use std::alloc::Global;
 use std::env::Env;
 use std::io::{BufWriter, ErrorKind};
@@ -112,7 +112,11 @@ fn normalised_to<I: ReadDevice + Drop, O: WriteDevice + Drop>(
 ) -> Result<u8, Fault> {
     let mut source = Source::new(input);
     let mut sink = Sink::new(output);
-    normalise(alloc, &mut source, &mut sink, MAX_LINES)?;
+    let asked = Asked {
+        from: None,
+        to: None,
+    };
+    normalise(alloc, &mut source, &mut sink, MAX_LINES, &asked, Form::Two)?;
     match sink.flush() {
         Ok(()) => Ok(0),
         Err(_) => Err(Fault::Write),
