@@ -1,6 +1,6 @@
 //! Lines, copied or made plain.
 use crate::fault::Fault;
-use cif_columns::{Line, LineReader, MAX_LINES, ReadDevice, Sink, Source, WriteDevice};
+use cif_columns::{LineReader, MAX_LINES, ReadDevice, Sink, Source, WriteDevice};
 use cif_records::plain_line_of;
 use std::io;
 use std::io::BufWriter;
@@ -31,18 +31,21 @@ fn write_to<D: ReadDevice, W: WriteDevice + Drop>(
     source: &mut Source<D>,
     made: Made,
 ) -> Result<(), Fault> {
-    put_lines(&mut Sink::new(output), source, made)
+    let mut sink = Sink::new(output);
+    match made {
+        Made::Copied => copy_lines(&mut sink, source),
+        Made::Plain => put_plain_lines(&mut sink, source),
+    }
 }
 
-fn put_lines<D: ReadDevice, W: WriteDevice>(
+fn copy_lines<D: ReadDevice, W: WriteDevice>(
     sink: &mut Sink<W>,
     source: &mut Source<D>,
-    made: Made,
 ) -> Result<(), Fault> {
     let mut lines = LineReader::new(MAX_LINES);
     for _ in 0..=MAX_LINES {
         match lines.next(source)? {
-            Some(line) => sink.write_line(&made_of(line, made)?)?,
+            Some(line) => sink.write_line(&line)?,
             None => break,
         }
     }
@@ -50,9 +53,17 @@ fn put_lines<D: ReadDevice, W: WriteDevice>(
     Ok(())
 }
 
-fn made_of(line: Line, made: Made) -> Result<Line, Fault> {
-    match made {
-        Made::Copied => Ok(line),
-        Made::Plain => Ok(plain_line_of(&line)?),
+fn put_plain_lines<D: ReadDevice, W: WriteDevice>(
+    sink: &mut Sink<W>,
+    source: &mut Source<D>,
+) -> Result<(), Fault> {
+    let mut lines = LineReader::new(MAX_LINES);
+    for _ in 0..=MAX_LINES {
+        match lines.next(source)? {
+            Some(line) => sink.write_line(&plain_line_of(&line)?)?,
+            None => break,
+        }
     }
+    sink.flush()?;
+    Ok(())
 }

@@ -16,22 +16,25 @@ const KEPT: usize = 256;
 
 type Kept = [[u8; 80]; KEPT];
 
-/// What is made of a line.
-#[derive(Clone, Copy)]
-enum Work {
-    PlainLine,
-    RecordReadAndWritten,
+/// What is made of a line. It is a type, so that each work is compiled by itself.
+trait Work {
+    fn made_of(line: &Line) -> Result<Line, Refusal>;
 }
 
-impl Work {
-    fn made_of(self, line: &Line) -> Result<Line, Refusal> {
-        match self {
-            Work::PlainLine => plain_line_of(line),
-            Work::RecordReadAndWritten => {
-                let record = read_record(line)?;
-                Ok(write_record(&record))
-            }
-        }
+struct PlainLine;
+
+impl Work for PlainLine {
+    fn made_of(line: &Line) -> Result<Line, Refusal> {
+        plain_line_of(line)
+    }
+}
+
+struct RecordReadAndWritten;
+
+impl Work for RecordReadAndWritten {
+    fn made_of(line: &Line) -> Result<Line, Refusal> {
+        let record = read_record(line)?;
+        Ok(write_record(&record))
     }
 }
 
@@ -42,9 +45,13 @@ pub(crate) fn time_records<D: ReadDevice>(
     source: &mut Source<D>,
 ) -> Result<(), Fault> {
     let lines = lines_of(rt.alloc(), source)?;
+    say_times(rt, lines.as_slice())
+}
+
+fn say_times(rt: &(impl Clock + Print), lines: &[Line]) -> Result<(), Fault> {
     let mut sum = Checksum::new();
-    let plain = least_time(rt, lines.as_slice(), Work::PlainLine, &mut sum)?;
-    let record = least_time(rt, lines.as_slice(), Work::RecordReadAndWritten, &mut sum)?;
+    let plain = least_time::<PlainLine>(rt, lines, &mut sum)?;
+    let record = least_time::<RecordReadAndWritten>(rt, lines, &mut sum)?;
     say_time(rt, "plain_line_of", plain)?;
     say_time(rt, "read_and_write", record)?;
     say(rt, "checksum", sum)
@@ -68,31 +75,29 @@ fn lines_of<D: ReadDevice>(alloc: Global, source: &mut Source<D>) -> Result<Vec<
 
 /// The least time of the passes. The sum takes all lines that are made, and then those that each
 /// pass kept.
-fn least_time(
+fn least_time<W: Work>(
     rt: &impl Clock,
     lines: &[Line],
-    work: Work,
     sum: &mut Checksum,
 ) -> Result<Duration, Fault> {
     for line in lines {
-        sum.add_line(&work.made_of(line)?);
+        sum.add_line(&W::made_of(line)?);
     }
     let mut least = Duration::MAX;
     for _ in 0..PASSES {
-        least = least.min(time_of_pass(rt, lines, work, sum)?);
+        least = least.min(time_of_pass::<W>(rt, lines, sum)?);
     }
     Ok(least)
 }
 
-fn time_of_pass(
+fn time_of_pass<W: Work>(
     rt: &impl Clock,
     lines: &[Line],
-    work: Work,
     sum: &mut Checksum,
 ) -> Result<Duration, Fault> {
     let mut kept = [[b' '; 80]; KEPT];
     let start = Instant::now(rt)?;
-    pass(lines, work, &mut kept)?;
+    pass::<W>(lines, &mut kept)?;
     let time = start.elapsed(rt)?;
     for line in &kept {
         sum.add_columns(line);
@@ -100,9 +105,9 @@ fn time_of_pass(
     Ok(time)
 }
 
-fn pass(lines: &[Line], work: Work, kept: &mut Kept) -> Result<(), Refusal> {
+fn pass<W: Work>(lines: &[Line], kept: &mut Kept) -> Result<(), Refusal> {
     for (at, line) in lines.iter().enumerate() {
-        kept[at % KEPT] = *work.made_of(line)?.bytes();
+        kept[at % KEPT] = *W::made_of(line)?.bytes();
     }
     Ok(())
 }

@@ -69,6 +69,8 @@ impl LineReader {
     /// The source is read only while the held bytes decide no line, each time once. A line is
     /// decided by its line feed, by 82 bytes with none, by its first byte if it is one too many,
     /// and by the end of the input.
+    // It is called for each line. Where it is inlined, the line isn't copied once more.
+    #[inline(always)]
     pub fn next<R: ReadDevice>(&mut self, source: &mut Source<R>) -> Result<Option<Line>, LineFault>
         // The answer is the first line of the bytes that are left, and the bytes after it are left
         // then.

@@ -4,7 +4,7 @@ use cif_extract::{Extract, Fault};
 use std::fmt;
 
 /// What a reading came to.
-#[derive(Clone, Copy, Debug, PartialEq, Eq)]
+#[derive(Clone, Copy, PartialEq, Eq)]
 pub(crate) enum Outcome {
     /// An extract with so many locations, associations and schedules.
     Read(usize, usize, usize),
@@ -44,7 +44,7 @@ impl fmt::Display for Outcome {
 }
 
 /// What two readings of the same bytes came to, and whether the first one's source has failed.
-#[derive(Clone, Copy, Debug, PartialEq, Eq)]
+#[derive(Clone, Copy, PartialEq, Eq)]
 pub(crate) struct Answer {
     pub(crate) outcome: Outcome,
     pub(crate) again: Outcome,

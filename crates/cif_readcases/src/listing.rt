@@ -2,7 +2,7 @@
 use cif_cases::text_of;
 use cif_columns::Line;
 use cif_extract::{Body, Call, Extract, Schedule};
-use cif_records::Basic;
+use cif_records::{Basic, Header};
 use std::alloc::{AllocError, Global};
 use std::fmt::Write;
 
@@ -12,10 +12,7 @@ pub(crate) fn push_extract(
     out: &mut String,
     extract: &Extract,
 ) -> Result<(), AllocError> {
-    let first = extract.header.first.to_yymmdd();
-    let last = extract.header.last.to_yymmdd();
-    writeln!(out, "window {} to {}", text_of(&first), text_of(&last))?;
-    push_line(out, &extract.header.write())?;
+    push_header(out, &extract.header)?;
     for tiploc in &extract.tiplocs {
         push_line(out, &tiploc.write())?;
     }
@@ -27,6 +24,13 @@ pub(crate) fn push_extract(
         push_body(alloc, out, extract.schedules.as_slice(), at, schedule)?;
     }
     Ok(())
+}
+
+fn push_header(out: &mut String, header: &Header) -> Result<(), AllocError> {
+    let first = header.first.to_yymmdd();
+    let last = header.last.to_yymmdd();
+    writeln!(out, "window {} to {}", text_of(&first), text_of(&last))?;
+    push_line(out, &header.write())
 }
 
 fn push_line(out: &mut String, line: &Line) -> Result<(), AllocError> {
@@ -69,6 +73,10 @@ fn push_body(
     if made_again(alloc, body)? != *body {
         writeln!(out, "its parts make another body:")?;
     }
+    push_parts(out, body)
+}
+
+fn push_parts(out: &mut String, body: &Body) -> Result<(), AllocError> {
     if let Some(extra) = body.extra() {
         push_line(out, &extra.write())?;
     }

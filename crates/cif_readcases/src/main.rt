@@ -52,11 +52,15 @@ fn main(rt: HostRuntime) -> io::Result<()> {
     let text = io::read_to_string(rt.alloc(), rt.reader())?;
     let cases = cases_of(rt.alloc(), text.as_str())?;
     for case in &cases {
-        let mut out = String::new(rt.alloc());
-        push_answer(rt.alloc(), &mut out, case, cases.as_slice())?;
-        print!(rt; "== {}\n{}", case.name, out.as_str())?;
+        print_answer(&rt, case, cases.as_slice())?;
     }
     Ok(())
+}
+
+fn print_answer(rt: &(impl Print + AllocGlobal), case: &Case, cases: &[Case]) -> io::Result<()> {
+    let mut out = String::new(rt.alloc());
+    push_answer(rt.alloc(), &mut out, case, cases)?;
+    print!(rt; "== {}\n{}", case.name, out.as_str())
 }
 
 /// Appends what the case's call answers.
@@ -75,11 +79,7 @@ fn push_answer(
         "cuts" => push_cuts(alloc, out, bytes, max_lines),
         "failing-cuts" => push_failing_cuts(alloc, out, bytes, max_lines),
         "limits" => push_limits(alloc, out, bytes, max_lines),
-        "replace" => {
-            let digits = case.value("byte").unwrap_or("");
-            let byte = u8::from_str_radix(digits, 16).unwrap_or(b'?');
-            push_replaced(alloc, out, bytes, byte, max_lines)
-        }
+        "replace" => push_replaced(alloc, out, bytes, byte_of(case), max_lines),
         "kinds" => push_kinds(alloc, out, bytes, case.named("others", cases)),
         "compare" => push_compared(alloc, out, bytes, max_lines),
         "damage" => {
@@ -89,4 +89,10 @@ fn push_answer(
         "keep" => writeln!(out, "{} bytes", bytes.len()),
         _ => writeln!(out, "no such call"),
     }
+}
+
+/// The byte of a case of `replace`.
+fn byte_of(case: &Case) -> u8 {
+    let digits = case.value("byte").unwrap_or("");
+    u8::from_str_radix(digits, 16).unwrap_or(b'?')
 }

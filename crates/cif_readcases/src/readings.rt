@@ -62,10 +62,15 @@ pub(crate) fn push_reading(
 ) -> Result<(), AllocError> {
     let whole = reading_text(alloc, &read_slice(alloc, bytes, max_lines))?;
     let in_pieces = reading_text(alloc, &read_byte_by_byte(alloc, bytes, max_lines))?;
-    out.push_str(whole.as_str())?;
-    if in_pieces.as_str() != whole.as_str() {
+    push_texts(out, whole.as_str(), in_pieces.as_str())
+}
+
+/// Appends the text, and the one of the bytes in pieces where it is another.
+fn push_texts(out: &mut String, whole: &str, in_pieces: &str) -> Result<(), AllocError> {
+    out.push_str(whole)?;
+    if in_pieces != whole {
         writeln!(out, "one byte a read:")?;
-        out.push_str(in_pieces.as_str())?;
+        out.push_str(in_pieces)?;
     }
     Ok(())
 }

@@ -106,18 +106,45 @@ pub(crate) fn push_replaced(
     for (start, _) in bytes.iter().enumerate().step_by(LINE_BYTES) {
         line = line.saturating_add(1);
         let label = format!(in alloc; "line {line}, column")?;
-        let mut stretch = None;
-        for column in 1..=LINE_BYTES {
-            let mut changed = bytes.to_vec(alloc)?;
-            if let Some(place) = changed.get_mut(start.saturating_add(column - 1)) {
-                *place = byte;
-                let answer = answer_of(alloc, changed.as_slice(), max_lines);
-                stretch = gone_on(out, label.as_str(), stretch, column, answer)?;
-            }
-        }
-        push_last(out, label.as_str(), stretch)?;
+        push_replaced_in(alloc, out, label.as_str(), bytes, start, byte, max_lines)?;
     }
     Ok(())
+}
+
+/// Appends what they come to with this one in place of each of the line that starts here.
+fn push_replaced_in(
+    alloc: Global,
+    out: &mut String,
+    label: &str,
+    bytes: &[u8],
+    start: usize,
+    byte: u8,
+    max_lines: u16,
+) -> Result<(), AllocError> {
+    let mut stretch = None;
+    for column in 1..=LINE_BYTES {
+        let place = start.saturating_add(column - 1);
+        if place < bytes.len() {
+            let answer = answer_with(alloc, bytes, place, byte, max_lines)?;
+            stretch = gone_on(out, label, stretch, column, answer)?;
+        }
+    }
+    push_last(out, label, stretch)
+}
+
+/// What the bytes come to with this one in this place.
+fn answer_with(
+    alloc: Global,
+    bytes: &[u8],
+    place: usize,
+    byte: u8,
+    max_lines: u16,
+) -> Result<Answer, AllocError> {
+    let mut changed = bytes.to_vec(alloc)?;
+    if let Some(old) = changed.get_mut(place) {
+        *old = byte;
+    }
+    Ok(answer_of(alloc, changed.as_slice(), max_lines))
 }
 
 /// Appends the stretch that has no further neighbour.
