@@ -8,8 +8,6 @@ pub mod KeyCalendar
 pub mod NoEntries
 pub mod PermanentRecords
 pub mod FirstClash
-pub mod DayByDay
-pub mod Telling
 pub mod Elements
 pub mod PieceLists
 pub mod Alike

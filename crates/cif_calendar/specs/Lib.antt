@@ -5,7 +5,6 @@ pub mod Clash
 pub mod Keys
 pub mod Laws
 pub mod Meaning
-pub mod OneDay
 pub mod Pieces
 pub mod Runs
 pub mod Source

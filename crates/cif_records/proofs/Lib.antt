@@ -7,7 +7,6 @@ pub mod Headers
 pub mod Identities
 pub mod Judging
 pub mod Origins
-pub mod PlainRecords
 pub mod PlainTests
 pub mod Records
 pub mod Rows
