@@ -140,14 +140,16 @@ schedules-fit xs (run ∷ runs) ((uid, r) ∷ es) dated terms zip fits =
     let body : s.body ≡ Some r.body = ap (λ (e : List ℕ × Terms BodyParts). e.1.body) f.is ∙ zip.0.body in
     let own = subst (λ u. AllTablesFit (schedule_tables u s.first s.last s.days s.letter (Some r.body))) train
     (subst (λ o. AllTablesFit (schedule_tables s.uid s.first s.last s.days s.letter o)) body f.fits) in
-    fit-append (schedule_tables uid r.first r.last r.days P (Some r.body)) (flat_map tables_of (schedules_of es (All-tail IsDated (uid, r) es dated))) (
+    fit-append (schedule_tables uid r.first r.last r.days P (Some r.body))
+    (flat_map tables_of (schedules_of es (All-tail IsDated (uid, r) es dated))) (
       permanent-basic uid s.first s.last s.days s.letter r.body.detail r.first r.last r.days own.0
           (All-head HasTerms (uid, r) es terms),
       own.1,
     )
     (schedules-fit xs runs es (All-tail IsDated (uid, r) es dated) (All-tail HasTerms (uid, r) es terms) zip.1 fits)
 
-module _ (x : ExtractParts) (fits : FitsColumns x) (tiplocs : List Tiploc) (members : (t : Tiploc) → Contains tiplocs t → Contains x.tiplocs t)
+module _ (x : ExtractParts) (fits : FitsColumns x) (tiplocs : List Tiploc) (members : (t : Tiploc) → Contains tiplocs t →
+    Contains x.tiplocs t)
     (associations : List Run) (associated : List (AssocKey × Permanent AssocBody)) (dated_associations : All IsDated associated)
     (terms_associations : All HasTerms associated)
     (zip_associations : AllZip (IsRunOf (association_entries x.associations)) associations associated)

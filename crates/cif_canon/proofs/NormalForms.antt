@@ -64,7 +64,8 @@ bytes-unique form x y b c p q same =
     p.canonical.text ∙ ap extract_text (made-unique form x y b c p q same) ∙ sym q.canonical.text
 
 -- and what they are made of says the same where they are equal
-meaning-unique : (form : Form) (x y : ExtractParts) (b c : List ℕ) → IsCanonicalOf form x b → IsCanonicalOf form y c → b ≡ c → SameMeaning x y
+meaning-unique : (form : Form) (x y : ExtractParts) (b c : List ℕ) → IsCanonicalOf form x b → IsCanonicalOf form y c → b ≡ c →
+    SameMeaning x y
 meaning-unique form x y b c p q is =
     let made = one_spelled c p.made q.made (subst (λ l. BytesSpell l p.made) is p.canonical.spelled) q.canonical.spelled in
     same-trans x p.made y p.same (subst (λ m. SameMeaning m y) (sym made) (same-sym y q.made q.same))
@@ -161,7 +162,8 @@ canonical-extract-clear form x c = record {
   associations = subst (λ es. AreClear es x.header.first x.header.last) (sym c.associations.are)
       (canonical-clear key_cmp form (header_window x.header) c.associations.records c.associations.canonical x.header.first x.header.last);
   schedules = subst (λ es. AreClear es x.header.first x.header.last) (sym c.schedules.are)
-      (canonical-clear (slice_cmp nat_cmp) form (header_window x.header) c.schedules.records c.schedules.canonical x.header.first x.header.last);
+      (canonical-clear (slice_cmp nat_cmp) form
+      (header_window x.header) c.schedules.records c.schedules.canonical x.header.first x.header.last);
 }
 
 -- a date that was asked for is in the window that was asked for, and is its own
@@ -176,7 +178,8 @@ asked-last None own first last e order = (tt, refl)
 asked-last (Some f) own first last e order = (record { from = omega (arith, e, order); upto = omega (arith, e) }, sym e)
 
 -- where the window that is asked for is its own, an extract is itself, narrowed
-self-narrowed : (asked : Asked) (x : ExtractParts) → AskedDatesAreWithin asked x.header → window_asked asked x.header ≡ header_window x.header →
+self-narrowed : (asked : Asked) (x : ExtractParts) → AskedDatesAreWithin asked x.header →
+    window_asked asked x.header ≡ header_window x.header →
     IsNarrowed asked x x
 self-narrowed asked x within own = record {
   within = within;

@@ -19,7 +19,8 @@ record-of_entry {K} {B} entries run e b at body =
     ∙ ap (option_map (λ b. (e.0, record_of run b))) body
 
 -- the source of a run with a record is a position
-pub record-within : {X K B : Type 0} (entry : X → K × Terms B) (xs : List X) (run : Run) → HasRecord (map entry xs) run → run.source < length xs
+pub record-within : {X K B : Type 0} (entry : X → K × Terms B) (xs : List X) (run : Run) → HasRecord (map entry xs) run →
+    run.source < length xs
 record-within {X} {K} {B} entry xs run h = found (slice_get (map entry xs) run.source) refl h.is
   where
     found : (o : Option (K × Terms B)) → o ≡ slice_get (map entry xs) run.source →

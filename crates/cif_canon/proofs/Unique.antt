@@ -73,14 +73,16 @@ module _ (form : Form) (x y : ExtractParts) (p : IsCanonicalExtract form x) (q :
   pub one-associations : x.associations ≡ y.associations
   one-associations =
       same-associations x.associations y.associations
-      (entries-unique key_cmp keys-total form (header_window x.header) (association_entries x.associations) (association_entries y.associations)
+      (entries-unique key_cmp keys-total form (header_window x.header)
+      (association_entries x.associations) (association_entries y.associations)
       p.associations (subst (λ w. AreCanonicalEntries key_cmp form w (association_entries y.associations)) (sym window) q.associations)
       agree.associations)
 
   pub one-schedules : x.schedules ≡ y.schedules
   one-schedules =
       same-schedules x.schedules y.schedules
-      (entries-unique (slice_cmp nat_cmp) bytes-total form (header_window x.header) (schedule_entries x.schedules) (schedule_entries y.schedules)
+      (entries-unique (slice_cmp nat_cmp) bytes-total form
+      (header_window x.header) (schedule_entries x.schedules) (schedule_entries y.schedules)
       p.schedules (subst (λ w. AreCanonicalEntries (slice_cmp nat_cmp) form w (schedule_entries y.schedules)) (sym window) q.schedules)
       agree.schedules)
 

@@ -32,7 +32,8 @@ module _ {W : Type 0} (contents : W → Option (List ℕ)) (errors : W → Optio
   abbrev third : List ℕ
   third = flat_map (schedule_run_text (schedule_entries x.schedules)) schedules
 
-  pub in-head : (t : Sink W) → HasFailed contents errors head s t → HasFailed contents errors (canon_text x tiplocs associations schedules) s t
+  pub in-head : (t : Sink W) → HasFailed contents errors head s t →
+    HasFailed contents errors (canon_text x tiplocs associations schedules) s t
   unfolding canon_text
   in-head t h = failed_first contents errors head (first ++ (second ++ (third ++ end))) s t h
 

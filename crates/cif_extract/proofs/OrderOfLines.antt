@@ -1,5 +1,6 @@
 -- The lines of an extract are in the order of the table, and lines that spell records in that order begin an extract.
-use Rattle.std.proofs.Common.{◌≡◌, ℕ, Bool, true, false, List, [], ◌∷◌, ◌++◌, All, Option, Some, None, IfSome, cond, refl, sym, ap, ◌∙◌, subst}
+use Rattle.std.proofs.Common.{◌≡◌, ℕ, Bool, true, false, List, [], ◌∷◌, ◌++◌, All, Option, Some, None, IfSome, cond, refl, sym, ap, ◌∙◌}
+use Rattle.std.proofs.Common.{subst}
 use Rattle.std.proofs.Common.{append_assoc, append-nil}
 use Rattle.std.proofs.lemmas.List.Elements.{All-head, All-tail}
 use Rattle.std.specs.List.{list_any}
@@ -68,7 +69,8 @@ fits-back [] b p = p
 fits-back (r ∷ a) b p = fits-back a b p.1
 
 -- what fits can be kept
-keepable-detail : (b : Basic) (d : Option Detail) → AllFit (basic_front b.uid b.first b.last b.days ++ (detail_rows d ++ basic_back b.letter)) →
+keepable-detail : (b : Basic) (d : Option Detail) →
+    AllFit (basic_front b.uid b.first b.last b.days ++ (detail_rows d ++ basic_back b.letter)) →
     d ≡ b.detail → IsKeepable (of.Basic b)
 keepable-detail b None fits is = subst (λ o. IfSome o (λ d. AllStandIn (plain_line (detail_table d)) (detail_table d))) is tt
 keepable-detail b (Some d) fits is =
@@ -156,7 +158,8 @@ pub in_order-begins : (line : List ℕ) (lines : List (List ℕ)) (rs : List Rec
     AreInOrder [] (line ∷ lines) → BeginExtract rs
 in_order-begins line lines [] are_lines spell order = absurd spell
 in_order-begins line lines (r ∷ rs) are_lines spell order =
-    let none : IsReadSoFar [] [] = record { progress = no_progress; read = record { none = refl; tiplocs = refl; associations = refl; schedules = refl }; behind = refl } in
+    let none : IsReadSoFar [] [] = record { progress
+    = no_progress; read = record { none = refl; tiplocs = refl; associations = refl; schedules = refl }; behind = refl } in
     let is_line = All-head IsLine line lines are_lines in
     begins (line ∷ []) (r ∷ []) (one_more [] [] none line is_line r spell.0 order.0) (started [] [] none line is_line r spell.0 order.0)
     lines rs (All-tail IsLine line lines are_lines) spell.1 order.1

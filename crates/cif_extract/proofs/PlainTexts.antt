@@ -63,7 +63,8 @@ fit-body None extra journey None h fits = (refl, tt)
 fit-body (Some d) extra journey None h fits = absurd h
 fit-body None extra journey (Some b) h fits = absurd h
 
-same-basic : (u v : List ℕ) (f g l m : ℕ) (d e : List Bool) (s t : Stp) (b c : Option Detail) → u ≡ v → f ≡ g → l ≡ m → d ≡ e → s ≡ t → b ≡ c
+same-basic : (u v : List ℕ) (f g l m : ℕ) (d e : List Bool) (s t : Stp) (b c : Option Detail) → u ≡ v → f ≡ g → l ≡ m → d ≡ e → s ≡ t →
+    b ≡ c
     → basic_table u f l d s b ≡ basic_table v g m e t c
 same-basic u v f g l m d e s t b c hu hf hl hd hs hb =
     ap (λ x. basic_table x f l d s b) hu ∙ ap (λ x. basic_table v x l d s b) hf ∙ ap (λ x. basic_table v g x d s b) hl

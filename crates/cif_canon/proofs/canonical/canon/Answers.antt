@@ -25,7 +25,8 @@ of-requires-clause-associations c =
     let associations = records-of_slice key_cmp c.args.form association_entry x.header c.window_of.result.first c.window_of.result.last
     c.as_slice-2.result.now x.associations c.in-Ok-canonical_records.runs.items c.window_of.ensures.first c.window_of.ensures.last
     c.as_slice-2.ensures.value c.in-Ok-canonical_records.ensures.records in
-    let schedules = records-of_slice (slice_cmp nat_cmp) c.args.form schedule_entry x.header c.window_of-2.result.first c.window_of-2.result.last
+    let schedules = records-of_slice (slice_cmp nat_cmp) c.args.form schedule_entry x.header
+    c.window_of-2.result.first c.window_of-2.result.last
     c.as_slice-3.result.now x.schedules c.in-Ok-canonical_records-2.runs.items c.window_of-2.ensures.first c.window_of-2.ensures.last
     c.as_slice-3.ensures.value c.in-Ok-canonical_records-2.ensures.records in
     associations-have c.args.form x c.in-Ok.tiplocs.items distinct c.in-Ok-canonical_records.runs.items associations
@@ -38,7 +39,8 @@ of-requires-clause-schedules c =
     let associations = records-of_slice key_cmp c.args.form association_entry x.header c.window_of.result.first c.window_of.result.last
     c.as_slice-2.result.now x.associations c.in-Ok-canonical_records.runs.items c.window_of.ensures.first c.window_of.ensures.last
     c.as_slice-2.ensures.value c.in-Ok-canonical_records.ensures.records in
-    let schedules = records-of_slice (slice_cmp nat_cmp) c.args.form schedule_entry x.header c.window_of-2.result.first c.window_of-2.result.last
+    let schedules = records-of_slice (slice_cmp nat_cmp) c.args.form schedule_entry x.header
+    c.window_of-2.result.first c.window_of-2.result.last
     c.as_slice-3.result.now x.schedules c.in-Ok-canonical_records-2.runs.items c.window_of-2.ensures.first c.window_of-2.ensures.last
     c.as_slice-3.ensures.value c.in-Ok-canonical_records-2.ensures.records in
     schedules-have c.args.form x c.in-Ok.tiplocs.items distinct c.in-Ok-canonical_records.runs.items associations
@@ -51,7 +53,8 @@ returns-clause-ok c =
     let associations = records-of_slice key_cmp c.args.form association_entry x.header c.window_of.result.first c.window_of.result.last
     c.as_slice-2.result.now x.associations c.in-Ok-canonical_records.runs.items c.window_of.ensures.first c.window_of.ensures.last
     c.as_slice-2.ensures.value c.in-Ok-canonical_records.ensures.records in
-    let schedules = records-of_slice (slice_cmp nat_cmp) c.args.form schedule_entry x.header c.window_of-2.result.first c.window_of-2.result.last
+    let schedules = records-of_slice (slice_cmp nat_cmp) c.args.form schedule_entry x.header
+    c.window_of-2.result.first c.window_of-2.result.last
     c.as_slice-3.result.now x.schedules c.in-Ok-canonical_records-2.runs.items c.window_of-2.ensures.first c.window_of-2.ensures.last
     c.as_slice-3.ensures.value c.in-Ok-canonical_records-2.ensures.records in
     subst (IsCanonOf c.args.form x)

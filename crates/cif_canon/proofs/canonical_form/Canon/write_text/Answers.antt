@@ -11,29 +11,40 @@ returns-in_err-write_head g c =
     let e = c.self.inside in
     subst (λ t. Writes g.W.Write.contents g.W.WriteDevice.write_errors t c.args.sink.now c.write_head.new.sink c.from_residual.result)
     (ap (λ (v : CanonParts). v.text) c.self.view_is)
-    (writes_err _ _ _ _ _ c.from_residual.result c.from_residual.ensures.0 (in-head _ _ (extract_parts e.extract.now) e.tiplocs.items e.associations.items e.schedules.items _ _ c.in_err-write_head.ensures))
+    (writes_err _ _ _ _ _ c.from_residual.result c.from_residual.ensures.0
+    (in-head _ _ (extract_parts e.extract.now) e.tiplocs.items e.associations.items e.schedules.items _ _ c.in_err-write_head.ensures))
 
 pub returns-in_err-write_tiplocs : goal.returns-in_err-write_tiplocs
 returns-in_err-write_tiplocs g c =
     let e = c.self.inside in
-    subst (λ t. Writes g.W.Write.contents g.W.WriteDevice.write_errors t c.args.sink.now c.write_tiplocs.new.sink c.from_residual-in_err-write_tiplocs.result)
+    subst (λ t. Writes g.W.Write.contents g.W.WriteDevice.write_errors
+    t c.args.sink.now c.write_tiplocs.new.sink c.from_residual-in_err-write_tiplocs.result)
     (ap (λ (v : CanonParts). v.text) c.self.view_is)
-    (writes_err _ _ _ _ _ c.from_residual-in_err-write_tiplocs.result c.from_residual-in_err-write_tiplocs.ensures.0 (in-tiplocs _ _ (extract_parts e.extract.now) e.tiplocs.items e.associations.items e.schedules.items _ _ c.in_ok-write_head.ensures _ c.as_slice.ensures.value _ c.in_err-write_tiplocs.ensures))
+    (writes_err _ _ _ _ _ c.from_residual-in_err-write_tiplocs.result c.from_residual-in_err-write_tiplocs.ensures.0
+    (in-tiplocs _ _ (extract_parts e.extract.now)
+    e.tiplocs.items e.associations.items e.schedules.items
+    _ _ c.in_ok-write_head.ensures _ c.as_slice.ensures.value _ c.in_err-write_tiplocs.ensures))
 
 pub returns-in_err-write_associations : goal.returns-in_err-write_associations
 returns-in_err-write_associations g c =
     let e = c.self.inside in
-    subst (λ t. Writes g.W.Write.contents g.W.WriteDevice.write_errors t c.args.sink.now c.write_associations.new.sink c.from_residual-in_err-write_associations.result)
+    subst (λ t. Writes g.W.Write.contents g.W.WriteDevice.write_errors
+    t c.args.sink.now c.write_associations.new.sink c.from_residual-in_err-write_associations.result)
     (ap (λ (v : CanonParts). v.text) c.self.view_is)
-    (writes_err _ _ _ _ _ c.from_residual-in_err-write_associations.result c.from_residual-in_err-write_associations.ensures.0 (in-associations _ _ (extract_parts e.extract.now) e.tiplocs.items e.associations.items e.schedules.items _ _ c.in_ok-write_head.ensures _ c.as_slice.ensures.value _
+    (writes_err _ _ _ _ _ c.from_residual-in_err-write_associations.result c.from_residual-in_err-write_associations.ensures.0
+    (in-associations _ _ (extract_parts e.extract.now)
+    e.tiplocs.items e.associations.items e.schedules.items _ _ c.in_ok-write_head.ensures _ c.as_slice.ensures.value _
     c.in_ok-write_tiplocs.ensures _ c.as_slice-2.ensures.value _ c.as_slice-3.ensures.value _ c.in_err-write_associations.ensures))
 
 pub returns-in_err-write_schedules : goal.returns-in_err-write_schedules
 returns-in_err-write_schedules g c =
     let e = c.self.inside in
-    subst (λ t. Writes g.W.Write.contents g.W.WriteDevice.write_errors t c.args.sink.now c.write_schedules.new.sink c.from_residual-in_err-write_schedules.result)
+    subst (λ t. Writes g.W.Write.contents g.W.WriteDevice.write_errors
+    t c.args.sink.now c.write_schedules.new.sink c.from_residual-in_err-write_schedules.result)
     (ap (λ (v : CanonParts). v.text) c.self.view_is)
-    (writes_err _ _ _ _ _ c.from_residual-in_err-write_schedules.result c.from_residual-in_err-write_schedules.ensures.0 (in-schedules _ _ (extract_parts e.extract.now) e.tiplocs.items e.associations.items e.schedules.items _ _ c.in_ok-write_head.ensures _ c.as_slice.ensures.value _
+    (writes_err _ _ _ _ _ c.from_residual-in_err-write_schedules.result c.from_residual-in_err-write_schedules.ensures.0
+    (in-schedules _ _ (extract_parts e.extract.now)
+    e.tiplocs.items e.associations.items e.schedules.items _ _ c.in_ok-write_head.ensures _ c.as_slice.ensures.value _
     c.in_ok-write_tiplocs.ensures _ c.as_slice-2.ensures.value _ c.as_slice-3.ensures.value _
     c.in_ok-write_associations.ensures _ c.as_slice-4.ensures.value _ c.as_slice-5.ensures.value _ c.in_err-write_schedules.ensures))
 
@@ -42,7 +53,8 @@ returns g c =
     let e = c.self.inside in
     subst (λ t. Writes g.W.Write.contents g.W.WriteDevice.write_errors t c.args.sink.now c.write_trailer.new.sink c.write_trailer.result)
     (ap (λ (v : CanonParts). v.text) c.self.view_is)
-    (in-trailer _ _ (extract_parts e.extract.now) e.tiplocs.items e.associations.items e.schedules.items _ _ c.in_ok-write_head.ensures _ c.as_slice.ensures.value _
+    (in-trailer _ _ (extract_parts e.extract.now)
+    e.tiplocs.items e.associations.items e.schedules.items _ _ c.in_ok-write_head.ensures _ c.as_slice.ensures.value _
     c.in_ok-write_tiplocs.ensures _ c.as_slice-2.ensures.value _ c.as_slice-3.ensures.value _
     c.in_ok-write_associations.ensures _ c.as_slice-4.ensures.value _ c.as_slice-5.ensures.value _ _ _
     c.in_ok-write_schedules.ensures c.write_trailer.ensures)

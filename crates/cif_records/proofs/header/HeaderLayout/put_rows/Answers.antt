@@ -7,7 +7,8 @@ returns-clause-columns c =
     let h = c.args.self.now in
     c.put_spare.ensures.columns
     ∙ ap (λ (l : List ℕ). l ++ replicate 20 32)
-    (c.put_columns-2.ensures.columns ∙ ap (λ (l : List ℕ). l ++ h.columns) (c.put_columns.ensures.columns ∙ ap (λ (l : List ℕ). l ++ codes "HD") c.requires)
+    (c.put_columns-2.ensures.columns ∙ ap (λ
+    (l : List ℕ). l ++ h.columns) (c.put_columns.ensures.columns ∙ ap (λ (l : List ℕ). l ++ codes "HD") c.requires)
     ∙ sym (put-columns h (codes "HD")))
 
 pub returns-clause-fits : goal.returns-clause-fits

@@ -30,6 +30,7 @@ returns c =
     & rw value (sym (kept-3 line))
     & found.1
     & rw value (sym (kept-48 line))
-    & digits_of (columns 49 54 line) c.args.dates.first (length-columns 49 54 line is_line (omega arith) (omega arith) (omega arith)) found.2
+    & digits_of (columns 49 54 line) c.args.dates.first
+    (length-columns 49 54 line is_line (omega arith) (omega arith) (omega arith)) found.2
     & digits_of (columns 55 60 line) c.args.dates.last (length-columns 55 60 line is_line (omega arith) (omega arith) (omega arith)) found.3
     & tt & tt
