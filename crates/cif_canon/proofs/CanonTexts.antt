@@ -51,7 +51,7 @@ module _ {K B : Type 0} (entries : List (K × Terms B)) where
       (have-records runs records zip.1 (All-tail IsDated e records dated))
 
   pub same-number : (runs : List Run) (records : List (K × Permanent B)) → AllZip (IsRunOf entries) runs records →
-    length runs ≡ length records
+      length runs ≡ length records
   same-number [] [] zip = refl
   same-number [] (e ∷ records) zip = absurd zip
   same-number (run ∷ runs) [] zip = absurd zip

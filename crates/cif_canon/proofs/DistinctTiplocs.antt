@@ -49,7 +49,7 @@ distinct tiplocs sorted kept same rises filtered =
       rising = pairs-from by_columns (dedup E sorted) (IsStrictlySortedBy-dedup total ties sorted rises);
       members = λ t. (
         λ h. Contains-dedup (on_texts_equal (λ (s : Tiploc). s.columns))
-        (λ s u e. same_tiploc s u ((bytes_decides s.columns u.columns).0 e)) sorted t
+            (λ s u e. same_tiploc s u ((bytes_decides s.columns u.columns).0 e)) sorted t
             (Contains-permutation tiplocs sorted t same h),
         λ h. Contains-permutation sorted tiplocs t (IsPermutation-sym tiplocs sorted same) (Contains-from_dedup E sorted t h),
       );

@@ -33,7 +33,7 @@ module _ {W : Type 0} (contents : W → Option (List ℕ)) (errors : W → Optio
   third = flat_map (schedule_run_text (schedule_entries x.schedules)) schedules
 
   pub in-head : (t : Sink W) → HasFailed contents errors head s t →
-    HasFailed contents errors (canon_text x tiplocs associations schedules) s t
+      HasFailed contents errors (canon_text x tiplocs associations schedules) s t
   unfolding canon_text
   in-head t h = failed_first contents errors head (first ++ (second ++ (third ++ end))) s t h
 

@@ -67,30 +67,30 @@ module _ {W : Type 0} (contents : W → Option (List ℕ)) (errors : W → Optio
 
 -- the texts of items, one after another: of those so far, and of one more
 module _ {A : Type 0} (text : A → List ℕ) (items : List A) (n : ℕ) (item : A) (below : n < length items) (is : item ≡ get_or items n item)
-    where
-  text_more : flat_map text (take (n + 1) items) ≡ flat_map text (take n items) ++ text item
-  text_more =
-      ap (flat_map text) (take_more items n item below ∙ ap (λ i. take n items ++ (i ∷ [])) (sym is))
-      ∙ flat_map-append text (take n items) (item ∷ [])
-      ∙ ap (λ (l : List ℕ). flat_map text (take n items) ++ l) (append-nil (text item))
+  where
+    text_more : flat_map text (take (n + 1) items) ≡ flat_map text (take n items) ++ text item
+    text_more =
+        ap (flat_map text) (take_more items n item below ∙ ap (λ i. take n items ++ (i ∷ [])) (sym is))
+        ∙ flat_map-append text (take n items) (item ∷ [])
+        ∙ ap (λ (l : List ℕ). flat_map text (take n items) ++ l) (append-nil (text item))
 
-  text_split : flat_map text items ≡ (flat_map text (take n items) ++ text item) ++ flat_map text (drop (n + 1) items)
-  text_split =
-      ap (flat_map text) (sym (take-append-drop (n + 1) items))
-      ∙ flat_map-append text (take (n + 1) items) (drop (n + 1) items)
-      ∙ ap (λ (l : List ℕ). l ++ flat_map text (drop (n + 1) items)) text_more
+    text_split : flat_map text items ≡ (flat_map text (take n items) ++ text item) ++ flat_map text (drop (n + 1) items)
+    text_split =
+        ap (flat_map text) (sym (take-append-drop (n + 1) items))
+        ∙ flat_map-append text (take (n + 1) items) (drop (n + 1) items)
+        ∙ ap (λ (l : List ℕ). l ++ flat_map text (drop (n + 1) items)) text_more
 
-  module _ {W : Type 0} (contents : W → Option (List ℕ)) (errors : W → Option ℕ) (s t u : Sink W)
-      (so_far : HasWritten contents errors (flat_map text (take n items)) s t) where
-    -- one more has been written
-    pub item_written : HasWritten contents errors (text item) t u → HasWritten contents errors (flat_map text (take (n + 1) items)) s u
-    item_written h =
-        subst (λ l. HasWritten contents errors l s u) (sym text_more)
-        (written_both contents errors (flat_map text (take n items)) (text item) s t u so_far h)
+    module _ {W : Type 0} (contents : W → Option (List ℕ)) (errors : W → Option ℕ) (s t u : Sink W)
+        (so_far : HasWritten contents errors (flat_map text (take n items)) s t) where
+      -- one more has been written
+      pub item_written : HasWritten contents errors (text item) t u → HasWritten contents errors (flat_map text (take (n + 1) items)) s u
+      item_written h =
+          subst (λ l. HasWritten contents errors l s u) (sym text_more)
+          (written_both contents errors (flat_map text (take n items)) (text item) s t u so_far h)
 
-    -- the writing of one more has failed
-    pub item_failed : HasFailed contents errors (text item) t u → HasFailed contents errors (flat_map text items) s u
-    item_failed h =
-        subst (λ l. HasFailed contents errors l s u) (sym text_split)
-        (failed_first contents errors (flat_map text (take n items) ++ text item) (flat_map text (drop (n + 1) items)) s u
-        (failed_second contents errors (flat_map text (take n items)) (text item) s t u so_far h))
+      -- the writing of one more has failed
+      pub item_failed : HasFailed contents errors (text item) t u → HasFailed contents errors (flat_map text items) s u
+      item_failed h =
+          subst (λ l. HasFailed contents errors l s u) (sym text_split)
+          (failed_first contents errors (flat_map text (take n items) ++ text item) (flat_map text (drop (n + 1) items)) s u
+          (failed_second contents errors (flat_map text (take n items)) (text item) s t u so_far h))

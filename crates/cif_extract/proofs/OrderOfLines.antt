@@ -158,8 +158,12 @@ pub in_order-begins : (line : List ℕ) (lines : List (List ℕ)) (rs : List Rec
     AreInOrder [] (line ∷ lines) → BeginExtract rs
 in_order-begins line lines [] are_lines spell order = absurd spell
 in_order-begins line lines (r ∷ rs) are_lines spell order =
-    let none : IsReadSoFar [] [] = record { progress
-    = no_progress; read = record { none = refl; tiplocs = refl; associations = refl; schedules = refl }; behind = refl } in
+    let none : IsReadSoFar [] [] = record {
+      progress
+          = no_progress;
+      read = record { none = refl; tiplocs = refl; associations = refl; schedules = refl };
+      behind = refl;
+    } in
     let is_line = All-head IsLine line lines are_lines in
     begins (line ∷ []) (r ∷ []) (one_more [] [] none line is_line r spell.0 order.0) (started [] [] none line is_line r spell.0 order.0)
     lines rs (All-tail IsLine line lines are_lines) spell.1 order.1
