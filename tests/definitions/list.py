@@ -1,0 +1,166 @@
+#!/usr/bin/env python3
+"""Lists the definitions on which the clauses of a function rest, in the order in which they are met.
+
+    list.py CRATE SRC_FILE FUNCTION CLAUSES..
+
+CLAUSES are names of the function's clauses, with a comma between two. What they cite is followed from definition to
+definition, through the specs/ of all crates, and to what the types of the code say of their fields. A line for each says
+its crate and file, its name, and how many lines it has without comments and blank lines. A type is named with its file
+in src/ and counts no lines, and what std and the other libraries define isn't named. Each further CLAUSES lists what those before it don't rest on.
+"""
+import re
+import sys
+from pathlib import Path
+
+ROOT = Path(__file__).resolve().parents[2]
+OWN = re.compile(r"^Rattle\.(cif_\w+)\.specs\.(.+)$")
+HEAD = re.compile(r"^(?:abbrev |unfoldable )?(?:pub )?(?:record |data |abbrev )?([^\s({:]+)")
+
+
+class Module:
+    """A module of specs/: what its imports bring, and its definitions."""
+
+    def __init__(self, crate, name):
+        self.crate, self.name = crate, name
+        self.file = ROOT / "crates" / crate / "specs" / (name.replace(".", "/") + ".antt")
+        self.imports, self.definitions, self.order = {}, {}, []
+        current = None
+        for line in self.file.read_text().splitlines():
+            if line.startswith("use ") or line.startswith("pub use "):
+                self.imports.update(imported(line.split("use ", 1)[1]))
+                current = None
+            elif not line.strip() or line.lstrip().startswith("--") or line.startswith("pub mod"):
+                continue
+            elif line[0].isspace():
+                if current:
+                    self.definitions[current].append(line)
+            else:
+                name = HEAD.match(line).group(1)
+                if name not in self.definitions:
+                    self.definitions[name] = []
+                    self.order.append(name)
+                self.definitions[name].append(line)
+                current = name
+
+    def has_case(self, definition, name):
+        """Whether a line of the definition begins with the name."""
+        case = re.compile(r"\s*(pub )?" + re.escape(name) + r"\b")
+        return any(case.match(line) for line in self.definitions[definition])
+
+
+def imported(text):
+    """The names that an import brings, each with the path that it stands for."""
+    text = text.strip().rstrip(";")
+    match = re.match(r"^(.*)\.\{(.*)\}$", text)
+    if not match:
+        path, _, alias = text.partition(" as ")
+        return {alias or path.rsplit(".", 1)[-1]: (path, None)}
+    names = {}
+    for part in match.group(2).split(","):
+        name, _, alias = part.strip().partition(" as ")
+        names[alias.strip() or name.strip()] = (match.group(1), name.strip())
+    return names
+
+
+MODULES = {}
+
+
+def module(crate, name):
+    if (crate, name) not in MODULES:
+        MODULES[crate, name] = Module(crate, name)
+    return MODULES[crate, name]
+
+
+def place(path, name):
+    """Where a name of an import is defined: a module and its name, or the type of the code that it is, or nothing."""
+    own = OWN.match(path)
+    if not own:
+        return None
+    crate, inner = own.group(1), own.group(2)
+    if inner.startswith("declared."):
+        source, *rest = inner.split(".")[1:]
+        return ("type", crate, source, rest[0] if rest else name)
+    if inner.startswith("contracts."):
+        return None
+    return ("definition", crate, inner, name)
+
+
+def cited(lines, imports, own, crate, inner):
+    """What the lines cite, in the order in which they name it."""
+    found = []
+    for line in lines:
+        line = re.sub(r'"[^"]*"', "", line.split(" -- ")[0])
+        for word in re.findall(r"[^\s(){},;:\[\]]+", line):
+            for part in (word, word.split(".")[0]):
+                if part in imports:
+                    at = place(*imports[part]) if imports[part][1] else None
+                    if imports[part][1] is None and "." in word:
+                        at = place(imports[part][0], word.split(".", 1)[1])
+                    if at:
+                        found.append(at)
+                    break
+                if part in own:
+                    found.append(("definition", crate, inner, part))
+                    break
+    return found
+
+
+def clauses(crate, source, function, names):
+    """The text of the clauses, and the imports of the file."""
+    text = (ROOT / "crates" / crate / "src" / source).read_text()
+    imports = {}
+    for line in re.findall(r"^ghost use (.*?);", text, re.M | re.S):
+        imports.update(imported(" ".join(line.split())))
+    contract = re.search(r"fn " + function + r"\b.*?\n\{", text, re.S).group(0)
+    lines = []
+    for name in names:
+        lines.append(re.search(r"ensures " + name + r" \{(.*?)\}\s*(?=ensures|requires|//|\{\Z)", contract, re.S).group(1))
+    return lines, imports
+
+
+def invariants(crate, source, name):
+    """What a type says of its fields, and the imports of its file."""
+    text = (ROOT / "crates" / crate / "src" / f"{source}.rt").read_text()
+    imports = {}
+    for line in re.findall(r"^ghost use (.*?);", text, re.M | re.S):
+        imports.update(imported(" ".join(line.split())))
+    fields = re.search(r"(?:struct|enum) " + name + r"\b.*?\n\}", text, re.S)
+    return re.findall(r"ghost \w+: \{(.*?)\}", fields.group(0) if fields else "", re.S), imports
+
+
+def resting(waiting, seen):
+    """Prints what is met from here on and wasn't before, and then how much it was."""
+    definitions = lines = types = 0
+    while waiting:
+        at = waiting.pop(0)
+        if at in seen:
+            continue
+        seen.add(at)
+        kind, crate, inner, name = at
+        if kind == "type":
+            print(f"{crate} src/{inner}.rt {name}")
+            types += 1
+            waiting[:0] = cited(*invariants(crate, inner, name), {}, crate, inner)
+            continue
+        own = module(crate, inner)
+        if name not in own.definitions:
+            # a case of an enum, or a field: what defines it is meant
+            waiting[:0] = [("definition", crate, inner, other) for other in own.order if own.has_case(other, name)][:1]
+            continue
+        body = own.definitions[name]
+        print(f"{crate} specs/{inner.replace('.', '/')}.antt {name} {len(body)}")
+        definitions += 1
+        lines += len(body)
+        waiting[:0] = cited(body, own.imports, own.definitions, crate, inner)
+    print(f"{definitions} definitions of {lines} lines, {types} types")
+
+
+def main():
+    crate, source, function, *groups = sys.argv[1:]
+    seen = set()
+    for group in groups:
+        lines, imports = clauses(crate, source, function, group.split(","))
+        resting(cited(lines, imports, {}, crate, ""), seen)
+
+
+main()
