@@ -1,5 +1,5 @@
 -- Where `clap` takes the words of `cif`, it enters a subcommand of the program's own.
-use Rattle.std.proofs.Common.{◌≡◌, ◌∙◌, Bool, true, false, refl, sym, List, [], ◌∷◌, ◌||◌, ◌&&◌, not, Option, Some, None, is_some}
+use Rattle.std.proofs.Common.{◌≡◌, ◌∙◌, Bool, true, false, inl, inr, refl, sym, List, [], ◌∷◌, ◌||◌, ◌&&◌, not, Option, Some, None, is_some}
 use Rattle.std.proofs.Common.{option_map, if◌then◌else◌, codes, true≢false}
 use Rattle.std.specs.Prelude.{IfSome, IsSomeAnd, find}
 use Rattle.std.specs.List.{list_any}
@@ -122,6 +122,6 @@ pub enters_own : (words : List Text) → faults_of words ≡ [] → IsSomeAnd (c
 unfolding cif chosen faults_of
 enters_own words e =
     takes_own IsTaken cif words refl refl (
-      λ name on is ws h. refl,
-      (λ name on is ws h. absurd (not_help name on is), tt),
+      λ name on is ws h. inl refl,
+      (λ name on is ws h. inr refl, (λ name on is ws h. absurd (not_help name on is), tt)),
     ) e

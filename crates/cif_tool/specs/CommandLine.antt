@@ -9,17 +9,17 @@ use Rattle.clap.specs.declared.Command.TheViews.{out-Command}
 abbrev pub optional : Text → Rule
 optional id = new_rule id
 
--- `cif normalise [FILE]`
-abbrev pub normalise : App
-normalise = with_rule (new_app (codes "normalise")) (optional (codes "FILE"))
+-- `cif NAME [FILE]`
+abbrev pub of_one_file : Text → App
+of_one_file name = with_rule (new_app name) (optional (codes "FILE"))
 
 -- a program that tells its version and wants a subcommand
 abbrev pub program : Text → App
 program name = let made = new_app name in record made { top = record made.top { has_version = true; subcommand_required = true } }
 
--- the program `cif` with its subcommands
+-- the program `cif` with its subcommands `normalise` and `check`
 unfoldable pub cif : App
-cif = with_subcommand (program (codes "cif")) normalise.top
+cif = with_subcommand (with_subcommand (program (codes "cif")) (of_one_file (codes "normalise")).top) (of_one_file (codes "check")).top
 
 -- the command is built as `a` says, and no argument is global
 pub record IsCommand (a : App) (c : Command) : Type 0 where

@@ -4,7 +4,7 @@ ghost use Rattle.std.specs.Prelude.{option_map, string_bytes};
 ghost use Rattle.clap.specs.Words.{FailsBy, app_of, first_of, found_of, kind_of, rows_of, rule_of};
 ghost use Rattle.clap.specs.Words.{subcommand_rows_of};
 ghost use Rattle.cif_tool.specs.CommandLine.{IsCommand, chosen, cif, faults_of};
-ghost use Rattle.cif_tool.specs.CommandLine.{normalise, optional};
+ghost use Rattle.cif_tool.specs.CommandLine.{of_one_file, optional};
 ghost use Rattle.cif_tool.specs.Job.{Asks, IsChosen, IsTaken};
 ghost use Rattle.cif_tool.specs.JobFault.{IsFaultOf};
 
@@ -12,6 +12,10 @@ use crate::job::{Job, JobFault};
 use clap::error::ErrorKind;
 use clap::{Arg, ArgMatches, Command};
 use std::alloc::{AllocError, Global};
+
+const NORMALISE: &str = "Writes the canonical extract";
+
+const CHECK: &str = "Says how many records the canonical extract has, or why there is none";
 
 const FILE_HELP: &str = "The extract to read [default: standard input]";
 
@@ -25,11 +29,11 @@ fn optional<'a>(alloc: Global, id: &'a str, help: &'a str) -> Arg<'a>
     Arg::new(alloc, id).help(help)
 }
 
-fn normalise<'a>(alloc: Global) -> Result<Command<'a>, AllocError>
-    ensures { IfOk result (IsCommand normalise) }
+fn of_one_file<'a>(alloc: Global, name: &'a str, about: &'a str) -> Result<Command<'a>, AllocError>
+    ensures { IfOk result (IsCommand (of_one_file name.entry.now)) }
 {
-    Command::new(alloc, "normalise")
-        .about("Writes the canonical extract")
+    Command::new(alloc, name)
+        .about(about)
         .arg(optional(alloc, "FILE", FILE_HELP))
 }
 
@@ -42,7 +46,8 @@ fn cif_command<'a>(alloc: Global) -> Result<Command<'a>, AllocError>
         .version("0.1.0")
         .about("Normalises extracts of the CIF timetable format")
         .subcommand_required(true)
-        .subcommand(normalise(alloc)?)
+        .subcommand(of_one_file(alloc, "normalise", NORMALISE)?)?
+        .subcommand(of_one_file(alloc, "check", CHECK)?)
 }
 
 /// The matches that `clap` gives for the words, of which the first is the program's name.
@@ -86,6 +91,16 @@ fn normalise_job(alloc: Global, matches: &ArgMatches<'_>) -> Result<Job, JobFaul
     })
 }
 
+fn check_job(alloc: Global, matches: &ArgMatches<'_>) -> Result<Job, JobFault>
+    ensures ok { IfOk result (λ job. IsChosen job
+        (codes "check", rows_of (found_of matches.now))) }
+    ensures err { IfErr result (λ fault. fault ≡ JobFault.Memory) }
+{
+    Ok(Job::Check {
+        file: file_of(alloc, matches)?,
+    })
+}
+
 fn chosen_job(alloc: Global, matches: &ArgMatches<'_>) -> Result<Job, JobFault>
     requires { IsSomeAnd (subcommand_rows_of matches.now) IsTaken }
     ensures ok { IfOk result (λ job. IsSomeAnd (subcommand_rows_of matches.now) (IsChosen job)) }
@@ -93,6 +108,7 @@ fn chosen_job(alloc: Global, matches: &ArgMatches<'_>) -> Result<Job, JobFault>
 {
     match matches.subcommand() {
         Some(("normalise", inner)) => normalise_job(alloc, inner),
+        Some(("check", inner)) => check_job(alloc, inner),
         _ => unreachable!(),
     }
 }

@@ -9,6 +9,8 @@ use std::alloc::AllocError;
 pub enum Job {
     /// To write the canonical extract.
     Normalise { file: Option<String> },
+    /// To say how many records the canonical extract has, or why there is none.
+    Check { file: Option<String> },
 }
 
 /// Why a call of `cif` asks for nothing.

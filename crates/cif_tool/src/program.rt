@@ -8,7 +8,7 @@ ghost use Rattle.cif_tool.specs.Status.{status_of};
 use crate::command_line::job_of;
 use crate::job::{Job, JobFault};
 use crate::status::status;
-use cif_canon::{Asked, normalise, report};
+use cif_canon::{Asked, check, normalise, report, write_counts};
 use cif_columns::{MAX_LINES, ReadDevice, Sink, Source, WriteDevice};
 use cif_extract::Fault;
 use cif_weeks::Form;
@@ -86,27 +86,33 @@ where
     R::File: ReadDevice,
     R::Reader: ReadDevice,
 {
-    match job {
-        Job::Normalise { file: None } => normalised(rt, rt.reader()),
-        Job::Normalise { file: Some(name) } => match fs::open(rt, name.as_str()) {
-            Ok(input) => normalised(rt, input),
+    let (Job::Normalise { file } | Job::Check { file }) = job;
+    match file {
+        None => answered(rt, job, rt.reader()),
+        Some(name) => match fs::open(rt, name.as_str()) {
+            Ok(input) => answered(rt, job, input),
             Err(_) => Err(Fault::Read),
         },
     }
 }
 
-fn normalised<R: Print + AllocGlobal, I: ReadDevice + Drop>(rt: &R, input: I) -> Result<u8, Fault> {
+fn answered<R, I>(rt: &R, job: &Job, input: I) -> Result<u8, Fault>
+where
+    R: Print + AllocGlobal,
+    I: ReadDevice + Drop,
+{
     let Ok(mut output) = BufWriter::with_capacity(rt.alloc(), OUTPUT_BUFFER, io::writer(rt)) else {
         return Err(Fault::Memory);
     };
-    let outcome = normalised_to(rt.alloc(), input, &mut output);
+    let outcome = answered_to(rt.alloc(), job, input, &mut output);
     // A `BufWriter` that is dropped writes what it holds, also after a failure.
     let _ = output.into_parts();
     outcome
 }
 
-fn normalised_to<I: ReadDevice + Drop, O: WriteDevice + Drop>(
+fn answered_to<I: ReadDevice + Drop, O: WriteDevice + Drop>(
     alloc: Global,
+    job: &Job,
     input: I,
     output: O,
 ) -> Result<u8, Fault> {
@@ -116,7 +122,17 @@ fn normalised_to<I: ReadDevice + Drop, O: WriteDevice + Drop>(
         from: None,
         to: None,
     };
-    normalise(alloc, &mut source, &mut sink, MAX_LINES, &asked, Form::Two)?;
+    match job {
+        Job::Normalise { file: _ } => {
+            normalise(alloc, &mut source, &mut sink, MAX_LINES, &asked, Form::Two)?;
+        }
+        Job::Check { file: _ } => {
+            let counts = check(alloc, &mut source, MAX_LINES, &asked, Form::Two)?;
+            if write_counts(&counts, &mut sink).is_err() {
+                return Err(Fault::Write);
+            }
+        }
+    }
     match sink.flush() {
         Ok(()) => Ok(0),
         Err(_) => Err(Fault::Write),
