@@ -30,14 +30,21 @@
 //!   many times: 0, 1, 2, 8, 9 and 1,000. The answer is how many records each has; and where they
 //!   don't make the same bytes when they are written, with bodies that are made again of their
 //!   parts, it says so.
+//! - `normalise form=1 max=N`: gives what a reader as above has to `normalise`, for a trial writer as
+//!   above that takes N bytes by the word `takes=N` (2,048 if left out). The form is 2 if left out,
+//!   and `from_day=YYMMDD` and `to_day=YYMMDD` ask for a part of the window. The answer is what the
+//!   writer has, the line of the counts or of the fault, and how often the writer was called.
+//! - `canon form=1`: the answer is the canonical text of the extract that the input is, and the line
+//!   of the counts, or that of the fault.
 //!
-//! What `records` and `bytes` write is then written, each record by itself, to trial writers. One
+//! What `records` and `bytes` write, the line of `normalise` and the text of `canon` is then written, each record by itself, to trial writers. One
 //! takes all bytes, and then it is flushed; the answer says how often it was called for each. The
 //! others take fewer bytes, every number of them, and then fail or answer 0. Such a sink has to fail,
 //! to have the bytes that fit, by one write a line (of `bytes` by one) and then the one that failed,
 //! and not to be touched again. The answer says so, or where first it isn't so.
 #![tactic(auto)]
 
+mod canonical;
 mod reading;
 mod sizes;
 mod trials;
@@ -45,6 +52,7 @@ mod writers;
 mod writing;
 mod written;
 
+use canonical::{push_canon, push_normalise};
 use cif_cases::{Case, cases_of};
 use reading::push_read;
 use sizes::push_sizes;
@@ -70,6 +78,8 @@ fn push_answer(alloc: Global, out: &mut String, case: &Case) -> io::Result<()> {
         "bytes" => push_bytes(alloc, out, case.input.as_slice()),
         "writes" => Ok(push_writes(out, case)?),
         "flushes" => push_flushes(alloc, out, case),
+        "normalise" => Ok(push_normalise(alloc, out, case)?),
+        "canon" => Ok(push_canon(alloc, out, case)?),
         "sizes" => Ok(push_sizes(alloc, out, case)?),
         _ => push_read(alloc, out, case),
     }

@@ -29,7 +29,7 @@ pub(crate) fn push_read(alloc: Global, out: &mut String, case: &Case) -> io::Res
 }
 
 /// The reader that the case asks for.
-fn reader_of<'a>(case: &'a Case) -> Option<TrialReader<'a>> {
+pub(crate) fn reader_of<'a>(case: &'a Case) -> Option<TrialReader<'a>> {
     let bytes = case.input.as_slice();
     let step = usize::from(case.number("by", 1));
     if step == 0 {

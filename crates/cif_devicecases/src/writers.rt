@@ -12,8 +12,8 @@ use std::io::BufWriter;
 const ROOM: usize = 2048;
 
 /// The writer that the case asks for.
-fn writer_of(case: &Case) -> TrialWriter {
-    let takes = usize::from(case.number("takes", 0)).min(ROOM);
+pub(crate) fn writer_of(case: &Case) -> TrialWriter {
+    let takes = usize::from(case.number("takes", 2048)).min(ROOM);
     TrialWriter::new(takes, case.value("then") == Some("zero"))
 }
 
