@@ -1,5 +1,6 @@
 -- What a calendar says, and why there is none.
-use Rattle.std.specs.Prelude.{◌≡◌, ℕ, ◌+◌, ◌*◌, ◌≤◌, List, length, All, Option, ◌↔◌}
+use Rattle.std.specs.Prelude.{◌≡◌, ℕ, ◌+◌, ◌*◌, ◌≤◌, ◌⊎◌, List, length, All, Option, ◌↔◌}
+use Rattle.std.specs.Prelude.{Result, Err, IfErr, IfOk}
 use Rattle.cif_calendar.specs.Terms.{Terms, Records}
 use Rattle.cif_calendar.specs.Clash.{IsClearFrom, IsFirstClash}
 use Rattle.cif_calendar.specs.Runs.{Runs}
@@ -37,3 +38,10 @@ pub record IsCalendar {B : Type 0} (xs : List (Terms B)) (members : List ℕ) (f
 abbrev pub IsFault : {B : Type 0} → Records B → ℕ → ℕ → CalendarFault → Type 0
 IsFault records first last (Ambiguous d) = IsFirstClash records first last d
 IsFault records first last Memory = Unit {0}
+
+-- What is answered where the calendar of the members is asked for. Where the window has a clash, it is that or Memory.
+pub record IsAnswer {B : Type 0} (xs : List (Terms B)) (members : List ℕ) (first last : ℕ)
+    (result : Result CalendarParts CalendarFault) : Type 0 where
+  pub calendar : IfOk result (IsCalendar xs members first last)
+  pub fault : IfErr result (IsFault (IsChosen xs members) first last)
+  pub clash : (d : ℕ) → IsFirstClash (IsChosen xs members) first last d → (result ≡ Err (Ambiguous d)) ⊎ (result ≡ Err Memory)

@@ -2,6 +2,7 @@ pub mod Applies
 pub mod Calendar
 pub mod CalendarFault
 pub mod Clash
+pub mod Entries
 pub mod Keys
 pub mod Laws
 pub mod Meaning

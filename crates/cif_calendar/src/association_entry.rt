@@ -10,18 +10,13 @@ impl Entry for Association {
 
     ghost use Rattle.std.proofs.Common.{rules};
     ghost use Rattle.std.proofs.lemmas.Grind.{common_steps};
+    ghost use Rattle.cif_calendar.specs.Entries.{association_terms};
     ghost use Rattle.cif_calendar.specs.Laws.Bodied.{cancelled-from_bodied};
     ghost use Rattle.std.specs.Cmp.Lexicographic.{pointwise_decides, bytes_decides};
 
     ghost key = { λ a. a.key };
 
-    ghost terms = { λ a. record {
-      first = a.first;
-      last = a.last;
-      days = a.days;
-      letter = a.letter;
-      body = a.body;
-    } };
+    ghost terms = { association_terms };
 
     fn key(&self) -> &AssocKey {
         &self.key

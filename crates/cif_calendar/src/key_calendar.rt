@@ -84,4 +84,9 @@ impl Calendar {
     {
         self.pieces.as_slice()
     }
+
+    /// The room of its pieces, for another calendar.
+    pub fn into_room(self) -> Vec<Piece> {
+        self.pieces
+    }
 }

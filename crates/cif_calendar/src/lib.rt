@@ -16,6 +16,6 @@ pub use calendar_fault::CalendarFault;
 pub use entry::Entry;
 pub use key_calendar::Calendar;
 pub use piece::Piece;
-pub use stretches::calendar;
+pub use stretches::{calendar, calendar_in_room};
 pub use window::Window;
-pub use winner::{BodiesDiffer, same_body, winner_on};
+pub use winner::same_body;

@@ -10,19 +10,14 @@ impl Entry for Schedule {
 
     ghost use Rattle.std.proofs.Common.{rules};
     ghost use Rattle.std.proofs.lemmas.Grind.{common_steps};
+    ghost use Rattle.cif_calendar.specs.Entries.{schedule_terms};
     ghost use Rattle.cif_calendar.specs.Laws.Bodied.{cancelled-from_bodied};
     ghost use Rattle.cif_extract.specs.Laws.SameBody.{same_body};
-    ghost use Rattle.std.specs.Cmp.Lexicographic.{pointwise_decides, bytes_decides};
+    ghost use Rattle.std.specs.Cmp.Lexicographic.{bytes_decides};
 
     ghost key = { λ s. s.uid };
 
-    ghost terms = { λ s. record {
-      first = s.first;
-      last = s.last;
-      days = s.days;
-      letter = s.letter;
-      body = s.body;
-    } };
+    ghost terms = { schedule_terms };
 
     fn key(&self) -> &Uid {
         &self.uid
@@ -48,7 +43,7 @@ impl Entry for Schedule {
         self.body.as_ref()
     }
 
-    ghost same_key = { Prim.search (rules, common_steps, pointwise_decides, bytes_decides) };
+    ghost same_key = { Prim.search (rules, common_steps, bytes_decides) };
 
     ghost same_body = { same_body };
 

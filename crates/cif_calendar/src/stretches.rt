@@ -1,14 +1,13 @@
 //! The pieces of a window, one after another.
 
 ghost use Rattle.std.specs.Prelude.{◌≡◌, ◌<◌, ◌≤◌, ◌+◌, ℕ, length, map, All, min};
-ghost use Rattle.std.specs.Prelude.{IfOk, IfErr, OnOk, Err, ◌⊎◌, ◌++◌, ◌∷◌, []};
-ghost use Rattle.cif_calendar.specs.Calendar.{IsCalendar, IsFault};
+ghost use Rattle.std.specs.Prelude.{IfOk, IfErr, OnOk, ◌⊎◌, ◌++◌, ◌∷◌, []};
+ghost use Rattle.cif_calendar.specs.Calendar.{IsAnswer, IsFault};
 ghost use Rattle.cif_calendar.specs.Clash.{IsFirstClash};
 ghost use Rattle.cif_calendar.specs.Steps.PieceSteps.{BreaksAfter, BreaksOff, IsWeekFrom};
 ghost use Rattle.cif_calendar.specs.Pieces.{IsPiece, IsUnbroken};
 ghost use Rattle.cif_calendar.specs.Source.{IsChosen};
 ghost use Rattle.cif_calendar.specs.declared.calendar_fault.CalendarFault.TheVariants.{Memory};
-ghost use Rattle.cif_calendar.specs.declared.calendar_fault.CalendarFault.TheVariants.{Ambiguous};
 
 use crate::calendar_fault::CalendarFault;
 use crate::entry::Entry;
@@ -144,15 +143,24 @@ pub fn calendar<E: Entry>(
     window: Window,
 ) -> Result<Calendar, CalendarFault>
     requires positions { All (λ i. i < length entries.now) members.now }
-    ensures calendar { IfOk result (IsCalendar (map E.terms entries.now) members.now
-        window.first window.last) }
-    ensures fault { IfErr result
-        (IsFault (IsChosen (map E.terms entries.now) members.now) window.first window.last) }
-    ensures clash { (d : ℕ) →
-        IsFirstClash (IsChosen (map E.terms entries.now) members.now) window.first window.last d →
-        (result ≡ Err (Ambiguous d)) ⊎ (result ≡ Err Memory) }
+    ensures { IsAnswer (map E.terms entries.now) members.now window.first window.last result }
 {
-    let mut pieces = Vec::new(alloc);
+    calendar_in_room(Vec::new(alloc), entries, members, window)
+}
+
+/// The same calendar, in the room of pieces that are needed no more: `Calendar::into_room` gives
+/// that of an earlier calendar.
+pub fn calendar_in_room<E: Entry>(
+    room: Vec<Piece>,
+    entries: &[E],
+    members: &[usize],
+    window: Window,
+) -> Result<Calendar, CalendarFault>
+    requires positions { All (λ i. i < length entries.now) members.now }
+    ensures { IsAnswer (map E.terms entries.now) members.now window.first window.last result }
+{
+    let mut pieces = room;
+    pieces.clear();
     let mut first = window.first;
     loop {
         let piece = piece_from(entries, members, first, window.last)?;

@@ -13,7 +13,7 @@ use cif_columns::Day;
 
 /// Two winners of a date have different bodies, so what runs can't be said.
 #[derive(Clone, Copy, Debug, PartialEq, Eq)]
-pub struct BodiesDiffer;
+pub(crate) struct BodiesDiffer;
 
 /// Who leads among the entries that were looked at.
 #[derive(Clone, Copy)]
@@ -104,7 +104,7 @@ fn standing_on<E: Entry>(entries: &[E], members: &[usize], day: Day) -> Standing
 /// Hand in the positions of one key's records: all members are judged together, whatever their
 /// keys. Which of several winners with one body is named is free. `Err` comes exactly where two
 /// winners have different bodies; a clash among records that do not win is no fault.
-pub fn winner_on<E: Entry>(
+pub(crate) fn winner_on<E: Entry>(
     entries: &[E],
     members: &[usize],
     day: Day,

@@ -16,11 +16,11 @@ use Rattle.cif_weeks.proofs.PermanentEntries.{canonical-dated}
 use Rattle.cif_canon.specs.Asked.{header_window}
 use Rattle.cif_canon.specs.Canon.{CanonParts, IsCanonOf}
 use Rattle.cif_canon.specs.Canonical.{IsCanonicalOf}
-use Rattle.cif_canon.specs.Entries.{association_entries, schedule_entries}
+use Rattle.cif_calendar.specs.Entries.{association_entries, schedule_entries}
 use Rattle.cif_canon.specs.Steps.Records.{AreCanonicalRecords, window_from}
 use Rattle.cif_canon.specs.Steps.Texts.{HasRecord, canon_text}
 use Rattle.cif_canon.specs.Steps.Tiplocs.{AreDistinct}
-use Rattle.cif_extract.specs.Texts.{FitsColumns, extract_text}
+use Rattle.cif_extract.specs.Texts.{FitsColumns}
 use Rattle.cif_extract.specs.SpellsExtract.{BytesSpell}
 use Rattle.cif_extract.proofs.PlainTexts.{text-spells}
 use Rattle.cif_canon.proofs.CanonTexts.{have-records, number-of_associations, number-of_schedules, same-number, written-text}

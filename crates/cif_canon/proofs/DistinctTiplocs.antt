@@ -1,6 +1,6 @@
 -- Locations that are sorted, and each kept once, rise strictly and are the same.
-use Rattle.std.proofs.Common.{◌≡◌, ℕ, true, nat_eq, List, [], ◌∷◌, sym, subst, arith, IsPermutation}
-use Rattle.std.specs.Prelude.{◌↔◌, All, AllPairs, Contains}
+use Rattle.std.proofs.Common.{◌≡◌, nat_eq, List, [], ◌∷◌, sym, subst, arith, IsPermutation}
+use Rattle.std.specs.Prelude.{All, AllPairs}
 use Rattle.std.specs.List.{AllByRecursion, dedup}
 use Rattle.std.specs.List.Retain.{IsFiltered, DiffersFromLast}
 use Rattle.std.specs.List.Sorted.{IsSorted, IsStrictlySortedBy}

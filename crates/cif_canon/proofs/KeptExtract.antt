@@ -16,7 +16,7 @@ use Rattle.cif_weeks.specs.Permanent.{Permanent, permanent_entries}
 use Rattle.cif_weeks.specs.declared.form.Form.{Form}
 use Rattle.cif_canon.specs.Asked.{header_window}
 use Rattle.cif_canon.specs.Canonical.{IsCanonicalExtract}
-use Rattle.cif_canon.specs.Entries.{association_entries, schedule_entries}
+use Rattle.cif_calendar.specs.Entries.{association_entries, schedule_entries}
 use Rattle.cif_canon.specs.Meaning.{SameMeaning}
 use Rattle.cif_canon.proofs.MadeExtract.{IsDated, associations_of, schedules_of, entries-of_associations, entries-of_schedules}
 

@@ -9,7 +9,7 @@ use Rattle.cif_records.specs.declared.assoc_body.AssocBody.{AssocBody}
 use Rattle.cif_records.specs.declared.assoc_key.AssocKey.{AssocKey}
 use Rattle.cif_records.specs.declared.association.Association.{Association}
 use Rattle.cif_weeks.specs.Permanent.{Permanent, terms_of, permanent_entries}
-use Rattle.cif_canon.specs.Entries.{association_entries, schedule_entries}
+use Rattle.cif_calendar.specs.Entries.{association_entries, schedule_entries}
 
 -- a record that doesn't end before it begins
 abbrev pub IsDated : {K B : Type 0} → K × Permanent B → Type 0

@@ -1,5 +1,5 @@
 -- What a canonical extract says fits the columns of lines, where what it is made of does.
-use Rattle.std.proofs.Common.{◌≡◌, ℕ, zero, suc, ◌<◌, ◌≤◌, Bool, List, [], ◌∷◌, ◌++◌, map, length, get_or, Option, None, Some, refl, sym}
+use Rattle.std.proofs.Common.{◌≡◌, ℕ, zero, suc, Bool, List, [], ◌∷◌, ◌++◌, map, length, get_or, Some, refl}
 use Rattle.std.proofs.Common.{ap, ◌∙◌, subst, arith}
 use Rattle.std.specs.Prelude.{All, Contains, slice_get}
 use Rattle.std.specs.List.{AllZip, flat_map}
@@ -10,9 +10,9 @@ use Rattle.cif_columns.specs.Day.{IsDay}
 use Rattle.cif_columns.specs.Field.{AllFit, Row}
 use Rattle.cif_columns.specs.declared.stp.Stp.{Stp}
 use Rattle.cif_columns.specs.declared.stp.Stp.TheVariants.{P}
-use Rattle.cif_extract.specs.BodyParts.{BodyParts, body_records}
+use Rattle.cif_extract.specs.BodyParts.{BodyParts}
 use Rattle.cif_extract.specs.ExtractParts.{ExtractParts}
-use Rattle.cif_extract.specs.Texts.{AllTablesFit, FitsColumns, body_tables, schedule_tables, tables_of}
+use Rattle.cif_extract.specs.Texts.{AllTablesFit, FitsColumns, schedule_tables, tables_of}
 use Rattle.cif_extract.specs.declared.schedule.Schedule.{Schedule}
 use Rattle.cif_extract.proofs.PlainTexts.{fit-append, fit-back, fit-front}
 use Rattle.cif_records.specs.Association.{association_table}
@@ -33,9 +33,9 @@ use Rattle.cif_weeks.specs.Window.{Window, IsWithin}
 use Rattle.cif_weeks.specs.declared.form.Form.{Form}
 use Rattle.cif_weeks.specs.declared.form.Form.TheVariants.{One, Two}
 use Rattle.cif_weeks.specs.declared.run.Run.{Run}
-use Rattle.cif_canon.specs.Entries.{association_entry, association_entries, schedule_entry, schedule_entries}
+use Rattle.cif_calendar.specs.Entries.{association_entry, association_entries, schedule_entry, schedule_entries}
 use Rattle.cif_canon.specs.Steps.Records.{IsRunOf}
-use Rattle.cif_canon.proofs.MadeExtract.{IsDated, association_of, associations_of, schedule_of, schedules_of}
+use Rattle.cif_canon.proofs.MadeExtract.{IsDated, associations_of, schedules_of}
 
 -- ---- a permanent record with dates and a mask of its own
 

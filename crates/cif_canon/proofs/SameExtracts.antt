@@ -1,9 +1,7 @@
 -- Extracts with equal parts, and that saying the same is an equivalence.
 use Rattle.std.proofs.Common.{◌≡◌, ℕ, List, [], ◌∷◌, map, refl, sym, ap, ◌∙◌, subst}
-use Rattle.std.proofs.lemmas.Option.{same_Some}
 use Rattle.cif_calendar.specs.Terms.{Terms}
 use Rattle.cif_calendar.proofs.SayTheSame.{SameMeaning-refl, SameMeaning-sym, SameMeaning-trans}
-use Rattle.cif_columns.specs.Day.{ddmmyy_in}
 use Rattle.cif_extract.specs.BodyParts.{BodyParts}
 use Rattle.cif_extract.specs.ExtractParts.{ExtractParts}
 use Rattle.cif_extract.specs.declared.schedule.Schedule.{Schedule}
@@ -17,7 +15,7 @@ use Rattle.cif_records.proofs.Associations.{same_association}
 use Rattle.cif_records.proofs.Headers.{same_header}
 use Rattle.cif_weeks.specs.Window.{Window}
 use Rattle.cif_canon.specs.Asked.{header_window}
-use Rattle.cif_canon.specs.Entries.{association_entry, association_entries, schedule_entry, schedule_entries}
+use Rattle.cif_calendar.specs.Entries.{association_entry, association_entries, schedule_entry, schedule_entries}
 use Rattle.cif_canon.specs.Meaning.{Agree, SameMeaning}
 
 -- ---- equal parts

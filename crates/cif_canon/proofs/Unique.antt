@@ -21,7 +21,7 @@ use Rattle.cif_weeks.proofs.RisingLists.{IsOneWay, same_members, less_one_way}
 use Rattle.cif_weeks.proofs.UniqueByKey.{unique_same}
 use Rattle.cif_canon.specs.Asked.{header_window}
 use Rattle.cif_canon.specs.Canonical.{AreCanonicalEntries, IsCanonicalExtract}
-use Rattle.cif_canon.specs.Entries.{association_entries, schedule_entries}
+use Rattle.cif_calendar.specs.Entries.{association_entries, schedule_entries}
 use Rattle.cif_canon.specs.Meaning.{Agree, SameMeaning}
 use Rattle.cif_canon.proofs.SameExtracts.{one-window, same-associations, same-parts, same-schedules}
 

@@ -14,7 +14,7 @@ use Rattle.cif_extract.specs.declared.fault.Fault.TheVariants.{Read, Write, Memo
 use Rattle.cif_records.specs.AssocKey.{key_cmp}
 use Rattle.cif_canon.specs.Accepted.{SpellsNarrowed}
 use Rattle.cif_canon.specs.Asked.{IsNarrowingFault}
-use Rattle.cif_canon.specs.Entries.{association_entries, schedule_entries}
+use Rattle.cif_calendar.specs.Entries.{association_entries, schedule_entries}
 use Rattle.cif_canon.specs.declared.asked.Asked.{Asked}
 
 -- The first clash of an extract in its window: that of associations, by the least key and its first day, or, where these are clear,

@@ -3,7 +3,6 @@ pub mod Asked
 pub mod Canon
 pub mod Canonical
 pub mod Counts
-pub mod Entries
 pub mod Fault
 pub mod Meaning
 pub mod NormalForm

@@ -1,23 +1,15 @@
 //! Making the canonical form of an extract.
-ghost use Rattle.std.specs.Prelude.{◌≡◌, IfErr, IfOk};
-ghost use Rattle.std.specs.Cmp.Lexicographic.{slice_cmp};
-ghost use Rattle.std.specs.Ordering.{nat_cmp};
-ghost use Rattle.cif_calendar.specs.Keys.{AreClear};
+ghost use Rattle.std.specs.Prelude.{IfErr, IfOk};
 ghost use Rattle.cif_extract.specs.ExtractParts.{extract_parts};
 ghost use Rattle.cif_extract.specs.Texts.{FitsColumns};
-ghost use Rattle.cif_records.specs.AssocKey.{key_cmp};
-ghost use Rattle.cif_canon.specs.Asked.{header_window};
 ghost use Rattle.cif_canon.specs.Canon.{IsCanonOf};
-ghost use Rattle.cif_canon.specs.Entries.{association_entries, schedule_entries};
 ghost use Rattle.cif_canon.specs.Fault.{IsCanonFault};
 ghost use Rattle.cif_canon.specs.NormalForm.{IsUnique};
-ghost use Rattle.cif_canon.specs.Steps.Records.{IsRecordsFault};
 
 use crate::Canon;
-use crate::records::{RecordsFault, canonical_records};
+use crate::extract_runs::extract_runs;
 use crate::tiplocs::distinct_tiplocs;
-use cif_calendar::Window;
-use cif_extract::{Clash, Extract, Fault};
+use cif_extract::{Extract, Fault};
 use cif_weeks::Form;
 use std::alloc::Global;
 
@@ -32,66 +24,6 @@ pub fn canon<'a>(alloc: Global, extract: &'a Extract, form: Form) -> Result<Cano
     let Ok(tiplocs) = distinct_tiplocs(alloc, extract.tiplocs.as_slice()) else {
         return Err(Fault::Memory);
     };
-    let associations = match canonical_records(
-        alloc,
-        extract.associations.as_slice(),
-        window_of(extract),
-        form,
-    ) {
-        Ok(runs) => runs,
-        Err(fault) => return Err(association_fault(extract, fault)),
-    };
-    let schedules = match canonical_records(
-        alloc,
-        extract.schedules.as_slice(),
-        window_of(extract),
-        form,
-    ) {
-        Ok(runs) => runs,
-        Err(fault) => return Err(schedule_fault(extract, fault)),
-    };
-    Ok(Canon::of(extract, tiplocs, associations, schedules))
-}
-
-/// The window of the extract.
-fn window_of(extract: &Extract) -> Window
-    ensures first { result.first ≡ extract.now.header.first }
-    ensures last { result.last ≡ extract.now.header.last }
-{
-    Window {
-        first: extract.header.first,
-        last: extract.header.last,
-    }
-}
-
-/// Why the associations have no canonical records, as a fault of the extract.
-fn association_fault(extract: &Extract, fault: RecordsFault) -> Fault
-    requires { IsRecordsFault key_cmp (association_entries extract.now.associations.items)
-        (header_window extract.now.header) fault }
-    ensures { IsCanonFault (extract_parts extract.now) result }
-{
-    match fault {
-        RecordsFault::Clash { member, day } => {
-            let key = extract.associations[member].key.copy();
-            Fault::Ambiguous(Clash::Association(key, day))
-        }
-        RecordsFault::Memory => Fault::Memory,
-    }
-}
-
-/// Why the schedules have no canonical records, where the associations have.
-fn schedule_fault(extract: &Extract, fault: RecordsFault) -> Fault
-    requires clear { AreClear (association_entries extract.now.associations.items)
-        extract.now.header.first extract.now.header.last }
-    requires fault { IsRecordsFault (slice_cmp nat_cmp) (schedule_entries extract.now.schedules.items)
-        (header_window extract.now.header) fault }
-    ensures { IsCanonFault (extract_parts extract.now) result }
-{
-    match fault {
-        RecordsFault::Clash { member, day } => {
-            let uid = extract.schedules[member].uid;
-            Fault::Ambiguous(Clash::Train(uid, day))
-        }
-        RecordsFault::Memory => Fault::Memory,
-    }
+    let runs = extract_runs(alloc, extract, form)?;
+    Ok(Canon::of(extract, tiplocs, runs.associations, runs.schedules))
 }

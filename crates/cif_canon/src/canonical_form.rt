@@ -3,7 +3,7 @@ ghost use Rattle.std.specs.Prelude.{◌≡◌, false, All, IfErr};
 ghost use Rattle.std.specs.List.{flat_map};
 ghost use Rattle.cif_columns.specs.Sink.{Writes, sink_failed};
 ghost use Rattle.cif_extract.specs.declared.fault.Fault.TheVariants.{Write};
-ghost use Rattle.cif_canon.specs.Entries.{association_entries, schedule_entries};
+ghost use Rattle.cif_calendar.specs.Entries.{association_entries, schedule_entries};
 ghost use Rattle.cif_canon.specs.Steps.Texts.{HasRecord, association_run_text};
 ghost use Rattle.cif_canon.specs.Steps.Texts.{schedule_run_text, tiploc_text};
 
@@ -35,7 +35,7 @@ impl<'a> Model for Canon<'a> {
     ghost use Rattle.std.specs.Prelude.{All, length};
     ghost use Rattle.cif_extract.specs.ExtractParts.{extract_parts};
     ghost use Rattle.cif_canon.specs.Canon.{CanonParts};
-    ghost use Rattle.cif_canon.specs.Entries.{association_entries, schedule_entries};
+    ghost use Rattle.cif_calendar.specs.Entries.{association_entries, schedule_entries};
     ghost use Rattle.cif_canon.specs.Steps.Texts.{HasRecord, canon_text};
 
     ghost Value = { CanonParts };

@@ -5,6 +5,7 @@ mod asked;
 mod canonical;
 mod canonical_form;
 mod counts;
+mod extract_runs;
 mod fault_line;
 pub mod laws;
 mod normal_form;

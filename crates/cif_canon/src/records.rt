@@ -6,9 +6,9 @@ ghost use Rattle.cif_canon.specs.Steps.Records.{AreCanonicalRecords, IsRecordsFa
 ghost use Rattle.cif_canon.specs.Steps.Records.{AreRunsOfKey, IsKeyFault, records_fault, window_from};
 
 use crate::turns::{first_run, positions_by_key};
-use cif_calendar::{CalendarFault, Entry, Window, calendar};
+use cif_calendar::{CalendarFault, Entry, Piece, Window, calendar_in_room};
 use cif_columns::Day;
-use cif_weeks::{Form, Run, runs};
+use cif_weeks::{Form, Run, runs_in_room};
 use std::alloc::{AllocError, Global};
 
 /// Why there are no canonical records.
@@ -41,31 +41,43 @@ fn fault_of(fault: CalendarFault, member: usize) -> RecordsFault
     }
 }
 
-/// The runs of one key's canonical records. The key's entries are at `members`.
+/// The pieces of a key's calendar and the runs of its canonical records. Those of the next key take
+/// their room.
+#[derive(Debug, Drop)]
+struct KeyRoom {
+    pieces: Vec<Piece>,
+    runs: Vec<Run>,
+}
+
+/// The runs of one key's canonical records, in the room of another key's. The key's entries are at
+/// `members`.
 fn runs_of_key<E: Entry>(
-    alloc: Global,
+    room: KeyRoom,
     entries: &[E],
     members: &[usize],
     window: &Window,
     form: Form,
-) -> Result<Vec<Run>, RecordsFault>
+) -> Result<KeyRoom, RecordsFault>
     requires within { All (λ i. i < length entries.now) members.now }
     requires some { 0 < length members.now }
-    ensures runs { IfOk result (λ runs. (k : E.Key) →
+    ensures runs { IfOk result (λ room. (k : E.Key) →
         ArePositionsOf (keyed E.key E.terms entries.now) k members.now →
         AreRunsOfKey form (window_from window.now.first window.now.last)
-        (keyed E.key E.terms entries.now) k runs.items) }
+        (keyed E.key E.terms entries.now) k room.runs.items) }
     ensures fault { IfErr result (λ fault. (k : E.Key) →
         ArePositionsOf (keyed E.key E.terms entries.now) k members.now →
         IsKeyFault (window_from window.now.first window.now.last)
         (keyed E.key E.terms entries.now) members.now k fault) }
 {
-    let calendar = match calendar(alloc, entries, members, *window) {
+    let calendar = match calendar_in_room(room.pieces, entries, members, *window) {
         Ok(calendar) => calendar,
         Err(fault) => return Err(fault_of(fault, members[0])),
     };
-    let own = runs(alloc, entries, &calendar, form)?;
-    Ok(own)
+    let runs = runs_in_room(room.runs, entries, &calendar, form)?;
+    Ok(KeyRoom {
+        pieces: calendar.into_room(),
+        runs,
+    })
 }
 
 /// The runs of the canonical records of the entries in a form: for each key, in order, those that
@@ -88,11 +100,15 @@ pub(crate) fn canonical_records<E: Entry>(
 {
     let positions = positions_by_key(alloc, entries)?;
     let mut all = Vec::new(alloc);
+    let mut room = KeyRoom {
+        pieces: Vec::new(alloc),
+        runs: Vec::new(alloc),
+    };
     let mut rest = positions.as_slice();
     while !rest.is_empty() {
         let (members, later) = rest.split_at(first_run(entries, rest));
-        let own = runs_of_key(alloc, entries, members, &window, form)?;
-        all.extend_from_slice(own.as_slice())?;
+        room = runs_of_key(room, entries, members, &window, form)?;
+        all.extend_from_slice(room.runs.as_slice())?;
         rest = later;
     }
     Ok(all)

@@ -1,7 +1,7 @@
 -- Columns that are filled as in a plain line, and that a line of such columns is the plain line of its table.
-use Rattle.std.proofs.Common.{◌≡◌, ◌≤◌, ℕ, zero, suc, ◌+◌, ◌-◌, Bool, ◌&&◌, true, false, cond, nat_eq}
+use Rattle.std.proofs.Common.{◌≡◌, ◌≤◌, ℕ, zero, suc, ◌+◌, ◌-◌, Bool, ◌&&◌, true, false, nat_eq}
 use Rattle.std.proofs.Common.{List, [], ◌∷◌, ◌++◌, length}
-use Rattle.std.proofs.Common.{drop, get_or, replicate, refl, sym, ap, ◌∙◌, arith, subst, length-append, length-drop, Some}
+use Rattle.std.proofs.Common.{drop, get_or, replicate, refl, sym, ap, ◌∙◌, arith, subst, length-append, length-drop}
 use Rattle.std.proofs.lemmas.Bool.Decides.{nat_tests}
 use Rattle.std.proofs.lemmas.List.{append-nil, drop-drop, length-replicate, nil_from_length, take-append-drop}
 use Rattle.cif_columns.specs.Activities.{codes_columns, codes_in}
@@ -9,12 +9,11 @@ use Rattle.cif_columns.specs.Clock.{is_blank}
 use Rattle.cif_columns.specs.Field.{AllStandIn, FieldValue, Row, StandsIn, columns, is_whole_from, plain_columns, plain_line}
 use Rattle.cif_columns.specs.Field.{exactly, text, activity_codes, working_time, public_time, date, weekdays, indicator, spare}
 use Rattle.cif_columns.specs.Line.{IsLine}
-use Rattle.cif_columns.specs.Text.{IsTrimmed, StandsIn as TextStandsIn, left_justified, text_of}
+use Rattle.cif_columns.specs.Text.{IsTrimmed, left_justified, text_of}
 use Rattle.cif_columns.proofs.Codes.{codes_in-stands}
 use Rattle.cif_columns.proofs.DayDigits.{yymmdd_of-stands}
 use Rattle.cif_columns.proofs.Masks.{days_columns-stands}
 use Rattle.cif_columns.proofs.Parts.{whole-first}
-use Rattle.cif_columns.proofs.PlainLines.{length-columns}
 use Rattle.cif_columns.proofs.Texts.{is_text_of, trim-text}
 
 -- blank columns are spaces

@@ -1,5 +1,5 @@
 -- Texts that are written one after another.
-use Rattle.std.proofs.Common.{◌≡◌, ℕ, Bool, true, false, List, [], ◌∷◌, ◌++◌, Option, Result, Ok, Err, IsErr, refl, sym, ap, subst}
+use Rattle.std.proofs.Common.{◌≡◌, ℕ, false, List, [], ◌∷◌, ◌++◌, Option, Result, Ok, Err, IsErr, refl, sym, ap, subst}
 use Rattle.std.proofs.Common.{◌+◌, ◌<◌, ◌∙◌, append_assoc, append-nil, drop, get_or, length, take, take-append-drop}
 use Rattle.std.specs.List.{flat_map}
 use Rattle.std.proofs.lemmas.Grind.{flat_map-append}
@@ -7,7 +7,7 @@ use Rattle.std.proofs.lemmas.List.{take_more}
 use Rattle.std.proofs.lemmas.Bool.{false≢true}
 use Rattle.std.proofs.KnownBytes.{Appends-nil, Appends-trans}
 use Rattle.cif_columns.specs.Devices.{OneError}
-use Rattle.cif_columns.specs.Sink.{AppendsFront, HasFailed, HasWritten, Writes, sink_failed, writer_of}
+use Rattle.cif_columns.specs.Sink.{HasFailed, HasWritten, Writes, sink_failed, writer_of}
 use Rattle.cif_columns.specs.declared.sink.Sink.{Sink}
 
 module _ {W : Type 0} (contents : W → Option (List ℕ)) (errors : W → Option ℕ) where

@@ -30,7 +30,6 @@ use Rattle.cif_extract.specs.FirstRefusal.{refusal_of}
 use Rattle.cif_extract.specs.OrderOfRecords.{record_before}
 use Rattle.cif_extract.specs.ReadFault.{FaultReads, IsOfReading, IsReadFault}
 use Rattle.cif_extract.specs.declared.fault.Fault.{Fault}
-use Rattle.cif_extract.specs.declared.fault.Fault.TheVariants as fault
 use Rattle.cif_records.specs.Checks.{first_of}
 use Rattle.cif_records.specs.Kind.{kind_in}
 use Rattle.cif_records.specs.Record.{record_refusal}

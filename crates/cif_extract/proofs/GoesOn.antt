@@ -7,7 +7,6 @@ use Rattle.cif_columns.specs.Field.{AllStandIn, Fits, plain_line, text}
 use Rattle.cif_columns.specs.Line.{IsPrintable}
 use Rattle.cif_columns.proofs.Parts.{stands-plain_line}
 use Rattle.cif_columns.proofs.PrintableBytes.{printable_fact}
-use Rattle.cif_extract.specs.ExtractParts.{ExtractParts}
 use Rattle.cif_extract.specs.Grammar.{AreExtract, BeginExtract}
 use Rattle.cif_extract.specs.Steps.Place.{may_stand}
 use Rattle.cif_extract.specs.Steps.Reading.{HasRead, HasReadAt, Progress, parts_with_header, step}

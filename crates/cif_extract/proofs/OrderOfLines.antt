@@ -8,7 +8,7 @@ use Rattle.cif_columns.specs.Field.{AllFit, AllStandIn, Row, plain_line, row, sp
 use Rattle.cif_columns.specs.Line.{IsLine}
 use Rattle.cif_columns.proofs.Parts.{fits-append, stands-plain_line}
 use Rattle.cif_extract.specs.ExtractParts.{ExtractParts}
-use Rattle.cif_extract.specs.Grammar.{AreExtract, BeginExtract}
+use Rattle.cif_extract.specs.Grammar.{BeginExtract}
 use Rattle.cif_extract.specs.OrderOfRecords.{RecordBefore, AreInOrder, MayComeAfter, may_follow, record_before}
 use Rattle.cif_extract.specs.SpellsExtract.{SpellAll, SpellExtract}
 use Rattle.cif_extract.specs.Steps.Place.{may_stand}

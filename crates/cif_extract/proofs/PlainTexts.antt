@@ -12,7 +12,7 @@ use Rattle.cif_extract.specs.BodyParts.{BodyParts, extra_records}
 use Rattle.cif_extract.specs.ExtractParts.{ExtractParts}
 use Rattle.cif_extract.specs.Grammar.{AreExtract, AreSchedule, AreSchedules, HaveBody}
 use Rattle.cif_extract.specs.SpellsExtract.{BytesSpell, SpellAll, SpellExtract}
-use Rattle.cif_extract.specs.Texts.{AllTablesFit, FitsColumns, body_tables, extract_lines, extract_tables, extract_text, tables_of}
+use Rattle.cif_extract.specs.Texts.{AllTablesFit, FitsColumns, body_tables, extract_lines, extract_text, tables_of}
 use Rattle.cif_extract.specs.declared.schedule.Schedule.{Schedule}
 use Rattle.cif_records.specs.Basic.{basic_table}
 use Rattle.cif_records.specs.SpellsAssociation.{table_of as association_table_of}
@@ -22,7 +22,6 @@ use Rattle.cif_records.specs.Trailer.{trailer_table}
 use Rattle.cif_records.specs.declared.detail.Detail.{Detail}
 use Rattle.cif_records.specs.declared.extra.Extra.{Extra}
 use Rattle.cif_records.specs.declared.record.Record.{Record}
-use Rattle.cif_records.specs.declared.record.Record.TheVariants as of
 use Rattle.cif_records.proofs.Records as records
 use Rattle.cif_extract.proofs.PlainRecords.{are-extract, plain_records, tables-append, tables-extract, tables-plain}
 

@@ -1,15 +1,15 @@
 -- A line spells at most one association, and there is no reason to refuse a line that spells one.
-use Rattle.std.proofs.Common.{◌≡◌, ◌≤◌, ℕ, Bool, true, List, Option, Some, None, is_some, refl, sym, ap, ◌∙◌, codes}
+use Rattle.std.proofs.Common.{◌≡◌, ◌≤◌, ℕ, Bool, List, Option, Some, None, is_some, refl, sym, ap, ◌∙◌, codes}
 use Rattle.std.proofs.Props.{props}
 use mathlib.Core.HLevel.{Σ_prop_path}
-use Rattle.cif_columns.specs.Field.{AllStandIn, StandsIn, columns, date, indicator, text, weekdays}
+use Rattle.cif_columns.specs.Field.{StandsIn, columns, date, indicator, text, weekdays}
 use Rattle.cif_columns.specs.declared.stp.Stp.{Stp}
 use Rattle.cif_columns.proofs.FieldLaws.{one_date_value, one_indicator, one_text_value, one_weekdays, stp_in-letter}
 use Rattle.cif_columns.proofs.Masks.{days_of-stands}
 use Rattle.cif_records.specs.Steps.AssocBody.{SpellsBody}
-use Rattle.cif_records.specs.Association.{association_refusal, association_table}
+use Rattle.cif_records.specs.Association.{association_refusal}
 use Rattle.cif_records.specs.Bodies.{has_body}
-use Rattle.cif_records.specs.SpellsAssociation.{SpellsAssociation, table_of}
+use Rattle.cif_records.specs.SpellsAssociation.{SpellsAssociation}
 use Rattle.cif_records.specs.declared.assoc_body.AssocBody.{AssocBody}
 use Rattle.cif_records.specs.declared.assoc_key.AssocKey.{AssocKey}
 use Rattle.cif_records.specs.declared.association.Association.{Association}

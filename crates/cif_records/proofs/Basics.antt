@@ -1,17 +1,17 @@
 -- A line spells at most one basic schedule, and there is no reason to refuse a line that spells one.
-use Rattle.std.proofs.Common.{◌≡◌, ◌≤◌, ℕ, Bool, true, List, Option, Some, None, is_some, get_or, ◌++◌, refl, sym, ap, ◌∙◌, codes}
+use Rattle.std.proofs.Common.{◌≡◌, ◌≤◌, ℕ, Bool, List, Option, Some, None, is_some, get_or, ◌++◌, refl, sym, ap, ◌∙◌}
 use Rattle.std.proofs.Props.{props}
 use mathlib.Core.HLevel.{Σ_prop_path}
-use Rattle.cif_columns.specs.Field.{FieldValue, AllStandIn, StandsIn, columns, date, indicator, weekdays}
+use Rattle.cif_columns.specs.Field.{FieldValue, AllStandIn}
 use Rattle.cif_columns.specs.declared.stp.Stp.{Stp}
 use Rattle.cif_columns.proofs.FieldLaws.{one_date_value, one_exactly, one_indicator, one_weekdays, stp_in-letter}
 use Rattle.cif_columns.proofs.Masks.{days_of-stands}
 use Rattle.cif_columns.proofs.Parts.{stands-back, stands-front}
 use Rattle.cif_columns.proofs.TableLaws.{one_table, columns_in}
-use Rattle.cif_records.specs.Basic.{basic_back, basic_front, basic_refusal, basic_table}
+use Rattle.cif_records.specs.Basic.{basic_back, basic_front, basic_refusal}
 use Rattle.cif_records.specs.Bodies.{has_body}
-use Rattle.cif_records.specs.Detail.{detail_in, detail_rows}
-use Rattle.cif_records.specs.SpellsBasic.{SpellsBasic, table_of}
+use Rattle.cif_records.specs.Detail.{detail_rows}
+use Rattle.cif_records.specs.SpellsBasic.{SpellsBasic}
 use Rattle.cif_records.specs.declared.basic.Basic.{Basic}
 use Rattle.cif_records.specs.declared.detail.Detail.{Detail}
 use Rattle.cif_records.proofs.Judging.{dates_fine}

@@ -3,13 +3,13 @@ use Rattle.std.proofs.Common.{◌≡◌, ◌+◌, ◌≤◌, ℕ, nat_le, true, 
 use Rattle.std.proofs.Common.{take, drop, subst, length-take, length-drop, append_assoc, take-append-drop}
 use Rattle.std.proofs.Props.{props}
 use Rattle.std.proofs.lemmas.Bool.Decides.{nat_tests}
-use Rattle.std.proofs.lemmas.List.{drop-drop, drop-take, take-take, take_all, take_at, length-take-le}
+use Rattle.std.proofs.lemmas.List.{drop-drop, drop-take, take-take, take_all, take_at}
 use Rattle.std.proofs.lemmas.List.Elements.{All-take, All-drop}
 use mathlib.Core.HLevel.{Σ_prop_path}
 use Rattle.cif_columns.specs.Day.{IsDay, ddmmyy_in}
 use Rattle.cif_columns.specs.DayDigits.{ddmmyy_of}
-use Rattle.cif_columns.specs.Field.{AllFit, AllStandIn, columns}
-use Rattle.cif_columns.specs.Line.{IsPrintable, ArePrintable, IsLine}
+use Rattle.cif_columns.specs.Field.{AllFit, columns}
+use Rattle.cif_columns.specs.Line.{IsPrintable, ArePrintable}
 use Rattle.cif_columns.proofs.DayColumns.{stands-ddmmyy_in}
 use Rattle.cif_columns.proofs.DayDigits.{ddmmyy_of-stands, is_day-ddmmyy}
 use Rattle.cif_columns.proofs.PrintableBytes.{printable_fact}

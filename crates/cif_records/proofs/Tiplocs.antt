@@ -1,11 +1,10 @@
 -- A line spells at most one location, and there is no reason to refuse a line that spells one.
-use Rattle.std.proofs.Common.{◌≡◌, ℕ, List, None, refl, sym, ap, ◌∙◌, arith, codes}
+use Rattle.std.proofs.Common.{◌≡◌, ℕ, List, None, sym, ap, ◌∙◌}
 use Rattle.std.proofs.Props.{props}
 use mathlib.Core.HLevel.{Σ_prop_path}
-use Rattle.cif_columns.specs.Field.{AllStandIn, columns}
-use Rattle.cif_columns.specs.Line.{ArePrintable, IsLine}
+use Rattle.cif_columns.specs.Line.{ArePrintable}
 use Rattle.cif_records.specs.SpellsTiploc.{SpellsTiploc}
-use Rattle.cif_records.specs.Tiploc.{tiploc_refusal, tiploc_table}
+use Rattle.cif_records.specs.Tiploc.{tiploc_refusal}
 use Rattle.cif_records.specs.declared.tiploc.Tiploc.{Tiploc}
 
 -- a location is determined by its columns

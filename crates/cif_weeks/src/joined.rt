@@ -125,8 +125,23 @@ pub fn runs<E: Entry>(
     ensures { IfOk result (λ runs.
         AreCanonicalRuns form (map E.terms entries.now) calendar.now runs.items) }
 {
+    runs_in_room(Vec::new(alloc), entries, calendar, form)
+}
+
+/// The same runs, in the room of runs that are needed no more.
+pub fn runs_in_room<E: Entry>(
+    room: Vec<Run>,
+    entries: &[E],
+    calendar: &Calendar,
+    form: Form,
+) -> Result<Vec<Run>, AllocError>
+    requires sources { AreSources (map E.terms entries.now) calendar.now }
+    ensures { IfOk result (λ runs.
+        AreCanonicalRuns form (map E.terms entries.now) calendar.now runs.items) }
+{
+    let mut runs = room;
+    runs.clear();
     let end = last_week(calendar);
-    let mut runs = Vec::new(alloc);
     let mut before = [None; 7];
     let mut number = calendar.window().first.week();
     while number <= end {

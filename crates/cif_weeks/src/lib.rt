@@ -11,5 +11,5 @@ mod week;
 mod week_mask;
 
 pub use form::Form;
-pub use joined::runs;
+pub use joined::{runs, runs_in_room};
 pub use run::Run;

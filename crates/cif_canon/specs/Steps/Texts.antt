@@ -19,7 +19,7 @@ use Rattle.cif_records.specs.declared.tiploc.Tiploc.{Tiploc}
 use Rattle.cif_weeks.specs.Permanent.{Permanent}
 use Rattle.cif_weeks.specs.Runs.{record_of}
 use Rattle.cif_weeks.specs.declared.run.Run.{Run}
-use Rattle.cif_canon.specs.Entries.{association_entries, schedule_entries}
+use Rattle.cif_calendar.specs.Entries.{association_entries, schedule_entries}
 
 -- the record of a run, with the key and the body of the entry at its source
 abbrev pub record_at : {K B : Type 0} → List (K × Terms B) → Run → Option (K × Permanent B)

@@ -1,7 +1,7 @@
 use Rattle.std.proofs.Common.{take}
 use Rattle.std.specs.List.{flat_map}
 use Rattle.cif_columns.specs.Sink.{HasWritten}
-use Rattle.cif_canon.specs.Entries.{association_entries}
+use Rattle.cif_calendar.specs.Entries.{association_entries}
 use Rattle.cif_canon.specs.Steps.Texts.{association_run_text}
 use Rattle.cif_canon.proofs.canonical_form.write_associations.Given as goal
 

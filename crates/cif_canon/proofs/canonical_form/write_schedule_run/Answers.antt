@@ -1,6 +1,6 @@
 use Rattle.std.proofs.Common.{sym, subst}
 use Rattle.cif_columns.specs.Sink.{Writes}
-use Rattle.cif_canon.specs.Entries.{schedule_entry}
+use Rattle.cif_calendar.specs.Entries.{schedule_entry}
 use Rattle.cif_canon.specs.Steps.Texts.{schedule_text}
 use Rattle.cif_canon.proofs.RunTexts.{run-text}
 use Rattle.cif_canon.proofs.canonical_form.write_schedule_run.Goals as goal

@@ -1,5 +1,5 @@
 use Rattle.cif_columns.proofs.WrittenTexts.{item_failed, item_written, writes_err, written_nothing}
-use Rattle.cif_canon.specs.Entries.{schedule_entries}
+use Rattle.cif_calendar.specs.Entries.{schedule_entries}
 use Rattle.cif_canon.specs.Steps.Texts.{schedule_run_text}
 use Rattle.cif_canon.proofs.canonical_form.write_schedules.Goals as goal
 

@@ -37,19 +37,19 @@ loop-rest-preserved g c =
           (All-drop (λ i. i < length c.args.entries.now) c.first_run.result c.loop-rest.rest.now c.loop-rest.invariant.within);
       made = rw (c.in_ok-extend_from_slice.ensures.items, c.as_slice.ensures.value, c.split_at.ensures.back)
           (made-key g.E.Key.Ord.cmp c.args.form window es g.met.E.Key.Ord.total same c.loop-rest.all.items c.loop-rest.rest.now
-          c.loop-rest.invariant.made c.first_run.result c.first_run.ensures c.in_ok-own.own.items
-          (rw c.split_at.ensures.front at c.in_ok-own.ensures.runs));
+          c.loop-rest.invariant.made c.first_run.result c.first_run.ensures c.in_ok-room.room.runs.items
+          (rw c.split_at.ensures.front at c.in_ok-room.ensures.runs));
     }
 
-pub returns-in_err-own-clause-fault : goal.returns-in_err-own-clause-fault
-returns-in_err-own-clause-fault g c =
+pub returns-in_err-room-clause-fault : goal.returns-in_err-room-clause-fault
+returns-in_err-room-clause-fault g c =
     let es = keyed g.E.Entry.key g.E.Entry.terms c.args.entries.now in
     let window = window_from c.args.window.first c.args.window.last in
     let same = same_key-cmp g.E.Key.PartialEq.eq g.E.Key.Ord.cmp g.met.E.Key.Ord.matches_eq g.met.E.Entry.same_key in
-    let p = err_from_is_err_and c.from_residual-in_err-own.result c.from_residual-in_err-own.ensures.1 in
+    let p = err_from_is_err_and c.from_residual-in_err-room.result c.from_residual-in_err-room.ensures.1 in
     rw (p.1, p.2) (made-fault g.E.Key.Ord.cmp c.args.form window es g.met.E.Key.Ord.total same c.loop-rest.all.items c.loop-rest.rest.now
-    c.loop-rest.invariant.made c.first_run.result c.first_run.ensures c.in_err-own.field-0.0
-    (rw c.split_at.ensures.front at c.in_err-own.ensures.fault))
+    c.loop-rest.invariant.made c.first_run.result c.first_run.ensures c.in_err-room.field-0.0
+    (rw c.split_at.ensures.front at c.in_err-room.ensures.fault))
 
 pub returns-clause-records : goal.returns-clause-records
 returns-clause-records g c =

@@ -11,4 +11,4 @@ returns-in-Err-clause-fault g c = rw c.fault_of.ensures (λ k p.
 pub returns-clause-runs : goal.returns-clause-runs
 returns-clause-runs g c k p =
     key-records g.E.Entry.key g.E.Entry.terms c.args.entries.now k c.args.members.now p c.args.window.now.first c.args.window.now.last
-    c.in-Ok.calendar c.in-Ok.ensures.calendar g.met.E.Entry.cancelled c.args.form c.in_ok-own.own.items c.in_ok-own.ensures
+    c.in-Ok.calendar c.in-Ok.ensures.calendar g.met.E.Entry.cancelled c.args.form c.in_ok-runs.runs.items c.in_ok-runs.ensures

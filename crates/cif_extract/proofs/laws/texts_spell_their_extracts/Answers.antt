@@ -1,5 +1,4 @@
 use Rattle.cif_extract.proofs.PlainTexts.{spelled-fits, text-lines, text-spells}
-use Rattle.cif_extract.specs.SpellsExtract.{BytesSpell}
 use Rattle.cif_columns.specs.Contents.{contents_of}
 use Rattle.cif_extract.proofs.laws.texts_spell_their_extracts.Goals as goal
 

@@ -1,4 +1,4 @@
-use Rattle.std.proofs.Common.{Ok, length, arith, ap, refl, sym, ◌∙◌}
+use Rattle.std.proofs.Common.{Ok, length, arith, ap, refl}
 use Rattle.std.proofs.KnownBytes.{Keeps-trans}
 use Rattle.cif_columns.specs.Ahead.{held_bytes}
 use Rattle.cif_columns.proofs.DecidedLines.{undecided_short}

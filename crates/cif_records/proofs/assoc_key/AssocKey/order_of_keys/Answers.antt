@@ -1,4 +1,3 @@
-use Rattle.std.proofs.Common.{sym}
 use Rattle.cif_columns.proofs.TextOrder.{order_of_columns}
 use Rattle.cif_records.proofs.assoc_key.AssocKey.order_of_keys.Goals as goal
 

@@ -3,7 +3,7 @@ use Rattle.cif_columns.specs.Day.{week_of}
 use Rattle.cif_weeks.specs.declared.run.Run.{Run}
 use Rattle.cif_weeks.specs.Steps.MadeRecords.{AreRunsUpTo}
 use Rattle.cif_weeks.proofs.AllWeeks.{row-none, row-jump, upto-none, upto-jump, upto-all}
-use Rattle.cif_weeks.proofs.joined.runs.Goals as goal
+use Rattle.cif_weeks.proofs.joined.runs_in_room.Goals as goal
 
 pub loop-number-init : goal.loop-number-init
 loop-number-init g c =
@@ -15,7 +15,7 @@ loop-number-init g c =
       in_range = c.last_week-end.ensures.in_range;
       row = row-none c.args.calendar.now c.week-number.result is;
       made = subst (λ (runs : List Run). AreRunsUpTo c.args.form xs c.args.calendar.now (c.week-number.result * 7) runs)
-          (sym c.new-runs.ensures.items) (upto-none c.args.form xs c.args.calendar.now c.requires.sources c.week-number.result is);
+          (sym c.clear.ensures.items) (upto-none c.args.form xs c.args.calendar.now c.requires.sources c.week-number.result is);
     }
 
 pub loop-number-preserved : goal.loop-number-preserved

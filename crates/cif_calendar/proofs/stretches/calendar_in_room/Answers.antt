@@ -1,13 +1,13 @@
 use Rattle.std.proofs.Common.{◌+◌, ◌∙◌, ap, map, sym, subst, arith, List, Err, ⊎_elim, inl, inr}
 use Rattle.std.proofs.lemmas.Result.{err_from_is_err_and}
 use Rattle.cif_calendar.specs.declared.piece.Piece.{Piece}
-use Rattle.cif_calendar.specs.Calendar.{IsCalendar}
+use Rattle.cif_calendar.specs.Calendar.{IsAnswer, IsCalendar}
 use Rattle.cif_calendar.proofs.FirstClash.{first_clash-clear}
 use Rattle.cif_calendar.proofs.LaidPieces.{AreLaid, AreTiled, laid-none, laid-more, tiled-last, few-last, calendar-tiled, fault-tiled}
 use Rattle.cif_calendar.proofs.LaidPieces.{fault-clash}
-use Rattle.cif_calendar.proofs.stretches.calendar.Goals as goal
-use Rattle.cif_calendar.proofs.stretches.calendar.Goals.{In-None}
-use Rattle.cif_calendar.proofs.stretches.calendar.Given.{Over}
+use Rattle.cif_calendar.proofs.stretches.calendar_in_room.Goals as goal
+use Rattle.cif_calendar.proofs.stretches.calendar_in_room.Goals.{In-None}
+use Rattle.cif_calendar.proofs.stretches.calendar_in_room.Given.{Over}
 
 pub loop-pieces-init : goal.loop-pieces-init
 loop-pieces-init g c = record {
@@ -15,25 +15,25 @@ loop-pieces-init g c = record {
   upto = c.args.window.in_order;
   laid = subst (λ (ps : List Piece).
       AreLaid (map g.E.Entry.terms c.args.entries.now) c.args.members.now c.args.window.first c.args.window.first ps)
-      (sym c.new-pieces.ensures.items)
+      (sym c.clear.ensures.items)
       (laid-none (map g.E.Entry.terms c.args.entries.now) c.args.members.now c.args.window.first);
 }
 
-pub returns-in_err-piece-clause-fault : goal.returns-in_err-piece-clause-fault
-returns-in_err-piece-clause-fault g c = let p = err_from_is_err_and c.from_residual.result c.from_residual.ensures.1 in rw (p.1, p.2)
-    (fault-tiled (map g.E.Entry.terms c.args.entries.now) c.args.members.now c.args.window.first c.loop-pieces.first
-    c.args.window.last _ _ c.loop-pieces.invariant.from c.loop-pieces.invariant.laid.tiled c.in_err-piece.ensures.fault)
-
-pub returns-in_err-piece-clause-clash : goal.returns-in_err-piece-clause-clash
-returns-in_err-piece-clause-clash g c d first =
+pub returns-in_err-piece : goal.returns-in_err-piece
+returns-in_err-piece g c =
     let p = err_from_is_err_and c.from_residual.result c.from_residual.ensures.1 in
     let xs = map g.E.Entry.terms c.args.entries.now in
-    let fault = fault-tiled xs c.args.members.now c.args.window.first c.loop-pieces.first c.args.window.last _ _
+    let members = c.args.members.now in
+    let fault = fault-tiled xs members c.args.window.first c.loop-pieces.first c.args.window.last _ _
     c.loop-pieces.invariant.from c.loop-pieces.invariant.laid.tiled c.in_err-piece.ensures.fault in
-    ⊎_elim
-    (λ is. inl (p.1 ∙ ap Err (p.2 ∙ is)))
-    (λ is. inr (p.1 ∙ ap Err (p.2 ∙ is)))
-    (fault-clash xs c.args.members.now c.args.window.first c.args.window.last d _ fault first)
+    subst (IsAnswer xs members c.args.window.first c.args.window.last) (sym (p.1 ∙ ap Err p.2)) (record {
+      calendar = tt;
+      fault = fault;
+      clash = λ d first. ⊎_elim
+          (λ is. inl (ap Err is))
+          (λ is. inr (ap Err is))
+          (fault-clash xs members c.args.window.first c.args.window.last d _ fault first);
+    })
 
 pub loop-pieces-preserved : goal.loop-pieces-preserved
 loop-pieces-preserved g c = let says = c.in_ok-piece.ensures in record {
@@ -67,9 +67,10 @@ told g c =
     (few-last xs members c.args.window.first c.loop-pieces.first c.loop-pieces.pieces.items c.add.new.pieces.items
     c.in_ok-piece.piece c.in_ok-add.ensures.ok c.loop-pieces.invariant.laid)
 
-pub returns-in-None-clause-calendar : goal.returns-in-None-clause-calendar
-returns-in-None-clause-calendar g c = rw c.new.ensures (told g (goal.at.returns-in-None-clause-calendar g c).In-None)
-
-pub returns-in-None-clause-clash : goal.returns-in-None-clause-clash
-returns-in-None-clause-clash g c d first = absurd (first_clash-clear _ c.args.window.first c.args.window.last d first
-    (told g (goal.at.returns-in-None-clause-clash g c).In-None).clear)
+pub returns-in-None : goal.returns-in-None
+returns-in-None g c =
+    let is = told g (goal.at.returns-in-None g c).In-None in record {
+      calendar = rw c.new.ensures is;
+      fault = tt;
+      clash = λ d first. absurd (first_clash-clear _ c.args.window.first c.args.window.last d first is.clear);
+    }

@@ -2,7 +2,7 @@ use Rattle.std.proofs.Common.{◌≡◌, ◌≤◌, ◌+◌, ◌-◌, ◌*◌, m
 use Rattle.cif_columns.specs.Day.{IsDay, week_of}
 use Rattle.cif_weeks.specs.Steps.MadeRecords.{AreRunsUpTo}
 use Rattle.cif_weeks.specs.Steps.WeekRows.{IsRowBefore}
-use Rattle.cif_weeks.proofs.joined.runs.Given as goal
+use Rattle.cif_weeks.proofs.joined.runs_in_room.Given as goal
 
 abbrev pub invariant-loop-number : goal.invariant-loop-number
 invariant-loop-number g l = record {
