@@ -15,7 +15,7 @@ begin() {
     trap 'rm -rf "$work"' 0
     trap 'exit 2' 1 2 15
     for program in "$@"; do
-        rustc -O --out-dir "$work" "$here/peers/$program.rs" || exit 2
+        rustc --edition 2021 -O --out-dir "$work" "$here/peers/$program.rs" || exit 2
     done
     cd "$work" || exit 2
 }
