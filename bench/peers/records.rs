@@ -17,7 +17,7 @@ const TIMING_LOADS: [&str; 5] = ["375", "A", "1400", "E", ""];
 const SPEEDS: [&str; 4] = ["100", "075", "090", "125"];
 const CHARACTERISTICS: [&str; 4] = ["", "D", "Q", "DPR"];
 const CATERINGS: [&str; 4] = ["", "", "", "TR"];
-const DAYS: [&str; 7] = [
+pub const DAYS: [&str; 7] = [
     "1111100", "0000010", "0000001", "1111110", "1111111", "1000000", "0001000",
 ];
 
@@ -133,6 +133,12 @@ fn put_train(numbers: &mut Numbers, line: &mut Line, category: usize) {
     line.put(category + 40, numbers.among(&CATERINGS));
 }
 
+/// Puts what a schedule says of its train, its status first.
+pub fn put_body(numbers: &mut Numbers, line: &mut Line) {
+    line.put(30, numbers.among(&["P", "P", "P", "B", "1"]));
+    put_train(numbers, line, 31);
+}
+
 /// A change on the way.
 pub fn change(numbers: &mut Numbers) -> Line {
     let mut line = Line::of("CR");
@@ -159,8 +165,7 @@ pub fn basic(numbers: &mut Numbers) -> (Line, bool) {
     line.put(16, if letter == "P" { &last } else { &first });
     line.put(22, numbers.among(&DAYS));
     if letter != "C" {
-        line.put(30, numbers.among(&["P", "P", "P", "B", "1"]));
-        put_train(numbers, &mut line, 31);
+        put_body(numbers, &mut line);
     }
     line.put(80, letter);
     (line, letter == "C")
