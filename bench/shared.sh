@@ -1,7 +1,7 @@
 # What the scripts of bench/ share. A script sources this file and then calls `begin`.
 # It needs a POSIX shell, rustc, awk, sed and sort.
 
-# begin PATH_TO_CIF_BENCH PROGRAM..: names our program, makes a folder for what is written, builds these programs
+# begin PATH PROGRAM..: names our program, makes a folder for what is written, builds these programs
 # of bench/peers there, and goes there
 begin() {
     ours=$(cd "$(dirname "$1")" && pwd)/$(basename "$1")
@@ -45,7 +45,7 @@ least() {
 agreed() {
     count=$1
     shift
-    if [ "$(sed -E '/^(nanoseconds|peak_bytes|plain_line_of|read_and_write) /d' "$@" | sort -u | wc -l)" -ne "$count" ]; then
+    if [ "$(sed -E '/^(nanoseconds|processor_nanoseconds|peak_bytes|plain_line_of|read_and_write) /d' "$@" | sort -u | wc -l)" -ne "$count" ]; then
         echo "the runs made different things" >&2
         exit 1
     fi

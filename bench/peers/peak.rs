@@ -1,21 +1,33 @@
-//! Runs a command, and says how much memory it took.
+//! Runs a command, and says how much memory and how much time of the processor it took.
 //!
 //!     rustc -O peak.rs
-//!     peak COMMAND..
+//!     peak [--output FILE] COMMAND..
 //!
-//! What goes out is what the command writes, and then the most bytes of memory that it held. The status is 0
-//! if the command's was, 2 for the words, and 4 where the command fails or can't be run. Linux alone.
+//! With a FILE, what the command writes goes there. What goes out is else that, and then the most bytes of memory
+//! that it held, and its user and system time in nanoseconds. The status is 0 if the command's was, 2 for the
+//! words, and 4 where the command fails or can't be run. Linux alone.
 
 use std::env;
-use std::ffi::{c_int, c_long};
+use std::ffi::{OsString, c_int, c_long};
+use std::fs::File;
+use std::io;
 use std::process::{Command, ExitCode};
 
 const RUSAGE_CHILDREN: c_int = -1;
 
+#[repr(C)]
+#[derive(Default)]
+struct Time {
+    seconds: c_long,
+    microseconds: c_long,
+}
+
 /// What Linux tells of the children that have ended.
 #[repr(C)]
+#[derive(Default)]
 struct Usage {
-    times: [c_long; 4],
+    user: Time,
+    system: Time,
     most_kibibytes: c_long,
     others: [c_long; 13],
 }
@@ -24,32 +36,49 @@ unsafe extern "C" {
     fn getrusage(who: c_int, usage: *mut Usage) -> c_int;
 }
 
-fn most_bytes() -> Option<i64> {
-    let mut usage = Usage {
-        times: [0; 4],
-        most_kibibytes: 0,
-        others: [0; 13],
-    };
+fn usage_of_children() -> Option<Usage> {
+    let mut usage = Usage::default();
     // SAFETY: the struct has the size and the fields of the C library's `struct rusage` on 64 bits.
-    if unsafe { getrusage(RUSAGE_CHILDREN, &mut usage) } != 0 {
-        return None;
+    let status = unsafe { getrusage(RUSAGE_CHILDREN, &mut usage) };
+    (status == 0).then_some(usage)
+}
+
+impl Usage {
+    fn most_bytes(&self) -> i64 {
+        self.most_kibibytes * 1024
     }
-    usage.most_kibibytes.checked_mul(1024)
+
+    fn nanoseconds(&self) -> i64 {
+        let microseconds = |time: &Time| time.seconds * 1_000_000 + time.microseconds;
+        (microseconds(&self.user) + microseconds(&self.system)) * 1_000
+    }
+}
+
+/// Whether the command has ended well.
+fn ends_well(output: Option<&OsString>, words: &[OsString]) -> io::Result<bool> {
+    let mut command = Command::new(&words[0]);
+    command.args(&words[1..]);
+    if let Some(file) = output {
+        command.stdout(File::create(file)?);
+    }
+    Ok(command.status()?.success())
 }
 
 fn main() -> ExitCode {
-    let mut words = env::args_os().skip(1);
-    let Some(program) = words.next() else {
-        eprintln!("usage: peak COMMAND..");
-        return ExitCode::from(2);
+    let words: Vec<OsString> = env::args_os().skip(1).collect();
+    let (output, command) = match &words[..] {
+        [word, file, command @ ..] if word == "--output" => (Some(file), command),
+        command => (None, command),
     };
-    let ended_well = Command::new(program)
-        .args(words)
-        .status()
-        .is_ok_and(|status| status.success());
-    match most_bytes() {
-        Some(bytes) if ended_well => {
-            println!("peak_bytes {bytes}");
+    if command.is_empty() {
+        eprintln!("usage: peak [--output FILE] COMMAND..");
+        return ExitCode::from(2);
+    }
+    let ended_well = ends_well(output, command).unwrap_or(false);
+    match usage_of_children() {
+        Some(usage) if ended_well => {
+            println!("peak_bytes {}", usage.most_bytes());
+            println!("processor_nanoseconds {}", usage.nanoseconds());
             ExitCode::SUCCESS
         }
         _ => ExitCode::from(4),
