@@ -79,10 +79,13 @@ struct Timetable {
     permanent: Option<Permanent>,
     part: usize,
     parts: usize,
+    start: usize,
+    end: usize,
 }
 
 /// So many records by rising train, of which so many in a hundred are overlays and cancellations.
 pub fn records(seed: u64, count: usize, changes: u64) -> Vec<Record> {
+    let date = |yymmdd| number_of(yymmdd).expect("a date");
     let mut timetable = Timetable {
         numbers: Numbers(seed),
         records: Vec::with_capacity(count),
@@ -90,13 +93,13 @@ pub fn records(seed: u64, count: usize, changes: u64) -> Vec<Record> {
         permanent: None,
         part: 0,
         parts: 0,
+        start: date("241201"),
+        end: date("260131"),
     };
     while timetable.records.len() < count {
-        let record = match timetable.numbers.below(100) < changes {
-            true => timetable.change(),
-            false => None,
-        };
-        let record = record.unwrap_or_else(|| timetable.regular());
+        let is_change = timetable.numbers.below(100) < changes;
+        let change = if is_change { timetable.change() } else { None };
+        let record = change.unwrap_or_else(|| timetable.regular());
         timetable.records.push(record);
     }
     timetable.records
@@ -142,15 +145,10 @@ impl Timetable {
         self.next_permanent()
     }
 
-    fn dates() -> (usize, usize) {
-        let number = |date| number_of(date).expect("a date");
-        (number("241201"), number("260131"))
-    }
-
     fn new_one(&mut self) -> Record {
-        let (start, end) = Timetable::dates();
         let length = self.numbers.below(MOST_WEEKS * WEEKDAYS as u64) as usize;
-        let first = start + self.numbers.below((end - start - length) as u64) as usize;
+        let room = self.end - self.start - length;
+        let first = self.start + self.numbers.below(room as u64) as usize;
         Record {
             train: self.trains - 1,
             first,
@@ -163,24 +161,19 @@ impl Timetable {
 
     /// The permanent record of the next part of the year.
     fn next_permanent(&mut self) -> Record {
-        let (start, end) = Timetable::dates();
-        let part_start = |part: usize| start + (end - start) * part / self.parts;
+        let part_start = |part: usize| self.start + (self.end - self.start) * part / self.parts;
         let (from, to) = (part_start(self.part), part_start(self.part + 1) - 1);
         let room = (to - from) as u64 / 3;
         let body = match &self.permanent {
             Some(before) if self.part > 0 && self.numbers.one_in(3) => before.record.body,
             _ => self.own_body(),
         };
+        let days = self.numbers.among(&DAYS).as_bytes();
         let record = Record {
             train: self.trains - 1,
             first: from + self.numbers.below(room) as usize,
             last: to - self.numbers.below(room) as usize,
-            days: self
-                .numbers
-                .among(&DAYS)
-                .as_bytes()
-                .try_into()
-                .expect("seven days"),
+            days: days.try_into().expect("seven days"),
             letter: Letter::Permanent,
             body,
         };
@@ -198,9 +191,10 @@ impl Timetable {
         let own_body = self.own_body();
         let permanent = self.permanent.as_mut()?;
         let of = permanent.record;
-        let (letter, free) = match self.numbers.one_in(3) {
-            true => (Letter::Cancellation, &mut permanent.free_for_cancellation),
-            false => (Letter::Overlay, &mut permanent.free_for_overlay),
+        let (letter, free) = if self.numbers.one_in(3) {
+            (Letter::Cancellation, &mut permanent.free_for_cancellation)
+        } else {
+            (Letter::Overlay, &mut permanent.free_for_overlay)
         };
         let from = *free + self.numbers.below(MOST_DAYS_BETWEEN) as usize;
         let first = (from..=of.last).find(|date| of.has_weekday_of(*date))?;
@@ -208,9 +202,10 @@ impl Timetable {
             (first, only_weekday_of(first))
         } else {
             let weeks = 1 + self.numbers.below(MOST_WEEKS) as usize;
-            let days = match self.numbers.one_in(3) {
-                true => only_weekday_of(first),
-                false => of.days,
+            let days = if self.numbers.one_in(3) {
+                only_weekday_of(first)
+            } else {
+                of.days
             };
             (first + weeks * WEEKDAYS - 1, days)
         };
