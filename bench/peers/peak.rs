@@ -4,8 +4,8 @@
 //!     peak [--output FILE] COMMAND..
 //!
 //! With a FILE, what the command writes goes there. What goes out is else that, and then the most bytes of memory
-//! that it held, and its user and system time in nanoseconds. The status is 0 if the command's was, 2 for the
-//! words, and 4 where the command fails or can't be run. Linux alone.
+//! that it held, its user time in nanoseconds, and its user and system time. The status is 0 if the command's was,
+//! 2 for the words, and 4 where the command fails or can't be run. Linux alone.
 
 use std::env;
 use std::ffi::{OsString, c_int, c_long};
@@ -20,6 +20,12 @@ const RUSAGE_CHILDREN: c_int = -1;
 struct Time {
     seconds: c_long,
     microseconds: c_long,
+}
+
+impl Time {
+    fn nanoseconds(&self) -> i64 {
+        (self.seconds * 1_000_000 + self.microseconds) * 1_000
+    }
 }
 
 /// What Linux tells of the children that have ended.
@@ -47,11 +53,6 @@ impl Usage {
     fn most_bytes(&self) -> i64 {
         self.most_kibibytes * 1024
     }
-
-    fn nanoseconds(&self) -> i64 {
-        let microseconds = |time: &Time| time.seconds * 1_000_000 + time.microseconds;
-        (microseconds(&self.user) + microseconds(&self.system)) * 1_000
-    }
 }
 
 /// Whether the command has ended well.
@@ -78,7 +79,9 @@ fn main() -> ExitCode {
     match usage_of_children() {
         Some(usage) if ended_well => {
             println!("peak_bytes {}", usage.most_bytes());
-            println!("processor_nanoseconds {}", usage.nanoseconds());
+            let (user, system) = (usage.user.nanoseconds(), usage.system.nanoseconds());
+            println!("user_nanoseconds {user}");
+            println!("processor_nanoseconds {}", user + system);
             ExitCode::SUCCESS
         }
         _ => ExitCode::from(4),
