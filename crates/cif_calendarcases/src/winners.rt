@@ -1,7 +1,7 @@
 //! Winners of single dates.
 use crate::named_day;
 use crate::positions::{are_below, first_alike, positions_of};
-use cif_calendar::{Entry, winner_on};
+use cif_calendar::{CalendarFault, Entry, Window, calendar};
 use cif_cases::Case;
 use cif_columns::Day;
 use std::alloc::{AllocError, Global};
@@ -36,8 +36,13 @@ fn push_winner<E: Entry>(
     if !are_below(members.as_slice(), entries.len()) {
         return writeln!(out, "no such record");
     }
-    match winner_on(entries, members.as_slice(), day) {
-        Ok(source) => writeln!(out, "{}", first_alike(entries, source)),
-        Err(_) => writeln!(out, "bodies differ"),
+    let window = Window {
+        first: day,
+        last: day,
+    };
+    match calendar(alloc, entries, members.as_slice(), window) {
+        Ok(calendar) => writeln!(out, "{}", first_alike(entries, calendar.source_on(day))),
+        Err(CalendarFault::Ambiguous(_)) => writeln!(out, "bodies differ"),
+        Err(CalendarFault::Memory) => writeln!(out, "memory"),
     }
 }

@@ -52,7 +52,7 @@ module _ {K B : Type 0} (entries : List (K × Terms B)) where
   same-number (run ∷ runs) [] zip = absurd zip
   same-number (run ∷ runs) (e ∷ records) zip = ap suc (same-number runs records zip.1)
 
-  texts-of_runs : (text : K × Permanent B → List ℕ) (runs : List Run) (records : List (K × Permanent B)) →
+  pub texts-of_runs : (text : K × Permanent B → List ℕ) (runs : List Run) (records : List (K × Permanent B)) →
       AllZip (IsRunOf entries) runs records → flat_map (λ run. text_if text (record_at entries run)) runs ≡ flat_map text records
   texts-of_runs text [] [] zip = refl
   texts-of_runs text [] (e ∷ records) zip = absurd zip

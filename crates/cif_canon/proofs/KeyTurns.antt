@@ -3,14 +3,15 @@ use Rattle.std.proofs.Common.{◌≡◌, ℕ, zero, suc, ◌+◌, ◌-◌, ◌<�
 use Rattle.std.proofs.Common.{refl, sym, ◌∙◌, ap, subst, arith, ⊎_elim}
 use Rattle.std.specs.Prelude.{All}
 use Rattle.std.specs.Ordering.{is_gt}
-use Rattle.std.specs.Cmp.{IsTotalOrder, alike_right}
+use Rattle.std.specs.Cmp.{IsTotalOrder, alike_right, tied_itself}
 use Rattle.std.specs.declared.cmp.Ordering.{Ordering}
 use Rattle.std.specs.declared.cmp.Ordering.TheVariants.{Less, Equal, Greater}
 use Rattle.std.proofs.lemmas.Bool.{cases_lt}
 use Rattle.std.proofs.lemmas.Option.{same_Some}
 use Rattle.std.proofs.lemmas.List.{length-drop, get_or-drop, get_or_default}
 use Rattle.cif_calendar.specs.Terms.{Terms}
-use Rattle.cif_canon.specs.Steps.Turns.{HasKey, IsNotAfter, IsRising, IsFirstRun}
+use Rattle.cif_weeks.proofs.RisingLists.{not_less}
+use Rattle.cif_canon.specs.Steps.Turns.{AreFrom, HasKey, IsFirstRun, IsFront, IsNotAfter, IsRising}
 
 -- a position has one key
 pub one-key : {K B : Type 0} (es : List (K × Terms B)) (i : ℕ) (j k : K) → HasKey es i j → HasKey es i k → j ≡ k
@@ -56,27 +57,37 @@ module _ {K B : Type 0} (cmp : K → K → Ordering) (es : List (K × Terms B)) 
         subst (λ b. cmp k b ≡ Less) (one-key es (get_or rest n 0) a j has (subst (λ m. HasKey es (get_or rest m 0) j) at there)) less)
         (cases_lt 0 i)
 
-    -- the first n positions have the first's key, and the next has another
-    pub run-ends : (n : ℕ) (k j : K) → n < length rest → All (λ i. HasKey es i k) (take n rest) → HasKey es (get_or rest 0 0) k →
-        HasKey es (get_or rest n 0) j → (j ≡ k → ⊥) → IsFirstRun cmp es rest n
-    run-ends zero k j below alike leads has apart = absurd (apart (one-key es (get_or rest 0 0) j k has leads))
-    run-ends (suc n) k j below alike leads has apart = record {
-      key = k;
-      some = (let z : 0 < suc n = omega arith in z);
-      upto = (let z : suc n ≤ length rest = omega arith in z);
+    -- the first n positions have the key, and the next has another
+    pub front-ends : (n : ℕ) (k j : K) → n < length rest → All (λ i. HasKey es i k) (take n rest) → AreFrom cmp es rest k →
+        HasKey es (get_or rest n 0) j → (j ≡ k → ⊥) → IsFront cmp es rest k n
+    front-ends n k j below alike from has apart = record {
+      upto = (let z : n ≤ length rest = omega arith in z);
       same = alike;
-      later = later-from (suc n) k j below has
-          (less-apart cmp total same k j (cmp k j) refl (rising.pairs 0 (suc n) 0 (omega arith) below k j leads has)
-          (λ e. apart (sym e)));
+      later = later-from n k j below has (less-apart cmp total same k j (cmp k j) refl (from n 0 below j has) (λ e. apart (sym e)));
     }
 
-  -- all positions have the first's key
-  pub run-of_all : (k : K) → 0 < length rest → All (λ i. HasKey es i k) (take (length rest) rest) → IsFirstRun cmp es rest (length rest)
-  run-of_all k filled alike = record {
-    key = k;
-    some = filled;
+  -- all positions have the key
+  pub front-of_all : (k : K) → All (λ i. HasKey es i k) (take (length rest) rest) → IsFront cmp es rest k (length rest)
+  front-of_all k alike = record {
     upto = (let z : length rest ≤ length rest = omega arith in z);
     same = alike;
     later = λ i d lt. let len : length (drop (length rest) rest) ≡ length rest - length rest = length-drop (length rest) rest in
         absurd (omega arith);
   }
+
+  module _ (total : IsTotalOrder cmp) (k : K) (leads : HasKey es (get_or rest 0 0) k) where
+    -- no key is before the first's
+    pub from-first : AreFrom cmp es rest k
+    from-first i d below j has = ⊎_elim
+        (λ after. rising.pairs 0 i 0 (omega arith) below k j leads (subst (λ p. HasKey es p j) (get_or_default rest i d 0 below) has))
+        (λ first. let at : i ≡ 0 = omega arith in
+        let same : j ≡ k = one-key es (get_or rest 0 0) j k
+        (subst (λ m. HasKey es (get_or rest m 0) j) at (subst (λ p. HasKey es p j) (get_or_default rest i d 0 below) has)) leads in
+        subst (λ z. is_gt (cmp k z) ≡ false) (sym same) (ap is_gt (tied_itself total k)))
+        (cases_lt 0 i)
+
+    -- the front of the first's key has a position
+    pub first-run : 0 < length rest → (n : ℕ) → IsFront cmp es rest k n → IsFirstRun cmp es rest n
+    first-run filled zero front =
+        absurd (not_less cmp total k k refl (front.later 0 0 (let z : 0 < length rest = filled in z) k leads))
+    first-run filled (suc n) front = record { key = k; some = (let z : 0 < suc n = omega arith in z); front = front }

@@ -1,5 +1,6 @@
 pub mod CanonForm
 pub mod CanonTexts
+pub mod ChosenRecords
 pub mod DistinctTiplocs
 pub mod KeptExtract
 pub mod KeyPositions
@@ -11,6 +12,9 @@ pub mod MadeRecords
 pub mod NormalForms
 pub mod Normalising
 pub mod RunTexts
+pub mod RunningRecords
 pub mod SameExtracts
 pub mod Unique
+pub mod ViewLines
+pub mod ViewTexts
 pub mod WrittenCanon

@@ -92,10 +92,10 @@ module _ {K B : Type 0} (cmp : K → K → Ordering) (form : Form) (window : Win
   module _ (total : IsTotalOrder cmp) (same : (j k : K) → cmp j k ≡ Equal → j ≡ k) (runs : List Run) (rest : List ℕ)
       (made : IsMade runs rest) (n : ℕ) (run : IsFirstRun cmp es rest n) where
     at-run : (i : ℕ) → Contains (take n rest) i → HasKey es i run.key
-    at-run i c = All-contains (λ i. HasKey es i run.key) (take n rest) i run.same c
+    at-run i c = All-contains (λ i. HasKey es i run.key) (take n rest) i run.front.same c
 
     at-later : (i : ℕ) (k : K) → Contains (drop n rest) i → HasKey es i k → cmp run.key k ≡ Less
-    at-later i k c has = All-contains (λ i. (k : K) → HasKey es i k → cmp run.key k ≡ Less) (drop n rest) i run.later c k has
+    at-later i k c has = All-contains (λ i. (k : K) → HasKey es i k → cmp run.key k ≡ Less) (drop n rest) i run.front.later c k has
 
     -- a position is one of the run, or after it
     either : (i : ℕ) → Contains rest i → Contains (take n rest) i ⊎ Contains (drop n rest) i
@@ -113,7 +113,7 @@ module _ {K B : Type 0} (cmp : K → K → Ordering) (form : Form) (window : Win
 
     leads : AnyHasKey es rest run.key
     leads =
-        let len : length (take n rest) ≡ n = length-take-le n rest run.upto in
+        let len : length (take n rest) ≡ n = length-take-le n rest run.front.upto in
         let some : 0 < n = run.some in
         let c : Contains (take n rest) (get_or (take n rest) 0 0) = Contains-get_or (take n rest) 0 0 (omega arith) in
         record {

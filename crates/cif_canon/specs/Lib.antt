@@ -9,3 +9,4 @@ pub mod NormalForm
 pub mod Normalised
 pub mod Report
 pub mod Steps
+pub mod Views

@@ -39,3 +39,9 @@ abbrev pub FaultWrites : {W A : Type 0} → (W → Option (List ℕ)) → (W →
 FaultWrites contents errors text old new (Ok done) = HasWritten contents errors text old new
 FaultWrites contents errors text old new (Err Write) = HasFailed contents errors text old new
 FaultWrites contents errors text old new (Err fault) = new ≡ old
+
+-- p holds where a text was written, or a front of it was
+abbrev pub IfWritten : {A : Type 0} → Result A Fault → Type 0 → Type 0
+IfWritten (Ok done) p = p
+IfWritten (Err Write) p = p
+IfWritten (Err fault) p = ⊤

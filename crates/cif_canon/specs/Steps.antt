@@ -3,3 +3,4 @@ pub mod Records
 pub mod Texts
 pub mod Tiplocs
 pub mod Turns
+pub mod Views

@@ -62,8 +62,23 @@ fn date_asked(header: &Header, given: Option<Day>, own: Day) -> Result<Day, Faul
         × ¬ IfSome given (IsWithin (header_window header.now))) }
 {
     match given {
-        Some(day) if header.first <= day && day <= header.last => Ok(day),
-        Some(_) => Err(Fault::OutsideWindow),
+        Some(day) => {
+            check_within(header, day)?;
+            Ok(day)
+        }
         None => Ok(own),
+    }
+}
+
+/// Whether the date is in the header's window: OutsideWindow comes where it isn't.
+pub(crate) fn check_within(header: &Header, day: Day) -> Result<(), Fault>
+    ensures ok { IfOk result (λ _. IsWithin (header_window header.now) day) }
+    ensures fault { IfErr result (λ fault. (fault ≡ OutsideWindow)
+        × ¬ IsWithin (header_window header.now) day) }
+{
+    if header.first <= day && day <= header.last {
+        Ok(())
+    } else {
+        Err(Fault::OutsideWindow)
     }
 }

@@ -4,16 +4,14 @@ ghost use Rattle.std.specs.List.{flat_map};
 ghost use Rattle.cif_columns.specs.Sink.{Writes, sink_failed};
 ghost use Rattle.cif_extract.specs.declared.fault.Fault.TheVariants.{Write};
 ghost use Rattle.cif_calendar.specs.Entries.{association_entries, schedule_entries};
-ghost use Rattle.cif_canon.specs.Steps.Texts.{HasRecord, association_run_text};
-ghost use Rattle.cif_canon.specs.Steps.Texts.{schedule_run_text, tiploc_text};
+ghost use Rattle.cif_canon.specs.Steps.Texts.{HasRecord, tiploc_text};
 
 use crate::Counts;
+use crate::plain_lines::PlainLines;
+use crate::record_lines::write_runs;
 use cif_columns::{Sink, WriteDevice, WriteFault};
-use cif_extract::{
-    Extract, Fault, Schedule, write_association, write_head, write_schedule, write_tiploc,
-    write_trailer,
-};
-use cif_records::{Association, Tiploc};
+use cif_extract::{Extract, Fault, write_head, write_tiploc, write_trailer};
+use cif_records::Tiploc;
 use cif_weeks::Run;
 use std::marker::Model;
 
@@ -111,12 +109,14 @@ impl<'a> Canon<'a> {
         let extract = self.extract;
         write_head(&extract.header, sink)?;
         write_tiplocs(self.tiplocs.as_slice(), sink)?;
-        write_associations(
+        write_runs(
+            &PlainLines,
             extract.associations.as_slice(),
             self.associations.as_slice(),
             sink,
         )?;
-        write_schedules(
+        write_runs(
+            &PlainLines,
             extract.schedules.as_slice(),
             self.schedules.as_slice(),
             sink,
@@ -135,78 +135,4 @@ fn write_tiplocs<W: WriteDevice>(tiplocs: &[Tiploc], sink: &mut Sink<W>) -> Resu
         write_tiploc(tiploc, sink)?;
     }
     Ok(())
-}
-
-/// Appends the lines of the runs of associations.
-fn write_associations<W: WriteDevice>(
-    associations: &[Association],
-    runs: &[Run],
-    sink: &mut Sink<W>,
-) -> Result<(), WriteFault>
-    requires going { sink_failed sink.old ≡ false }
-    requires records { All (HasRecord (association_entries associations.now)) runs.now }
-    ensures { Writes W.contents W.write_errors
-        (flat_map (association_run_text (association_entries associations.now)) runs.now)
-        sink.old sink.new result }
-{
-    for run in runs {
-        write_association_run(associations, run, sink)?;
-    }
-    Ok(())
-}
-
-/// Appends the line of a run of an association.
-fn write_association_run<W: WriteDevice>(
-    associations: &[Association],
-    run: &Run,
-    sink: &mut Sink<W>,
-) -> Result<(), WriteFault>
-    requires { HasRecord (association_entries associations.now) run.now }
-    ensures { Writes W.contents W.write_errors
-        (association_run_text (association_entries associations.now) run.now)
-        sink.old sink.new result }
-{
-    let association = &associations[run.source];
-    match &association.body {
-        Some(body) => {
-            write_association(&association.key, body, run.first, run.last, run.days, sink)
-        }
-        None => unreachable!(),
-    }
-}
-
-/// Appends the lines of the runs of schedules.
-fn write_schedules<W: WriteDevice>(
-    schedules: &[Schedule],
-    runs: &[Run],
-    sink: &mut Sink<W>,
-) -> Result<(), WriteFault>
-    requires going { sink_failed sink.old ≡ false }
-    requires records { All (HasRecord (schedule_entries schedules.now)) runs.now }
-    ensures { Writes W.contents W.write_errors
-        (flat_map (schedule_run_text (schedule_entries schedules.now)) runs.now)
-        sink.old sink.new result }
-{
-    for run in runs {
-        write_schedule_run(schedules, run, sink)?;
-    }
-    Ok(())
-}
-
-/// Appends the lines of a run of a schedule.
-fn write_schedule_run<W: WriteDevice>(
-    schedules: &[Schedule],
-    run: &Run,
-    sink: &mut Sink<W>,
-) -> Result<(), WriteFault>
-    requires { HasRecord (schedule_entries schedules.now) run.now }
-    ensures { Writes W.contents W.write_errors
-        (schedule_run_text (schedule_entries schedules.now) run.now)
-        sink.old sink.new result }
-{
-    let schedule = &schedules[run.source];
-    match &schedule.body {
-        Some(body) => write_schedule(&schedule.uid, body, run.first, run.last, run.days, sink),
-        None => unreachable!(),
-    }
 }

@@ -4,7 +4,7 @@ ghost use Rattle.std.specs.Prelude.{IfOk, slice_get};
 ghost use Rattle.std.specs.List.{range_with_len};
 ghost use Rattle.std.specs.Option.{option_cmp};
 ghost use Rattle.cif_calendar.specs.Keys.{keyed};
-ghost use Rattle.cif_canon.specs.Steps.Turns.{IsFirstRun, IsRising};
+ghost use Rattle.cif_canon.specs.Steps.Turns.{AreFrom, IsFirstRun, IsFront, IsRising};
 
 use cif_calendar::Entry;
 use std::alloc::{AllocError, Global};
@@ -58,7 +58,17 @@ pub(crate) fn first_run<E: Entry>(entries: &[E], positions: &[usize]) -> usize
     requires rising { IsRising E.Key.cmp (keyed E.key E.terms entries.now) positions.now }
     ensures { IsFirstRun E.Key.cmp (keyed E.key E.terms entries.now) positions.now result }
 {
-    let key = entries[positions[0]].key();
+    count_of_key(entries, positions, entries[positions[0]].key())
+}
+
+/// How many of the positions, from the first on, are of entries with this key. The positions are in
+/// the order of the keys, and none of them is before this one.
+pub(crate) fn count_of_key<E: Entry>(entries: &[E], positions: &[usize], key: &E::Key) -> usize
+    requires within { All (λ i. i < length entries.now) positions.now }
+    requires rising { IsRising E.Key.cmp (keyed E.key E.terms entries.now) positions.now }
+    requires from { AreFrom E.Key.cmp (keyed E.key E.terms entries.now) positions.now key.now }
+    ensures { IsFront E.Key.cmp (keyed E.key E.terms entries.now) positions.now key.now result }
+{
     for (count, i) in positions.iter().enumerate() {
         if entries[*i].key() != key {
             return count;

@@ -37,6 +37,10 @@ abbrev pub text_if : {A : Type 0} → (A → List ℕ) → Option A → List ℕ
 text_if text None = []
 text_if text (Some a) = text a
 
+-- the text of a run: that of its record
+abbrev pub run_text : {K B : Type 0} → (K × Permanent B → List ℕ) → List (K × Terms B) → Run → List ℕ
+run_text text entries run = text_if text (record_at entries run)
+
 -- the lines of a location, a permanent association, a permanent schedule
 abbrev pub tiploc_text : Tiploc → List ℕ
 tiploc_text t = plain_line (tiploc_table t.columns) ++ (10 ∷ [])
@@ -49,10 +53,10 @@ schedule_text e = lines_text (schedule_lines e.0 e.1.first e.1.last e.1.days P (
 
 -- the text of the runs of associations, of schedules
 abbrev pub association_run_text : List (AssocKey × Terms AssocBody) → Run → List ℕ
-association_run_text entries run = text_if association_text (record_at entries run)
+association_run_text = run_text association_text
 
 abbrev pub schedule_run_text : List (List ℕ × Terms BodyParts) → Run → List ℕ
-schedule_run_text entries run = text_if schedule_text (record_at entries run)
+schedule_run_text = run_text schedule_text
 
 -- the text that is written of an extract, by its locations and its runs
 unfoldable pub canon_text : ExtractParts → List Tiploc → List Run → List Run → List ℕ

@@ -24,10 +24,19 @@ IsNotAfter {K} cmp entries i j = (a b : K) → HasKey entries i a → HasKey ent
 pub record IsRising {K B : Type 0} (cmp : K → K → Ordering) (entries : List (K × Terms B)) (positions : List ℕ) : Type 0 where
   pub pairs : AllPairs (IsNotAfter cmp entries) positions
 
--- the first n positions are those of one key, and the keys at the rest are after it
-pub record IsFirstRun {K B : Type 0} (cmp : K → K → Ordering) (entries : List (K × Terms B)) (positions : List ℕ) (n : ℕ) : Type 0 where
-  pub key : K
-  pub some : 0 < n
+-- no key at the positions is before this one
+abbrev pub AreFrom : {K B : Type 0} → (K → K → Ordering) → List (K × Terms B) → List ℕ → K → Type 0
+AreFrom {K} cmp entries positions key = All (λ i. (k : K) → HasKey entries i k → is_gt (cmp key k) ≡ false) positions
+
+-- the first n positions are those of the key, and the keys at the rest are after it
+pub record IsFront {K B : Type 0} (cmp : K → K → Ordering) (entries : List (K × Terms B)) (positions : List ℕ) (key : K) (n : ℕ)
+    : Type 0 where
   pub upto : n ≤ length positions
   pub same : All (λ i. HasKey entries i key) (take n positions)
   pub later : All (λ i. (k : K) → HasKey entries i k → cmp key k ≡ Less) (drop n positions)
+
+-- the first n positions, of which there is one, are those of one key, and the keys at the rest are after it
+pub record IsFirstRun {K B : Type 0} (cmp : K → K → Ordering) (entries : List (K × Terms B)) (positions : List ℕ) (n : ℕ) : Type 0 where
+  pub key : K
+  pub some : 0 < n
+  pub front : IsFront cmp entries positions key n

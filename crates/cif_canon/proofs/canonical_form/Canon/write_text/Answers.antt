@@ -25,28 +25,28 @@ returns-in_err-write_tiplocs g c =
     e.tiplocs.items e.associations.items e.schedules.items
     _ _ c.in_ok-write_head.ensures _ c.as_slice.ensures.value _ c.in_err-write_tiplocs.ensures))
 
-pub returns-in_err-write_associations : goal.returns-in_err-write_associations
-returns-in_err-write_associations g c =
+pub returns-in_err-write_runs : goal.returns-in_err-write_runs
+returns-in_err-write_runs g c =
     let e = c.self.inside in
     subst (λ t. Writes g.W.Write.contents g.W.WriteDevice.write_errors
-    t c.args.sink.now c.write_associations.new.sink c.from_residual-in_err-write_associations.result)
+    t c.args.sink.now c.write_runs.new.sink c.from_residual-in_err-write_runs.result)
     (ap (λ (v : CanonParts). v.text) c.self.view_is)
-    (writes_err _ _ _ _ _ c.from_residual-in_err-write_associations.result c.from_residual-in_err-write_associations.ensures.0
+    (writes_err _ _ _ _ _ c.from_residual-in_err-write_runs.result c.from_residual-in_err-write_runs.ensures.0
     (in-associations _ _ (extract_parts e.extract.now)
     e.tiplocs.items e.associations.items e.schedules.items _ _ c.in_ok-write_head.ensures _ c.as_slice.ensures.value _
-    c.in_ok-write_tiplocs.ensures _ c.as_slice-2.ensures.value _ c.as_slice-3.ensures.value _ c.in_err-write_associations.ensures))
+    c.in_ok-write_tiplocs.ensures _ c.as_slice-2.ensures.value _ c.as_slice-3.ensures.value _ c.in_err-write_runs.ensures))
 
-pub returns-in_err-write_schedules : goal.returns-in_err-write_schedules
-returns-in_err-write_schedules g c =
+pub returns-in_err-write_runs-2 : goal.returns-in_err-write_runs-2
+returns-in_err-write_runs-2 g c =
     let e = c.self.inside in
     subst (λ t. Writes g.W.Write.contents g.W.WriteDevice.write_errors
-    t c.args.sink.now c.write_schedules.new.sink c.from_residual-in_err-write_schedules.result)
+    t c.args.sink.now c.write_runs-2.new.sink c.from_residual-in_err-write_runs-2.result)
     (ap (λ (v : CanonParts). v.text) c.self.view_is)
-    (writes_err _ _ _ _ _ c.from_residual-in_err-write_schedules.result c.from_residual-in_err-write_schedules.ensures.0
+    (writes_err _ _ _ _ _ c.from_residual-in_err-write_runs-2.result c.from_residual-in_err-write_runs-2.ensures.0
     (in-schedules _ _ (extract_parts e.extract.now)
     e.tiplocs.items e.associations.items e.schedules.items _ _ c.in_ok-write_head.ensures _ c.as_slice.ensures.value _
     c.in_ok-write_tiplocs.ensures _ c.as_slice-2.ensures.value _ c.as_slice-3.ensures.value _
-    c.in_ok-write_associations.ensures _ c.as_slice-4.ensures.value _ c.as_slice-5.ensures.value _ c.in_err-write_schedules.ensures))
+    c.in_ok-write_runs.ensures _ c.as_slice-4.ensures.value _ c.as_slice-5.ensures.value _ c.in_err-write_runs-2.ensures))
 
 pub returns : goal.returns
 returns g c =
@@ -56,5 +56,5 @@ returns g c =
     (in-trailer _ _ (extract_parts e.extract.now)
     e.tiplocs.items e.associations.items e.schedules.items _ _ c.in_ok-write_head.ensures _ c.as_slice.ensures.value _
     c.in_ok-write_tiplocs.ensures _ c.as_slice-2.ensures.value _ c.as_slice-3.ensures.value _
-    c.in_ok-write_associations.ensures _ c.as_slice-4.ensures.value _ c.as_slice-5.ensures.value _ _ _
-    c.in_ok-write_schedules.ensures c.write_trailer.ensures)
+    c.in_ok-write_runs.ensures _ c.as_slice-4.ensures.value _ c.as_slice-5.ensures.value _ _ _
+    c.in_ok-write_runs-2.ensures c.write_trailer.ensures)

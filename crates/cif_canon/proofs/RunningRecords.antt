@@ -1,0 +1,180 @@
+-- Which canonical records apply on a day, and which are those of one key.
+use Rattle.std.proofs.Common.{◌≡◌, ◌<◌, ◌≤◌, ℕ, zero, suc, Bool, true, false, List, [], ◌∷◌, map, get_or, refl, sym, ap, ◌∙◌, subst}
+use Rattle.std.proofs.Common.{⊎_elim, arith, true≢false}
+use Rattle.std.specs.Prelude.{◌↔◌, ◌&&◌, AllPairs, Contains, IsTrue, Some, nat_eq, nat_le, slice_index_or}
+use Rattle.std.proofs.lemmas.Bool.{false≢true}
+use Rattle.std.proofs.lemmas.Bool.Decides.{leb_tells}
+use Rattle.std.proofs.lemmas.Option.{same_Some}
+use Rattle.cif_columns.specs.Day.{weekday_of}
+use Rattle.cif_columns.specs.DaysRun.{RunsOn}
+use Rattle.std.specs.Cmp.{IsTotalOrder}
+use Rattle.std.specs.Cmp.Lexicographic.{pointwise, bytes_decides}
+use Rattle.std.specs.List.{filter}
+use Rattle.std.specs.declared.cmp.Ordering.{Ordering}
+use Rattle.std.specs.declared.cmp.Ordering.TheVariants.{Less}
+use Rattle.std.proofs.lemmas.List.Elements.{Contains-get_or}
+use Rattle.std.proofs.lemmas.List.Kept.{AllPairs-filter}
+use Rattle.cif_calendar.specs.Keys.{of_key}
+use Rattle.cif_calendar.specs.Terms.{Terms}
+use Rattle.cif_weeks.specs.Applies.{Applies}
+use Rattle.cif_weeks.specs.Canonical.{Precedes}
+use Rattle.cif_weeks.specs.Permanent.{Permanent}
+use Rattle.cif_weeks.specs.Runs.{record_of}
+use Rattle.cif_weeks.specs.Window.{Window, IsWithin}
+use Rattle.cif_weeks.specs.declared.form.Form.{Form}
+use Rattle.cif_weeks.specs.declared.run.Run.{Run}
+use Rattle.cif_weeks.proofs.JoinedLists.{AllPairs-map, Contains-map, Contains-from_map}
+use Rattle.cif_weeks.proofs.PermanentEntries.{runs-applies}
+use Rattle.cif_weeks.proofs.RisingLists.{not_less}
+use Rattle.cif_canon.specs.Steps.Records.{AreCanonicalRecords}
+use Rattle.cif_canon.specs.Steps.Views.{applies_on}
+use Rattle.cif_canon.specs.Views.{AreRunning}
+use Rattle.cif_canon.proofs.ChosenRecords.{chosen, chosen-from}
+
+-- ---- the test of a day
+
+both : (a b : Bool) → a && b ≡ true → (a ≡ true) × (b ≡ true)
+both true b e = (refl, e)
+both false b e = absurd (false≢true e)
+
+joined : (a b : Bool) → a ≡ true → b ≡ true → a && b ≡ true
+joined true b x y = y
+joined false b x y = absurd (false≢true x)
+
+told : (a b : ℕ) → nat_le a b ≡ true → a ≤ b
+told a b e = ⊎_elim (λ yes. yes.1) (λ no. absurd (true≢false (sym e ∙ no.0))) (leb_tells a b)
+
+tells : (a b : ℕ) → a ≤ b → nat_le a b ≡ true
+tells a b h = ⊎_elim (λ yes. yes.0) (λ no. let far = no.1 in absurd (omega (arith, far))) (leb_tells a b)
+
+runs : (days : List Bool) (w : ℕ) → slice_index_or days w false ≡ true → RunsOn days w
+runs [] w e = absurd (false≢true e)
+runs (b ∷ days) zero e = ap Some e
+runs (b ∷ days) (suc w) e = runs days w e
+
+runs-true : (days : List Bool) (w : ℕ) → RunsOn days w → slice_index_or days w false ≡ true
+runs-true [] w e = absurd (cc)
+runs-true (b ∷ days) zero e = same_Some b true e
+runs-true (b ∷ days) (suc w) e = runs-true days w e
+
+-- a record passes the test exactly if it applies
+applies-test : {B : Type 0} (r : Permanent B) (d : ℕ) → applies_on r d ≡ true → Applies r d
+applies-test r d e =
+    let (begun, more) = both (nat_le r.first d) (nat_le d r.last && slice_index_or r.days (weekday_of d) false) e in
+    let (unfinished, on) = both (nat_le d r.last) (slice_index_or r.days (weekday_of d) false) more in record {
+      begun = told r.first d begun;
+      unfinished = told d r.last unfinished;
+      on_weekday = runs r.days (weekday_of d) on;
+    }
+
+test-applies : {B : Type 0} (r : Permanent B) (d : ℕ) → Applies r d → applies_on r d ≡ true
+test-applies r d a =
+    joined (nat_le r.first d) (nat_le d r.last && slice_index_or r.days (weekday_of d) false) (tells r.first d a.begun)
+    (joined (nat_le d r.last) (slice_index_or r.days (weekday_of d) false) (tells d r.last a.unfinished)
+    (runs-true r.days (weekday_of d) a.on_weekday))
+
+-- an answer whether a record applies is that of the test
+pub tested : {B C : Type 0} (run : Run) (b : B) (d : ℕ) (answer : Bool) (unit : C) → IsTrue answer ↔ Applies (record_of run unit) d →
+    answer ≡ applies_on (record_of run b) d
+tested run b d true unit h = let a = h.0 refl in
+    sym (test-applies (record_of run b) d (record { begun = a.begun; unfinished = a.unfinished; on_weekday = a.on_weekday }))
+tested run b d false unit h = same (applies_on (record_of run b) d) refl
+  where
+    same : (answer : Bool) → applies_on (record_of run b) d ≡ answer → false ≡ applies_on (record_of run b) d
+    same false e = sym e
+    same true e = let a = applies-test (record_of run b) d e in
+        absurd (false≢true (h.1 (record { begun = a.begun; unfinished = a.unfinished; on_weekday = a.on_weekday })))
+
+-- ---- the records that apply, and those of one train
+
+module _ {K B : Type 0} where
+  -- the records that apply on day d, with their keys
+  abbrev pub applying : ℕ → List (K × Permanent B) → List (K × Permanent B)
+  applying d records = filter (λ (e : K × Permanent B). applies_on e.1 d) records
+
+  -- the body of a record, with its key
+  abbrev pub bodied : K × Permanent B → K × B
+  bodied e = (e.0, e.1.body)
+
+  module _ (cmp : K → K → Ordering) (form : Form) (window : Window) (es : List (K × Terms B)) (runs : List Run)
+      (a : AreCanonicalRecords cmp form window es runs) (d : ℕ) (within : IsWithin window d) where
+    -- of two that apply, the one before has the lesser key, as of one key one applies at most
+    rising : AllPairs (λ (e : K × Permanent B) (f : K × Permanent B). cmp e.0 f.0 ≡ Less) (applying d a.records)
+    rising i j z less below =
+        let e = get_or (applying d a.records) i z in
+        let f = get_or (applying d a.records) j z in
+        let (in_e, on_e) = chosen-from (λ (e : K × Permanent B). applies_on e.1 d) a.records e
+        (Contains-get_or (applying d a.records) i z (omega arith)) in
+        let (in_f, on_f) = chosen-from (λ (e : K × Permanent B). applies_on e.1 d) a.records f
+        (Contains-get_or (applying d a.records) j z below) in
+        ⊎_elim
+        (λ before. before)
+        (λ (one : (e.0 ≡ f.0) × (e.1.first < f.1.first)).
+        let same : e.1 ≡ f.1 = (a.canonical.have_form f.0).single d e.1 f.1
+        (subst (λ k. of_key a.records k e.1) one.0 in_e) in_f
+        (applies-test e.1 d on_e) (applies-test f.1 d on_f) in
+        let first : e.1.first ≡ f.1.first = ap (λ (r : Permanent B). r.first) same in
+        let before = one.1 in
+        absurd (omega (arith, first, before)))
+        (AllPairs-filter (Precedes cmp) (λ (e : K × Permanent B). applies_on e.1 d) a.records a.canonical.rising i j z less below)
+
+    pub running : AreRunning cmp es d (map bodied (applying d a.records))
+    running = record {
+      rising = AllPairs-map bodied (λ (x : K × B) (y : K × B). cmp x.0 y.0 ≡ Less) (applying d a.records) rising;
+      runs = λ k b.
+          let same = a.same_meaning.same k d (Some b) within.from within.upto in
+          let has = runs-applies a.records k d b in (
+            λ h.
+                let (e, in', is) = Contains-from_map bodied (applying d a.records) (k, b) h in
+                let (listed, on) = chosen-from (λ (e : K × Permanent B). applies_on e.1 d) a.records e in' in
+                same.1 (has.1 (record {
+                  it = e.1;
+                  listed = subst (λ i. of_key a.records i e.1) (ap (λ (x : K × B). x.0) is) listed;
+                  applies = applies-test e.1 d on;
+                  body = ap (λ (x : K × B). x.1) is;
+                })),
+            λ h.
+                let it = has.0 (same.0 h) in
+                subst (λ c. Contains (map bodied (applying d a.records)) (k, c)) it.body
+                (Contains-map bodied (applying d a.records) (k, it.it)
+                (chosen (λ (e : K × Permanent B). applies_on e.1 d) a.records (k, it.it) it.listed (test-applies it.it d it.applies))),
+          );
+    }
+
+module _ {B : Type 0} (cmp : List ℕ → List ℕ → Ordering) (total : IsTotalOrder cmp) (records : List (List ℕ × Permanent B))
+    (precede : AllPairs (Precedes cmp) records) (uid : List ℕ) where
+  -- the records of one train
+  abbrev pub own : List (Permanent B)
+  own = map (λ (e : List ℕ × Permanent B). e.1) (filter (λ (e : List ℕ × Permanent B). pointwise nat_eq e.0 uid) records)
+
+  -- they rise by first day
+  pub own-rising : AllPairs (λ (r : Permanent B) (s : Permanent B). r.first < s.first) own
+  own-rising = AllPairs-map (λ (e : List ℕ × Permanent B). e.1) (λ (r : Permanent B) (s : Permanent B). r.first < s.first) mine (λ i j z less below.
+      let (in_e, is_e) = chosen-from test records (get_or mine i z) (Contains-get_or mine i z (omega arith)) in
+      let (in_f, is_f) = chosen-from test records (get_or mine j z) (Contains-get_or mine j z below) in
+      ⊎_elim
+      (λ (before : cmp (get_or mine i z).0 (get_or mine j z).0 ≡ Less).
+      absurd (not_less cmp total (get_or mine i z).0 (get_or mine j z).0
+      ((bytes_decides (get_or mine i z).0 uid).0 is_e ∙ sym ((bytes_decides (get_or mine j z).0 uid).0 is_f)) before))
+      (λ (one : ((get_or mine i z).0 ≡ (get_or mine j z).0) × ((get_or mine i z).1.first < (get_or mine j z).1.first)). one.1)
+      (AllPairs-filter (Precedes cmp) test records precede i j z less below))
+    where
+      test : List ℕ × Permanent B → Bool
+      test e = pointwise nat_eq e.0 uid
+
+      mine : List (List ℕ × Permanent B)
+      mine = filter test records
+
+  pub own-are : (r : Permanent B) → Contains own r ↔ Contains records (uid, r)
+  own-are r = (
+    λ h.
+        let (e, in', is) = Contains-from_map (λ (e : List ℕ × Permanent B). e.1)
+        (filter (λ (e : List ℕ × Permanent B). pointwise nat_eq e.0 uid) records) r h in
+        let (listed, passes) = chosen-from (λ (e : List ℕ × Permanent B). pointwise nat_eq e.0 uid) records e in' in
+        subst (λ s. Contains records (uid, s)) is
+        (subst (λ k. Contains records (k, e.1)) ((bytes_decides e.0 uid).0 passes) listed),
+    λ h.
+        Contains-map (λ (e : List ℕ × Permanent B). e.1)
+        (filter (λ (e : List ℕ × Permanent B). pointwise nat_eq e.0 uid) records) (uid, r)
+        (chosen (λ (e : List ℕ × Permanent B). pointwise nat_eq e.0 uid) records (uid, r) h ((bytes_decides uid uid).1 refl)),
+  )

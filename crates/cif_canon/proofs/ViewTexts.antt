@@ -1,0 +1,105 @@
+-- What is written for the views is their text.
+use Rattle.std.proofs.Common.{◌≡◌, ℕ, List, ◌++◌, map, Option, Result, Ok, Err, sym, ap, ◌∙◌, subst}
+use Rattle.std.specs.Cmp.Lexicographic.{nat_list_cmp_total, pointwise, slice_cmp}
+use Rattle.std.specs.List.{flat_map}
+use Rattle.std.specs.Ordering.{nat_cmp}
+use Rattle.std.specs.Prelude.{All, nat_eq}
+use Rattle.std.specs.declared.cmp.Ordering.{Ordering}
+use Rattle.cif_calendar.specs.Terms.{Terms}
+use Rattle.cif_weeks.proofs.PermanentEntries.{canonical-dated}
+use Rattle.cif_calendar.specs.Entries.{association_entries, schedule_entries}
+use Rattle.cif_columns.specs.Sink.{HasFailed, HasWritten}
+use Rattle.cif_columns.specs.declared.sink.Sink.{Sink}
+use Rattle.cif_columns.proofs.WrittenTexts.{failed_first, failed_second}
+use Rattle.cif_extract.specs.BodyParts.{BodyParts}
+use Rattle.cif_extract.specs.ExtractParts.{ExtractParts}
+use Rattle.cif_extract.specs.declared.fault.Fault.{Fault}
+use Rattle.cif_extract.specs.declared.fault.Fault.TheVariants.{Write}
+use Rattle.cif_records.specs.AssocKey.{key_cmp}
+use Rattle.cif_weeks.specs.Permanent.{Permanent}
+use Rattle.cif_weeks.specs.Window.{Window, IsWithin}
+use Rattle.cif_weeks.specs.declared.form.Form.{Form}
+use Rattle.cif_weeks.specs.declared.run.Run.{Run}
+use Rattle.cif_canon.specs.Asked.{header_window}
+use Rattle.cif_canon.specs.Normalised.{FaultWrites, IfWritten}
+use Rattle.cif_canon.specs.Steps.Records.{AreCanonicalRecords}
+use Rattle.cif_canon.specs.Steps.Texts.{HasRecord, run_text}
+use Rattle.cif_canon.specs.Steps.Views.{applies_on, association_on, schedule_of, train_on}
+use Rattle.cif_canon.specs.Views.{IsDayView, IsTrainView, association_line, schedule_line, train_line}
+use Rattle.cif_canon.proofs.CanonTexts.{have-records, texts-of_runs}
+use Rattle.cif_canon.proofs.ChosenRecords.{chosen-text}
+use Rattle.cif_canon.proofs.RunningRecords.{applying, bodied, own, own-are, own-rising, running}
+
+-- an answer that a text was written, or a front of it
+pub written-so : {A : Type 0} (result : Result A Fault) (p : Type 0) → p → IfWritten result p
+written-so (Ok done) p h = h
+written-so (Err Write) p h = h
+written-so (Err fault) p h = tt
+
+-- the text of the runs of a slice
+pub sliced : {X K B : Type 0} (text : K × Permanent B → List ℕ) (entry : X → K × Terms B) (xs ys : List X) (runs rs : List Run) →
+    xs ≡ ys → runs ≡ rs → flat_map (run_text text (map entry xs)) runs ≡ flat_map (run_text text (map entry ys)) rs
+sliced text entry xs ys runs rs same is =
+    ap (λ zs. flat_map (run_text text (map entry zs)) runs) same ∙ ap (flat_map (run_text text (map entry ys))) is
+
+-- the runs of a slice's canonical records have their records
+pub have-lines : {X K B : Type 0} (cmp : K → K → Ordering) (form : Form) (window : Window) (entry : X → K × Terms B) (xs ys : List X)
+    (runs own : List Run) → xs ≡ ys → runs ≡ own → AreCanonicalRecords cmp form window (map entry ys) own →
+    All (HasRecord (map entry xs)) runs
+have-lines cmp form window entry xs ys runs own same is a =
+    subst (λ zs. All (HasRecord (map entry zs)) runs) (sym same)
+    (subst (λ rs. All (HasRecord (map entry ys)) rs) (sym is)
+    (have-records (map entry ys) own a.records a.runs_of (canonical-dated cmp form window a.records a.canonical)))
+
+-- a front of a text went out
+pub fails : {W A : Type 0} (contents : W → Option (List ℕ)) (errors : W → Option ℕ) (text : List ℕ) (s t : Sink W)
+    (result : Result A Fault) → result ≡ Err Write → HasFailed contents errors text s t → FaultWrites contents errors text s t result
+fails contents errors text s t result failed h = subst (FaultWrites contents errors text s t) (sym failed) h
+
+module _ {W A : Type 0} (contents : W → Option (List ℕ)) (errors : W → Option ℕ) (a b : List ℕ) (s t u : Sink W) (result : Result A Fault)
+    (failed : result ≡ Err Write) where
+  pub fails-first : HasFailed contents errors a s t → FaultWrites contents errors (a ++ b) s t result
+  fails-first h = fails contents errors (a ++ b) s t result failed (failed_first contents errors a b s t h)
+
+  pub fails-second : HasWritten contents errors a s t → HasFailed contents errors b t u → FaultWrites contents errors (a ++ b) s u result
+  fails-second w h = fails contents errors (a ++ b) s u result failed (failed_second contents errors a b s t u w h)
+
+module _ (x : ExtractParts) (d : ℕ) (within : IsWithin (header_window x.header) d) (form : Form) (associations schedules : List Run)
+    (a : AreCanonicalRecords key_cmp form (header_window x.header) (association_entries x.associations) associations)
+    (s : AreCanonicalRecords (slice_cmp nat_cmp) form (header_window x.header) (schedule_entries x.schedules) schedules) where
+  abbrev trains-text : List ℕ
+  trains-text = flat_map (run_text (train_on d) (schedule_entries x.schedules)) schedules
+
+  pub day-view : IsDayView x d (flat_map (run_text (association_on d) (association_entries x.associations)) associations ++ trains-text)
+  day-view = record {
+    within = within;
+    clear = record { associations = a.clear; schedules = s.clear };
+    associations = map bodied (applying d a.records);
+    hold = running key_cmp form (header_window x.header) (association_entries x.associations) associations a d within;
+    trains = map bodied (applying d s.records);
+    run = running (slice_cmp nat_cmp) form (header_window x.header) (schedule_entries x.schedules) schedules s d within;
+    text_is =
+        ap (λ (l : List ℕ). l ++ trains-text)
+        (texts-of_runs (association_entries x.associations) (association_on d) associations a.records a.runs_of
+        ∙ chosen-text (λ e. applies_on e.1 d) bodied association_line a.records)
+        ∙ ap (λ (l : List ℕ). flat_map association_line (map bodied (applying d a.records)) ++ l)
+        (texts-of_runs (schedule_entries x.schedules) (train_on d) schedules s.records s.runs_of
+        ∙ chosen-text (λ e. applies_on e.1 d) bodied train_line s.records);
+  }
+
+module _ (x : ExtractParts) (uid : List ℕ) (form : Form) (associations schedules : List Run)
+    (a : AreCanonicalRecords key_cmp form (header_window x.header) (association_entries x.associations) associations)
+    (s : AreCanonicalRecords (slice_cmp nat_cmp) form (header_window x.header) (schedule_entries x.schedules) schedules) where
+  pub train-view : IsTrainView form x uid (flat_map (run_text (schedule_of uid) (schedule_entries x.schedules)) schedules)
+  train-view = record {
+    clear = record { associations = a.clear; schedules = s.clear };
+    records = s.records;
+    canonical = s.canonical;
+    same_meaning = s.same_meaning;
+    own = own (slice_cmp nat_cmp) nat_list_cmp_total s.records s.canonical.rising uid;
+    rising = own-rising (slice_cmp nat_cmp) nat_list_cmp_total s.records s.canonical.rising uid;
+    are = own-are (slice_cmp nat_cmp) nat_list_cmp_total s.records s.canonical.rising uid;
+    text_is =
+        texts-of_runs (schedule_entries x.schedules) (schedule_of uid) schedules s.records s.runs_of
+        ∙ chosen-text (λ e. pointwise nat_eq e.0 uid) (λ (e : List ℕ × Permanent BodyParts). e.1) schedule_line s.records;
+  }

@@ -1,0 +1,24 @@
+-- The lines of the views, record by record. No public clause cites them.
+use Rattle.std.specs.Prelude.{ℕ, List, [], Bool, false, ◌&&◌, nat_le, nat_eq, if◌then◌else◌, slice_index_or}
+use Rattle.std.specs.Cmp.Lexicographic.{pointwise}
+use Rattle.cif_columns.specs.Day.{weekday_of}
+use Rattle.cif_extract.specs.BodyParts.{BodyParts}
+use Rattle.cif_records.specs.declared.assoc_body.AssocBody.{AssocBody}
+use Rattle.cif_records.specs.declared.assoc_key.AssocKey.{AssocKey}
+use Rattle.cif_weeks.specs.Permanent.{Permanent}
+use Rattle.cif_canon.specs.Views.{association_line, schedule_line, train_line}
+
+-- whether a permanent record applies on day d
+abbrev pub applies_on : {B : Type 0} → Permanent B → ℕ → Bool
+applies_on r d = nat_le r.first d && (nat_le d r.last && slice_index_or r.days (weekday_of d) false)
+
+-- the line of an association, or of a train, where its record applies on day d
+abbrev pub association_on : ℕ → AssocKey × Permanent AssocBody → List ℕ
+association_on d e = if applies_on e.1 d then association_line (e.0, e.1.body) else []
+
+abbrev pub train_on : ℕ → List ℕ × Permanent BodyParts → List ℕ
+train_on d e = if applies_on e.1 d then train_line (e.0, e.1.body) else []
+
+-- the line of a record, where it is the train's
+abbrev pub schedule_of : List ℕ → List ℕ × Permanent BodyParts → List ℕ
+schedule_of uid e = if pointwise nat_eq e.0 uid then schedule_line e.1 else []

@@ -1,0 +1,104 @@
+//! What runs on a day.
+ghost use Rattle.std.specs.Prelude.{◌↔◌, ℕ, List, IfErr, IsTrue};
+ghost use Rattle.cif_extract.specs.ExtractParts.{extract_parts};
+ghost use Rattle.cif_weeks.specs.Applies.{Applies};
+ghost use Rattle.cif_weeks.specs.Runs.{record_of};
+ghost use Rattle.cif_canon.specs.Normalised.{FaultWrites, IfWritten};
+ghost use Rattle.cif_canon.specs.Views.{IsDayFault, IsDayView};
+
+use crate::asked::check_within;
+use crate::extract_runs::extract_runs;
+use crate::record_lines::{RecordLines, write_runs};
+use crate::view_line::{association_line, train_line};
+use cif_columns::{Day, Sink, Uid, WriteDevice, WriteFault};
+use cif_extract::{Body, Extract, Fault, Schedule};
+use cif_records::{AssocBody, AssocKey, Association};
+use cif_weeks::{Form, Run};
+use std::alloc::Global;
+
+/// Appends what runs on the day: a line for each association that holds, rising by key, and then one
+/// for each train that runs, rising by UID.
+///
+/// OutsideWindow comes where the day isn't in the extract's window, and then Ambiguous with the first
+/// clash of the whole window, Memory, and Write. Nothing is written before the growths.
+pub fn day_view<W: WriteDevice>(
+    alloc: Global,
+    extract: &Extract,
+    day: Day,
+    sink: &mut Sink<W>,
+) -> Result<(), Fault>
+    ensures view { (text : List ℕ)
+        × FaultWrites W.contents W.write_errors text sink.old sink.new result
+        × IfWritten result (IsDayView (extract_parts extract.now) day text) }
+    ensures fault { IfErr result (IsDayFault (extract_parts extract.now) day) }
+{
+    check_within(&extract.header, day)?;
+    let runs = extract_runs(alloc, extract, Form::Two)?;
+    let lines = LinesOfDay { day };
+    write_runs(
+        &lines,
+        extract.associations.as_slice(),
+        runs.associations.as_slice(),
+        sink,
+    )?;
+    write_runs(
+        &lines,
+        extract.schedules.as_slice(),
+        runs.schedules.as_slice(),
+        sink,
+    )?;
+    Ok(())
+}
+
+/// Whether the run applies on the day.
+fn applies_on(run: &Run, day: Day) -> bool
+    ensures { (body : Unit {0}) → IsTrue result ↔ Applies (record_of run.now body) day }
+{
+    run.first <= day && day <= run.last && run.days.has(day.weekday())
+}
+
+/// The lines of what runs on a day.
+#[derive(Clone, Copy)]
+struct LinesOfDay {
+    day: Day,
+}
+
+impl RecordLines<Association> for LinesOfDay {
+    ghost use Rattle.cif_canon.specs.Steps.Views.{association_on};
+
+    ghost text = { λ lines. association_on lines.day };
+
+    fn write_record<W: WriteDevice>(
+        &self,
+        key: &AssocKey,
+        body: &AssocBody,
+        run: &Run,
+        sink: &mut Sink<W>,
+    ) -> Result<(), WriteFault> {
+        if applies_on(run, self.day) {
+            sink.write_all(association_line(key, body).as_str().as_bytes())
+        } else {
+            Ok(())
+        }
+    }
+}
+
+impl RecordLines<Schedule> for LinesOfDay {
+    ghost use Rattle.cif_canon.specs.Steps.Views.{train_on};
+
+    ghost text = { λ lines. train_on lines.day };
+
+    fn write_record<W: WriteDevice>(
+        &self,
+        uid: &Uid,
+        body: &Body,
+        run: &Run,
+        sink: &mut Sink<W>,
+    ) -> Result<(), WriteFault> {
+        if applies_on(run, self.day) {
+            sink.write_all(train_line(uid, body).as_str().as_bytes())
+        } else {
+            Ok(())
+        }
+    }
+}
