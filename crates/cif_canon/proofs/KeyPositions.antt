@@ -32,7 +32,7 @@ range-whole n i h =
     let at : get_or (range_with_len 0 n) i i ≡ 0 + i = get_or-range_with_len 0 n i i h in
     (i, (let z : i < length (range_with_len 0 n) = omega arith in z), (let z : get_or (range_with_len 0 n) i i ≡ i = omega arith in z))
 
-not_gt : (o : Ordering) → is_lt o ≡ false → is_gt (ordering_reverse o) ≡ false
+pub not_gt : (o : Ordering) → is_lt o ≡ false → is_gt (ordering_reverse o) ≡ false
 not_gt Less h = h
 not_gt Equal h = refl
 not_gt Greater h = refl

@@ -31,6 +31,17 @@ module _ {K : Type 0} (cmp : K → K → Ordering) (total : IsTotalOrder cmp) wh
   less-apart same a b Equal e n apart = absurd (apart (same a b e))
   less-apart same a b Greater e n apart = absurd (true≢false n)
 
+module _ {K : Type 0} (cmp : K → K → Ordering) (total : IsTotalOrder cmp) (same : (j k : K) → cmp j k ≡ Equal → j ≡ k) where
+  not-after : (a b c : K) (o : Ordering) → cmp a b ≡ o → is_gt o ≡ false → is_gt (cmp b c) ≡ false → is_gt (cmp a c) ≡ false
+  not-after a b c Less e n h = ap is_gt (less-upto cmp total a b c (cmp b c) refl h e)
+  not-after a b c Equal e n h = subst (λ k. is_gt (cmp k c) ≡ false) (sym (same a b e)) h
+  not-after a b c Greater e n h = absurd (true≢false n)
+
+  -- what is from a key on is from one that isn't after it
+  pub from-lower : {B : Type 0} (es : List (K × Terms B)) (rest : List ℕ) (k a : K) → is_gt (cmp k a) ≡ false → AreFrom cmp es rest a →
+      AreFrom cmp es rest k
+  from-lower es rest k a n from i d below j has = not-after k a j (cmp k a) refl n (from i d below j has)
+
 module _ {K B : Type 0} (cmp : K → K → Ordering) (es : List (K × Terms B)) (rest : List ℕ) (rising : IsRising cmp es rest) where
   -- the positions after the first n are in order too
   pub rising-after : (n : ℕ) → IsRising cmp es (drop n rest)

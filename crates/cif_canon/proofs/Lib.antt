@@ -1,7 +1,12 @@
 pub mod CanonForm
 pub mod CanonTexts
 pub mod ChosenRecords
+pub mod ComparedCalendars
+pub mod ComparedKeys
+pub mod DifferentDays
+pub mod DifferentTiplocs
 pub mod DistinctTiplocs
+pub mod FirstEntries
 pub mod KeptExtract
 pub mod KeyPositions
 pub mod KeyRecords

@@ -149,7 +149,8 @@ module _ {B : Type 0} (cmp : List ℕ → List ℕ → Ordering) (total : IsTota
 
   -- they rise by first day
   pub own-rising : AllPairs (λ (r : Permanent B) (s : Permanent B). r.first < s.first) own
-  own-rising = AllPairs-map (λ (e : List ℕ × Permanent B). e.1) (λ (r : Permanent B) (s : Permanent B). r.first < s.first) mine (λ i j z less below.
+  own-rising = AllPairs-map (λ (e : List ℕ × Permanent B). e.1) (λ (r : Permanent B) (s : Permanent B). r.first < s.first) mine (λ i
+      j z less below.
       let (in_e, is_e) = chosen-from test records (get_or mine i z) (Contains-get_or mine i z (omega arith)) in
       let (in_f, is_f) = chosen-from test records (get_or mine j z) (Contains-get_or mine j z below) in
       ⊎_elim

@@ -2,6 +2,7 @@ pub mod Accepted
 pub mod Asked
 pub mod Canon
 pub mod Canonical
+pub mod Comparison
 pub mod Counts
 pub mod Fault
 pub mod Meaning

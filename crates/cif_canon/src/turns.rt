@@ -1,10 +1,11 @@
 //! The positions of entries in the order of their keys.
 ghost use Rattle.std.specs.Prelude.{◌≡◌, ℕ, ◌<◌, ◌≤◌, All, Contains, length, map};
-ghost use Rattle.std.specs.Prelude.{IfOk, slice_get};
+ghost use Rattle.std.specs.Prelude.{IfNone, IfOk, IfSome, slice_get};
 ghost use Rattle.std.specs.List.{range_with_len};
 ghost use Rattle.std.specs.Option.{option_cmp};
 ghost use Rattle.cif_calendar.specs.Keys.{keyed};
-ghost use Rattle.cif_canon.specs.Steps.Turns.{AreFrom, IsFirstRun, IsFront, IsRising};
+ghost use Rattle.cif_canon.specs.Steps.Turns.{AreFrom, IsFirstOfBoth, IsFirstRun, IsFront};
+ghost use Rattle.cif_canon.specs.Steps.Turns.{IsRising};
 
 use cif_calendar::Entry;
 use std::alloc::{AllocError, Global};
@@ -75,4 +76,36 @@ pub(crate) fn count_of_key<E: Entry>(entries: &[E], positions: &[usize], key: &E
         }
     }
     positions.len()
+}
+
+/// An entry with the least key of those at two lists of positions, each in the order of its keys;
+/// none where there are no positions.
+pub(crate) fn first_entry<'a, E: Entry>(
+    left: &'a [E],
+    left_positions: &[usize],
+    right: &'a [E],
+    right_positions: &[usize],
+) -> Option<&'a E>
+    requires left { All (λ i. i < length left.now) left_positions.now }
+    requires right { All (λ i. i < length right.now) right_positions.now }
+    requires left_rising { IsRising E.Key.cmp (keyed E.key E.terms left.now) left_positions.now }
+    requires right_rising { IsRising E.Key.cmp (keyed E.key E.terms right.now) right_positions.now }
+    ensures none { IfNone result
+        ((length left_positions.now ≡ 0) × (length right_positions.now ≡ 0)) }
+    ensures some { IfSome result (λ entry. IsFirstOfBoth E.Key.cmp (keyed E.key E.terms left.now)
+        left_positions.now (keyed E.key E.terms right.now) right_positions.now (E.key entry.now)) }
+{
+    match (left_positions.first(), right_positions.first()) {
+        (Some(i), Some(j)) => {
+            let (one, other) = (&left[*i], &right[*j]);
+            if other.key().cmp(one.key()).is_lt() {
+                Some(other)
+            } else {
+                Some(one)
+            }
+        }
+        (Some(i), None) => Some(&left[*i]),
+        (None, Some(j)) => Some(&right[*j]),
+        (None, None) => None,
+    }
 }

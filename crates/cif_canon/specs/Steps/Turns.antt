@@ -1,5 +1,5 @@
 -- The positions of entries in the order of their keys, one key after another. No public clause cites them.
-use Rattle.std.specs.Prelude.{◌≡◌, ℕ, ◌<◌, ◌≤◌, List, Some, All, AllPairs, Contains, slice_get, length, take, drop, false}
+use Rattle.std.specs.Prelude.{◌≡◌, ◌⊎◌, ℕ, ◌<◌, ◌≤◌, List, Some, All, AllPairs, Contains, slice_get, length, take, drop, false}
 use Rattle.std.specs.Ordering.{is_gt}
 use Rattle.std.specs.declared.cmp.Ordering.{Ordering}
 use Rattle.std.specs.declared.cmp.Ordering.TheVariants.{Less}
@@ -40,3 +40,10 @@ pub record IsFirstRun {K B : Type 0} (cmp : K → K → Ordering) (entries : Lis
   pub key : K
   pub some : 0 < n
   pub front : IsFront cmp entries positions key n
+
+-- the key is that of an entry at one of two lists of positions, and none there is before it
+pub record IsFirstOfBoth {K B : Type 0} (cmp : K → K → Ordering) (xs : List (K × Terms B)) (left : List ℕ) (ys : List (K × Terms B))
+    (right : List ℕ) (key : K) : Type 0 where
+  pub has : AnyHasKey xs left key ⊎ AnyHasKey ys right key
+  pub left_from : AreFrom cmp xs left key
+  pub right_from : AreFrom cmp ys right key

@@ -1,0 +1,217 @@
+-- Two lists are compared key by key, over their positions in the order of their keys.
+use Rattle.std.proofs.Common.{◌≡◌, ◌⊎◌, inl, inr, ℕ, zero, suc, ◌+◌, ◌<◌, ◌≤◌, List, [], take, drop, length, refl, sym, ap, ◌∙◌, subst}
+use Rattle.std.proofs.Common.{⊎_elim, arith, true≢false}
+use Rattle.std.specs.Prelude.{Contains, Option, Some, None, false}
+use Rattle.std.specs.Cmp.{IsTotalOrder, tied_itself}
+use Rattle.std.specs.Ordering.{is_gt, ordering_reverse}
+use Rattle.std.specs.declared.cmp.Ordering.{Ordering}
+use Rattle.std.specs.declared.cmp.Ordering.TheVariants.{Less, Equal, Greater}
+use Rattle.std.proofs.lemmas.Option.{slice_get_within}
+use Rattle.std.proofs.lemmas.List.{take-append-drop}
+use Rattle.std.proofs.lemmas.List.Elements.{All-contains}
+use Rattle.std.proofs.lemmas.List.Elements.{Contains-append_right, Contains-append_cases}
+use Rattle.cif_calendar.specs.Terms.{Terms}
+use Rattle.cif_calendar.specs.Keys.{of_key, ArePositionsOf}
+use Rattle.cif_calendar.specs.Meaning.{SameMeaning}
+use Rattle.cif_calendar.specs.Runs.{Runs}
+use Rattle.cif_calendar.proofs.Positions.{at-contains}
+use Rattle.cif_weeks.proofs.RisingLists.{Contains-none, not_less}
+use Rattle.cif_canon.specs.Comparison.{IsFirstDifference, RunsAlike, RunsDiffer}
+use Rattle.cif_canon.specs.Steps.Turns.{AnyHasKey, HasKey, IsFirstOfBoth, IsFront, IsRising}
+use Rattle.cif_canon.proofs.KeyTurns.{one-key, rising-after}
+
+module _ {K B : Type 0} (cmp : K → K → Ordering) where
+  -- one of the keys at these positions of a list, or of those of another
+  abbrev pub IsLeft : List (K × Terms B) → List ℕ → List (K × Terms B) → List ℕ → K → Type 0
+  IsLeft xs l ys r k = AnyHasKey xs l k ⊎ AnyHasKey ys r k
+
+  -- an entry is at the rest, or its key is before all that are left
+  abbrev pub HasPassed : List (K × Terms B) → List ℕ → (K → Type 0) → Type 0
+  HasPassed es rest left = (i : ℕ) (j : K) → HasKey es i j → Contains rest i ⊎ ((k : K) → left k → cmp j k ≡ Less)
+
+  -- one side: the positions of the key are the front, if the key is left
+  module _ (total : IsTotalOrder cmp) (es : List (K × Terms B)) (rest : List ℕ) (left : K → Type 0) (passed : HasPassed es rest left)
+      (k : K) (here : left k) (n : ℕ) (front : IsFront cmp es rest k n) where
+    at-front : (i : ℕ) → Contains (take n rest) i → HasKey es i k
+    at-front i c = All-contains (λ i. HasKey es i k) (take n rest) i front.same c
+
+    at-later : (i : ℕ) (j : K) → Contains (drop n rest) i → HasKey es i j → cmp k j ≡ Less
+    at-later i j c has = All-contains (λ i. (j : K) → HasKey es i j → cmp k j ≡ Less) (drop n rest) i front.later c j has
+
+    pub either : (i : ℕ) → Contains rest i → Contains (take n rest) i ⊎ Contains (drop n rest) i
+    either i c = Contains-append_cases (take n rest) (drop n rest) i
+        (subst (λ (xs : List ℕ). Contains xs i) (sym (take-append-drop n rest)) c)
+
+    pub turn : ArePositionsOf es k (take n rest)
+    turn = record {
+      found = λ i c. let has = at-front i c in (has.terms, has.at);
+      all = λ i r at.
+          let has : HasKey es i k = record { terms = r; at = at } in
+          ⊎_elim
+          (λ in'. ⊎_elim (λ here. here) (λ after. absurd (not_less cmp total k k refl (at-later i k after has))) (either i in'))
+          (λ before. absurd (not_less cmp total k k refl (before k here)))
+          (passed i k has);
+    }
+
+    -- what is later is left
+    pub left-before : (j : K) → AnyHasKey es (drop n rest) j → AnyHasKey es rest j
+    left-before j any = record {
+      position = any.position;
+      member = subst (λ (xs : List ℕ). Contains xs any.position) (take-append-drop n rest)
+          (Contains-append_right (take n rest) (drop n rest) any.position any.member);
+      has = any.has;
+    }
+
+    pub later-less : (j : K) → AnyHasKey es (drop n rest) j → cmp k j ≡ Less
+    later-less j any = at-later any.position j any.member any.has
+
+    -- what was left is the key, or later
+    pub key-or-later : (j : K) → AnyHasKey es rest j → (j ≡ k) ⊎ AnyHasKey es (drop n rest) j
+    key-or-later j any = ⊎_elim
+        (λ first. inl (one-key es any.position j k any.has (at-front any.position first)))
+        (λ later. inr (record { position = any.position; member = later; has = any.has }))
+        (either any.position any.member)
+
+    -- the front has passed too
+    pub passed-more : (next : K → Type 0) → ((j : K) → next j → left j) → ((j : K) → next j → cmp k j ≡ Less) →
+        HasPassed es (drop n rest) next
+    passed-more next still less i j has = ⊎_elim
+        (λ in'. ⊎_elim
+        (λ first. inr (λ m is. subst (λ z. cmp z m ≡ Less) (one-key es i k j (at-front i first) has) (less m is)))
+        (λ later. inl later)
+        (either i in'))
+        (λ before. inr (λ m is. before m (still m is)))
+        (passed i j has)
+
+  -- where there is an entry of the key, its front has a position
+  front-some : IsTotalOrder cmp → (es : List (K × Terms B)) (rest : List ℕ) (k : K) → AnyHasKey es rest k → (n : ℕ) →
+      IsFront cmp es rest k n → 0 < n
+  front-some total es rest k any zero front =
+      absurd (not_less cmp total k k refl (All-contains (λ i. (j : K) → HasKey es i j → cmp k j ≡ Less) rest any.position front.later
+      any.member k any.has))
+  front-some total es rest k any (suc n) front = (let z : 0 < suc n = omega arith in z)
+
+  -- Of each key that isn't left the lists say the same, and what isn't at the rests has passed.
+  pub record AreAlikeBefore (xs ys : List (K × Terms B)) (first last : ℕ) (l r : List ℕ) : Type 0 where
+    pub left_rising : IsRising cmp xs l
+    pub right_rising : IsRising cmp ys r
+    pub left_passed : HasPassed xs l (IsLeft xs l ys r)
+    pub right_passed : HasPassed ys r (IsLeft xs l ys r)
+    pub alike : (k : K) → (IsLeft xs l ys r k → ⊥) → (d : ℕ) → first ≤ d → d ≤ last → RunsAlike xs ys k d
+
+  module _ (total : IsTotalOrder cmp) (same : (j k : K) → cmp j k ≡ Equal → j ≡ k) (xs ys : List (K × Terms B)) (first last : ℕ) where
+    -- without entries nothing runs
+    one-way : (es fs : List (K × Terms B)) (k : K) → ((t : Terms B) → of_key es k t → ⊥) → ((t : Terms B) → of_key fs k t → ⊥) → (d : ℕ)
+        (o : Option B) → Runs (of_key es k) d o → Runs (of_key fs k) d o
+    one-way es fs k none other d None h = record { cancelled = λ t w. absurd (other t w.listed) }
+    one-way es fs k none other d (Some b) h = absurd (none h.winner h.wins.listed)
+
+    -- at first all positions are left
+    pub alike-nothing : (l r : List ℕ) → IsRising cmp xs l → IsRising cmp ys r → ((i : ℕ) → i < length xs → Contains l i) →
+        ((i : ℕ) → i < length ys → Contains r i) → AreAlikeBefore xs ys first last l r
+    alike-nothing l r up vp whole_l whole_r = record {
+      left_rising = up;
+      right_rising = vp;
+      left_passed = λ i j has. inl (whole_l i (slice_get_within xs i (j, has.terms) has.at));
+      right_passed = λ i j has. inl (whole_r i (slice_get_within ys i (j, has.terms) has.at));
+      alike = λ k none d from upto o.
+          let no_x : (t : Terms B) → of_key xs k t → ⊥ = λ t in'.
+          let (i, at) = at-contains xs (k, t) in' in
+          none (inl (record {
+            position = i;
+            member = whole_l i (slice_get_within xs i (k, t) at);
+            has = record { terms = t; at = at };
+          })) in
+          let no_y : (t : Terms B) → of_key ys k t → ⊥ = λ t in'.
+          let (i, at) = at-contains ys (k, t) in' in
+          none (inr (record {
+            position = i;
+            member = whole_r i (slice_get_within ys i (k, t) at);
+            has = record { terms = t; at = at };
+          })) in (one-way xs ys k no_x no_y d o, one-way ys xs k no_y no_x d o);
+    }
+
+    -- in the end none is
+    pub alike-all : AreAlikeBefore xs ys first last [] [] → SameMeaning xs ys first last
+    alike-all a = record {
+      same = λ k d o from upto.
+          a.alike k (⊎_elim (λ any. Contains-none any.position any.member) (λ any. Contains-none any.position any.member)) d from upto o;
+    }
+
+    module _ (l r : List ℕ) (a : AreAlikeBefore xs ys first last l r) (k : K) (f : IsFirstOfBoth cmp xs l ys r k) where
+      -- a key before this one isn't left
+      not-left : (j : K) → cmp j k ≡ Less → IsLeft xs l ys r j → ⊥
+      not-left j less = ⊎_elim
+          (λ any. before j (All-contains (λ i. (j : K) → HasKey xs i j → is_gt (cmp k j) ≡ false) l any.position f.left_from any.member j
+          any.has) less)
+          (λ any. before j (All-contains (λ i. (j : K) → HasKey ys i j → is_gt (cmp k j) ≡ false) r any.position f.right_from any.member j
+          any.has) less)
+        where
+          backward : (j : K) → cmp j k ≡ Less → cmp k j ≡ Greater
+          backward j less = total.antisymm k j ∙ ap ordering_reverse less
+
+          before : (j : K) → is_gt (cmp k j) ≡ false → cmp j k ≡ Less → ⊥
+          before j from less = true≢false (sym (ap is_gt (backward j less)) ∙ from)
+
+      -- so a difference of this key is the first
+      pub first-difference : (d : ℕ) → first ≤ d → d ≤ last → RunsDiffer xs ys k d →
+          ((e : ℕ) → first ≤ e → e < d → RunsAlike xs ys k e) → IsFirstDifference cmp xs ys first last k d
+      first-difference d from upto differ before = record {
+        from = from;
+        upto = upto;
+        differ = differ;
+        alike_before = before;
+        keys_before = λ j e less from upto. a.alike j (not-left j less) e from upto;
+      }
+
+      module _ (n m : ℕ) (left_front : IsFront cmp xs l k n) (right_front : IsFront cmp ys r k m) where
+        pub left-turn : ArePositionsOf xs k (take n l)
+        left-turn = turn total xs l (IsLeft xs l ys r) a.left_passed k f.has n left_front
+
+        pub right-turn : ArePositionsOf ys k (take m r)
+        right-turn = turn total ys r (IsLeft xs l ys r) a.right_passed k f.has m right_front
+
+        -- one of the fronts has a position
+        pub front-of_both : 0 < n + m
+        front-of_both = ⊎_elim
+            (λ any. let some = front-some total xs l k any n left_front in omega (arith, some))
+            (λ any. let some = front-some total ys r k any m right_front in omega (arith, some))
+            f.has
+
+        decided : (j : K) (o : Ordering) → cmp j k ≡ o → (j ≡ k) ⊎ (j ≡ k → ⊥)
+        decided j Equal e = inl (same j k e)
+        decided j Less e = inr (λ is. not_less cmp total j k is e)
+        decided j Greater e = inr (λ is. let tied : cmp j k ≡ Equal = subst (λ z. cmp j z ≡ Equal) is (tied_itself total j) in cc)
+
+        still : (j : K) → IsLeft xs (drop n l) ys (drop m r) j → IsLeft xs l ys r j
+        still j = ⊎_elim
+            (λ any. inl (left-before total xs l (IsLeft xs l ys r) a.left_passed k f.has n left_front j any))
+            (λ any. inr (left-before total ys r (IsLeft xs l ys r) a.right_passed k f.has m right_front j any))
+
+        less : (j : K) → IsLeft xs (drop n l) ys (drop m r) j → cmp k j ≡ Less
+        less j = ⊎_elim
+            (λ any. later-less total xs l (IsLeft xs l ys r) a.left_passed k f.has n left_front j any)
+            (λ any. later-less total ys r (IsLeft xs l ys r) a.right_passed k f.has m right_front j any)
+
+        -- a key that was left, and is another, is left
+        left-on : (j : K) → (j ≡ k → ⊥) → IsLeft xs l ys r j → IsLeft xs (drop n l) ys (drop m r) j
+        left-on j apart = ⊎_elim
+            (λ any. ⊎_elim (λ is. absurd (apart is)) (λ later. inl later)
+            (key-or-later total xs l (IsLeft xs l ys r) a.left_passed k f.has n left_front j any))
+            (λ any. ⊎_elim (λ is. absurd (apart is)) (λ later. inr later)
+            (key-or-later total ys r (IsLeft xs l ys r) a.right_passed k f.has m right_front j any))
+
+        -- where the lists say the same of the key, it has passed
+        pub alike-key : ((d : ℕ) → first ≤ d → d ≤ last → RunsAlike xs ys k d) → AreAlikeBefore xs ys first last (drop n l) (drop m r)
+        alike-key says = record {
+          left_rising = rising-after cmp xs l a.left_rising n;
+          right_rising = rising-after cmp ys r a.right_rising m;
+          left_passed = passed-more total xs l (IsLeft xs l ys r) a.left_passed k f.has n left_front
+              (IsLeft xs (drop n l) ys (drop m r)) still less;
+          right_passed = passed-more total ys r (IsLeft xs l ys r) a.right_passed k f.has m right_front
+              (IsLeft xs (drop n l) ys (drop m r)) still less;
+          alike = λ j none d from upto. ⊎_elim
+              (λ is. subst (λ i. RunsAlike xs ys i d) (sym is) (says d from upto))
+              (λ apart. a.alike j (λ was. none (left-on j apart was)) d from upto)
+              (decided j (cmp j k) refl);
+        }

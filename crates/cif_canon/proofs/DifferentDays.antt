@@ -1,0 +1,139 @@
+-- The first day on which two calendars differ.
+use Rattle.std.proofs.Common.{◌≡◌, ◌⊎◌, ℕ, ◌+◌, ◌-◌, ◌%◌, ◌<◌, ◌≤◌, List, Option, Some, None, map, refl, sym, ap, ◌∙◌, subst}
+use Rattle.std.proofs.Common.{arith, ⊎_elim, get_or, length}
+use Rattle.std.specs.Prelude.{◌↔◌, Bool, Contains, IsSome, IsTrue, slice_get}
+use Rattle.std.specs.Option.{option_and_then}
+use Rattle.std.proofs.lemmas.Bool.{false≢true}
+use Rattle.std.proofs.lemmas.List.{length-map}
+use Rattle.std.proofs.lemmas.Option.{slice_get_within}
+use Rattle.cif_calendar.proofs.Winning.{terms_at}
+use Rattle.cif_columns.specs.Day.{weekday_of}
+use Rattle.cif_calendar.specs.Calendar.{CalendarParts, body_on}
+use Rattle.cif_calendar.specs.Pieces.{Tiles, winner_of}
+use Rattle.cif_calendar.specs.Source.{body_at}
+use Rattle.cif_calendar.specs.Terms.{Terms}
+use Rattle.cif_calendar.specs.declared.piece.Piece.{Piece}
+use Rattle.cif_calendar.proofs.PieceLists.{source_at-piece, tiles-ends}
+use Rattle.cif_weeks.specs.Runs.{AreSources}
+use Rattle.cif_canon.specs.Steps.Differences.{AreAlikeBy, FindsOther, HasBodies, IsFirstOther}
+
+-- a day and the one of its weekday in the seven days from another
+in-week : (first d : ℕ) → first ≤ d → (e : ℕ) × (first ≤ e) × (e < first + 7) × (e ≤ d) × (weekday_of e ≡ weekday_of d)
+in-week first d from = (first + (d - first) % 7, omega arith, omega arith, omega arith, omega arith)
+
+module _ {B : Type 0} (xs : List (Terms B)) (p : Piece) (ys : List (Terms B)) (q : Piece) where
+  -- what two pieces have goes by the weekday
+  alike-weekday : (d e : ℕ) → weekday_of d ≡ weekday_of e → AreAlikeBy xs p ys q d → AreAlikeBy xs p ys q e
+  alike-weekday d e same h =
+      subst (λ w. body_at xs (get_or p.winners w None) ≡ body_at ys (get_or q.winners w None)) same h
+
+  -- seven days are all
+  pub alike-week : (first last : ℕ) → ((d : ℕ) → first ≤ d → d < first + 7 → AreAlikeBy xs p ys q d) → (d : ℕ) → first ≤ d → d ≤ last →
+      AreAlikeBy xs p ys q d
+  alike-week first last week d from upto =
+      let (e, after, within, before, same) = in-week first d from in alike-weekday e d same (week e after within)
+
+-- it holds up to a day, and of that day
+pub alike-more : (alike : ℕ → Type 0) (first day : ℕ) → ((d : ℕ) → first ≤ d → d < day → alike d) → alike day → (next : ℕ) →
+    next ≡ day + 1 → (d : ℕ) → first ≤ d → d < next → alike d
+alike-more alike first day before here next is d from below = ⊎_elim
+    (λ (less : d < day). before d from less)
+    (λ (same : day ≡ d). subst alike same here)
+    split
+  where
+    split : (d < day) ⊎ (day ≡ d)
+    split = grind (arith, below, is)
+
+pub before-or-from : (d m : ℕ) → (d < m) ⊎ (m ≤ d)
+before-or-from d m = grind arith
+
+pub not-below : (m n : ℕ) → (m < n → ⊥) → n ≤ m
+not-below m n h = ⊎_elim (λ less. absurd (h less)) (λ from. from) (before-or-from m n)
+
+-- what is found after days of which it holds is found from the first of them on, and up to a later day
+pub found-on : (alike : ℕ → Type 0) (first mid last far day : ℕ) → first ≤ mid → last ≤ far → ((d : ℕ) → first ≤ d → d < mid → alike d) →
+    IsFirstOther alike mid last day → IsFirstOther alike first far day
+found-on alike first mid last far day from until before h = record {
+  from = (let a = h.from in omega (arith, a));
+  upto = (let b = h.upto in omega (arith, b));
+  other = h.other;
+  before = λ d after less. ⊎_elim
+      (λ (early : d < mid). before d after early)
+      (λ (late : mid ≤ d). h.before d late less)
+      (before-or-from d mid);
+}
+
+module _ {B : Type 0} (xs : List (Terms B)) (c : CalendarParts) (p : Piece) (tiles : Tiles c.pieces c.first (c.last + 1))
+    (listed : Contains c.pieces p) where
+  -- the body of a day of a piece
+  pub body-by_piece : (d : ℕ) → p.first ≤ d → d ≤ p.last → body_at xs (winner_of p d) ≡ body_on xs c d
+  body-by_piece d from upto = ap (body_at xs) (sym (source_at-piece c.pieces c.first (c.last + 1) p d tiles listed from upto))
+
+  -- a piece ends in the window
+  pub piece-ends : p.last ≤ c.last
+  piece-ends = let ends = (tiles-ends c.pieces c.first (c.last + 1) p tiles listed).1 in omega (arith, ends)
+
+  -- the winners of a piece have bodies
+  pub piece-bodies : AreSources xs c → (first last : ℕ) → p.first ≤ first → last ≤ p.last → c.first ≤ first → HasBodies xs p first last
+  piece-bodies sources first last from upto after = record {
+    bodied = λ d a b i is.
+        let ends = piece-ends in
+        sources.bodied d i (omega arith) (omega (arith, ends))
+        (source_at-piece c.pieces c.first (c.last + 1) p d tiles listed (omega arith) (omega arith) ∙ is);
+  }
+
+module _ {B : Type 0} (xs : List (Terms B)) (c : CalendarParts) (p : Piece) (tiles_c : Tiles c.pieces c.first (c.last + 1))
+    (listed_p : Contains c.pieces p) (ys : List (Terms B)) (e : CalendarParts) (q : Piece) (tiles_e : Tiles e.pieces e.first (e.last + 1))
+    (listed_q : Contains e.pieces q) (first last : ℕ) (p_from : p.first ≤ first) (p_upto : last ≤ p.last) (q_from : q.first ≤ first)
+    (q_upto : last ≤ q.last) where
+  same-bodies_on : (d : ℕ) → first ≤ d → d ≤ last → AreAlikeBy xs p ys q d ↔ (body_on xs c d ≡ body_on ys e d)
+  same-bodies_on d a b =
+      let one = body-by_piece xs c p tiles_c listed_p d (omega arith) (omega arith) in
+      let other = body-by_piece ys e q tiles_e listed_q d (omega arith) (omega arith) in (
+        λ h. sym one ∙ h ∙ other,
+        λ h. one ∙ h ∙ sym other,
+      )
+
+  -- what is found by pieces is found of the calendars
+  pub found-by_pieces : (o : Option ℕ) → FindsOther (AreAlikeBy xs p ys q) first last o →
+      FindsOther (λ d. body_on xs c d ≡ body_on ys e d) first last o
+  found-by_pieces None h = λ d a b. (same-bodies_on d a b).0 (h d a b)
+  found-by_pieces (Some day) h = record {
+    from = h.from;
+    upto = h.upto;
+    other = λ same. h.other ((same-bodies_on day h.from h.upto).1 same);
+    before = λ d a less. (same-bodies_on d a (let b = h.upto in omega (arith, b))).0 (h.before d a less);
+  }
+
+-- ---- bodies at sources
+
+bodied-found : {B : Type 0} (o : Option (Terms B)) → IsSome (option_and_then (λ r. r.body) o) → IsSome o
+bodied-found None h = h
+bodied-found (Some r) h = refl
+
+-- a source with a body is a position
+pub bodied-within : {E B : Type 0} (terms : E → Terms B) (es : List E) (i : ℕ) → IsSome (body_at (map terms es) (Some i)) → i < length es
+bodied-within {B = B} terms es i h =
+    let n = slice_get_within_some (map terms es) i (bodied-found (slice_get (map terms es) i) h) in
+    let same : length (map terms es) ≡ length es = length-map es terms in omega (arith, n, same)
+  where
+    slice_get_within_some : (xs : List (Terms B)) (i : ℕ) → IsSome (slice_get xs i) → i < length xs
+    slice_get_within_some xs i h = found (slice_get xs i) refl h
+      where
+        found : (o : Option (Terms B)) → o ≡ slice_get xs i → IsSome o → i < length xs
+        found None is h = absurd (false≢true h)
+        found (Some r) is h = slice_get_within xs i r (sym is)
+
+-- and its body is that of the entry there
+pub body-there : {E B : Type 0} (terms : E → Terms B) (es : List E) (i : ℕ) (e : E) → i < length es → e ≡ get_or es i e →
+    body_at (map terms es) (Some i) ≡ (terms e).body
+body-there terms es i e below is = ap (option_and_then (λ r. r.body)) (terms_at terms es i e below is)
+
+-- an answer on two entries' bodies is one on those at their positions
+pub same-bodies : {B : Type 0} (answer : Bool) (xs ys : List (Terms B)) (i j : ℕ) (b c : Option B) {one other : Option ℕ} →
+    one ≡ Some i → other ≡ Some j → body_at xs (Some i) ≡ b → body_at ys (Some j) ≡ c → IsTrue answer ↔ (b ≡ c) →
+    IsTrue answer ↔ (body_at xs one ≡ body_at ys other)
+same-bodies answer xs ys i j b c is_one is_other at_i at_j h = (
+  λ yes. ap (body_at xs) is_one ∙ at_i ∙ h.0 yes ∙ sym (ap (body_at ys) is_other ∙ at_j),
+  λ same. h.1 (sym (ap (body_at xs) is_one ∙ at_i) ∙ same ∙ (ap (body_at ys) is_other ∙ at_j)),
+)

@@ -1,0 +1,60 @@
+use Rattle.std.proofs.Common.{◌∙◌, sym, ap}
+use Rattle.std.specs.Ordering.{is_lt}
+use Rattle.cif_calendar.specs.Keys.{keyed}
+use Rattle.cif_calendar.proofs.FirstClash.{same_key-cmp}
+use Rattle.cif_canon.proofs.FirstEntries.{leading, left-alone, left-first, right-alone, right-first}
+use Rattle.cif_canon.proofs.turns.first_entry.Goals as goal
+
+pub returns-then-is_lt-clause-some : goal.returns-then-is_lt-clause-some
+returns-then-is_lt-clause-some g c =
+    let es = keyed g.E.Entry.key g.E.Entry.terms c.args.left.now in
+    let fs = keyed g.E.Entry.key g.E.Entry.terms c.args.right.now in
+    let one = leading g.E.Entry.key g.E.Entry.terms c.args.left.now c.args.left_positions.now c.in-Some-Some.i.now c.index-left-i.result
+    c.requires.left c.in-Some-Some.ensures.item.3.0 c.in-Some-Some.ensures.item.3.1 c.index-left-i.is in
+    let other = leading g.E.Entry.key g.E.Entry.terms c.args.right.now c.args.right_positions.now c.in-Some-Some.j.now
+    c.index-right-j.result c.requires.right c.in-Some-Some.ensures'.item.3.0 c.in-Some-Some.ensures'.item.3.1 c.index-right-j.is in
+    right-first g.E.Key.Ord.cmp g.met.E.Key.Ord.total es c.args.left_positions.now c.requires.left_rising fs c.args.right_positions.now
+    c.requires.right_rising
+    (same_key-cmp g.E.Key.PartialEq.eq g.E.Key.Ord.cmp g.met.E.Key.Ord.matches_eq g.met.E.Entry.same_key)
+    (g.E.Entry.key c.index-left-i.result) c.in-Some-Some.ensures.item.3.0 one (g.E.Entry.key c.index-right-j.result)
+    c.in-Some-Some.ensures'.item.3.0 other
+    (ap is_lt (sym (c.cmp.ensures ∙ ap (λ k. g.E.Key.Ord.cmp k c.key-in-Some-Some.result.now) c.key.ensures
+    ∙ ap (g.E.Key.Ord.cmp (g.E.Entry.key c.index-right-j.result)) c.key-in-Some-Some.ensures)) ∙ sym c.is_lt.ensures ∙ c.if-is_lt.true)
+
+pub returns-else-is_lt-clause-some : goal.returns-else-is_lt-clause-some
+returns-else-is_lt-clause-some g c =
+    let es = keyed g.E.Entry.key g.E.Entry.terms c.args.left.now in
+    let fs = keyed g.E.Entry.key g.E.Entry.terms c.args.right.now in
+    let one = leading g.E.Entry.key g.E.Entry.terms c.args.left.now c.args.left_positions.now c.in-Some-Some.i.now c.index-left-i.result
+    c.requires.left c.in-Some-Some.ensures.item.3.0 c.in-Some-Some.ensures.item.3.1 c.index-left-i.is in
+    let other = leading g.E.Entry.key g.E.Entry.terms c.args.right.now c.args.right_positions.now c.in-Some-Some.j.now
+    c.index-right-j.result c.requires.right c.in-Some-Some.ensures'.item.3.0 c.in-Some-Some.ensures'.item.3.1 c.index-right-j.is in
+    left-first g.E.Key.Ord.cmp g.met.E.Key.Ord.total es c.args.left_positions.now c.requires.left_rising fs c.args.right_positions.now
+    c.requires.right_rising
+    (same_key-cmp g.E.Key.PartialEq.eq g.E.Key.Ord.cmp g.met.E.Key.Ord.matches_eq g.met.E.Entry.same_key)
+    (g.E.Entry.key c.index-left-i.result) c.in-Some-Some.ensures.item.3.0 one (g.E.Entry.key c.index-right-j.result)
+    c.in-Some-Some.ensures'.item.3.0 other
+    (ap is_lt (sym (c.cmp.ensures ∙ ap (λ k. g.E.Key.Ord.cmp k c.key-in-Some-Some.result.now) c.key.ensures
+    ∙ ap (g.E.Key.Ord.cmp (g.E.Entry.key c.index-right-j.result)) c.key-in-Some-Some.ensures)) ∙ sym c.is_lt.ensures ∙ c.if-is_lt.false)
+
+pub returns-in-Some-None-clause-some : goal.returns-in-Some-None-clause-some
+returns-in-Some-None-clause-some g c =
+    let es = keyed g.E.Entry.key g.E.Entry.terms c.args.left.now in
+    let fs = keyed g.E.Entry.key g.E.Entry.terms c.args.right.now in
+    left-alone g.E.Key.Ord.cmp g.met.E.Key.Ord.total es c.args.left_positions.now c.requires.left_rising fs c.args.right_positions.now
+    c.requires.right_rising
+    (g.E.Entry.key c.index-left-i-in-Some-None.result) c.in-Some-None.ensures.item.3.0
+    (leading g.E.Entry.key g.E.Entry.terms c.args.left.now c.args.left_positions.now c.in-Some-None.i.now
+    c.index-left-i-in-Some-None.result c.requires.left c.in-Some-None.ensures.item.3.0 c.in-Some-None.ensures.item.3.1
+    c.index-left-i-in-Some-None.is) c.in-Some-None.ensures'.item.3
+
+pub returns-in-None-Some-clause-some : goal.returns-in-None-Some-clause-some
+returns-in-None-Some-clause-some g c =
+    let es = keyed g.E.Entry.key g.E.Entry.terms c.args.left.now in
+    let fs = keyed g.E.Entry.key g.E.Entry.terms c.args.right.now in
+    right-alone g.E.Key.Ord.cmp g.met.E.Key.Ord.total es c.args.left_positions.now c.requires.left_rising fs c.args.right_positions.now
+    c.requires.right_rising
+    (g.E.Entry.key c.index-right-j-in-None-Some.result) c.in-None-Some.ensures'.item.3.0
+    (leading g.E.Entry.key g.E.Entry.terms c.args.right.now c.args.right_positions.now c.in-None-Some.j.now
+    c.index-right-j-in-None-Some.result c.requires.right c.in-None-Some.ensures'.item.3.0 c.in-None-Some.ensures'.item.3.1
+    c.index-right-j-in-None-Some.is) c.in-None-Some.ensures.item.3

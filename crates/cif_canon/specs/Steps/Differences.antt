@@ -1,0 +1,30 @@
+-- The first day on which two calendars differ. No public clause cites it.
+use Rattle.std.specs.Prelude.{◌≡◌, ℕ, ◌≤◌, ◌<◌, List, Option, Some, None, IsSome}
+use Rattle.cif_calendar.specs.Pieces.{winner_of}
+use Rattle.cif_calendar.specs.Source.{body_at}
+use Rattle.cif_calendar.specs.Terms.{Terms}
+use Rattle.cif_calendar.specs.declared.piece.Piece.{Piece}
+
+-- it holds of the days from `first` to `last` before this one, and not of this one
+pub record IsFirstOther (alike : ℕ → Type 0) (first last day : ℕ) : Type 0 where
+  pub from : first ≤ day
+  pub upto : day ≤ last
+  pub other : ¬ alike day
+  pub before : (d : ℕ) → first ≤ d → d < day → alike d
+
+-- the first of the days from `first` to `last` of which it doesn't hold; none where it holds of all
+abbrev pub FindsOther : (ℕ → Type 0) → ℕ → ℕ → Option ℕ → Type 0
+FindsOther alike first last None = (d : ℕ) → first ≤ d → d ≤ last → alike d
+FindsOther alike first last (Some day) = IsFirstOther alike first last day
+
+-- a source is none, or the position of an entry with a body
+abbrev pub IsBodied : {B : Type 0} → List (Terms B) → Option ℕ → Type 0
+IsBodied xs source = (i : ℕ) → source ≡ Some i → IsSome (body_at xs (Some i))
+
+-- the same body on day d by two pieces, or none by both
+abbrev pub AreAlikeBy : {B : Type 0} → List (Terms B) → Piece → List (Terms B) → Piece → ℕ → Type 0
+AreAlikeBy xs p ys q d = body_at xs (winner_of p d) ≡ body_at ys (winner_of q d)
+
+-- on each day from `first` to `last` the piece's winner is one with a body
+pub record HasBodies {B : Type 0} (xs : List (Terms B)) (p : Piece) (first last : ℕ) : Type 0 where
+  pub bodied : (d : ℕ) → first ≤ d → d ≤ last → IsBodied xs (winner_of p d)
