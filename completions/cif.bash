@@ -1,0 +1,68 @@
+# Completion of cif for bash. tests/words compares its words with the help that the program prints.
+
+# _cif_offer WORDS: offers those of the words that begin with what is written, and weren't given before
+_cif_offer() {
+    local word
+    for word in $1; do
+        if [[ $word == "$written"* && $given != *" $word "* ]]; then
+            COMPREPLY+=("$front$word")
+        fi
+    done
+}
+
+_cif() {
+    local IFS=$' \t\n' commands='normalise check compare day train help'
+    local command='' options='' places=0 given=' ' front='' written=${COMP_WORDS[COMP_CWORD]}
+    # the option whose value comes next, and whether -- has ended the options
+    local awaited='' ended='' word i
+    COMPREPLY=()
+
+    for ((i = 1; i < COMP_CWORD; i++)); do
+        word=${COMP_WORDS[i]}
+        if [[ -n $awaited ]]; then
+            # bash takes --form=1 for three words
+            [[ $word == = ]] || awaited=''
+        elif [[ -z $ended && $word == -- ]]; then
+            ended=yes
+        elif [[ -z $ended && $word == -?* ]]; then
+            given+="${word%%=*} "
+            case $word in
+            --from | --to | --form) awaited=$word ;;
+            esac
+        elif [[ -z $command ]]; then
+            command=$word
+        else
+            places=$((places + 1))
+        fi
+    done
+    if [[ -n $awaited && $written == = ]]; then
+        written=''
+    elif [[ -z $awaited$ended && $written == --*=* ]]; then
+        awaited=${written%%=*}
+        front=$awaited=
+        written=${written#*=}
+    fi
+
+    if [[ -n $awaited ]]; then
+        case $awaited in
+        --form) _cif_offer '1 2' ;;
+        esac
+        return
+    fi
+    if [[ -z $ended && $written == -* ]]; then
+        case $command in
+        '') options='-h --help -V --version' ;;
+        normalise | check | train) options='--from --to --form -h --help' ;;
+        compare) options='--from --to -h --help' ;;
+        day) options='-h --help' ;;
+        esac
+        _cif_offer "$options"
+        return
+    fi
+    case $command:$places in
+    :0 | help:0) _cif_offer "$commands" ;;
+    normalise:0 | check:0 | compare:[01] | day:1 | train:1) compopt -o default ;;
+    esac
+}
+
+complete -F _cif cif

@@ -1,0 +1,56 @@
+# Completion of cif for fish. tests/words compares its words with the help that the program prints.
+
+# The words so far that are no options: the command, and what stands after it.
+function __cif_places
+    set -l words (commandline -opc)
+    set -l awaited no
+    set -l ended no
+    set -e words[1]
+    for word in $words
+        if test $awaited = yes
+            set awaited no
+        else if test $ended = no; and test "$word" = --
+            set ended yes
+        else if test $ended = no; and contains -- $word --from --to --form
+            set awaited yes
+        else if test $ended = yes; or not string match -q -- '-?*' $word
+            printf '%s\n' $word
+        end
+    end
+end
+
+# __cif_at COUNT COMMANDS..: whether the command is one of these, and so many words stand after it.
+function __cif_at
+    set -l places (__cif_places)
+    test (count $places) -eq (math $argv[1] + 1); and contains -- $places[1] $argv[2..]
+end
+
+# __cif_in COMMANDS..: whether the command is one of these.
+function __cif_in
+    set -l places (__cif_places)
+    set -q places[1]; and contains -- $places[1] $argv
+end
+
+function __cif_without_command
+    set -l places (__cif_places)
+    not set -q places[1]
+end
+
+complete -c cif -f
+complete -c cif -n __cif_without_command -a normalise -d 'Write the canonical extract'
+complete -c cif -n __cif_without_command -a check -d 'Count the records of the canonical extract'
+complete -c cif -n __cif_without_command -a compare -d 'Say where two extracts first differ'
+complete -c cif -n __cif_without_command -a day -d 'List the associations and the trains of one date'
+complete -c cif -n __cif_without_command -a train -d 'List the schedules of one train'
+complete -c cif -n __cif_without_command -a help -d 'Print the help of the program or of a command'
+complete -c cif -n __cif_without_command -s h -l help -d 'Print help'
+complete -c cif -n __cif_without_command -s V -l version -d 'Print the version'
+
+complete -c cif -n '__cif_in normalise check compare train' -l from -x -d 'First date of the window, YYMMDD'
+complete -c cif -n '__cif_in normalise check compare train' -l to -x -d 'Last date of the window, YYMMDD'
+complete -c cif -n '__cif_in normalise check train' -l form -x -a '1 2' -d 'How weeks are joined'
+complete -c cif -n '__cif_in normalise check compare day train' -s h -l help -d 'Print help'
+
+complete -c cif -n '__cif_at 0 normalise check compare' -F
+complete -c cif -n '__cif_at 1 compare day train' -F
+complete -c cif -n '__cif_at 0 help' -a 'normalise check compare day train help'
