@@ -1,0 +1,154 @@
+"""What the completions tell of the program's words. That of bash is asked; those of zsh and fish are read."""
+import re
+import shlex
+import subprocess
+from pathlib import Path
+
+from facts import COMMAND, OPTION, TAKES_VALUE, VALUE, NotUnderstood, Option, offer_fact, place_fact
+
+ASK_BASH = Path(__file__).with_name("offered.bash")
+
+# ---- bash
+
+
+def offered(completion, words):
+    """What bash offers for the last of the words: words, or `files`."""
+    done = subprocess.run(
+        ["bash", "--noprofile", "--norc", ASK_BASH, completion, *words], capture_output=True, text=True, check=False
+    )
+    if done.returncode != 0 or done.stderr:
+        raise NotUnderstood(f"bash says for {' '.join(words)}: {done.stderr}")
+    return sorted(done.stdout.splitlines())
+
+
+def bash_option_facts(completion, command, option, most):
+    """Of an option that is offered: whether it swallows a word, so that no place behind it moves, and which words."""
+    found = {(OPTION, option)}
+    behind = [["x"] * count + [""] for count in range(most + 1)]
+    if all(offered(completion, [command, option, "x", *rest]) == offered(completion, [command, *rest]) for rest in behind):
+        found.add((TAKES_VALUE, option))
+        found |= {(VALUE, f"{option} {value}") for value in offered(completion, [command, option, ""])}
+    return found
+
+
+def bash_facts(completion, most):
+    """The facts of each command that bash offers; it is asked for one place more than the most that a command has."""
+    names = offered(completion, [""])
+    facts = {"": {(COMMAND, name) for name in names} | {(OPTION, name) for name in offered(completion, ["-"])}}
+    for name in names:
+        facts[name] = set()
+        for option in offered(completion, [name, "-"]):
+            facts[name] |= bash_option_facts(completion, name, option, most)
+        for number in range(1, most + 2):
+            offers = offered(completion, [name] + ["x"] * (number - 1) + [""])
+            if offers:
+                what = "files" if offers == ["files"] else "commands" if offers == names else " ".join(offers)
+                facts[name].add(offer_fact(number, what))
+    return facts
+
+
+# ---- zsh
+
+ZSH_ARM = re.compile(r"^ {8}\(([a-z|]+)\)\n(.*?)^ {12};;\n", re.MULTILINE | re.DOTALL)
+ZSH_LISTED = re.compile(r"^ {8}'([a-z]+):[^']*'$", re.MULTILINE)
+ZSH_OPTION = re.compile(r"^(--[a-z]+)=\[[^]]*\]:(\w+):(?:\(([^()]*)\))?$")
+ZSH_FLAG = re.compile(r"^'\(- : \*\)'\{(-\w),(--[a-z]+)\}'\[[^]]*\]'$")
+ZSH_PLACE = re.compile(r"^:(:?)(\w+):(\w*)$")
+ZSH_ACTIONS = {"_files": "files", "_cif_commands": "commands", "": None}
+
+
+def zsh_specs(text):
+    """The specifications of a call of _arguments, one a line."""
+    lines = [line.strip().removesuffix("&& ret=0").removesuffix("\\").strip() for line in text.splitlines()]
+    return [line for line in lines if line and not line.startswith("_arguments")]
+
+
+def zsh_facts_of(specs):
+    found, number = set(), 0
+    for spec in specs:
+        flag = ZSH_FLAG.match(spec)
+        option = ZSH_OPTION.match(spec.strip("'"))
+        place = ZSH_PLACE.match(spec.strip("'"))
+        if flag:
+            found |= Option(list(flag.groups())).facts()
+        elif option:
+            found |= Option([option[1]], option[2], (option[3] or "").split()).facts()
+        elif place and place[3] in ZSH_ACTIONS:
+            number += 1
+            found.add(place_fact(number, f"[{place[2]}]" if place[1] else f"<{place[2]}>"))
+            if ZSH_ACTIONS[place[3]]:
+                found.add(offer_fact(number, ZSH_ACTIONS[place[3]]))
+        else:
+            raise NotUnderstood(f"_cif has: {spec}")
+    return found
+
+
+def zsh_facts(text):
+    listed = ZSH_LISTED.findall(text)
+    top = re.search(r"^ {4}_arguments -C \\\n(.*?)&& ret=0\n", text, re.MULTILINE | re.DOTALL)
+    if not listed or not top:
+        raise NotUnderstood("_cif has no list of commands, or no call of _arguments -C")
+    specs = zsh_specs(top[1])
+    if [spec for spec in specs if not ZSH_FLAG.match(spec)] != ["':COMMAND:_cif_commands'", "'*:: :->places'"]:
+        raise NotUnderstood("_cif has another first place than the command")
+    facts = {"": {(COMMAND, name) for name in listed} | zsh_facts_of(spec for spec in specs if ZSH_FLAG.match(spec))}
+    count = len(listed) + len(specs)
+    for names, body in ZSH_ARM.findall(text):
+        specs = zsh_specs(body)
+        count += len(specs)
+        for name in names.split("|"):
+            facts[name] = zsh_facts_of(specs)
+    # So no other line names a word.
+    if count != len(re.findall(r"^ +.*'", text, re.MULTILINE)):
+        raise NotUnderstood("_cif has quoted words elsewhere")
+    return facts
+
+
+# ---- fish
+
+FISH_WITHOUT = ["__cif_without_command"]
+
+
+def fish_flags(line):
+    """The flags of a call of complete, each with its word."""
+    words = shlex.split(line)[1:]
+    found = {}
+    while words:
+        flag = words.pop(0)
+        if flag in ("-f", "-F", "-x"):
+            found[flag] = ""
+        elif flag in ("-c", "-n", "-a", "-d", "-l", "-s") and words:
+            found[flag] = words.pop(0)
+        else:
+            raise NotUnderstood(f"cif.fish has: {line}")
+    return found
+
+
+def fish_option(flags):
+    names = [f"-{flags['-s']}"] if "-s" in flags else []
+    return Option([*names, f"--{flags['-l']}"], "VALUE" if "-x" in flags else "", flags.get("-a", "").split())
+
+
+def fish_facts(text):
+    calls = [fish_flags(line) for line in text.splitlines() if line.startswith("complete ")]
+    if {"-c": "cif", "-f": ""} not in calls:
+        raise NotUnderstood("cif.fish offers files everywhere")
+    calls.remove({"-c": "cif", "-f": ""})
+    swallowing = re.search(r"contains -- \$word (--.*)$", text, re.MULTILINE)
+    if not swallowing or set(swallowing[1].split()) != {f"--{flags['-l']}" for flags in calls if "-x" in flags}:
+        raise NotUnderstood("cif.fish counts the words behind other options than those with a value")
+    listed = [flags["-a"] for flags in calls if flags.get("-n", "").split() == FISH_WITHOUT and "-a" in flags]
+    facts = {"": {(COMMAND, name) for name in listed}}
+    for flags in calls:
+        condition, *words = flags.get("-n", "").split() or [""]
+        if "-l" in flags and ([condition] == FISH_WITHOUT or (condition == "__cif_in" and words)):
+            for name in words or [""]:
+                facts.setdefault(name, set()).update(fish_option(flags).facts())
+        elif condition == "__cif_at" and ("-F" in flags or "-a" in flags):
+            offers = "files" if "-F" in flags else flags["-a"]
+            offers = "commands" if offers.split() == listed else offers
+            for name in words[1:]:
+                facts.setdefault(name, set()).add(offer_fact(int(words[0]) + 1, offers))
+        elif [condition] != FISH_WITHOUT or "-a" not in flags:
+            raise NotUnderstood(f"cif.fish has a call of complete for {condition or 'no condition'}")
+    return facts

@@ -1,0 +1,101 @@
+"""What is told of a program's words: its commands, options, values and places, as facts that can be compared.
+
+A fact is a kind and a text. Not every text that names words tells all kinds: completions of bash have no names of values.
+"""
+from dataclasses import dataclass, field
+
+COMMAND, OPTION, TAKES_VALUE, VALUE_NAME, VALUE = "command", "option", "option with a value", "name of a value", "value"
+PLACE, OFFER = "place", "offer"
+
+# What a shell offers at a place, by the name that the help gives to the place.
+OFFERS = {"FILE": "files", "LEFT": "files", "RIGHT": "files", "COMMAND": "commands"}
+
+
+def bare(place):
+    """The name of a place without the signs around it."""
+    return place.strip("<>[].")
+
+
+class NotUnderstood(Exception):
+    """A text isn't of the form that is read here."""
+
+
+@dataclass
+class Option:
+    """An option: `-h` and `--help`, perhaps the name of its value, and the values where only some are right."""
+
+    names: list
+    value_name: str = ""
+    values: list = field(default_factory=list)
+
+    def facts(self):
+        last = self.names[-1]
+        found = {(OPTION, name) for name in self.names}
+        if self.value_name:
+            found |= {(TAKES_VALUE, last), (VALUE_NAME, f"{last} {self.value_name}")}
+        return found | {(VALUE, f"{last} {value}") for value in self.values}
+
+
+@dataclass
+class Command:
+    """A command, or the program itself: its options, and its places as usage has them, such as `[FILE]` or `<UID>`."""
+
+    options: list = field(default_factory=list)
+    places: list = field(default_factory=list)
+
+    def facts(self):
+        found = set()
+        for option in self.options:
+            found |= option.facts()
+        for number, place in enumerate(self.places, 1):
+            found.add(place_fact(number, place))
+            if bare(place) in OFFERS:
+                found.add(offer_fact(number, OFFERS[bare(place)]))
+        return found
+
+    def option(self, name):
+        return next((option for option in self.options if name in option.names), None)
+
+
+def place_fact(number, place):
+    """That there is a place; whether it can be repeated isn't asked."""
+    return PLACE, f"{number} {place.removesuffix('...')}"
+
+
+def offer_fact(number, what):
+    """That a shell offers something at a place."""
+    return OFFER, f"{what} at place {number}"
+
+
+def facts_of(program):
+    """The facts of each command by its name, and those of the program itself under the empty one."""
+    facts = {name: command.facts() for name, command in program.items()}
+    facts[""] |= {(COMMAND, name) for name in program if name}
+    return facts
+
+
+def mistake(program, words):
+    """What is wrong with the words of an example, the first of which is the command; nothing where they are right."""
+    name, rest = words[0], words[1:]
+    command = program.get(name)
+    if not name or not command:
+        return f"there is no command {name}"
+    given = 0
+    while rest:
+        word = rest.pop(0)
+        if not word.startswith("-"):
+            given += 1
+            continue
+        option = command.option(word)
+        if not option:
+            return f"{name} has no option {word}"
+        if option.value_name:
+            if not rest:
+                return f"{word} has no value"
+            value = rest.pop(0)
+            if option.values and value not in option.values:
+                return f"{word} doesn't take {value}"
+    least = sum(place.startswith("<") for place in command.places)
+    if not least <= given <= len(command.places):
+        return f"{name} takes {' '.join(command.places)}"
+    return ""

@@ -1,0 +1,173 @@
+"""What the manual page, in mdoc, tells of the program's words."""
+import re
+import shlex
+
+from facts import Command, NotUnderstood, Option, bare
+
+MACRO = re.compile(r"^\.(?P<name>[A-Z][a-z])(?: (?P<rest>.*))?$")
+CALLED = {"Fl", "Cm", "Ar", "Op", "Nm"}
+PUNCTUATION = {".", ",", ";", ":", ")", "|"}
+
+
+def macros(text):
+    """The lines that call a macro, each as the macro's name and its words."""
+    for line in text.splitlines():
+        match = MACRO.match(line)
+        if match:
+            try:
+                words = shlex.split(match["rest"] or "")
+            except ValueError:
+                words = (match["rest"] or "").split()
+            yield [match["name"], *words]
+
+
+def section(text, heading):
+    """The lines below the heading."""
+    match = re.search(rf"^\.Sh {re.escape(heading)}\n(.*?)(?=^\.Sh |\Z)", text, re.MULTILINE | re.DOTALL)
+    if not match:
+        raise NotUnderstood(f"there is no section {heading}")
+    return match.group(1)
+
+
+def marked(words):
+    """The words of a line with the macro that marks each: `Fl Fl from Ar YYMMDD` has --from and YYMMDD."""
+    macro, hyphens, found = None, 0, []
+    for word in words:
+        if word in CALLED:
+            if word == "Fl":
+                hyphens = hyphens + 1 if macro == "Fl" and hyphens else 1
+            macro = word
+        elif word in PUNCTUATION:
+            continue
+        elif macro == "Fl":
+            found.append(("Fl", "-" * hyphens + word))
+            hyphens = 0
+        elif macro in ("Cm", "Ar"):
+            found.append((macro, word))
+    return found
+
+
+def usage_part(words, where):
+    """An option or a place of the synopsis, or a command's name."""
+    optional = words[0] == "Op"
+    parts = marked(words[1:] if optional else words)
+    kinds = [kind for kind, _ in parts]
+    texts = [text for _, text in parts]
+    if kinds == ["Cm"] and not optional:
+        return "name", texts[0]
+    if kinds in (["Fl"], ["Fl", "Ar"]) and optional:
+        return "option", Option(texts[:1], texts[1] if len(texts) > 1 else "")
+    if kinds in (["Ar"], ["Ar", "Ar"]) and texts[1:] in ([], ["..."]):
+        return "place", (f"[{texts[0]}]" if optional else f"<{texts[0]}>") + "".join(texts[1:])
+    raise NotUnderstood(f"{where} has: {' '.join(words)}")
+
+
+def synopsis(text):
+    """The commands of the synopsis, and the program itself with the options that stand behind no command."""
+    program = {"": Command()}
+    command = None
+    for words in macros(section(text, "SYNOPSIS")):
+        if words == ["Nm"]:
+            command = None
+        elif command is None and words[0] == "Fl":
+            program[""].options += [Option([name]) for _, name in marked(words)]
+        else:
+            kind, part = usage_part(words, "SYNOPSIS")
+            if kind == "name" and command is None:
+                command = program.setdefault(part, Command())
+            elif kind == "option" and command:
+                command.options.append(part)
+            elif kind == "place" and command:
+                command.places.append(part)
+            else:
+                raise NotUnderstood(f"SYNOPSIS has: {' '.join(words)}")
+    return program
+
+
+def as_in_synopsis(program):
+    """The program as a synopsis tells it: options by their long names, and that of help for the program alone."""
+    found = {}
+    for name, command in program.items():
+        shown = [option for option in command.options if not name or "--help" not in option.names]
+        found[name] = Command([Option(option.names[-1:], option.value_name) for option in shown], command.places)
+    return found
+
+
+def tags(lines):
+    """The tags of the outer lists and those of the lists inside them: pairs of the depth and the words."""
+    depth = 0
+    for words in macros(lines):
+        if words[0] == "Bl":
+            depth += 1
+        elif words[0] == "El":
+            depth -= 1
+        elif words[0] == "It":
+            yield depth, words[1:]
+
+
+def commands(text):
+    """The commands of the section COMMANDS, each with its places."""
+    program = {"": Command()}
+    for depth, words in tags(section(text, "COMMANDS")):
+        if depth != 1:
+            continue
+        command, rest = Command(), words[2:]
+        if words[:1] != ["Cm"] or words[1] in program:
+            raise NotUnderstood(f"COMMANDS has: {' '.join(words)}")
+        program[words[1]] = command
+        while rest:
+            size = next((i for i in range(1, len(rest)) if rest[i] in ("Ar", "Op") and rest[i - 1] != "Op"), len(rest))
+            kind, part = usage_part(rest[:size], "COMMANDS")
+            if kind != "place":
+                raise NotUnderstood(f"COMMANDS has: {' '.join(words)}")
+            command.places.append(part)
+            rest = rest[size:]
+    return program
+
+
+def options(text):
+    """The options of the section OPTIONS, with the values that a list below one of them has."""
+    found = []
+    for depth, words in tags(section(text, "OPTIONS")):
+        parts = marked(words)
+        names = [name for kind, name in parts if kind == "Fl"]
+        values = [name for kind, name in parts if kind == "Ar"]
+        if depth == 1 and names and len(values) <= 1:
+            found.append(Option(names, "".join(values)))
+        elif depth == 2 and found and [kind for kind, _ in parts] == ["Cm"]:
+            found[-1].values.append(parts[0][1])
+        else:
+            raise NotUnderstood(f"OPTIONS has: {' '.join(words)}")
+    return found
+
+
+def mentioned(text):
+    """All commands, values, options and names that are marked anywhere on the page."""
+    found = set()
+    for words in macros(text):
+        found |= {part for part in marked(words) if part[1] != "..."}
+    return found
+
+
+def known(program):
+    """The same of the program, so that nothing else may be mentioned."""
+    found = {("Cm", name) for name in program if name}
+    for command in program.values():
+        found |= {("Ar", bare(place)) for place in command.places}
+        for option in command.options:
+            found |= {("Fl", name) for name in option.names} | {("Cm", value) for value in option.values}
+            found |= {("Ar", option.value_name)} if option.value_name else set()
+    return found
+
+
+def examples(text):
+    """The lines of the examples that call the program, each from its name on."""
+    found = []
+    for words in re.findall(r"^\.Dl \$ (.*)$", section(text, "EXAMPLES"), re.MULTILINE):
+        found += [part.strip() for part in words.split("|") if part.strip().startswith("cif ")]
+    return found
+
+
+def reasons(text):
+    """The names of the reasons in the section DIAGNOSTICS."""
+    return re.findall(r"^\.It Sy (\w+)$", section(text, "DIAGNOSTICS"), re.MULTILINE)

@@ -1,0 +1,100 @@
+"""What the program's help tells of its words."""
+import re
+import subprocess
+
+from facts import Command, NotUnderstood, Option
+
+OPTION_LINE = re.compile(r"^ {2,6}(?P<names>-\w(?:, --[\w-]+)?|--[\w-]+)(?: <(?P<value>[^<>]+)>)?(?:  |$)")
+CONTINUED = re.compile(r"^ {10}")
+POSSIBLE = re.compile(r"\[possible values: ([^]]*)\]")
+HEADING = re.compile(r"^([A-Z]\w*):$")
+
+
+def asked(cif, words):
+    """What the program prints for words that ask for help or for the version."""
+    done = subprocess.run([cif, *words], stdin=subprocess.DEVNULL, capture_output=True, text=True, check=False)
+    if done.returncode != 0 or done.stderr or not done.stdout.endswith("\n"):
+        raise NotUnderstood(f"{' '.join(['cif', *words])} has status {done.returncode} and says: {done.stderr}")
+    return done.stdout
+
+
+def sections(text):
+    """The lines below each heading of the help."""
+    found, current = {}, None
+    for line in text.splitlines():
+        heading = HEADING.match(line)
+        if heading:
+            current = found.setdefault(heading.group(1), [])
+        elif line and not line.startswith(" "):
+            current = None
+        elif line and current is not None:
+            current.append(line)
+    return found
+
+
+def items(lines):
+    """The lines of a section, each with the lines that go on from it behind a line break."""
+    found = []
+    for line in lines:
+        if CONTINUED.match(line) and found:
+            found[-1] += "\n" + line
+        else:
+            found.append(line)
+    return found
+
+
+def options_of(lines):
+    found = []
+    for item in items(lines):
+        match = OPTION_LINE.match(item.split("\n")[0])
+        if not match:
+            raise NotUnderstood(f"the help has the option: {item}")
+        possible = POSSIBLE.search(item)
+        values = possible.group(1).split(", ") if possible else re.findall(r"^ +- ([^\s:]+)", item, re.MULTILINE)
+        found.append(Option(match["names"].split(", "), match["value"] or "", values))
+    return found
+
+
+def places_of(text, called):
+    """The places that the usage line has behind what is called."""
+    usage = re.search(rf"^Usage: {called}( .*)?$", text, re.MULTILINE)
+    if not usage:
+        raise NotUnderstood(f"the help of {called} has no line of usage")
+    places = (usage.group(1) or "").replace(" [OPTIONS]", "").split()
+    for place in places:
+        if not re.match(r"^(<\w+>|\[\w+\](\.\.\.)?)$", place):
+            raise NotUnderstood(f"the usage of {called} has {place}")
+    return places
+
+
+def program_of(cif):
+    """The program's commands by their names, with the program itself under the empty one."""
+    text = asked(cif, ["--help"])
+    parts = sections(text)
+    program = {"": Command(options_of(parts.get("Options", [])))}
+    if places_of(text, "cif") != ["<COMMAND>"]:
+        raise NotUnderstood("the usage of cif isn't that of commands")
+    for name in (item.split()[0] for item in items(parts.get("Commands", []))):
+        # The command `help` has no option.
+        text = asked(cif, ["help", name] if name == "help" else [name, "--help"])
+        options = options_of(sections(text).get("Options", []))
+        program[name] = Command(options, places_of(text, f"cif {name}"))
+    return program
+
+
+def help_texts(cif, names):
+    """Each text of help that can be asked for, with the words that ask for it."""
+    asking = [["--help"], ["-h"], ["help"]]
+    asking += [[name, word] for name in names if name != "help" for word in ("--help", "-h")]
+    asking += [["help", name] for name in names]
+    found = {}
+    for words in asking:
+        found.setdefault(asked(cif, words), " ".join(["cif", *words]))
+    return found
+
+
+def examples(text):
+    """The words of the examples in a text of help: lines below `Example:` or `Examples:` that begin with cif."""
+    parts = sections(text)
+    lines = parts.get("Example", []) + parts.get("Examples", [])
+    return [line.strip() for line in lines if line.startswith("  cif ")]
