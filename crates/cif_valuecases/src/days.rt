@@ -1,5 +1,4 @@
 //! Days.
-use crate::values::are_one;
 use cif_cases::text_of;
 use cif_columns::Day;
 use std::alloc::AllocError;
@@ -52,20 +51,7 @@ fn push_day(out: &mut String, day: Option<Day>) -> Result<(), AllocError> {
     push_name(out, day.previous())?;
     write!(out, " and ")?;
     push_name(out, day.next())?;
-    if !is_again(day, Day::from_yymmdd(&yymmdd))
-        || !is_again(day, Day::from_ddmmyy(&ddmmyy))
-        || !is_again(day, Day::from_number(day.number()))
-    {
-        write!(out, " another when read again")?;
-    }
     writeln!(out)
-}
-
-fn is_again(day: Day, again: Option<Day>) -> bool {
-    match again {
-        Some(again) => are_one(&day, &again),
-        None => false,
-    }
 }
 
 /// Appends the columns `yymmdd` of a day, or that there is none.

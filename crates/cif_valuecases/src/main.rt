@@ -20,9 +20,7 @@
 //! - `HD`, `AA`: the plain line of a line that is read as a header, as an association.
 //! - `window first=YYMMDD last=YYMMDD`: the plain line of a header with this window.
 //!
-//! A line that is refused is answered by the reason and its number. Each value is read again from
-//! the columns that it is written in, and copied; where one of these is another value, the answer
-//! says so.
+//! A line that is refused is answered by the reason and its number.
 #![tactic(auto)]
 
 mod damaged;

@@ -1,90 +1,14 @@
 //! Values but days.
-ghost use Rattle.std.specs.Prelude.{◌≡◌, ◌≤◌, ◌↔◌, IsTrue};
+ghost use Rattle.std.specs.Prelude.{◌≤◌};
 
 use cif_cases::text_of;
-use cif_columns::{
-    Activities, Day, DaysRun, Line, PublicTime, Stp, Text, Uid, WorkTime, activities_at, text_at,
-    uid_at,
-};
+use cif_columns::{DaysRun, Line, PublicTime, Stp, Text, WorkTime, activities_at, text_at, uid_at};
 use std::alloc::AllocError;
 use std::fmt::Write;
 
-/// A type whose `==` and order are those of its values, so that it may be a key.
-pub(crate) trait Key: Ord {
-    ghost same: { (a b : Self) → IsTrue (Self.eq a b) ↔ (a ≡ b) };
-}
-
-impl Key for Day {
-    ghost use Rattle.std.proofs.Common.{rules};
-
-    ghost same = { Prim.search rules };
-}
-
-impl Key for DaysRun {
-    ghost use Rattle.std.proofs.Common.{rules};
-    ghost use Rattle.std.proofs.lemmas.Grind.{common_steps};
-    ghost use Rattle.std.specs.Cmp.Lexicographic.{pointwise_decides};
-
-    ghost same = { Prim.search (rules, common_steps, pointwise_decides) };
-}
-
-impl Key for Stp {
-    ghost use Rattle.std.proofs.Common.{rules};
-
-    ghost same = { Prim.search rules };
-}
-
-impl Key for Uid {
-    ghost use Rattle.std.proofs.Common.{rules};
-    ghost use Rattle.std.specs.Cmp.Lexicographic.{bytes_decides};
-
-    ghost same = { Prim.search (rules, bytes_decides) };
-}
-
-impl<const N: usize> Key for Text<N> {
-    ghost use Rattle.std.proofs.Common.{rules};
-    ghost use Rattle.std.specs.Cmp.Lexicographic.{bytes_decides};
-
-    ghost same = { Prim.search (rules, bytes_decides) };
-}
-
-impl Key for Activities {
-    ghost use Rattle.std.proofs.Common.{rules};
-    ghost use Rattle.std.specs.Cmp.Lexicographic.{pointwise_decides, bytes_decides};
-
-    ghost same = { Prim.search (rules, pointwise_decides, bytes_decides) };
-}
-
-impl Key for WorkTime {
-    ghost use Rattle.std.proofs.Common.{rules};
-    ghost use Rattle.std.specs.Cmp.Lexicographic.{bytes_decides};
-
-    ghost same = { Prim.search (rules, bytes_decides) };
-}
-
-impl Key for PublicTime {
-    ghost use Rattle.std.proofs.Common.{rules};
-    ghost use Rattle.std.specs.Cmp.Lexicographic.{bytes_decides};
-
-    ghost same = { Prim.search (rules, bytes_decides) };
-}
-
-/// Whether two values are one.
-pub(crate) fn are_one<K: Key>(one: &K, other: &K) -> bool
-    ensures { IsTrue result ↔ (one.now ≡ other.now) }
-{
-    one == other
-}
-
-/// Appends the columns that a value is written in, and whether it is the value that is read from
-/// them and the one that is copied.
-fn push_written(out: &mut String, columns: &[u8], is_again: bool) -> Result<(), AllocError> {
-    write!(out, "|{}|", text_of(columns))?;
-    if is_again {
-        Ok(())
-    } else {
-        write!(out, " another when read again or copied")
-    }
+/// Appends the columns that a value is written in.
+fn push_written(out: &mut String, columns: &[u8]) -> Result<(), AllocError> {
+    write!(out, "|{}|", text_of(columns))
 }
 
 /// The line that begins with these columns.
@@ -120,8 +44,7 @@ fn push_text_of<const N: usize>(out: &mut String, line: &Line) -> Result<(), All
 {
     let text: Text<N> = text_at(line, 1);
     let written = text.write();
-    let is_again = are_one(&text, &Text::read(&written)) && are_one(&text, &text.copy());
-    push_written(out, &written, is_again)?;
+    push_written(out, &written)?;
     writeln!(out)
 }
 
@@ -131,8 +54,7 @@ pub(crate) fn push_uid(out: &mut String, columns: &[u8]) -> Result<(), AllocErro
     };
     let uid = uid_at(&line, 1);
     let written = uid.write();
-    let is_again = are_one(&uid, &Uid::read(&written)) && are_one(&uid, &uid.copy());
-    push_written(out, &written, is_again)?;
+    push_written(out, &written)?;
     writeln!(out)
 }
 
@@ -142,8 +64,7 @@ pub(crate) fn push_activities(out: &mut String, columns: &[u8]) -> Result<(), Al
     };
     let codes = activities_at(&line, 1);
     let written = codes.write();
-    let is_again = are_one(&codes, &Activities::read(&written)) && are_one(&codes, &codes.copy());
-    push_written(out, &written, is_again)?;
+    push_written(out, &written)?;
     writeln!(out)
 }
 
@@ -152,8 +73,7 @@ pub(crate) fn push_work_time(out: &mut String, columns: &[u8]) -> Result<(), All
         return writeln!(out, "none");
     };
     let written = time.write();
-    let is_again = WorkTime::read(&written) == Some(time) && are_one(&time, &time.copy());
-    push_written(out, &written, is_again)?;
+    push_written(out, &written)?;
     writeln!(out)
 }
 
@@ -162,8 +82,7 @@ pub(crate) fn push_public_time(out: &mut String, columns: &[u8]) -> Result<(), A
         return writeln!(out, "none");
     };
     let written = time.write();
-    let is_again = PublicTime::read(&written) == Some(time) && are_one(&time, &time.copy());
-    push_written(out, &written, is_again)?;
+    push_written(out, &written)?;
     writeln!(out)
 }
 
@@ -184,7 +103,7 @@ pub(crate) fn push_weekday(out: &mut String, columns: &[u8]) -> Result<(), Alloc
 
 fn push_days_run(out: &mut String, days: DaysRun) -> Result<(), AllocError> {
     let written = days.write();
-    push_written(out, &written, DaysRun::read(&written) == Some(days))?;
+    push_written(out, &written)?;
     match (days.first(), days.last()) {
         (Some(first), Some(last)) => write!(out, " from {first} to {last}:")?,
         _ => write!(out, " no weekday")?,
@@ -206,7 +125,7 @@ pub(crate) fn push_letter(out: &mut String, columns: &[u8]) -> Result<(), AllocE
         return writeln!(out, "none");
     };
     let written = letter.write();
-    push_written(out, &[written], Stp::read(written) == Some(letter))?;
+    push_written(out, &[written])?;
     for other in [Stp::C, Stp::N, Stp::O, Stp::P] {
         if letter < other {
             write!(out, " before {other:?}")?;
