@@ -5,7 +5,7 @@ use crate::writers::writer_of;
 use crate::written::Written;
 use cif_canon::{Asked, Canon, Counts, canon, normalise, report, write_counts};
 use cif_cases::{Case, LINE_BYTES, text_of};
-use cif_columns::{Day, Sink, Source, WriteDevice, WriteFault};
+use cif_columns::{Sink, Source, WriteDevice, WriteFault};
 use cif_extract::{Extract, Fault, read_extract};
 use cif_weeks::Form;
 use std::alloc::{AllocError, Global};
@@ -24,7 +24,10 @@ pub(crate) fn push_normalise(
     let mut source = Source::new(reader);
     let mut sink = Sink::new(writer_of(case));
     let max_lines = u64::from(case.number("max", 1000));
-    let asked = asked_of(case);
+    let asked = Asked {
+        from: None,
+        to: None,
+    };
     let answer = normalise(
         alloc,
         &mut source,
@@ -72,17 +75,6 @@ fn push_line<T: Written>(alloc: Global, out: &mut String, written: &T) -> Result
         return Err(AllocError);
     }
     out.push_str(text_of(sink.writer().as_slice()))
-}
-
-fn asked_of(case: &Case) -> Asked {
-    Asked {
-        from: day_of(case.value("from_day")),
-        to: day_of(case.value("to_day")),
-    }
-}
-
-fn day_of(columns: Option<&str>) -> Option<Day> {
-    Day::from_yymmdd(columns?.as_bytes().as_array()?)
 }
 
 /// The form that the case asks for.

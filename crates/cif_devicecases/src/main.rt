@@ -31,9 +31,9 @@
 //!   don't make the same bytes when they are written, with bodies that are made again of their
 //!   parts, it says so.
 //! - `normalise form=1 max=N`: gives what a reader as above has to `normalise`, for a trial writer as
-//!   above that takes N bytes by the word `takes=N` (2,048 if left out). The form is 2 if left out,
-//!   and `from_day=YYMMDD` and `to_day=YYMMDD` ask for a part of the window. The answer is what the
-//!   writer has, the line of the counts or of the fault, and how often the writer was called.
+//!   above that takes N bytes by the word `takes=N` (2,048 if left out). The form is 2 if left out.
+//!   The answer is what the writer has, the line of the counts or of the fault, and how often the
+//!   writer was called.
 //! - `canon form=1`: the answer is the canonical text of the extract that the input is, and the line
 //!   of the counts, or that of the fault.
 //!

@@ -5,17 +5,17 @@ use Rattle.clap.specs.Words.{AddsSubcommand, App, Text, app_of, is_simple, is_si
 use Rattle.clap.specs.Simple.{app_of_fields}
 use Rattle.clap.specs.declared.Command.{Command}
 use Rattle.clap.specs.declared.Command.TheViews.{out-Command}
-use Rattle.cif_tool.specs.CommandLine.{IsCommand, cif, program}
+use Rattle.cif_tool.specs.CommandLine.{Forms, IsCommand, cif, program}
 
 -- `clap` says exactly what it makes of the command's words
-pub is_simple_cif : is_simple cif ≡ true
+pub is_simple_cif : (forms : Forms) → is_simple (cif forms) ≡ true
 unfolding cif
-is_simple_cif = refl
+is_simple_cif forms = refl
 
 -- and which kinds of error they have
-pub is_free_cif : is_simple_and_free cif ≡ true
+pub is_free_cif : (forms : Forms) → is_simple_and_free (cif forms) ≡ true
 unfolding cif
-is_free_cif = refl
+is_free_cif forms = refl
 
 abbrev telling : App → App
 telling a = record a { top = record a.top { has_version = true } }
@@ -24,15 +24,18 @@ abbrev requiring : App → App
 requiring a = record a { top = record a.top { subcommand_required = true } }
 
 -- the program's own settings, in the order of their calls
-pub program_made : (name : Text) (text : Bor Text) (new named versioned about requires : Command)
+pub program_made : (name : Text) (version about after : Bor Text) (new named versioned told more requires : Command)
     → app_of new ≡ new_app name → (out-Command new).has_globals ≡ false
     → out-Command named ≡ record (out-Command new) { bin_name = (out-Command named).bin_name }
-    → out-Command versioned ≡ record (out-Command named) { version = Some text }
-    → out-Command about ≡ record (out-Command versioned) { about = (out-Command about).about }
-    → out-Command requires ≡ record (out-Command about) { subcommand_required = true } → IsCommand (program name) requires
-program_made name text new named versioned about requires made none n v a r = record {
-  app = ap app_of_fields r ∙ ap requiring (ap app_of_fields a ∙ (ap app_of_fields v ∙ ap telling (ap app_of_fields n ∙ made)));
-  local = ap (λ f. f.has_globals) r ∙ ap (λ f. f.has_globals) a ∙ ap (λ f. f.has_globals) v ∙ ap (λ f. f.has_globals) n ∙ none;
+    → out-Command versioned ≡ record (out-Command named) { version = Some version }
+    → out-Command told ≡ record (out-Command versioned) { about = Some about }
+    → out-Command more ≡ record (out-Command told) { after_help = Some after }
+    → out-Command requires ≡ record (out-Command more) { subcommand_required = true } → IsCommand (program name) requires
+program_made name version about after new named versioned told more requires made none n v a m r = record {
+  app = ap app_of_fields r
+      ∙ ap requiring (ap app_of_fields m ∙ (ap app_of_fields a ∙ (ap app_of_fields v ∙ ap telling (ap app_of_fields n ∙ made))));
+  local = ap (λ f. f.has_globals) r ∙ ap (λ f. f.has_globals) m ∙ ap (λ f. f.has_globals) a ∙ ap (λ f. f.has_globals) v
+      ∙ ap (λ f. f.has_globals) n ∙ none;
 }
 
 -- one more subcommand

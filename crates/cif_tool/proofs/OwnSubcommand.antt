@@ -13,15 +13,12 @@ use Rattle.clap.specs.Kinds.{Kinds, check_kinds}
 use Rattle.clap.specs.Faults.{check_fault, defaults_fault, entered_fault, level_fault, settle_fault, walk_fault}
 use Rattle.clap.specs.Walk.{Held, Names, answers_to, finished, nothing_held, settled, stop_after, walk, walk_from}
 use Rattle.clap.specs.Simple.{argument_words, built, entered, label_of, names_of, rows_at}
+use Rattle.cif_tool.proofs.Each.{Each}
 use Rattle.cif_tool.proofs.FirstFault.{first_passes, later_passes}
+use Rattle.cif_tool.proofs.GivenWords.{required_given}
 use Rattle.cif_tool.proofs.HelpNotEntered.{IsNotHelp, IsOn, walk_on}
-use Rattle.cif_tool.specs.CommandLine.{chosen, cif, faults_of}
+use Rattle.cif_tool.specs.CommandLine.{Forms, chosen, cif, faults_of}
 use Rattle.cif_tool.specs.Job.{IsTaken}
-
--- each element of the list has P
-abbrev Each : {X : Type 0} → (X → Type 0) → List X → Type 0
-Each P [] = Unit {0}
-Each P (x ∷ xs) = P x × Each P xs
 
 -- where the subcommand is named, by another name than `help`, and takes its words, Q holds of its name and its matches
 abbrev TakenHas : (Text × List Row → Type 0) → Shape → Type 0
@@ -117,11 +114,31 @@ not_help name on is =
     let same : codes "help" ≡ name = (bytes_eq-Decides (codes "help") name).0 (or_true (bytes_eq (codes "help") name) is) in
     true≢false (sym ((bytes_eq-Decides name (codes "help")).1 (sym same)) ∙ on)
 
--- where `clap` takes the words, it enters a subcommand of the program's own
-pub enters_own : (words : List Text) → faults_of words ≡ [] → IsSomeAnd (chosen words) IsTaken
+-- where `clap` takes the words, it enters a subcommand of the program's own, with the words that it wants
+pub enters_own : (forms : Forms) (words : List Text) → faults_of forms words ≡ [] → IsSomeAnd (chosen forms words) IsTaken
 unfolding cif chosen faults_of
-enters_own words e =
-    takes_own IsTaken cif words refl refl (
+enters_own forms words e =
+    takes_own IsTaken (cif forms) words refl refl (
       λ name on is ws h. inl refl,
-      (λ name on is ws h. inr refl, (λ name on is ws h. absurd (not_help name on is), tt)),
+      (
+        λ name on is ws h. inr (inl refl),
+        (
+          λ name on is ws h.
+              let given = required_given _ ws (inl (refl, refl),
+                  (inl (refl, refl), (inl (refl, refl), (inl (refl, refl), (inr refl, tt))))) h in
+              inr (inr (inl (refl, given.0 refl, given.1.0 refl))),
+          (
+            λ name on is ws h.
+                let given = required_given _ ws (inl (refl, refl), (inl (refl, refl), (inr refl, tt))) h in
+                inr (inr (inr (inl (refl, given.0 refl)))),
+            (
+              λ name on is ws h.
+                  let given = required_given _ ws (inl (refl, refl),
+                      (inl (refl, refl), (inl (refl, refl), (inl (refl, refl), (inl (refl, refl), (inr refl, tt)))))) h in
+                  inr (inr (inr (inr (refl, given.0 refl)))),
+              (λ name on is ws h. absurd (not_help name on is), tt),
+            ),
+          ),
+        ),
+      ),
     ) e

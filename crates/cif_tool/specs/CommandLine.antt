@@ -1,25 +1,68 @@
 -- The command line of `cif`, as `clap` reads it.
-use Rattle.std.specs.Prelude.{◌≡◌, List, Option, codes, true, false}
+use Rattle.std.specs.Prelude.{◌≡◌, List, [], ◌∷◌, Option, Some, codes, map, true, false}
+use Rattle.std.specs.Borrow.{Bor}
 use Rattle.clap.specs.Words.{App, Row, Rule, Text, app_of, fault_of, new_app, new_rule, subcommand_of, with_rule, with_subcommand}
 use Rattle.clap.specs.Kinds.{Kinds}
 use Rattle.clap.specs.declared.Command.{Command}
 use Rattle.clap.specs.declared.Command.TheViews.{out-Command}
+use Rattle.clap.specs.declared.builder.ValueParser.TheVariants.{Names}
 
 -- a word that may be left out
 abbrev pub optional : Text → Rule
 optional id = new_rule id
 
--- `cif NAME [FILE]`
-abbrev pub of_one_file : Text → App
-of_one_file name = with_rule (new_app name) (optional (codes "FILE"))
+-- a word that may not
+abbrev pub required : Text → Rule
+required id = record (new_rule id) { required = true }
+
+-- an option with a value: `--ID VALUE`
+abbrev pub option : Text → Rule
+option id = record (new_rule id) { long = Some id; value_names = 1 }
+
+-- where the program keeps the words that name a form: a command line borrows them
+abbrev pub Forms : Type 0
+Forms = Bor (List (Bor Text))
+
+-- the words that name a form are `1` and `2`
+abbrev pub AreForms : Forms → Type 0
+AreForms forms = map (λ word. word.now) forms.now ≡ codes "1" ∷ codes "2" ∷ []
+
+-- `--form FORM`, which is one of these words, and `2` where it is left out
+abbrev pub form_option : Forms → Rule
+form_option forms = record (option (codes "form")) { parser = Some (Names forms); defaults = codes "2" ∷ [] }
+
+-- `--from YYMMDD` and `--to YYMMDD` too
+abbrev pub with_dates : App → App
+with_dates a = with_rule (with_rule a (option (codes "from"))) (option (codes "to"))
+
+-- `cif NAME [--from YYMMDD] [--to YYMMDD] [--form FORM] [FILE]`
+abbrev pub canonical : Text → Forms → App
+canonical name forms = with_rule (with_dates (with_rule (new_app name) (optional (codes "FILE")))) (form_option forms)
+
+-- `cif compare [--from YYMMDD] [--to YYMMDD] LEFT RIGHT`
+abbrev pub compare : App
+compare = with_dates (with_rule (with_rule (new_app (codes "compare")) (required (codes "LEFT"))) (required (codes "RIGHT")))
+
+-- `cif day YYMMDD [FILE]`
+abbrev pub day : App
+day = with_rule (with_rule (new_app (codes "day")) (required (codes "YYMMDD"))) (optional (codes "FILE"))
+
+-- `cif train [--from YYMMDD] [--to YYMMDD] [--form FORM] UID [FILE]`
+abbrev pub train : Forms → App
+train forms =
+    with_rule (with_dates (with_rule (with_rule (new_app (codes "train")) (required (codes "UID"))) (optional (codes "FILE"))))
+    (form_option forms)
 
 -- a program that tells its version and wants a subcommand
 abbrev pub program : Text → App
 program name = let made = new_app name in record made { top = record made.top { has_version = true; subcommand_required = true } }
 
--- the program `cif` with its subcommands `normalise` and `check`
-unfoldable pub cif : App
-cif = with_subcommand (with_subcommand (program (codes "cif")) (of_one_file (codes "normalise")).top) (of_one_file (codes "check")).top
+-- the program `cif` with its five subcommands
+unfoldable pub cif : Forms → App
+cif forms = with_subcommand (with_subcommand (with_subcommand (with_subcommand (with_subcommand (program (codes "cif"))
+    (canonical (codes "normalise") forms).top)
+    (canonical (codes "check") forms).top)
+    compare.top) day.top) (train forms).top
 
 -- the command is built as `a` says, and no argument is global
 pub record IsCommand (a : App) (c : Command) : Type 0 where
@@ -27,9 +70,9 @@ pub record IsCommand (a : App) (c : Command) : Type 0 where
   pub local : (out-Command c).has_globals ≡ false
 
 -- the subcommand that `clap` enters at these words, with its matches
-unfoldable pub chosen : List Text → Option (Text × List Row)
-chosen words = subcommand_of cif words
+unfoldable pub chosen : Forms → List Text → Option (Text × List Row)
+chosen forms words = subcommand_of (cif forms) words
 
 -- the kinds of error that `clap` may give at these words; none where it takes them
-unfoldable pub faults_of : List Text → Kinds
-faults_of words = fault_of cif words
+unfoldable pub faults_of : Forms → List Text → Kinds
+faults_of forms words = fault_of (cif forms) words

@@ -1,20 +1,76 @@
 -- What the words of a call ask for.
-use Rattle.std.specs.Prelude.{◌≡◌, ◌⊎◌, List, [], option_map, string_bytes, IsSomeAnd, codes}
+use Rattle.std.specs.Prelude.{◌≡◌, ◌⊎◌, ⊤, ℕ, List, [], Option, Some, None, option_map, string_bytes, IsSomeAnd, is_some, true, codes}
+use Rattle.std.specs.Prelude.{if◌then◌else◌}
+use Rattle.std.specs.Str.{bytes_eq}
 use Rattle.clap.specs.Words.{Row, Text, first_of}
-use Rattle.cif_tool.specs.CommandLine.{chosen, faults_of}
+use Rattle.cif_canon.specs.declared.asked.Asked.{Asked}
+use Rattle.cif_columns.specs.Day.{StandsInYymmdd}
+use Rattle.cif_columns.specs.Uid.{IsUid}
+use Rattle.cif_weeks.specs.declared.form.Form.{Form}
+use Rattle.cif_weeks.specs.declared.form.Form.TheVariants.{One, Two}
+use Rattle.cif_tool.specs.CommandLine.{AreForms, Forms, chosen, faults_of}
 use Rattle.cif_tool.specs.declared.job.Job.{Job}
-use Rattle.cif_tool.specs.declared.job.Job.TheVariants.{Check, Normalise}
+use Rattle.cif_tool.specs.declared.job.Job.TheVariants.{Check, Compare, Day, Normalise, Train}
+
+-- the matches have a word of this id
+abbrev pub HasWord : Text → List Row → Type 0
+HasWord id rows = is_some (first_of id rows) ≡ true
+
+-- the file's name is the one that the matches have, or neither is there
+abbrev pub HasFile : List Row → Option Text → Type 0
+HasFile rows name = name ≡ first_of (codes "FILE") rows
+
+-- the word names the day, by six digits YYMMDD, or neither is there
+abbrev pub IsDateOf : Option Text → Option ℕ → Type 0
+IsDateOf (Some word) (Some day) = StandsInYymmdd word day
+IsDateOf None None = ⊤
+IsDateOf _ _ = ⊥
+
+-- the window is asked for by the words of `--from` and `--to`
+pub record IsAskedBy (rows : List Row) (asked : Asked) : Type 0 where
+  pub from : IsDateOf (first_of (codes "from") rows) asked.from
+  pub to : IsDateOf (first_of (codes "to") rows) asked.to
+
+-- the form that the word of `--form` names
+abbrev pub form_of : Option Text → Form
+form_of (Some word) = if bytes_eq word (codes "1") then One else Two
+form_of None = Two
+
+-- the six columns of the word are a UID, and it is this one
+abbrev pub IsUidWord : Text → List ℕ → Type 0
+IsUidWord word uid = IsUid word × (uid ≡ word)
+
+-- the matches name this file, this window and this form
+pub record AreCanonicalWords (rows : List Row) (name : Option Text) (asked : Asked) (form : Form) : Type 0 where
+  pub has_file : HasFile rows name
+  pub is_asked : IsAskedBy rows asked
+  pub is_form : form ≡ form_of (first_of (codes "form") rows)
 
 -- the subcommand is the job's, and its matches hold what the job holds
 abbrev pub IsChosen : Job → Text × List Row → Type 0
-IsChosen (Normalise file) met = (met.0 ≡ codes "normalise") × (option_map string_bytes file ≡ first_of (codes "FILE") met.1)
-IsChosen (Check file) met = (met.0 ≡ codes "check") × (option_map string_bytes file ≡ first_of (codes "FILE") met.1)
+IsChosen (Normalise file asked form) met = (met.0 ≡ codes "normalise") × AreCanonicalWords met.1 (option_map string_bytes file) asked form
+IsChosen (Check file asked form) met = (met.0 ≡ codes "check") × AreCanonicalWords met.1 (option_map string_bytes file) asked form
+IsChosen (Compare left right asked) met = (met.0 ≡ codes "compare")
+    × (Some (string_bytes left) ≡ first_of (codes "LEFT") met.1)
+    × (Some (string_bytes right) ≡ first_of (codes "RIGHT") met.1)
+    × IsAskedBy met.1 asked
+IsChosen (Day day file) met = (met.0 ≡ codes "day")
+    × IsDateOf (first_of (codes "YYMMDD") met.1) (Some day)
+    × HasFile met.1 (option_map string_bytes file)
+IsChosen (Train uid file asked form) met = (met.0 ≡ codes "train")
+    × IsSomeAnd (first_of (codes "UID") met.1) (λ word. IsUidWord word uid)
+    × AreCanonicalWords met.1 (option_map string_bytes file) asked form
 
--- the subcommand is one of the program's own
+-- the subcommand is one of the program's own, with the words that it wants
 abbrev pub IsTaken : Text × List Row → Type 0
-IsTaken met = (met.0 ≡ codes "normalise") ⊎ (met.0 ≡ codes "check")
+IsTaken met = (met.0 ≡ codes "normalise") ⊎ ((met.0 ≡ codes "check")
+    ⊎ (((met.0 ≡ codes "compare") × HasWord (codes "LEFT") met.1 × HasWord (codes "RIGHT") met.1)
+    ⊎ (((met.0 ≡ codes "day") × HasWord (codes "YYMMDD") met.1)
+    ⊎ ((met.0 ≡ codes "train") × HasWord (codes "UID") met.1))))
 
 -- `clap` takes the words, enters the job's subcommand and finds what the job holds
 pub record Asks (words : List Text) (job : Job) : Type 0 where
-  pub taken : faults_of words ≡ []
-  pub chosen : IsSomeAnd (chosen words) (IsChosen job)
+  pub forms : Forms
+  pub are_forms : AreForms forms
+  pub taken : faults_of forms words ≡ []
+  pub chosen : IsSomeAnd (chosen forms words) (IsChosen job)

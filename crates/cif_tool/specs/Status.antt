@@ -1,8 +1,14 @@
--- The statuses of faults.
-use Rattle.std.specs.Prelude.{ℕ}
+-- The statuses that the program exits with, and what it tells of a fault.
+use Rattle.std.specs.Prelude.{◌≡◌, ℕ, List, Option, Result, Ok, Err}
+use Rattle.cif_columns.specs.Sink.{Writes}
+use Rattle.cif_columns.specs.declared.sink.Sink.{Sink}
+use Rattle.cif_columns.specs.declared.sink.WriteFault.{WriteFault}
 use Rattle.cif_extract.specs.declared.fault.Fault.{Fault}
 use Rattle.cif_extract.specs.declared.fault.Fault.TheVariants.{Refused, Ambiguous, WindowsDiffer, OutsideWindow, WindowReversed, Read}
 use Rattle.cif_extract.specs.declared.fault.Fault.TheVariants.{Write, Memory}
+use Rattle.cif_canon.specs.Report.{fault_line}
+use Rattle.cif_canon.specs.declared.comparison.Comparison.{Comparison}
+use Rattle.cif_canon.specs.declared.comparison.Comparison.TheVariants.{Same, Tiploc, Association, Train}
 
 -- a refusal of the input is 3; a failed device, and want of memory, is 4
 abbrev pub status_of : Fault → ℕ
@@ -14,3 +20,21 @@ status_of WindowReversed = 3
 status_of Read = 4
 status_of Write = 4
 status_of Memory = 4
+
+-- no difference is 0, and a difference is 1
+abbrev pub outcome_of : Comparison → ℕ
+outcome_of Same = 0
+outcome_of (Tiploc tiploc) = 1
+outcome_of (Association key day) = 1
+outcome_of (Train uid day) = 1
+
+-- the status that an answer ends with: its own, or that of its fault
+abbrev pub end_status : Result ℕ Fault → ℕ
+end_status (Ok status) = status
+end_status (Err fault) = status_of fault
+
+-- what an answer owes the sink of faults: the line of its fault, as far as it could be written, and else nothing
+abbrev pub TellsFault : {W : Type 0} → (W → Option (List ℕ)) → (W → Option ℕ) → Result ℕ Fault → Sink W → Sink W → Type 0
+TellsFault contents errors (Ok status) old new = new ≡ old
+TellsFault contents errors (Err fault) old new = (told : Result (Unit {0}) WriteFault) × Writes contents errors (fault_line fault) old
+    new told

@@ -1,25 +1,14 @@
-//! The command line of `cif`, and what its words ask for.
-ghost use Rattle.std.specs.Prelude.{◌≡◌, ◌≢◌, ◌⊎◌, IfOk, IfErr, IsSomeAnd, codes, false, map};
-ghost use Rattle.std.specs.Prelude.{option_map, string_bytes};
-ghost use Rattle.clap.specs.Words.{FailsBy, app_of, first_of, found_of, kind_of, rows_of, rule_of};
-ghost use Rattle.clap.specs.Words.{subcommand_rows_of};
-ghost use Rattle.cif_tool.specs.CommandLine.{IsCommand, chosen, cif, faults_of};
-ghost use Rattle.cif_tool.specs.CommandLine.{of_one_file, optional};
-ghost use Rattle.cif_tool.specs.Job.{Asks, IsChosen, IsTaken};
-ghost use Rattle.cif_tool.specs.JobFault.{IsFaultOf};
+//! The command line of `cif`.
+ghost use Rattle.std.specs.Prelude.{◌≡◌, IfOk, false, map, string_bytes};
+ghost use Rattle.clap.specs.Words.{FailsBy, app_of, rule_of, subcommand_rows_of};
+ghost use Rattle.clap.specs.declared.Command.TheViews.{out-Command};
+ghost use Rattle.cif_tool.specs.CommandLine.{IsCommand, canonical, chosen, cif, compare, day};
+ghost use Rattle.cif_tool.specs.CommandLine.{faults_of, form_option, option, optional, required};
+ghost use Rattle.cif_tool.specs.CommandLine.{train, with_dates};
 
-use crate::job::{Job, JobFault};
-use clap::error::ErrorKind;
+use crate::help;
 use clap::{Arg, ArgMatches, Command};
 use std::alloc::{AllocError, Global};
-
-const NORMALISE: &str = "Writes the canonical extract";
-
-const CHECK: &str = "Says how many records the canonical extract has, or why there is none";
-
-const FILE_HELP: &str = "The extract to read [default: standard input]";
-
-// ---- the command line
 
 /// A word that may be left out.
 fn optional<'a>(alloc: Global, id: &'a str, help: &'a str) -> Arg<'a>
@@ -29,110 +18,126 @@ fn optional<'a>(alloc: Global, id: &'a str, help: &'a str) -> Arg<'a>
     Arg::new(alloc, id).help(help)
 }
 
-fn of_one_file<'a>(alloc: Global, name: &'a str, about: &'a str) -> Result<Command<'a>, AllocError>
-    ensures { IfOk result (IsCommand (of_one_file name.entry.now)) }
+/// A word that may not.
+fn required<'a>(alloc: Global, id: &'a str, help: &'a str) -> Arg<'a>
+    ensures rule { rule_of result ≡ required id.entry.now }
+    ensures local { result.global ≡ false }
 {
-    Command::new(alloc, name)
-        .about(about)
-        .arg(optional(alloc, "FILE", FILE_HELP))
+    Arg::new(alloc, id).required(true).help(help)
 }
 
-/// The command line of `cif`.
-fn cif_command<'a>(alloc: Global) -> Result<Command<'a>, AllocError>
-    ensures { IfOk result (IsCommand cif) }
+/// `--ID YYMMDD`.
+fn date_option<'a>(alloc: Global, id: &'a str, help: &'a str) -> Arg<'a>
+    ensures rule { rule_of result ≡ option id.entry.now }
+    ensures local { result.global ≡ false }
+{
+    Arg::new(alloc, id).long(id).value_name("YYMMDD").help(help)
+}
+
+/// `--form FORM`, which is one of the two words.
+fn form_option<'a>(alloc: Global, forms: &'a [&'a str]) -> Arg<'a>
+    ensures rule { rule_of result ≡ form_option forms.entry }
+    ensures local { result.global ≡ false }
+{
+    Arg::new(alloc, "form")
+        .long("form")
+        .value_name("FORM")
+        .value_parser(forms)
+        .default_value("2")
+        .help(help::FORM)
+}
+
+/// The command, with the options for a narrower window.
+fn with_dates<'a>(alloc: Global, command: Command<'a>) -> Result<Command<'a>, AllocError>
+    requires { (out-Command command).has_globals ≡ false }
+    ensures { IfOk result (IsCommand (with_dates (app_of command.entry))) }
+{
+    command
+        .arg(date_option(alloc, "from", help::FROM))?
+        .arg(date_option(alloc, "to", help::TO))
+}
+
+/// `normalise` or `check`: what makes the canonical extract of a file.
+fn canonical<'a>(
+    alloc: Global,
+    name: &'a str,
+    about: &'a str,
+    more: &'a str,
+    forms: &'a [&'a str],
+) -> Result<Command<'a>, AllocError>
+    ensures { IfOk result (IsCommand (canonical name.entry.now forms.entry)) }
+{
+    let command = Command::new(alloc, name)
+        .about(about)
+        .after_help(more)
+        .arg(optional(alloc, "FILE", help::FILE))?;
+    with_dates(alloc, command)?.arg(form_option(alloc, forms))
+}
+
+fn compare<'a>(alloc: Global) -> Result<Command<'a>, AllocError>
+    ensures { IfOk result (IsCommand compare) }
+{
+    let command = Command::new(alloc, "compare")
+        .about(help::COMPARE)
+        .after_help(help::COMPARE_MORE)
+        .arg(required(alloc, "LEFT", help::LEFT))?
+        .arg(required(alloc, "RIGHT", help::RIGHT))?;
+    with_dates(alloc, command)
+}
+
+fn day<'a>(alloc: Global) -> Result<Command<'a>, AllocError>
+    ensures { IfOk result (IsCommand day) }
+{
+    Command::new(alloc, "day")
+        .about(help::DAY)
+        .after_help(help::DAY_MORE)
+        .arg(required(alloc, "YYMMDD", help::DATE))?
+        .arg(optional(alloc, "FILE", help::FILE))
+}
+
+fn train<'a>(alloc: Global, forms: &'a [&'a str]) -> Result<Command<'a>, AllocError>
+    ensures { IfOk result (IsCommand (train forms.entry)) }
+{
+    let command = Command::new(alloc, "train")
+        .about(help::TRAIN)
+        .after_help(help::TRAIN_MORE)
+        .arg(required(alloc, "UID", help::UID))?
+        .arg(optional(alloc, "FILE", help::FILE))?;
+    with_dates(alloc, command)?.arg(form_option(alloc, forms))
+}
+
+/// The command line of `cif`, with the words that name a form.
+fn cif_command<'a>(alloc: Global, forms: &'a [&'a str]) -> Result<Command<'a>, AllocError>
+    ensures { IfOk result (IsCommand (cif forms.entry)) }
 {
     Command::new(alloc, "cif")
         .bin_name("cif")?
         .version("0.1.0")
-        .about("Normalises extracts of the CIF timetable format")
+        .about(help::CIF)
+        .after_help(help::CIF_MORE)
         .subcommand_required(true)
-        .subcommand(of_one_file(alloc, "normalise", NORMALISE)?)?
-        .subcommand(of_one_file(alloc, "check", CHECK)?)
+        .subcommand(canonical(
+            alloc,
+            "normalise",
+            help::NORMALISE,
+            help::NORMALISE_MORE,
+            forms,
+        )?)?
+        .subcommand(canonical(alloc, "check", help::CHECK, help::CHECK_MORE, forms)?)?
+        .subcommand(compare(alloc)?)?
+        .subcommand(day(alloc)?)?
+        .subcommand(train(alloc, forms)?)
 }
 
 /// The matches that `clap` gives for the words, of which the first is the program's name.
-fn matches_of<'a>(alloc: Global, words: &'a [String]) -> Result<ArgMatches<'a>, clap::Error>
+pub(crate) fn matches_of<'a>(
+    alloc: Global,
+    forms: &'a [&'a str],
+    words: &'a [String],
+) -> Result<ArgMatches<'a>, clap::Error>
     ensures ok { IfOk result (λ matches. subcommand_rows_of matches
-        ≡ chosen (map string_bytes words.entry.now)) }
-    ensures kinds { FailsBy (faults_of (map string_bytes words.entry.now)) result }
+        ≡ chosen forms.entry (map string_bytes words.entry.now)) }
+    ensures kinds { FailsBy (faults_of forms.entry (map string_bytes words.entry.now)) result }
 {
-    cif_command(alloc)?.try_get_matches_from(words)
-}
-
-// ---- what the matches hold
-
-fn word_of<'a>(matches: &ArgMatches<'a>, id: &str) -> Option<&'a str>
-    ensures { option_map (λ word. word.now) result
-        ≡ first_of id.now (rows_of (found_of matches.now)) }
-{
-    matches.get_str(id)
-}
-
-/// The file that the words name, if they name one.
-fn file_of(alloc: Global, matches: &ArgMatches<'_>) -> Result<Option<String>, AllocError>
-    ensures { IfOk result (λ file. option_map string_bytes file
-        ≡ first_of (codes "FILE") (rows_of (found_of matches.now))) }
-{
-    match word_of(matches, "FILE") {
-        Some(name) => Ok(Some(String::from_str(alloc, name)?)),
-        None => Ok(None),
-    }
-}
-
-// ---- the jobs
-
-fn normalise_job(alloc: Global, matches: &ArgMatches<'_>) -> Result<Job, JobFault>
-    ensures ok { IfOk result (λ job. IsChosen job
-        (codes "normalise", rows_of (found_of matches.now))) }
-    ensures err { IfErr result (λ fault. fault ≡ JobFault.Memory) }
-{
-    Ok(Job::Normalise {
-        file: file_of(alloc, matches)?,
-    })
-}
-
-fn check_job(alloc: Global, matches: &ArgMatches<'_>) -> Result<Job, JobFault>
-    ensures ok { IfOk result (λ job. IsChosen job
-        (codes "check", rows_of (found_of matches.now))) }
-    ensures err { IfErr result (λ fault. fault ≡ JobFault.Memory) }
-{
-    Ok(Job::Check {
-        file: file_of(alloc, matches)?,
-    })
-}
-
-fn chosen_job(alloc: Global, matches: &ArgMatches<'_>) -> Result<Job, JobFault>
-    requires { IsSomeAnd (subcommand_rows_of matches.now) IsTaken }
-    ensures ok { IfOk result (λ job. IsSomeAnd (subcommand_rows_of matches.now) (IsChosen job)) }
-    ensures err { IfErr result (λ fault. fault ≡ JobFault.Memory) }
-{
-    match matches.subcommand() {
-        Some(("normalise", inner)) => normalise_job(alloc, inner),
-        Some(("check", inner)) => check_job(alloc, inner),
-        _ => unreachable!(),
-    }
-}
-
-fn fault_of_error(error: clap::Error) -> JobFault
-    ensures { ((kind_of error ≡ ErrorKind.OutOfMemory) × (result ≡ JobFault.Memory))
-        ⊎ ((kind_of error ≢ ErrorKind.OutOfMemory) × (result ≡ JobFault.Usage error)) }
-{
-    match error.kind() {
-        ErrorKind::OutOfMemory => JobFault::Memory,
-        _ => JobFault::Usage(error),
-    }
-}
-
-/// What the words of a call ask for, of which the first is the program's name.
-///
-/// `Usage` comes where `clap` refuses the words, or where they ask for help or for the version;
-/// `Memory` where a growth was refused, `clap`'s or this call's own.
-pub fn job_of(alloc: Global, words: Vec<String>) -> Result<Job, JobFault>
-    ensures asked { IfOk result (Asks (map string_bytes words.items)) }
-    ensures refused { IfErr result (IsFaultOf (map string_bytes words.items)) }
-{
-    match matches_of(alloc, words.as_slice()) {
-        Ok(matches) => chosen_job(alloc, &matches),
-        Err(error) => Err(fault_of_error(error)),
-    }
+    cif_command(alloc, forms)?.try_get_matches_from(words)
 }

@@ -1,60 +1,39 @@
-//! What a call of `cif` asks for, or why it asks for nothing.
-ghost use Rattle.std.specs.Prelude.{◌≡◌, option_map};
-
-use clap::error::ErrorKind;
-use std::alloc::AllocError;
+//! What a call of `cif` asks for.
+use cif_canon::Asked;
+use cif_columns::{Day, Uid};
+use cif_weeks::Form;
 
 /// What a call of `cif` asks for. A file that isn't named is the standard input.
 #[derive(Debug, Drop)]
 pub enum Job {
     /// To write the canonical extract.
-    Normalise { file: Option<String> },
+    Normalise {
+        file: Option<String>,
+        asked: Asked,
+        form: Form,
+    },
     /// To say how many records the canonical extract has, or why there is none.
-    Check { file: Option<String> },
-}
-
-/// Why a call of `cif` asks for nothing.
-#[derive(Debug, Drop)]
-pub enum JobFault {
-    /// A mistake in the words, or a request for help or for the version. `clap` has its text.
-    Usage(clap::Error),
-    /// A growth was refused.
-    Memory,
-}
-
-impl From<AllocError> for JobFault {
-    ghost use Rattle.cif_tool.specs.declared.job.JobFault.TheVariants.{Memory};
-
-    ghost from_gives = { λ _ fault. fault ≡ Memory };
-
-    fn from(_error: AllocError) -> JobFault {
-        JobFault::Memory
-    }
-}
-
-impl JobFault {
-    ghost use Rattle.cif_tool.specs.JobFault.{status_of, text_of};
-
-    /// The status that the program exits with.
-    pub fn status(&self) -> u8
-        ensures { result ≡ status_of self.now }
-    {
-        match self {
-            JobFault::Usage(error) => match error.kind() {
-                ErrorKind::DisplayHelp | ErrorKind::DisplayVersion => 0,
-                _ => 2,
-            },
-            JobFault::Memory => 4,
-        }
-    }
-
-    /// The line that names the fault, without its line feed; none where `clap` has the text.
-    pub fn text(&self) -> Option<&str>
-        ensures { option_map (λ line. line.now) result ≡ text_of self.now }
-    {
-        match self {
-            JobFault::Usage(_) => None,
-            JobFault::Memory => Some("cif: Memory"),
-        }
-    }
+    Check {
+        file: Option<String>,
+        asked: Asked,
+        form: Form,
+    },
+    /// To say where two extracts first differ.
+    Compare {
+        left: String,
+        right: String,
+        asked: Asked,
+    },
+    /// To list what runs on a day.
+    Day {
+        day: Day,
+        file: Option<String>,
+    },
+    /// To list the canonical schedules of a train.
+    Train {
+        uid: Uid,
+        file: Option<String>,
+        asked: Asked,
+        form: Form,
+    },
 }

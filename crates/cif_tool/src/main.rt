@@ -1,10 +1,15 @@
 //! The program `cif`: extracts of the CIF timetable format, normalised.
 #![tactic(auto)]
 
+mod answers;
 mod command_line;
+mod help;
+mod input;
 mod job;
+mod job_fault;
 mod program;
 mod status;
+mod words;
 
 use std::process::ExitCode;
 

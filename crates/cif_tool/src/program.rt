@@ -1,22 +1,17 @@
-//! From the words of the process to its status.
-//!
-//! What a device gives and takes is no part of a contract: what is said here, the rows of `tests/`
-//! show over the built program.
-ghost use Rattle.std.specs.Prelude.{◌≡◌};
-ghost use Rattle.cif_tool.specs.Status.{status_of};
-
-use crate::command_line::job_of;
-use crate::job::{Job, JobFault};
-use crate::status::status;
-use cif_canon::{Asked, check, normalise, report, write_counts};
-use cif_columns::{MAX_LINES, ReadDevice, Sink, Source, WriteDevice};
+//! From the words of the process to its status: what is said here, the rows of `tests/` show over the
+//! built program.
+use crate::answers::{answer_check, answer_compare, answer_day, answer_normalise, answer_train};
+use crate::input::ExtractInput;
+use crate::job::Job;
+use crate::job_fault::JobFault;
+use crate::status::end;
+use crate::words::job_of;
+use cif_columns::{ReadDevice, Sink, Source, WriteDevice};
 use cif_extract::Fault;
-use cif_weeks::Form;
-use std::alloc::Global;
 use std::env::Env;
 use std::io::{BufWriter, ErrorKind};
 use std::rt::Files;
-use std::{env, fs, io};
+use std::{env, io};
 
 /// The bytes of output that are gathered before they are written.
 const OUTPUT_BUFFER: usize = 65_536;
@@ -33,35 +28,24 @@ where
     R::Reader: ReadDevice,
     E: Print,
 {
-    let asked = match words_of(rt) {
-        Ok(words) => job_of(rt.alloc(), words),
-        Err(error) if error.kind() == ErrorKind::OutOfMemory => Err(JobFault::Memory),
+    match words_of(rt) {
+        Ok(words) => match job_of(rt.alloc(), words) {
+            Ok(job) => end(done(rt, &job), &mut Sink::new(io::writer(errors))),
+            Err(fault) => explained(rt, errors, &fault),
+        },
+        Err(error) if error.kind() == ErrorKind::OutOfMemory => {
+            explained(rt, errors, &JobFault::Memory)
+        }
         Err(_) => {
             let _ = errors.println(NOT_TEXT);
-            return 2;
+            2
         }
-    };
-    match asked {
-        Ok(job) => match done(rt, &job) {
-            Ok(status) => status,
-            Err(fault) => reported(errors, &fault),
-        },
-        Err(fault) => explained(rt, errors, &fault),
     }
 }
 
 /// The words of the process, the program's name first. One that is no text fails them all.
 fn words_of<R: Env + AllocGlobal>(rt: &R) -> io::Result<Vec<String>> {
     Ok(env::args(rt)?.collect(rt.alloc())?)
-}
-
-/// Names the fault, and returns its status.
-fn reported<E: Print>(errors: &E, fault: &Fault) -> u8
-    ensures { result ≡ status_of fault.now }
-{
-    let mut sink = Sink::new(io::writer(errors));
-    let _ = report(fault, &mut sink);
-    status(fault)
 }
 
 /// Says why the words ask for no job, and returns the status. Help and the version, where they are
@@ -71,7 +55,7 @@ fn explained<R: Print, E: Print>(rt: &R, errors: &E, fault: &JobFault) -> u8 {
         if error.use_stderr() {
             let _ = errors.print(error);
         } else if rt.print(error).is_err() {
-            return reported(errors, &Fault::Write);
+            return end(Err(Fault::Write), &mut Sink::new(io::writer(errors)));
         }
     }
     if let Some(text) = fault.text() {
@@ -80,61 +64,60 @@ fn explained<R: Print, E: Print>(rt: &R, errors: &E, fault: &JobFault) -> u8 {
     fault.status()
 }
 
+/// Answers the job on the standard output.
 fn done<R>(rt: &R, job: &Job) -> Result<u8, Fault>
 where
     R: Files + Input + Print + AllocGlobal,
     R::File: ReadDevice,
     R::Reader: ReadDevice,
 {
-    let (Job::Normalise { file } | Job::Check { file }) = job;
-    match file {
-        None => answered(rt, job, rt.reader()),
-        Some(name) => match fs::open(rt, name.as_str()) {
-            Ok(input) => answered(rt, job, input),
-            Err(_) => Err(Fault::Read),
-        },
-    }
-}
-
-fn answered<R, I>(rt: &R, job: &Job, input: I) -> Result<u8, Fault>
-where
-    R: Print + AllocGlobal,
-    I: ReadDevice + Drop,
-{
     let Ok(mut output) = BufWriter::with_capacity(rt.alloc(), OUTPUT_BUFFER, io::writer(rt)) else {
         return Err(Fault::Memory);
     };
-    let outcome = answered_to(rt.alloc(), job, input, &mut output);
+    let answer = answered(rt, job, &mut Sink::new(&mut output));
     // A `BufWriter` that is dropped writes what it holds, also after a failure.
     let _ = output.into_parts();
-    outcome
+    answer
 }
 
-fn answered_to<I: ReadDevice + Drop, O: WriteDevice + Drop>(
-    alloc: Global,
-    job: &Job,
-    input: I,
-    output: O,
-) -> Result<u8, Fault> {
-    let mut source = Source::new(input);
-    let mut sink = Sink::new(output);
-    let asked = Asked {
-        from: None,
-        to: None,
-    };
+fn answered<R, W>(rt: &R, job: &Job, sink: &mut Sink<W>) -> Result<u8, Fault>
+where
+    R: Files + Input + AllocGlobal,
+    R::File: ReadDevice,
+    R::Reader: ReadDevice,
+    W: WriteDevice,
+{
+    let alloc = rt.alloc();
     match job {
-        Job::Normalise { file: _ } => {
-            normalise(alloc, &mut source, &mut sink, MAX_LINES, &asked, Form::Two)?;
+        Job::Normalise { file, asked, form } => {
+            answer_normalise(alloc, &mut source_of(rt, file), sink, asked, *form)
         }
-        Job::Check { file: _ } => {
-            let counts = check(alloc, &mut source, MAX_LINES, &asked, Form::Two)?;
-            if write_counts(&counts, &mut sink).is_err() {
-                return Err(Fault::Write);
-            }
+        Job::Check { file, asked, form } => {
+            answer_check(alloc, &mut source_of(rt, file), sink, asked, *form)
         }
+        Job::Compare { left, right, asked } => {
+            let mut left = Source::new(ExtractInput::of(rt, Some(left.as_str())));
+            let mut right = Source::new(ExtractInput::of(rt, Some(right.as_str())));
+            answer_compare(alloc, &mut left, &mut right, sink, asked)
+        }
+        Job::Day { day, file } => answer_day(alloc, &mut source_of(rt, file), sink, *day),
+        Job::Train {
+            uid,
+            file,
+            asked,
+            form,
+        } => answer_train(alloc, &mut source_of(rt, file), sink, uid, asked, *form),
     }
-    match sink.flush() {
-        Ok(()) => Ok(0),
-        Err(_) => Err(Fault::Write),
-    }
+}
+
+/// The file of this name, or the standard input where there is none.
+fn source_of<'a, R: Files + Input>(
+    rt: &'a R,
+    file: &'a Option<String>,
+) -> Source<ExtractInput<'a, R>>
+where
+    R::File: ReadDevice,
+    R::Reader: ReadDevice,
+{
+    Source::new(ExtractInput::of(rt, file.as_deref()))
 }

@@ -1,11 +1,13 @@
-//! The statuses of faults.
+//! The statuses that the program exits with.
 ghost use Rattle.std.specs.Prelude.{◌≡◌};
-ghost use Rattle.cif_tool.specs.Status.{status_of};
+ghost use Rattle.cif_tool.specs.Status.{TellsFault, end_status, outcome_of, status_of};
 
+use cif_canon::{Comparison, report};
+use cif_columns::{Sink, WriteDevice};
 use cif_extract::Fault;
 
-/// The status that the program exits with: 3 where the input is refused, 4 where a device failed
-/// or a growth was refused.
+/// The status of a fault: 3 where the input is refused, 4 where a device failed or a growth was
+/// refused.
 pub fn status(fault: &Fault) -> u8
     ensures { result ≡ status_of fault.now }
 {
@@ -16,5 +18,30 @@ pub fn status(fault: &Fault) -> u8
         | Fault::OutsideWindow
         | Fault::WindowReversed => 3,
         Fault::Read | Fault::Write | Fault::Memory => 4,
+    }
+}
+
+/// The status of a comparison: 0 where the extracts say the same, else 1.
+pub fn outcome(comparison: &Comparison) -> u8
+    ensures { result ≡ outcome_of comparison.now }
+{
+    match comparison {
+        Comparison::Same => 0,
+        Comparison::Tiploc(_) | Comparison::Association(_, _) | Comparison::Train(_, _) => 1,
+    }
+}
+
+/// The status that an answer ends with. A fault's line goes to `errors`; that it can't be written
+/// changes no status.
+pub fn end<W: WriteDevice>(answer: Result<u8, Fault>, errors: &mut Sink<W>) -> u8
+    ensures status { result ≡ end_status answer }
+    ensures line { TellsFault W.contents W.write_errors answer errors.old errors.new }
+{
+    match answer {
+        Ok(status) => status,
+        Err(fault) => {
+            let _ = report(&fault, errors);
+            status(&fault)
+        }
     }
 }

@@ -1,4 +1,4 @@
-use Rattle.std.proofs.Common.{codes, rules}
+use Rattle.std.proofs.Common.{codes}
 use Rattle.std.proofs.lemmas.Result.{IfOk-weaker}
 use Rattle.cif_tool.specs.CommandLine.{cif}
 use Rattle.cif_tool.proofs.CommandBuilt.{program_made, subcommand_added}
@@ -7,9 +7,13 @@ use Rattle.cif_tool.proofs.command_line.cif_command.Goals as goal
 pub returns : goal.returns
 unfolding cif
 returns c =
-    let made = program_made (codes "cif") _ c.new.result c.in_ok-bin_name.field-0 c.version.result c.about.result
+    let made = program_made (codes "cif") _ _ _ c.new.result c.in_ok-bin_name.field-0 c.version.result c.about.result c.after_help.result
     c.subcommand_required.result
-    c.new.ensures.app c.new.ensures.local c.in_ok-bin_name.ensures.0 c.version.ensures (search rules) (search rules) in
-    let both = subcommand_added _ _ _ _ _ made c.in_ok-of_one_file.ensures c.in_ok-subcommand.ensures in
-    IfOk-weaker c.subcommand-2.result _ _ (λ r added. subcommand_added _ _ _ _ _ both c.in_ok-of_one_file-2.ensures added)
-    c.subcommand-2.ensures
+    c.new.ensures.app c.new.ensures.local c.in_ok-bin_name.ensures.0 c.version.ensures c.about.ensures c.after_help.ensures
+    c.subcommand_required.ensures in
+    let one = subcommand_added _ _ _ _ _ made c.in_ok-canonical.ensures c.in_ok-subcommand.ensures in
+    let two = subcommand_added _ _ _ _ _ one c.in_ok-canonical-2.ensures c.in_ok-subcommand-2.ensures in
+    let three = subcommand_added _ _ _ _ _ two c.in_ok-compare.ensures c.in_ok-subcommand-3.ensures in
+    let four = subcommand_added _ _ _ _ _ three c.in_ok-day.ensures c.in_ok-subcommand-4.ensures in
+    IfOk-weaker c.subcommand-5.result _ _ (λ r added. subcommand_added _ _ _ _ _ four c.in_ok-train.ensures added)
+    c.subcommand-5.ensures

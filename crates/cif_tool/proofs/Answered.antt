@@ -1,0 +1,81 @@
+-- What a command owes its sink, by the calls that it makes.
+use Rattle.std.proofs.Common.{◌≡◌, ℕ, List, [], Option, Result, Ok, Err, IfOk, IfErr, refl, sym, subst, append-nil, ap, ◌∙◌}
+use Rattle.cif_columns.specs.Sink.{HasFailed, HasWritten, Writes}
+use Rattle.cif_columns.specs.declared.sink.Sink.{Sink}
+use Rattle.cif_columns.proofs.WrittenTexts.{failed_second, written_both}
+use Rattle.cif_extract.specs.declared.fault.Fault.{Fault}
+use Rattle.cif_extract.specs.declared.fault.Fault.TheVariants as fault
+use Rattle.cif_canon.specs.Normalised.{FaultWrites, IfWritten}
+use Rattle.cif_tool.specs.Answer.{Answers, IfAnswered}
+
+-- what holds where a text was written, and what follows from it
+pub written-then : (A B P : Type 0) (Q : Type 0) (f : Fault) → (P → Q) → IfWritten {A = A} (Err f) P → IfWritten {A = B} (Err f) Q
+written-then A B P Q (fault.Refused line why) so h = tt
+written-then A B P Q (fault.Ambiguous clash) so h = tt
+written-then A B P Q fault.WindowsDiffer so h = tt
+written-then A B P Q fault.OutsideWindow so h = tt
+written-then A B P Q fault.WindowReversed so h = tt
+written-then A B P Q fault.Read so h = tt
+written-then A B P Q fault.Write so h = so h
+written-then A B P Q fault.Memory so h = tt
+
+-- a fault that is Write alone
+pub only-write : {A : Type 0} (P : Fault → Type 0) (result : Result A Fault) → IfErr result (λ f. f ≡ fault.Write) → P fault.Write →
+    IfErr result P
+only-write P (Ok done) is h = tt
+only-write P (Err f) is h = subst P (sym is) h
+
+module _ {W : Type 0} (contents : W → Option (List ℕ)) (errors : W → Option ℕ) where
+  -- a fault owes the same, whatever would have been answered
+  owes-same : (A B : Type 0) (text : List ℕ) (old new : Sink W) (f : Fault) → FaultWrites {A = A} contents errors text old new (Err f) →
+      FaultWrites {A = B} contents errors text old new (Err f)
+  owes-same A B text old new (fault.Refused line why) h = h
+  owes-same A B text old new (fault.Ambiguous clash) h = h
+  owes-same A B text old new fault.WindowsDiffer h = h
+  owes-same A B text old new fault.OutsideWindow h = h
+  owes-same A B text old new fault.WindowReversed h = h
+  owes-same A B text old new fault.Read h = h
+  owes-same A B text old new fault.Write h = h
+  owes-same A B text old new fault.Memory h = h
+
+  module _ (P : List ℕ → ℕ → Type 0) (old : Sink W) (text : List ℕ) (status : ℕ) where
+    answered : (A : Type 0) (f : Fault) → IfWritten {A = A} (Err f) (P text status) → IfAnswered (Err f) (P text)
+    answered A (fault.Refused line why) h = tt
+    answered A (fault.Ambiguous clash) h = tt
+    answered A fault.WindowsDiffer h = tt
+    answered A fault.OutsideWindow h = tt
+    answered A fault.WindowReversed h = tt
+    answered A fault.Read h = tt
+    answered A fault.Write h = (status, h)
+    answered A fault.Memory h = tt
+
+    -- a fault of a call that writes the text
+    pub fails : (A : Type 0) (new : Sink W) (result : Result ℕ Fault) (f : Fault) → result ≡ Err f →
+        FaultWrites {A = A} contents errors text old new (Err f) → IfWritten {A = A} (Err f) (P text status) →
+        Answers contents errors P old new result
+    fails A new result f is w h =
+        subst (Answers contents errors P old new) (sym is) record {
+          text = text;
+          writes = owes-same A ℕ text old new f w;
+          answer = answered A f h;
+        }
+
+    -- a failure to write it
+    pub fails-to-write : (new : Sink W) (result : Result ℕ Fault) (f : Fault) → result ≡ Err f → f ≡ fault.Write →
+        HasFailed contents errors text old new → P text status → Answers contents errors P old new result
+    fails-to-write new result f is write h p =
+        subst (Answers contents errors P old new) (sym (is ∙ ap Err write)) record { text = text; writes = h; answer = (status, p) }
+
+    -- the text is written, and then handed on
+    pub flushed : (mid new : Sink W) (result : Result ℕ Fault) → HasWritten contents errors text old mid →
+        Writes contents errors [] mid new result → IfOk result (λ s. s ≡ status) → IfErr result (λ f. f ≡ fault.Write) → P text status →
+        Answers contents errors P old new result
+    flushed mid new (Ok s) h w ok err p = record {
+      text = text;
+      writes = subst (λ t. HasWritten contents errors t old new) (append-nil text)
+          (written_both contents errors text [] old mid new h w);
+      answer = subst (P text) (sym ok) p;
+    }
+    flushed mid new (Err f) h w ok err p =
+        fails-to-write new (Err f) f refl err
+        (subst (λ t. HasFailed contents errors t old new) (append-nil text) (failed_second contents errors text [] old mid new h w)) p

@@ -1,0 +1,17 @@
+-- What each element of a list has.
+use Rattle.std.proofs.Common.{Bool, true, false, List, [], ◌∷◌, Some, if◌then◌else◌}
+use Rattle.std.specs.Prelude.{IfSome, find}
+
+-- each element of the list has P
+abbrev pub Each : {X : Type 0} → (X → Type 0) → List X → Type 0
+Each P [] = Unit {0}
+Each P (x ∷ xs) = P x × Each P xs
+
+-- so has one that is found
+pub found_holds : {X : Type 0} (P : X → Type 0) (p : X → Bool) (xs : List X) → Each P xs → IfSome (find p xs) P
+found_holds P p [] each = tt
+found_holds P p (x ∷ xs) each =
+    elim (p x) as (λ v. IfSome (if v then Some x else find p xs) P) [
+      | true ↦ each.0
+      | false ↦ found_holds P p xs each.1
+    ]

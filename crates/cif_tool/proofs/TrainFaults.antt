@@ -1,0 +1,22 @@
+-- Why there is no view of a train, as a fault of bytes that are read and narrowed.
+use Rattle.std.proofs.Common.{ℕ, List, Option}
+use Rattle.cif_extract.specs.ExtractParts.{ExtractParts}
+use Rattle.cif_extract.specs.declared.fault.Fault.{Fault}
+use Rattle.cif_extract.specs.declared.fault.Fault.TheVariants as fault
+use Rattle.cif_canon.specs.Accepted.{SpellsNarrowed}
+use Rattle.cif_canon.specs.Fault.{IsNormaliseFault}
+use Rattle.cif_canon.specs.Views.{IsTrainFault}
+use Rattle.cif_canon.specs.declared.asked.Asked.{Asked}
+use Rattle.cif_canon.proofs.Normalising.{canon-fault}
+
+pub train-fault : (max : ℕ) (asked : Asked) (bytes : List ℕ) (after : Option (List ℕ)) (x : ExtractParts) →
+    SpellsNarrowed max asked x bytes → (f : Fault) → IsTrainFault x f → IsNormaliseFault max asked bytes after f
+train-fault max asked bytes after x s fault.Write h = tt
+train-fault max asked bytes after x s (fault.Refused line why) h =
+    canon-fault max asked bytes after x s (fault.Refused line why) h
+train-fault max asked bytes after x s (fault.Ambiguous clash) h = canon-fault max asked bytes after x s (fault.Ambiguous clash) h
+train-fault max asked bytes after x s fault.WindowsDiffer h = canon-fault max asked bytes after x s fault.WindowsDiffer h
+train-fault max asked bytes after x s fault.OutsideWindow h = canon-fault max asked bytes after x s fault.OutsideWindow h
+train-fault max asked bytes after x s fault.WindowReversed h = canon-fault max asked bytes after x s fault.WindowReversed h
+train-fault max asked bytes after x s fault.Read h = canon-fault max asked bytes after x s fault.Read h
+train-fault max asked bytes after x s fault.Memory h = canon-fault max asked bytes after x s fault.Memory h

@@ -1,0 +1,9 @@
+use Rattle.std.proofs.Common.{ℕ, Result, subst, sym}
+use Rattle.cif_extract.specs.declared.fault.Fault.{Fault}
+use Rattle.cif_tool.specs.Status.{TellsFault}
+use Rattle.cif_tool.proofs.status.end.Goals as goal
+
+pub returns-in-Err-clause-line : goal.returns-in-Err-clause-line
+returns-in-Err-clause-line g c =
+    subst (λ (r : Result ℕ Fault). TellsFault g.W.Write.contents g.W.WriteDevice.write_errors r c.args.errors.now c.report.new.sink)
+    (sym c.in-Err.is) (c.report.result, c.report.ensures)

@@ -1,0 +1,28 @@
+use Rattle.std.proofs.Common.{ap, inl, inr, sym, subst, rules, List, Option, map, string_bytes}
+use Rattle.std.specs.Prelude.{IsSomeAnd}
+use Rattle.clap.specs.Words.{Row, Text}
+use Rattle.cif_tool.specs.Job.{IsTaken}
+use Rattle.cif_tool.specs.JobFault.{IsFaultAt}
+use Rattle.cif_tool.proofs.OwnSubcommand.{enters_own}
+use Rattle.cif_tool.proofs.words.job_of.Goals as goal
+
+pub chosen_job-requires : goal.chosen_job-requires
+chosen_job-requires c =
+    subst (λ (o : Option (Text × List Row)). IsSomeAnd o IsTaken) (sym c.in-Ok.ensures.ok) (enters_own _ _ c.in-Ok.ensures.kinds)
+
+pub returns-clause-refused : goal.returns-clause-refused
+returns-clause-refused c =
+    let forms = c.as_slice.result in
+    let given = map string_bytes c.as_slice-2.result.now in
+    let fault : IsFaultAt forms given c.fault_of_error.result = elim c.fault_of_error.ensures [
+      | inl memory ↦ subst (IsFaultAt forms given) (sym memory.1) tt
+      | inr usage ↦ subst (IsFaultAt forms given) (sym usage.1)
+          (elim c.in-Err.ensures.kinds [ inl none ↦ absurd (usage.0 none) | inr among ↦ among ])
+    ] in
+    record {
+      forms = forms;
+      are_forms = search rules;
+      fault_is = subst (λ (words : List Text). IsFaultAt forms words c.fault_of_error.result)
+          (ap (map string_bytes) c.as_slice-2.ensures.value)
+          fault;
+    }

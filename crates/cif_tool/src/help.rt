@@ -1,0 +1,114 @@
+//! What the help of `cif` says, in lines of at most 80 columns.
+
+pub(crate) const CIF: &str = "Works out what runs on each date of a CIF timetable extract";
+
+pub(crate) const CIF_MORE: &str = "\
+Each command reads whole extracts: lines of 80 columns, from HD to ZZ. A date
+is six digits, YYMMDD. A fault is told on standard error. `cif help COMMAND`
+says what a command prints.
+
+Example:
+  cif normalise extract.cif > canonical.cif
+
+Statuses:
+  0  done; of compare: no difference
+  1  of compare: a difference
+  2  a mistake in the words of the command
+  3  an extract is refused, or the dates asked for don't fit its window
+  4  a fault of reading, of writing or of memory";
+
+pub(crate) const NORMALISE: &str = "Writes the canonical extract of what the input says";
+
+pub(crate) const NORMALISE_MORE: &str = "\
+Prints an extract of permanent records alone, of which at most one of a train
+or an association applies on a date. If the input is refused, prints nothing.
+
+Example:
+  cif normalise --from 260105 --to 260118 extract.cif > canonical.cif
+
+Statuses:
+  0  done
+  2  a mistake in the words of the command
+  3  the input is refused, or the dates asked for don't fit its window
+  4  a fault of reading, of writing or of memory";
+
+pub(crate) const CHECK: &str = "Counts the records of the canonical extract, and writes none";
+
+pub(crate) const CHECK_MORE: &str = "\
+Prints one line with the numbers of the canonical extract's records:
+  accepted: T tiplocs, A associations, S schedules
+
+Example:
+  cif check extract.cif
+
+Statuses:
+  0  accepted
+  2  a mistake in the words of the command
+  3  the input is refused, or the dates asked for don't fit its window
+  4  a fault of reading, of writing or of memory";
+
+pub(crate) const COMPARE: &str = "Says where two extracts first differ, or that they don't";
+
+pub(crate) const COMPARE_MORE: &str = "\
+Prints one line: `same`, or the first difference. Tiplocs come first, then
+associations, then trains. Of the headers only the windows are compared.
+  differs: tiploc [V]
+  differs: association [BASE][OTHER][LOCATION][SUFFIX][SUFFIX] on YYMMDD
+  differs: train [UID] on YYMMDD
+
+Example:
+  cif compare --from 260105 old.cif new.cif
+
+Statuses:
+  0  no difference
+  1  a difference
+  2  a mistake in the words of the command
+  3  one is refused, or their windows differ or don't fit the dates asked for
+  4  a fault of reading, of writing or of memory";
+
+pub(crate) const DAY: &str = "Lists the associations and the trains of one date";
+
+pub(crate) const DAY_MORE: &str = "\
+Prints a line for each association that holds, then one for each train:
+  AA BASE OTHER CATEGORY INDICATOR LOCATION SUFFIX SUFFIX DIAGRAM TYPE
+  BS UID IDENTITY ORIGIN DEPARTURE PLATFORM TERMINUS ARRIVAL PLATFORM
+
+Example:
+  cif day 260114 extract.cif
+
+Statuses:
+  0  done
+  2  a mistake in the words of the command
+  3  the input is refused, or the date isn't in its window
+  4  a fault of reading, of writing or of memory";
+
+pub(crate) const TRAIN: &str = "Lists the schedules of one train";
+
+pub(crate) const TRAIN_MORE: &str = "\
+Prints a line for each schedule that the train has in the canonical extract:
+  FIRST LAST DAYS IDENTITY ORIGIN DEPARTURE PLATFORM TERMINUS ARRIVAL PLATFORM
+
+Example:
+  cif train C00123 extract.cif
+
+Statuses:
+  0  done, also where the train doesn't run
+  2  a mistake in the words of the command
+  3  the input is refused, or the dates asked for don't fit its window
+  4  a fault of reading, of writing or of memory";
+
+pub(crate) const FILE: &str = "The extract to read [default: standard input]";
+
+pub(crate) const LEFT: &str = "One extract";
+
+pub(crate) const RIGHT: &str = "The extract that it is compared with";
+
+pub(crate) const DATE: &str = "The date, such as 260114 for 14 January 2026";
+
+pub(crate) const UID: &str = "The UID of the train: six characters, spaces too";
+
+pub(crate) const FROM: &str = "First date of the window [default: the header's]";
+
+pub(crate) const TO: &str = "Last date of the window [default: the header's]";
+
+pub(crate) const FORM: &str = "How weeks are joined";

@@ -1,0 +1,55 @@
+//! Where the program reads an extract.
+use cif_columns::ReadDevice;
+use std::io::Read;
+use std::rt::Files;
+use std::{fs, io};
+
+/// The standard input, or a file, which is opened when it is read first. A file that can't be opened
+/// is one that can't be read.
+#[derive(Drop)]
+pub(crate) enum ExtractInput<'a, R: Files + Input> {
+    Standard(R::Reader),
+    Named { files: &'a R, name: &'a str },
+    Opened(R::File),
+}
+
+impl<'a, R: Files + Input> ExtractInput<'a, R> {
+    /// The file of this name, or the standard input where there is none.
+    pub(crate) fn of(rt: &'a R, file: Option<&'a str>) -> Self {
+        match file {
+            Some(name) => ExtractInput::Named { files: rt, name },
+            None => ExtractInput::Standard(rt.reader()),
+        }
+    }
+}
+
+impl<R> Read for ExtractInput<'_, R>
+where
+    R: Files + Input,
+    R::File: ReadDevice,
+    R::Reader: ReadDevice,
+{
+    fn read(&mut self, buf: &mut [u8]) -> io::Result<usize> {
+        match self {
+            ExtractInput::Standard(reader) => reader.read(buf),
+            ExtractInput::Opened(file) => file.read(buf),
+            ExtractInput::Named { files, name } => {
+                let mut file = fs::open(*files, *name)?;
+                let count = file.read(buf);
+                *self = ExtractInput::Opened(file);
+                count
+            }
+        }
+    }
+}
+
+impl<R> ReadDevice for ExtractInput<'_, R>
+where
+    R: Files + Input,
+    R::File: ReadDevice,
+    R::Reader: ReadDevice,
+{
+    fn read_once(&mut self, buf: &mut [u8]) -> io::Result<usize> {
+        self.read(buf)
+    }
+}

@@ -1,0 +1,227 @@
+//! What the words of a call ask for.
+ghost use Rattle.std.specs.Prelude.{◌≡◌, ◌≢◌, ◌⊎◌, IfOk, IfErr, IsSomeAnd, MatchOption, Some};
+ghost use Rattle.std.specs.Prelude.{codes, is_some, map, option_map, string_bytes, true};
+ghost use Rattle.clap.specs.Words.{Text, first_of, found_of, kind_of, rows_of};
+ghost use Rattle.clap.specs.Words.{subcommand_rows_of};
+ghost use Rattle.cif_columns.specs.Day.{StandsInYymmdd};
+ghost use Rattle.cif_tool.specs.Job.{AreCanonicalWords, Asks, HasFile, HasWord, IsAskedBy};
+ghost use Rattle.cif_tool.specs.Job.{IsChosen, IsDateOf, IsTaken, IsUidWord, form_of};
+ghost use Rattle.cif_tool.specs.JobFault.{HasBadDate, IsFaultOf, IsWordFault, NamesNoDay};
+ghost use Rattle.cif_tool.specs.JobFault.{IsNoUid};
+
+use crate::command_line::matches_of;
+use crate::job::Job;
+use crate::job_fault::JobFault;
+use cif_canon::Asked;
+use cif_columns::{Day, Uid, are_printable};
+use cif_weeks::Form;
+use clap::ArgMatches;
+use clap::error::ErrorKind;
+use std::alloc::{AllocError, Global};
+
+/// The words that name a form.
+static FORMS: [&str; 2] = ["1", "2"];
+
+/// What the words of a call ask for, of which the first is the program's name.
+///
+/// `Usage` comes where `clap` refuses the words, or where they ask for help or for the version;
+/// else `BadUid` where a UID is no UID, and else `BadDate` where a date is no date; `Memory` where a
+/// growth was refused, `clap`'s or this call's own.
+pub fn job_of(alloc: Global, words: Vec<String>) -> Result<Job, JobFault>
+    ensures asked { IfOk result (Asks (map string_bytes words.items)) }
+    ensures refused { IfErr result (IsFaultOf (map string_bytes words.items)) }
+{
+    match matches_of(alloc, FORMS.as_slice(), words.as_slice()) {
+        Ok(matches) => chosen_job(alloc, &matches),
+        Err(error) => Err(fault_of_error(error)),
+    }
+}
+
+fn fault_of_error(error: clap::Error) -> JobFault
+    ensures { ((kind_of error ≡ ErrorKind.OutOfMemory) × (result ≡ JobFault.Memory))
+        ⊎ ((kind_of error ≢ ErrorKind.OutOfMemory) × (result ≡ JobFault.Usage error)) }
+{
+    match error.kind() {
+        ErrorKind::OutOfMemory => JobFault::Memory,
+        _ => JobFault::Usage(error),
+    }
+}
+
+// ---- the jobs
+
+fn chosen_job(alloc: Global, matches: &ArgMatches<'_>) -> Result<Job, JobFault>
+    requires { IsSomeAnd (subcommand_rows_of matches.now) IsTaken }
+    ensures ok { IfOk result (λ job. IsSomeAnd (subcommand_rows_of matches.now) (IsChosen job)) }
+    ensures err { IfErr result (λ fault.
+        IsSomeAnd (subcommand_rows_of matches.now) (IsWordFault fault)) }
+{
+    match matches.subcommand() {
+        Some(("normalise", inner)) => normalise_job(alloc, inner),
+        Some(("check", inner)) => check_job(alloc, inner),
+        Some(("compare", inner)) => compare_job(alloc, inner),
+        Some(("day", inner)) => day_job(alloc, inner),
+        Some(("train", inner)) => train_job(alloc, inner),
+        _ => unreachable!(),
+    }
+}
+
+fn normalise_job(alloc: Global, matches: &ArgMatches<'_>) -> Result<Job, JobFault>
+    ensures ok { IfOk result (λ job. IsChosen job
+        (codes "normalise", rows_of (found_of matches.now))) }
+    ensures err { IfErr result (λ fault. IsWordFault fault
+        (codes "normalise", rows_of (found_of matches.now))) }
+{
+    Ok(Job::Normalise {
+        asked: asked_of(matches)?,
+        form: form_of(matches),
+        file: file_of(alloc, matches)?,
+    })
+}
+
+fn check_job(alloc: Global, matches: &ArgMatches<'_>) -> Result<Job, JobFault>
+    ensures ok { IfOk result (λ job. IsChosen job
+        (codes "check", rows_of (found_of matches.now))) }
+    ensures err { IfErr result (λ fault. IsWordFault fault
+        (codes "check", rows_of (found_of matches.now))) }
+{
+    Ok(Job::Check {
+        asked: asked_of(matches)?,
+        form: form_of(matches),
+        file: file_of(alloc, matches)?,
+    })
+}
+
+fn compare_job(alloc: Global, matches: &ArgMatches<'_>) -> Result<Job, JobFault>
+    requires left { HasWord (codes "LEFT") (rows_of (found_of matches.now)) }
+    requires right { HasWord (codes "RIGHT") (rows_of (found_of matches.now)) }
+    ensures ok { IfOk result (λ job. IsChosen job
+        (codes "compare", rows_of (found_of matches.now))) }
+    ensures err { IfErr result (λ fault. IsWordFault fault
+        (codes "compare", rows_of (found_of matches.now))) }
+{
+    Ok(Job::Compare {
+        asked: asked_of(matches)?,
+        left: String::from_str(alloc, required_word(matches, "LEFT"))?,
+        right: String::from_str(alloc, required_word(matches, "RIGHT"))?,
+    })
+}
+
+fn day_job(alloc: Global, matches: &ArgMatches<'_>) -> Result<Job, JobFault>
+    requires { HasWord (codes "YYMMDD") (rows_of (found_of matches.now)) }
+    ensures ok { IfOk result (λ job. IsChosen job
+        (codes "day", rows_of (found_of matches.now))) }
+    ensures err { IfErr result (λ fault. IsWordFault fault
+        (codes "day", rows_of (found_of matches.now))) }
+{
+    let Some(day) = day_of_word(required_word(matches, "YYMMDD")) else {
+        return Err(JobFault::BadDate);
+    };
+    Ok(Job::Day {
+        day,
+        file: file_of(alloc, matches)?,
+    })
+}
+
+fn train_job(alloc: Global, matches: &ArgMatches<'_>) -> Result<Job, JobFault>
+    requires { HasWord (codes "UID") (rows_of (found_of matches.now)) }
+    ensures ok { IfOk result (λ job. IsChosen job
+        (codes "train", rows_of (found_of matches.now))) }
+    ensures err { IfErr result (λ fault. IsWordFault fault
+        (codes "train", rows_of (found_of matches.now))) }
+{
+    let Some(uid) = uid_of_word(required_word(matches, "UID")) else {
+        return Err(JobFault::BadUid);
+    };
+    Ok(Job::Train {
+        uid,
+        asked: asked_of(matches)?,
+        form: form_of(matches),
+        file: file_of(alloc, matches)?,
+    })
+}
+
+// ---- what the matches hold
+
+fn word_of<'a>(matches: &ArgMatches<'a>, id: &str) -> Option<&'a str>
+    ensures { option_map (λ word. word.now) result
+        ≡ first_of id.now (rows_of (found_of matches.now)) }
+{
+    matches.get_str(id)
+}
+
+fn required_word<'a>(matches: &ArgMatches<'a>, id: &str) -> &'a str
+    requires { HasWord id.now (rows_of (found_of matches.now)) }
+    ensures { first_of id.now (rows_of (found_of matches.now)) ≡ Some result.now }
+{
+    word_of(matches, id).unwrap()
+}
+
+/// The file that the words name, if they name one.
+fn file_of(alloc: Global, matches: &ArgMatches<'_>) -> Result<Option<String>, AllocError>
+    ensures { IfOk result (λ file. HasFile (rows_of (found_of matches.now))
+        (option_map string_bytes file)) }
+{
+    match word_of(matches, "FILE") {
+        Some(name) => Ok(Some(String::from_str(alloc, name)?)),
+        None => Ok(None),
+    }
+}
+
+/// The window that the words ask for.
+fn asked_of(matches: &ArgMatches<'_>) -> Result<Asked, JobFault>
+    ensures ok { IfOk result (IsAskedBy (rows_of (found_of matches.now))) }
+    ensures err { IfErr result (λ fault. (fault ≡ JobFault.BadDate)
+        × (HasBadDate (codes "from") (rows_of (found_of matches.now))
+        ⊎ HasBadDate (codes "to") (rows_of (found_of matches.now)))) }
+{
+    let from = date_of(matches, "from")?;
+    let to = date_of(matches, "to")?;
+    Ok(Asked { from, to })
+}
+
+/// The date that the word under this id names, if there is such a word.
+fn date_of(matches: &ArgMatches<'_>, id: &str) -> Result<Option<Day>, JobFault>
+    ensures ok { IfOk result (IsDateOf (first_of id.now (rows_of (found_of matches.now)))) }
+    ensures err { IfErr result (λ fault. (fault ≡ JobFault.BadDate)
+        × HasBadDate id.now (rows_of (found_of matches.now))) }
+{
+    match word_of(matches, id) {
+        Some(word) => match day_of_word(word) {
+            Some(day) => Ok(Some(day)),
+            None => Err(JobFault::BadDate),
+        },
+        None => Ok(None),
+    }
+}
+
+/// The form that the words name.
+fn form_of(matches: &ArgMatches<'_>) -> Form
+    ensures { result ≡ form_of (first_of (codes "form") (rows_of (found_of matches.now))) }
+{
+    match word_of(matches, "form") {
+        Some(word) if word == "1" => Form::One,
+        _ => Form::Two,
+    }
+}
+
+// ---- the values of words
+
+/// The day that six digits YYMMDD name.
+fn day_of_word(word: &str) -> Option<Day>
+    ensures { MatchOption result (NamesNoDay word.now) (StandsInYymmdd word.now) }
+{
+    match <[u8; 6]>::try_from(word.as_bytes()) {
+        Ok(columns) => Day::from_yymmdd(&columns),
+        Err(_) => None,
+    }
+}
+
+/// The UID of six bytes from 0x20 to 0x7E.
+fn uid_of_word(word: &str) -> Option<Uid>
+    ensures { MatchOption result (IsNoUid word.now) (IsUidWord word.now) }
+{
+    match <[u8; 6]>::try_from(word.as_bytes()) {
+        Ok(columns) if are_printable(&columns) => Some(Uid::read(&columns)),
+        _ => None,
+    }
+}
