@@ -154,12 +154,12 @@ step_filled : (c : List Rule) (again : Bool) (o : Option ℕ) (flags : Text) (sk
     (fault : Text → ℕ → Held → Kinds) (reads : Text → ℕ → Outcome → Held → Held × Outcome) → Each IsPlainRule c
     → ((t : Text) (k : ℕ) (s : Outcome) → KeepsFilled (fault t k) (reads t k s))
     → bundle_step_fault c again o flags skip h fault ≡ [] → Each IsFilled h.rows
-        → Each IsFilled (bundle_step c o flags skip so_far h reads).0.rows
+    → Each IsFilled (bundle_step c o flags skip so_far h reads).0.rows
 step_filled c again None flags skip so_far h fault reads plains keeps e f = f
 step_filled c again (Some x) flags zero so_far h fault reads plains keeps e f =
     let rest = drop (length (encode_utf8 x)) flags in
     short_filled c again (arg_by_short c x) rest h (fault rest 0) (reads rest 0 done) plains (found_holds IsPlainRule _ c plains)
-        (keeps rest 0 done) e f
+    (keeps rest 0 done) e f
 step_filled c again (Some x) flags (suc skip) so_far h fault reads plains keeps e f =
     keeps (drop (length (encode_utf8 x)) flags) skip so_far h e f
 
@@ -169,7 +169,7 @@ unfolding flags_fault bundle_met
 flags_filled c again plains zero flags skip so_far = λ h e f. f
 flags_filled c again plains (suc k) flags skip so_far = λ h e f.
     step_filled c again (slice_get (chars flags) 0) flags skip so_far h (flags_fault c again k) (bundle_met c k) plains
-        (flags_filled c again plains k) e f
+    (flags_filled c again plains k) e f
 
 option_rows : (o : Option Rule) (id word : Text) (h : Held) → (option_word o id word h).0.rows ≡ h.rows
 option_rows None id word h = refl
@@ -191,7 +191,7 @@ along xs ys same f = subst (Each IsFilled) (sym same) f
 
 short_word_filled : (c : List Rule) (again : Bool) (waiting : Waiting) (word : Text) (o : Option Text) (h : Held) → Each IsPlainRule c
     → option_map_or (λ flags. bundle_fault c again flags h) o [] ≡ [] → Each IsFilled h.rows
-        → Each IsFilled (short_or_plain c waiting word o h).0.rows
+    → Each IsFilled (short_or_plain c waiting word o h).0.rows
 short_word_filled c again waiting word None h plains e f = along _ _ (plain_rows c waiting word h) f
 short_word_filled c again waiting word (Some flags) h plains e f =
     along _ _ (after_rows c waiting word (bundle c flags h).0 (bundle c flags h).1)
@@ -219,7 +219,7 @@ other_filled s None waiting position word h plains e f = other_by (bytes_eq word
 
 word_filled : (b : Bool) (s : Shape) (names : Names) (waiting : Waiting) (position : ℕ) (word : Text) (h : Held) → Each IsPlainRule s.rules
     → word_fault s names b waiting word h ≡ [] → Each IsFilled h.rows
-        → Each IsFilled (word_met s.rules names b waiting position word h).0.rows
+    → Each IsFilled (word_met s.rules names b waiting position word h).0.rows
 word_filled true s names waiting position word h plains e f = f
 word_filled false s names waiting position word h plains e f =
     other_filled s (subcommand_met names waiting word) waiting position word h plains e f
@@ -291,7 +291,7 @@ level_filled s names words has below plains e =
     let two = later_passes below _ (later_passes one _ e) in
     let f = walk_filled s names plains words (walk_from nothing_held) (first_passes one _ e) tt in
     defaults_filled s.rules (settled s.rules end).rows
-        (settle s.rules s.args_override_self end plains (first_passes (settle_fault s.rules s.args_override_self end) _ two) f)
+    (settle s.rules s.args_override_self end plains (first_passes (settle_fault s.rules s.args_override_self end) _ two) f)
 
 -- ---- what is required is given
 

@@ -1,5 +1,5 @@
 //! Where the program reads an extract.
-use cif_columns::ReadDevice;
+use cif_columns::{ReadDevice, Source};
 use std::io::Read;
 use std::rt::Files;
 use std::{fs, io};
@@ -13,22 +13,18 @@ pub(crate) enum ExtractInput<'a, R: Files + Input> {
     Opened(R::File),
 }
 
-impl<'a, R: Files + Input> ExtractInput<'a, R> {
-    /// The file of this name, or the standard input where there is none.
-    pub(crate) fn of(rt: &'a R, file: Option<&'a str>) -> Self {
-        match file {
-            Some(name) => ExtractInput::Named { files: rt, name },
-            None => ExtractInput::Standard(rt.reader()),
-        }
-    }
+/// The file of this name, or the standard input where there is none.
+pub(crate) fn source_of<'a, R: Files + Input>(
+    rt: &'a R,
+    file: Option<&'a str>,
+) -> Source<ExtractInput<'a, R>> {
+    Source::new(match file {
+        Some(name) => ExtractInput::Named { files: rt, name },
+        None => ExtractInput::Standard(rt.reader()),
+    })
 }
 
-impl<R> Read for ExtractInput<'_, R>
-where
-    R: Files + Input,
-    R::File: ReadDevice,
-    R::Reader: ReadDevice,
-{
+impl<R: Files + Input> Read for ExtractInput<'_, R> {
     fn read(&mut self, buf: &mut [u8]) -> io::Result<usize> {
         match self {
             ExtractInput::Standard(reader) => reader.read(buf),
@@ -43,12 +39,7 @@ where
     }
 }
 
-impl<R> ReadDevice for ExtractInput<'_, R>
-where
-    R: Files + Input,
-    R::File: ReadDevice,
-    R::Reader: ReadDevice,
-{
+impl<R: Files + Input> ReadDevice for ExtractInput<'_, R> {
     fn read_once(&mut self, buf: &mut [u8]) -> io::Result<usize> {
         self.read(buf)
     }

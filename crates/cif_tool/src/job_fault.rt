@@ -1,6 +1,8 @@
 //! Why a call of `cif` asks for nothing.
-ghost use Rattle.std.specs.Prelude.{◌≡◌, option_map};
+ghost use Rattle.std.specs.Prelude.{◌≡◌, IfErr, IfOk, option_map};
+ghost use Rattle.cif_extract.specs.declared.fault.Fault.TheVariants.{Write};
 
+use cif_extract::Fault;
 use clap::error::ErrorKind;
 use std::alloc::AllocError;
 
@@ -29,6 +31,28 @@ impl From<AllocError> for JobFault {
 
 impl JobFault {
     ghost use Rattle.cif_tool.specs.JobFault.{status_of, text_of};
+
+    /// Says on `errors` why the words ask for nothing, and answers the status. Help and the version,
+    /// where they are asked for, go to `output`; Write comes where that can't be written to.
+    pub fn explain<O: Print, E: Print>(&self, output: &O, errors: &E) -> Result<u8, Fault>
+        ensures ok { IfOk result (λ status. status ≡ status_of self.now) }
+        ensures fault { IfErr result (λ fault. fault ≡ Write) }
+    {
+        match self {
+            JobFault::Usage(error) if error.use_stderr() => {
+                let _ = errors.print(error);
+            }
+            JobFault::Usage(error) => {
+                if output.print(error).is_err() {
+                    return Err(Fault::Write);
+                }
+            }
+            _ => {
+                let _ = errors.println(self.text().unwrap_or(""));
+            }
+        }
+        Ok(self.status())
+    }
 
     /// The status that the program exits with.
     pub fn status(&self) -> u8

@@ -119,7 +119,7 @@ returns-clause-answer g c =
     let made = c.in_ok-comparison.comparison in
     flushed _ _ _ _ (comparison_line made) (outcome_of made) c.write_comparison.new.sink c.flushed.new.sink c.flushed.result
     c.in_ok-write_comparison.ensures c.flushed.ensures.writes
-        (IfOk-weaker c.flushed.result _ _ (λ status is. is ∙ c.outcome.ensures) c.flushed.ensures.ok) c.flushed.ensures.fault
+    (IfOk-weaker c.flushed.result _ _ (λ status is. is ∙ c.outcome.ensures) c.flushed.ensures.ok) c.flushed.ensures.fault
     (compare-answer _ _ (extract_parts c.in_ok-left.left) (extract_parts c.in_ok-right.right) c.in_ok-left.ensures.ok
     c.in_ok-right.ensures.ok c.args.asked.now (extract_parts c.in_ok-left-2.left) (extract_parts c.in_ok-right-2.right)
     c.in_ok-left-2.ensures.ok c.in_ok-right-2.ensures.ok made c.in_ok-comparison.ensures.ok)
