@@ -1,9 +1,11 @@
 -- What the commands answer: a text on the output, and a status.
-use Rattle.std.specs.Prelude.{◌≡◌, ◌⊎◌, ⊤, ℕ, List, Option, Some, Result, Ok, Err}
+use Rattle.std.specs.Prelude.{◌≡◌, ◌⊎◌, ⊤, ℕ, List, Option, IfSome, Result, Ok, Err}
+use Rattle.cif_columns.specs.Source.{HasReadOn}
 use Rattle.cif_columns.specs.declared.line_reader.TheConstants.{MAX_LINES}
 use Rattle.cif_columns.specs.declared.sink.Sink.{Sink}
+use Rattle.cif_columns.specs.declared.source.Source.{Source}
 use Rattle.cif_extract.specs.ExtractParts.{ExtractParts}
-use Rattle.cif_extract.specs.ReadFault.{IsReadFault}
+use Rattle.cif_extract.specs.ReadFault.{FaultReads, IsReadFault}
 use Rattle.cif_extract.specs.SpellsExtract.{BytesSpellWithin}
 use Rattle.cif_extract.specs.declared.fault.Fault.{Fault}
 use Rattle.cif_extract.specs.declared.fault.Fault.TheVariants.{Write}
@@ -33,56 +35,73 @@ pub record Answers {W : Type 0} (contents : W → Option (List ℕ)) (errors : W
   pub writes : FaultWrites contents errors text old new result
   pub answer : IfAnswered result (IsAnswer text)
 
--- `normalise` answers these bytes by their canonical text
-abbrev pub IsNormaliseAnswer : Form → Asked → List ℕ → List ℕ → ℕ → Type 0
-IsNormaliseAnswer form asked bytes text status = (status ≡ 0)
-    × ((counts : Counts) × IsNormalised form asked MAX_LINES bytes text counts)
+-- `normalise` answers these bytes by their canonical text.
+pub record IsNormaliseAnswer (form : Form) (asked : Asked) (bytes text : List ℕ) (status : ℕ) : Type 0 where
+  pub counts : Counts
+  pub normalised : IsNormalised form asked MAX_LINES bytes text counts
+  pub status_is : status ≡ 0
 
--- `check` answers them by how many records that text has
-abbrev pub IsCheckAnswer : Form → Asked → List ℕ → List ℕ → ℕ → Type 0
-IsCheckAnswer form asked bytes text status = (status ≡ 0)
-    × ((counts : Counts) × (text ≡ counts_line counts)
-    × ((canonical : List ℕ) × IsNormalised form asked MAX_LINES bytes canonical counts))
+-- `check` answers these bytes by how many records their canonical text has.
+pub record IsCheckAnswer (form : Form) (asked : Asked) (bytes text : List ℕ) (status : ℕ) : Type 0 where
+  pub canonical : List ℕ
+  pub counts : Counts
+  pub normalised : IsNormalised form asked MAX_LINES bytes canonical counts
+  pub text_is : text ≡ counts_line counts
+  pub status_is : status ≡ 0
 
--- `compare` answers two inputs by how they compare in the window that is asked for
-pub record IsCompareAnswer (asked : Asked) (left right text : List ℕ) (status : ℕ) : Type 0 where
-  pub one : ExtractParts
-  pub one_spelled : SpellsNarrowed MAX_LINES asked one left
-  pub other : ExtractParts
-  pub other_spelled : SpellsNarrowed MAX_LINES asked other right
+-- `day` answers these bytes by what runs on the day.
+pub record IsDayAnswer (day : ℕ) (bytes text : List ℕ) (status : ℕ) : Type 0 where
+  pub extract : ExtractParts
+  pub spelled : BytesSpellWithin MAX_LINES bytes extract
+  pub view : IsDayView extract day text
+  pub status_is : status ≡ 0
+
+-- `train` answers these bytes by when the train runs.
+pub record IsTrainAnswer (form : Form) (asked : Asked) (uid bytes text : List ℕ) (status : ℕ) : Type 0 where
+  pub extract : ExtractParts
+  pub spelled : SpellsNarrowed MAX_LINES asked extract bytes
+  pub view : IsTrainView form extract uid text
+  pub status_is : status ≡ 0
+
+-- `compare` answers two inputs by how they compare in the window that is asked for.
+pub record IsCompareAnswer (asked : Asked) (left_bytes right_bytes text : List ℕ) (status : ℕ) : Type 0 where
+  pub left : ExtractParts
+  pub left_spelled : SpellsNarrowed MAX_LINES asked left left_bytes
+  pub right : ExtractParts
+  pub right_spelled : SpellsNarrowed MAX_LINES asked right right_bytes
   pub comparison : Comparison
-  pub compared : AreCompared one other comparison
+  pub compared : AreCompared left right comparison
   pub text_is : text ≡ comparison_line comparison
   pub status_is : status ≡ outcome_of comparison
-
--- `day` answers these bytes by what runs on the day
-abbrev pub IsDayAnswer : ℕ → List ℕ → List ℕ → ℕ → Type 0
-IsDayAnswer day bytes text status = (status ≡ 0)
-    × ((x : ExtractParts) × BytesSpellWithin MAX_LINES bytes x × IsDayView x day text)
-
--- `train` answers them by when the train runs
-abbrev pub IsTrainAnswer : Form → Asked → List ℕ → List ℕ → List ℕ → ℕ → Type 0
-IsTrainAnswer form asked uid bytes text status = (status ≡ 0)
-    × ((x : ExtractParts) × SpellsNarrowed MAX_LINES asked x bytes × IsTrainView form x uid text)
 
 -- Why `day` has no answer to these bytes, where `after` is what the reader has left then: the first refusal, or else what the view
 -- refuses.
 abbrev pub IsDayRefusal : ℕ → List ℕ → Option (List ℕ) → Fault → Type 0
 IsDayRefusal day bytes after fault = IsReadFault MAX_LINES bytes after fault
-    ⊎ ((x : ExtractParts) × BytesSpellWithin MAX_LINES bytes x × IsDayFault x day fault)
+    ⊎ ((extract : ExtractParts) × BytesSpellWithin MAX_LINES bytes extract × IsDayFault extract day fault)
 
--- Why two extracts that are spelled have no answer: the window asked for doesn't fit that of the left one, or else that of the right one,
--- or else the narrowed extracts are refused; or the answer can't be written.
-abbrev pub IsSpelledRefusal : Asked → ExtractParts → ExtractParts → Fault → Type 0
-IsSpelledRefusal asked one other fault = IsNarrowingFault asked one.header fault
-    ⊎ ((x : ExtractParts) × IsNarrowed asked one x × (IsNarrowingFault asked other.header fault
-    ⊎ ((y : ExtractParts) × IsNarrowed asked other y × (IsCompareFault x y fault ⊎ (fault ≡ Write)))))
+-- Why two whole extracts have no answer: the window that is asked for doesn't fit the left one's, or else it doesn't fit the right one's,
+-- or else the narrowed ones aren't compared; or the answer can't be written.
+abbrev pub IsPairRefusal : Asked → ExtractParts → ExtractParts → Fault → Type 0
+IsPairRefusal asked left_whole right_whole fault = IsNarrowingFault asked left_whole.header fault
+    ⊎ ((left : ExtractParts) × IsNarrowed asked left_whole left × (IsNarrowingFault asked right_whole.header fault
+    ⊎ ((right : ExtractParts) × IsNarrowed asked right_whole right × (IsCompareFault left right fault ⊎ (fault ≡ Write)))))
 
--- Why `compare` has no answer to two inputs, where `left_after` and `right_after` are what the readers have left then: the first refusal
--- of the left one, and then nothing was read of the right one; or else the first refusal of the right one; or else what two extracts are
--- refused for.
-abbrev pub IsCompareRefusal : Asked → List ℕ → Option (List ℕ) → List ℕ → Option (List ℕ) → Fault → Type 0
-IsCompareRefusal asked left left_after right right_after fault =
-    (IsReadFault MAX_LINES left left_after fault × (right_after ≡ Some right))
-    ⊎ ((one : ExtractParts) × BytesSpellWithin MAX_LINES left one × (IsReadFault MAX_LINES right right_after fault
-    ⊎ ((other : ExtractParts) × BytesSpellWithin MAX_LINES right other × IsSpelledRefusal asked one other fault)))
+-- Why the right input has no answer beside a left extract: its first refusal, or else why the two extracts have none.
+abbrev pub IsRightRefusal : Asked → ExtractParts → List ℕ → Option (List ℕ) → Fault → Type 0
+IsRightRefusal asked left_whole bytes after fault = IsReadFault MAX_LINES bytes after fault
+    ⊎ ((right_whole : ExtractParts) × BytesSpellWithin MAX_LINES bytes right_whole × IsPairRefusal asked left_whole right_whole fault)
+
+-- Why `compare` has no answer to the left input and the right one, of which `after` and `right_after` are left then: the first refusal of
+-- the left one, and then Untouched holds of the right one; or else why the right one has none.
+abbrev pub IsCompareRefusal : Asked → List ℕ → Option (List ℕ) → Type 0 → Option (List ℕ) → Option (List ℕ) → Fault → Type 0
+IsCompareRefusal asked bytes after Untouched right right_after fault =
+    (IsReadFault MAX_LINES bytes after fault × Untouched)
+    ⊎ ((left_whole : ExtractParts) × BytesSpellWithin MAX_LINES bytes left_whole
+    × IfSome right (λ right_bytes. IsRightRefusal asked left_whole right_bytes right_after fault))
+
+-- What a command that reads a left and then a right source owes them: the right one is as it was where the left one isn't read on.
+abbrev pub ReadsBoth : {R A : Type 0} → (R → Option ℕ) → Source R → Source R → Source R → Source R → Result A Fault → Type 0
+ReadsBoth errors left left_new right right_new result =
+    (FaultReads errors left left_new result × (right_new ≡ right))
+    ⊎ (HasReadOn errors left left_new × FaultReads errors right right_new result)

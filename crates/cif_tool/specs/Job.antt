@@ -73,4 +73,4 @@ pub record Asks (words : List Text) (job : Job) : Type 0 where
   pub forms : Forms
   pub are_forms : AreForms forms
   pub taken : faults_of forms words ≡ []
-  pub chosen : IsSomeAnd (chosen forms words) (IsChosen job)
+  pub is_chosen : IsSomeAnd (chosen forms words) (IsChosen job)

@@ -28,7 +28,7 @@ HasBadUid met = (met.0 ≡ codes "train") × IsSomeAnd (first_of (codes "UID") m
 -- Why words that `clap` takes ask for nothing: a UID is none, or else a date is none. Want of memory may come at any words.
 abbrev pub IsWordFault : JobFault → Text × List Row → Type 0
 IsWordFault BadUid met = HasBadUid met
-IsWordFault BadDate met = (HasBadUid met → ⊥)
+IsWordFault BadDate met = ¬ HasBadUid met
     × (HasBadDate (codes "YYMMDD") met.1 ⊎ (HasBadDate (codes "from") met.1 ⊎ HasBadDate (codes "to") met.1))
 IsWordFault Memory met = ⊤
 IsWordFault (Usage error) met = ⊥

@@ -4,12 +4,13 @@ ghost use Rattle.cif_columns.specs.Sink.{Writes};
 ghost use Rattle.cif_columns.specs.Source.{reader_of};
 ghost use Rattle.cif_columns.specs.declared.line_reader.TheConstants.{MAX_LINES};
 ghost use Rattle.cif_extract.specs.ExtractParts.{extract_parts};
+ghost use Rattle.cif_extract.specs.ReadFault.{FaultReads};
 ghost use Rattle.cif_extract.specs.declared.fault.Fault.TheVariants.{Write};
 ghost use Rattle.cif_canon.specs.Asked.{IsNarrowed, IsNarrowingFault};
 ghost use Rattle.cif_canon.specs.Fault.{IsNormaliseFault};
 ghost use Rattle.cif_tool.specs.Answer.{Answers, IsCheckAnswer, IsCompareAnswer};
 ghost use Rattle.cif_tool.specs.Answer.{IsCompareRefusal, IsDayAnswer, IsDayRefusal};
-ghost use Rattle.cif_tool.specs.Answer.{IsNormaliseAnswer, IsTrainAnswer};
+ghost use Rattle.cif_tool.specs.Answer.{IsNormaliseAnswer, IsTrainAnswer, ReadsBoth};
 
 use crate::status::outcome;
 use cif_canon::{
@@ -20,7 +21,7 @@ use cif_extract::{Extract, Fault, read_extract};
 use cif_weeks::Form;
 use std::alloc::Global;
 
-/// Writes the canonical extract of the source's, and answers status 0.
+/// Writes the canonical extract of what the source gives, and answers status 0.
 pub fn answer_normalise<R: ReadDevice, W: WriteDevice>(
     alloc: Global,
     source: &mut Source<R>,
@@ -33,12 +34,14 @@ pub fn answer_normalise<R: ReadDevice, W: WriteDevice>(
         IsNormaliseAnswer form asked.now bytes text status)) sink.old sink.new result }
     ensures fault { IfSome (R.remaining (reader_of source.old)) (λ bytes. IfErr result
         (IsNormaliseFault MAX_LINES asked.now bytes (R.remaining (reader_of source.new)))) }
+    ensures source { FaultReads R.read_errors source.old source.new result }
 {
     normalise(alloc, source, sink, MAX_LINES, asked, form)?;
     flushed(sink, 0)
 }
 
-/// Writes how many records the canonical extract of the source's has, and answers status 0.
+/// Writes how many records the canonical extract of what the source gives has, and answers
+/// status 0.
 pub fn answer_check<R: ReadDevice, W: WriteDevice>(
     alloc: Global,
     source: &mut Source<R>,
@@ -51,6 +54,7 @@ pub fn answer_check<R: ReadDevice, W: WriteDevice>(
         IsCheckAnswer form asked.now bytes text status)) sink.old sink.new result }
     ensures fault { IfSome (R.remaining (reader_of source.old)) (λ bytes. IfErr result
         (IsNormaliseFault MAX_LINES asked.now bytes (R.remaining (reader_of source.new)))) }
+    ensures source { FaultReads R.read_errors source.old source.new result }
 {
     let counts = check(alloc, source, MAX_LINES, asked, form)?;
     write_counts(&counts, sink)?;
@@ -58,7 +62,7 @@ pub fn answer_check<R: ReadDevice, W: WriteDevice>(
 }
 
 /// Writes how the extracts of two sources compare, and answers 0 where they say the same, else 1.
-/// The right one isn't read before the left one is accepted.
+/// The right one isn't touched before the left one is read to its end and no line of it is refused.
 pub fn answer_compare<R: ReadDevice, W: WriteDevice>(
     alloc: Global,
     left: &mut Source<R>,
@@ -70,10 +74,11 @@ pub fn answer_compare<R: ReadDevice, W: WriteDevice>(
         (λ text status. IfSome (R.remaining (reader_of left.old)) (λ left_bytes.
         IfSome (R.remaining (reader_of right.old)) (λ right_bytes.
         IsCompareAnswer asked.now left_bytes right_bytes text status))) sink.old sink.new result }
-    ensures fault { IfSome (R.remaining (reader_of left.old)) (λ left_bytes.
-        IfSome (R.remaining (reader_of right.old)) (λ right_bytes. IfErr result
-        (IsCompareRefusal asked.now left_bytes (R.remaining (reader_of left.new))
-        right_bytes (R.remaining (reader_of right.new))))) }
+    ensures fault { IfSome (R.remaining (reader_of left.old)) (λ bytes. IfErr result
+        (IsCompareRefusal asked.now bytes (R.remaining (reader_of left.new))
+        (right.new ≡ right.old) (R.remaining (reader_of right.old))
+        (R.remaining (reader_of right.new)))) }
+    ensures sources { ReadsBoth R.read_errors left.old left.new right.old right.new result }
 {
     let left = read_extract(alloc, left, MAX_LINES)?;
     let right = read_extract(alloc, right, MAX_LINES)?;
@@ -96,6 +101,7 @@ pub fn answer_day<R: ReadDevice, W: WriteDevice>(
         IsDayAnswer day bytes text status)) sink.old sink.new result }
     ensures fault { IfSome (R.remaining (reader_of source.old)) (λ bytes. IfErr result
         (IsDayRefusal day bytes (R.remaining (reader_of source.new)))) }
+    ensures source { FaultReads R.read_errors source.old source.new result }
 {
     let extract = read_extract(alloc, source, MAX_LINES)?;
     day_view(alloc, &extract, day, sink)?;
@@ -116,6 +122,7 @@ pub fn answer_train<R: ReadDevice, W: WriteDevice>(
         IsTrainAnswer form asked.now uid.now bytes text status)) sink.old sink.new result }
     ensures fault { IfSome (R.remaining (reader_of source.old)) (λ bytes. IfErr result
         (IsNormaliseFault MAX_LINES asked.now bytes (R.remaining (reader_of source.new)))) }
+    ensures source { FaultReads R.read_errors source.old source.new result }
 {
     let extract = narrowed(read_extract(alloc, source, MAX_LINES)?, asked)?;
     train_view(alloc, &extract, uid, sink, form)?;

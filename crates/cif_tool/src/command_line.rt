@@ -74,6 +74,7 @@ fn canonical<'a>(
     with_dates(alloc, command)?.arg(form_option(alloc, forms))
 }
 
+/// `compare`, which takes two files.
 fn compare<'a>(alloc: Global) -> Result<Command<'a>, AllocError>
     ensures { IfOk result (IsCommand compare) }
 {
@@ -85,6 +86,7 @@ fn compare<'a>(alloc: Global) -> Result<Command<'a>, AllocError>
     with_dates(alloc, command)
 }
 
+/// `day`, which takes a date.
 fn day<'a>(alloc: Global) -> Result<Command<'a>, AllocError>
     ensures { IfOk result (IsCommand day) }
 {
@@ -95,6 +97,7 @@ fn day<'a>(alloc: Global) -> Result<Command<'a>, AllocError>
         .arg(optional(alloc, "FILE", help::FILE))
 }
 
+/// `train`, which takes a UID.
 fn train<'a>(alloc: Global, forms: &'a [&'a str]) -> Result<Command<'a>, AllocError>
     ensures { IfOk result (IsCommand (train forms.entry)) }
 {

@@ -3,7 +3,7 @@
 pub(crate) const CIF: &str = "Works out what runs on each date of a CIF timetable extract";
 
 pub(crate) const CIF_MORE: &str = "\
-Each command reads whole extracts: lines of 80 columns, from HD to ZZ. A date
+Each command reads full extracts: lines of 80 columns, from HD to ZZ. A date
 is six digits, YYMMDD. A fault is told on standard error. `cif help COMMAND`
 says what a command prints.
 
@@ -14,7 +14,7 @@ Statuses:
   0  done; of compare: no difference
   1  of compare: a difference
   2  a mistake in the words of the command
-  3  an extract is refused, or the dates asked for don't fit its window
+  3  an extract is refused, or its window doesn't fit what was asked for
   4  a fault of reading, of writing or of memory";
 
 pub(crate) const NORMALISE: &str = "Writes the canonical extract of what the input says";
@@ -22,6 +22,8 @@ pub(crate) const NORMALISE: &str = "Writes the canonical extract of what the inp
 pub(crate) const NORMALISE_MORE: &str = "\
 Prints an extract of permanent records alone, of which at most one of a train
 or an association applies on a date. If the input is refused, prints nothing.
+Form 1 joins weeks that have the same days. Form 2 also joins a week that the
+window cuts, where it runs alike on the days that are left of it.
 
 Example:
   cif normalise --from 260105 --to 260118 extract.cif > canonical.cif
@@ -32,11 +34,13 @@ Statuses:
   3  the input is refused, or the dates asked for don't fit its window
   4  a fault of reading, of writing or of memory";
 
-pub(crate) const CHECK: &str = "Counts the records of the canonical extract, and writes none";
+pub(crate) const CHECK: &str = "Says whether an extract is accepted, and counts its records";
 
 pub(crate) const CHECK_MORE: &str = "\
 Prints one line with the numbers of the canonical extract's records:
   accepted: T tiplocs, A associations, S schedules
+Form 1 joins weeks that have the same days. Form 2 also joins a week that the
+window cuts, where it runs alike on the days that are left of it.
 
 Example:
   cif check extract.cif
@@ -52,7 +56,7 @@ pub(crate) const COMPARE: &str = "Says where two extracts first differ, or that 
 pub(crate) const COMPARE_MORE: &str = "\
 Prints one line: `same`, or the first difference. Tiplocs come first, then
 associations, then trains. Of the headers only the windows are compared.
-  differs: tiploc [V]
+  differs: tiploc [COLUMNS 3-72]
   differs: association [BASE][OTHER][LOCATION][SUFFIX][SUFFIX] on YYMMDD
   differs: train [UID] on YYMMDD
 
@@ -70,8 +74,9 @@ pub(crate) const DAY: &str = "Lists the associations and the trains of one date"
 
 pub(crate) const DAY_MORE: &str = "\
 Prints a line for each association that holds, then one for each train:
-  AA BASE OTHER CATEGORY INDICATOR LOCATION SUFFIX SUFFIX DIAGRAM TYPE
+  AA BASE OTHER CATEGORY INDICATOR LOCATION SUFFIX SUFFIX DIAGRAM KIND
   BS UID IDENTITY ORIGIN DEPARTURE PLATFORM TERMINUS ARRIVAL PLATFORM
+One space stands between fields, and a field is as wide as its columns.
 
 Example:
   cif day 260114 extract.cif
@@ -87,6 +92,9 @@ pub(crate) const TRAIN: &str = "Lists the schedules of one train";
 pub(crate) const TRAIN_MORE: &str = "\
 Prints a line for each schedule that the train has in the canonical extract:
   FIRST LAST DAYS IDENTITY ORIGIN DEPARTURE PLATFORM TERMINUS ARRIVAL PLATFORM
+One space stands between fields, and a field is as wide as its columns.
+Form 1 joins weeks that have the same days. Form 2 also joins a week that the
+window cuts, where it runs alike on the days that are left of it.
 
 Example:
   cif train C00123 extract.cif
@@ -105,7 +113,7 @@ pub(crate) const RIGHT: &str = "The extract that it is compared with";
 
 pub(crate) const DATE: &str = "The date, such as 260114 for 14 January 2026";
 
-pub(crate) const UID: &str = "The UID of the train: six characters, spaces too";
+pub(crate) const UID: &str = "The UID of the train: six characters; quote it where one is a space";
 
 pub(crate) const FROM: &str = "First date of the window [default: the header's]";
 

@@ -36,7 +36,7 @@ impl JobFault {
     /// where they are asked for, go to `output`; Write comes where that can't be written to.
     pub fn explain<O: Print, E: Print>(&self, output: &O, errors: &E) -> Result<u8, Fault>
         ensures ok { IfOk result (λ status. status ≡ status_of self.now) }
-        ensures fault { IfErr result (λ fault. fault ≡ Write) }
+        ensures fault { IfErr result (λ fault. (fault ≡ Write) × (status_of self.now ≡ 0)) }
     {
         match self {
             JobFault::Usage(error) if error.use_stderr() => {

@@ -51,6 +51,7 @@ fn done<R: Files + Input + Print + AllocGlobal>(rt: &R, job: &Job) -> Result<u8,
     answer
 }
 
+/// What the job's command answers.
 fn answered<R: Files + Input + AllocGlobal, W: WriteDevice>(
     rt: &R,
     job: &Job,

@@ -37,6 +37,7 @@ pub fn job_of(alloc: Global, words: Vec<String>) -> Result<Job, JobFault>
     }
 }
 
+/// Why `clap` gives no matches.
 fn fault_of_error(error: clap::Error) -> JobFault
     ensures { ((kind_of error ≡ ErrorKind.OutOfMemory) × (result ≡ JobFault.Memory))
         ⊎ ((kind_of error ≢ ErrorKind.OutOfMemory) × (result ≡ JobFault.Usage error)) }
@@ -49,6 +50,7 @@ fn fault_of_error(error: clap::Error) -> JobFault
 
 // ---- the jobs
 
+/// What the subcommand that was entered asks for.
 fn chosen_job(alloc: Global, matches: &ArgMatches<'_>) -> Result<Job, JobFault>
     requires { IsSomeAnd (subcommand_rows_of matches.now) IsTaken }
     ensures ok { IfOk result (λ job. IsSomeAnd (subcommand_rows_of matches.now) (IsChosen job)) }
@@ -142,6 +144,7 @@ fn train_job(alloc: Global, matches: &ArgMatches<'_>) -> Result<Job, JobFault>
 
 // ---- what the matches hold
 
+/// The word under this id, if there is one.
 fn word_of<'a>(matches: &ArgMatches<'a>, id: &str) -> Option<&'a str>
     ensures { option_map (λ word. word.now) result
         ≡ first_of id.now (rows_of (found_of matches.now)) }
@@ -149,6 +152,7 @@ fn word_of<'a>(matches: &ArgMatches<'a>, id: &str) -> Option<&'a str>
     matches.get_str(id)
 }
 
+/// The word under this id, which is there.
 fn required_word<'a>(matches: &ArgMatches<'a>, id: &str) -> &'a str
     requires { HasWord id.now (rows_of (found_of matches.now)) }
     ensures { first_of id.now (rows_of (found_of matches.now)) ≡ Some result.now }

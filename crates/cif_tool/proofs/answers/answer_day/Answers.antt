@@ -16,7 +16,7 @@ returns-in_err-day_view-clause-answer g c =
     let made = c.in_err-day_view.ensures.view in
     let x = extract_parts c.in_ok-extract.extract in
     fails _ _ _ _ made.0 0 (Unit {0}) c.day_view.new.sink c.from_residual-in_err-day_view.result f (p.1 ∙ ap Err p.2) made.1
-    (written-then (Unit {0}) (Unit {0}) _ _ f (λ view. day-answer _ x c.in_ok-extract.ensures.ok made.0 c.args.day view) made.2)
+    (written-then (Unit {0}) (Unit {0}) _ _ f (λ view. day-answer _ x c.in_ok-extract.ensures.ok c.args.day made.0 view) made.2)
 
 pub returns-in_err-day_view-clause-fault : goal.returns-in_err-day_view-clause-fault
 returns-in_err-day_view-clause-fault g c =
@@ -33,7 +33,7 @@ returns-clause-answer g c =
     let x = extract_parts c.in_ok-extract.extract in
     flushed _ _ _ _ made.0 0 c.day_view.new.sink c.flushed.new.sink c.flushed.result made.1 c.flushed.ensures.writes
     c.flushed.ensures.ok c.flushed.ensures.fault
-    (day-answer _ x c.in_ok-extract.ensures.ok made.0 c.args.day made.2)
+    (day-answer _ x c.in_ok-extract.ensures.ok c.args.day made.0 made.2)
 
 pub returns-clause-fault : goal.returns-clause-fault
 returns-clause-fault g c =

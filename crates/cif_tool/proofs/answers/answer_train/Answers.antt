@@ -29,8 +29,8 @@ returns-in_err-train_view-clause-answer g c =
     let made = c.in_err-train_view.ensures.view in
     fails _ _ _ _ made.0 0 (Unit {0}) c.train_view.new.sink c.from_residual-in_err-train_view.result f (p.1 ∙ ap Err p.2) made.1
     (written-then (Unit {0}) (Unit {0}) _ _ f (λ view.
-    train-answer _ (extract_parts c.in_ok-read_extract.field-0) c.in_ok-read_extract.ensures.ok made.0 c.args.form c.args.asked.now
-    (extract_parts c.in_ok-extract.extract) c.args.uid.now c.in_ok-extract.ensures.ok view) made.2)
+    train-answer _ (extract_parts c.in_ok-read_extract.field-0) c.in_ok-read_extract.ensures.ok c.args.form c.args.asked.now
+    (extract_parts c.in_ok-extract.extract) c.args.uid.now made.0 c.in_ok-extract.ensures.ok view) made.2)
 
 pub returns-in_err-train_view-clause-fault : goal.returns-in_err-train_view-clause-fault
 returns-in_err-train_view-clause-fault g c =
@@ -49,5 +49,5 @@ returns-clause-answer g c =
     let made = c.in_ok-train_view.ensures.view in
     flushed _ _ _ _ made.0 0 c.train_view.new.sink c.flushed.new.sink c.flushed.result made.1 c.flushed.ensures.writes
     c.flushed.ensures.ok c.flushed.ensures.fault
-    (train-answer _ (extract_parts c.in_ok-read_extract.field-0) c.in_ok-read_extract.ensures.ok made.0 c.args.form c.args.asked.now
-    (extract_parts c.in_ok-extract.extract) c.args.uid.now c.in_ok-extract.ensures.ok made.2)
+    (train-answer _ (extract_parts c.in_ok-read_extract.field-0) c.in_ok-read_extract.ensures.ok c.args.form c.args.asked.now
+    (extract_parts c.in_ok-extract.extract) c.args.uid.now made.0 c.in_ok-extract.ensures.ok made.2)
