@@ -14,12 +14,15 @@ use Rattle.cif_canon.specs.Accepted.{SpellsNarrowed}
 use Rattle.cif_canon.specs.Asked.{IsNarrowed, IsNarrowingFault}
 use Rattle.cif_canon.specs.Comparison.{AreCompared, IsCompareFault, comparison_line}
 use Rattle.cif_canon.specs.Counts.{counts_line}
+use Rattle.cif_canon.specs.Fault.{IsNormaliseFault}
 use Rattle.cif_canon.specs.Normalised.{FaultWrites, IsNormalised}
 use Rattle.cif_canon.specs.Views.{IsDayFault, IsDayView, IsTrainView}
 use Rattle.cif_canon.specs.declared.asked.Asked.{Asked}
 use Rattle.cif_canon.specs.declared.comparison.Comparison.{Comparison}
 use Rattle.cif_canon.specs.declared.counts.Counts.{Counts}
 use Rattle.cif_tool.specs.Status.{outcome_of}
+use Rattle.cif_tool.specs.declared.job.Job.{Job}
+use Rattle.cif_tool.specs.declared.job.Job.TheVariants.{Check, Compare, Day, Normalise, Train}
 
 -- P holds of the status of an answer, whose text was written or, at Write, a front of it was
 abbrev pub IfAnswered : Result ℕ Fault → (ℕ → Type 0) → Type 0
@@ -105,3 +108,27 @@ abbrev pub ReadsBoth : {R A : Type 0} → (R → Option ℕ) → Source R → So
 ReadsBoth errors left left_new right right_new result =
     (FaultReads errors left left_new result × (right_new ≡ right))
     ⊎ (HasReadOn errors left left_new × FaultReads errors right right_new result)
+
+-- What the job's command answers, where `start` is what the reader of its input gives, and `right` what that of a second one gives.
+abbrev pub IsJobAnswer : Job → Option (List ℕ) → Option (List ℕ) → List ℕ → ℕ → Type 0
+IsJobAnswer (Normalise file asked form) start right text status =
+    IfSome start (λ bytes. IsNormaliseAnswer form asked bytes text status)
+IsJobAnswer (Check file asked form) start right text status = IfSome start (λ bytes. IsCheckAnswer form asked bytes text status)
+IsJobAnswer (Compare left_file right_file asked) start right text status =
+    IfSome start (λ left_bytes. IfSome right (λ right_bytes. IsCompareAnswer asked left_bytes right_bytes text status))
+IsJobAnswer (Day day file) start right text status = IfSome start (λ bytes. IsDayAnswer day bytes text status)
+IsJobAnswer (Train uid file asked form) start right text status = IfSome start (λ bytes. IsTrainAnswer form asked uid bytes text status)
+
+-- Why it has no answer, where `after` and `right_after` are what the readers have left then, and Untouched says that the second wasn't
+-- touched.
+abbrev pub IsJobRefusal : Job → Option (List ℕ) → Option (List ℕ) → Type 0 → Option (List ℕ) → Option (List ℕ) → Fault → Type 0
+IsJobRefusal (Normalise file asked form) start after Untouched right right_after fault =
+    IfSome start (λ bytes. IsNormaliseFault MAX_LINES asked bytes after fault)
+IsJobRefusal (Check file asked form) start after Untouched right right_after fault =
+    IfSome start (λ bytes. IsNormaliseFault MAX_LINES asked bytes after fault)
+IsJobRefusal (Compare left_file right_file asked) start after Untouched right right_after fault =
+    IfSome start (λ bytes. IsCompareRefusal asked bytes after Untouched right right_after fault)
+IsJobRefusal (Day day file) start after Untouched right right_after fault =
+    IfSome start (λ bytes. IsDayRefusal day bytes after fault)
+IsJobRefusal (Train uid file asked form) start after Untouched right right_after fault =
+    IfSome start (λ bytes. IsNormaliseFault MAX_LINES asked bytes after fault)

@@ -74,3 +74,11 @@ pub record Asks (words : List Text) (job : Job) : Type 0 where
   pub are_forms : AreForms forms
   pub taken : faults_of forms words ≡ []
   pub is_chosen : IsSomeAnd (chosen forms words) (IsChosen job)
+
+-- the names of the files that a job reads: the first is standard input where it is absent, and only `compare` has a second
+abbrev pub input_names : Job → Option Text × Option Text
+input_names (Normalise file asked form) = (option_map string_bytes file, None)
+input_names (Check file asked form) = (option_map string_bytes file, None)
+input_names (Compare left right asked) = (Some (string_bytes left), Some (string_bytes right))
+input_names (Day day file) = (option_map string_bytes file, None)
+input_names (Train uid file asked form) = (option_map string_bytes file, None)

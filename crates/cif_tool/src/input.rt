@@ -4,10 +4,11 @@ use std::io::Read;
 use std::rt::Files;
 use std::{fs, io};
 
-/// The standard input, or a file, which is opened when it is read first. A file that can't be opened
-/// is one that can't be read.
+/// The standard input, or a file. Neither is touched before it is read first, and a file that can't
+/// be opened is one that can't be read.
 #[derive(Drop)]
 pub(crate) enum ExtractInput<'a, R: Files + Input> {
+    Unlocked(&'a R),
     Standard(R::Reader),
     Named { files: &'a R, name: &'a str },
     Opened(R::File),
@@ -20,7 +21,7 @@ pub(crate) fn source_of<'a, R: Files + Input>(
 ) -> Source<ExtractInput<'a, R>> {
     Source::new(match file {
         Some(name) => ExtractInput::Named { files: rt, name },
-        None => ExtractInput::Standard(rt.reader()),
+        None => ExtractInput::Unlocked(rt),
     })
 }
 
@@ -29,6 +30,12 @@ impl<R: Files + Input> Read for ExtractInput<'_, R> {
         match self {
             ExtractInput::Standard(reader) => reader.read(buf),
             ExtractInput::Opened(file) => file.read(buf),
+            ExtractInput::Unlocked(rt) => {
+                let mut reader = rt.reader();
+                let count = reader.read(buf);
+                *self = ExtractInput::Standard(reader);
+                count
+            }
             ExtractInput::Named { files, name } => {
                 let mut file = fs::open(*files, *name)?;
                 let count = file.read(buf);

@@ -1,4 +1,6 @@
 //! What a call of `cif` asks for.
+ghost use Rattle.std.specs.Prelude.{◌≡◌, option_map};
+
 use cif_canon::Asked;
 use cif_columns::{Day, Uid};
 use cif_weeks::Form;
@@ -36,4 +38,23 @@ pub enum Job {
         asked: Asked,
         form: Form,
     },
+}
+
+impl Job {
+    ghost use Rattle.cif_tool.specs.Job.{input_names};
+
+    /// The names of the files that are read: one, or of `compare` two. `None` is the standard input,
+    /// or no second file.
+    pub fn inputs(&self) -> (Option<&str>, Option<&str>)
+        ensures { (option_map (λ name. name.now) result.0, option_map (λ name. name.now) result.1)
+            ≡ input_names self.now }
+    {
+        match self {
+            Job::Normalise { file, .. }
+            | Job::Check { file, .. }
+            | Job::Day { file, .. }
+            | Job::Train { file, .. } => (file.as_deref(), None),
+            Job::Compare { left, right, .. } => (Some(left.as_str()), Some(right.as_str())),
+        }
+    }
 }

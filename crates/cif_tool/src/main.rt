@@ -6,6 +6,7 @@ mod command_line;
 mod help;
 mod input;
 mod job;
+mod job_answer;
 mod job_fault;
 mod program;
 mod status;

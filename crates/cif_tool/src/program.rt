@@ -1,11 +1,11 @@
 //! From the words of the process to its status: what is said here, the rows of `tests/` show over the
 //! built program.
-use crate::answers::{answer_check, answer_compare, answer_day, answer_normalise, answer_train};
 use crate::input::source_of;
 use crate::job::Job;
+use crate::job_answer::answer;
 use crate::status::end;
 use crate::words::job_of;
-use cif_columns::{Sink, WriteDevice};
+use cif_columns::Sink;
 use cif_extract::Fault;
 use std::env::Env;
 use std::io::{BufWriter, ErrorKind};
@@ -45,45 +45,15 @@ fn done<R: Files + Input + Print + AllocGlobal>(rt: &R, job: &Job) -> Result<u8,
     let Ok(mut output) = BufWriter::with_capacity(rt.alloc(), OUTPUT_BUFFER, io::writer(rt)) else {
         return Err(Fault::Memory);
     };
-    let answer = answered(rt, job, &mut Sink::new(&mut output));
+    let (file, right) = job.inputs();
+    let answer = answer(
+        rt.alloc(),
+        job,
+        &mut source_of(rt, file),
+        &mut source_of(rt, right),
+        &mut Sink::new(&mut output),
+    );
     // A `BufWriter` that is dropped writes what it holds, also after a failure.
     let _ = output.into_parts();
     answer
-}
-
-/// What the job's command answers.
-fn answered<R: Files + Input + AllocGlobal, W: WriteDevice>(
-    rt: &R,
-    job: &Job,
-    sink: &mut Sink<W>,
-) -> Result<u8, Fault> {
-    let alloc = rt.alloc();
-    match job {
-        Job::Normalise { file, asked, form } => {
-            let mut source = source_of(rt, file.as_deref());
-            answer_normalise(alloc, &mut source, sink, asked, *form)
-        }
-        Job::Check { file, asked, form } => {
-            let mut source = source_of(rt, file.as_deref());
-            answer_check(alloc, &mut source, sink, asked, *form)
-        }
-        Job::Compare { left, right, asked } => {
-            let mut left = source_of(rt, Some(left.as_str()));
-            let mut right = source_of(rt, Some(right.as_str()));
-            answer_compare(alloc, &mut left, &mut right, sink, asked)
-        }
-        Job::Day { day, file } => {
-            let mut source = source_of(rt, file.as_deref());
-            answer_day(alloc, &mut source, sink, *day)
-        }
-        Job::Train {
-            uid,
-            file,
-            asked,
-            form,
-        } => {
-            let mut source = source_of(rt, file.as_deref());
-            answer_train(alloc, &mut source, sink, uid, asked, *form)
-        }
-    }
 }
