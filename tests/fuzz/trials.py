@@ -1,6 +1,7 @@
 """What is tried of a case: runs of the program, each with the answer that is wanted.
 
-The first is the case itself. Where it is accepted there are further runs, whose answers have to agree with it.
+The first is the case itself. Beside it stand cases that have several faults, and damaged copies of its input. Where the case
+is accepted there are further runs, whose answers have to agree with its own.
 """
 from collections import namedtuple
 from itertools import chain

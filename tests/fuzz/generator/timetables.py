@@ -113,7 +113,7 @@ def records_of_key(rng, kind, key, window, clashes):
 
 
 def some_uid(rng):
-    return rng.choice(UIDS) if rng.random() < 0.85 else "A" + of_width(rng, 5, COMMON + " ")
+    return rng.choice(UIDS) if rng.random() < 0.7 else "A" + of_width(rng, 5, COMMON + " ")
 
 
 def association_key(rng, before):
@@ -132,8 +132,9 @@ def association_key(rng, before):
 
 
 def some_keys(rng, kind):
+    """A few keys; now and then a dozen, and rarely a hundred."""
     keys = []
-    for _ in range(rng.choice([0, 1, 1, 1, 2, 3]) if rng.random() < 0.95 else 12):
+    for _ in range(rng.choices([0, 1, 2, 3, 12, 100], [160, 475, 160, 155, 45, 5])[0]):
         key = association_key(rng, keys) if kind == "AA" else (("uid", some_uid(rng)),)
         if key not in keys:
             keys.append(key)
