@@ -16,14 +16,15 @@ Case = namedtuple("Case", "job inputs timetable")
 
 COMMANDS = {"normalise": 40, "check": 8, "compare": 24, "day": 12, "train": 16}
 FORMS = (None, None, "1", "1", "2")
+NO_FORMS = ("3", "0", "", "12", "1 ", "one")
 BAD_DATE_WORDS = ("260230", "2601141", "26014", "", "26 114", "999999", "abcdef", "260114 ", "26\u06611", "\u0662\u0666\u0661")
 BAD_UID_WORDS = ("C0012", "C001234", "", "C0012\t", "C0012\u00e9", "C001\u00e9", "C0012\x7f")
 
 # How likely a job has dates, and how likely each fault of a job or its inputs is: where most cases are to be accepted, and
 # where many are to have several faults, which show the fault that comes first.
-FAULTS = ("dates", "no date", "outside", "reversed", "no UID", "no file", "damage", "another window", "clash")
-SELDOM = dict(zip(FAULTS, (0.4, 0.02, 0.04, 0.04, 0.04, 0.02, 0.15, 0.08, None)))
-OFTEN = dict(zip(FAULTS, (0.8, 0.1, 0.3, 0.4, 0.2, 0.1, 0.3, 0.4, 1)))
+FAULTS = ("dates", "mistake", "no date", "outside", "reversed", "no UID", "no file", "damage", "another window", "clash")
+SELDOM = dict(zip(FAULTS, (0.4, 0.005, 0.02, 0.04, 0.04, 0.04, 0.02, 0.15, 0.08, None)))
+OFTEN = dict(zip(FAULTS, (0.8, 0.05, 0.1, 0.3, 0.4, 0.2, 0.1, 0.3, 0.4, 1)))
 
 
 def some_bytes(rng, timetable):
@@ -78,10 +79,9 @@ def second_timetable(rng, timetable, odds):
     return other
 
 
-def some_files(rng, command):
-    if command == "compare":
-        return "left.cif", "right.cif"
-    return ("extract.cif",) if rng.random() < 0.3 else ()
+def some_files(rng, command, odds):
+    names = ("left.cif", "right.cif") if command == "compare" else ("extract.cif",) if rng.random() < 0.3 else ()
+    return (*names, "further.cif") if names and rng.random() < odds["mistake"] else names
 
 
 def some_inputs(rng, job, timetable, odds):
@@ -98,7 +98,7 @@ def some_inputs(rng, job, timetable, odds):
 
 
 def some_job(rng, command, timetable, options, odds):
-    job = Job(command, some_files(rng, command))
+    job = Job(command, some_files(rng, command, odds))
     if command == "day":
         job = job._replace(day=date_word(rng, timetable.window, odds))
     if command == "train":
@@ -107,7 +107,7 @@ def some_job(rng, command, timetable, options, odds):
         first, last = window_words(rng, timetable.window, odds)
         job = job._replace(first=first, last=last)
     if options and command in ("normalise", "check", "train"):
-        job = job._replace(form=rng.choice(FORMS))
+        job = job._replace(form=rng.choice(FORMS if rng.random() > odds["mistake"] else NO_FORMS))
     return job
 
 

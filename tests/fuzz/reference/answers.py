@@ -17,6 +17,12 @@ Answer = namedtuple("Answer", "stdout stderr status")
 UID = re.compile(r"[ -~]{6}")
 DIFFERENCE = 1
 
+# The numbers of files that each command takes.
+FILES = {"normalise": (0, 1), "check": (0, 1), "compare": (2,), "day": (0, 1), "train": (0, 1)}
+
+# Where the command line itself is at fault, standard error begins so, and what follows isn't fixed.
+MISTAKE = Answer(b"", b"error:", WORDS)
+
 
 def date_of(word):
     """The date of a word; of no word there is none."""
@@ -52,8 +58,15 @@ def output(job, inputs):
     return ([f"differs: {difference}"], DIFFERENCE) if difference else (["same"], 0)
 
 
+def agrees(want, got):
+    """Whether an answer is the wanted one."""
+    return got == want or want == MISTAKE and got == want._replace(stderr=got.stderr) and got.stderr.startswith(want.stderr)
+
+
 def answer(job, inputs):
     """What the program has to print and to end with."""
+    if job.form not in (None, "1", "2") or len(job.files) not in FILES[job.command]:
+        return MISTAKE
     try:
         lines, status = output(job, inputs)
     except Fault as fault:
