@@ -1,0 +1,120 @@
+"""Cases: a job, its inputs, and the timetable from which the first of them was made."""
+from collections import namedtuple
+
+from reference.answers import Job
+from reference.dates import DAY, yymmdd
+
+from .damage import damaged
+from .derived import changed_once, said_otherwise
+from .spelling import some_habits, spelled
+from .timetables import UIDS, some_header, some_timetable
+from .windows import some_day, some_window
+
+# The job; the bytes of each of its inputs, None for a file that isn't there; and the timetable of the first one, or None
+# where an input was damaged or isn't there.
+Case = namedtuple("Case", "job inputs timetable")
+
+COMMANDS = {"normalise": 40, "check": 8, "compare": 24, "day": 12, "train": 16}
+FORMS = (None, None, "1", "1", "2")
+NO_FORMS = ("3", "0", "", "12", "1 ", "one")
+BAD_DATE_WORDS = ("260230", "2601141", "26014", "", "26 114", "999999", "abcdef", "260114 ", "26\u06611", "\u0662\u0666\u0661")
+BAD_UID_WORDS = ("C0012", "C001234", "", "C0012\t", "C0012\u00e9", "C001\u00e9", "C0012\x7f")
+
+# How likely a job has dates, and how likely each fault of a job or its inputs is: where most cases are to be accepted, and
+# where many are to have several faults, which show the fault that comes first.
+FAULTS = ("dates", "mistake", "no date", "outside", "reversed", "no UID", "no file", "damage", "another window", "clash")
+SELDOM = dict(zip(FAULTS, (0.4, 0.005, 0.02, 0.04, 0.04, 0.04, 0.02, 0.15, 0.08, None)))
+OFTEN = dict(zip(FAULTS, (0.8, 0.05, 0.1, 0.3, 0.4, 0.2, 0.1, 0.3, 0.4, 1)))
+
+
+def some_bytes(rng, timetable):
+    return spelled(rng, timetable.lines(), some_habits(rng))
+
+
+def date_word(rng, window, odds):
+    """A date in the window, at its ends or beside them; or a word that is no date."""
+    first, last = window
+    if rng.random() < odds["no date"]:
+        return rng.choice(BAD_DATE_WORDS)
+    if rng.random() < odds["outside"]:
+        return yymmdd(rng.choice([first - DAY, last + DAY, first - 40 * DAY, last + 400 * DAY]))
+    if rng.random() < 0.1:
+        return yymmdd(rng.choice([first, last]))
+    return yymmdd(some_day(rng, window))
+
+
+def window_words(rng, window, odds):
+    """The words of --from and --to, or None."""
+    if rng.random() > odds["dates"]:
+        return None, None
+    words = [date_word(rng, window, odds), date_word(rng, window, odds)]
+    words.sort(key=lambda word: (word[:1] < "6", word), reverse=rng.random() < odds["reversed"])
+    return [word if rng.random() < 0.7 else None for word in words]
+
+
+def uid_word(rng, timetable, odds):
+    if rng.random() < odds["no UID"]:
+        return rng.choice(BAD_UID_WORDS)
+    if timetable.schedules and rng.random() < 0.95:
+        return dict(rng.choice(timetable.schedules).key)["uid"]
+    return rng.choice(UIDS)
+
+
+def second_timetable(rng, timetable, odds):
+    """What another extract is compared with: often it says the same, or differs in a few places."""
+    chance = rng.random()
+    if chance < 0.35:
+        other = said_otherwise(rng, timetable)
+    elif chance < 0.9:
+        other = timetable
+        for _ in range(rng.choice([1, 1, 1, 2, 4])):
+            other = changed_once(rng, other)
+    else:
+        other = some_timetable(rng, odds["clash"])
+        other.window = timetable.window
+    if rng.random() < 0.5:
+        other.header = some_header(rng)
+    if rng.random() < odds["another window"]:
+        other.window = some_window(rng)
+    return other
+
+
+def some_files(rng, command, odds):
+    names = ("left.cif", "right.cif") if command == "compare" else ("extract.cif",) if rng.random() < 0.3 else ()
+    return (*names, "further.cif") if names and rng.random() < odds["mistake"] else names
+
+
+def some_inputs(rng, job, timetable, odds):
+    """The bytes of each input, and whether they are as they were spelled."""
+    inputs, sound = [some_bytes(rng, timetable)], True
+    if job.command == "compare":
+        inputs.append(some_bytes(rng, second_timetable(rng, timetable, odds)))
+    for at, data in enumerate(inputs):
+        if rng.random() < odds["damage"] / len(inputs):
+            inputs[at], sound = damaged(rng, data), False
+        if job.files and rng.random() < odds["no file"]:
+            inputs[at], sound = None, False
+    return inputs, sound
+
+
+def some_job(rng, command, timetable, options, odds):
+    job = Job(command, some_files(rng, command, odds))
+    if command == "day":
+        job = job._replace(day=date_word(rng, timetable.window, odds))
+    if command == "train":
+        job = job._replace(uid=uid_word(rng, timetable, odds))
+    if options and command != "day":
+        first, last = window_words(rng, timetable.window, odds)
+        job = job._replace(first=first, last=last)
+    if options and command in ("normalise", "check", "train"):
+        job = job._replace(form=rng.choice(FORMS if rng.random() > odds["mistake"] else NO_FORMS))
+    return job
+
+
+def some_case(rng, commands, options, odds):
+    """A case of one of these commands; options says whether the job may have some."""
+    timetable = some_timetable(rng, odds["clash"])
+    command = rng.choices(commands, [COMMANDS[name] for name in commands])[0]
+    job = some_job(rng, command, timetable, options, odds)
+    inputs, sound = some_inputs(rng, job, timetable, odds)
+    return Case(job, inputs, timetable if sound else None)

@@ -1,0 +1,190 @@
+"""Damage to an input: to its bytes, to its lines, or to fields of a line. Some of it leaves an extract that is right."""
+from reference import values
+from reference.layouts import LAYOUTS
+
+NO_DATES = ("999999", "260230", "290229", "260001", "261301", "260100", "260132", "26 105", "26010A", "      ", "000000")
+IDENTITIES = ("HD", "TI", "TA", "TD", "AA", "BS", "BX", "LO", "LI", "CR", "LT", "ZZ", "TN", "LN", "XX", "  ", "bs", "B ")
+BAD_FIELDS = {
+    values.full: ("U", " ", "f"),
+    values.new: ("R", "D", " ", "n"),
+    values.header_date: (*NO_DATES, "311299", "010160", "311259", "300226", "290228", "010100"),
+    values.first_date: ("999999", *NO_DATES, "991231", "591231", "600101", "000229"),
+    values.last_date: ("999999", "999999", *NO_DATES, "991231", "600101", "591231", "999998"),
+    values.days_run: ("1111112", "       ", "111111 ", "A000000", "0000000"),
+    values.letter: ("X", " ", "p", "c", "C", "N", "O", "P"),
+    values.bank_holiday: ("X", "E", "G", "0"),
+    values.working_time: ("2400 ", "0960 ", "0900X", "900  ", " 0900", "0900h", "09:00", "H    ", "    H", "0000H"),
+    values.public_time: ("2400", "0060", "9:00", " 900", "090 ", "-100", "   0", "0000"),
+}
+ODD_BYTES = (b"\t", b"\r", b"\n", b"\x00", b"\x1f", b"\x7f", b"\x80", b"\xc3\xa9", b"\xff", b" ", b"~", b"0", b"A")
+ENDINGS = (b"\r", b"\r\n", b"\r\r\n", b"\n\r", b"\n\n", b" \n", b" \r\n", b" ", b"")
+BEHIND = (b"\n", b"\r", b"\r\n", b" ", b"\x1a", b"ZZ".ljust(80) + b"\n", b"AA".ljust(80) + b"\n", b"X" * 81, b"X" * 82)
+
+# ---- of bytes
+
+
+def place(rng, data):
+    """A place in the bytes: often at a line's end or its first columns."""
+    ends = [at for at, byte in enumerate(data) if byte == 0x0A]
+    if ends and rng.random() < 0.4:
+        return min(max(rng.choice(ends) + rng.randint(-2, 3), 0), len(data) - 1)
+    return rng.randrange(len(data))
+
+
+def replaced_byte(rng, data):
+    at = place(rng, data)
+    return data[:at] + rng.choice(ODD_BYTES) + data[at + 1 :]
+
+
+def dropped_byte(rng, data):
+    at = place(rng, data)
+    return data[:at] + data[at + 1 :]
+
+
+def inserted_byte(rng, data):
+    at = place(rng, data)
+    return data[:at] + rng.choice(ODD_BYTES) + data[at:]
+
+
+def cut(rng, data):
+    return data[: place(rng, data)]
+
+
+def more_behind(rng, data):
+    return data + rng.choice((*BEHIND, data))
+
+
+def emptied(rng, data):
+    return b""
+
+
+# ---- of lines
+
+
+def of_lines(change):
+    """A change of the list of lines, each with its ending."""
+
+    def changed(rng, data):
+        lines = data.splitlines(keepends=True)
+        change(rng, lines)
+        return b"".join(lines)
+
+    return changed
+
+
+def swapped(rng, lines):
+    one, other = rng.randrange(len(lines)), rng.randrange(len(lines))
+    lines[one], lines[other] = lines[other], lines[one]
+
+
+def dropped(rng, lines):
+    del lines[rng.randrange(len(lines))]
+
+
+def repeated(rng, lines):
+    lines.insert(rng.randint(0, len(lines)), rng.choice(lines))
+
+
+def cut_behind_one(rng, lines):
+    del lines[rng.randint(1, len(lines)) :]
+
+
+def of_another_kind(rng, lines):
+    at = rng.randrange(len(lines))
+    lines[at] = rng.choice(IDENTITIES).encode() + lines[at][2:]
+
+
+def sorts_of(lines):
+    """The kind of each line, and whether it is of a cancellation."""
+    found, cancelled = [], False
+    for line in lines:
+        if line[:2] in (b"AA", b"BS", b"ZZ"):
+            cancelled = line[:2] != b"ZZ" and line[79:80] == b"C"
+        found.append((line[:2].decode("latin-1"), cancelled))
+    return found
+
+
+def further(rng, lines):
+    """A line of some kind, with nothing in it, is put behind another one; each sort of these is as likely."""
+    sorts = sorts_of(lines)
+    sort = rng.choice(sorted(set(sorts)))
+    at = rng.choice([at for at, other in enumerate(sorts) if other == sort])
+    lines.insert(at + 1, rng.choice(IDENTITIES).encode().ljust(80) + b"\n")
+
+
+def with_another_ending(rng, lines):
+    at = rng.choice([rng.randrange(len(lines)), -1])
+    lines[at] = lines[at].rstrip(b"\r\n") + rng.choice(ENDINGS)
+
+
+def reversed_dates(rng, lines):
+    """First and last date of a record change places."""
+    columns = {b"HD": 48, b"AA": 15, b"BS": 9}
+    at = rng.choice([at for at, line in enumerate(lines) if line[:2] in columns] or [None])
+    if at is not None:
+        line, first = lines[at], columns[lines[at][:2]]
+        lines[at] = line[:first] + line[first + 6 : first + 12] + line[first : first + 6] + line[first + 12 :]
+
+
+# ---- of fields
+
+
+def field_places(lines):
+    """The fields that can be wrong: what sort each is, its line, and the field; those of cancellations are sorts too."""
+    found = []
+    for at, (kind, cancelled) in enumerate(sorts_of(lines)):
+        for field in LAYOUTS.get(kind, ()):
+            if field.read in BAD_FIELDS:
+                found.append(((field.read.__name__, cancelled), at, field))
+    return found
+
+
+def spoil(rng, lines, at, field):
+    text = rng.choice(BAD_FIELDS[field.read]).encode()
+    lines[at] = lines[at][: field.first - 1] + text + lines[at][field.last :]
+
+
+def bad_field(rng, lines):
+    """A text that is no value of its field, or a value that doesn't go with the others; each sort is as likely."""
+    places = field_places(lines)
+    if places:
+        sort = rng.choice(sorted({sort for sort, _, _ in places}))
+        spoil(rng, lines, *rng.choice([place[1:] for place in places if place[0] == sort]))
+
+
+def bad_fields(rng, lines):
+    """The same of a few fields of one line."""
+    places = field_places(lines)
+    if places:
+        line = rng.choice(places)[1]
+        fields = [field for _, at, field in places if at == line]
+        for field in rng.sample(fields, min(len(fields), rng.choice([2, 2, 3]))):
+            spoil(rng, lines, line, field)
+
+
+DAMAGES = {
+    replaced_byte: 10,
+    dropped_byte: 6,
+    inserted_byte: 6,
+    cut: 6,
+    more_behind: 6,
+    emptied: 1,
+    of_lines(swapped): 8,
+    of_lines(dropped): 8,
+    of_lines(repeated): 8,
+    of_lines(cut_behind_one): 4,
+    of_lines(of_another_kind): 10,
+    of_lines(further): 12,
+    of_lines(with_another_ending): 6,
+    of_lines(reversed_dates): 5,
+    of_lines(bad_field): 34,
+    of_lines(bad_fields): 10,
+}
+
+
+def damaged(rng, data):
+    """The bytes after one damage, or after a few."""
+    for _ in range(rng.choice([1, 1, 1, 1, 2, 3])):
+        if data:
+            data = rng.choices(list(DAMAGES), list(DAMAGES.values()))[0](rng, data)
+    return data

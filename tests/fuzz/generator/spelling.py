@@ -1,0 +1,72 @@
+"""Other lines that spell the same records: texts moved in their columns, activities with gaps, and filled spare columns."""
+from dataclasses import dataclass
+
+from reference import values
+from reference.layouts import ASSOCIATION_BODY, LAYOUTS, TRAIN_BODY, WIDTH, columns_of
+
+from .fields import PRINTABLE, of_width
+
+
+@dataclass(frozen=True)
+class Habits:
+    """How likely it is that a text is moved and that spare columns are filled, and how lines end."""
+
+    moved: float
+    filled: float
+    carriage_returns: float
+    last_ending: bool
+
+
+PLAIN = Habits(0, 0, 0, True)
+
+
+def some_habits(rng):
+    if rng.random() < 0.3:
+        return PLAIN
+    odds = (0, 0, 0.1, 0.6)
+    return Habits(rng.choice(odds), rng.choice(odds), rng.choice((0, 0, 0, 1, 0.5)), rng.random() < 0.8)
+
+
+def moved_text(rng, columns):
+    word = columns.strip(" ")
+    return word.rjust(rng.randint(len(word), len(columns))).ljust(len(columns))
+
+
+def with_gaps(rng, columns):
+    """Activities in other pairs of columns, in their order."""
+    codes = [columns[at : at + 2] for at in range(0, len(columns), 2) if columns[at : at + 2] != "  "]
+    while 2 * len(codes) < len(columns):
+        codes.insert(rng.randint(0, len(codes)), "  ")
+    return "".join(codes)
+
+
+MOVES = {values.text: moved_text, values.activities: with_gaps}
+
+
+def meaningful_fields(kind, line):
+    """The fields of a line but for those that a cancellation lacks."""
+    of_body = {"AA": ASSOCIATION_BODY, "BS": TRAIN_BODY}.get(kind, ())
+    return [field for field in LAYOUTS[kind] if line[WIDTH - 1] != "C" or field.name not in of_body]
+
+
+def respelled(rng, line, habits):
+    """A line that spells what the plain line does."""
+    kind = line[:2]
+    signs = [None] * WIDTH
+    signs[:2] = kind
+    for field in meaningful_fields(kind, line):
+        columns = columns_of(line, field)
+        if field.read in MOVES and rng.random() < habits.moved:
+            columns = MOVES[field.read](rng, columns)
+        signs[field.first - 1 : field.last] = columns
+    filling = of_width(rng, WIDTH, PRINTABLE) if rng.random() < habits.filled else line
+    return "".join(filling[at] if sign is None else sign for at, sign in enumerate(signs))
+
+
+def spelled(rng, lines, habits):
+    """The bytes of an extract whose plain lines these are."""
+    data = b""
+    for line in lines:
+        ending = b"\r\n" if rng.random() < habits.carriage_returns else b"\n"
+        data += respelled(rng, line, habits).encode("ascii") + ending
+    return data if habits.last_ending else data.removesuffix(b"\n").removesuffix(b"\r")

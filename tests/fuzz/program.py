@@ -1,0 +1,33 @@
+"""Runs the program on a job, in a folder of its own with the inputs of the job."""
+import subprocess
+
+from reference.answers import Answer
+
+SECONDS = 60
+NO_END = Answer(b"", b"", f"none after {SECONDS} seconds")
+
+
+def words_of(job):
+    """The words of a command: its options come first, and then its places."""
+    words = [job.command]
+    for option, word in ("--from", job.first), ("--to", job.last), ("--form", job.form):
+        words += [] if word is None else [option, word]
+    return words + [word for word in (job.day, job.uid) if word is not None] + list(job.files)
+
+
+def written(folder, job, inputs):
+    """Writes the inputs into a new folder; one that is None isn't there."""
+    folder.mkdir()
+    for name, data in zip(job.files or ("stdin",), inputs):
+        if data is not None:
+            (folder / name).write_bytes(data)
+
+
+def answer_of(cif, folder, job):
+    """What the program prints and ends with in that folder."""
+    piped = b"" if job.files else (folder / "stdin").read_bytes()
+    try:
+        done = subprocess.run([cif, *words_of(job)], cwd=folder, input=piped, capture_output=True, timeout=SECONDS, check=False)
+    except subprocess.TimeoutExpired:
+        return NO_END
+    return Answer(done.stdout, done.stderr, done.returncode)

@@ -1,0 +1,67 @@
+"""What an extract means: for each key and each date of the window all records are looked at."""
+from .dates import dates_of, yymmdd
+from .extracts import window_of
+from .faults import Fault, REFUSED
+
+
+class Clash(Exception):
+    """Two winners have different bodies."""
+
+
+def applies(entry, day):
+    return entry.first <= day <= entry.last and entry.days[day.weekday()] == "1"
+
+
+def body_on(entries, day):
+    """The body that runs on a date, of all records of one key, or None where nothing runs."""
+    applying = [entry for entry in entries if applies(entry, day)]
+    least = min((entry.letter for entry in applying), default=None)
+    bodies = {entry.body for entry in applying if entry.letter == least}
+    if len(bodies) > 1:
+        raise Clash
+    return bodies.pop() if bodies else None
+
+
+def name_of(key):
+    """How a fault line and a difference name an association or a train."""
+    return ("train " if len(key) == 1 else "association ") + "".join(f"[{part}]" for part in key)
+
+
+def running(entries, days):
+    """For each key, rising, the body of each date on which one runs."""
+    found = {}
+    for key in sorted({entry.key for entry in entries}):
+        of_key = [entry for entry in entries if entry.key == key]
+        found[key] = {}
+        for day in days:
+            try:
+                body = body_on(of_key, day)
+            except Clash:
+                raise Fault(f"Ambiguous: {name_of(key)} on {yymmdd(day)}", REFUSED) from None
+            if body is not None:
+                found[key][day] = body
+    return found
+
+
+class Meaning:
+    """What an extract says: its header, its locations, and what holds and runs on each date of its window."""
+
+    def __init__(self, extract):
+        self.header, self.window = extract.header, window_of(extract)
+        self.days = dates_of(self.window)
+        self.tiplocs = sorted(set(extract.tiplocs))
+        self.associations = running(extract.associations, self.days)
+        self.trains = running(extract.schedules, self.days)
+
+
+def first_difference(left, right):
+    """The name of the first difference of two meanings with one window, or None."""
+    of_one = set(left.tiplocs) ^ set(right.tiplocs)
+    if of_one:
+        return f"tiploc [{min(of_one)}]"
+    for ours, theirs in (left.associations, right.associations), (left.trains, right.trains):
+        for key in sorted(ours.keys() | theirs.keys()):
+            for day in left.days:
+                if ours.get(key, {}).get(day) != theirs.get(key, {}).get(day):
+                    return f"{name_of(key)} on {yymmdd(day)}"
+    return None

@@ -1,0 +1,78 @@
+"""How the columns of one field are read. Each function takes the columns and gives them as they are written in a plain
+line, which tells the value, or raises the refusal of the field.
+"""
+import re
+
+from .dates import from_ddmmyy, from_yymmdd
+from .faults import Refusal
+
+HOUR_AND_MINUTE = r"([01][0-9]|2[0-3])[0-5][0-9]"
+WORKING_TIME = re.compile(rf" {{5}}|{HOUR_AND_MINUTE}[ H]")
+PUBLIC_TIME = re.compile(rf" {{4}}|{HOUR_AND_MINUTE}")
+DAYS_RUN = re.compile(r"[01]{7}")
+OPEN_END = "999999"
+
+
+def as_it_stands(columns):
+    return columns
+
+
+def text(columns):
+    """A text has no space at either end, and is written at the left."""
+    return columns.strip(" ").ljust(len(columns))
+
+
+def activities(columns):
+    """The pairs that aren't two spaces, in order, are written at the left."""
+    pairs = [columns[at : at + 2] for at in range(0, len(columns), 2)]
+    return "".join(pair for pair in pairs if pair != "  ").ljust(len(columns))
+
+
+def wanted(columns, right, name):
+    """The columns as they stand, if they are right."""
+    if not right:
+        raise Refusal(name)
+    return columns
+
+
+def working_time(columns):
+    return wanted(columns, WORKING_TIME.fullmatch(columns), "BadTime")
+
+
+def public_time(columns):
+    return wanted(columns, PUBLIC_TIME.fullmatch(columns), "BadTime")
+
+
+def header_date(columns):
+    return wanted(columns, from_ddmmyy(columns), "BadDate")
+
+
+def first_date(columns):
+    return wanted(columns, from_yymmdd(columns), "BadDate")
+
+
+def last_date(columns):
+    wanted(columns, columns != OPEN_END, "OpenEnd")
+    return wanted(columns, from_yymmdd(columns), "BadDate")
+
+
+def days_run(columns):
+    return wanted(columns, DAYS_RUN.fullmatch(columns), "BadDays")
+
+
+def letter(columns):
+    return wanted(columns, columns in ("P", "N", "O", "C"), "BadStp")
+
+
+def full(columns):
+    """The update indicator of a full extract."""
+    return wanted(columns, columns == "F", "NotFull")
+
+
+def new(columns):
+    """The transaction type of a full extract."""
+    return wanted(columns, columns == "N", "NotFull")
+
+
+def bank_holiday(columns):
+    return wanted(columns, columns == " ", "BankHoliday")
