@@ -67,11 +67,11 @@ module _ (t : PlainTest) (line : List ℕ) (wide : length line ≡ 80) (fits : P
       at (inl h) = omega (arith, a, b, h.0, h.1)
       at (inr e) = e ∙ c
 
-  next_at : (j i : ℕ) → j < 64 → j + 1 ≡ i → get_or t.next j 0 ≡ 32 → get_or line j 0 ≡ 32 → get_or line i 0 ≡ 32
-  next_at j i lt place asks space = subst (λ n. get_or line n 0 ≡ 32) place ((fits.followed j lt).0 (space ∙ sym asks))
+  next_at : (j i : ℕ) → j < 79 → j + 1 ≡ i → get_or t.next j 0 ≡ 32 → get_or line j 0 ≡ 32 → get_or line i 0 ≡ 32
+  next_at j i lt place asks space = subst (λ n. get_or line n 0 ≡ 32) place (fits.followed j lt (space ∙ sym asks))
 
   over_at : (j i : ℕ) → j < 64 → j + 2 ≡ i → get_or t.over j 0 ≡ 32 → get_or line j 0 ≡ 32 → get_or line i 0 ≡ 32
-  over_at j i lt place asks space = subst (λ n. get_or line n 0 ≡ 32) place ((fits.followed j lt).1 (space ∙ sym asks))
+  over_at j i lt place asks space = subst (λ n. get_or line n 0 ≡ 32) place (fits.followed_over j lt (space ∙ sym asks))
 
   back_at : (j i : ℕ) → j < 32 → j + 1 ≡ i → get_or t.back j 0 ≡ 32 → get_or line i 0 ≡ 32 → get_or line j 0 ≡ 32
   back_at j i lt place asks space =
@@ -211,8 +211,7 @@ module _ (t : PlainTest) (line : List ℕ) (wide : length line ≡ 80) (fits : P
   text_at : (from to : ℕ) → 1 ≤ from → from ≤ to → to ≤ 80 → (asks_left t from to ≡ true) ⊎ (asks_spaces t from to ≡ true)
       → IsPlainText from to line
   text_at from to start some within (inl left) =
-      let h = and_parts _ _ left in
-      text_part t line wide fits from to start some (at_most to 65 h.0) h.1
+      text_part t line wide fits from to start some within left
   text_at from to start some within (inr spaces) =
       let blank = blank_part from to start some within spaces in
       let c = columns from to line in

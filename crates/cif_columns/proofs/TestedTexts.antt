@@ -24,16 +24,16 @@ left_text c some step = at (nat_eq (get_or c 0 0) 32) refl
 
 module _ (t : PlainTest) (line : List ℕ) (wide : length line ≡ 80) (fits : Passes t line) where
   -- a space is followed by a space where the table asks for that
-  pub followed_at : (from to : ℕ) (k : ℕ) → 1 ≤ from → to ≤ 65 → from - 1 + k < 64 → k + 1 < to - (from - 1)
+  pub followed_at : (from to : ℕ) (k : ℕ) → 1 ≤ from → to ≤ 80 → from - 1 + k < 79 → k + 1 < to - (from - 1)
       → get_or t.next (from - 1 + k) 0 ≡ 32
       → get_or (columns from to line) k 0 ≡ 32 → get_or (columns from to line) (k + 1) 0 ≡ 32
   followed_at from to k start within low lt asks space =
       let here : get_or line (from - 1 + k) 0 ≡ 32 = sym (read line from to k (omega arith)) ∙ space in
-      let then : get_or line (from - 1 + k + 1) 0 ≡ 32 = (fits.followed (from - 1 + k) low).0 (here ∙ sym asks) in
+      let then : get_or line (from - 1 + k + 1) 0 ≡ 32 = fits.followed (from - 1 + k) low (here ∙ sym asks) in
       let place : from - 1 + k + 1 ≡ from - 1 + (k + 1) = omega arith in
       read line from to (k + 1) lt ∙ ap (λ n. get_or line n 0) (sym place) ∙ then
 
-  pub text_part : (from to : ℕ) → 1 ≤ from → from ≤ to → to ≤ 65 → are from (to - 1) t.next (replicate (to - from) 32) ≡ true
+  pub text_part : (from to : ℕ) → 1 ≤ from → from ≤ to → to ≤ 80 → are from (to - 1) t.next (replicate (to - from) 32) ≡ true
       → IsPlainText from to line
   text_part from to start some within asks =
       let c = columns from to line in

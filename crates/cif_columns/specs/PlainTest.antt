@@ -33,11 +33,13 @@ IsInRange t line k =
     ((slice_index t.least k ≤ slice_index line k) × (slice_index line k ≤ slice_index t.most k))
     ⊎ (slice_index line k ≡ slice_index t.also k)
 
--- a byte that asks for a space in the next column has it, and one that asks for a space in the column after that
+-- a byte that asks for a space in the next column has it
 abbrev pub IsFollowed : PlainTest → List ℕ → ℕ → Type 0
-IsFollowed t line k =
-    (slice_index line k ≡ slice_index t.next k → slice_index line (k + 1) ≡ 32)
-    × (slice_index line k ≡ slice_index t.over k → slice_index line (k + 2) ≡ 32)
+IsFollowed t line k = slice_index line k ≡ slice_index t.next k → slice_index line (k + 1) ≡ 32
+
+-- a byte that asks for a space in the column after the next has it
+abbrev pub IsFollowedOver : PlainTest → List ℕ → ℕ → Type 0
+IsFollowedOver t line k = slice_index line k ≡ slice_index t.over k → slice_index line (k + 2) ≡ 32
 
 -- a next byte that asks for a space in this column has it, and a byte that asks for at most `3` in the next column
 abbrev pub IsTimed : PlainTest → List ℕ → ℕ → Type 0
@@ -49,7 +51,8 @@ IsTimed t line k =
 -- `passes`.
 pub record Passes (t : PlainTest) (line : List ℕ) : Type 0 where
   pub in_range : (k : ℕ) → k < 80 → IsInRange t line k
-  pub followed : (k : ℕ) → k < 64 → IsFollowed t line k
+  pub followed : (k : ℕ) → k < 79 → IsFollowed t line k
+  pub followed_over : (k : ℕ) → k < 64 → IsFollowedOver t line k
   pub timed : (k : ℕ) → k < 32 → IsTimed t line k
 
 -- ---- which tables it asks for
@@ -68,7 +71,7 @@ asks_spaces t from to = asks_bytes t from to (replicate (to + 1 - from) 32)
 
 -- in each of the columns but the last a space asks for one in the next
 abbrev pub asks_left : PlainTest → ℕ → ℕ → Bool
-asks_left t from to = nat_le to 65 && are from (to - 1) t.next (replicate (to - from) 32)
+asks_left t from to = are from (to - 1) t.next (replicate (to - from) 32)
 
 -- the four columns from this one on are an hour and a minute, or blank
 abbrev pub asks_clock : PlainTest → ℕ → Bool

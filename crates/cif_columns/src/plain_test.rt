@@ -1,8 +1,8 @@
 //! Whether a line is the plain line of its kind, found in one pass with no branch on what stands in it.
 ghost use Rattle.std.specs.Prelude.{◌≡◌, ◌<◌, ◌≤◌, ◌⊎◌, ◌↔◌, ℕ, List, IsTrue, true};
 ghost use Rattle.cif_columns.specs.Field.{Row};
-ghost use Rattle.cif_columns.specs.PlainTest.{IsFollowed, IsInRange, IsPlainLineOf, IsTimed, Passes};
-ghost use Rattle.cif_columns.specs.PlainTest.{asks_all, read_off};
+ghost use Rattle.cif_columns.specs.PlainTest.{IsFollowed, IsFollowedOver, IsInRange, IsPlainLineOf};
+ghost use Rattle.cif_columns.specs.PlainTest.{IsTimed, Passes, asks_all, read_off};
 
 use crate::Line;
 
@@ -16,8 +16,8 @@ pub struct PlainTest {
     pub most: [u8; 80],
     /// A byte that each column may have besides.
     pub also: [u8; 80],
-    /// The byte of a column that asks for a space in the next column: columns 1 to 64.
-    pub next: [u8; 64],
+    /// The byte of a column that asks for a space in the next column: columns 1 to 79.
+    pub next: [u8; 79],
     /// The byte of a column that asks for a space in the column after the next: columns 1 to 64.
     pub over: [u8; 64],
     /// The byte of the next column that asks for a space in a column: columns 1 to 32.
@@ -45,7 +45,10 @@ impl PlainTest {
 fn has_all(columns: &[u8; 80], test: &PlainTest) -> bool
     ensures { IsTrue result ↔ Passes test.now columns.now }
 {
-    are_in_range(columns, test) & are_followed(columns, test) & are_timed(columns, test)
+    are_in_range(columns, test)
+        & are_followed(columns, test)
+        & last_are_followed(columns, test)
+        & are_timed(columns, test)
 }
 
 #[inline]
@@ -59,15 +62,30 @@ fn are_in_range(columns: &[u8; 80], test: &PlainTest) -> bool
     all
 }
 
+/// Whether columns 1 to 64 are followed as the test wants it.
 #[inline]
 fn are_followed(columns: &[u8; 80], test: &PlainTest) -> bool
-    ensures { IsTrue result ↔ ((k : ℕ) → k < 64 → IsFollowed test.now columns.now k) }
+    ensures { IsTrue result ↔ ((k : ℕ) → k < 64 → IsFollowed test.now columns.now k
+        × IsFollowedOver test.now columns.now k) }
 {
     let mut all = true;
     for i in 0..64 {
         let b = columns[i];
         all &= asks_space(b, test.next[i], columns[i + 1])
             & asks_space(b, test.over[i], columns[i + 2]);
+    }
+    all
+}
+
+/// Whether columns 64 to 79 are followed by spaces where the test wants it: sixteen columns, so that
+/// the compiler takes them at once.
+#[inline]
+fn last_are_followed(columns: &[u8; 80], test: &PlainTest) -> bool
+    ensures { IsTrue result ↔ ((k : ℕ) → 63 ≤ k → k < 79 → IsFollowed test.now columns.now k) }
+{
+    let mut all = true;
+    for i in 63..79 {
+        all &= asks_space(columns[i], test.next[i], columns[i + 1]);
     }
     all
 }

@@ -24,7 +24,7 @@ use Rattle.cif_records.specs.declared.origin.Origin.{Origin}
 use Rattle.cif_records.specs.declared.record.Record.TheVariants as of
 use Rattle.cif_records.specs.declared.terminus.Terminus.{Terminus}
 use Rattle.cif_extract.proofs.CallLines.{call_in-spells}
-use Rattle.cif_extract.proofs.DetailLines.{detail_in-stands}
+use Rattle.cif_records.proofs.Details.{detail_in-stands}
 use Rattle.cif_records.proofs.Extras.{extra_in-spells}
 use Rattle.cif_records.proofs.Origins.{origin_in-spells}
 use Rattle.cif_records.proofs.Termini.{terminus_in-spells}
@@ -222,6 +222,11 @@ same_lines xs ys p k h =
 -- equal lines keep equal parts
 pub same_parts : (lines : List (List ℕ)) (p q : BodyParts) → KeepBody lines p → KeepBody lines q → p ≡ q
 same_parts lines p q k h = sym (parts_in-keeps lines p k) ∙ parts_in-keeps lines q h
+
+-- the first line is that of the detail
+pub detail_kept : (lines : List (List ℕ)) (p : BodyParts) → KeepBody lines p → get_or lines 0 [] ≡ plain_line (detail_table p.detail)
+detail_kept [] p h = absurd h
+detail_kept (line ∷ lines) p h = h.1
 
 -- the lines behind the detail's keep the records that follow the BS
 pub keeps_further : (lines : List (List ℕ)) (p : BodyParts) → KeepBody lines p → KeepAll (drop 1 lines) (map record_table (body_records p))

@@ -2,7 +2,6 @@ pub mod BasicSteps
 pub mod Bodies
 pub mod BodyLines
 pub mod CallLines
-pub mod DetailLines
 pub mod FirstRefusals
 pub mod GoesOn
 pub mod GrammarLists

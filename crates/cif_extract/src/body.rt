@@ -2,7 +2,9 @@
 ghost use Rattle.std.specs.Prelude.{◌≡◌, ◌↔◌, IfOk, IsTrue, is_some, map, option_copied};
 ghost use Rattle.cif_extract.specs.Body.{KeepAll, KeepJourney, KeepMore, KeepSomeBody, parts_in};
 ghost use Rattle.cif_extract.specs.BodyParts.{body_records, extra_records};
+ghost use Rattle.cif_columns.specs.Field.{plain_line};
 ghost use Rattle.cif_extract.specs.Call.{call_record};
+ghost use Rattle.cif_records.specs.Detail.{detail_table};
 ghost use Rattle.cif_records.specs.SpellsRecord.{record_table};
 
 use crate::{Call, Calls};
@@ -103,6 +105,13 @@ impl Body {
         ensures { KeepAll result.now (map record_table (body_records self.now)) }
     {
         &self.lines[1..]
+    }
+
+    /// The line that its detail has to itself.
+    pub(crate) fn detail_line(&self) -> &Line
+        ensures { result.now ≡ plain_line (detail_table self.now.detail) }
+    {
+        &self.lines[0]
     }
 
     /// Whether it has a BX.

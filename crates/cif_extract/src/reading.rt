@@ -15,7 +15,8 @@ use crate::stop_at::StopAt;
 use crate::{Body, Extract, Fault, Schedule};
 use cif_columns::{Line, Refusal};
 use cif_records::{
-    Association, Basic, Header, Kind, Tiploc, Trailer, is_plain_line, kind_of, plain_line_of,
+    Association, BasicTerms, Detail, Header, Kind, Tiploc, Trailer, is_plain_line, kind_of,
+    plain_line_of,
 };
 use std::alloc::{AllocError, Global};
 
@@ -150,40 +151,30 @@ impl Reading {
         ensures { IsTaken (basic_refusal line.now) line.now (progress_of self.old) result
             (progress_of self.new) }
     {
-        let Basic {
-            uid,
-            first,
-            last,
-            days,
-            letter,
-            detail,
-        } = Basic::read(line)?;
-        match detail {
-            None => {
-                let cancellation = Schedule {
-                    uid,
-                    first,
-                    last,
-                    days,
-                    letter,
-                    body: None,
-                };
-                push(&mut self.schedules, cancellation)?;
-                self.opened = None;
-                self.place = Place::Cancelled;
-            }
-            Some(detail) => {
-                self.lines.clear();
-                push(&mut self.lines, detail.write())?;
-                self.opened = Some(Opened {
-                    uid,
-                    first,
-                    last,
-                    days,
-                    letter,
-                });
-                self.place = Place::Basic;
-            }
+        let terms = BasicTerms::read(line)?;
+        if terms.has_body() {
+            self.lines.clear();
+            push(&mut self.lines, Detail::line_of(line))?;
+            self.opened = Some(Opened {
+                uid: terms.uid,
+                first: terms.first,
+                last: terms.last,
+                days: terms.days,
+                letter: terms.letter,
+            });
+            self.place = Place::Basic;
+        } else {
+            let cancellation = Schedule {
+                uid: terms.uid,
+                first: terms.first,
+                last: terms.last,
+                days: terms.days,
+                letter: terms.letter,
+                body: None,
+            };
+            push(&mut self.schedules, cancellation)?;
+            self.opened = None;
+            self.place = Place::Cancelled;
         }
         Ok(())
     }

@@ -13,7 +13,7 @@ ghost use Rattle.cif_records.specs.Trailer.{trailer_table};
 use crate::Body;
 use cif_columns::{Day, DaysRun, Line, Sink, Uid, WriteDevice, WriteFault};
 use cif_records::{
-    AssocBody, AssocKey, Header, Tiploc, Trailer, permanent_association, permanent_basic,
+    AssocBody, AssocKey, Header, Tiploc, Trailer, permanent_association, permanent_basic_with,
 };
 
 /// Appends these lines, each with a line feed.
@@ -74,7 +74,7 @@ pub fn write_schedule<W: WriteDevice>(
     ensures { Writes W.contents W.write_errors
         (lines_text (schedule_lines uid.now first last days P (Some body.now))) sink.old sink.new result }
 {
-    let basic = permanent_basic(uid, &body.detail(), first, last, days);
+    let basic = permanent_basic_with(uid, body.detail_line(), first, last, days);
     sink.write_line(&basic)?;
     write_lines(body.further_lines(), sink)
 }

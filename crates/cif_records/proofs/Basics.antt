@@ -1,42 +1,20 @@
 -- A line spells at most one basic schedule, and there is no reason to refuse a line that spells one.
-use Rattle.std.proofs.Common.{◌≡◌, ◌≤◌, ℕ, Bool, List, Option, Some, None, is_some, get_or, ◌++◌, refl, sym, ap, ◌∙◌}
+use Rattle.std.proofs.Common.{◌≡◌, ◌≤◌, ℕ, Bool, List, Option, Some, None, is_some, true, false, ◌++◌, refl, sym, ap, ◌∙◌}
 use Rattle.std.proofs.Props.{props}
 use mathlib.Core.HLevel.{Σ_prop_path}
-use Rattle.cif_columns.specs.Field.{FieldValue, AllStandIn}
+use Rattle.cif_columns.specs.Field.{AllStandIn}
 use Rattle.cif_columns.specs.declared.stp.Stp.{Stp}
 use Rattle.cif_columns.proofs.FieldLaws.{one_date_value, one_exactly, one_indicator, one_weekdays, stp_in-letter}
 use Rattle.cif_columns.proofs.Masks.{days_of-stands}
 use Rattle.cif_columns.proofs.Parts.{stands-back, stands-front}
-use Rattle.cif_columns.proofs.TableLaws.{one_table, columns_in}
 use Rattle.cif_records.specs.Basic.{basic_back, basic_front, basic_refusal}
 use Rattle.cif_records.specs.Bodies.{has_body}
-use Rattle.cif_records.specs.Detail.{detail_rows}
+use Rattle.cif_records.specs.Detail.{detail_in, detail_rows}
 use Rattle.cif_records.specs.SpellsBasic.{SpellsBasic}
 use Rattle.cif_records.specs.declared.basic.Basic.{Basic}
 use Rattle.cif_records.specs.declared.detail.Detail.{Detail}
+use Rattle.cif_records.proofs.Details.{detail_stands, one_detail}
 use Rattle.cif_records.proofs.Judging.{dates_fine}
-
--- the detail of its rows' values
-abbrev detail_of : List (Option FieldValue) → Detail
-detail_of vs = record {
-  status = columns_in (get_or vs 0 None);
-  category = columns_in (get_or vs 1 None);
-  identity = columns_in (get_or vs 2 None);
-  headcode = columns_in (get_or vs 3 None);
-  course = columns_in (get_or vs 4 None);
-  service_code = columns_in (get_or vs 5 None);
-  sector = columns_in (get_or vs 6 None);
-  power = columns_in (get_or vs 7 None);
-  timing_load = columns_in (get_or vs 8 None);
-  speed = columns_in (get_or vs 9 None);
-  characteristics = columns_in (get_or vs 10 None);
-  class = columns_in (get_or vs 11 None);
-  sleepers = columns_in (get_or vs 12 None);
-  reservations = columns_in (get_or vs 13 None);
-  connection = columns_in (get_or vs 14 None);
-  catering = columns_in (get_or vs 15 None);
-  branding = columns_in (get_or vs 16 None);
-}
 
 same_detail : (line : List ℕ) (a b : Option Detail) → is_some a ≡ is_some b → AllStandIn line (detail_rows a) →
     AllStandIn line (detail_rows b) → a ≡ b
@@ -44,7 +22,7 @@ same_detail line None None e p q = refl
 same_detail line None (Some y) e p q = cc
 same_detail line (Some x) None e p q = cc
 same_detail line (Some x) (Some y) e p q =
-    ap (λ vs. Some (detail_of vs)) (one_table line (detail_rows (Some x)) (detail_rows (Some y)) refl p q)
+    ap Some (one_detail line x y p q)
 
 -- what the type keeps of its fields
 abbrev Facts : List ℕ × ℕ × ℕ × List Bool × Stp × Option Detail → Type 0
@@ -105,3 +83,15 @@ no_refusal line r m =
       p.back.1.0,
       stp_in-letter r.letter,
     )
+
+-- the detail of a schedule with a body is the one that stands in its line, and another schedule has none
+pub detail_there : (line : List ℕ) (r : Basic) → SpellsBasic line r → has_body r.letter ≡ true → r.detail ≡ Some (detail_in line)
+detail_there line r m has =
+    same_detail line r.detail (Some (detail_in line)) (r.bodied ∙ has) (parts_of line r m).detail (detail_stands line)
+
+pub no_detail_there : (r : Basic) → has_body r.letter ≡ false → r.detail ≡ None
+no_detail_there r lacks = none r.detail (r.bodied ∙ lacks)
+  where
+    none : (d : Option Detail) → is_some d ≡ false → d ≡ None
+    none None e = refl
+    none (Some d) e = cc

@@ -1,6 +1,7 @@
 pub mod AssocKey
 pub mod Association
 pub mod Basic
+pub mod BasicTerms
 pub mod Bodies
 pub mod Change
 pub mod Checks

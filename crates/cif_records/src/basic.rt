@@ -4,10 +4,11 @@ ghost use Rattle.std.specs.Option.{option_copied};
 ghost use Rattle.cif_columns.specs.Field.{AllFit, AllStandIn, plain_line};
 ghost use Rattle.cif_columns.specs.LineBuilder.{put_all};
 ghost use Rattle.cif_columns.specs.declared.stp.Stp.TheVariants.{P};
-ghost use Rattle.cif_records.specs.Basic.{basic_refusal, basic_table};
+ghost use Rattle.cif_records.specs.Basic.{basic_front, basic_refusal, basic_table};
 ghost use Rattle.cif_records.specs.Bodies.{has_body};
 ghost use Rattle.cif_records.specs.Checks.{IsJudged};
-ghost use Rattle.cif_records.specs.Detail.{detail_rows};
+ghost use Rattle.cif_records.specs.Detail.{detail_rows, detail_table};
+ghost use Rattle.cif_records.specs.declared.detail.Detail.{Detail};
 
 use crate::checks::{
     Applicability, check_bank_holiday, check_identity, check_transaction, dates_at, days_at,
@@ -15,7 +16,7 @@ use crate::checks::{
 };
 use crate::layout::{self, Layout};
 use crate::{Detail, Kind, Record};
-use cif_columns::{Day, DaysRun, Field, Line, LineBuilder, Refusal, Stp, Uid, uid_at};
+use cif_columns::{Day, DaysRun, Field, Line, LineBuilder, Refusal, Stp, Uid, columns_at, uid_at};
 
 /// A record `BS` (the CIF End User Specification): on which dates a schedule runs, or is cancelled.
 #[derive(Debug, Drop, PartialEq, Eq)]
@@ -143,6 +144,21 @@ pub fn permanent_basic(uid: &Uid, detail: &Detail, first: Day, last: Day, days: 
     line.finish()
 }
 
+/// The plain line of a permanent schedule: transaction type `N`, letter `P`, and the detail that stands
+/// in columns 30 to 78 of `detail`, as they are.
+pub fn permanent_basic_with(uid: &Uid, detail: &Line, first: Day, last: Day, days: DaysRun) -> Line
+    requires { first ≤ last }
+    ensures { (d : Detail) → detail.now ≡ plain_line (detail_table d)
+        → result ≡ plain_line (basic_table uid.now first last days P (Some d)) }
+{
+    let mut line = LineBuilder::new();
+    put_front(uid, first, last, days, &mut line);
+    line.put_columns(&columns_at::<49>(detail, 30));
+    line.put_spare::<1>();
+    Stp::P.put_on(&mut line);
+    line.finish()
+}
+
 /// Appends each column.
 fn put_basic(
     uid: &Uid,
@@ -158,6 +174,19 @@ fn put_basic(
         (basic_table uid.now first last days letter (option_copied detail.entry)) }
     ensures fits { AllFit (basic_table uid.now first last days letter (option_copied detail.entry)) }
 {
+    put_front(uid, first, last, days, line);
+    put_detail(detail, line);
+    line.put_spare::<1>();
+    letter.put_on(line);
+}
+
+/// Appends columns 1 to 29.
+fn put_front(uid: &Uid, first: Day, last: Day, days: DaysRun, line: &mut LineBuilder)
+    requires { line.old ≡ [] }
+    ensures columns { line.new ≡ put_all [] (basic_front uid.now first last days) }
+    ensures width { length line.new ≡ 29 }
+    ensures fits { AllFit (basic_front uid.now first last days) }
+{
     line.put_columns(b"BS");
     line.put_columns(b"N");
     uid.put_on(line);
@@ -165,9 +194,6 @@ fn put_basic(
     last.put_on(line);
     days.put_on(line);
     line.put_columns(b" ");
-    put_detail(detail, line);
-    line.put_spare::<1>();
-    letter.put_on(line);
 }
 
 /// The detail in columns 30 to 78, which a cancellation has not.

@@ -57,13 +57,12 @@ pub struct Change {
     pub reserved_a: Text<8>,
 }
 
-/// The plain lines of `CR`, but for some with rare contents, and for those with a text in columns 63
-/// to 75.
+/// The plain lines of `CR`, but for some with rare contents.
 static PLAIN: PlainTest = PlainTest {
     least: *b"CR                                                                              ",
-    most: *b"CR~~~~~~~~~~~~~~~~~~~~~~~~~~~~~~~~~~~~~~~~~~~~~~~~~~~~~~~~~~~~                  ",
+    most: *b"CR~~~~~~~~~~~~~~~~~~~~~~~~~~~~~~~~~~~~~~~~~~~~~~~~~~~~~~~~~~~~~~~~~~~~~~~~~     ",
     also: *b"CR                                                                              ",
-    next: *b"~~      ~~ ~   ~   ~~       ~~  ~   ~  ~     ~~~~~   ~   ~   ~~~",
+    next: *b"~~      ~~ ~   ~   ~~       ~~  ~   ~  ~     ~~~~~   ~   ~   ~    ~       ~~~~~",
     over: *b"~~~~~~~~~~~~~~~~~~~~~~~~~~~~~~~~~~~~~~~~~~~~~~~~~~~~~~~~~~~~~~~~",
     back: *b"~~~~~~~~~~~~~~~~~~~~~~~~~~~~~~~~",
     hour: *b"~~~~~~~~~~~~~~~~~~~~~~~~~~~~~~~~",

@@ -1,9 +1,11 @@
 //! What a schedule says of its train.
 ghost use Rattle.std.specs.Prelude.{◌≡◌, ◌+◌, ◌≤◌, ◌++◌, length, Some};
 ghost use Rattle.cif_columns.specs.Field.{AllFit, AllStandIn, plain_line};
+ghost use Rattle.cif_columns.specs.Line.{IsLine};
 ghost use Rattle.cif_records.specs.Detail.{detail_in, detail_rows, detail_table};
+ghost use Rattle.cif_records.specs.Steps.Detail.{alone_in};
 
-use cif_columns::{Field, Line, LineBuilder, Text, text_at};
+use cif_columns::{Field, Line, LineBuilder, PlainTest, Text, columns_at, text_at};
 
 /// The fields of a basic schedule that say what runs; a cancellation has none.
 #[derive(Debug, Drop, PartialEq, Eq)]
@@ -44,6 +46,17 @@ pub struct Detail {
     pub branding: Text<4>,
 }
 
+/// The lines that details have to themselves, but for some with rare contents.
+static PLAIN: PlainTest = PlainTest {
+    least: *b"                                                                                ",
+    most: *b"                             ~~~~~~~~~~~~~~~~~~~~~~~~~~~~~~~~~~~~~~~~~~~~~~~~~  ",
+    also: *b"                                                                                ",
+    next: *b"~~~~~~~~~~~~~~~~~~~~~~~~~~~~~~ ~   ~   ~~       ~~  ~   ~  ~     ~~~~~   ~   ~~",
+    over: *b"~~~~~~~~~~~~~~~~~~~~~~~~~~~~~~~~~~~~~~~~~~~~~~~~~~~~~~~~~~~~~~~~",
+    back: *b"~~~~~~~~~~~~~~~~~~~~~~~~~~~~~~~~",
+    hour: *b"~~~~~~~~~~~~~~~~~~~~~~~~~~~~~~~~",
+};
+
 impl Detail {
     /// The detail in columns 30 to 78, whatever the other columns are. There is always one.
     pub fn read(line: &Line) -> Detail
@@ -83,6 +96,20 @@ impl Detail {
         line.finish()
     }
 
+    /// The line of its own of the detail in columns 30 to 78, whatever the other columns are: what
+    /// `read` and then `write` give. Of most plain columns no detail is built.
+    pub fn line_of(line: &Line) -> Line
+        ensures plain { result ≡ plain_line (detail_table (detail_in line.now)) }
+        ensures again { AllStandIn result (detail_table (detail_in line.now)) }
+    {
+        let alone = columns_alone(line);
+        if PLAIN.passes(&alone) {
+            alone
+        } else {
+            Detail::read(line).write()
+        }
+    }
+
     /// Appends columns 30 to 78.
     pub(crate) fn put_on(&self, line: &mut LineBuilder)
         requires { length line.old + 49 ≤ 80 }
@@ -108,4 +135,16 @@ impl Detail {
         self.catering.put_on(line);
         self.branding.put_on(line);
     }
+}
+
+/// Columns 30 to 78 of the line, and spaces elsewhere.
+fn columns_alone(line: &Line) -> Line
+    ensures columns { result ≡ alone_in line.now }
+    ensures line { IsLine line.now }
+{
+    let mut alone = LineBuilder::new();
+    alone.put_spare::<29>();
+    alone.put_columns(&columns_at::<49>(line, 30));
+    alone.put_spare::<2>();
+    alone.finish()
 }

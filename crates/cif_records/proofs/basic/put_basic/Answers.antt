@@ -12,18 +12,11 @@ returns-clause-columns c =
     let a = c.args in
     let front = put_all [] (basic_front a.uid.now a.first a.last a.days) in
     let detail = detail_rows (option_copied a.detail) in
-    let built : ◌≡◌ {A = List ℕ} c.put_on-5.new.line (put_all (front ++ plain_line detail) (basic_back a.letter)) =
+    let built : ◌≡◌ {A = List ℕ} c.put_on.new.line (put_all (front ++ plain_line detail) (basic_back a.letter)) =
     rw (
-      c.put_on-5.ensures.columns,
+      c.put_on.ensures.columns,
       c.put_spare.ensures.columns,
       c.put_detail.ensures.columns,
-      c.put_columns-3.ensures.columns,
-      c.put_on-4.ensures.columns,
-      c.put_on-3.ensures.columns,
-      c.put_on-2.ensures.columns,
-      c.put_on.ensures.columns,
-      c.put_columns-2.ensures.columns,
-      c.put_columns.ensures.columns,
-      c.requires,
+      c.put_front.ensures.columns,
     ) in
     built ∙ sym (put_all-append front detail (basic_back a.letter))

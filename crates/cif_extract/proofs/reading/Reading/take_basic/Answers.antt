@@ -1,40 +1,52 @@
-use Rattle.std.proofs.Common.{refl, ◌≡◌, List, [], ◌∷◌, ℕ, None, Some}
+use Rattle.std.proofs.Common.{refl, sym, ◌≡◌, ◌∙◌, ap, List, [], ◌∷◌, ℕ, true, false}
 use Rattle.cif_extract.specs.Steps.Reading.{progress_of}
+use Rattle.cif_records.specs.Bodies.{has_body}
+use Rattle.cif_records.specs.Detail.{detail_in}
 use Rattle.cif_records.specs.declared.record.Record.TheVariants as of
+use Rattle.cif_records.proofs.Basics.{detail_there, no_detail_there}
 use Rattle.cif_extract.proofs.BasicSteps.{begun_none, begun_some, keepable_none, keepable_some}
 use Rattle.cif_extract.proofs.reading.Reading.take_basic.Goals as goal
 
-pub returns-in_ok-push-in-None : goal.returns-in_ok-push-in-None
-returns-in_ok-push-in-None c =
-    let b = c.in_ok-uid.field-0 in
-    let (fine, spells) = c.in_ok-uid.ensures.exact in
-    let none : b.detail ≡ None = let there = c.in-None.is in let same = c.in_ok-uid.detail-is in cc in (
-      fine,
-      (
-        of.Basic b,
-        spells,
-        keepable_none b none,
-        rw c.in_ok-push-in-None.ensures
-            (begun_none (progress_of c.args.self.now) b b.detail b.bodied none _
-            (record { uid = refl; first = refl; last = refl; days = refl; letter = refl }) refl),
-      ),
-    )
-
-pub returns-in_ok-push-in-Some : goal.returns-in_ok-push-in-Some
-returns-in_ok-push-in-Some c =
-    let b = c.in_ok-uid.field-0 in
-    let (fine, spells) = c.in_ok-uid.ensures.exact in
-    let some : b.detail ≡ Some c.in-Some.detail = let there = c.in-Some.is in let same = c.in_ok-uid.detail-is in cc in
-    let put : ◌≡◌ {A = List (List ℕ)} c.push-in-Some.new.items.items (c.write.result ∷ []) = rw (
-      c.in_ok-push-in-Some.ensures,
+pub returns-in_ok-push : goal.returns-in_ok-push
+returns-in_ok-push c =
+    let (fine, there) = c.in_ok-terms.ensures in
+    let b = there.basic in
+    let has : has_body b.letter ≡ true = ap has_body (sym there.terms.letter) ∙ sym c.has_body.ensures ∙ c.if-has_body.true in
+    let some = detail_there c.args.line.now b there.spells has in
+    let put : ◌≡◌ {A = List (List ℕ)} c.push.new.items.items (c.line_of.result ∷ []) = rw (
+      c.in_ok-push.ensures,
       c.clear.ensures.items,
     ) refl in (
       fine,
       (
         of.Basic b,
-        spells,
-        keepable_some b c.in-Some.detail c.write.result some c.write.ensures.plain c.write.ensures.again,
-        rw (put, c.write.ensures.plain)
-            (begun_some (progress_of c.args.self.now) b b.detail b.bodied c.in-Some.detail some _ refl refl refl refl refl),
+        there.spells,
+        keepable_some b (detail_in c.args.line.now) c.line_of.result some c.line_of.ensures.plain c.line_of.ensures.again,
+        rw (put, c.line_of.ensures.plain)
+            (begun_some (progress_of c.args.self.now) b b.detail b.bodied (detail_in c.args.line.now) some _ there.terms.uid
+            there.terms.first there.terms.last there.terms.days there.terms.letter),
+      ),
+    )
+
+pub returns-in_ok-push-2 : goal.returns-in_ok-push-2
+returns-in_ok-push-2 c =
+    let (fine, there) = c.in_ok-terms.ensures in
+    let b = there.basic in
+    let lacks : has_body b.letter ≡ false = ap has_body (sym there.terms.letter) ∙ sym c.has_body.ensures ∙ c.if-has_body.false in
+    let none = no_detail_there b lacks in (
+      fine,
+      (
+        of.Basic b,
+        there.spells,
+        keepable_none b none,
+        rw c.in_ok-push-2.ensures
+            (begun_none (progress_of c.args.self.now) b b.detail b.bodied none _
+            (record {
+              uid = sym there.terms.uid;
+              first = sym there.terms.first;
+              last = sym there.terms.last;
+              days = sym there.terms.days;
+              letter = sym there.terms.letter;
+            }) refl),
       ),
     )

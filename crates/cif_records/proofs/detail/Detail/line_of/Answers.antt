@@ -1,0 +1,27 @@
+use Rattle.std.proofs.Common.{refl, sym, ap, subst, ◌∙◌}
+use Rattle.cif_columns.specs.Field.{AllStandIn, plain_line}
+use Rattle.cif_records.specs.Detail.{detail_in, detail_table}
+use Rattle.cif_records.proofs.Details.{detail_alone}
+use Rattle.cif_records.proofs.detail.Detail.line_of.Goals as goal
+
+pub returns-then-passes-clause-plain : goal.returns-then-passes-clause-plain
+returns-then-passes-clause-plain c =
+    let alone = c.columns_alone-alone.result in
+    let passed = c.passes.ensures.plain c.if-passes.true (detail_table (detail_in alone)) refl refl in
+    let same = detail_alone c.args.line.now alone c.columns_alone-alone.ensures.columns c.columns_alone-alone.ensures.line.width in
+    sym passed.1 ∙ ap (λ d. plain_line (detail_table d)) same
+
+pub returns-then-passes-clause-again : goal.returns-then-passes-clause-again
+returns-then-passes-clause-again c =
+    let alone = c.columns_alone-alone.result in
+    let passed = c.passes.ensures.plain c.if-passes.true (detail_table (detail_in alone)) refl refl in
+    let same = detail_alone c.args.line.now alone c.columns_alone-alone.ensures.columns c.columns_alone-alone.ensures.line.width in
+    subst (λ d. AllStandIn alone (detail_table d)) same passed.0
+
+pub returns-else-passes-clause-plain : goal.returns-else-passes-clause-plain
+returns-else-passes-clause-plain c =
+    c.write.ensures.plain ∙ ap (λ d. plain_line (detail_table d)) c.read.ensures.exact
+
+pub returns-else-passes-clause-again : goal.returns-else-passes-clause-again
+returns-else-passes-clause-again c =
+    subst (λ d. AllStandIn c.write.result (detail_table d)) c.read.ensures.exact c.write.ensures.again
