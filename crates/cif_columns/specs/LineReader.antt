@@ -1,5 +1,6 @@
 -- What a clause reads of a `LineReader`, and what a `next` answers.
-use Rattle.std.specs.Prelude.{◌≡◌, ℕ, ◌+◌, ◌<◌, List, [], ◌∷◌, Option, None, Some, Result, Ok, Err}
+use Rattle.std.specs.Prelude.{◌≡◌, ℕ, ◌+◌, ◌<◌, Bool, true, false, List, [], ◌∷◌, Option, None, Some, Result, Ok, Err}
+use Rattle.std.specs.Prelude.{◌≢◌, IfErr, IfOk, IfSome, OnErr, OnSome}
 use Rattle.cif_columns.specs.declared.line.Line.{Line}
 use Rattle.cif_columns.specs.declared.line_reader.LineReader.{LineReader}
 use Rattle.cif_columns.specs.declared.line_fault.LineFault.{LineFault}
@@ -9,9 +10,9 @@ use Rattle.cif_columns.specs.declared.line_reader.Past.TheVariants.{Reading, End
 use Rattle.cif_columns.specs.declared.refusal.Refusal.{Refusal}
 use Rattle.cif_columns.specs.declared.source.Source.{Source}
 use Rattle.cif_columns.specs.Ahead.{held_bytes, known_left}
-use Rattle.cif_columns.specs.Contents.{contents_of, StandsFirst, HasLineReason, IsLineReason}
+use Rattle.cif_columns.specs.Contents.{DecidesNothing, contents_of, StandsFirst, HasLineReason, IsLineReason}
 use Rattle.cif_columns.specs.Line.{IsLine}
-use Rattle.cif_columns.specs.Source.{HasFailedToRead, HasReadOn}
+use Rattle.cif_columns.specs.Source.{HasFailedToRead, HasReadOn, source_failed}
 
 -- the bytes that are held: read, and not yet given
 abbrev pub held : LineReader → List ℕ
@@ -34,6 +35,12 @@ abbrev pub past_of : Result (Option Line) LineFault → Past
 past_of (Ok (Some line)) = Reading
 past_of (Ok None) = Ended
 past_of (Err fault) = Faulted fault
+
+-- what a call that reads into a line answers, as one that gives it
+abbrev pub line_read : Result Bool LineFault → Line → Result (Option Line) LineFault
+line_read (Ok true) line = Ok (Some line)
+line_read (Ok false) line = Ok None
+line_read (Err fault) line = Err fault
 
 -- the bytes that are left: those held, and then those that the reader has left, where these are known
 abbrev pub left : {R : Type 0} → (R → Option (List ℕ)) → LineReader → Source R → Option (List ℕ)
@@ -71,3 +78,25 @@ LineReads errors old new (Err Read) = HasFailedToRead errors old new
 abbrev pub IsNextFault : ℕ → LineFault → Type 0
 IsNextFault count (Refused number why) = (number ≡ count + 1) × IsLineReason why
 IsNextFault count Read = Unit {0}
+
+-- What a call that gives the next line promises: its reader and its source before, the answer, and both after.
+pub record IsNext {R : Type 0} (remaining : R → Option (List ℕ)) (errors : R → Option ℕ) (old : LineReader) (from : Source R)
+    (result : Result (Option Line) LineFault) (new : LineReader) (to : Source R) : Type 0 where
+  -- the answer is the first line of the bytes that are left, and the bytes after it are left then
+  pub answer : past old ≡ Reading → IfSome (left remaining old from) (λ bytes.
+      Answers (limit old) (given old) bytes result (left remaining new to))
+  -- A source that fails is reported where the bytes before the failure decide nothing. One that has failed has no end.
+  pub device : past old ≡ Reading → LineReads errors from to result
+  pub undecided : past old ≡ Reading → result ≡ Err Read → DecidesNothing (limit old) (given old) (held new)
+  pub endless : past old ≡ Reading → result ≡ Ok None → source_failed from ≡ false
+  -- over whatever source: a refusal names the next line, and one of the reasons of lines
+  pub fault : past old ≡ Reading → IfErr result (IsNextFault (given old))
+  -- after the end, and after a fault, it is answered again, and nothing is read
+  pub past_now : past new ≡ past_of result
+  pub again : past old ≢ Reading → past_of result ≡ past old
+  pub still : past old ≢ Reading → new ≡ old
+  pub unread : past old ≢ Reading → to ≡ from
+  pub limit_now : limit new ≡ limit old
+  pub counted : IfOk result (λ line. OnSome line (given new ≡ given old + 1))
+  pub ended : result ≡ Ok None → given new ≡ given old
+  pub refused : OnErr result (given new ≡ given old)

@@ -1,7 +1,7 @@
 //! The bytes that are read ahead of the lines.
 ghost use Rattle.std.specs.Prelude.{◌≡◌, ◌+◌, ◌<◌, ◌≤◌, [], length, take, drop};
 ghost use Rattle.std.specs.Prelude.{true, false, Some, Ok, IfOk, OnErr};
-ghost use Rattle.std.specs.Prelude.{IfSome, IfNone, IsSome, ◌≢◌};
+ghost use Rattle.std.specs.Prelude.{IfSome, IfNone, IsSome, IsTrue, ◌≢◌};
 ghost use Rattle.std.specs.Io.KnownBytes.{Keeps, Consumes, IsAtEnd};
 ghost use Rattle.cif_columns.specs.FirstLine.{is_decided};
 ghost use Rattle.cif_columns.specs.Source.{Reads, reader_of, source_failed};
@@ -89,19 +89,16 @@ impl Ahead {
     ghost use Rattle.cif_columns.specs.Ahead.{IfRefused};
     ghost use Rattle.cif_columns.specs.Contents.{IsLineReason};
 
-    /// The line that stands first in the held bytes, if it is 80 bytes and a line feed. Most are, and
-    /// this gives them with few copies.
-    pub(crate) fn plain_line(&self, is_full: bool) -> Option<Line>
-        ensures found { IfSome result (λ line. Decides is_full (held_bytes self.now)
-            (Found.Next line) (drop 81 (held_bytes self.now))) }
-        ensures decided { IsSome result → is_decided is_full (held_bytes self.now) ≡ true }
-        ensures within { IsSome result → 81 ≤ length (held_bytes self.now) }
-        ensures not_full { IsSome result → is_full ≡ false }
+    /// Makes it the line that stands first in the held bytes, if that is 80 bytes and a line feed, and
+    /// tells whether it did. Most lines are, and this gives them with one copy.
+    pub(crate) fn plain_line(&self, is_full: bool, line: &mut Line) -> bool
+        ensures found { IsTrue result → Decides is_full (held_bytes self.now)
+            (Found.Next line.new) (drop 81 (held_bytes self.now)) }
+        ensures decided { IsTrue result → is_decided is_full (held_bytes self.now) ≡ true }
+        ensures within { IsTrue result → 81 ≤ length (held_bytes self.now) }
+        ensures not_full { IsTrue result → is_full ≡ false }
     {
-        if is_full {
-            return None;
-        }
-        first_plain_line(self.as_slice())
+        !is_full && first_plain_line(self.as_slice(), line)
     }
 
     /// Passes over 80 bytes and a line feed.

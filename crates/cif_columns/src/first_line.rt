@@ -32,7 +32,8 @@ pub(crate) fn first_line_of(bytes: &[u8], is_full: bool) -> Option<FirstLine>
         let line = Err(Refusal::TooManyLines);
         return Some(FirstLine { line, taken: 0 });
     }
-    if let Some(line) = plain_line(bytes) {
+    let mut line = Line::blank();
+    if take_plain_line(bytes, &mut line) {
         let line = Ok(line);
         return Some(FirstLine { line, taken: 81 });
     }
@@ -50,29 +51,32 @@ pub(crate) fn first_line_of(bytes: &[u8], is_full: bool) -> Option<FirstLine>
     Some(FirstLine { line, taken: 0 })
 }
 
-/// The first line of the bytes, where that is 80 bytes and a line feed.
+/// Makes it the first line of the bytes, if that is 80 bytes and a line feed, and tells whether it did.
 #[tactic(auto, unfolding(crate::specs::FirstLine::first_line, crate::specs::FirstLine::is_decided))]
-pub(crate) fn first_plain_line(bytes: &[u8]) -> Option<Line>
-    ensures line { IfSome result (λ line. first_line false bytes.now ≡ Ok line) }
-    ensures decided { IsSome result → is_decided false bytes.now ≡ true }
-    ensures within { IsSome result → 81 ≤ length bytes.now }
-    ensures rest { IsSome result → drop 81 bytes.now ≡ after_content bytes.now }
-    ensures ended { IsSome result → has_line_feed bytes.now ≡ true }
+pub(crate) fn first_plain_line(bytes: &[u8], line: &mut Line) -> bool
+    ensures line { IsTrue result → first_line false bytes.now ≡ Ok line.new }
+    ensures decided { IsTrue result → is_decided false bytes.now ≡ true }
+    ensures within { IsTrue result → 81 ≤ length bytes.now }
+    ensures rest { IsTrue result → drop 81 bytes.now ≡ after_content bytes.now }
+    ensures ended { IsTrue result → has_line_feed bytes.now ≡ true }
 {
-    plain_line(bytes)
+    take_plain_line(bytes, line)
 }
 
-// The line that 80 bytes and a line feed are.
-fn plain_line(bytes: &[u8]) -> Option<Line>
-    ensures line { IfSome result (λ line. line ≡ take 80 bytes.now) }
-    ensures printable { IfSome result (λ line. IsTrue (list_all is_printable (take 80 bytes.now))) }
-    ensures length { IfSome result (λ line. 80 < length bytes.now) }
-    ensures ended { IfSome result (λ line. position_or_len is_line_feed bytes.now ≡ 80) }
+// Makes it the line that 80 bytes and a line feed are, if they are one.
+fn take_plain_line(bytes: &[u8], line: &mut Line) -> bool
+    ensures line { IsTrue result → line.new ≡ take 80 bytes.now }
+    ensures printable { IsTrue result → IsTrue (list_all is_printable (take 80 bytes.now)) }
+    ensures length { IsTrue result → 80 < length bytes.now }
+    ensures ended { IsTrue result → position_or_len is_line_feed bytes.now ≡ 80 }
 {
     if bytes.len() <= 80 || bytes[80] != b'\n' {
-        return None;
+        return false;
     }
-    Line::of(*bytes.first_chunk::<80>()?)
+    match bytes.first_chunk::<80>() {
+        Some(columns) => line.replace(columns),
+        None => false,
+    }
 }
 
 // Where the first line feed is, if it is among the first 82 bytes.

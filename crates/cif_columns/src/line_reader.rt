@@ -1,8 +1,5 @@
 //! Lines, one by one, from a source that gives its bytes in any pieces.
-ghost use Rattle.std.specs.Prelude.{◌≡◌, ◌≢◌, ◌+◌, ◌≤◌, false, [], Err, Ok, None, IfSome};
-ghost use Rattle.std.specs.Prelude.{OnErr, IfErr, IfOk, OnSome};
-ghost use Rattle.cif_columns.specs.Contents.{DecidesNothing};
-ghost use Rattle.cif_columns.specs.Source.{source_failed};
+ghost use Rattle.std.specs.Prelude.{◌≡◌, ◌≤◌, []};
 ghost use Rattle.cif_columns.specs.declared.line_reader.TheConstants.{MAX_LINES};
 
 use crate::ahead::{Ahead, Found};
@@ -37,8 +34,7 @@ pub struct LineReader {
 }
 
 impl LineReader {
-    ghost use Rattle.cif_columns.specs.LineReader.{held, given, limit, past, past_of, left};
-    ghost use Rattle.cif_columns.specs.LineReader.{Answers, IsNextFault, LineReads};
+    ghost use Rattle.cif_columns.specs.LineReader.{held, given, limit, line_read, past, IsNext};
     ghost use Rattle.cif_columns.specs.declared.line_reader.Past.TheVariants.{Reading};
 
     /// A reader that will give at most `max_lines` lines.
@@ -69,58 +65,49 @@ impl LineReader {
     /// The source is read only while the held bytes decide no line, each time once. A line is
     /// decided by its line feed, by 82 bytes with none, by its first byte if it is one too many,
     /// and by the end of the input.
-    // It is called for each line. Where it is inlined, the line isn't copied once more.
-    #[inline(always)]
     pub fn next<R: ReadDevice>(&mut self, source: &mut Source<R>) -> Result<Option<Line>, LineFault>
-        // The answer is the first line of the bytes that are left, and the bytes after it are left
-        // then.
-        ensures answer { past self.old ≡ Reading
-            → IfSome (left R.remaining self.old source.old) (λ bytes.
-            Answers (limit self.old) (given self.old) bytes result
-            (left R.remaining self.new source.new)) }
+        ensures { IsNext R.remaining R.read_errors self.old source.old result self.new source.new }
+    {
+        let mut line = Line::blank();
+        if self.read_line(source, &mut line)? {
+            Ok(Some(line))
+        } else {
+            Ok(None)
+        }
+    }
 
-        // A source that fails is reported where the bytes before the failure decide nothing. One
-        // that has failed has no end.
-        ensures device { past self.old ≡ Reading
-            → LineReads R.read_errors source.old source.new result }
-        ensures undecided { past self.old ≡ Reading → result ≡ Err LineFault.Read
-            → DecidesNothing (limit self.old) (given self.old) (held self.new) }
-        ensures endless { past self.old ≡ Reading → result ≡ Ok None
-            → source_failed source.old ≡ false }
-
-        // Over whatever source: a refusal names the next line, and one of the reasons of lines.
-        ensures fault { past self.old ≡ Reading → IfErr result (IsNextFault (given self.old)) }
-
-        // After the end, and after a fault, it is answered again, and nothing is read.
-        ensures past { past self.new ≡ past_of result }
-        ensures again { past self.old ≢ Reading → past_of result ≡ past self.old }
-        ensures still { past self.old ≢ Reading → self.new ≡ self.old }
-        ensures unread { past self.old ≢ Reading → source.new ≡ source.old }
-
-        ensures limit { limit self.new ≡ limit self.old }
-        ensures counted { IfOk result (λ line. OnSome line (given self.new ≡ given self.old + 1)) }
-        ensures ended { result ≡ Ok None → given self.new ≡ given self.old }
-        ensures refused { OnErr result (given self.new ≡ given self.old) }
+    /// Puts the next line into `line`, and tells whether there was one; it answers as `next` does, and
+    /// what stands in `line` means nothing where there was none.
+    // It is called for each line, so that the line is copied once, from what was read ahead.
+    #[inline(always)]
+    pub fn read_line<R: ReadDevice>(
+        &mut self,
+        source: &mut Source<R>,
+        line: &mut Line,
+    ) -> Result<bool, LineFault>
+        ensures { IsNext R.remaining R.read_errors self.old source.old (line_read result line.new)
+            self.new source.new }
     {
         match self.past {
             Past::Reading => {}
-            Past::Ended => return Ok(None),
+            Past::Ended => return Ok(false),
             Past::Faulted(fault) => return Err(fault),
         }
         let is_full = self.given == self.limit;
-        if let Some(line) = self.ahead.plain_line(is_full) {
+        if self.ahead.plain_line(is_full, line) {
             self.ahead.pass_plain_line();
             self.given += 1;
-            return Ok(Some(line));
+            return Ok(true);
         }
         match self.ahead.next_line(is_full, source) {
-            Found::Next(line) => {
+            Found::Next(next) => {
+                *line = next;
                 self.given += 1;
-                Ok(Some(line))
+                Ok(true)
             }
             Found::End => {
                 self.past = Past::Ended;
-                Ok(None)
+                Ok(false)
             }
             Found::Refused(why) => {
                 let line = self.given + 1;

@@ -8,7 +8,7 @@ ghost use Rattle.cif_extract.specs.SpellsExtract.{BytesSpellWithin};
 
 use crate::reading::Reading;
 use crate::{Extract, Fault};
-use cif_columns::{LineReader, ReadDevice, Source};
+use cif_columns::{Line, LineReader, ReadDevice, Source};
 use std::alloc::Global;
 
 /// The extract that the source's lines spell, of which at most `max_lines` may come.
@@ -36,13 +36,16 @@ pub fn read_extract<R: ReadDevice>(
 {
     let mut lines = LineReader::new(max_lines);
     let mut reading = Reading::new(alloc);
+    let mut line = Line::blank();
     loop {
-        match lines.next(source)? {
-            Some(line) => match reading.take(alloc, &line) {
+        let is_line = lines.read_line(source, &mut line)?;
+        if is_line {
+            match reading.take(alloc, &line) {
                 Ok(()) => {}
                 Err(stop) => return Err(stop.line(lines.line_number())),
-            },
-            None => return reading.finish(lines.line_number()),
+            }
+        } else {
+            return reading.finish(lines.line_number());
         }
     }
 }

@@ -1,5 +1,5 @@
-use Rattle.cif_columns.proofs.DecidedLines.{plain_rest}
+use Rattle.std.proofs.Common.{◌+◌, ap, sym, drop}
 use Rattle.cif_columns.proofs.first_line.first_plain_line.Goals as goal
 
 pub returns-clause-rest : goal.returns-clause-rest
-returns-clause-rest c = plain_rest c.args.bytes.now c.plain_line.result c.plain_line.ensures.ended
+returns-clause-rest c took = ap (λ n. drop (n + 1) c.args.bytes.now) (sym (c.take_plain_line.ensures.ended took))

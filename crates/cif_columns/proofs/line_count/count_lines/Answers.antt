@@ -20,7 +20,7 @@ loop-lines-preserved g c =
     let is = c.in-Ok-Some.field-0-is in (
       ls ++ line ∷ [],
       reading_line g.R.Read.remaining _ _ _ _ ls so_far c.next.new.self c.next.new.source line
-          (rw is at next.answer) (next.past ∙ rw is) next.limit (rw is at next.counted),
+          (rw is at next.answer) (next.past_now ∙ rw is) next.limit_now (rw is at next.counted),
       read_on_both _ _ _ _ read_on (next.device so_far.reads_on),
     )
 

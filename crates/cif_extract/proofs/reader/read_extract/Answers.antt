@@ -20,15 +20,14 @@ if_extract (Err e) h = tt
 pub loop-reading-preserved : goal.loop-reading-preserved
 loop-reading-preserved g c =
     let (ls, so_far, come, read_on) = c.loop-reading.invariant in
-    let next = c.in_ok-line.ensures in
-    let is = c.in-Some.is in
-    let line = c.in-Some.line in
-    let more : given c.next.new.self ≡ given c.loop-reading.lines + 1 = rw is at next.counted in
-    let room : length ls < c.args.max_lines = omega (arith, more, so_far.counted, so_far.same_limit, next.limit, c.next.new.self.counted)
+    let next = rw c.if-is_line.true at c.in_ok-is_line.ensures in
+    let line = c.read_line.new.line in
+    let more : given c.read_line.new.self ≡ given c.loop-reading.lines + 1 = next.counted in
+    let room : length ls < c.args.max_lines = omega (arith, more, so_far.counted, so_far.same_limit, next.limit_now, c.read_line.new.self.counted)
     in (
       ls ++ line ∷ [],
-      reading_line g.R.Read.remaining _ _ _ _ ls so_far c.next.new.self c.next.new.source line (rw is at next.answer) (next.past ∙ rw is)
-          next.limit more,
+      reading_line g.R.Read.remaining _ _ _ _ ls so_far c.read_line.new.self c.read_line.new.source line next.answer next.past_now
+          next.limit_now more,
       come_more c.args.max_lines ls line c.take.ensures.line room (progress_of c.loop-reading.reading) come (progress_of c.take.new.self)
           c.in-Ok.ensures.taken,
       read_on_both _ _ _ _ read_on (next.device so_far.reads_on),
@@ -37,29 +36,28 @@ loop-reading-preserved g c =
 pub returns-in-Err-clause-fault : goal.returns-in-Err-clause-fault
 returns-in-Err-clause-fault g c =
     let (ls, so_far, come, read_on) = c.loop-reading.invariant in
-    let next = c.in_ok-line.ensures in
-    let is = c.in-Some.is in
-    let line = c.in-Some.line in
-    let more : given c.next.new.self ≡ given c.loop-reading.lines + 1 = rw is at next.counted in
-    let room : length ls < c.args.max_lines = omega (arith, more, so_far.counted, so_far.same_limit, next.limit, c.next.new.self.counted) in
+    let next = rw c.if-is_line.true at c.in_ok-is_line.ensures in
+    let line = c.read_line.new.line in
+    let more : given c.read_line.new.self ≡ given c.loop-reading.lines + 1 = next.counted in
+    let room : length ls < c.args.max_lines = omega (arith, more, so_far.counted, so_far.same_limit, next.limit_now, c.read_line.new.self.counted) in
     let now =
-    reading_line g.R.Read.remaining _ _ _ _ ls so_far c.next.new.self c.next.new.source line (rw is at next.answer) (next.past ∙ rw is)
-    next.limit more in
+    reading_line g.R.Read.remaining _ _ _ _ ls so_far c.read_line.new.self c.read_line.new.source line next.answer next.past_now
+    next.limit_now more in
     let number : c.line_number.result ≡ length ls + 1 = omega (arith, c.line_number.ensures, more, so_far.counted) in
     rw c.line.ensures
-    (stop_result _ (g.R.Read.remaining c.next.new.source.reader) c.args.max_lines c.line_number.result c.in-Err.stop
-    (λ why e. at_line c.args.max_lines _ ls come.fine g.R.Read.remaining c.next.new.self c.next.new.source line
+    (stop_result _ (g.R.Read.remaining c.read_line.new.source.reader) c.args.max_lines c.line_number.result c.in-Err.stop
+    (λ why e. at_line c.args.max_lines _ ls come.fine g.R.Read.remaining c.read_line.new.self c.read_line.new.source line
     c.line_number.result why
     now number
     (refused_here c.args.max_lines ls line c.take.ensures.line room (progress_of c.loop-reading.reading) come
     ∙ refused_reason _ line (progress_of c.loop-reading.reading) (progress_of c.take.new.self) c.in-Err.stop why c.in-Err.ensures.taken e)))
 
-pub returns-in_err-line-clause-fault : goal.returns-in_err-line-clause-fault
-returns-in_err-line-clause-fault g c =
+pub returns-in_err-is_line-clause-fault : goal.returns-in_err-is_line-clause-fault
+returns-in_err-is_line-clause-fault g c =
     let (ls, so_far, come, read_on) = c.loop-reading.invariant in
-    let next = c.in_err-line.ensures in
-    let line_fault = c.in_err-line.field-0.0 in
-    let after = g.R.Read.remaining c.next.new.source.reader in
+    let next = c.in_err-is_line.ensures in
+    let line_fault = c.in_err-is_line.field-0.0 in
+    let after = g.R.Read.remaining c.read_line.new.source.reader in
     let p = err_from_is_err_and c.from_residual.result c.from_residual.ensures.1 in
     known_so (g.R.Read.remaining c.args.source.now.reader) (λ bytes. IsReadFault c.args.max_lines bytes after
     (of_line_fault line_fault))
@@ -68,72 +66,71 @@ returns-in_err-line-clause-fault g c =
     ∙ ap Err p.2)
     f)
     (at_fault c.args.max_lines _ ls come.fine after line_fault
-    (reading_faults g.R.Read.remaining _ _ _ _ ls so_far c.next.new.self c.next.new.source line_fault next.answer
+    (reading_faults g.R.Read.remaining _ _ _ _ ls so_far c.read_line.new.self c.read_line.new.source line_fault next.answer
     (λ e. next.undecided so_far.reads_on (ap Err e))))
 
-pub returns-in_err-line-clause-only : goal.returns-in_err-line-clause-only
-returns-in_err-line-clause-only g c =
+pub returns-in_err-is_line-clause-only : goal.returns-in_err-is_line-clause-only
+returns-in_err-is_line-clause-only g c =
     let p = err_from_is_err_and c.from_residual.result c.from_residual.ensures.1 in
-    only_fault (g.R.Read.remaining c.args.source.now.reader) c.args.max_lines (g.R.Read.remaining c.next.new.source.reader)
-    c.from_residual.result p.0 p.1 (returns-in_err-line-clause-fault g c)
+    only_fault (g.R.Read.remaining c.args.source.now.reader) c.args.max_lines (g.R.Read.remaining c.read_line.new.source.reader)
+    c.from_residual.result p.0 p.1 (returns-in_err-is_line-clause-fault g c)
 
 pub returns-in-Err-clause-only : goal.returns-in-Err-clause-only
 returns-in-Err-clause-only g c =
-    only_fault (g.R.Read.remaining c.args.source.now.reader) c.args.max_lines (g.R.Read.remaining c.next.new.source.reader)
+    only_fault (g.R.Read.remaining c.args.source.now.reader) c.args.max_lines (g.R.Read.remaining c.read_line.new.source.reader)
     (Err c.line.result) c.line.result refl (returns-in-Err-clause-fault g c)
 
-pub returns-in-None-clause-only : goal.returns-in-None-clause-only
-returns-in-None-clause-only g c =
+pub returns-else-is_line-clause-only : goal.returns-else-is_line-clause-only
+returns-else-is_line-clause-only g c =
     let (ls, so_far, come, read_on) = c.loop-reading.invariant in
-    let next = c.in_ok-line.ensures in
-    let is = c.in-None.is in
-    let all = reading_ends g.R.Read.remaining _ _ _ _ ls so_far c.next.new.self c.next.new.source (rw is at next.answer) in
-    let number : c.line_number-in-None.result ≡ length ls = c.line_number-in-None.ensures ∙ next.ended (ap Ok is) ∙ so_far.counted in
+    let next = rw c.if-is_line.false at c.in_ok-is_line.ensures in
+    let all = reading_ends g.R.Read.remaining _ _ _ _ ls so_far c.read_line.new.self c.read_line.new.source next.answer in
+    let number : c.line_number-else-is_line.result ≡ length ls = c.line_number-else-is_line.ensures ∙ next.ended refl ∙ so_far.counted in
     let start = g.R.Read.remaining c.args.source.now.reader in
-    let after = g.R.Read.remaining c.next.new.source.reader in
+    let after = g.R.Read.remaining c.read_line.new.source.reader in
     only_read start c.args.max_lines after c.finish.result
     (whole_result start c.args.max_lines ls (progress_of c.loop-reading.reading) c.finish.result all come c.finish.ensures.ok)
-    (unfinished_result start after c.args.max_lines ls (progress_of c.loop-reading.reading) c.line_number-in-None.result c.finish.result all
+    (unfinished_result start after c.args.max_lines ls (progress_of c.loop-reading.reading) c.line_number-else-is_line.result c.finish.result all
     come number c.finish.ensures.truncated)
 
-pub returns-in_err-line-clause-answers : goal.returns-in_err-line-clause-answers
-returns-in_err-line-clause-answers g c =
+pub returns-in_err-is_line-clause-answers : goal.returns-in_err-is_line-clause-answers
+returns-in_err-is_line-clause-answers g c =
     let (ls, so_far, come, read_on) = c.loop-reading.invariant in
     let p = err_from_is_err_and c.from_residual.result c.from_residual.ensures.1 in
     let within : given c.loop-reading.lines ≤ c.args.max_lines = omega (arith, c.loop-reading.lines.counted, so_far.same_limit) in
-    if_error (IsOfReading c.args.max_lines) c.from_residual.result (of_line_fault c.in_err-line.field-0.0) (p.1 ∙ ap Err p.2)
-    (line_fault_of_reading c.args.max_lines (given c.loop-reading.lines) c.in_err-line.field-0.0 within
-    (c.in_err-line.ensures.fault so_far.reads_on))
+    if_error (IsOfReading c.args.max_lines) c.from_residual.result (of_line_fault c.in_err-is_line.field-0.0) (p.1 ∙ ap Err p.2)
+    (line_fault_of_reading c.args.max_lines (given c.loop-reading.lines) c.in_err-is_line.field-0.0 within
+    (c.in_err-is_line.ensures.fault so_far.reads_on))
 
 pub returns-in-Err-clause-answers : goal.returns-in-Err-clause-answers
 returns-in-Err-clause-answers g c =
     let (ls, so_far, come, read_on) = c.loop-reading.invariant in
-    let next = c.in_ok-line.ensures in
+    let next = c.in_ok-is_line.ensures in
     let within : c.line_number.result ≤ c.args.max_lines =
-    omega (arith, c.line_number.ensures, c.next.new.self.counted, next.limit, so_far.same_limit) in
-    let more : given c.next.new.self ≡ given c.loop-reading.lines + 1 = rw c.in-Some.is at next.counted in
+    omega (arith, c.line_number.ensures, c.read_line.new.self.counted, next.limit_now, so_far.same_limit) in
+    let more : given c.read_line.new.self ≡ given c.loop-reading.lines + 1 = (rw c.if-is_line.true at next).counted in
     let first : 1 ≤ c.line_number.result = omega (arith, c.line_number.ensures, more) in
     rw c.line.ensures (stop_of_reading c.args.max_lines c.line_number.result c.in-Err.stop first within)
 
-pub returns-in-None-clause-answers : goal.returns-in-None-clause-answers
-returns-in-None-clause-answers g c =
+pub returns-else-is_line-clause-answers : goal.returns-else-is_line-clause-answers
+returns-else-is_line-clause-answers g c =
     let (ls, so_far, come, read_on) = c.loop-reading.invariant in
-    let next = c.in_ok-line.ensures in
-    let within : c.line_number-in-None.result ≤ c.args.max_lines =
-    omega (arith, c.line_number-in-None.ensures, c.next.new.self.counted, next.limit, so_far.same_limit) in
-    unfinished_of_reading c.args.max_lines (progress_of c.loop-reading.reading) c.line_number-in-None.result c.finish.result within
+    let next = c.in_ok-is_line.ensures in
+    let within : c.line_number-else-is_line.result ≤ c.args.max_lines =
+    omega (arith, c.line_number-else-is_line.ensures, c.read_line.new.self.counted, next.limit_now, so_far.same_limit) in
+    unfinished_of_reading c.args.max_lines (progress_of c.loop-reading.reading) c.line_number-else-is_line.result c.finish.result within
     c.finish.ensures.truncated
 
-pub returns-in-None-clause-end : goal.returns-in-None-clause-end
-returns-in-None-clause-end g c =
+pub returns-else-is_line-clause-end : goal.returns-else-is_line-clause-end
+returns-else-is_line-clause-end g c =
     let (ls, so_far, come, read_on) = c.loop-reading.invariant in
-    let next = c.in_ok-line.ensures in
+    let next = rw c.if-is_line.false at c.in_ok-is_line.ensures in
     known_so _ _ _ (λ bytes none. if_extract c.finish.result none)
-    (nothing_left g.R.Read.remaining _ _ _ _ ls so_far c.next.new.self c.next.new.source (rw c.in-None.is at next.answer))
+    (nothing_left g.R.Read.remaining _ _ _ _ ls so_far c.read_line.new.self c.read_line.new.source next.answer)
 
-pub returns-in_err-line-clause-device : goal.returns-in_err-line-clause-device
-returns-in_err-line-clause-device g c =
+pub returns-in_err-is_line-clause-device : goal.returns-in_err-is_line-clause-device
+returns-in_err-is_line-clause-device g c =
     let (ls, so_far, come, read_on) = c.loop-reading.invariant in
     let p = err_from_is_err_and c.from_residual.result c.from_residual.ensures.1 in
-    fault_handed_on _ _ _ _ c.in_err-line.field-0.0 c.from_residual.result (p.1 ∙ ap Err p.2) read_on
-    (c.in_err-line.ensures.device so_far.reads_on)
+    fault_handed_on _ _ _ _ c.in_err-is_line.field-0.0 c.from_residual.result (p.1 ∙ ap Err p.2) read_on
+    (c.in_err-is_line.ensures.device so_far.reads_on)

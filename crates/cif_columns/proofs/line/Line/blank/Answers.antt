@@ -1,0 +1,6 @@
+use Rattle.cif_columns.specs.Field.{spare}
+use Rattle.cif_columns.proofs.PlainLines.{printable-plain_columns}
+use Rattle.cif_columns.proofs.line.Line.blank.Goals as goal
+
+pub invariant_of-result : goal.invariant_of-result
+invariant_of-result c = printable-plain_columns 80 spare tt
