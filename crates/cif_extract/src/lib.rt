@@ -1,4 +1,5 @@
-//! Extracts of the CIF timetable format: what is refused and where, and the printing of records.
+//! Extracts of the CIF timetable format: reading a whole one, what is refused and where, and the printing
+//! of records.
 #![tactic(auto)]
 
 mod body;

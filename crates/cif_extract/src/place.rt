@@ -16,11 +16,11 @@ pub(crate) enum Place {
     Associations,
     /// After the BS of a schedule that runs.
     Basic,
-    /// After its BX.
+    /// After the BX of a schedule that runs.
     Extra,
     /// After the BS of a cancellation.
     Cancelled,
-    /// After its BX.
+    /// After the BX of a cancellation.
     CancelledExtra,
     /// After LO, LI or CR.
     Journey,
