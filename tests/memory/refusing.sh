@@ -1,30 +1,36 @@
-# What the runners of tests/memory share, beside tests/shared.sh.
+# What the runners of tests/memory share, beside tests/shared.sh. Each has a function `is_right WANTED` of its own, which
+# tells whether a run's answer is right where that of the folder WANTED is the one with ample memory.
 
-# begin_refusing PATH_TO_PROGRAM: begins, with the library that refuses, and the answer of a program that has
-# no memory: status 4, and no output
+# begin_refusing PATH_TO_PROGRAM STATUS: begins, with the library that refuses, and the answer of a program that ends
+# for want of memory: this status, and no output
 begin_refusing() {
     begin "$1"
     preload "$here/refuse_nth.c"
     mkdir "$work/memory"
     : > "$work/memory/stdout"
-    echo 4 > "$work/memory/status"
+    echo "$2" > "$work/memory/status"
+}
+
+# is_refused: whether an allocation of the run was refused
+is_refused() {
+    [ -s "$work/told" ]
 }
 
 # refuse_each ROW WANTED: runs the program on the row with its first allocation refused, with its second, and so
-# on until none is; each run has to give the answer of the folder WANTED or that of $work/memory
+# on until none is; each run has to be right
 refuse_each() {
     n=0
     while :; do
         n=$((n + 1))
         in_row "$1" env LD_PRELOAD="$library" REFUSE_NTH="$n" "$cif"
-        if answers "$2" || { [ -s "$work/told" ] && answers "$work/memory"; }; then
+        if is_right "$2"; then
             pass
         else
             fail
             echo "$(basename "$1"), with allocation $n refused"
             differences "$2"
         fi
-        [ -s "$work/told" ] || break
+        is_refused || break
     done
     if [ "$n" -eq 1 ]; then
         fail

@@ -9,15 +9,6 @@ use cif_records::Basic;
 use std::rt::Clock;
 use std::time::Instant;
 
-/// Reads an extract, and prints what it has.
-pub(crate) fn say_extract<D: ReadDevice>(
-    rt: &(impl Print + AllocGlobal),
-    source: &mut Source<D>,
-) -> Result<(), Fault> {
-    let extract = read_extract(rt.alloc(), source, MAX_LINES)?;
-    say_what_it_has(rt, &extract)
-}
-
 /// Reads an extract, and prints what it has, and the nanoseconds that the reading took.
 pub(crate) fn time_reading<D: ReadDevice>(
     rt: &(impl Clock + Print + AllocGlobal),

@@ -9,9 +9,7 @@ use std::rt::Env;
 #[derive(Clone, Copy)]
 pub(crate) enum Job {
     Lines,
-    PlainLines,
     TimeRecords,
-    Read,
     TimeRead,
     Calendar,
     TimeCalendar { repeats: u32 },
@@ -31,9 +29,7 @@ pub(crate) fn words_of<R: Env + AllocGlobal>(rt: &R) -> Result<Vec<String>, Faul
 pub(crate) fn job_of(words: &[String]) -> Option<Job> {
     match words.get(1)?.as_str() {
         "lines" => Some(Job::Lines),
-        "plain-lines" => Some(Job::PlainLines),
         "time-records" => Some(Job::TimeRecords),
-        "read" => Some(Job::Read),
         "time-read" => Some(Job::TimeRead),
         "calendar" => Some(Job::Calendar),
         "time-calendar" => Some(Job::TimeCalendar {

@@ -2,9 +2,7 @@
 //! reads the standard input. JOB is one of these:
 //!
 //! - `lines`: copies lines of 80 columns to the standard output.
-//! - `plain-lines`: writes the plain line of each line to the standard output.
 //! - `time-records`: says how long the calls on records take for the lines.
-//! - `read`: reads an extract, and says what it has.
 //! - `time-read`: reads an extract, and says what it has and how long that took.
 //! - `calendar`: makes the calendar of all schedules of an extract, and the runs of that in form 2,
 //!   and says what these have.
@@ -14,7 +12,7 @@
 //!   and makes the calendar once.
 //!
 //! It is no part of the product: `bench/` has the scripts that measure it, and the plain Rust
-//! programs to compare it with. `tests/memory/run_bench` refuses it memory.
+//! programs to compare it with.
 #![tactic(auto)]
 
 mod calendars;
@@ -30,11 +28,11 @@ mod train;
 
 use calendars::{say_calendar, time_calendar};
 use cif_columns::{ReadDevice, Source};
-use extracts::{say_extract, time_reading};
+use extracts::time_reading;
 use fault::Fault;
 use job::{Job, job_of, words_of};
 use joined::time_runs;
-use lines::{Made, write_lines};
+use lines::copy_lines;
 use records::time_records;
 use std::fs;
 use std::process::ExitCode;
@@ -72,10 +70,8 @@ fn do_job<D: ReadDevice>(
     source: &mut Source<D>,
 ) -> Result<(), Fault> {
     match job {
-        Job::Lines => write_lines(rt, source, Made::Copied),
-        Job::PlainLines => write_lines(rt, source, Made::Plain),
+        Job::Lines => copy_lines(rt, source),
         Job::TimeRecords => time_records(rt, source),
-        Job::Read => say_extract(rt, source),
         Job::TimeRead => time_reading(rt, source),
         Job::Calendar => say_calendar(rt, source),
         Job::TimeCalendar { repeats } => time_calendar(rt, source, repeats),
