@@ -37,55 +37,15 @@ not_gt Less h = h
 not_gt Equal h = refl
 not_gt Greater h = refl
 
-not_lt : (o : Ordering) → is_le o ≡ true → is_lt (ordering_reverse o) ≡ false
+pub not_lt : (o : Ordering) → is_le o ≡ true → is_lt (ordering_reverse o) ≡ false
 not_lt Less h = refl
 not_lt Equal h = refl
 not_lt Greater h = sym h
 
 module _ {E K B : Type 0} (key : E → K) (terms : E → Terms B) where
-  key-found : (o : Option E) (k : K) (r : Terms B) → option_map {U = K × Terms B} (λ e. (key e, terms e)) o ≡ Some (k, r) →
-      option_map key o ≡ Some k
-  key-found None k r e = absurd (cc)
-  key-found (Some x) k r e = ap (λ (q : Option (K × Terms B)). option_map (λ p. p.0) q) e
-
-  key_at : (es : List E) (i : ℕ) (k : K) → HasKey (keyed key terms es) i k → slice_get (map key es) i ≡ Some k
-  key_at es i k h =
-      slice_get-map key es i ∙ key-found (slice_get es i) k h.terms (sym (slice_get-map (λ x. (key x, terms x)) es i) ∙ h.at)
-
   -- the key at an entry's position
   pub has-key : (es : List E) (i : ℕ) (e : E) → i < length es → e ≡ get_or es i e → HasKey (keyed key terms es) i (key e)
   has-key es i e below is = record { terms = terms e; at = terms_at (λ x. (key x, terms x)) es i e below is }
 
-  pub within-keyed : (es : List E) (i : ℕ) → i < length es → i < length (keyed key terms es)
-  within-keyed es i h = let e : length (keyed key terms es) ≡ length es = length-map es (λ x. (key x, terms x)) in omega arith
-
   pub within-entries : (es : List E) (i : ℕ) → i < length (keyed key terms es) → i < length es
   within-entries es i h = let e : length (keyed key terms es) ≡ length es = length-map es (λ x. (key x, terms x)) in omega arith
-
-  -- positions that are sorted by their keys
-  pub rising-from_sort : (cmp : K → K → Ordering) → IsTotalOrder cmp → (es : List E) (positions : List ℕ) →
-      IsSortedBy (λ i j. is_lt (option_cmp cmp (slice_get (map key es) i) (slice_get (map key es) j))) positions →
-      IsRising cmp (keyed key terms es) positions
-  rising-from_sort cmp total es positions sorted = record {
-    pairs = λ i j d lt below a b p q.
-        let le : i ≤ j = omega arith in
-        let far : is_lt (option_cmp cmp (slice_get (map key es) (get_or positions j d))
-        (slice_get (map key es) (get_or positions i d))) ≡ false =
-        sorted_far _ (ranks_by (options_total total) (λ i. slice_get (map key es) i)) positions sorted i j d le below in
-        let there : slice_get (map key es) (get_or positions j d) ≡ Some b = key_at es (get_or positions j d) b q in
-        let here : slice_get (map key es) (get_or positions i d) ≡ Some a = key_at es (get_or positions i d) a p in
-        let plain : is_lt (cmp b a) ≡ false =
-        sym (ap (λ o. is_lt (option_cmp cmp o (slice_get (map key es) (get_or positions i d)))) there
-        ∙ ap (λ o. is_lt (option_cmp cmp (Some b) o)) here) ∙ far in
-        ap is_gt (total.antisymm a b) ∙ not_gt (cmp b a) plain;
-  }
-
-  -- so are those that the test takes
-  pub rising-from_test : (cmp : K → K → Ordering) → IsTotalOrder cmp → (es : List E) (positions : List ℕ) (r : Bool) →
-      IsAllAdjacentAnswer (λ i j b. b ≡ is_le (option_cmp cmp (slice_get (map key es) i) (slice_get (map key es) j))) positions r →
-      r ≡ true → IsRising cmp (keyed key terms es) positions
-  rising-from_test cmp total es positions false up no_rise = absurd (cc)
-  rising-from_test cmp total es positions true up rise = rising-from_sort cmp total es positions (λ k d from within.
-      ap is_lt ((options_total total).antisymm (slice_get (map key es) (get_or positions (k + 1) d))
-      (slice_get (map key es) (get_or positions k d)))
-      ∙ not_lt _ (sym (up k d within)))

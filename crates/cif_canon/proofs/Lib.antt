@@ -19,6 +19,7 @@ pub mod Normalising
 pub mod RunTexts
 pub mod RunningRecords
 pub mod SameExtracts
+pub mod SortedTurns
 pub mod Unique
 pub mod ViewLines
 pub mod ViewTexts

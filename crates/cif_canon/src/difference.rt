@@ -10,19 +10,21 @@ ghost use Rattle.cif_weeks.specs.Runs.{AreSources};
 ghost use Rattle.cif_canon.specs.Comparison.{IsFirstDifference};
 ghost use Rattle.cif_canon.specs.Steps.Differences.{AreAlikeBy, FindsOther, HasBodies, IsBodied};
 
-use crate::turns::{count_of_key, first_entry, positions_by_key};
+use crate::turns::{CopiedKey, count_of_key, first_entry, positions_by_key};
 use cif_calendar::{Calendar, CalendarFault, Entry, Piece, Window, calendar_in_room, same_body};
 use cif_columns::Day;
 use std::alloc::{AllocError, Global};
 
 /// The first key, and its first date of the window, of which the two lists say different things: an
 /// entry with the key, and the date. Neither list has a clash in the window.
-pub(crate) fn first_difference<'a, E: Entry>(
+pub(crate) fn first_difference<'a, E: CopiedKey>(
     alloc: Global,
     left: &'a [E],
     right: &'a [E],
     window: &Window,
 ) -> Result<Option<(&'a E, Day)>, AllocError>
+where
+    E::Key: Drop,
     requires left { AreClear (keyed E.key E.terms left.now) window.now.first window.now.last }
     requires right { AreClear (keyed E.key E.terms right.now) window.now.first window.now.last }
     ensures none { IfOk result (λ found. IfNone found (SameMeaning (keyed E.key E.terms left.now)

@@ -5,7 +5,7 @@ ghost use Rattle.cif_calendar.specs.Keys.{keyed, ArePositionsOf};
 ghost use Rattle.cif_canon.specs.Steps.Records.{AreCanonicalRecords, IsRecordsFault};
 ghost use Rattle.cif_canon.specs.Steps.Records.{AreRunsOfKey, IsKeyFault, records_fault, window_from};
 
-use crate::turns::{first_run, positions_by_key};
+use crate::turns::{CopiedKey, first_run, positions_by_key};
 use cif_calendar::{CalendarFault, Entry, Piece, Window, calendar_in_room};
 use cif_columns::Day;
 use cif_weeks::{Form, Run, runs_in_room};
@@ -86,12 +86,14 @@ fn runs_of_key<E: Entry>(
 ///
 /// `Clash` comes only where on some date two winners of a key have different bodies, and names the
 /// first such key and its first such date; `Memory` where a growth was refused.
-pub(crate) fn canonical_records<E: Entry>(
+pub(crate) fn canonical_records<E: CopiedKey>(
     alloc: Global,
     entries: &[E],
     window: Window,
     form: Form,
 ) -> Result<Vec<Run>, RecordsFault>
+where
+    E::Key: Drop,
     ensures records { IfOk result (λ runs.
         AreCanonicalRecords E.Key.cmp form (window_from window.first window.last)
         (keyed E.key E.terms entries.now) runs.items) }

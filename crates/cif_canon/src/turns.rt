@@ -1,53 +1,95 @@
 //! The positions of entries in the order of their keys.
 ghost use Rattle.std.specs.Prelude.{◌≡◌, ℕ, ◌<◌, ◌≤◌, All, Contains, length, map};
-ghost use Rattle.std.specs.Prelude.{IfNone, IfOk, IfSome, slice_get};
-ghost use Rattle.std.specs.List.{range_with_len};
-ghost use Rattle.std.specs.Option.{option_cmp};
+ghost use Rattle.std.specs.Prelude.{IfNone, IfOk, IfSome, OnOk};
+ghost use Rattle.std.specs.List.Sorted.{IsPermutation};
 ghost use Rattle.cif_calendar.specs.Keys.{keyed};
 ghost use Rattle.cif_canon.specs.Steps.Turns.{AreFrom, IsFirstOfBoth, IsFirstRun, IsFront};
-ghost use Rattle.cif_canon.specs.Steps.Turns.{IsRising};
+ghost use Rattle.cif_canon.specs.Steps.Turns.{AreRisingTurns, IsRising, turns_from};
 
 use cif_calendar::Entry;
+use cif_columns::Uid;
+use cif_extract::Schedule;
+use cif_records::{AssocKey, Association};
 use std::alloc::{AllocError, Global};
-use std::cmp::Ordering;
 
-/// How the entries at two positions compare by their keys. A position without an entry is first: that
-/// the positions have entries isn't known to the closure of a sort.
-fn compare_keys<E: Entry>(entries: &[E], one: usize, other: usize) -> Ordering
-    ensures { result ≡ option_cmp E.Key.cmp (slice_get (map E.key entries.now) one)
-        (slice_get (map E.key entries.now) other) }
-{
-    match (entries.get(one), entries.get(other)) {
-        (Some(x), Some(y)) => x.key().cmp(y.key()),
-        (Some(_), None) => Ordering::Greater,
-        (None, Some(_)) => Ordering::Less,
-        (None, None) => Ordering::Equal,
+/// An entry whose key can be copied.
+pub(crate) trait CopiedKey: Entry {
+    /// What the record is about.
+    fn copied_key(&self) -> Self::Key
+        ensures { result ≡ Self.key self.now };
+}
+
+impl CopiedKey for Association {
+    fn copied_key(&self) -> AssocKey {
+        self.key.copy()
     }
 }
 
-/// The positions of `count` entries.
-fn all_positions(alloc: Global, count: usize) -> Result<Vec<usize>, AllocError>
-    ensures { IfOk result (λ positions. positions.items ≡ range_with_len 0 count) }
-{
-    (0..count).collect(alloc)
+impl CopiedKey for Schedule {
+    fn copied_key(&self) -> Uid {
+        self.uid
+    }
 }
 
-/// The positions of all entries, in the order of their keys. Entries that are in it are not sorted.
-pub(crate) fn positions_by_key<E: Entry>(
+/// The position of an entry, with its key: a sort that looked for the keys among the entries would
+/// wait for memory at each comparison.
+#[derive(Drop)]
+struct Turn<K: Drop> {
+    key: K,
+    position: usize,
+}
+
+/// The turns of the entries, in their own order.
+fn turns_of<E: CopiedKey>(alloc: Global, entries: &[E]) -> Result<Vec<Turn<E::Key>>, AllocError>
+where
+    E::Key: Drop,
+    ensures { IfOk result (λ turns. turns.items ≡ turns_from 0 (map E.key entries.now)) }
+{
+    let mut turns = Vec::with_capacity(alloc, entries.len())?;
+    for (position, entry) in entries.iter().enumerate() {
+        turns.push(Turn {
+            key: entry.copied_key(),
+            position,
+        })?;
+    }
+    Ok(turns)
+}
+
+/// Puts the turns in the order of their keys. Those that are in it are not sorted.
+fn sort_turns<K: Ord + Drop>(turns: &mut Vec<Turn<K>>) -> Result<(), AllocError>
+    ensures all { OnOk result (IsPermutation turns.old.items turns.new.items) }
+    ensures rising { OnOk result (AreRisingTurns K.cmp turns.new.items) }
+{
+    if turns.is_sorted_by(|one, other| one.key.cmp(&other.key).is_le()) {
+        return Ok(());
+    }
+    turns.sort_by(|one, other| one.key.cmp(&other.key))?;
+    Ok(())
+}
+
+/// The positions of the turns.
+fn positions_of<K: Drop>(alloc: Global, turns: &[Turn<K>]) -> Result<Vec<usize>, AllocError>
+    ensures { IfOk result (λ positions. positions.items ≡ map (λ t. t.position) turns.now) }
+{
+    turns.iter().map(|turn| turn.position).collect(alloc)
+}
+
+/// The positions of all entries, in the order of their keys.
+pub(crate) fn positions_by_key<E: CopiedKey>(
     alloc: Global,
     entries: &[E],
 ) -> Result<Vec<usize>, AllocError>
+where
+    E::Key: Drop,
     ensures within { IfOk result (λ positions. All (λ i. i < length entries.now) positions.items) }
     ensures whole { IfOk result (λ positions. (i : ℕ) → i < length entries.now →
         Contains positions.items i) }
     ensures rising { IfOk result (λ positions.
         IsRising E.Key.cmp (keyed E.key E.terms entries.now) positions.items) }
 {
-    let mut positions = all_positions(alloc, entries.len())?;
-    if positions.is_sorted_by(|one, other| compare_keys(entries, *one, *other).is_le()) {
-        return Ok(positions);
-    }
-    positions.sort_by(|one, other| compare_keys(entries, *one, *other))?;
+    let mut turns = turns_of(alloc, entries)?;
+    sort_turns(&mut turns)?;
+    let positions = positions_of(alloc, turns.as_slice())?;
     Ok(positions)
 }
 

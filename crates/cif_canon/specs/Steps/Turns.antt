@@ -1,9 +1,10 @@
 -- The positions of entries in the order of their keys, one key after another. No public clause cites them.
-use Rattle.std.specs.Prelude.{◌≡◌, ◌⊎◌, ℕ, ◌<◌, ◌≤◌, List, Some, All, AllPairs, Contains, slice_get, length, take, drop, false}
+use Rattle.std.specs.Prelude.{◌≡◌, ◌⊎◌, ℕ, ◌+◌, ◌<◌, ◌≤◌, List, [], ◌∷◌, Some, All, AllPairs, Contains, slice_get, length, take, drop, false}
 use Rattle.std.specs.Ordering.{is_gt}
 use Rattle.std.specs.declared.cmp.Ordering.{Ordering}
 use Rattle.std.specs.declared.cmp.Ordering.TheVariants.{Less}
 use Rattle.cif_calendar.specs.Terms.{Terms}
+use Rattle.cif_canon.specs.declared.turns.Turn.{Turn}
 
 -- at this position stands an entry of key k
 pub record HasKey {K B : Type 0} (entries : List (K × Terms B)) (position : ℕ) (k : K) : Type 0 where
@@ -47,3 +48,12 @@ pub record IsFirstOfBoth {K B : Type 0} (cmp : K → K → Ordering) (xs : List 
   pub has : AnyHasKey xs left key ⊎ AnyHasKey ys right key
   pub left_from : AreFrom cmp xs left key
   pub right_from : AreFrom cmp ys right key
+
+-- entries with these keys, from this position on
+abbrev pub turns_from : {K : Type 0} → ℕ → List K → List (Turn K)
+turns_from n [] = []
+turns_from n (key ∷ keys) = record { key = key; position = n } ∷ turns_from (n + 1) keys
+
+-- no turn's key is after that of a later one
+abbrev pub AreRisingTurns : {K : Type 0} → (K → K → Ordering) → List (Turn K) → Type 0
+AreRisingTurns cmp turns = AllPairs (λ s t. is_gt (cmp s.key t.key) ≡ false) turns

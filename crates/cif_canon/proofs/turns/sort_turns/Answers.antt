@@ -1,0 +1,21 @@
+use Rattle.std.proofs.Common.{List, rules, subst}
+use Rattle.std.specs.Ordering.{is_lt, is_le}
+use Rattle.std.proofs.lemmas.Fn.{always_returns_same}
+use Rattle.std.proofs.lemmas.List.Sorted.{ranks_by}
+use Rattle.cif_canon.specs.Steps.Turns.{AreRisingTurns}
+use Rattle.cif_canon.specs.declared.turns.Turn.{Turn}
+use Rattle.cif_canon.proofs.SortedTurns.{rising-from_sort, rising-from_test}
+use Rattle.cif_canon.proofs.turns.sort_turns.Goals as goal
+
+pub returns-then-is_sorted_by-clause-rising : goal.returns-then-is_sorted_by-clause-rising
+returns-then-is_sorted_by-clause-rising g c =
+    subst (AreRisingTurns g.K.Ord.cmp) c.deref.ensures.value
+    (rising-from_test g.K.Ord.cmp g.met.K.Ord.total _ _
+    (c.is_sorted_by.ensures.cases (λ s t. is_le (g.K.Ord.cmp s.key t.key)) (always_returns_same _ _ _ (λ a r f k. search rules)))
+    c.if-is_sorted_by.true)
+
+pub returns-clause-rising : goal.returns-clause-rising
+returns-clause-rising g c =
+    rising-from_sort g.K.Ord.cmp g.met.K.Ord.total _
+    (c.in_ok-sort_by.ensures.sorted (λ s t. is_lt (g.K.Ord.cmp s.key t.key)) (ranks_by g.met.K.Ord.total (λ t. t.key))
+    (always_returns_same _ _ _ (λ a r f k. search rules)))
