@@ -1,3 +1,4 @@
+-- What a range yields is a list by induction: `YieldsList-from_range` has it, and `items_from_collect` that it was collected.
 use Rattle.std.proofs.Common.{refl, arith}
 use Rattle.std.proofs.lemmas.Iterator.{items_from_collect, YieldsList-from_range}
 use Rattle.cif_canon.proofs.turns.all_positions.Goals as goal

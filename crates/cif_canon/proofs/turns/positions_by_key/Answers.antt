@@ -1,3 +1,4 @@
+-- Found in order or sorted, positions rise, as a total order of keys compares them (`KeyPositions`); sorting loses none.
 use Rattle.std.proofs.Common.{◌<◌, List, ℕ, map, length, sym, subst, rules}
 use Rattle.std.specs.Prelude.{Contains, slice_get}
 use Rattle.std.specs.Option.{option_cmp}
