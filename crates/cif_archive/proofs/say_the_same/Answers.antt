@@ -1,3 +1,4 @@
+-- The one file's bytes have to be named as a canonical form: then the other's uniqueness says that equal bytes mean the same.
 use Rattle.std.proofs.Common.{◌≡◌, ◌∙◌, ℕ, List, rules, sym}
 use Rattle.std.specs.Cmp.Lexicographic.{bytes_decides}
 use Rattle.cif_columns.specs.Sink.{writer_of}

@@ -1,3 +1,4 @@
+-- Distinct locations and the runs of both kinds make a canonical form (`CanonForm`), whose bytes are unique (`normal-unique`).
 use Rattle.std.proofs.Common.{length, ap, sym, ◌∙◌, subst}
 use Rattle.cif_extract.specs.ExtractParts.{extract_parts}
 use Rattle.cif_canon.specs.Canon.{IsCanonOf}

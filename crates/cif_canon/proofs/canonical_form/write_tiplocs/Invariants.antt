@@ -1,3 +1,4 @@
+-- What is written is the text of the locations so far.
 use Rattle.std.proofs.Common.{take}
 use Rattle.std.specs.List.{flat_map}
 use Rattle.cif_columns.specs.Sink.{HasWritten}

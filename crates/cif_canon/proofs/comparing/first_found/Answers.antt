@@ -1,3 +1,4 @@
+-- What was found is said of slices and of the left window: the extracts' own lists and windows are put in by equations.
 use Rattle.std.proofs.Common.{ap}
 use Rattle.cif_weeks.specs.Window.{Window}
 use Rattle.cif_canon.proofs.comparing.first_found.Goals as goal

@@ -1,3 +1,4 @@
+-- The clash can't come: the fault would be the first clash of these members, which have none (`first_clash-clear`).
 use Rattle.cif_calendar.specs.Calendar.{IsFault}
 use Rattle.cif_calendar.specs.Source.{IsChosen}
 use Rattle.std.proofs.Common.{map, subst}

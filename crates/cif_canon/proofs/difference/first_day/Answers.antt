@@ -1,3 +1,4 @@
+-- Each calendar has pieces of its own: up to the earlier end `found-by_pieces` tells of both calendars, date by date.
 use Rattle.std.proofs.Common.{◌≡◌, None, Some, arith, map, ⊎_elim}
 use Rattle.cif_calendar.specs.Calendar.{body_on}
 use Rattle.cif_canon.proofs.DifferentDays.{before-or-from, found-by_pieces, found-on, not-below, piece-bodies, piece-ends}

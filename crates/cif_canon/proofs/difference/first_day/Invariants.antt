@@ -1,3 +1,4 @@
+-- On each day before `first` both calendars have the same body; what is left of the window gets shorter.
 use Rattle.std.proofs.Common.{◌≡◌, ◌≤◌, ◌<◌, ◌-◌, ℕ, map}
 use Rattle.cif_calendar.specs.Calendar.{body_on}
 use Rattle.cif_canon.proofs.difference.first_day.Given as goal

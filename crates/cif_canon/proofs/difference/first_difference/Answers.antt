@@ -1,3 +1,4 @@
+-- The fronts of both rests are the positions of one key (`ComparedKeys`), of which its calendars tell (`ComparedCalendars`).
 use Rattle.std.proofs.Common.{◌<◌, ℕ, List, length, sym, subst, arith}
 use Rattle.std.specs.Prelude.{All}
 use Rattle.std.proofs.lemmas.List.Elements.{All-drop}

@@ -1,3 +1,4 @@
+-- Both lists say the same of each key that isn't left; the rests are in the order of keys, and together get shorter.
 use Rattle.std.proofs.Common.{◌+◌, ◌<◌, length}
 use Rattle.std.specs.Prelude.{All}
 use Rattle.cif_calendar.specs.Keys.{keyed}

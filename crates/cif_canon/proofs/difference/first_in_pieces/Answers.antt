@@ -1,3 +1,4 @@
+-- A piece has one winner for each weekday: if seven days from the first are alike, so are all that follow (`alike-week`).
 use Rattle.std.proofs.Common.{◌∙◌, sym, ap, arith, map, get_or, None}
 use Rattle.cif_canon.proofs.DifferentDays.{alike-week}
 use Rattle.cif_canon.proofs.difference.first_in_pieces.Goals as goal

@@ -1,3 +1,4 @@
+-- The days before `day` are alike, and `day` is as many days behind the first as the loop went round.
 use Rattle.std.proofs.Common.{◌≡◌, ◌≤◌, ◌<◌, ◌+◌, ℕ, map}
 use Rattle.cif_canon.specs.Steps.Differences.{AreAlikeBy}
 use Rattle.cif_canon.proofs.difference.first_in_pieces.Given as goal

@@ -1,3 +1,4 @@
+-- Canonical records of slices, in the window of two dates, are those of the extract's entries and header (`records-of_slice`).
 use Rattle.std.specs.Cmp.Lexicographic.{slice_cmp}
 use Rattle.std.specs.Ordering.{nat_cmp}
 use Rattle.cif_calendar.specs.Entries.{association_entry, schedule_entry}

@@ -1,3 +1,4 @@
+-- The theorem itself (`NormalForms`): canonical extracts that say the same are equal, and are read again from their bytes.
 use Rattle.cif_canon.proofs.NormalForms.{its-own, normal-unique, one-accepted, reached}
 use Rattle.cif_canon.proofs.laws.canonical_bytes_are_unique.Goals as goal
 

@@ -1,3 +1,4 @@
+-- The text has to be named: lines of associations, then of trains; `day-view` says it is the view, and a fault leaves a front.
 use Rattle.std.proofs.Common.{List, ℕ, Err, ap, ◌∙◌, ◌++◌, subst}
 use Rattle.std.specs.Cmp.Lexicographic.{slice_cmp}
 use Rattle.std.specs.List.{flat_map}

@@ -1,3 +1,4 @@
+-- Of known bytes (`known_so`): what they spell, narrowed, has a form to count (`counted-text`), or is to blame (`canon-fault`).
 use Rattle.std.proofs.Common.{Err, ap, ◌∙◌}
 use Rattle.std.proofs.lemmas.Result.{err_from_is_err_and}
 use Rattle.cif_columns.specs.Source.{reader_of}

@@ -1,3 +1,4 @@
+-- The text has to be named, the canonical form's: of known bytes `Normalising` says it is that, written whole or as a front.
 use Rattle.std.proofs.Common.{Err, ap, ◌∙◌}
 use Rattle.std.proofs.lemmas.Result.{err_from_is_err_and}
 use Rattle.cif_columns.specs.Source.{reader_of}

@@ -1,3 +1,4 @@
+-- Of known bytes (`known_so`): what they spell is narrowed, or the window that was asked for is to blame (`narrowing-fault`).
 use Rattle.std.proofs.Common.{Err, ap, ◌∙◌}
 use Rattle.std.proofs.lemmas.Result.{err_from_is_err_and}
 use Rattle.cif_columns.specs.Source.{reader_of}

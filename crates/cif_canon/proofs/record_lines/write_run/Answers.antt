@@ -1,3 +1,4 @@
+-- A run names its entry by position: `run-text` has the run's text from the key and the body of the entry that was looked up.
 use Rattle.std.proofs.Common.{◌∙◌, ap, sym, subst}
 use Rattle.std.specs.Option.{option_copied}
 use Rattle.cif_columns.specs.Sink.{Writes}

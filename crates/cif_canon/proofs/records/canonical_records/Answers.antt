@@ -1,3 +1,4 @@
+-- Key by key (`MadeRecords`): the first run of positions is all of a key, whose records go behind, or whose clash is first.
 use Rattle.std.proofs.Common.{◌<◌, List, ℕ, [], length, sym, subst}
 use Rattle.std.specs.Prelude.{All}
 use Rattle.std.proofs.lemmas.Result.{err_from_is_err_and}

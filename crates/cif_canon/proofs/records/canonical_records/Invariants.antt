@@ -1,3 +1,4 @@
+-- The runs are those of all keys but the ones with entries at `rest`, and these are greater.
 use Rattle.std.proofs.Common.{◌<◌, length}
 use Rattle.std.specs.Prelude.{All}
 use Rattle.cif_calendar.specs.Keys.{keyed}

@@ -1,3 +1,4 @@
+-- Whichever key has these positions: a fault of the calendar is one of that key (`key_fault`), its runs the key's records.
 use Rattle.std.proofs.lemmas.List.Elements.{Contains-get_or}
 use Rattle.cif_canon.proofs.KeyRecords.{key-records, key_fault}
 use Rattle.cif_canon.proofs.records.runs_of_key.Goals as goal

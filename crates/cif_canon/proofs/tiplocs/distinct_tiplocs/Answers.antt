@@ -1,3 +1,4 @@
+-- Sorting permutes the locations, and of equal ones one is kept: so they rise strictly and are the same (`distinct`).
 use Rattle.std.proofs.Common.{List, ◌++◌, ap, ◌∙◌, subst, IsPermutation}
 use Rattle.cif_records.specs.declared.tiploc.Tiploc.{Tiploc}
 use Rattle.cif_canon.proofs.DistinctTiplocs.{distinct}

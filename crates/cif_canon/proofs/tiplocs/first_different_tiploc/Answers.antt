@@ -1,3 +1,4 @@
+-- Where two rising lists first differ, the lesser of the two there is in one alone, and the least such (`DifferentTiplocs`).
 use Rattle.std.proofs.Common.{◌≡◌, ◌∙◌, ◌<◌, ◌≤◌, List, take, get_or, length, refl, sym, subst, arith}
 use Rattle.std.proofs.lemmas.List.{take_more_same}
 use Rattle.cif_records.specs.declared.tiploc.Tiploc.{Tiploc}

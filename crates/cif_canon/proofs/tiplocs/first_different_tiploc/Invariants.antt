@@ -1,3 +1,4 @@
+-- The first `i` locations of both lists are the same.
 use Rattle.std.proofs.Common.{◌≡◌, ◌≤◌, length, take}
 use Rattle.cif_canon.proofs.tiplocs.first_different_tiploc.Given as goal
 

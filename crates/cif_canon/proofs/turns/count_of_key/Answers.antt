@@ -1,3 +1,4 @@
+-- In the order of keys no position behind one with another key has this one (`front-ends`); or all have it (`front-of_all`).
 use Rattle.std.proofs.Common.{◌≡◌, Bool, true, false, not, get_or, length, take, refl, sym, ◌∙◌, ap, subst, arith}
 use Rattle.std.specs.Prelude.{All}
 use Rattle.std.proofs.lemmas.Bool.{false≢true}

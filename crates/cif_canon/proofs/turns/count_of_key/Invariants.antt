@@ -1,3 +1,4 @@
+-- The positions so far are all of entries with the key.
 use Rattle.std.proofs.Common.{take}
 use Rattle.std.specs.Prelude.{All}
 use Rattle.cif_calendar.specs.Keys.{keyed}

@@ -1,3 +1,4 @@
+-- By cases of what is left: a first position has its entry's key (`leading`), the least of its list; of two it is the lesser.
 use Rattle.std.proofs.Common.{◌∙◌, sym, ap}
 use Rattle.std.specs.Ordering.{is_lt}
 use Rattle.cif_calendar.specs.Keys.{keyed}

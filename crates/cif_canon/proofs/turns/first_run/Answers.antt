@@ -1,3 +1,4 @@
+-- In the order of keys none is before that of the first position (`from-first`), so its front is a first run (`first-run`).
 use Rattle.std.proofs.Common.{get_or, sym, subst}
 use Rattle.cif_calendar.specs.Keys.{keyed}
 use Rattle.cif_canon.specs.Steps.Turns.{HasKey}

@@ -1,3 +1,4 @@
+-- The positions are those of the turns that were sorted, so what holds of all turns is carried over by the permutation.
 use Rattle.std.proofs.Common.{◌≡◌, ◌<◌, List, ℕ, map, length, sym, subst, ◌∙◌, ap}
 use Rattle.std.specs.Prelude.{All, Contains}
 use Rattle.std.specs.List.{range_with_len}

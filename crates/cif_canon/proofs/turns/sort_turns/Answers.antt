@@ -1,3 +1,4 @@
+-- What a sort and a test of neighbours say is of a test alone: that keys compare in a total order makes it an order of all.
 use Rattle.std.proofs.Common.{List, rules, subst}
 use Rattle.std.specs.Ordering.{is_lt, is_le}
 use Rattle.std.proofs.lemmas.Fn.{always_returns_same}

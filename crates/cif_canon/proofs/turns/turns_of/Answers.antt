@@ -1,3 +1,4 @@
+-- The search doesn't know that one turn more is the turn of one entry more (`turns_step`).
 use Rattle.std.proofs.Common.{◌++◌, ◌∷◌, [], map, ap, ◌∙◌}
 use Rattle.std.proofs.lemmas.List.{take_all}
 use Rattle.cif_canon.specs.Steps.Turns.{turns_from}

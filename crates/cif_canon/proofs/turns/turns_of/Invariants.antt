@@ -1,3 +1,4 @@
+-- The turns so far are those of as many entries, from the first one on.
 use Rattle.std.proofs.Common.{◌≡◌, map, take}
 use Rattle.cif_canon.specs.Steps.Turns.{turns_from}
 use Rattle.cif_canon.proofs.turns.turns_of.Given as goal

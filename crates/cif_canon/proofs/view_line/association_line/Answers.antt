@@ -1,3 +1,4 @@
+-- Nine fields are appended one by one, and the line joins them: they are rewritten from the last on, for `pushed-joined`.
 use Rattle.std.proofs.Common.{List, ℕ, [], ◌∷◌, ◌++◌, ap}
 use Rattle.std.specs.Prelude.{codes}
 use Rattle.cif_canon.specs.Views.{association_line}

@@ -1,3 +1,4 @@
+-- What stands after the content is dropped up to the first line feed: its place, where one was found, is put in by hand.
 use Rattle.std.proofs.Common.{◌+◌, ap, sym, drop}
 use Rattle.cif_columns.proofs.first_line.first_line_of.Goals as goal
 

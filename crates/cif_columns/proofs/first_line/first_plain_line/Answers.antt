@@ -1,3 +1,4 @@
+-- What stands after the content is dropped up to the first line feed, whose place is 80: that is put in by hand.
 use Rattle.std.proofs.Common.{◌+◌, ap, sym, drop}
 use Rattle.cif_columns.proofs.first_line.first_plain_line.Goals as goal
 

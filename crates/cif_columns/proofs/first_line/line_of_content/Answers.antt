@@ -1,3 +1,4 @@
+-- `as_array` tells by cases that the bytes are eighty, and the content; `line_of-eighty` has the test of them then.
 use Rattle.std.proofs.Common.{◌≡◌, ◌∙◌, length, ap, rules}
 use Rattle.cif_columns.specs.FirstLine.{line_of}
 use Rattle.cif_columns.proofs.PrintableBytes.{line_of-eighty}

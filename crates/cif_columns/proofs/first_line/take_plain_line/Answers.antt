@@ -1,3 +1,4 @@
+-- By hand, since the position of the first line feed is a function of all bytes: `place-printable` ties it to the 81st.
 use Rattle.std.proofs.Common.{◌≡◌, take, arith, rules, true}
 use Rattle.std.specs.List.{list_all}
 use Rattle.cif_columns.specs.FirstLine.{is_printable}

@@ -1,3 +1,4 @@
+-- One byte more is one more test (`list_all_more`); at the end `printable_fact` and `printable_true` turn test into fact.
 use Rattle.std.proofs.Common.{◌≡◌, ◌∙◌, ◌<◌, ap, sym, take, length, arith, get_or, ◌&&◌, take_all}
 use Rattle.std.proofs.lemmas.List.Folds.{list_all_more}
 use Rattle.std.specs.List.{list_all}

@@ -1,3 +1,4 @@
+-- `all` is the test of the bytes so far.
 use Rattle.std.proofs.Common.{◌≡◌, take}
 use Rattle.std.specs.List.{list_all}
 use Rattle.cif_columns.specs.FirstLine.{is_printable}

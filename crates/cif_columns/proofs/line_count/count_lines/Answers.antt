@@ -1,3 +1,4 @@
+-- The lines so far are named by the loop's invariant; each step adds the one that was read (`reading_line`).
 use Rattle.std.proofs.Common.{◌≡◌, ◌∙◌, ℕ, List, length, [], ◌++◌, ◌∷◌, Err, Ok, Option, ap, sym}
 use Rattle.cif_columns.specs.GivenLines.{AreAllLines, AreLinesToFault}
 use Rattle.cif_columns.proofs.GivenLinesLaws.{reading_starts, reading_line, reading_ends, reading_faults, known_so}

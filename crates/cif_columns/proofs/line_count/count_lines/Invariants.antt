@@ -1,3 +1,4 @@
+-- There are lines so far: whole lines of the input, as many as were given, of a source that was read on; fewer may follow.
 use Rattle.std.proofs.Common.{◌-◌, ℕ, List}
 use Rattle.cif_columns.specs.GivenLines.{IsReading}
 use Rattle.cif_columns.specs.LineReader.{given, limit}

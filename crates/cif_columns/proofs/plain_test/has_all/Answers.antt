@@ -1,3 +1,4 @@
+-- A column is among the first 64 or among columns 64 to 79, each with a loop of its own: `below_all` joins what they tell.
 use Rattle.std.proofs.Common.{◌≡◌, ◌<◌, ◌≤◌, ℕ, Bool, ◌&&◌, true, false, nat_lt, refl, arith}
 use Rattle.std.proofs.lemmas.Bool.{and_parts}
 use Rattle.std.proofs.lemmas.Bool.Decides.{nat_tests}

@@ -1,3 +1,4 @@
+-- One call more: its line stands behind those so far (`more_by`), and its table behind those of the calls so far (`calls_more`).
 use Rattle.std.proofs.Common.{[], ◌∷◌, refl, subst, map, take}
 use Rattle.std.proofs.lemmas.Slice.{pushed}
 use Rattle.cif_records.specs.SpellsRecord.{record_table}

@@ -1,3 +1,4 @@
+-- Whatever tables the lines kept before, they keep these and then those of the calls so far.
 use Rattle.std.proofs.Common.{map, take}
 use Rattle.cif_records.specs.SpellsRecord.{record_table}
 use Rattle.cif_extract.specs.Body.{KeepMore}

@@ -1,3 +1,4 @@
+-- Where there are further details their line is put behind (`more_by`); what was matched is put in for the argument.
 use Rattle.std.proofs.Common.{[], ◌∷◌, Option, Bor, refl, sym, subst, map}
 use Rattle.std.specs.Option.{option_copied}
 use Rattle.std.proofs.lemmas.Slice.{pushed}

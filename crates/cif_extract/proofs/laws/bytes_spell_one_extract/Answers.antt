@@ -1,3 +1,4 @@
+-- Laws of all extracts: by their kinds, records are parted in one way only (`OneExtract`); a greater limit counts no more.
 use Rattle.std.proofs.Common.{arith}
 use Rattle.cif_extract.proofs.OneExtract.{one_extract}
 use Rattle.cif_extract.proofs.SpelledBytes.{one_spelled}

@@ -1,3 +1,4 @@
+-- There are lines so far, none of them refused: the reading is what they have come to, and the source was read on.
 use Rattle.std.proofs.Common.{◌-◌, ℕ, List}
 use Rattle.cif_columns.specs.GivenLines.{IsReading}
 use Rattle.cif_columns.specs.LineReader.{given, limit}

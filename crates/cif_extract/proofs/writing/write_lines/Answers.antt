@@ -1,3 +1,4 @@
+-- The text of the lines is a fold: one line more goes behind it (`item_written`); a failure leaves a front (`item_failed`).
 use Rattle.std.proofs.Common.{ℕ, List, [], ◌∷◌, ◌++◌}
 use Rattle.cif_columns.proofs.WrittenTexts.{item_failed, item_written, writes_err, written_nothing}
 use Rattle.cif_extract.proofs.writing.write_lines.Goals as goal

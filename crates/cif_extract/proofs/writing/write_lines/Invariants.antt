@@ -1,3 +1,4 @@
+-- What is written is the text of the lines so far, each with its line feed.
 use Rattle.std.proofs.Common.{take}
 use Rattle.cif_columns.specs.Sink.{HasWritten}
 use Rattle.cif_columns.specs.Contents.{lines_text}

@@ -1,3 +1,4 @@
+-- The test speaks of one kind: `plain_as` says it of records of any kind, and what a line spells isn't refused.
 use Rattle.std.proofs.Common.{None, Ok, refl, subst, sym}
 use Rattle.cif_columns.specs.Field.{AllStandIn}
 use Rattle.cif_records.specs.SpellsRecord.{SpellsRecord}

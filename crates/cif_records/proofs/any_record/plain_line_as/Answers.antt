@@ -1,3 +1,4 @@
+-- The plain line of one kind is that of a record of any kind (`plain_as`), and so are the reasons (`refusal-kind`).
 use Rattle.std.proofs.Common.{sym, ◌∙◌}
 use Rattle.cif_records.proofs.Records.{plain_as, refusal-kind}
 use Rattle.cif_records.proofs.any_record.plain_line_as.Goals as goal

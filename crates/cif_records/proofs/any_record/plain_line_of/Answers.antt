@@ -1,3 +1,4 @@
+-- A line spells one record at most, so whichever it spells has the plain line that was answered (`only_plain`).
 use Rattle.cif_records.proofs.Records.{only_plain}
 use Rattle.cif_records.proofs.any_record.plain_line_of.Goals as goal
 

@@ -1,3 +1,4 @@
+-- The trait's `same_refusal` and `same_table` put the reasons and the table of any record for those of its kind.
 use Rattle.std.proofs.Common.{sym, subst, ◌∙◌}
 use Rattle.cif_columns.specs.Field.{AllStandIn}
 use Rattle.cif_records.specs.SpellsRecord.{SpellsRecord}

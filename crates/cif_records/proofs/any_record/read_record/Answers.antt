@@ -1,3 +1,4 @@
+-- `only`: a line spells one record (`one_record`, by its kind), and none where there is a reason to refuse it (`no_refusal`).
 use Rattle.cif_records.proofs.Judging.{only}
 use Rattle.cif_records.proofs.Records.{one_record, no_refusal}
 use Rattle.cif_records.proofs.any_record.read_record.Goals as goal

@@ -1,3 +1,4 @@
+-- `put_all-plain_line`: rows put on an empty line are the table's plain line, which is 80 long and spells the schedule.
 use Rattle.std.proofs.Common.{◌≡◌, Some, length, refl, subst, sym, ◌∙◌}
 use Rattle.cif_columns.specs.Field.{AllStandIn}
 use Rattle.cif_columns.specs.declared.stp.Stp.TheVariants.{P}

@@ -1,3 +1,4 @@
+-- Columns 30 to 78 are put as they stand: `detail_columns` has them as the detail's plain ones, and `put_all-append` joins.
 use Rattle.std.proofs.Common.{◌≡◌, ◌++◌, ℕ, List, [], Some, sym, ◌∙◌}
 use Rattle.cif_columns.specs.Field.{plain_line}
 use Rattle.cif_columns.specs.LineBuilder.{put_all}

@@ -1,3 +1,4 @@
+-- The detail is put as one piece between the rows of front and back: the steps are rewritten, and `put_all-append` joins.
 use Rattle.std.proofs.Common.{◌≡◌, ◌++◌, ℕ, List, [], sym, ◌∙◌}
 use Rattle.std.specs.Option.{option_copied}
 use Rattle.cif_columns.specs.Field.{plain_line}

@@ -1,3 +1,4 @@
+-- No reason is left where both dates are there and in order: `dates_judged`, after the test of the days as numbers.
 use Rattle.std.proofs.Common.{◌≤◌, arith}
 use Rattle.std.proofs.lemmas.Bool.Decides.{nat_tests}
 use Rattle.cif_records.proofs.Judging.{dates_judged}

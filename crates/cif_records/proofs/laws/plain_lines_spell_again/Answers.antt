@@ -1,3 +1,4 @@
+-- Laws of all records, by cases of their kind: each table is whole, and what stands in a line fits its columns (`Records`).
 use Rattle.cif_records.proofs.Records as records
 use Rattle.cif_records.proofs.laws.plain_lines_spell_again.Goals as goal
 

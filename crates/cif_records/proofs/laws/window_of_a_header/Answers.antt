@@ -1,3 +1,4 @@
+-- Laws of all headers: `Headers` takes columns 3 to 60 apart, of which the last twelve are the digits of the window.
 use Rattle.cif_records.proofs.Headers as headers
 use Rattle.cif_records.proofs.laws.window_of_a_header.Goals as goal
 

@@ -1,3 +1,4 @@
+-- Over any table: `put_all-plain_line` has its plain line from the rows put, and the trait's `whole` that it is 80 long.
 use Rattle.std.proofs.Common.{◌≡◌, length, subst, sym, ◌∙◌}
 use Rattle.cif_columns.specs.Field.{AllStandIn}
 use Rattle.cif_columns.proofs.Parts.{length-plain_line, put_all-plain_line, stands-plain_line}

@@ -1,3 +1,4 @@
+-- The text has to be named: the line of the counts, flushed or a front; of known bytes `check-answer` says that it answers.
 use Rattle.std.proofs.lemmas.Result.{err_from_is_err_and}
 use Rattle.cif_canon.specs.Counts.{counts_line}
 use Rattle.cif_tool.proofs.Answered.{fails-to-write, flushed}

@@ -1,3 +1,4 @@
+-- Each fault is told of known bytes of the left input, and then of the right (`right-refusal`); the text by `compare-answer`.
 use Rattle.std.proofs.Common.{Err, ap, ◌∙◌, inl, inr, refl}
 use Rattle.std.proofs.lemmas.Result.{IfOk-weaker, err_from_is_err_and}
 use Rattle.cif_columns.specs.Source.{reader_of}

@@ -1,3 +1,4 @@
+-- The text has to be named: that of the view, flushed or a front; of known bytes `day-answer` says that it answers.
 use Rattle.std.proofs.Common.{Err, ap, ◌∙◌, inr}
 use Rattle.std.proofs.lemmas.Result.{err_from_is_err_and}
 use Rattle.cif_columns.specs.Source.{reader_of}

@@ -1,3 +1,4 @@
+-- The text has to be named: what `normalise` wrote, flushed or a front; of known bytes `normalise-answer` says that it answers.
 use Rattle.std.proofs.Common.{Err, ap, ◌∙◌}
 use Rattle.std.proofs.lemmas.Result.{err_from_is_err_and}
 use Rattle.cif_canon.specs.declared.counts.Counts.{Counts}

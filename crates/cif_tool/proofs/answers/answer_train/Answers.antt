@@ -1,3 +1,4 @@
+-- The text is that of the view of what was narrowed (`train-answer`); both calls' faults are of known bytes (`train-fault`).
 use Rattle.std.proofs.Common.{Err, ap, ◌∙◌}
 use Rattle.std.proofs.lemmas.Result.{err_from_is_err_and}
 use Rattle.cif_columns.specs.Source.{reader_of}

@@ -1,3 +1,4 @@
+-- The command is built call by call: the program's settings by `program_made`, then `subcommand_added` for each of five.
 use Rattle.std.proofs.Common.{codes}
 use Rattle.std.proofs.lemmas.Result.{IfOk-weaker}
 use Rattle.cif_tool.specs.CommandLine.{cif}

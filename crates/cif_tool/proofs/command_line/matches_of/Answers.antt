@@ -1,3 +1,4 @@
+-- `clap` tells matches and kinds of error of simple commands: that `cif` is one, and free, is `is_simple_cif`, `is_free_cif`.
 use Rattle.std.proofs.Common.{◌∙◌, ap, subst, map, string_bytes}
 use Rattle.std.proofs.lemmas.Result.{IfOk-weaker}
 use Rattle.clap.specs.Words.{App, FailsBy, fault_of, is_simple, is_simple_and_free, subcommand_of}

@@ -1,3 +1,4 @@
+-- For `compare` and `day` the job that was matched is put in; `of-fault` says of the fault what holds where bytes are known.
 use Rattle.std.proofs.Common.{List, ℕ, Option, Some, None, Result, Ok, Err, IfErr, IfSome, subst, sym, ◌≡◌}
 use Rattle.cif_columns.specs.Source.{reader_of}
 use Rattle.cif_extract.specs.declared.fault.Fault.{Fault}

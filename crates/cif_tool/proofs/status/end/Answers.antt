@@ -1,3 +1,4 @@
+-- What came of writing the fault's line has to be named: the result of `report`; and the answer that was matched is put in.
 use Rattle.std.proofs.Common.{ℕ, Result, subst, sym}
 use Rattle.cif_extract.specs.declared.fault.Fault.{Fault}
 use Rattle.cif_tool.specs.Status.{TellsFault}

@@ -1,3 +1,4 @@
+-- `named`: where `found` and `only` give no day, none stands in the word; and the columns that are read are the word's.
 use Rattle.std.proofs.Common.{◌≡◌, ℕ, List, Option, Some, None, rules, subst}
 use Rattle.std.specs.Prelude.{IfSome, MatchOption}
 use Rattle.cif_columns.specs.Day.{StandsInYymmdd}

@@ -1,3 +1,4 @@
+-- Words that `clap` takes enter a subcommand of the program's own (`enters_own`); else its error has one of the named kinds.
 use Rattle.std.proofs.Common.{ap, inl, inr, sym, subst, rules, List, Option, map, string_bytes}
 use Rattle.std.specs.Prelude.{IsSomeAnd}
 use Rattle.clap.specs.Words.{Row, Text}

@@ -1,3 +1,4 @@
+-- What `get_str` gives of an argument is the first value in its row: `first_value-rows` of `clap`.
 use Rattle.std.proofs.Common.{◌∙◌}
 use Rattle.clap.specs.Words.{found_of}
 use Rattle.clap.proofs.WalkLemmas.{first_value-rows}

@@ -1,3 +1,4 @@
+-- One step of `BegunRuns` for each case: no body runs on the weekday, it goes on from the week before, or a run begins.
 use Rattle.std.proofs.Common.{◌≡◌, ◌<◌, ◌≤◌, None, Some, map, length, get_or, ap, sym, ◌∙◌, subst, arith}
 use Rattle.std.proofs.lemmas.List.{length-map}
 use Rattle.cif_weeks.specs.Steps.WeekRows.{source_in}

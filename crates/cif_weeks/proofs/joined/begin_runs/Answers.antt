@@ -1,3 +1,4 @@
+-- One weekday more: `begin_run` has the step, or the weekday was seen, so that a run with its body is there (`step-same`).
 use Rattle.std.proofs.Common.{◌≡◌, ℕ, ◌+◌, ◌*◌, List, map, subst, arith}
 use Rattle.cif_columns.specs.DaysRun.{RunsOn}
 use Rattle.cif_calendar.specs.Terms.{Terms}

@@ -1,3 +1,4 @@
+-- The runs are those that begin before `weekday`; `seen` has the weekdays on which a body of an earlier weekday runs.
 use Rattle.std.proofs.Common.{◌+◌, ◌*◌, map}
 use Rattle.cif_weeks.specs.Steps.MadeRecords.{AreRunsUpTo}
 use Rattle.cif_weeks.specs.Steps.WeekRows.{AreSeen}

@@ -1,3 +1,4 @@
+-- Whether a body goes on or begins wants its mask in the week before named, and a weekday of it: `told`, by cases of `agree`.
 use Rattle.std.proofs.Common.{◌≡◌, ℕ, ◌+◌, Bool, true, false, List, Option, inr, map}
 use Rattle.std.specs.Prelude.{MatchBool}
 use Rattle.cif_columns.specs.DaysRun.{RunsOn}

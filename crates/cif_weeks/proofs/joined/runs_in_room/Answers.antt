@@ -1,3 +1,4 @@
+-- Week by week (`AllWeeks`): before the window's first none begins, and in weeks that are like one before them none does.
 use Rattle.std.proofs.Common.{◌≡◌, ◌<◌, ◌≤◌, ◌*◌, List, map, sym, ◌∙◌, ap, subst, arith}
 use Rattle.cif_columns.specs.Day.{week_of}
 use Rattle.cif_weeks.specs.declared.run.Run.{Run}

@@ -1,3 +1,4 @@
+-- The runs are those that begin before week `number`, and `before` has the sources of the week before it.
 use Rattle.std.proofs.Common.{◌≡◌, ◌≤◌, ◌+◌, ◌-◌, ◌*◌, map}
 use Rattle.cif_columns.specs.Day.{IsDay, week_of}
 use Rattle.cif_weeks.specs.Steps.MadeRecords.{AreRunsUpTo}

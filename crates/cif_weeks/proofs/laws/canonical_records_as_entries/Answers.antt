@@ -1,3 +1,4 @@
+-- Laws of all canonical records: of their entries one applies at most, and none ends before it begins (`PermanentEntries`).
 use Rattle.cif_weeks.proofs.PermanentEntries.{canonical-clear, canonical-dated}
 use Rattle.cif_weeks.proofs.laws.canonical_records_as_entries.Goals as goal
 

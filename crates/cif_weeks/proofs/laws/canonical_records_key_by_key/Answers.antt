@@ -1,3 +1,4 @@
+-- Laws of all lists: `KeyByKey` has them, for any order of keys that is total, as that of an `Ord` type is.
 use Rattle.cif_weeks.proofs.KeyByKey.{canonical-none, canonical-more, of_key-more}
 use Rattle.cif_weeks.proofs.laws.canonical_records_key_by_key.Goals as goal
 

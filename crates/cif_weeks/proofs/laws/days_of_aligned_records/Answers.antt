@@ -1,3 +1,4 @@
+-- Laws of all aligned records: what both forms share is `tight`, and `AlignedDays` has the rest form by form.
 use Rattle.cif_weeks.proofs.AlignedDays.{tight, within-tight, day_in_week, full_week, full_two}
 use Rattle.cif_weeks.proofs.laws.days_of_aligned_records.Goals as goal
 

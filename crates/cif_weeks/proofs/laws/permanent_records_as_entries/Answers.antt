@@ -1,3 +1,4 @@
+-- Laws of all lists of records: `PermanentEntries` has them, since one that is permanent, with a body, wins where it applies.
 use Rattle.cif_weeks.proofs.PermanentEntries.{entries-records, entries-lawful, runs-applies, same-meaning, records-meaning}
 use Rattle.cif_weeks.proofs.laws.permanent_records_as_entries.Goals as goal
 

@@ -1,3 +1,4 @@
+-- The form has two records with one body as separate: that says `apart` of a common week, and `follows` of the next one.
 use Rattle.cif_weeks.proofs.laws.records_with_one_body_are_separate.Goals as goal
 
 pub returns-clause-no_common_week : goal.returns-clause-no_common_week

@@ -1,3 +1,4 @@
+-- A law of two lists, by induction over both (`same_members`), where the order is one way, as a total one is.
 use Rattle.std.proofs.Common.{◌≡◌}
 use Rattle.std.specs.declared.cmp.Ordering.TheVariants.{Less}
 use Rattle.cif_weeks.proofs.RisingLists.{same_members, less_one_way}

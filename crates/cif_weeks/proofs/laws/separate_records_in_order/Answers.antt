@@ -1,3 +1,4 @@
+-- Laws of two records: `Separate` says which ends before the other begins, and that the dates of a change are seven apart.
 use Rattle.cif_weeks.proofs.Separate.{separate-before, separate-from_before, change-seven_days}
 use Rattle.cif_weeks.proofs.laws.separate_records_in_order.Goals as goal
 

@@ -1,3 +1,4 @@
+-- A law of all calendars: a source is the position of a winner of its day, and so of an entry with a body.
 use Rattle.cif_weeks.proofs.CalendarSources.{calendar_sources}
 use Rattle.cif_weeks.proofs.laws.sources_of_a_calendar.Goals as goal
 

@@ -1,3 +1,4 @@
+-- A law of all runs: a run begins in the window, where its source is that of the calendar, a winner's (`runs-win`).
 use Rattle.cif_weeks.proofs.CalendarSources.{runs-win}
 use Rattle.cif_weeks.proofs.laws.sources_of_runs.Goals as goal
 

@@ -1,3 +1,4 @@
+-- On the weekdays before `weekday` on which the two weeks have to agree their masks do.
 use Rattle.cif_weeks.specs.Runs.{window_of}
 use Rattle.cif_weeks.proofs.AgreedDays.{AgreeUpTo}
 use Rattle.cif_weeks.proofs.longest.agree.Given as goal

@@ -1,3 +1,4 @@
+-- Form 2 wants a date named, that of the weekday in the week: it is in `counts-within`, and `counted-within` is the way back.
 use Rattle.std.proofs.Common.{◌≡◌, ◌+◌, ◌*◌, ◌≤◌, sym, subst}
 use Rattle.cif_weeks.specs.Runs.{window_of}
 use Rattle.cif_weeks.proofs.AgreedDays.{counts-within, counted-within}

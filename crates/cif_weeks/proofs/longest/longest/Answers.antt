@@ -1,3 +1,4 @@
+-- The run grows by each week that joins, and by those like it (`Growth`); where the loop ends, each way out is an end of the run.
 use Rattle.std.proofs.Common.{◌+◌, ◌-◌, ◌*◌, ◌≤◌, map, sym, arith}
 use Rattle.cif_columns.specs.Day.{week_of}
 use Rattle.std.proofs.lemmas.Bool.Decides.{nat_tests}

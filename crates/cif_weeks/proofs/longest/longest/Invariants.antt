@@ -1,3 +1,4 @@
+-- The run has grown to its last date, in week `number`; the weeks that are left up to `end` get fewer.
 use Rattle.std.proofs.Common.{◌≡◌, ◌≤◌, ◌-◌, map}
 use Rattle.cif_columns.specs.Day.{week_of}
 use Rattle.cif_weeks.proofs.Growth.{IsGrowing}

@@ -1,3 +1,4 @@
+-- After seven weekdays all flags are told, and flags that are told are the mask (`flags-mask`).
 use Rattle.std.proofs.Common.{◌≡◌, map, subst, arith}
 use Rattle.cif_weeks.proofs.RowMasks.{AreFlagsUpTo, flags-mask}
 use Rattle.cif_weeks.proofs.week_mask.mask_of.Goals as goal

@@ -1,3 +1,4 @@
+-- The flags before `weekday` tell exactly on which weekdays the body runs.
 use Rattle.std.proofs.Common.{map}
 use Rattle.cif_weeks.proofs.RowMasks.{AreFlagsUpTo}
 use Rattle.cif_weeks.proofs.week_mask.mask_of.Given as goal

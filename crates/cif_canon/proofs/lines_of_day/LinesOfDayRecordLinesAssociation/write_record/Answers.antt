@@ -1,3 +1,4 @@
+-- An association's text is a line if it passes the test of the day, else nothing: `tested` ties the answer to that test.
 use Rattle.std.proofs.Common.{◌∙◌, [], Bool, ap, sym, subst}
 use Rattle.std.specs.Prelude.{if◌then◌else◌}
 use Rattle.cif_columns.specs.Sink.{HasWritten, Writes}

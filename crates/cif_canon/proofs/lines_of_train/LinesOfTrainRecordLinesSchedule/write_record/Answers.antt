@@ -1,3 +1,4 @@
+-- A schedule's text is a line if its UID is the train's, else nothing: the comparison of the two is put in for that test.
 use Rattle.std.proofs.Common.{◌∙◌, [], Bool, ap, sym, subst}
 use Rattle.std.specs.Prelude.{if◌then◌else◌}
 use Rattle.cif_columns.specs.Sink.{HasWritten, Writes}

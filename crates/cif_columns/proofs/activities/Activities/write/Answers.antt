@@ -1,3 +1,4 @@
+-- By induction over the codes, as the invariant has them: packed, they fit, are printable, and are found again (`Codes`).
 use Rattle.std.proofs.Common.{◌≡◌, ◌≤◌, length, ap, ◌∙◌, arith}
 use Rattle.cif_columns.specs.Activities.{AreCodes, packed}
 use Rattle.cif_columns.specs.Text.{left_justified}

@@ -1,3 +1,4 @@
+-- A range of the buffer that begins later is the held bytes without their first (`range_rest`): what stands after the line.
 use Rattle.std.proofs.Common.{◌+◌, ◌≤◌, ◌∙◌, length, arith, drop, IsOk, sym, ap}
 use Rattle.cif_columns.specs.FirstLine.{after_content, first_line}
 use Rattle.cif_columns.proofs.HeldBytes.{range_rest, range_length}

@@ -1,3 +1,4 @@
+-- Moving and reading change the buffer: by `held_grows` what is held is what was held, and then the piece that was read.
 use Rattle.std.proofs.Common.{◌≡◌, take, drop, ltb-false, arith, ap, false, nat_lt}
 use Rattle.cif_columns.proofs.HeldBytes.{read_keeps, held_grows, held_stays}
 use Rattle.cif_columns.proofs.ahead.Ahead.fill.Goals as goal

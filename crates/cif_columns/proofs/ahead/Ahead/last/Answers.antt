@@ -1,3 +1,4 @@
+-- Undecided bytes have no line feed: all of them are the first content (`last_line`), and nothing is after it (`last_after`).
 use Rattle.std.proofs.Common.{◌∙◌, ◌<◌, Some, length, arith, sym, ap}
 use Rattle.std.proofs.lemmas.Grind.{common_steps}
 use Rattle.cif_columns.specs.Ahead.{held_bytes}

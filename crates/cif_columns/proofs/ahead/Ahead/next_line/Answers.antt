@@ -1,3 +1,4 @@
+-- What the held bytes decide is so of all that is left (`found_more`); the loop ends, as undecided bytes are fewer than 82.
 use Rattle.std.proofs.Common.{Ok, length, arith, ap, refl}
 use Rattle.std.proofs.KnownBytes.{Keeps-trans}
 use Rattle.cif_columns.specs.Ahead.{held_bytes}

@@ -1,3 +1,4 @@
+-- The bytes that are left stay the same while the source is read on; more of them are held each time, and 82 decide.
 use Rattle.std.proofs.Common.{◌-◌, length}
 use Rattle.std.specs.Io.KnownBytes.{Keeps}
 use Rattle.cif_columns.specs.Ahead.{held_bytes, known_left}

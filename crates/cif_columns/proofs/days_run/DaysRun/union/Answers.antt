@@ -1,3 +1,4 @@
+-- For any weekday: `both_of-runs` looks at each of the seven, which both masks have by their invariants.
 use Rattle.std.proofs.Common.{sym}
 use Rattle.cif_columns.proofs.MaskUnion.{both_of-runs}
 use Rattle.cif_columns.proofs.days_run.DaysRun.union.Goals as goal

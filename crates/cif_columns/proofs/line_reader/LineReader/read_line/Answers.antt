@@ -1,3 +1,4 @@
+-- `answer`, and `undecided` of a failure, want the words of the subject (`LineAnswers`); `search` has the rest, one by one.
 use Rattle.std.proofs.Common.{None, drop, refl, rules}
 use Rattle.std.proofs.KnownBytes.{Keeps-refl}
 use Rattle.cif_columns.specs.Ahead.{held_bytes}

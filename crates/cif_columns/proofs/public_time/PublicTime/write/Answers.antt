@@ -1,3 +1,4 @@
+-- The type keeps that its columns pass the test: `public-stands` has the form from it, and `public_printable` its bytes.
 use Rattle.cif_columns.proofs.Times.{public-stands, public_printable}
 use Rattle.cif_columns.proofs.public_time.PublicTime.write.Goals as goal
 

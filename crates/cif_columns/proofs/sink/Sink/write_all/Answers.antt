@@ -1,3 +1,4 @@
+-- One more write: `moves_front` moves the bytes that it took from `rest` to those that are done, and the appends join.
 use Rattle.std.proofs.Common.{◌≡◌, ℕ, ◌-◌, List, ◌++◌, length, take, drop, sym, ap, ◌∙◌, append_assoc, take-append-drop, arith}
 use Rattle.std.proofs.lemmas.List.{take_rest}
 use Rattle.std.proofs.KnownBytes.{Appends-trans}

@@ -1,3 +1,4 @@
+-- By cases: from its place on a piece is consumed (`piece_consumed`); of bytes that begin again none are known.
 use Rattle.std.proofs.lemmas.List.{take_rest}
 use Rattle.cif_columns.proofs.TrialPieces.{piece_consumed}
 use Rattle.cif_columns.proofs.trial_reader.TrialReaderRead.read.Goals as goal

@@ -1,3 +1,4 @@
+-- What passes the test stands in its columns: by cases of it, blank, or an hour, a minute and a space or `H` (`work-stands`).
 use Rattle.std.proofs.Common.{sym, ◌∙◌}
 use Rattle.cif_columns.proofs.Times.{work-stands}
 use Rattle.cif_columns.proofs.work_time.WorkTime.read.Goals as goal

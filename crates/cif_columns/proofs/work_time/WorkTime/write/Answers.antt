@@ -1,3 +1,4 @@
+-- The type keeps that its columns pass the test: `work-stands` has the form from it, and `work_printable` its bytes.
 use Rattle.cif_columns.proofs.Times.{work-stands, work_printable}
 use Rattle.cif_columns.proofs.work_time.WorkTime.write.Goals as goal
 

@@ -1,3 +1,4 @@
+-- `journey` tells of the lines from LO to LT: they are two at least, and those between spell calls, the ones of the view.
 use Rattle.std.proofs.Common.{arith, ◌∙◌, ◌≤◌, length, ◌-◌, rules}
 use Rattle.cif_extract.proofs.Bodies.{journey}
 use Rattle.cif_extract.proofs.body.Body.calls.Goals as goal

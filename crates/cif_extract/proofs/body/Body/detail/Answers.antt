@@ -1,3 +1,4 @@
+-- A body has lines enough for the index (`kept_view`), and the detail that is read of the first is the view's, of the same line.
 use Rattle.std.proofs.Common.{[], ap, ◌∙◌, arith}
 use Rattle.std.proofs.lemmas.List.{get_or_read}
 use Rattle.cif_records.specs.Detail.{detail_in}

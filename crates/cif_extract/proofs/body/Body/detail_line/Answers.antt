@@ -1,3 +1,4 @@
+-- Lines with these parts in them keep them (`keeps_view`), so the first is the plain line of the detail (`detail_kept`).
 use Rattle.std.proofs.Common.{[], ◌∙◌, arith}
 use Rattle.std.proofs.lemmas.List.{get_or_read}
 use Rattle.cif_extract.proofs.Bodies.{detail_kept, keeps_view, kept_view}

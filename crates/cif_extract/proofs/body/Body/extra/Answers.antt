@@ -1,3 +1,4 @@
+-- A second line marked `BX` spells the further details of the view (`spells_extra`), so `read` gives these (`extra_read`).
 use Rattle.std.proofs.Common.{sym}
 use Rattle.cif_extract.proofs.Bodies.{extra_read, kept_view, spells_extra}
 use Rattle.cif_extract.proofs.body.Body.extra.Goals as goal

@@ -1,3 +1,4 @@
+-- The slice takes as many lines as there are behind the first; these keep the records that follow the BS (`keeps_further`).
 use Rattle.std.proofs.Common.{length, ◌≤◌, ◌-◌, drop, arith}
 use Rattle.std.proofs.lemmas.List.{length-drop, take_all}
 use Rattle.cif_extract.proofs.Bodies.{keeps_further, keeps_view}

@@ -1,3 +1,4 @@
+-- The second line is a BX exactly if there are further details: `kept_view` has that as `marked`, and the index reads that line.
 use Rattle.std.proofs.Common.{ℕ, List, [], ap, ◌∙◌, arith, codes}
 use Rattle.std.specs.Str.{bytes_eq}
 use Rattle.std.proofs.lemmas.List.{get_or_read}

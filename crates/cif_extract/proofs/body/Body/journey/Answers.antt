@@ -1,3 +1,4 @@
+-- The journey is behind one line or two, as there is a BX (`journey_at`); the slice takes all lines from there.
 use Rattle.std.proofs.Common.{length, ◌≤◌, ◌-◌, true, false, drop, arith}
 use Rattle.std.proofs.lemmas.List.{length-drop, take_all}
 use Rattle.cif_extract.proofs.Bodies.{journey_at, kept_view}

@@ -1,3 +1,4 @@
+-- The view and the invariant want the lines as those of all five parts, one put behind another: `more_by`, then `whole_body`.
 use Rattle.std.proofs.Common.{[], ◌∷◌, refl}
 use Rattle.std.specs.Option.{option_copied}
 use Rattle.std.proofs.lemmas.Slice.{pushed}

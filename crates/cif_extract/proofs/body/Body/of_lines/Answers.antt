@@ -1,3 +1,4 @@
+-- What was appended to no lines is the lines themselves (`pushed`), so the parts in them are the same.
 use Rattle.std.proofs.Common.{ap, []}
 use Rattle.std.proofs.lemmas.Slice.{pushed}
 use Rattle.cif_extract.specs.Body.{parts_in}

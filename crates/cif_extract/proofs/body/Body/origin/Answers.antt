@@ -1,3 +1,4 @@
+-- The journey's first line spells its LO (`spells_origin`), so `read` gives that (`only`) and refuses nothing.
 use Rattle.cif_extract.proofs.Bodies.{spells_origin}
 use Rattle.cif_extract.proofs.body.Body.origin.Goals as goal
 

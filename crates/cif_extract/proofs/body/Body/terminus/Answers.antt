@@ -1,3 +1,4 @@
+-- The journey's last line spells its LT (`spells_terminus`), so `read` gives that (`only`) and refuses nothing.
 use Rattle.cif_extract.proofs.Bodies.{spells_terminus}
 use Rattle.cif_extract.proofs.body.Body.terminus.Goals as goal
 

@@ -1,3 +1,4 @@
+-- The code compares lines and the declared equality parts: `lines_eq` says that both tell the same of lines that keep bodies.
 use Rattle.std.proofs.Common.{ℕ, List, nat_eq, ap, ◌∙◌}
 use Rattle.std.specs.Cmp.Lexicographic.{pointwise}
 use Rattle.cif_extract.proofs.SameLines.{lines_eq}

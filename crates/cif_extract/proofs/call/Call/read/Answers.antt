@@ -1,3 +1,4 @@
+-- A line of some call spells a change or a stop, as columns 1 and 2 say (`turned`, `stopped`), so `read` can but give that.
 use Rattle.std.proofs.Common.{◌≡◌, ap, sym, ◌∙◌}
 use Rattle.cif_records.specs.SpellsChange.{change_in}
 use Rattle.cif_records.specs.SpellsStop.{stop_in}

@@ -1,3 +1,4 @@
+-- Of both variants only `again` of a stop is left: its answer puts the variant in for the call that was matched.
 use Rattle.cif_extract.proofs.call.Call.write.Goals as goal
 
 pub returns-in-At-clause-again : goal.returns-in-At-clause-again

@@ -1,3 +1,4 @@
+-- The view is a map over the lines: of the first and the others `first_and_rest`, `first_call` and `fewer_calls` tell it.
 use Rattle.cif_extract.proofs.CallLines.{fewer_calls, first_and_rest, first_call}
 use Rattle.cif_extract.proofs.calls.CallsIterator.next.Goals as goal
 

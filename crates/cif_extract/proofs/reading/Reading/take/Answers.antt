@@ -1,3 +1,4 @@
+-- Where the place allows its kind a line is refused for its fields alone: `refusal_of_record`, for a journey's kinds and BX.
 use Rattle.std.proofs.Common.{sym, subst, ◌∙◌}
 use Rattle.cif_extract.specs.Steps.Reading.{IsTaken, progress_of}
 use Rattle.cif_extract.proofs.TakenLines.{refusal_of_record}

@@ -1,3 +1,4 @@
+-- `keep` names the record; by its kind it is on the way, so it and the new place are the step of one (`step_on_the_way`).
 use Rattle.std.proofs.Common.{ap, subst, ◌∙◌}
 use Rattle.cif_extract.specs.Steps.Reading.{IsOnTheWay, Progress}
 use Rattle.cif_extract.specs.Steps.Reading.{progress_of}

@@ -1,3 +1,4 @@
+-- By its kind the record is an LT (`is_terminus`): the lines then keep a whole body (`keeps_body`), and closing is the step.
 use Rattle.std.proofs.Common.{◌≡◌, Some, sym, ◌∙◌, subst, ap}
 use Rattle.cif_extract.specs.Body.{KeepSomeBody}
 use Rattle.cif_extract.specs.Steps.Reading.{Progress, kept, progress_of}

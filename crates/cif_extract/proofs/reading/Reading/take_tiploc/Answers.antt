@@ -1,3 +1,4 @@
+-- The record that the line spells has to be named: the location that was read, which was pushed.
 use Rattle.std.proofs.Common.{refl}
 use Rattle.cif_records.specs.declared.record.Record.TheVariants as of
 use Rattle.cif_extract.proofs.reading.Reading.take_tiploc.Goals as goal

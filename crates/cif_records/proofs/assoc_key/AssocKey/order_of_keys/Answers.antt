@@ -1,3 +1,4 @@
+-- Whatever the width, texts compare as their columns do (`order_of_columns`): once for each of the key's three texts.
 use Rattle.cif_columns.proofs.TextOrder.{order_of_columns}
 use Rattle.cif_records.proofs.assoc_key.AssocKey.order_of_keys.Goals as goal
 

@@ -1,3 +1,4 @@
+-- `only`: a line spells one basic schedule, with a detail exactly as its letter has one, and none if it is refused.
 use Rattle.cif_records.proofs.Basics.{one_basic, no_refusal}
 use Rattle.cif_records.proofs.Judging.{only}
 use Rattle.cif_records.proofs.basic.Basic.read.Goals as goal

@@ -1,3 +1,4 @@
+-- The schedule that the line spells has to be named: `terms_spell` builds it, with the detail in the columns or none.
 use Rattle.std.proofs.Common.{sym}
 use Rattle.cif_records.proofs.Details.{terms_spell}
 use Rattle.cif_records.proofs.basic_terms.BasicTerms.read.Goals as goal

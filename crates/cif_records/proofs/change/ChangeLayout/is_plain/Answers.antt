@@ -1,3 +1,4 @@
+-- The test asks for the table of the change that stands in the line (by `refl`), and `plain_of` has the rest from that.
 use Rattle.std.proofs.Common.{refl}
 use Rattle.cif_records.specs.SpellsChange.{change_in, table_of}
 use Rattle.cif_records.proofs.PlainTests.{plain_of}

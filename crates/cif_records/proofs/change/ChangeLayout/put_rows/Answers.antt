@@ -1,3 +1,4 @@
+-- That each row fits is said field by field: as one of the longest writers it names its 21 texts once more.
 use Rattle.std.proofs.Common.{codes, refl}
 use Rattle.cif_columns.proofs.PrintableBytes.{printable_fact}
 use Rattle.cif_records.proofs.Rows.{◌&◌}

@@ -1,3 +1,4 @@
+-- Either way it is the detail of the whole line: that of its columns alone (`detail_alone`), or the one that was read.
 use Rattle.std.proofs.Common.{refl, sym, ap, subst, ◌∙◌}
 use Rattle.cif_columns.specs.Field.{AllStandIn, plain_line}
 use Rattle.cif_records.specs.Detail.{detail_in, detail_table}

@@ -1,3 +1,4 @@
+-- The plain line of a table is a fold over its rows, so the seventeen columns that were put are rewritten one by one.
 use Rattle.std.proofs.Common.{◌≡◌, ℕ, List, Some, ◌∙◌}
 use Rattle.cif_columns.specs.LineBuilder.{put_all}
 use Rattle.cif_columns.proofs.Parts.{behind}

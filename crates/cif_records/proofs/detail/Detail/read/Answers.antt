@@ -1,3 +1,4 @@
+-- The detail that stands in a line is a record of seventeen texts, so the texts that were read are rewritten one by one.
 use Rattle.cif_records.proofs.detail.Detail.read.Goals as goal
 
 pub returns-clause-exact : goal.returns-clause-exact

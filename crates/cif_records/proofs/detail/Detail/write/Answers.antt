@@ -1,3 +1,4 @@
+-- The detail's rows are put as one piece between spaces: the steps are rewritten, for `plain_detail` and `detail_again`.
 use Rattle.std.proofs.Common.{◌≡◌, ℕ, List, [], ◌∷◌, ◌++◌, Some}
 use Rattle.cif_columns.specs.Field.{plain_line, row, spare}
 use Rattle.cif_columns.specs.LineBuilder.{put_all}

@@ -1,3 +1,4 @@
+-- The derived equality looks at three fields; columns alone determine a header (`same_header`), and a header all three.
 use Rattle.std.proofs.Common.{◌≡◌, true, nat_eq, ap, arith}
 use Rattle.std.proofs.lemmas.Bool.{and_parts}
 use Rattle.std.proofs.lemmas.Bool.Decides.{nat_tests}

@@ -1,3 +1,4 @@
+-- `only`: a line spells one header, since columns 3 to 60 determine it (`one_header`), and none if it is refused.
 use Rattle.cif_records.proofs.Headers.{one_header, no_refusal}
 use Rattle.cif_records.proofs.Judging.{only}
 use Rattle.cif_records.proofs.header.Header.read.Goals as goal

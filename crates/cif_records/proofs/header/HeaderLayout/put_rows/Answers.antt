@@ -1,3 +1,4 @@
+-- Columns 3 to 60 are put at once, and the table has them in parts: `put-columns` says that these are the same.
 use Rattle.std.proofs.Common.{ℕ, List, ◌++◌, replicate, codes, ap, sym, ◌∙◌}
 use Rattle.cif_records.proofs.Headers.{fits, put-columns}
 use Rattle.cif_records.proofs.header.HeaderLayout.put_rows.Goals as goal

@@ -1,3 +1,4 @@
+-- Columns 3 to 60 are kept at once: `kept-47` and its like number them as in the line, for the type and for the table.
 use Rattle.std.proofs.Common.{ap, ◌∙◌, sym, arith}
 use Rattle.cif_columns.specs.Day.{ddmmyy_in}
 use Rattle.cif_columns.specs.Field.{columns}

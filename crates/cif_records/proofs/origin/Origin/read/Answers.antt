@@ -1,3 +1,4 @@
+-- `only`: a line spells one first location, by the one table of it (`one_origin`), and none if it is refused.
 use Rattle.cif_records.proofs.Judging.{only}
 use Rattle.cif_records.proofs.Origins.{one_origin, no_refusal}
 use Rattle.cif_records.proofs.origin.Origin.read.Goals as goal

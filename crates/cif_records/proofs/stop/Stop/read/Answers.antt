@@ -1,3 +1,4 @@
+-- `only`: a line spells one location on the way, by the one table of it (`one_stop`), and none if it is refused.
 use Rattle.cif_records.proofs.Judging.{only}
 use Rattle.cif_records.proofs.Stops.{one_stop, no_refusal}
 use Rattle.cif_records.proofs.stop.Stop.read.Goals as goal

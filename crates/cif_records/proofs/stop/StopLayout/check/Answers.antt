@@ -1,3 +1,4 @@
+-- The last two exits of six: the first reason is found past those checks that went well, which are rewritten one by one.
 use Rattle.std.proofs.lemmas.Result.{err_from_is_err_and}
 use Rattle.cif_records.specs.Stop.{stop_refusal}
 use Rattle.cif_records.proofs.Judging.{judged_err}

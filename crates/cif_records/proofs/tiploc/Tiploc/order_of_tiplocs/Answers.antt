@@ -1,3 +1,4 @@
+-- The derived equality compares bytes (`bytes_decides`), and the columns alone determine a location (`same_tiploc`).
 use Rattle.std.proofs.Common.{ap}
 use Rattle.std.specs.Cmp.Lexicographic.{bytes_decides}
 use Rattle.cif_records.specs.declared.tiploc.Tiploc.{Tiploc}

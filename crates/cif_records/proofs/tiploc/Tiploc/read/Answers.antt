@@ -1,3 +1,4 @@
+-- `only`: a line spells one location, since columns 3 to 72 determine it (`one_tiploc`), and none if it is refused.
 use Rattle.cif_records.proofs.Judging.{only}
 use Rattle.cif_records.proofs.Tiplocs.{one_tiploc, no_refusal}
 use Rattle.cif_records.proofs.tiploc.Tiploc.read.Goals as goal

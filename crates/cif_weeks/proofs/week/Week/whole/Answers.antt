@@ -1,3 +1,4 @@
+-- A week whose Monday and other days are in one piece is one of the calendar, and so are those like it (`week-piece`).
 use Rattle.std.proofs.Common.{◌∙◌, sym}
 use Rattle.std.proofs.lemmas.Option.{IfSome_then}
 use Rattle.cif_weeks.proofs.AlikeWeeks.{week-piece}
