@@ -2,6 +2,7 @@
 ghost use Rattle.std.specs.Prelude.{◌≡◌, ◌≤◌, ◌+◌, Contains};
 ghost use Rattle.cif_calendar.specs.Pieces.{Tiles, source_at, winner_of};
 
+use crate::calendar_room::CalendarRoom;
 use crate::piece::Piece;
 use crate::window::Window;
 use cif_columns::Day;
@@ -11,7 +12,7 @@ use std::marker::Model;
 #[derive(Debug, Drop)]
 pub struct Calendar {
     window: Window,
-    pieces: Vec<Piece>,
+    room: CalendarRoom,
 }
 
 impl Model for Calendar {
@@ -24,22 +25,22 @@ impl Model for Calendar {
     ghost view = { λ c. record {
       first = c.window.first;
       last = c.window.last;
-      pieces = c.pieces.items;
+      pieces = c.room.pieces.items;
     } };
 
-    ghost invariant = { λ c. Tiles c.pieces.items c.window.first (c.window.last + 1) };
+    ghost invariant = { λ c. Tiles c.room.pieces.items c.window.first (c.window.last + 1) };
 }
 
 impl Calendar {
-    pub(crate) fn new(window: Window, pieces: Vec<Piece>) -> Calendar
-        requires { Tiles pieces.items window.first (window.last + 1) }
+    pub(crate) fn new(window: Window, room: CalendarRoom) -> Calendar
+        requires { Tiles room.pieces.items window.first (window.last + 1) }
         ensures { result ≡ record {
           first = window.first;
           last = window.last;
-          pieces = pieces.items;
+          pieces = room.pieces.items;
         } }
     {
-        Calendar { window, pieces }
+        Calendar { window, room }
     }
 
     /// The position in the entries of a winner of the date, which has to be in the window; `None`
@@ -82,11 +83,11 @@ impl Calendar {
         ensures pieces { result.now ≡ self.now.pieces }
         ensures tiles { Tiles result.now self.now.first (self.now.last + 1) }
     {
-        self.pieces.as_slice()
+        self.room.pieces.as_slice()
     }
 
-    /// The room of its pieces, for another calendar.
-    pub fn into_room(self) -> Vec<Piece> {
-        self.pieces
+    /// The room in which it was made, for another calendar.
+    pub fn into_room(self) -> CalendarRoom {
+        self.room
     }
 }

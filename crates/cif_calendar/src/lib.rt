@@ -3,19 +3,25 @@
 
 mod association_entry;
 mod calendar_fault;
+mod calendar_room;
+mod changes;
 mod entry;
 mod key_calendar;
 pub mod laws;
+mod layers;
+mod lead;
+mod leads;
+mod member;
 mod piece;
 mod schedule_entry;
 mod stretches;
 mod window;
-mod winner;
 
 pub use calendar_fault::CalendarFault;
+pub use calendar_room::CalendarRoom;
 pub use entry::Entry;
 pub use key_calendar::Calendar;
+pub use lead::same_body;
 pub use piece::Piece;
 pub use stretches::{calendar, calendar_in_room};
 pub use window::Window;
-pub use winner::same_body;

@@ -1,84 +1,53 @@
 //! The pieces of a window, one after another.
 
-ghost use Rattle.std.specs.Prelude.{◌≡◌, ◌<◌, ◌≤◌, ◌+◌, ℕ, length, map, All, min};
+ghost use Rattle.std.specs.Prelude.{◌≡◌, ◌<◌, ◌≤◌, ◌+◌, ℕ, List, length, map, All, min};
 ghost use Rattle.std.specs.Prelude.{IfOk, IfErr, OnOk, ◌⊎◌, ◌++◌, ◌∷◌, []};
 ghost use Rattle.cif_calendar.specs.Calendar.{IsAnswer, IsFault};
 ghost use Rattle.cif_calendar.specs.Clash.{IsFirstClash};
-ghost use Rattle.cif_calendar.specs.Steps.PieceSteps.{BreaksAfter, BreaksOff, IsWeekFrom};
-ghost use Rattle.cif_calendar.specs.Pieces.{IsPiece, IsUnbroken};
+ghost use Rattle.cif_calendar.specs.Steps.Layers.{AreLayers, AreLayersOf};
+ghost use Rattle.cif_calendar.specs.Steps.Leading.{AreLeads};
+ghost use Rattle.cif_calendar.specs.Steps.PieceSteps.{AreChanges, BreaksAfter, IsWeekFrom};
+ghost use Rattle.cif_calendar.specs.Pieces.{IsPiece};
 ghost use Rattle.cif_calendar.specs.Source.{IsChosen};
 ghost use Rattle.cif_calendar.specs.declared.calendar_fault.CalendarFault.TheVariants.{Memory};
 
 use crate::calendar_fault::CalendarFault;
+use crate::calendar_room::CalendarRoom;
+use crate::changes::{end_of_piece, fill_changes};
 use crate::entry::Entry;
 use crate::key_calendar::Calendar;
+use crate::layers::Layers;
+use crate::lead::BodiesDiffer;
+use crate::leads::Leads;
 use crate::piece::Piece;
 use crate::window::Window;
-use crate::winner::{BodiesDiffer, winner_on};
 use cif_columns::Day;
 use std::alloc::Global;
-
-/// The first day from `first` on after which the record has ended or begins; `end` where there is
-/// none before it.
-fn end_for<E: Entry>(entry: &E, first: Day, end: Day) -> Day
-    requires { first ≤ end }
-    ensures from { first ≤ result }
-    ensures upto { result ≤ end }
-    ensures begins { first < (E.terms entry.now).first → result < (E.terms entry.now).first }
-    ensures ends { first ≤ (E.terms entry.now).last → result ≤ (E.terms entry.now).last }
-    ensures breaks { (result ≡ end) ⊎ BreaksOff (E.terms entry.now) first result }
-{
-    let begin = entry.first();
-    if first < begin {
-        return match begin.previous() {
-            Some(before) if before < end => before,
-            _ => end,
-        };
-    }
-    let last = entry.last();
-    if first <= last && last < end {
-        last
-    } else {
-        end
-    }
-}
-
-/// The last day of the piece that begins on `first`, in a window that ends on `last`.
-fn end_of_piece<E: Entry>(entries: &[E], members: &[usize], first: Day, last: Day) -> Day
-    requires positions { All (λ i. i < length entries.now) members.now }
-    requires in_order { first ≤ last }
-    ensures from { first ≤ result }
-    ensures upto { result ≤ last }
-    ensures unbroken { IsUnbroken (IsChosen (map E.terms entries.now) members.now) first result }
-    ensures breaks { (result ≡ last)
-        ⊎ BreaksAfter (IsChosen (map E.terms entries.now) members.now) first result }
-{
-    let mut end = last;
-    for i in members {
-        end = end_for(&entries[*i], first, end);
-    }
-    end
-}
 
 /// The winners of the days from `first` to `last`, but at most of seven; or the first of these days
 /// with a clash.
 fn week_from<E: Entry>(
+    leads: &mut Leads,
     entries: &[E],
-    members: &[usize],
+    layers: &Layers,
     first: Day,
     last: Day,
 ) -> Result<[Option<usize>; 7], Day>
-    requires positions { All (λ i. i < length entries.now) members.now }
+    requires layers { AreLayers (map E.terms entries.now) layers.now }
+    requires leads { AreLeads (map E.terms entries.now) layers.now first leads.old }
     requires in_order { first ≤ last }
-    ensures week { IfOk result (IsWeekFrom (map E.terms entries.now) members.now first
+    ensures leads { OnOk result
+        (AreLeads (map E.terms entries.now) layers.now (last + 1) leads.new) }
+    ensures week { (members : List ℕ) → AreLayersOf (map E.terms entries.now) members layers.now →
+        IfOk result (IsWeekFrom (map E.terms entries.now) members first
         (min (last + 1) (first + 7))) }
-    ensures clash { IfErr result
-        (IsFirstClash (IsChosen (map E.terms entries.now) members.now) first last) }
+    ensures clash { (members : List ℕ) → AreLayersOf (map E.terms entries.now) members layers.now →
+        IfErr result (IsFirstClash (IsChosen (map E.terms entries.now) members) first last) }
 {
     let mut winners = [None; 7];
     let mut day = first;
     for _ in 0..7u8 {
-        match winner_on(entries, members, day) {
+        match leads.winner_on(entries, layers, day) {
             Ok(source) => winners[day.weekday() as usize] = source,
             Err(BodiesDiffer) => return Err(day),
         }
@@ -88,35 +57,6 @@ fn week_from<E: Entry>(
         }
     }
     Ok(winners)
-}
-
-/// The piece that begins on `first`, in a window that ends on `last`.
-fn piece_from<E: Entry>(
-    entries: &[E],
-    members: &[usize],
-    first: Day,
-    last: Day,
-) -> Result<Piece, CalendarFault>
-    requires positions { All (λ i. i < length entries.now) members.now }
-    requires in_order { first ≤ last }
-    ensures begins { IfOk result (λ p. p.first ≡ first) }
-    ensures from { IfOk result (λ p. p.first ≤ p.last) }
-    ensures upto { IfOk result (λ p. p.last ≤ last) }
-    ensures piece { IfOk result (IsPiece (map E.terms entries.now) members.now) }
-    ensures breaks { IfOk result (λ p. (p.last ≡ last)
-        ⊎ BreaksAfter (IsChosen (map E.terms entries.now) members.now) first p.last) }
-    ensures fault { IfErr result
-        (IsFault (IsChosen (map E.terms entries.now) members.now) first last) }
-{
-    let end = end_of_piece(entries, members, first, last);
-    match week_from(entries, members, first, end) {
-        Ok(winners) => Ok(Piece {
-            first,
-            last: end,
-            winners,
-        }),
-        Err(day) => Err(CalendarFault::Ambiguous(day)),
-    }
 }
 
 fn add(pieces: &mut Vec<Piece>, piece: Piece) -> Result<(), CalendarFault>
@@ -134,8 +74,7 @@ fn add(pieces: &mut Vec<Piece>, piece: Piece) -> Result<(), CalendarFault>
 /// `members` are positions in `entries`. Hand in those of one key's records: all members are judged
 /// together, whatever their keys. `Ambiguous` comes where two winners of a date of the window have
 /// different bodies, and names the first such date; a clash among records that do not win is no
-/// fault. `Memory` comes where the pieces can't grow. The cost is the number of members times that
-/// of the pieces.
+/// fault. `Memory` comes where a list can't grow.
 pub fn calendar<E: Entry>(
     alloc: Global,
     entries: &[E],
@@ -145,13 +84,13 @@ pub fn calendar<E: Entry>(
     requires positions { All (λ i. i < length entries.now) members.now }
     ensures { IsAnswer (map E.terms entries.now) members.now window.first window.last result }
 {
-    calendar_in_room(Vec::new(alloc), entries, members, window)
+    calendar_in_room(CalendarRoom::new(alloc), entries, members, window)
 }
 
-/// The same calendar, in the room of pieces that are needed no more: `Calendar::into_room` gives
-/// that of an earlier calendar.
+/// The same calendar, in room that is needed no more: `Calendar::into_room` gives that of an
+/// earlier calendar.
 pub fn calendar_in_room<E: Entry>(
-    room: Vec<Piece>,
+    room: CalendarRoom,
     entries: &[E],
     members: &[usize],
     window: Window,
@@ -159,16 +98,27 @@ pub fn calendar_in_room<E: Entry>(
     requires positions { All (λ i. i < length entries.now) members.now }
     ensures { IsAnswer (map E.terms entries.now) members.now window.first window.last result }
 {
-    let mut pieces = room;
-    pieces.clear();
+    let mut room = room;
+    room.fill(entries, members)?;
+    let mut leads = Leads::nobody();
     let mut first = window.first;
     loop {
-        let piece = piece_from(entries, members, first, window.last)?;
-        let last = piece.last;
-        add(&mut pieces, piece)?;
+        let last = end_of_piece(room.changes.as_slice(), first, window.last);
+        let winners = match week_from(&mut leads, entries, &room.layers, first, last) {
+            Ok(winners) => winners,
+            Err(day) => return Err(CalendarFault::Ambiguous(day)),
+        };
+        add(
+            &mut room.pieces,
+            Piece {
+                first,
+                last,
+                winners,
+            },
+        )?;
         match last.next_up_to(window.last) {
             Some(next) => first = next,
-            None => return Ok(Calendar::new(window, pieces)),
+            None => return Ok(Calendar::new(window, room)),
         }
     }
 }

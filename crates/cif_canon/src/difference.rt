@@ -11,7 +11,9 @@ ghost use Rattle.cif_canon.specs.Comparison.{IsFirstDifference};
 ghost use Rattle.cif_canon.specs.Steps.Differences.{AreAlikeBy, FindsOther, HasBodies, IsBodied};
 
 use crate::turns::{count_of_key, first_entry, positions_by_key};
-use cif_calendar::{Calendar, CalendarFault, Entry, Piece, Window, calendar_in_room, same_body};
+use cif_calendar::{
+    Calendar, CalendarFault, CalendarRoom, Entry, Piece, Window, calendar_in_room, same_body,
+};
 use cif_columns::Day;
 use std::alloc::{AllocError, Global};
 
@@ -35,8 +37,8 @@ pub(crate) fn first_difference<'a, E: Entry>(
     let right_positions = positions_by_key(alloc, right)?;
     let mut left_rest = left_positions.as_slice();
     let mut right_rest = right_positions.as_slice();
-    let mut left_room = Vec::new(alloc);
-    let mut right_room = Vec::new(alloc);
+    let mut left_room = CalendarRoom::new(alloc);
+    let mut right_room = CalendarRoom::new(alloc);
     while let Some(entry) = first_entry(left, left_rest, right, right_rest) {
         let (left_members, left_later) = left_rest.split_at(count_of_key(
             left,
@@ -63,7 +65,7 @@ pub(crate) fn first_difference<'a, E: Entry>(
 
 /// The calendar of the entries at `members`, which have no clash in the window.
 fn clear_calendar<E: Entry>(
-    room: Vec<Piece>,
+    room: CalendarRoom,
     entries: &[E],
     members: &[usize],
     window: &Window,

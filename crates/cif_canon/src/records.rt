@@ -6,7 +6,7 @@ ghost use Rattle.cif_canon.specs.Steps.Records.{AreCanonicalRecords, IsRecordsFa
 ghost use Rattle.cif_canon.specs.Steps.Records.{AreRunsOfKey, IsKeyFault, records_fault, window_from};
 
 use crate::turns::{first_run, positions_by_key};
-use cif_calendar::{CalendarFault, Entry, Piece, Window, calendar_in_room};
+use cif_calendar::{CalendarFault, CalendarRoom, Entry, Window, calendar_in_room};
 use cif_columns::Day;
 use cif_weeks::{Form, Run, runs_in_room};
 use std::alloc::{AllocError, Global};
@@ -41,11 +41,11 @@ fn fault_of(fault: CalendarFault, member: usize) -> RecordsFault
     }
 }
 
-/// The pieces of a key's calendar and the runs of its canonical records. Those of the next key take
-/// their room.
+/// The room of a key's calendar and the runs of its canonical records. Those of the next key take
+/// it.
 #[derive(Debug, Drop)]
 struct KeyRoom {
-    pieces: Vec<Piece>,
+    calendar: CalendarRoom,
     runs: Vec<Run>,
 }
 
@@ -69,13 +69,13 @@ fn runs_of_key<E: Entry>(
         IsKeyFault (window_from window.now.first window.now.last)
         (keyed E.key E.terms entries.now) members.now k fault) }
 {
-    let calendar = match calendar_in_room(room.pieces, entries, members, *window) {
+    let calendar = match calendar_in_room(room.calendar, entries, members, *window) {
         Ok(calendar) => calendar,
         Err(fault) => return Err(fault_of(fault, members[0])),
     };
     let runs = runs_in_room(room.runs, entries, &calendar, form)?;
     Ok(KeyRoom {
-        pieces: calendar.into_room(),
+        calendar: calendar.into_room(),
         runs,
     })
 }
@@ -101,7 +101,7 @@ pub(crate) fn canonical_records<E: Entry>(
     let positions = positions_by_key(alloc, entries)?;
     let mut all = Vec::new(alloc);
     let mut room = KeyRoom {
-        pieces: Vec::new(alloc),
+        calendar: CalendarRoom::new(alloc),
         runs: Vec::new(alloc),
     };
     let mut rest = positions.as_slice();

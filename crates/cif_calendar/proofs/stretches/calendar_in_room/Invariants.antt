@@ -1,13 +1,21 @@
 use Rattle.std.proofs.Common.{◌≤◌, ◌-◌, map}
+use Rattle.cif_calendar.specs.Source.{IsChosen}
+use Rattle.cif_calendar.specs.Steps.Layers.{AreLayers, AreLayersOf}
+use Rattle.cif_calendar.specs.Steps.Leading.{AreLeads}
+use Rattle.cif_calendar.specs.Steps.PieceSteps.{AreChanges}
 use Rattle.cif_calendar.proofs.LaidPieces.{AreLaid}
 use Rattle.cif_calendar.proofs.stretches.calendar_in_room.Given as goal
 
-abbrev pub invariant-loop-pieces : goal.invariant-loop-pieces
-invariant-loop-pieces g l = record {
+abbrev pub invariant-loop-winners : goal.invariant-loop-winners
+invariant-loop-winners g l = record {
   from : l.window.first ≤ l.first;
   upto : l.first ≤ l.window.last;
-  laid : AreLaid (map g.E.Entry.terms l.entries) l.members l.window.first l.first l.pieces.items;
+  changes : AreChanges (IsChosen (map g.E.Entry.terms l.entries) l.members) l.room.changes.items;
+  layers : AreLayers (map g.E.Entry.terms l.entries) l.room.layers;
+  whole : AreLayersOf (map g.E.Entry.terms l.entries) l.members l.room.layers;
+  leads : AreLeads (map g.E.Entry.terms l.entries) l.room.layers l.first l.leads;
+  laid : AreLaid (map g.E.Entry.terms l.entries) l.members l.window.first l.first l.room.pieces.items;
 }
 
-abbrev pub decreases-loop-pieces : goal.decreases-loop-pieces
-decreases-loop-pieces g l = l.window.last - l.first
+abbrev pub decreases-loop-winners : goal.decreases-loop-winners
+decreases-loop-winners g l = l.window.last - l.first
