@@ -134,7 +134,8 @@ module _ {B : Type 0} (xs : List (Terms B)) (members : List ℕ) (stp : Stp) (la
       has_body : (s : Terms B) → Wins (IsChosen xs members) d s → s.body ≡ (stands leads.member leads.listed).terms.body
       has_body s w =
           let m = member_of s w.listed (lettered leads.member leads.listed leads.on s w) w.applies in
-          sym m.body ∙ leads.alike m.member m.listed m.on ∙ ap (λ (i : ℕ). body_at xs (Some i)) leads.position_is ∙ (stands leads.member leads.listed).body
+          sym m.body ∙ leads.alike m.member m.listed m.on ∙ ap (λ (i : ℕ). body_at xs (Some i)) leads.position_is
+          ∙ (stands leads.member leads.listed).body
 
       leader-clear : IsClear (IsChosen xs members) d
       leader-clear = record { agree = λ r s v w. has_body r v ∙ sym (has_body s w) }

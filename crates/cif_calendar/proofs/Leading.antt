@@ -5,7 +5,8 @@ use Rattle.std.specs.Prelude.{Contains, IfNone, IfSome}
 use Rattle.std.specs.Option.{ForSome}
 use Rattle.std.specs.List.Sorted.{IsNonDecreasingBy}
 use Rattle.std.proofs.lemmas.Bool.{cases_eq, cases_lt}
-use Rattle.std.proofs.lemmas.List.{get_or-set_same, get_or-set_other, get_or-take, get_or-replicate, length-map, length-replicate, length-take-le}
+use Rattle.std.proofs.lemmas.List.{get_or-set_same, get_or-set_other, get_or-take, get_or-replicate}
+use Rattle.std.proofs.lemmas.List.{length-map, length-replicate, length-take-le}
 use Rattle.std.proofs.lemmas.Option.{slice_get_within}
 use Rattle.std.proofs.lemmas.List.Elements.{Contains-append_left, Contains-push, Contains-push_cases}
 use Rattle.cif_columns.specs.Day.{weekday_of}

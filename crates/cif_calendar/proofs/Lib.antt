@@ -12,6 +12,7 @@ pub mod Elements
 pub mod PieceLists
 pub mod Alike
 pub mod FirstWeek
+pub mod Unbroken
 pub mod FewPieces
 pub mod LaidPieces
 pub mod Leading

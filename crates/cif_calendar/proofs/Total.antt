@@ -14,13 +14,10 @@ use Rattle.cif_calendar.specs.Applies.{Applies}
 use Rattle.cif_calendar.specs.Wins.{Wins}
 use Rattle.cif_calendar.specs.Runs.{Runs}
 use Rattle.cif_calendar.specs.Source.{IsChosen}
+use Rattle.cif_calendar.specs.Steps.Standing.{NoneApplies}
 use Rattle.cif_calendar.proofs.Elements.{Contains-first, Contains-rest, Contains-cases}
 use Rattle.cif_calendar.proofs.Sets.{Wins-same}
-use Rattle.cif_calendar.proofs.Winning.{IsWith, wins-keeps, wins-new}
-
--- no record applies
-record NoneApplies {B : Type 0} (records : Records B) (d : ℕ) : Type 0 where
-  none : (s : Terms B) → records s → Applies s d → ⊥
+use Rattle.cif_calendar.proofs.Winning.{IsWith, wins-keeps, wins-new, none-keeps}
 
 on_or_off : (o : Option Bool) → (o ≡ Some true) ⊎ (o ≡ Some true → ⊥)
 on_or_off None = inr (λ e. cc)
@@ -46,7 +43,7 @@ HasWinner {B} records d = NoneApplies records d ⊎ ((t : Terms B) × Wins recor
 
 -- one more record leaves it so
 winner-with : {B : Type 0} (ys zs : Records B) (d : ℕ) (r : Terms B) → IsWith ys r zs → HasWinner ys d → HasWinner zs d
-winner-with {B} ys zs d r a h = ⊎_elim
+winner-with ys zs d r a h = ⊎_elim
     (λ on. ⊎_elim
     (λ none. inr (r, wins-new ys zs d r a on (λ s in' also. absurd (none.none s in' also))))
     (λ w. ⊎_elim
@@ -59,12 +56,7 @@ winner-with {B} ys zs d r a h = ⊎_elim
     (cases_lt (letter r.letter) (letter w.0.letter)))
     h)
     (λ off. ⊎_elim
-    (λ none. inl (record {
-      none = λ s in' on. ⊎_elim
-          (λ old. none.none s old on)
-          (λ e. off (subst (λ (q : Terms B). Applies q d) (sym e) on))
-          (a.only s in');
-    }))
+    (λ none. inl (none-keeps ys zs d r a off none))
     (λ w. inr (w.0, wins-keeps ys zs d r a w.0 (λ on. absurd (off on)) w.1))
     h)
     (applies-or-not r d)
@@ -102,7 +94,7 @@ winner-or-none xs [] d = inl (record { none = λ s c on. let h : c.member.0 < 0 
 winner-or-none xs (i ∷ members) d = winner-more xs i members d (slice_get xs i) refl (winner-or-none xs members d)
 
 -- no letter is before that of a cancellation
-pub least-letter : (s : Stp) → letter s ≤ letter C → s ≡ C
+least-letter : (s : Stp) → letter s ≤ letter C → s ≡ C
 least-letter C h = refl
 least-letter N h = absurd (omega arith)
 least-letter O h = absurd (omega arith)

@@ -2,3 +2,4 @@
 pub mod Layers
 pub mod Leading
 pub mod PieceSteps
+pub mod Standing

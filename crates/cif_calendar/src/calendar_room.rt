@@ -1,6 +1,6 @@
 //! The room in which a calendar is made.
 
-ghost use Rattle.std.specs.Prelude.{◌≡◌, ◌<◌, [], length, map, All, IfErr, OnOk};
+ghost use Rattle.std.specs.Prelude.{◌≡◌, ◌<◌, ◌++◌, ◌∷◌, [], length, map, All, IfErr, OnOk};
 ghost use Rattle.cif_calendar.specs.Source.{IsChosen};
 ghost use Rattle.cif_calendar.specs.Steps.Layers.{AreLayers, AreLayersOf};
 ghost use Rattle.cif_calendar.specs.Steps.PieceSteps.{AreChanges};
@@ -57,5 +57,16 @@ impl CalendarRoom {
             Ok(()) => Ok(()),
             Err(_) => Err(CalendarFault::Memory),
         }
+    }
+}
+
+/// Adds a piece.
+pub(crate) fn add_piece(pieces: &mut Vec<Piece>, piece: Piece) -> Result<(), CalendarFault>
+    ensures ok { OnOk result (pieces.new.items ≡ pieces.old.items ++ piece ∷ []) }
+    ensures err { IfErr result (λ e. e ≡ Memory) }
+{
+    match pieces.push(piece) {
+        Ok(()) => Ok(()),
+        Err(_) => Err(CalendarFault::Memory),
     }
 }

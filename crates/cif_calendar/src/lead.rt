@@ -12,11 +12,8 @@ ghost use Rattle.cif_calendar.specs.declared.member.Member.{Member};
 
 use crate::entry::Entry;
 use crate::member::Member;
+use crate::winner::{BodiesDiffer, same_body};
 use cif_columns::Day;
-
-/// Two records that apply on a date have different bodies, and no lesser letter hides them.
-#[derive(Clone, Copy, Debug, PartialEq, Eq)]
-pub(crate) struct BodiesDiffer;
 
 /// A member that leads.
 #[derive(Clone, Copy, Debug, PartialEq, Eq)]
@@ -35,17 +32,6 @@ pub(crate) struct Lead {
     pub(crate) leader: Option<Leader>,
     /// How many members of the layer were looked at, from its first on.
     pub(crate) seen: usize,
-}
-
-/// Whether two entries have the same body, or both have none.
-pub fn same_body<E: Entry>(one: &E, other: &E) -> bool
-    ensures { IsTrue result ↔ ((E.terms one.now).body ≡ (E.terms other.now).body) }
-{
-    match (one.body(), other.body()) {
-        (Some(x), Some(y)) => x == y,
-        (None, None) => true,
-        _ => false,
-    }
 }
 
 /// The leader, if it hasn't ended before the date.

@@ -9,8 +9,9 @@ ghost use Rattle.cif_calendar.specs.Steps.Leading.{all_unled};
 
 use crate::entry::Entry;
 use crate::layers::Layers;
-use crate::lead::{BodiesDiffer, Lead, Leader};
+use crate::lead::{Lead, Leader};
 use crate::member::Member;
+use crate::winner::BodiesDiffer;
 use cif_columns::Day;
 
 /// Who leads each layer, on each weekday, Monday first.

@@ -1,7 +1,9 @@
 use Rattle.std.proofs.Common.{map}
 use Rattle.std.proofs.lemmas.Result.{err_from_is_err_and}
-use Rattle.cif_calendar.proofs.LayerWinners.{apart-is, led-is, cancelled-clash, cancelled-clear, cancelled-source, new-clash, new-clear, new-source}
-use Rattle.cif_calendar.proofs.LayerWinners.{overlay-clash, overlay-clear, overlay-source, permanent-clash, permanent-clear, permanent-source}
+use Rattle.cif_calendar.proofs.LayerWinners.{apart-is, led-is, cancelled-clash, cancelled-clear, cancelled-source}
+use Rattle.cif_calendar.proofs.LayerWinners.{new-clash, new-clear, new-source}
+use Rattle.cif_calendar.proofs.LayerWinners.{overlay-clash, overlay-clear, overlay-source}
+use Rattle.cif_calendar.proofs.LayerWinners.{permanent-clash, permanent-clear, permanent-source}
 use Rattle.cif_calendar.proofs.LayerWinners.{nobody-clear, nobody-source}
 use Rattle.cif_calendar.proofs.Positions.{AreLawful-chosen}
 use Rattle.cif_calendar.proofs.leads.Leads.winner_on.Goals as goal

@@ -14,9 +14,9 @@ use Rattle.cif_calendar.proofs.FirstClash.{IsFirstClash-wider, first_clash-clear
 use Rattle.cif_calendar.proofs.LaidPieces.{AreLaid, AreTiled, laid-none, laid-more, tiled-last, few-last, calendar-tiled, fault-tiled}
 use Rattle.cif_calendar.proofs.LaidPieces.{fault-clash}
 use Rattle.cif_calendar.proofs.Leading.{leads-none}
-use Rattle.cif_calendar.proofs.stretches.calendar_in_room.Goals as goal
-use Rattle.cif_calendar.proofs.stretches.calendar_in_room.Goals.{In_ok-add}
-use Rattle.cif_calendar.proofs.stretches.calendar_in_room.Given.{Over}
+use Rattle.cif_calendar.proofs.sweep.calendar_of_many.Goals as goal
+use Rattle.cif_calendar.proofs.sweep.calendar_of_many.Goals.{In_ok-add_piece}
+use Rattle.cif_calendar.proofs.sweep.calendar_of_many.Given.{Over}
 
 pub loop-winners-init : goal.loop-winners-init
 loop-winners-init g c = let xs = map g.E.Entry.terms c.args.entries.now in record {
@@ -56,12 +56,13 @@ returns-in-Err g c =
     }
 
 -- the next piece
-ends : (g : Over) (c : In_ok-add g) → EndsPiece c.loop-winners.room.changes.items c.loop-winners.first c.args.window.last c.end_of_piece-last.result
+ends : (g : Over) (c : In_ok-add_piece g) →
+    EndsPiece c.loop-winners.room.changes.items c.loop-winners.first c.args.window.last c.end_of_piece-last.result
 ends g c =
     subst (λ (changes : List ℕ). EndsPiece changes c.loop-winners.first c.args.window.last c.end_of_piece-last.result)
     c.as_slice.ensures.value c.end_of_piece-last.ensures
 
-piece : (g : Over) (c : In_ok-add g) → IsPiece (map g.E.Entry.terms c.args.entries.now) c.args.members.now
+piece : (g : Over) (c : In_ok-add_piece g) → IsPiece (map g.E.Entry.terms c.args.entries.now) c.args.members.now
     (record { first = c.loop-winners.first; last = c.end_of_piece-last.result; winners = c.in-Ok.winners })
 piece g c =
     let xs = map g.E.Entry.terms c.args.entries.now in
@@ -73,7 +74,7 @@ piece g c =
 pub loop-winners-preserved : goal.loop-winners-preserved
 loop-winners-preserved g c =
     let xs = map g.E.Entry.terms c.args.entries.now in
-    let here = (goal.at.loop-winners-preserved g c).In_ok-add in
+    let here = (goal.at.loop-winners-preserved g c).In_ok-add_piece in
     record {
       from = omega (arith, c.in-Some.ensures, (ends g here).from);
       upto = omega (arith, c.in-Some.ensures);
@@ -83,40 +84,40 @@ loop-winners-preserved g c =
       leads = subst (λ (d : ℕ). AreLeads xs c.loop-winners.room.layers d c.week_from.new.leads) (sym c.in-Some.ensures.1)
           c.in-Ok.ensures.leads;
       laid = laid-more xs c.args.members.now c.args.window.first c.loop-winners.first
-          c.in-Some.next c.args.window.last c.loop-winners.room.pieces.items c.add.new.pieces.items
+          c.in-Some.next c.args.window.last c.loop-winners.room.pieces.items c.add_piece.new.pieces.items
           (record { first = c.loop-winners.first; last = c.end_of_piece-last.result; winners = c.in-Ok.winners })
-          c.in_ok-add.ensures.ok refl (ends g here).from (piece g here)
+          c.in_ok-add_piece.ensures.ok refl (ends g here).from (piece g here)
           (ends-breaks (IsChosen xs c.args.members.now) c.loop-winners.room.changes.items c.loop-winners.first c.args.window.last
           c.end_of_piece-last.result c.loop-winners.invariant.changes (ends g here))
           c.in-Some.ensures.0 c.in-Some.ensures.1 c.loop-winners.invariant.laid;
     }
 
 -- after the last piece
-module _ (g : Over) (c : In_ok-add g) (over : c.end_of_piece-last.result < c.args.window.last → ⊥) where
+module _ (g : Over) (c : In_ok-add_piece g) (over : c.end_of_piece-last.result < c.args.window.last → ⊥) where
   tiled : AreTiled (map g.E.Entry.terms c.args.entries.now) c.args.members.now c.args.window.first (c.args.window.last + 1)
-      c.add.new.pieces.items
+      c.add_piece.new.pieces.items
   tiled =
       tiled-last (map g.E.Entry.terms c.args.entries.now) c.args.members.now c.args.window.first c.loop-winners.first c.args.window.last
-      c.loop-winners.room.pieces.items c.add.new.pieces.items
+      c.loop-winners.room.pieces.items c.add_piece.new.pieces.items
       (record { first = c.loop-winners.first; last = c.end_of_piece-last.result; winners = c.in-Ok.winners })
-      c.in_ok-add.ensures.ok refl (ends g c).from (ends g c).upto over (piece g c) c.loop-winners.invariant.laid
+      c.in_ok-add_piece.ensures.ok refl (ends g c).from (ends g c).upto over (piece g c) c.loop-winners.invariant.laid
 
   -- they are a calendar
   told : IsCalendar (map g.E.Entry.terms c.args.entries.now) c.args.members.now c.args.window.first c.args.window.last
-      (record { first = c.args.window.first; last = c.args.window.last; pieces = c.add.new.pieces.items })
+      (record { first = c.args.window.first; last = c.args.window.last; pieces = c.add_piece.new.pieces.items })
   told =
       let xs = map g.E.Entry.terms c.args.entries.now in
-      calendar-tiled xs c.args.members.now c.args.window.first c.args.window.last c.add.new.pieces.items tiled
-      (few-last xs c.args.members.now c.args.window.first c.loop-winners.first c.loop-winners.room.pieces.items c.add.new.pieces.items
+      calendar-tiled xs c.args.members.now c.args.window.first c.args.window.last c.add_piece.new.pieces.items tiled
+      (few-last xs c.args.members.now c.args.window.first c.loop-winners.first c.loop-winners.room.pieces.items c.add_piece.new.pieces.items
       (record { first = c.loop-winners.first; last = c.end_of_piece-last.result; winners = c.in-Ok.winners })
-      c.in_ok-add.ensures.ok c.loop-winners.invariant.laid)
+      c.in_ok-add_piece.ensures.ok c.loop-winners.invariant.laid)
 
 pub new-requires : goal.new-requires
-new-requires g c = (tiled g (goal.at.new-requires g c).In_ok-add c.in-None.ensures).tiles
+new-requires g c = (tiled g (goal.at.new-requires g c).In_ok-add_piece c.in-None.ensures).tiles
 
 pub returns-in-None : goal.returns-in-None
 returns-in-None g c =
-    let is = told g (goal.at.returns-in-None g c).In_ok-add c.in-None.ensures in record {
+    let is = told g (goal.at.returns-in-None g c).In_ok-add_piece c.in-None.ensures in record {
       calendar = rw c.new.ensures is;
       fault = tt;
       clash = λ d first. absurd (first_clash-clear _ c.args.window.first c.args.window.last d first is.clear);

@@ -4,7 +4,7 @@ use Rattle.cif_calendar.specs.Steps.Layers.{AreLayers, AreLayersOf}
 use Rattle.cif_calendar.specs.Steps.Leading.{AreLeads}
 use Rattle.cif_calendar.specs.Steps.PieceSteps.{AreChanges}
 use Rattle.cif_calendar.proofs.LaidPieces.{AreLaid}
-use Rattle.cif_calendar.proofs.stretches.calendar_in_room.Given as goal
+use Rattle.cif_calendar.proofs.sweep.calendar_of_many.Given as goal
 
 abbrev pub invariant-loop-winners : goal.invariant-loop-winners
 invariant-loop-winners g l = record {

@@ -3,7 +3,7 @@ use Rattle.std.specs.Prelude.{map}
 use Rattle.cif_calendar.specs.Steps.Layers.{AreLayersOf}
 use Rattle.cif_calendar.specs.Steps.Leading.{AreLeads}
 use Rattle.cif_calendar.specs.Steps.PieceSteps.{IsWeekFrom}
-use Rattle.cif_calendar.proofs.stretches.week_from.Given as goal
+use Rattle.cif_calendar.proofs.sweep.week_from.Given as goal
 
 abbrev pub invariant-loop : goal.invariant-loop
 invariant-loop g l = record {
