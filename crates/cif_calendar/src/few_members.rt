@@ -9,10 +9,9 @@ ghost use Rattle.cif_calendar.specs.Pieces.{IsPiece, IsUnbroken};
 ghost use Rattle.cif_calendar.specs.Source.{IsChosen};
 
 use crate::calendar_fault::CalendarFault;
-use crate::calendar_room::{CalendarRoom, add_piece};
 use crate::entry::Entry;
 use crate::key_calendar::Calendar;
-use crate::piece::Piece;
+use crate::piece::{Piece, add_piece};
 use crate::window::Window;
 use crate::winner::{BodiesDiffer, winner_on};
 use cif_columns::Day;
@@ -120,7 +119,7 @@ fn piece_from<E: Entry>(
 
 /// The calendar of the entries at `members`. The cost is their number times that of the pieces.
 pub(crate) fn calendar_of_few<E: Entry>(
-    room: CalendarRoom,
+    room: Vec<Piece>,
     entries: &[E],
     members: &[usize],
     window: Window,
@@ -128,16 +127,16 @@ pub(crate) fn calendar_of_few<E: Entry>(
     requires positions { All (λ i. i < length entries.now) members.now }
     ensures { IsAnswer (map E.terms entries.now) members.now window.first window.last result }
 {
-    let mut room = room;
-    room.pieces.clear();
+    let mut pieces = room;
+    pieces.clear();
     let mut first = window.first;
     loop {
         let piece = piece_from(entries, members, first, window.last)?;
         let last = piece.last;
-        add_piece(&mut room.pieces, piece)?;
+        add_piece(&mut pieces, piece)?;
         match last.next_up_to(window.last) {
             Some(next) => first = next,
-            None => return Ok(Calendar::new(window, room)),
+            None => return Ok(Calendar::new(window, pieces)),
         }
     }
 }

@@ -2,7 +2,6 @@
 ghost use Rattle.std.specs.Prelude.{◌≡◌, ◌≤◌, ◌+◌, Contains};
 ghost use Rattle.cif_calendar.specs.Pieces.{Tiles, source_at, winner_of};
 
-use crate::calendar_room::CalendarRoom;
 use crate::piece::Piece;
 use crate::window::Window;
 use cif_columns::Day;
@@ -12,7 +11,7 @@ use std::marker::Model;
 #[derive(Debug, Drop)]
 pub struct Calendar {
     window: Window,
-    room: CalendarRoom,
+    pieces: Vec<Piece>,
 }
 
 impl Model for Calendar {
@@ -25,22 +24,22 @@ impl Model for Calendar {
     ghost view = { λ c. record {
       first = c.window.first;
       last = c.window.last;
-      pieces = c.room.pieces.items;
+      pieces = c.pieces.items;
     } };
 
-    ghost invariant = { λ c. Tiles c.room.pieces.items c.window.first (c.window.last + 1) };
+    ghost invariant = { λ c. Tiles c.pieces.items c.window.first (c.window.last + 1) };
 }
 
 impl Calendar {
-    pub(crate) fn new(window: Window, room: CalendarRoom) -> Calendar
-        requires { Tiles room.pieces.items window.first (window.last + 1) }
+    pub(crate) fn new(window: Window, pieces: Vec<Piece>) -> Calendar
+        requires { Tiles pieces.items window.first (window.last + 1) }
         ensures { result ≡ record {
           first = window.first;
           last = window.last;
-          pieces = room.pieces.items;
+          pieces = pieces.items;
         } }
     {
-        Calendar { window, room }
+        Calendar { window, pieces }
     }
 
     /// The position in the entries of a winner of the date, which has to be in the window; `None`
@@ -83,11 +82,11 @@ impl Calendar {
         ensures pieces { result.now ≡ self.now.pieces }
         ensures tiles { Tiles result.now self.now.first (self.now.last + 1) }
     {
-        self.room.pieces.as_slice()
+        self.pieces.as_slice()
     }
 
-    /// The room in which it was made, for another calendar.
-    pub fn into_room(self) -> CalendarRoom {
-        self.room
+    /// The room of its pieces, for another calendar.
+    pub fn into_room(self) -> Vec<Piece> {
+        self.pieces
     }
 }

@@ -3,7 +3,6 @@
 
 mod association_entry;
 mod calendar_fault;
-mod calendar_room;
 mod changes;
 mod entry;
 mod few_members;
@@ -17,14 +16,15 @@ mod piece;
 mod schedule_entry;
 mod stretches;
 mod sweep;
+mod sweep_lists;
 mod window;
 mod winner;
 
 pub use calendar_fault::CalendarFault;
-pub use calendar_room::CalendarRoom;
 pub use entry::Entry;
 pub use key_calendar::Calendar;
 pub use piece::Piece;
 pub use stretches::{calendar, calendar_in_room};
+pub use sweep_lists::SweepLists;
 pub use window::Window;
 pub use winner::same_body;

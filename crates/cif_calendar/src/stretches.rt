@@ -4,11 +4,12 @@ ghost use Rattle.std.specs.Prelude.{◌<◌, length, map, All};
 ghost use Rattle.cif_calendar.specs.Calendar.{IsAnswer};
 
 use crate::calendar_fault::CalendarFault;
-use crate::calendar_room::CalendarRoom;
 use crate::entry::Entry;
 use crate::few_members::calendar_of_few;
 use crate::key_calendar::Calendar;
+use crate::piece::Piece;
 use crate::sweep::calendar_of_many;
+use crate::sweep_lists::SweepLists;
 use crate::window::Window;
 use std::alloc::Global;
 
@@ -30,13 +31,15 @@ pub fn calendar<E: Entry>(
     requires positions { All (λ i. i < length entries.now) members.now }
     ensures { IsAnswer (map E.terms entries.now) members.now window.first window.last result }
 {
-    calendar_in_room(CalendarRoom::new(alloc), entries, members, window)
+    let mut lists = SweepLists::new(alloc);
+    calendar_in_room(Vec::new(alloc), &mut lists, entries, members, window)
 }
 
-/// The same calendar, in room that is needed no more: `Calendar::into_room` gives that of an
-/// earlier calendar.
+/// The same calendar, in the room of pieces that are needed no more: `Calendar::into_room` gives
+/// that of an earlier calendar. The lists are those of any other calendar.
 pub fn calendar_in_room<E: Entry>(
-    room: CalendarRoom,
+    room: Vec<Piece>,
+    lists: &mut SweepLists,
     entries: &[E],
     members: &[usize],
     window: Window,
@@ -47,6 +50,6 @@ pub fn calendar_in_room<E: Entry>(
     if members.len() <= FEW {
         calendar_of_few(room, entries, members, window)
     } else {
-        calendar_of_many(room, entries, members, window)
+        calendar_of_many(room, lists, entries, members, window)
     }
 }

@@ -10,13 +10,13 @@ ghost use Rattle.cif_calendar.specs.Steps.PieceSteps.{IsWeekFrom};
 ghost use Rattle.cif_calendar.specs.Source.{IsChosen};
 
 use crate::calendar_fault::CalendarFault;
-use crate::calendar_room::{CalendarRoom, add_piece};
 use crate::changes::end_of_piece;
 use crate::entry::Entry;
 use crate::key_calendar::Calendar;
 use crate::layers::Layers;
 use crate::leads::Leads;
-use crate::piece::Piece;
+use crate::piece::{Piece, add_piece};
+use crate::sweep_lists::SweepLists;
 use crate::window::Window;
 use crate::winner::BodiesDiffer;
 use cif_columns::Day;
@@ -59,7 +59,8 @@ fn week_from<E: Entry>(
 /// The calendar of the entries at `members`. The cost is that of sorting them and of the pieces, and
 /// a body is compared at most once for each weekday.
 pub(crate) fn calendar_of_many<E: Entry>(
-    room: CalendarRoom,
+    room: Vec<Piece>,
+    lists: &mut SweepLists,
     entries: &[E],
     members: &[usize],
     window: Window,
@@ -67,18 +68,19 @@ pub(crate) fn calendar_of_many<E: Entry>(
     requires positions { All (λ i. i < length entries.now) members.now }
     ensures { IsAnswer (map E.terms entries.now) members.now window.first window.last result }
 {
-    let mut room = room;
-    room.fill(entries, members)?;
+    lists.fill(entries, members)?;
+    let mut pieces = room;
+    pieces.clear();
     let mut leads = Leads::nobody();
     let mut first = window.first;
     loop {
-        let last = end_of_piece(room.changes.as_slice(), first, window.last);
-        let winners = match week_from(&mut leads, entries, &room.layers, first, last) {
+        let last = end_of_piece(lists.changes.as_slice(), first, window.last);
+        let winners = match week_from(&mut leads, entries, &lists.layers, first, last) {
             Ok(winners) => winners,
             Err(day) => return Err(CalendarFault::Ambiguous(day)),
         };
         add_piece(
-            &mut room.pieces,
+            &mut pieces,
             Piece {
                 first,
                 last,
@@ -87,7 +89,7 @@ pub(crate) fn calendar_of_many<E: Entry>(
         )?;
         match last.next_up_to(window.last) {
             Some(next) => first = next,
-            None => return Ok(Calendar::new(window, room)),
+            None => return Ok(Calendar::new(window, pieces)),
         }
     }
 }

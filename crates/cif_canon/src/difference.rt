@@ -12,7 +12,7 @@ ghost use Rattle.cif_canon.specs.Steps.Differences.{AreAlikeBy, FindsOther, HasB
 
 use crate::turns::{count_of_key, first_entry, positions_by_key};
 use cif_calendar::{
-    Calendar, CalendarFault, CalendarRoom, Entry, Piece, Window, calendar_in_room, same_body,
+    Calendar, CalendarFault, Entry, Piece, SweepLists, Window, calendar_in_room, same_body,
 };
 use cif_columns::Day;
 use std::alloc::{AllocError, Global};
@@ -37,8 +37,9 @@ pub(crate) fn first_difference<'a, E: Entry>(
     let right_positions = positions_by_key(alloc, right)?;
     let mut left_rest = left_positions.as_slice();
     let mut right_rest = right_positions.as_slice();
-    let mut left_room = CalendarRoom::new(alloc);
-    let mut right_room = CalendarRoom::new(alloc);
+    let mut left_room = Vec::new(alloc);
+    let mut right_room = Vec::new(alloc);
+    let mut lists = SweepLists::new(alloc);
     while let Some(entry) = first_entry(left, left_rest, right, right_rest) {
         let (left_members, left_later) = left_rest.split_at(count_of_key(
             left,
@@ -50,8 +51,8 @@ pub(crate) fn first_difference<'a, E: Entry>(
             right_rest,
             entry.key(),
         ));
-        let one = clear_calendar(left_room, left, left_members, window)?;
-        let other = clear_calendar(right_room, right, right_members, window)?;
+        let one = clear_calendar(left_room, &mut lists, left, left_members, window)?;
+        let other = clear_calendar(right_room, &mut lists, right, right_members, window)?;
         if let Some(day) = first_day(left, &one, right, &other) {
             return Ok(Some((entry, day)));
         }
@@ -65,7 +66,8 @@ pub(crate) fn first_difference<'a, E: Entry>(
 
 /// The calendar of the entries at `members`, which have no clash in the window.
 fn clear_calendar<E: Entry>(
-    room: CalendarRoom,
+    room: Vec<Piece>,
+    lists: &mut SweepLists,
     entries: &[E],
     members: &[usize],
     window: &Window,
@@ -76,7 +78,7 @@ fn clear_calendar<E: Entry>(
     ensures { IfOk result (IsCalendar (map E.terms entries.now) members.now
         window.now.first window.now.last) }
 {
-    match calendar_in_room(room, entries, members, *window) {
+    match calendar_in_room(room, lists, entries, members, *window) {
         Ok(calendar) => Ok(calendar),
         Err(CalendarFault::Memory) => Err(AllocError),
         Err(CalendarFault::Ambiguous(_)) => unreachable!(),

@@ -6,7 +6,7 @@ ghost use Rattle.cif_canon.specs.Steps.Records.{AreCanonicalRecords, IsRecordsFa
 ghost use Rattle.cif_canon.specs.Steps.Records.{AreRunsOfKey, IsKeyFault, records_fault, window_from};
 
 use crate::turns::{first_run, positions_by_key};
-use cif_calendar::{CalendarFault, CalendarRoom, Entry, Window, calendar_in_room};
+use cif_calendar::{CalendarFault, Entry, Piece, SweepLists, Window, calendar_in_room};
 use cif_columns::Day;
 use cif_weeks::{Form, Run, runs_in_room};
 use std::alloc::{AllocError, Global};
@@ -41,11 +41,11 @@ fn fault_of(fault: CalendarFault, member: usize) -> RecordsFault
     }
 }
 
-/// The room of a key's calendar and the runs of its canonical records. Those of the next key take
-/// it.
+/// The pieces of a key's calendar and the runs of its canonical records. Those of the next key take
+/// their room.
 #[derive(Debug, Drop)]
 struct KeyRoom {
-    calendar: CalendarRoom,
+    pieces: Vec<Piece>,
     runs: Vec<Run>,
 }
 
@@ -53,6 +53,7 @@ struct KeyRoom {
 /// `members`.
 fn runs_of_key<E: Entry>(
     room: KeyRoom,
+    lists: &mut SweepLists,
     entries: &[E],
     members: &[usize],
     window: &Window,
@@ -69,13 +70,13 @@ fn runs_of_key<E: Entry>(
         IsKeyFault (window_from window.now.first window.now.last)
         (keyed E.key E.terms entries.now) members.now k fault) }
 {
-    let calendar = match calendar_in_room(room.calendar, entries, members, *window) {
+    let calendar = match calendar_in_room(room.pieces, lists, entries, members, *window) {
         Ok(calendar) => calendar,
         Err(fault) => return Err(fault_of(fault, members[0])),
     };
     let runs = runs_in_room(room.runs, entries, &calendar, form)?;
     Ok(KeyRoom {
-        calendar: calendar.into_room(),
+        pieces: calendar.into_room(),
         runs,
     })
 }
@@ -101,13 +102,14 @@ pub(crate) fn canonical_records<E: Entry>(
     let positions = positions_by_key(alloc, entries)?;
     let mut all = Vec::new(alloc);
     let mut room = KeyRoom {
-        calendar: CalendarRoom::new(alloc),
+        pieces: Vec::new(alloc),
         runs: Vec::new(alloc),
     };
+    let mut lists = SweepLists::new(alloc);
     let mut rest = positions.as_slice();
     while !rest.is_empty() {
         let (members, later) = rest.split_at(first_run(entries, rest));
-        room = runs_of_key(room, entries, members, &window, form)?;
+        room = runs_of_key(room, &mut lists, entries, members, &window, form)?;
         all.extend_from_slice(room.runs.as_slice())?;
         rest = later;
     }

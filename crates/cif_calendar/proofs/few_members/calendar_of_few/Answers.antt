@@ -9,8 +9,8 @@ use Rattle.cif_calendar.proofs.few_members.calendar_of_few.Goals as goal
 use Rattle.cif_calendar.proofs.few_members.calendar_of_few.Goals.{In-None}
 use Rattle.cif_calendar.proofs.few_members.calendar_of_few.Given.{Over}
 
-pub loop-room-init : goal.loop-room-init
-loop-room-init g c = record {
+pub loop-pieces-init : goal.loop-pieces-init
+loop-pieces-init g c = record {
   from = omega arith;
   upto = c.args.window.in_order;
   laid = subst (λ (ps : List Piece).
@@ -24,8 +24,8 @@ returns-in_err-piece g c =
     let p = err_from_is_err_and c.from_residual.result c.from_residual.ensures.1 in
     let xs = map g.E.Entry.terms c.args.entries.now in
     let members = c.args.members.now in
-    let fault = fault-tiled xs members c.args.window.first c.loop-room.first c.args.window.last _ _
-    c.loop-room.invariant.from c.loop-room.invariant.laid.tiled c.in_err-piece.ensures.fault in
+    let fault = fault-tiled xs members c.args.window.first c.loop-pieces.first c.args.window.last _ _
+    c.loop-pieces.invariant.from c.loop-pieces.invariant.laid.tiled c.in_err-piece.ensures.fault in
     subst (IsAnswer xs members c.args.window.first c.args.window.last) (sym (p.1 ∙ ap Err p.2)) (record {
       calendar = tt;
       fault = fault;
@@ -35,14 +35,13 @@ returns-in_err-piece g c =
           (fault-clash xs members c.args.window.first c.args.window.last d _ fault first);
     })
 
-pub loop-room-preserved : goal.loop-room-preserved
-loop-room-preserved g c = let says = c.in_ok-piece.ensures in record {
+pub loop-pieces-preserved : goal.loop-pieces-preserved
+loop-pieces-preserved g c = let says = c.in_ok-piece.ensures in record {
   from = omega (arith, c.in-Some.ensures, says.from, says.begins);
   upto = omega (arith, c.in-Some.ensures);
-  laid = laid-more (map g.E.Entry.terms c.args.entries.now) c.args.members.now c.args.window.first c.loop-room.first
-      c.in-Some.next c.args.window.last c.loop-room.room.pieces.items c.add_piece.new.pieces.items c.in_ok-piece.piece
-      c.in_ok-add_piece.ensures.ok
-      says.begins says.from says.piece says.breaks c.in-Some.ensures.0 c.in-Some.ensures.1 c.loop-room.invariant.laid;
+  laid = laid-more (map g.E.Entry.terms c.args.entries.now) c.args.members.now c.args.window.first c.loop-pieces.first
+      c.in-Some.next c.args.window.last c.loop-pieces.pieces.items c.add_piece.new.pieces.items c.in_ok-piece.piece c.in_ok-add_piece.ensures.ok
+      says.begins says.from says.piece says.breaks c.in-Some.ensures.0 c.in-Some.ensures.1 c.loop-pieces.invariant.laid;
 }
 
 -- after the last piece
@@ -50,10 +49,9 @@ tiled : (g : Over) (c : In-None g) →
     AreTiled (map g.E.Entry.terms c.args.entries.now) c.args.members.now c.args.window.first (c.args.window.last + 1)
     c.add_piece.new.pieces.items
 tiled g c = let says = c.in_ok-piece.ensures in
-    tiled-last (map g.E.Entry.terms c.args.entries.now) c.args.members.now c.args.window.first c.loop-room.first c.args.window.last
-    c.loop-room.room.pieces.items c.add_piece.new.pieces.items c.in_ok-piece.piece c.in_ok-add_piece.ensures.ok
-    says.begins says.from says.upto
-    c.in-None.ensures says.piece c.loop-room.invariant.laid
+    tiled-last (map g.E.Entry.terms c.args.entries.now) c.args.members.now c.args.window.first c.loop-pieces.first c.args.window.last
+    c.loop-pieces.pieces.items c.add_piece.new.pieces.items c.in_ok-piece.piece c.in_ok-add_piece.ensures.ok says.begins says.from says.upto
+    c.in-None.ensures says.piece c.loop-pieces.invariant.laid
 
 pub new-requires : goal.new-requires
 new-requires g c = (tiled g c).tiles
@@ -66,8 +64,8 @@ told g c =
     let xs = map g.E.Entry.terms c.args.entries.now in
     let members = c.args.members.now in
     calendar-tiled xs members c.args.window.first c.args.window.last c.add_piece.new.pieces.items (tiled g c)
-    (few-last xs members c.args.window.first c.loop-room.first c.loop-room.room.pieces.items c.add_piece.new.pieces.items
-    c.in_ok-piece.piece c.in_ok-add_piece.ensures.ok c.loop-room.invariant.laid)
+    (few-last xs members c.args.window.first c.loop-pieces.first c.loop-pieces.pieces.items c.add_piece.new.pieces.items
+    c.in_ok-piece.piece c.in_ok-add_piece.ensures.ok c.loop-pieces.invariant.laid)
 
 pub returns-in-None : goal.returns-in-None
 returns-in-None g c =

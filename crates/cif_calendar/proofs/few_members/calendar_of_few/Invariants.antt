@@ -2,12 +2,12 @@ use Rattle.std.proofs.Common.{◌≤◌, ◌-◌, map}
 use Rattle.cif_calendar.proofs.LaidPieces.{AreLaid}
 use Rattle.cif_calendar.proofs.few_members.calendar_of_few.Given as goal
 
-abbrev pub invariant-loop-room : goal.invariant-loop-room
-invariant-loop-room g l = record {
+abbrev pub invariant-loop-pieces : goal.invariant-loop-pieces
+invariant-loop-pieces g l = record {
   from : l.window.first ≤ l.first;
   upto : l.first ≤ l.window.last;
-  laid : AreLaid (map g.E.Entry.terms l.entries) l.members l.window.first l.first l.room.pieces.items;
+  laid : AreLaid (map g.E.Entry.terms l.entries) l.members l.window.first l.first l.pieces.items;
 }
 
-abbrev pub decreases-loop-room : goal.decreases-loop-room
-decreases-loop-room g l = l.window.last - l.first
+abbrev pub decreases-loop-pieces : goal.decreases-loop-pieces
+decreases-loop-pieces g l = l.window.last - l.first

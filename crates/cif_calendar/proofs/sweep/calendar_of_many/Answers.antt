@@ -28,7 +28,7 @@ loop-winners-init g c = let xs = map g.E.Entry.terms c.args.entries.now in recor
   leads = subst (λ (l : Leads). AreLeads xs c.fill.new.self.layers c.args.window.first l) (sym c.nobody-leads.ensures)
       (leads-none xs c.fill.new.self.layers c.args.window.first);
   laid = subst (λ (ps : List Piece). AreLaid xs c.args.members.now c.args.window.first c.args.window.first ps)
-      (sym c.in_ok-fill.ensures.pieces) (laid-none xs c.args.members.now c.args.window.first);
+      (sym c.clear.ensures.items) (laid-none xs c.args.members.now c.args.window.first);
 }
 
 pub returns-in_err-fill : goal.returns-in_err-fill
@@ -57,7 +57,7 @@ returns-in-Err g c =
 
 -- the next piece
 ends : (g : Over) (c : In_ok-add_piece g) →
-    EndsPiece c.loop-winners.room.changes.items c.loop-winners.first c.args.window.last c.end_of_piece-last.result
+    EndsPiece c.fill.new.self.changes.items c.loop-winners.first c.args.window.last c.end_of_piece-last.result
 ends g c =
     subst (λ (changes : List ℕ). EndsPiece changes c.loop-winners.first c.args.window.last c.end_of_piece-last.result)
     c.as_slice.ensures.value c.end_of_piece-last.ensures
@@ -67,7 +67,7 @@ piece : (g : Over) (c : In_ok-add_piece g) → IsPiece (map g.E.Entry.terms c.ar
 piece g c =
     let xs = map g.E.Entry.terms c.args.entries.now in
     piece-from_week xs c.args.members.now c.loop-winners.first c.end_of_piece-last.result c.in-Ok.winners
-    (ends-unbroken (IsChosen xs c.args.members.now) c.loop-winners.room.changes.items c.loop-winners.first c.args.window.last
+    (ends-unbroken (IsChosen xs c.args.members.now) c.fill.new.self.changes.items c.loop-winners.first c.args.window.last
     c.end_of_piece-last.result c.loop-winners.invariant.changes (ends g c))
     (c.in-Ok.ensures.week c.args.members.now c.loop-winners.invariant.whole)
 
@@ -81,13 +81,13 @@ loop-winners-preserved g c =
       changes = c.loop-winners.invariant.changes;
       layers = c.loop-winners.invariant.layers;
       whole = c.loop-winners.invariant.whole;
-      leads = subst (λ (d : ℕ). AreLeads xs c.loop-winners.room.layers d c.week_from.new.leads) (sym c.in-Some.ensures.1)
+      leads = subst (λ (d : ℕ). AreLeads xs c.fill.new.self.layers d c.week_from.new.leads) (sym c.in-Some.ensures.1)
           c.in-Ok.ensures.leads;
       laid = laid-more xs c.args.members.now c.args.window.first c.loop-winners.first
-          c.in-Some.next c.args.window.last c.loop-winners.room.pieces.items c.add_piece.new.pieces.items
+          c.in-Some.next c.args.window.last c.loop-winners.pieces.items c.add_piece.new.pieces.items
           (record { first = c.loop-winners.first; last = c.end_of_piece-last.result; winners = c.in-Ok.winners })
           c.in_ok-add_piece.ensures.ok refl (ends g here).from (piece g here)
-          (ends-breaks (IsChosen xs c.args.members.now) c.loop-winners.room.changes.items c.loop-winners.first c.args.window.last
+          (ends-breaks (IsChosen xs c.args.members.now) c.fill.new.self.changes.items c.loop-winners.first c.args.window.last
           c.end_of_piece-last.result c.loop-winners.invariant.changes (ends g here))
           c.in-Some.ensures.0 c.in-Some.ensures.1 c.loop-winners.invariant.laid;
     }
@@ -98,7 +98,7 @@ module _ (g : Over) (c : In_ok-add_piece g) (over : c.end_of_piece-last.result <
       c.add_piece.new.pieces.items
   tiled =
       tiled-last (map g.E.Entry.terms c.args.entries.now) c.args.members.now c.args.window.first c.loop-winners.first c.args.window.last
-      c.loop-winners.room.pieces.items c.add_piece.new.pieces.items
+      c.loop-winners.pieces.items c.add_piece.new.pieces.items
       (record { first = c.loop-winners.first; last = c.end_of_piece-last.result; winners = c.in-Ok.winners })
       c.in_ok-add_piece.ensures.ok refl (ends g c).from (ends g c).upto over (piece g c) c.loop-winners.invariant.laid
 
@@ -108,7 +108,7 @@ module _ (g : Over) (c : In_ok-add_piece g) (over : c.end_of_piece-last.result <
   told =
       let xs = map g.E.Entry.terms c.args.entries.now in
       calendar-tiled xs c.args.members.now c.args.window.first c.args.window.last c.add_piece.new.pieces.items tiled
-      (few-last xs c.args.members.now c.args.window.first c.loop-winners.first c.loop-winners.room.pieces.items c.add_piece.new.pieces.items
+      (few-last xs c.args.members.now c.args.window.first c.loop-winners.first c.loop-winners.pieces.items c.add_piece.new.pieces.items
       (record { first = c.loop-winners.first; last = c.end_of_piece-last.result; winners = c.in-Ok.winners })
       c.in_ok-add_piece.ensures.ok c.loop-winners.invariant.laid)
 

@@ -10,11 +10,11 @@ abbrev pub invariant-loop-winners : goal.invariant-loop-winners
 invariant-loop-winners g l = record {
   from : l.window.first ≤ l.first;
   upto : l.first ≤ l.window.last;
-  changes : AreChanges (IsChosen (map g.E.Entry.terms l.entries) l.members) l.room.changes.items;
-  layers : AreLayers (map g.E.Entry.terms l.entries) l.room.layers;
-  whole : AreLayersOf (map g.E.Entry.terms l.entries) l.members l.room.layers;
-  leads : AreLeads (map g.E.Entry.terms l.entries) l.room.layers l.first l.leads;
-  laid : AreLaid (map g.E.Entry.terms l.entries) l.members l.window.first l.first l.room.pieces.items;
+  changes : AreChanges (IsChosen (map g.E.Entry.terms l.entries) l.members) l.lists.changes.items;
+  layers : AreLayers (map g.E.Entry.terms l.entries) l.lists.layers;
+  whole : AreLayersOf (map g.E.Entry.terms l.entries) l.members l.lists.layers;
+  leads : AreLeads (map g.E.Entry.terms l.entries) l.lists.layers l.first l.leads;
+  laid : AreLaid (map g.E.Entry.terms l.entries) l.members l.window.first l.first l.pieces.items;
 }
 
 abbrev pub decreases-loop-winners : goal.decreases-loop-winners

@@ -1,6 +1,6 @@
-//! The room in which a calendar is made.
+//! The lists of a sweep.
 
-ghost use Rattle.std.specs.Prelude.{◌≡◌, ◌<◌, ◌++◌, ◌∷◌, [], length, map, All, IfErr, OnOk};
+ghost use Rattle.std.specs.Prelude.{◌≡◌, ◌<◌, length, map, All, IfErr, OnOk};
 ghost use Rattle.cif_calendar.specs.Source.{IsChosen};
 ghost use Rattle.cif_calendar.specs.Steps.Layers.{AreLayers, AreLayersOf};
 ghost use Rattle.cif_calendar.specs.Steps.PieceSteps.{AreChanges};
@@ -10,37 +10,33 @@ use crate::calendar_fault::CalendarFault;
 use crate::changes::fill_changes;
 use crate::entry::Entry;
 use crate::layers::Layers;
-use crate::piece::Piece;
 use cif_columns::Day;
 use std::alloc::Global;
 
-/// The room in which a calendar is made. It is handed on from one calendar to the next, so that
-/// few of them have to ask for memory.
+/// The lists that a sweep over the dates of a window puts in order. They are handed on from one
+/// calendar to the next for their room alone: what they hold in between means nothing.
 #[derive(Debug, Drop)]
-pub struct CalendarRoom {
-    pub(crate) pieces: Vec<Piece>,
+pub struct SweepLists {
     pub(crate) changes: Vec<Day>,
     pub(crate) layers: Layers,
 }
 
-impl CalendarRoom {
-    /// Room for nothing yet.
-    pub fn new(alloc: Global) -> CalendarRoom {
-        CalendarRoom {
-            pieces: Vec::new(alloc),
+impl SweepLists {
+    /// Lists without room.
+    pub fn new(alloc: Global) -> SweepLists {
+        SweepLists {
             changes: Vec::new(alloc),
             layers: Layers::new(alloc),
         }
     }
 
-    /// Makes the room that of a calendar of the entries at `members` that has no piece yet.
+    /// Makes the lists those of the entries at `members`.
     pub(crate) fn fill<E: Entry>(
         &mut self,
         entries: &[E],
         members: &[usize],
     ) -> Result<(), CalendarFault>
         requires { All (λ i. i < length entries.now) members.now }
-        ensures pieces { OnOk result (self.new.pieces.items ≡ []) }
         ensures changes { OnOk result
             (AreChanges (IsChosen (map E.terms entries.now) members.now) self.new.changes.items) }
         ensures layers { OnOk result (AreLayers (map E.terms entries.now) self.new.layers) }
@@ -48,7 +44,6 @@ impl CalendarRoom {
             (AreLayersOf (map E.terms entries.now) members.now self.new.layers) }
         ensures err { IfErr result (λ e. e ≡ Memory) }
     {
-        self.pieces.clear();
         match fill_changes(&mut self.changes, entries, members) {
             Ok(()) => {}
             Err(_) => return Err(CalendarFault::Memory),
@@ -57,16 +52,5 @@ impl CalendarRoom {
             Ok(()) => Ok(()),
             Err(_) => Err(CalendarFault::Memory),
         }
-    }
-}
-
-/// Adds a piece.
-pub(crate) fn add_piece(pieces: &mut Vec<Piece>, piece: Piece) -> Result<(), CalendarFault>
-    ensures ok { OnOk result (pieces.new.items ≡ pieces.old.items ++ piece ∷ []) }
-    ensures err { IfErr result (λ e. e ≡ Memory) }
-{
-    match pieces.push(piece) {
-        Ok(()) => Ok(()),
-        Err(_) => Err(CalendarFault::Memory),
     }
 }
