@@ -14,8 +14,14 @@
 //! five is an overlay, the others are permanent. So on all dates but a few at either end the letter of one
 //! short-term change decides over the rest, and few bodies are compared, as in practice.
 //!
-//! `alike`: the dates of `overlapping`, all permanent and on all weekdays. So on each date each schedule that
-//! applies is compared with the leader, body by body: more than an extract ever asks for.
+//! `alike`: the dates of `overlapping`, all permanent and on all weekdays. So all schedules win on each of their
+//! dates, and their bodies have to be found equal: more than an extract ever asks for.
+//!
+//! `hidden`: the same, but the bodies are two journeys by turns. The first schedule is a cancellation, which has
+//! all dates. So no two bodies are compared.
+//!
+//! `staggered`: all schedules are permanent, and run on all weekdays of half of the window. Each begins one date
+//! after the one before it; once half of the window is reached it begins anew.
 //!
 //! `daily`: all schedules are permanent and run on each date of the window. So they are one run in form 2. In
 //! form 1 a week that the window cuts is a run of its own.
@@ -63,6 +69,8 @@ enum Shape {
     Disjoint,
     Overlapping,
     Alike,
+    Hidden,
+    Staggered,
     Daily,
     Alternating,
     TwoBodies,
@@ -85,6 +93,8 @@ impl Shape {
             "disjoint" => Some(Shape::Disjoint),
             "overlapping" => Some(Shape::Overlapping),
             "alike" => Some(Shape::Alike),
+            "hidden" => Some(Shape::Hidden),
+            "staggered" => Some(Shape::Staggered),
             "daily" => Some(Shape::Daily),
             "alternating" => Some(Shape::Alternating),
             "twobodies" => Some(Shape::TwoBodies),
@@ -113,6 +123,16 @@ impl Shape {
                 letter: "P",
                 ..overlapping(at, days)
             },
+            Shape::Hidden => Terms {
+                days: ALL_DAYS.into(),
+                letter: if at == 0 { "C" } else { "P" },
+                journey: at % JOURNEYS as usize,
+                ..overlapping(at, days)
+            },
+            Shape::Staggered => {
+                let half = days.div_ceil(2);
+                permanent(at % half, half, ALL_DAYS, 0)
+            }
             Shape::Daily => permanent(0, days, ALL_DAYS, 0),
             Shape::Alternating => match at.checked_sub(1) {
                 None => permanent(0, days, MONDAY_TO_FRIDAY, 0),

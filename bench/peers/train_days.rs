@@ -141,7 +141,7 @@ impl Train {
             let mut winners = [0; WEEKDAYS];
             for day in piece[0]..piece[1].min(piece[0] + WEEKDAYS) {
                 winners[weekday_of(day)] = match table[day - self.first] {
-                    Some(winner) if winner.letter != b'C' => winner.position + 1,
+                    Some(winner) if winner.letter != b'C' => 1,
                     _ => 0,
                 };
             }

@@ -59,18 +59,15 @@ fn say_pieces(rt: &impl Print, calendar: &Calendar) -> Result<(), Fault> {
     say(rt, "checksum", checksum_of(calendar))
 }
 
-/// The sum of the pieces: of each its first and its last date by number, and for each weekday one
-/// more than its winner's position, or none.
+/// The sum of the pieces: of each its first and its last date by number, and for each weekday whether
+/// it has a winner. Which of several with one body that is, is free.
 fn checksum_of(calendar: &Calendar) -> Checksum {
     let mut sum = Checksum::new();
     for piece in calendar.pieces() {
         sum.add(u64::from(piece.first.number()));
         sum.add(u64::from(piece.last.number()));
         for winner in &piece.winners {
-            sum.add(match winner {
-                Some(position) => (*position as u64).wrapping_add(1),
-                None => 0,
-            });
+            sum.add(u64::from(winner.is_some()));
         }
     }
     sum

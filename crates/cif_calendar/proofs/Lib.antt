@@ -15,3 +15,7 @@ pub mod FirstWeek
 pub mod Unbroken
 pub mod FewPieces
 pub mod LaidPieces
+pub mod Leading
+pub mod LayerWinners
+pub mod FilledLayers
+pub mod ChangedDays

@@ -1,141 +1,27 @@
-//! The pieces of a window, one after another.
+//! What runs on each date of a window.
 
-ghost use Rattle.std.specs.Prelude.{◌≡◌, ◌<◌, ◌≤◌, ◌+◌, ℕ, length, map, All, min};
-ghost use Rattle.std.specs.Prelude.{IfOk, IfErr, OnOk, ◌⊎◌, ◌++◌, ◌∷◌, []};
-ghost use Rattle.cif_calendar.specs.Calendar.{IsAnswer, IsFault};
-ghost use Rattle.cif_calendar.specs.Clash.{IsFirstClash};
-ghost use Rattle.cif_calendar.specs.Steps.PieceSteps.{BreaksAfter, BreaksOff, IsWeekFrom};
-ghost use Rattle.cif_calendar.specs.Pieces.{IsPiece, IsUnbroken};
-ghost use Rattle.cif_calendar.specs.Source.{IsChosen};
-ghost use Rattle.cif_calendar.specs.declared.calendar_fault.CalendarFault.TheVariants.{Memory};
+ghost use Rattle.std.specs.Prelude.{◌<◌, length, map, All};
+ghost use Rattle.cif_calendar.specs.Calendar.{IsAnswer};
 
 use crate::calendar_fault::CalendarFault;
 use crate::entry::Entry;
+use crate::few_members::calendar_of_few;
 use crate::key_calendar::Calendar;
 use crate::piece::Piece;
+use crate::sweep::calendar_of_many;
+use crate::sweep_lists::SweepLists;
 use crate::window::Window;
-use crate::winner::{BodiesDiffer, winner_on};
-use cif_columns::Day;
 use std::alloc::Global;
 
-/// The first day from `first` on after which the record has ended or begins; `end` where there is
-/// none before it.
-fn end_for<E: Entry>(entry: &E, first: Day, end: Day) -> Day
-    requires { first ≤ end }
-    ensures from { first ≤ result }
-    ensures upto { result ≤ end }
-    ensures begins { first < (E.terms entry.now).first → result < (E.terms entry.now).first }
-    ensures ends { first ≤ (E.terms entry.now).last → result ≤ (E.terms entry.now).last }
-    ensures breaks { (result ≡ end) ⊎ BreaksOff (E.terms entry.now) first result }
-{
-    let begin = entry.first();
-    if first < begin {
-        return match begin.previous() {
-            Some(before) if before < end => before,
-            _ => end,
-        };
-    }
-    let last = entry.last();
-    if first <= last && last < end {
-        last
-    } else {
-        end
-    }
-}
-
-/// The last day of the piece that begins on `first`, in a window that ends on `last`.
-fn end_of_piece<E: Entry>(entries: &[E], members: &[usize], first: Day, last: Day) -> Day
-    requires positions { All (λ i. i < length entries.now) members.now }
-    requires in_order { first ≤ last }
-    ensures from { first ≤ result }
-    ensures upto { result ≤ last }
-    ensures unbroken { IsUnbroken (IsChosen (map E.terms entries.now) members.now) first result }
-    ensures breaks { (result ≡ last)
-        ⊎ BreaksAfter (IsChosen (map E.terms entries.now) members.now) first result }
-{
-    let mut end = last;
-    for i in members {
-        end = end_for(&entries[*i], first, end);
-    }
-    end
-}
-
-/// The winners of the days from `first` to `last`, but at most of seven; or the first of these days
-/// with a clash.
-fn week_from<E: Entry>(
-    entries: &[E],
-    members: &[usize],
-    first: Day,
-    last: Day,
-) -> Result<[Option<usize>; 7], Day>
-    requires positions { All (λ i. i < length entries.now) members.now }
-    requires in_order { first ≤ last }
-    ensures week { IfOk result (IsWeekFrom (map E.terms entries.now) members.now first
-        (min (last + 1) (first + 7))) }
-    ensures clash { IfErr result
-        (IsFirstClash (IsChosen (map E.terms entries.now) members.now) first last) }
-{
-    let mut winners = [None; 7];
-    let mut day = first;
-    for _ in 0..7u8 {
-        match winner_on(entries, members, day) {
-            Ok(source) => winners[day.weekday() as usize] = source,
-            Err(BodiesDiffer) => return Err(day),
-        }
-        match day.next_up_to(last) {
-            Some(next) => day = next,
-            None => return Ok(winners),
-        }
-    }
-    Ok(winners)
-}
-
-/// The piece that begins on `first`, in a window that ends on `last`.
-fn piece_from<E: Entry>(
-    entries: &[E],
-    members: &[usize],
-    first: Day,
-    last: Day,
-) -> Result<Piece, CalendarFault>
-    requires positions { All (λ i. i < length entries.now) members.now }
-    requires in_order { first ≤ last }
-    ensures begins { IfOk result (λ p. p.first ≡ first) }
-    ensures from { IfOk result (λ p. p.first ≤ p.last) }
-    ensures upto { IfOk result (λ p. p.last ≤ last) }
-    ensures piece { IfOk result (IsPiece (map E.terms entries.now) members.now) }
-    ensures breaks { IfOk result (λ p. (p.last ≡ last)
-        ⊎ BreaksAfter (IsChosen (map E.terms entries.now) members.now) first p.last) }
-    ensures fault { IfErr result
-        (IsFault (IsChosen (map E.terms entries.now) members.now) first last) }
-{
-    let end = end_of_piece(entries, members, first, last);
-    match week_from(entries, members, first, end) {
-        Ok(winners) => Ok(Piece {
-            first,
-            last: end,
-            winners,
-        }),
-        Err(day) => Err(CalendarFault::Ambiguous(day)),
-    }
-}
-
-fn add(pieces: &mut Vec<Piece>, piece: Piece) -> Result<(), CalendarFault>
-    ensures ok { OnOk result (pieces.new.items ≡ pieces.old.items ++ piece ∷ []) }
-    ensures err { IfErr result (λ e. e ≡ Memory) }
-{
-    match pieces.push(piece) {
-        Ok(()) => Ok(()),
-        Err(_) => Err(CalendarFault::Memory),
-    }
-}
+/// How many members are few: to look at all of them on each date takes less time than to sort them.
+const FEW: usize = 16;
 
 /// What runs on each date of the window, by the entries at `members`.
 ///
 /// `members` are positions in `entries`. Hand in those of one key's records: all members are judged
 /// together, whatever their keys. `Ambiguous` comes where two winners of a date of the window have
 /// different bodies, and names the first such date; a clash among records that do not win is no
-/// fault. `Memory` comes where the pieces can't grow. The cost is the number of members times that
-/// of the pieces.
+/// fault. `Memory` comes where a list can't grow.
 pub fn calendar<E: Entry>(
     alloc: Global,
     entries: &[E],
@@ -145,13 +31,15 @@ pub fn calendar<E: Entry>(
     requires positions { All (λ i. i < length entries.now) members.now }
     ensures { IsAnswer (map E.terms entries.now) members.now window.first window.last result }
 {
-    calendar_in_room(Vec::new(alloc), entries, members, window)
+    let mut lists = SweepLists::new(alloc);
+    calendar_in_room(Vec::new(alloc), &mut lists, entries, members, window)
 }
 
 /// The same calendar, in the room of pieces that are needed no more: `Calendar::into_room` gives
-/// that of an earlier calendar.
+/// that of an earlier calendar. The lists are those of any other calendar.
 pub fn calendar_in_room<E: Entry>(
     room: Vec<Piece>,
+    lists: &mut SweepLists,
     entries: &[E],
     members: &[usize],
     window: Window,
@@ -159,16 +47,9 @@ pub fn calendar_in_room<E: Entry>(
     requires positions { All (λ i. i < length entries.now) members.now }
     ensures { IsAnswer (map E.terms entries.now) members.now window.first window.last result }
 {
-    let mut pieces = room;
-    pieces.clear();
-    let mut first = window.first;
-    loop {
-        let piece = piece_from(entries, members, first, window.last)?;
-        let last = piece.last;
-        add(&mut pieces, piece)?;
-        match last.next_up_to(window.last) {
-            Some(next) => first = next,
-            None => return Ok(Calendar::new(window, pieces)),
-        }
+    if members.len() <= FEW {
+        calendar_of_few(room, entries, members, window)
+    } else {
+        calendar_of_many(room, lists, entries, members, window)
     }
 }

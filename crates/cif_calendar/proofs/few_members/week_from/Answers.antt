@@ -1,6 +1,6 @@
 use Rattle.std.proofs.Common.{◌∙◌, arith, length-set, map}
 use Rattle.cif_calendar.proofs.FirstWeek.{week-step}
-use Rattle.cif_calendar.proofs.stretches.week_from.Goals as goal
+use Rattle.cif_calendar.proofs.few_members.week_from.Goals as goal
 
 pub loop-preserved : goal.loop-preserved
 loop-preserved g c = record {

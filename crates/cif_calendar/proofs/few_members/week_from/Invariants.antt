@@ -1,7 +1,7 @@
 use Rattle.std.proofs.Common.{◌≡◌, ◌≤◌, ◌+◌, length}
 use Rattle.std.specs.Prelude.{map}
 use Rattle.cif_calendar.specs.Steps.PieceSteps.{IsWeekFrom}
-use Rattle.cif_calendar.proofs.stretches.week_from.Given as goal
+use Rattle.cif_calendar.proofs.few_members.week_from.Given as goal
 
 abbrev pub invariant-loop : goal.invariant-loop
 invariant-loop g l = record {

@@ -3,7 +3,7 @@ use Rattle.std.specs.Prelude.{map}
 use Rattle.std.proofs.lemmas.List.{take_more}
 use Rattle.cif_calendar.proofs.Winning.{terms_at, chosen-with}
 use Rattle.cif_calendar.proofs.Unbroken.{unbroken-with, breaks-with}
-use Rattle.cif_calendar.proofs.stretches.end_of_piece.Goals as goal
+use Rattle.cif_calendar.proofs.few_members.end_of_piece.Goals as goal
 
 pub loop-i-preserved : goal.loop-i-preserved
 loop-i-preserved g c =

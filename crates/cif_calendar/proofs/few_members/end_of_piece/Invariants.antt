@@ -3,7 +3,7 @@ use Rattle.std.specs.Prelude.{map, ◌⊎◌}
 use Rattle.cif_calendar.specs.Source.{IsChosen}
 use Rattle.cif_calendar.specs.Pieces.{IsUnbroken}
 use Rattle.cif_calendar.specs.Steps.PieceSteps.{BreaksAfter}
-use Rattle.cif_calendar.proofs.stretches.end_of_piece.Given as goal
+use Rattle.cif_calendar.proofs.few_members.end_of_piece.Given as goal
 
 abbrev pub invariant-loop-i : goal.invariant-loop-i
 invariant-loop-i g l = record {

@@ -1,6 +1,6 @@
 use Rattle.std.proofs.Common.{◌≤◌, ◌-◌, map}
 use Rattle.cif_calendar.proofs.LaidPieces.{AreLaid}
-use Rattle.cif_calendar.proofs.stretches.calendar_in_room.Given as goal
+use Rattle.cif_calendar.proofs.few_members.calendar_of_few.Given as goal
 
 abbrev pub invariant-loop-pieces : goal.invariant-loop-pieces
 invariant-loop-pieces g l = record {

@@ -5,9 +5,9 @@ use Rattle.cif_calendar.specs.Calendar.{IsAnswer, IsCalendar}
 use Rattle.cif_calendar.proofs.FirstClash.{first_clash-clear}
 use Rattle.cif_calendar.proofs.LaidPieces.{AreLaid, AreTiled, laid-none, laid-more, tiled-last, few-last, calendar-tiled, fault-tiled}
 use Rattle.cif_calendar.proofs.LaidPieces.{fault-clash}
-use Rattle.cif_calendar.proofs.stretches.calendar_in_room.Goals as goal
-use Rattle.cif_calendar.proofs.stretches.calendar_in_room.Goals.{In-None}
-use Rattle.cif_calendar.proofs.stretches.calendar_in_room.Given.{Over}
+use Rattle.cif_calendar.proofs.few_members.calendar_of_few.Goals as goal
+use Rattle.cif_calendar.proofs.few_members.calendar_of_few.Goals.{In-None}
+use Rattle.cif_calendar.proofs.few_members.calendar_of_few.Given.{Over}
 
 pub loop-pieces-init : goal.loop-pieces-init
 loop-pieces-init g c = record {
@@ -40,17 +40,17 @@ loop-pieces-preserved g c = let says = c.in_ok-piece.ensures in record {
   from = omega (arith, c.in-Some.ensures, says.from, says.begins);
   upto = omega (arith, c.in-Some.ensures);
   laid = laid-more (map g.E.Entry.terms c.args.entries.now) c.args.members.now c.args.window.first c.loop-pieces.first
-      c.in-Some.next c.args.window.last c.loop-pieces.pieces.items c.add.new.pieces.items c.in_ok-piece.piece c.in_ok-add.ensures.ok
+      c.in-Some.next c.args.window.last c.loop-pieces.pieces.items c.add_piece.new.pieces.items c.in_ok-piece.piece c.in_ok-add_piece.ensures.ok
       says.begins says.from says.piece says.breaks c.in-Some.ensures.0 c.in-Some.ensures.1 c.loop-pieces.invariant.laid;
 }
 
 -- after the last piece
 tiled : (g : Over) (c : In-None g) →
     AreTiled (map g.E.Entry.terms c.args.entries.now) c.args.members.now c.args.window.first (c.args.window.last + 1)
-    c.add.new.pieces.items
+    c.add_piece.new.pieces.items
 tiled g c = let says = c.in_ok-piece.ensures in
     tiled-last (map g.E.Entry.terms c.args.entries.now) c.args.members.now c.args.window.first c.loop-pieces.first c.args.window.last
-    c.loop-pieces.pieces.items c.add.new.pieces.items c.in_ok-piece.piece c.in_ok-add.ensures.ok says.begins says.from says.upto
+    c.loop-pieces.pieces.items c.add_piece.new.pieces.items c.in_ok-piece.piece c.in_ok-add_piece.ensures.ok says.begins says.from says.upto
     c.in-None.ensures says.piece c.loop-pieces.invariant.laid
 
 pub new-requires : goal.new-requires
@@ -59,13 +59,13 @@ new-requires g c = (tiled g c).tiles
 -- they are a calendar
 told : (g : Over) (c : In-None g) →
     IsCalendar (map g.E.Entry.terms c.args.entries.now) c.args.members.now c.args.window.first c.args.window.last
-    (record { first = c.args.window.first; last = c.args.window.last; pieces = c.add.new.pieces.items })
+    (record { first = c.args.window.first; last = c.args.window.last; pieces = c.add_piece.new.pieces.items })
 told g c =
     let xs = map g.E.Entry.terms c.args.entries.now in
     let members = c.args.members.now in
-    calendar-tiled xs members c.args.window.first c.args.window.last c.add.new.pieces.items (tiled g c)
-    (few-last xs members c.args.window.first c.loop-pieces.first c.loop-pieces.pieces.items c.add.new.pieces.items
-    c.in_ok-piece.piece c.in_ok-add.ensures.ok c.loop-pieces.invariant.laid)
+    calendar-tiled xs members c.args.window.first c.args.window.last c.add_piece.new.pieces.items (tiled g c)
+    (few-last xs members c.args.window.first c.loop-pieces.first c.loop-pieces.pieces.items c.add_piece.new.pieces.items
+    c.in_ok-piece.piece c.in_ok-add_piece.ensures.ok c.loop-pieces.invariant.laid)
 
 pub returns-in-None : goal.returns-in-None
 returns-in-None g c =

@@ -1,6 +1,6 @@
 use Rattle.std.proofs.Common.{map}
 use Rattle.cif_calendar.proofs.Alike.{piece-from_week}
-use Rattle.cif_calendar.proofs.stretches.piece_from.Goals as goal
+use Rattle.cif_calendar.proofs.few_members.piece_from.Goals as goal
 
 pub returns-in-Ok-clause-piece : goal.returns-in-Ok-clause-piece
 returns-in-Ok-clause-piece g c =

@@ -1,0 +1,56 @@
+//! The lists of a sweep.
+
+ghost use Rattle.std.specs.Prelude.{◌≡◌, ◌<◌, length, map, All, IfErr, OnOk};
+ghost use Rattle.cif_calendar.specs.Source.{IsChosen};
+ghost use Rattle.cif_calendar.specs.Steps.Layers.{AreLayers, AreLayersOf};
+ghost use Rattle.cif_calendar.specs.Steps.PieceSteps.{AreChanges};
+ghost use Rattle.cif_calendar.specs.declared.calendar_fault.CalendarFault.TheVariants.{Memory};
+
+use crate::calendar_fault::CalendarFault;
+use crate::changes::fill_changes;
+use crate::entry::Entry;
+use crate::layers::Layers;
+use cif_columns::Day;
+use std::alloc::Global;
+
+/// The lists that a sweep over the dates of a window puts in order. They are handed on from one
+/// calendar to the next for their room alone: what they hold in between means nothing.
+#[derive(Debug, Drop)]
+pub struct SweepLists {
+    pub(crate) changes: Vec<Day>,
+    pub(crate) layers: Layers,
+}
+
+impl SweepLists {
+    /// Lists without room.
+    pub fn new(alloc: Global) -> SweepLists {
+        SweepLists {
+            changes: Vec::new(alloc),
+            layers: Layers::new(alloc),
+        }
+    }
+
+    /// Makes the lists those of the entries at `members`.
+    pub(crate) fn fill<E: Entry>(
+        &mut self,
+        entries: &[E],
+        members: &[usize],
+    ) -> Result<(), CalendarFault>
+        requires { All (λ i. i < length entries.now) members.now }
+        ensures changes { OnOk result
+            (AreChanges (IsChosen (map E.terms entries.now) members.now) self.new.changes.items) }
+        ensures layers { OnOk result (AreLayers (map E.terms entries.now) self.new.layers) }
+        ensures whole { OnOk result
+            (AreLayersOf (map E.terms entries.now) members.now self.new.layers) }
+        ensures err { IfErr result (λ e. e ≡ Memory) }
+    {
+        match fill_changes(&mut self.changes, entries, members) {
+            Ok(()) => {}
+            Err(_) => return Err(CalendarFault::Memory),
+        }
+        match self.layers.fill(entries, members) {
+            Ok(()) => Ok(()),
+            Err(_) => Err(CalendarFault::Memory),
+        }
+    }
+}
