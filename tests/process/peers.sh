@@ -161,19 +161,24 @@ one_fifo() {
     printf '%s\n' compare fifo fifo > "$work/one/args"
     choose "$work/one"
     mkfifo "$row/fifo"
-    rm -f "$work/told"
+    rm -f "$work/told" "$work/turned"
     mkfifo "$work/told"
     exec 8<> "$work/told"
-    in_turn "$row/fifo" "$1/left" "$1/right" &
+    { in_turn "$row/fifo" "$1/left" "$1/right" && : > "$work/turned"; } &
     writer=$!
     in_row "$row" timeout 10 env LD_PRELOAD="$library" "$cif"
+    # The writer may still be reading what the library said.
+    seconds=0
+    until [ -e "$work/turned" ] || [ $seconds -eq 10 ]; do
+        sleep 1
+        seconds=$((seconds + 1))
+    done
     kill $writer 2> /dev/null
     wait $writer 2> /dev/null
-    turns=$?
     exec 8>&-
     told=
     owes "left and right are one fifo: $(basename "$1")" gives_answer ''
-    owes "each has a writer in its turn: $(basename "$1")" [ $turns -eq 0 ]
+    owes "each has a writer in its turn: $(basename "$1")" [ -e "$work/turned" ]
     rm -r "$work/one" "$work/told"
 }
 
