@@ -1,14 +1,17 @@
 """What is tried of a case: runs of the program, each with the answer that is wanted.
 
-The first is the case itself. Beside it stand cases that have several faults, and damaged copies of its input. Where the case
-is accepted there are further runs, whose answers have to agree with its own.
+The first is the case itself. Beside it stand cases that have several faults, damaged copies of its input, and small extracts
+with a line of each sort, where each damage in one place has its turn. Where the case is accepted there are further runs, whose
+answers have to agree with its own.
 """
 from collections import namedtuple
 from itertools import chain
 
 from generator.cases import OFTEN, some_bytes, some_case
-from generator.damage import damaged
+from generator.damage import damaged, damaged_in_turn
 from generator.derived import changed_once, said_otherwise
+from generator.spelling import PLAIN, spelled, with_one_moved
+from generator.timetables import each_sort
 from reference.answers import DIFFERENCE, Answer, Job, answer
 
 # A name of what is tried, the job, the bytes of each input, and the answer that is wanted.
@@ -18,8 +21,9 @@ SAME = Answer(b"same\n", b"", 0)
 OTHER_FORM = {"1": "2", "2": "1", None: "1"}
 BOTH = ("left.cif", "right.cif")
 
-# How many damaged inputs and how many cases with faults are tried beside each case.
-DAMAGED, FAULTY = 5, 2
+# How many damaged inputs, how many cases with faults and how many small damaged extracts are tried beside each case: each
+# damage of a small one has its turn within 300 cases.
+DAMAGED, FAULTY, SMALL = 3, 2, 3
 
 
 class Inconsistent(Exception):
@@ -84,6 +88,15 @@ def of_damage(rng, data):
         yield Trial("damaged", job, inputs, answer(job, inputs))
 
 
+def of_small_extracts(rng, turn):
+    """What check says of small extracts with one damage, and normalise of one with texts that stand further right."""
+    lines, job = each_sort(rng).lines(), Job("check")
+    for data in damaged_in_turn(spelled(rng, lines, PLAIN), range(turn * SMALL, (turn + 1) * SMALL)):
+        yield Trial("small and damaged", job, [data], answer(job, [data]))
+    data, job = spelled(rng, [with_one_moved(rng, line) for line in lines], PLAIN), Job("normalise")
+    yield Trial("small, with moved texts", job, [data], answer(job, [data]))
+
+
 def of_faults(rng, commands, options):
     """Other cases, of which many have several faults."""
     for _ in range(FAULTY):
@@ -104,10 +117,10 @@ def further_trials(rng, case, want, options):
         yield from of_view(job, inputs, want)
 
 
-def trials_of(rng, case, commands, options):
-    """All trials of a case that are of these commands."""
+def trials_of(rng, turn, case, commands, options):
+    """All trials of a case that are of these commands; turn counts the cases."""
     want = answer(case.job, case.inputs)
-    further = [[Trial("", case.job, case.inputs, want)], of_faults(rng, commands, options)]
+    further = [[Trial("", case.job, case.inputs, want)], of_small_extracts(rng, turn), of_faults(rng, commands, options)]
     if case.timetable:
         further.append(of_damage(rng, case.inputs[0]))
     if want.status in (0, DIFFERENCE):

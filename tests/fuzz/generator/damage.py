@@ -1,20 +1,30 @@
 """Damage to an input: to its bytes, to its lines, or to fields of a line. Some of it leaves an extract that is right."""
+from itertools import combinations, product
+
 from reference import values
 from reference.layouts import LAYOUTS
 
-NO_DATES = ("999999", "260230", "290229", "260001", "261301", "260100", "260132", "26 105", "26010A", "      ", "000000")
+NO_DATES = ("260230", "290229", "260001", "261301", "260100", "260132", "26 105", "26010A", "      ", "000000")
 IDENTITIES = ("HD", "TI", "TA", "TD", "AA", "BS", "BX", "LO", "LI", "CR", "LT", "ZZ", "TN", "LN", "XX", "  ", "bs", "B ")
+
+
+def with_other_signs(text, signs):
+    """The texts with one other sign: of those that are given for each place."""
+    return [text[:at] + sign + text[at + 1 :] for at, others in enumerate(signs) for sign in others]
+
+
+TIMES = (*with_other_signs("0000", ("/3: ", "/: ", "/6: ", "/: ")), *with_other_signs("    ", "0000"), "2400", "0900", "9:00")
 BAD_FIELDS = {
     values.full: ("U", " ", "f"),
     values.new: ("R", "D", " ", "n"),
-    values.header_date: (*NO_DATES, "311299", "010160", "311259", "300226", "290228", "010100"),
-    values.first_date: ("999999", *NO_DATES, "991231", "591231", "600101", "000229"),
-    values.last_date: ("999999", "999999", *NO_DATES, "991231", "600101", "591231", "999998"),
+    values.header_date: ("999999", "311259", *NO_DATES, "311299", "010160", "300226", "290228", "010100"),
+    values.first_date: ("999999", "591231", *NO_DATES, "999999", "991231", "600101", "000229"),
+    values.last_date: ("999999", "600101", *NO_DATES, "999999", "991231", "591231", "999998"),
     values.days_run: ("1111112", "       ", "111111 ", "A000000", "0000000"),
     values.letter: ("X", " ", "p", "c", "C", "N", "O", "P"),
     values.bank_holiday: ("X", "E", "G", "0"),
-    values.working_time: ("2400 ", "0960 ", "0900X", "900  ", " 0900", "0900h", "09:00", "H    ", "    H", "0000H"),
-    values.public_time: ("2400", "0060", "9:00", " 900", "090 ", "-100", "   0", "0000"),
+    values.working_time: (*(time + " " for time in TIMES), "0000X", "0000h", "    H", "0000H"),
+    values.public_time: (*TIMES, "090 ", "-100"),
 }
 ODD_BYTES = (b"\t", b"\r", b"\n", b"\x00", b"\x1f", b"\x7f", b"\x80", b"\xc3\xa9", b"\xff", b" ", b"~", b"0", b"A")
 ENDINGS = (b"\r", b"\r\n", b"\r\r\n", b"\n\r", b"\n\n", b" \n", b" \r\n", b" ", b"")
@@ -104,12 +114,16 @@ def sorts_of(lines):
     return found
 
 
+def empty_line(identity):
+    return identity.encode().ljust(80) + b"\n"
+
+
 def further(rng, lines):
     """A line of some kind, with nothing in it, is put behind another one; each sort of these is as likely."""
     sorts = sorts_of(lines)
     sort = rng.choice(sorted(set(sorts)))
     at = rng.choice([at for at, other in enumerate(sorts) if other == sort])
-    lines.insert(at + 1, rng.choice(IDENTITIES).encode().ljust(80) + b"\n")
+    lines.insert(at + 1, empty_line(rng.choice(IDENTITIES)))
 
 
 def with_another_ending(rng, lines):
@@ -139,9 +153,12 @@ def field_places(lines):
     return found
 
 
+def with_text(line, field, text):
+    return line[: field.first - 1] + text.encode() + line[field.last :]
+
+
 def spoil(rng, lines, at, field):
-    text = rng.choice(BAD_FIELDS[field.read]).encode()
-    lines[at] = lines[at][: field.first - 1] + text + lines[at][field.last :]
+    lines[at] = with_text(lines[at], field, rng.choice(BAD_FIELDS[field.read]))
 
 
 def bad_field(rng, lines):
@@ -174,10 +191,10 @@ DAMAGES = {
     of_lines(repeated): 8,
     of_lines(cut_behind_one): 4,
     of_lines(of_another_kind): 10,
-    of_lines(further): 12,
+    of_lines(further): 6,
     of_lines(with_another_ending): 6,
     of_lines(reversed_dates): 5,
-    of_lines(bad_field): 34,
+    of_lines(bad_field): 14,
     of_lines(bad_fields): 10,
 }
 
@@ -188,3 +205,36 @@ def damaged(rng, data):
         if data:
             data = rng.choices(list(DAMAGES), list(DAMAGES.values()))[0](rng, data)
     return data
+
+
+# ---- all that can be done in one place
+
+
+def spoiled(line, sort):
+    """The line with another text in one field; and with such texts in two fields that are read otherwise."""
+    kind, cancelled = sort
+    fields = [(field, BAD_FIELDS[field.read]) for field in LAYOUTS.get(kind, ()) if field.read in BAD_FIELDS]
+    for field, texts in fields:
+        yield from (with_text(line, field, text) for text in texts[: 1 if cancelled else None])
+    for (one, ones), (other, others) in combinations(fields, 2):
+        if one.read != other.read and not cancelled:
+            yield from (with_text(with_text(line, one, text), other, last) for text, last in product(ones[:2], others[:2]))
+
+
+def places_of_damage(lines):
+    """What may stand for the first line of each sort: it and a line behind it, or it with wrong fields; and a line in front."""
+    sorts = sorts_of(lines)
+    yield from ((0, empty_line(identity) + lines[0]) for identity in IDENTITIES)
+    for sort in sorted(set(sorts)):
+        at = sorts.index(sort)
+        yield from ((at, lines[at] + empty_line(identity)) for identity in IDENTITIES)
+        yield from ((at, line) for line in spoiled(lines[at], sort))
+
+
+def damaged_in_turn(data, turns):
+    """The bytes after one damage, for each of these turns; all that places_of_damage knows have theirs."""
+    lines = data.splitlines(keepends=True)
+    damages = list(places_of_damage(lines))
+    for turn in turns:
+        at, instead = damages[turn % len(damages)]
+        yield b"".join([*lines[:at], instead, *lines[at + 1 :]])

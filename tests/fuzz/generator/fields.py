@@ -19,7 +19,7 @@ class Body:
 
 
 def of_width(rng, width, signs):
-    return "".join(rng.choice(signs) for _ in range(width))
+    return "".join(rng.choices(signs, k=width))
 
 
 def text(rng, width):
@@ -87,6 +87,14 @@ def some_body(rng, kind):
     if kind == "AA":
         return Body(made(rng, "AA", ASSOCIATION_BODY))
     return Body(made(rng, "BS", TRAIN_BODY), extra(rng) + journey(rng))
+
+
+def full_body(rng, kind):
+    """A body with a line of each kind, and a few of those on the way."""
+    if kind == "AA":
+        return some_body(rng, kind)
+    lines = ["BX", "LO", "LI", "CR", "LI", "CR", "LI", "CR", "LT"]
+    return Body(made(rng, "BS", TRAIN_BODY), tuple((kind, made(rng, kind)) for kind in lines))
 
 
 def with_another_field(rng, kind, fields):

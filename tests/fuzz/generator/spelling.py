@@ -4,7 +4,7 @@ from dataclasses import dataclass
 from reference import values
 from reference.layouts import ASSOCIATION_BODY, LAYOUTS, TRAIN_BODY, WIDTH, columns_of
 
-from .fields import PRINTABLE, of_width
+from .fields import COMMON, PRINTABLE, of_width
 
 
 @dataclass(frozen=True)
@@ -49,8 +49,27 @@ def meaningful_fields(kind, line):
     return [field for field in LAYOUTS[kind] if line[WIDTH - 1] != "C" or field.name not in of_body]
 
 
+def with_columns(line, field, columns):
+    return line[: field.first - 1] + columns.ljust(field.last - field.first + 1) + line[field.last :]
+
+
+def with_one_moved(rng, line):
+    """The line with another text in one field, before which spaces stand; often the only one. AA, which has a key, stays."""
+    fields = [field for field in meaningful_fields(line[:2], line) if field.read in MOVES]
+    places = [(field, skipped) for field in fields for skipped in range(1, field.last - field.first + 1)]
+    if not places or line.startswith("AA"):
+        return line
+    for field in fields if rng.random() < 0.5 else ():
+        line = with_columns(line, field, "")
+    field, skipped = rng.choice(places)
+    word = of_width(rng, rng.randint(1, field.last - field.first + 1 - skipped), COMMON)
+    return with_columns(line, field, " " * skipped + word)
+
+
 def respelled(rng, line, habits):
     """A line that spells what the plain line does."""
+    if not habits.moved and not habits.filled:
+        return line
     kind = line[:2]
     signs = [None] * WIDTH
     signs[:2] = kind

@@ -5,8 +5,8 @@ from datetime import date
 from reference.dates import DAY, ddmmyy, yymmdd
 from reference.layouts import plain
 
-from .fields import COMMON, PRINTABLE, Body, changed, lines_behind, of_width, some_body, text
-from .windows import some_mask, some_span, some_window
+from .fields import COMMON, PRINTABLE, Body, changed, full_body, lines_behind, of_width, some_body, text
+from .windows import bounded, some_mask, some_span, some_window
 
 UIDS = ("C00123", " 00123", "C00124", "C0012 ", "c00123", "  A  B", "~~~~~~", "ZZZZZZ", "      ", "C00456", "!#[]{}")
 LOCATIONS = ("DUNDEE ", "ABRDEEN", "EDINBUR", "A      ", "A B    ")
@@ -117,7 +117,7 @@ def some_uid(rng):
 
 
 def association_key(rng, before):
-    """A key, now and then one that differs in one part from a key before."""
+    """A key, often one that differs in one part from a key before, or that has its first parts alone."""
     parts = {
         "base": some_uid(rng),
         "associated": some_uid(rng),
@@ -126,8 +126,9 @@ def association_key(rng, before):
         "associated_suffix": rng.choice(SUFFIXES),
     }
     if before and rng.random() < 0.6:
-        name = rng.choice(list(parts))
-        parts = dict(rng.choice(before)) | {name: parts[name]}
+        names = list(parts)
+        others = [rng.choice(names)] if rng.random() < 0.5 else names[rng.randint(1, 3) :]
+        parts = dict(rng.choice(before)) | {name: parts[name] for name in others}
     return tuple(parts.items())
 
 
@@ -173,4 +174,20 @@ def some_timetable(rng, clashes=None):
             records += records_of_key(rng, kind, key, timetable.window, clashes)
         if rng.random() < 0.6:
             rng.shuffle(records)
+    return timetable
+
+
+def each_sort(rng):
+    """A small extract with a line of each sort: of what runs, and of cancellations with all lines that may stand in them."""
+    first, _ = some_window(rng)
+    window = first, bounded(first + 6 * DAY)
+    timetable = Timetable(some_header(rng), window, [rng.choice(LOCATIONS) + of_width(rng, 63, COMMON)])
+
+    def record(kind, key, letter):
+        return Record(kind, key, *window, "1111111", letter, full_body(rng, kind))
+
+    key = association_key(rng, [])
+    keys = dict.fromkeys([key, association_key(rng, [key])])
+    timetable.associations = [*(record("AA", key, "P") for key in keys), record("AA", association_key(rng, []), "C")]
+    timetable.schedules = [record("BS", (("uid", "C00123"),), "P"), record("BS", (("uid", "C00124"),), "C")]
     return timetable

@@ -43,6 +43,13 @@ def some_window(rng):
     return first, bounded(first + length - DAY)
 
 
+def with_one_end_moved(rng, window):
+    """The window with one of its ends a few days earlier or later."""
+    first, last = window
+    days = rng.choice([-7, -2, -1, 1, 2, 7]) * DAY
+    return (min(bounded(first + days), last), last) if rng.random() < 0.5 else (first, max(bounded(last + days), first))
+
+
 def some_day(rng, window):
     first, last = window
     return first + rng.randint(0, (last - first).days) * DAY
