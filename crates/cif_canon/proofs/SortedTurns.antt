@@ -1,5 +1,6 @@
 -- Entries' positions in the order of their keys, by turns that are sorted.
-use Rattle.std.proofs.Common.{◌≡◌, ℕ, suc, ◌+◌, ◌<◌, ◌≤◌, List, [], ◌∷◌, ◌++◌, Option, None, Some, Bool, true, false, map, take, length, get_or, length-take}
+use Rattle.std.proofs.Common.{◌≡◌, ℕ, suc, ◌+◌, ◌<◌, ◌≤◌, List, [], ◌∷◌, ◌++◌, Option, None, Some}
+use Rattle.std.proofs.Common.{Bool, true, false, map, take, length, get_or, length-take}
 use Rattle.std.proofs.Common.{refl, sym, ◌∙◌, ap, subst, arith, append_assoc}
 use Rattle.std.specs.Prelude.{All, AllPairs}
 use Rattle.std.specs.List.{range_with_len, IsAllAdjacentAnswer}
@@ -34,7 +35,8 @@ turns_more n (k ∷ keys) key =
     ∙ ap (λ ts. record { key = k; position = n } ∷ ts) (turns_more (n + 1) keys key)
 
 -- their positions are the numbers from the first one on
-pub turns-positions : {K : Type 0} (n : ℕ) (keys : List K) → map (λ (t : Turn K). t.position) (turns_from n keys) ≡ range_with_len n (length keys)
+pub turns-positions : {K : Type 0} (n : ℕ) (keys : List K) → map (λ (t : Turn K). t.position) (turns_from n keys)
+    ≡ range_with_len n (length keys)
 turns-positions n [] = refl
 turns-positions n (k ∷ keys) = ap (λ ps. n ∷ ps) (turns-positions (n + 1) keys)
 

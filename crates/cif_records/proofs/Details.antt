@@ -40,7 +40,8 @@ module _ (d : Detail) (line : List ℕ) (built : line ≡ put_all (put_all [] (r
 -- the detail in columns 30 to 78 stands there
 pub detail_stands : (line : List ℕ) → AllStandIn line (detail_rows (Some (detail_in line)))
 detail_stands line =
-    let it : (from to : ℕ) → StandsIn (columns from to line) (text (text_of (columns from to line))) = λ from to. is_text_of (columns from to line) in (
+    let it : (from to : ℕ) → StandsIn (columns from to line) (text (text_of (columns from to line))) =
+    λ from to. is_text_of (columns from to line) in (
       it 30 30,
       (
         it 31 32,

@@ -40,7 +40,8 @@ loop-pieces-preserved g c = let says = c.in_ok-piece.ensures in record {
   from = omega (arith, c.in-Some.ensures, says.from, says.begins);
   upto = omega (arith, c.in-Some.ensures);
   laid = laid-more (map g.E.Entry.terms c.args.entries.now) c.args.members.now c.args.window.first c.loop-pieces.first
-      c.in-Some.next c.args.window.last c.loop-pieces.pieces.items c.add_piece.new.pieces.items c.in_ok-piece.piece c.in_ok-add_piece.ensures.ok
+      c.in-Some.next c.args.window.last c.loop-pieces.pieces.items c.add_piece.new.pieces.items c.in_ok-piece.piece
+      c.in_ok-add_piece.ensures.ok
       says.begins says.from says.piece says.breaks c.in-Some.ensures.0 c.in-Some.ensures.1 c.loop-pieces.invariant.laid;
 }
 

@@ -24,7 +24,8 @@ loop-reading-preserved g c =
     let next = rw c.if-is_line.true at c.in_ok-is_line.ensures in
     let line = c.read_line.new.line in
     let more : given c.read_line.new.self ≡ given c.loop-reading.lines + 1 = next.counted in
-    let room : length ls < c.args.max_lines = omega (arith, more, so_far.counted, so_far.same_limit, next.limit_now, c.read_line.new.self.counted)
+    let room : length ls < c.args.max_lines =
+    omega (arith, more, so_far.counted, so_far.same_limit, next.limit_now, c.read_line.new.self.counted)
     in (
       ls ++ line ∷ [],
       reading_line g.R.Read.remaining _ _ _ _ ls so_far c.read_line.new.self c.read_line.new.source line next.answer next.past_now
@@ -40,7 +41,8 @@ returns-in-Err-clause-fault g c =
     let next = rw c.if-is_line.true at c.in_ok-is_line.ensures in
     let line = c.read_line.new.line in
     let more : given c.read_line.new.self ≡ given c.loop-reading.lines + 1 = next.counted in
-    let room : length ls < c.args.max_lines = omega (arith, more, so_far.counted, so_far.same_limit, next.limit_now, c.read_line.new.self.counted) in
+    let room : length ls < c.args.max_lines =
+    omega (arith, more, so_far.counted, so_far.same_limit, next.limit_now, c.read_line.new.self.counted) in
     let now =
     reading_line g.R.Read.remaining _ _ _ _ ls so_far c.read_line.new.self c.read_line.new.source line next.answer next.past_now
     next.limit_now more in
@@ -91,7 +93,8 @@ returns-else-is_line-clause-only g c =
     let after = g.R.Read.remaining c.read_line.new.source.reader in
     only_read start c.args.max_lines after c.finish.result
     (whole_result start c.args.max_lines ls (progress_of c.loop-reading.reading) c.finish.result all come c.finish.ensures.ok)
-    (unfinished_result start after c.args.max_lines ls (progress_of c.loop-reading.reading) c.line_number-else-is_line.result c.finish.result all
+    (unfinished_result start after c.args.max_lines ls (progress_of c.loop-reading.reading) c.line_number-else-is_line.result
+    c.finish.result all
     come number c.finish.ensures.truncated)
 
 pub returns-in_err-is_line-clause-answers : goal.returns-in_err-is_line-clause-answers
