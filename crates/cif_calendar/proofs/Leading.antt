@@ -1,24 +1,28 @@
 -- Who leads a layer: on a later day, once one member more was seen, and on the day when all that have begun were.
 use Rattle.std.proofs.Common.{◌≡◌, ℕ, ◌<◌, ◌≤◌, List, [], ◌∷◌, ◌++◌, length, Option, None, Some, take, get_or, subst, sym, ◌∙◌, ap}
-use Rattle.std.proofs.Common.{arith, refl, ⊎_elim, set, replicate, length-set, map}
+use Rattle.std.proofs.Common.{arith, refl, ⊎_elim, set, map}
 use Rattle.std.specs.Prelude.{Contains, IfNone, IfSome}
 use Rattle.std.specs.Option.{ForSome}
 use Rattle.std.specs.List.Sorted.{IsNonDecreasingBy}
-use Rattle.std.proofs.lemmas.Bool.{cases_eq, cases_lt}
-use Rattle.std.proofs.lemmas.List.{get_or-set_same, get_or-set_other, get_or-take, get_or-replicate}
-use Rattle.std.proofs.lemmas.List.{length-map, length-replicate, length-take-le}
+use Rattle.std.proofs.lemmas.Bool.{cases_lt}
+use Rattle.std.proofs.lemmas.List.{get_or-take, get_or-replicate}
+use Rattle.std.proofs.lemmas.List.{length-map, length-replicate, length-take-le, get_or_default}
+use Rattle.std.proofs.Math.ListN.{get_or-map}
+use Rattle.std.proofs.Math.Seq.{map-set_same}
 use Rattle.std.proofs.lemmas.Option.{slice_get_within}
 use Rattle.std.proofs.lemmas.List.Elements.{Contains-append_left, Contains-push, Contains-push_cases}
 use Rattle.cif_columns.specs.Day.{weekday_of}
 use Rattle.cif_calendar.specs.Terms.{Terms}
 use Rattle.cif_calendar.specs.Steps.Layers.{IsLayer}
 use Rattle.cif_calendar.specs.Steps.Leading.{IsOn, IsLeft, HaveOneBody, IsLed, IsLead, AreWeekLeads, IsLedOn}
-use Rattle.cif_calendar.specs.Steps.Leading.{AreLeads, all_unled, unled}
+use Rattle.cif_calendar.specs.Steps.Leading.{AreAlike, AreLeads, AreUnled, IsUnled, unled}
+use Rattle.cif_calendar.specs.Source.{body_at}
 use Rattle.cif_calendar.specs.declared.layers.Layers.{Layers}
 use Rattle.cif_calendar.specs.declared.leads.Leads.{Leads}
 use Rattle.cif_calendar.specs.declared.lead.Lead.{Lead}
 use Rattle.cif_calendar.specs.declared.lead.Leader.{Leader}
 use Rattle.cif_calendar.specs.declared.member.Member.{Member}
+use Rattle.cif_calendar.specs.declared.week_leads.WeekLeads.{WeekLeads}
 
 left-earlier : (m : Member) (w d e : ℕ) → d ≤ e → IsLeft m w e → IsLeft m w d
 left-earlier m w d e up left = record { unfinished = (let h : e ≤ m.last = left.unfinished in omega arith); on_weekday = left.on_weekday }
@@ -32,6 +36,7 @@ module _ {B : Type 0} (xs : List (Terms B)) (seen : List Member) (w d : ℕ) whe
     listed = h.listed;
     last_is = h.last_is;
     position_is = h.position_is;
+    known = h.known;
     begun = (let k : h.member.first ≤ d = h.begun in omega arith);
     on_weekday = h.on_weekday;
     last = λ m in' left. h.last m in' (left-earlier m w d e up left);
@@ -63,6 +68,7 @@ module _ {B : Type 0} (xs : List (Terms B)) (seen : List Member) (w d : ℕ) whe
       listed = Contains-append_left seen (m ∷ []) h.member h.listed;
       last_is = h.last_is;
       position_is = h.position_is;
+      known = h.known;
       begun = h.begun;
       on_weekday = h.on_weekday;
       last = λ s in' left. ⊎_elim
@@ -76,13 +82,14 @@ module _ {B : Type 0} (xs : List (Terms B)) (seen : List Member) (w d : ℕ) whe
     }
 
     -- m is the first that is left
-    pub led-first : IsLeft m w d → m.first ≤ d → IsLed xs seen w d None →
-        IsLed xs (seen ++ m ∷ []) w d (Some (record { last = m.last; position = m.position }))
-    led-first on begun h = record {
+    pub led-first : (i : ℕ) → HaveOneBody xs i m.position → IsLeft m w d → m.first ≤ d → IsLed xs seen w d None →
+        IsLed xs (seen ++ m ∷ []) w d (Some (record { last = m.last; position = m.position; alike = i }))
+    led-first i known on begun h = record {
       member = m;
       listed = Contains-push seen m;
       last_is = refl;
       position_is = refl;
+      known = known;
       begun = begun;
       on_weekday = on.on_weekday;
       last = λ s in' left. ⊎_elim
@@ -97,12 +104,14 @@ module _ {B : Type 0} (xs : List (Terms B)) (seen : List Member) (w d : ℕ) whe
 
     -- m has the leader's body, and ends after it
     pub led-takes : (l : Leader) → IsLeft m w d → m.first ≤ d → HaveOneBody xs l.position m.position → l.last < m.last →
-        IsLed xs seen w d (Some l) → IsLed xs (seen ++ m ∷ []) w d (Some (record { last = m.last; position = m.position }))
+        IsLed xs seen w d (Some l) →
+        IsLed xs (seen ++ m ∷ []) w d (Some (record { last = m.last; position = m.position; alike = l.alike }))
     led-takes l on begun same after h = record {
       member = m;
       listed = Contains-push seen m;
       last_is = refl;
       position_is = refl;
+      known = h.known ∙ same;
       begun = begun;
       on_weekday = on.on_weekday;
       last = λ s in' left. ⊎_elim
@@ -123,6 +132,7 @@ module _ {B : Type 0} (xs : List (Terms B)) (seen : List Member) (w d : ℕ) whe
       listed = Contains-append_left seen (m ∷ []) h.member h.listed;
       last_is = h.last_is;
       position_is = h.position_is;
+      known = h.known;
       begun = h.begun;
       on_weekday = h.on_weekday;
       last = λ s in' left. ⊎_elim
@@ -205,40 +215,43 @@ module _ {B : Type 0} (xs : List (Terms B)) (layer : List Member) where
     led = led-later xs (take lead.seen layer) w d e lead.leader up h.led;
   }
 
-  pub week_leads-later : (d e : ℕ) (week : List Lead) → d ≤ e → AreWeekLeads xs layer d week → AreWeekLeads xs layer e week
-  week_leads-later d e week up h = record {
+  pub week_leads-later : (d e : ℕ) (leads : WeekLeads) → d ≤ e → AreWeekLeads xs layer d leads → AreWeekLeads xs layer e leads
+  week_leads-later d e leads up h = record {
     seven = h.seven;
     lead = λ w lead below is. lead-later w d e lead up (h.lead w lead below is);
+    alike = h.alike;
   }
 
   -- at first no member was seen
-  pub week_leads-none : (d : ℕ) → AreWeekLeads xs layer d (replicate 7 unled)
-  week_leads-none d = record {
-    seven = length-replicate 7 unled;
-    lead = λ w lead below is. subst (λ (q : Lead). IsLead xs layer w d q) (sym (get_or-replicate 7 w unled lead below) ∙ is) (record {
-      within = (let k : 0 ≤ length layer = omega arith in k);
-      led = λ m (in' : Contains [] m) left. absurd (let k : in'.0 < 0 = in'.1 in omega arith);
-    });
+  lead-none : (d w : ℕ) (lead : Lead) → lead ≡ unled → IsLead xs layer w d lead
+  lead-none d w lead is = subst (λ (q : Lead). IsLead xs layer w d q) (sym is) (record {
+    within = (let k : 0 ≤ length layer = omega arith in k);
+    led = λ m (in' : Contains [] m) left. absurd (let k : in'.0 < 0 = in'.1 in omega arith);
+  })
+
+  pub week_leads-none : (d : ℕ) (leads : WeekLeads) → IsUnled layer leads → AreWeekLeads xs layer d leads
+  week_leads-none d leads is = record {
+    seven = ap length is.days ∙ length-replicate 7 unled;
+    lead = λ w lead below here. lead-none d w lead
+        (sym here ∙ ap (λ (q : List Lead). get_or q w lead) is.days ∙ get_or-replicate 7 w unled lead below);
+    alike = ap (map (λ (i : ℕ). body_at xs (Some i))) is.alike;
   }
 
-  -- one lead is another
-  pub week_leads-set : (d w : ℕ) (week : List Lead) (lead : Lead) → w < 7 → IsLead xs layer w d lead → AreWeekLeads xs layer d week →
-      AreWeekLeads xs layer d (set week w lead)
-  week_leads-set d w week lead below new h = record {
-    seven = length-set week w lead ∙ h.seven;
-    lead = λ v other less is. ⊎_elim
-        (λ (e : v ≡ w). subst (λ (q : ℕ). IsLead xs layer q d other) (sym e)
-        (subst (λ (q : Lead). IsLead xs layer w d q)
-        (sym (get_or-set_same week w lead other (let k : length week ≡ 7 = h.seven in omega arith))
-        ∙ ap (λ (q : ℕ). get_or (set week w lead) q other) (sym e) ∙ is) new))
-        (λ apart. h.lead v other less (sym (get_or-set_other week w v lead other apart) ∙ is))
-        (cases_eq v w);
-  }
+  -- what is known of a member's body
+  pub alike-at : (alike : List ℕ) (k e : ℕ) (m : Member) → AreAlike xs layer alike → k < length layer → get_or layer k m ≡ m →
+      HaveOneBody xs (get_or alike k e) m.position
+  alike-at alike k e m same below at =
+      let body : ℕ → Option B = λ i. body_at xs (Some i) in
+      let position : Member → ℕ = λ m. m.position in
+      let within : k < length (map position layer) = omega (arith, length-map layer position) in
+      sym (get_or-map body alike k e) ∙ ap (λ (bodies : List (Option B)). get_or bodies k (body e)) same
+      ∙ get_or-map body (map position layer) k e
+      ∙ ap body (get_or_default (map position layer) k e m.position within ∙ get_or-map position layer k m ∙ ap position at)
 
-  -- the lead of a weekday
-  pub week_lead : (d w : ℕ) (week : List Lead) (lead : Lead) → w < 7 → lead ≡ get_or week w lead → AreWeekLeads xs layer d week →
-      IsLead xs layer w d lead
-  week_lead d w week lead below is h = h.lead w lead below (sym is)
+  -- another position with that body says the same
+  pub alike-set : (alike : List ℕ) (k i e : ℕ) → HaveOneBody xs i (get_or alike k e) → AreAlike xs layer alike →
+      AreAlike xs layer (set alike k i)
+  alike-set alike k i e new same = map-set_same (λ (j : ℕ). body_at xs (Some j)) alike k i e new ∙ same
 
 -- those of all layers
 pub leads-later : {B : Type 0} (xs : List (Terms B)) (layers : Layers) (d e : ℕ) (leads : Leads) → d ≤ e → AreLeads xs layers d leads →
@@ -250,10 +263,11 @@ leads-later xs layers d e leads up h = record {
   permanents = week_leads-later xs layers.permanents.items d e leads.permanents up h.permanents;
 }
 
-pub leads-none : {B : Type 0} (xs : List (Terms B)) (layers : Layers) (d : ℕ) → AreLeads xs layers d all_unled
-leads-none xs layers d = record {
-  cancellations = week_leads-none xs layers.cancellations.items d;
-  additions = week_leads-none xs layers.additions.items d;
-  overlays = week_leads-none xs layers.overlays.items d;
-  permanents = week_leads-none xs layers.permanents.items d;
+pub leads-none : {B : Type 0} (xs : List (Terms B)) (layers : Layers) (d : ℕ) (leads : Leads) → AreUnled layers leads →
+    AreLeads xs layers d leads
+leads-none xs layers d leads h = record {
+  cancellations = week_leads-none xs layers.cancellations.items d leads.cancellations h.cancellations;
+  additions = week_leads-none xs layers.additions.items d leads.additions h.additions;
+  overlays = week_leads-none xs layers.overlays.items d leads.overlays h.overlays;
+  permanents = week_leads-none xs layers.permanents.items d leads.permanents h.permanents;
 }

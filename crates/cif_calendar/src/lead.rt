@@ -1,12 +1,12 @@
 //! Who leads a layer on a weekday.
 
 ghost use Rattle.std.specs.Prelude.{◌≡◌, ◌<◌, ◌≤◌, ◌↔◌, ◌++◌, ◌∷◌, [], ℕ, List, Some, length, map};
-ghost use Rattle.std.specs.Prelude.{IsTrue, IfNone, IfSome, IfOk, OnErr, slice_index_or, take};
+ghost use Rattle.std.specs.Prelude.{IsTrue, IfNone, IfSome, IfOk, OnOk, OnErr, slice_index_or, take};
 ghost use Rattle.std.specs.Option.{ForSome};
 ghost use Rattle.cif_columns.specs.Day.{weekday_of};
 ghost use Rattle.cif_calendar.specs.Steps.Layers.{IsLayer};
 ghost use Rattle.cif_calendar.specs.Steps.Leading.{IsOn, IsLed, IsLead, IsLedOn, AreApart};
-ghost use Rattle.cif_calendar.specs.Steps.Leading.{HaveOneBody, unled};
+ghost use Rattle.cif_calendar.specs.Steps.Leading.{AreAlike, HaveOneBody, unled};
 ghost use Rattle.cif_calendar.specs.declared.lead.Leader.{Leader};
 ghost use Rattle.cif_calendar.specs.declared.member.Member.{Member};
 
@@ -22,6 +22,8 @@ pub(crate) struct Leader {
     pub(crate) last: u16,
     /// Its position in the entries.
     pub(crate) position: usize,
+    /// The position of an entry that is known to have its body.
+    pub(crate) alike: usize,
 }
 
 /// Who leads a layer on the dates of a weekday, from some date on.
@@ -62,17 +64,35 @@ fn next_begun(members: &[Member], seen: usize, day: Day) -> Option<Member>
     None
 }
 
-/// Who leads once the member, which has begun, is looked at too.
+/// Whether two leaders have one body. The bodies are compared only where that isn't known.
+fn have_one_body<E: Entry>(entries: &[E], one: Leader, other: Leader) -> bool
+    requires one { one.position < length entries.now }
+    requires other { other.position < length entries.now }
+    requires one_known { HaveOneBody (map E.terms entries.now) one.alike one.position }
+    requires other_known { HaveOneBody (map E.terms entries.now) other.alike other.position }
+    ensures { IsTrue result ↔ HaveOneBody (map E.terms entries.now) one.position other.position }
+{
+    one.alike == other.alike || same_body(&entries[one.position], &entries[other.position])
+}
+
+/// Who leads once the member, which has begun, is looked at too. At `alike` stands an entry that is
+/// known to have the member's body; where the member is compared with the leader, it becomes the
+/// leader's.
 fn leader_with<E: Entry>(
     entries: &[E],
     leader: Option<Leader>,
     member: Member,
+    alike: &mut usize,
     day: Day,
 ) -> Result<Option<Leader>, BodiesDiffer>
     requires leader { ForSome leader (λ l. l.position < length entries.now) }
+    requires known { ForSome leader
+        (λ l. HaveOneBody (map E.terms entries.now) l.alike l.position) }
     requires unfinished { ForSome leader (λ l. day ≤ l.last) }
     requires member { member.position < length entries.now }
+    requires alike { HaveOneBody (map E.terms entries.now) alike.old member.position }
     requires begun { member.first ≤ day }
+    ensures alike { HaveOneBody (map E.terms entries.now) alike.new alike.old }
     ensures led { (seen : List Member) →
         IsLed (map E.terms entries.now) seen (weekday_of day) day leader →
         IfOk result (IsLed (map E.terms entries.now) (seen ++ member ∷ []) (weekday_of day) day) }
@@ -90,15 +110,20 @@ fn leader_with<E: Entry>(
     let own = Leader {
         last: member.last.number(),
         position: member.position,
+        alike: *alike,
     };
     let Some(best) = leader else {
         return Ok(Some(own));
     };
-    if !same_body(&entries[best.position], &entries[member.position]) {
+    if !have_one_body(entries, best, own) {
         return Err(BodiesDiffer);
     }
+    *alike = best.alike;
     if best.last < own.last {
-        Ok(Some(own))
+        Ok(Some(Leader {
+            alike: best.alike,
+            ..own
+        }))
     } else {
         Ok(Some(best))
     }
@@ -116,15 +141,19 @@ impl Lead {
     }
 
     /// Who leads on a date of the weekday that is not before the last one. The members that have
-    /// begun by then and were not looked at are compared with the leader, if they apply.
+    /// begun by then and were not looked at are compared with the leader, if they apply. `alike` has
+    /// for each member the position of an entry that is known to have its body.
     pub(crate) fn on<E: Entry>(
         self,
         entries: &[E],
         members: &[Member],
+        alike: &mut [usize],
         day: Day,
     ) -> Result<Lead, BodiesDiffer>
         requires layer { IsLayer (map E.terms entries.now) members.now }
+        requires alike { AreAlike (map E.terms entries.now) members.now alike.old }
         requires lead { IsLead (map E.terms entries.now) members.now (weekday_of day) day self }
+        ensures alike { OnOk result (AreAlike (map E.terms entries.now) members.now alike.new) }
         ensures lead { IfOk result
             (IsLead (map E.terms entries.now) members.now (weekday_of day) day) }
         ensures led { IfOk result (λ lead.
@@ -134,7 +163,7 @@ impl Lead {
         let mut leader = unfinished(self.leader, day);
         let mut seen = self.seen;
         while let Some(member) = next_begun(members, seen, day) {
-            leader = leader_with(entries, leader, member, day)?;
+            leader = leader_with(entries, leader, member, &mut alike[seen], day)?;
             seen += 1;
         }
         Ok(Lead { leader, seen })

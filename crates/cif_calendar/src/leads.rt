@@ -5,27 +5,29 @@ ghost use Rattle.cif_calendar.specs.Clash.{IsClash, IsClear};
 ghost use Rattle.cif_calendar.specs.Source.{IsChosen, IsSource};
 ghost use Rattle.cif_calendar.specs.Steps.Layers.{AreLayers, AreLayersOf, IsLayer};
 ghost use Rattle.cif_calendar.specs.Steps.Leading.{AreApart, AreLeads, AreWeekLeads, IsLedOn};
-ghost use Rattle.cif_calendar.specs.Steps.Leading.{all_unled};
+ghost use Rattle.cif_calendar.specs.Steps.Leading.{AreUnled};
 
 use crate::entry::Entry;
 use crate::layers::Layers;
-use crate::lead::{Lead, Leader};
+use crate::lead::Leader;
 use crate::member::Member;
+use crate::week_leads::WeekLeads;
 use crate::winner::BodiesDiffer;
 use cif_columns::Day;
+use std::alloc::{AllocError, Global};
 
-/// Who leads each layer, on each weekday, Monday first.
-#[derive(Clone, Copy, Debug)]
+/// Who leads each layer, on each weekday.
+#[derive(Debug, Drop)]
 pub(crate) struct Leads {
-    cancellations: [Lead; 7],
-    additions: [Lead; 7],
-    overlays: [Lead; 7],
-    permanents: [Lead; 7],
+    cancellations: WeekLeads,
+    additions: WeekLeads,
+    overlays: WeekLeads,
+    permanents: WeekLeads,
 }
 
 /// Who leads the layer on the date, if any of its members applies.
 fn leader_on<E: Entry>(
-    leads: &mut [Lead; 7],
+    leads: &mut WeekLeads,
     entries: &[E],
     members: &[Member],
     day: Day,
@@ -41,23 +43,29 @@ fn leader_on<E: Entry>(
         return Ok(None);
     }
     let weekday = usize::from(day.weekday());
-    let lead = leads[weekday].on(entries, members, day)?;
-    leads[weekday] = lead;
+    let lead = leads.days[weekday].on(entries, members, leads.alike.as_mut_slice(), day)?;
+    leads.days[weekday] = lead;
     Ok(lead.leader)
 }
 
 impl Leads {
-    /// No member was looked at.
-    pub(crate) fn nobody() -> Leads
-        ensures { result ≡ all_unled }
-    {
-        let week = [Lead::nobody(); 7];
+    pub(crate) fn new(alloc: Global) -> Leads {
         Leads {
-            cancellations: week,
-            additions: week,
-            overlays: week,
-            permanents: week,
+            cancellations: WeekLeads::new(alloc),
+            additions: WeekLeads::new(alloc),
+            overlays: WeekLeads::new(alloc),
+            permanents: WeekLeads::new(alloc),
         }
+    }
+
+    /// Looks at the members of the layers anew.
+    pub(crate) fn fill(&mut self, layers: &Layers) -> Result<(), AllocError>
+        ensures { OnOk result (AreUnled layers.now self.new) }
+    {
+        self.cancellations.fill(layers.cancellations.as_slice())?;
+        self.additions.fill(layers.additions.as_slice())?;
+        self.overlays.fill(layers.overlays.as_slice())?;
+        self.permanents.fill(layers.permanents.as_slice())
     }
 
     /// The position in `entries` of a winner of the date; `None` where nothing runs.

@@ -17,6 +17,7 @@ mod schedule_entry;
 mod stretches;
 mod sweep;
 mod sweep_lists;
+mod week_leads;
 mod window;
 mod winner;
 

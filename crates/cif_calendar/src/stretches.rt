@@ -31,8 +31,13 @@ pub fn calendar<E: Entry>(
     requires positions { All (λ i. i < length entries.now) members.now }
     ensures { IsAnswer (map E.terms entries.now) members.now window.first window.last result }
 {
-    let mut lists = SweepLists::new(alloc);
-    calendar_in_room(Vec::new(alloc), &mut lists, entries, members, window)
+    let room = Vec::new(alloc);
+    if members.len() <= FEW {
+        calendar_of_few(room, entries, members, window)
+    } else {
+        let mut lists = SweepLists::new(alloc);
+        calendar_of_many(room, &mut lists, entries, members, window)
+    }
 }
 
 /// The same calendar, in the room of pieces that are needed no more: `Calendar::into_room` gives

@@ -56,8 +56,8 @@ fn week_from<E: Entry>(
     Ok(winners)
 }
 
-/// The calendar of the entries at `members`. The cost is that of sorting them and of the pieces, and
-/// a body is compared at most once for each weekday.
+/// The calendar of the entries at `members`. The cost is that of sorting them and of the pieces. A
+/// body is mostly compared once, and never more than once for each weekday.
 pub(crate) fn calendar_of_many<E: Entry>(
     room: Vec<Piece>,
     lists: &mut SweepLists,
@@ -71,11 +71,10 @@ pub(crate) fn calendar_of_many<E: Entry>(
     lists.fill(entries, members)?;
     let mut pieces = room;
     pieces.clear();
-    let mut leads = Leads::nobody();
     let mut first = window.first;
     loop {
         let last = end_of_piece(lists.changes.as_slice(), first, window.last);
-        let winners = match week_from(&mut leads, entries, &lists.layers, first, last) {
+        let winners = match week_from(&mut lists.leads, entries, &lists.layers, first, last) {
             Ok(winners) => winners,
             Err(day) => return Err(CalendarFault::Ambiguous(day)),
         };

@@ -3,6 +3,7 @@
 ghost use Rattle.std.specs.Prelude.{◌≡◌, ◌<◌, length, map, All, IfErr, OnOk};
 ghost use Rattle.cif_calendar.specs.Source.{IsChosen};
 ghost use Rattle.cif_calendar.specs.Steps.Layers.{AreLayers, AreLayersOf};
+ghost use Rattle.cif_calendar.specs.Steps.Leading.{AreUnled};
 ghost use Rattle.cif_calendar.specs.Steps.PieceSteps.{AreChanges};
 ghost use Rattle.cif_calendar.specs.declared.calendar_fault.CalendarFault.TheVariants.{Memory};
 
@@ -10,15 +11,17 @@ use crate::calendar_fault::CalendarFault;
 use crate::changes::fill_changes;
 use crate::entry::Entry;
 use crate::layers::Layers;
+use crate::leads::Leads;
 use cif_columns::Day;
 use std::alloc::Global;
 
-/// The lists that a sweep over the dates of a window puts in order. They are handed on from one
-/// calendar to the next for their room alone: what they hold in between means nothing.
+/// The lists of a sweep over the dates of a window. They are handed on from one calendar to the next
+/// for their room alone: what they hold in between means nothing.
 #[derive(Debug, Drop)]
 pub struct SweepLists {
     pub(crate) changes: Vec<Day>,
     pub(crate) layers: Layers,
+    pub(crate) leads: Leads,
 }
 
 impl SweepLists {
@@ -27,6 +30,7 @@ impl SweepLists {
         SweepLists {
             changes: Vec::new(alloc),
             layers: Layers::new(alloc),
+            leads: Leads::new(alloc),
         }
     }
 
@@ -42,6 +46,7 @@ impl SweepLists {
         ensures layers { OnOk result (AreLayers (map E.terms entries.now) self.new.layers) }
         ensures whole { OnOk result
             (AreLayersOf (map E.terms entries.now) members.now self.new.layers) }
+        ensures leads { OnOk result (AreUnled self.new.layers self.new.leads) }
         ensures err { IfErr result (λ e. e ≡ Memory) }
     {
         match fill_changes(&mut self.changes, entries, members) {
@@ -49,6 +54,10 @@ impl SweepLists {
             Err(_) => return Err(CalendarFault::Memory),
         }
         match self.layers.fill(entries, members) {
+            Ok(()) => {}
+            Err(_) => return Err(CalendarFault::Memory),
+        }
+        match self.leads.fill(&self.layers) {
             Ok(()) => Ok(()),
             Err(_) => Err(CalendarFault::Memory),
         }

@@ -1,13 +1,13 @@
 -- Two lists are compared key by key, over their positions in the order of their keys.
-use Rattle.std.proofs.Common.{◌≡◌, ◌⊎◌, inl, inr, ℕ, zero, suc, ◌+◌, ◌<◌, ◌≤◌, List, [], take, drop, length, refl, sym, ap, ◌∙◌, subst}
-use Rattle.std.proofs.Common.{⊎_elim, arith, true≢false}
+use Rattle.std.proofs.Common.{◌≡◌, ◌⊎◌, inl, inr, ℕ, zero, suc, ◌+◌, ◌-◌, ◌<◌, ◌≤◌, List, [], take, drop, length, refl, sym, ap, ◌∙◌}
+use Rattle.std.proofs.Common.{⊎_elim, arith, subst, true≢false}
 use Rattle.std.specs.Prelude.{Contains, Option, Some, None, false}
 use Rattle.std.specs.Cmp.{IsTotalOrder, tied_itself}
 use Rattle.std.specs.Ordering.{is_gt, ordering_reverse}
 use Rattle.std.specs.declared.cmp.Ordering.{Ordering}
 use Rattle.std.specs.declared.cmp.Ordering.TheVariants.{Less, Equal, Greater}
 use Rattle.std.proofs.lemmas.Option.{slice_get_within}
-use Rattle.std.proofs.lemmas.List.{take-append-drop}
+use Rattle.std.proofs.lemmas.List.{length-drop, take-append-drop}
 use Rattle.std.proofs.lemmas.List.Elements.{All-contains}
 use Rattle.std.proofs.lemmas.List.Elements.{Contains-append_right, Contains-append_cases}
 use Rattle.cif_calendar.specs.Terms.{Terms}
@@ -99,6 +99,17 @@ module _ {K B : Type 0} (cmp : K → K → Ordering) where
     pub right_passed : HasPassed ys r (IsLeft xs l ys r)
     pub alike : (k : K) → (IsLeft xs l ys r k → ⊥) → (d : ℕ) → first ≤ d → d ≤ last → RunsAlike xs ys k d
 
+  -- The fronts of both rests are the positions of the key, and what is later is less; where the lists say the same of the key, it has
+  -- passed, and where they don't, that is the first difference.
+  pub record AreFronts (xs ys : List (K × Terms B)) (first last : ℕ) (l r : List ℕ) (k : K) (l_front l_later r_front r_later : List ℕ)
+      : Type 0 where
+    pub left : ArePositionsOf xs k l_front
+    pub right : ArePositionsOf ys k r_front
+    pub smaller : length l_later + length r_later < length l + length r
+    pub alike : ((d : ℕ) → first ≤ d → d ≤ last → RunsAlike xs ys k d) → AreAlikeBefore xs ys first last l_later r_later
+    pub differ : (d : ℕ) → first ≤ d → d ≤ last → RunsDiffer xs ys k d → ((e : ℕ) → first ≤ e → e < d → RunsAlike xs ys k e) →
+        IsFirstDifference cmp xs ys first last k d
+
   module _ (total : IsTotalOrder cmp) (same : (j k : K) → cmp j k ≡ Equal → j ≡ k) (xs ys : List (K × Terms B)) (first last : ℕ) where
     -- without entries nothing runs
     one-way : (es fs : List (K × Terms B)) (k : K) → ((t : Terms B) → of_key es k t → ⊥) → ((t : Terms B) → of_key fs k t → ⊥) → (d : ℕ)
@@ -154,7 +165,7 @@ module _ {K B : Type 0} (cmp : K → K → Ordering) where
           before j from less = true≢false (sym (ap is_gt (backward j less)) ∙ from)
 
       -- so a difference of this key is the first
-      pub first-difference : (d : ℕ) → first ≤ d → d ≤ last → RunsDiffer xs ys k d →
+      first-difference : (d : ℕ) → first ≤ d → d ≤ last → RunsDiffer xs ys k d →
           ((e : ℕ) → first ≤ e → e < d → RunsAlike xs ys k e) → IsFirstDifference cmp xs ys first last k d
       first-difference d from upto differ before = record {
         from = from;
@@ -165,14 +176,14 @@ module _ {K B : Type 0} (cmp : K → K → Ordering) where
       }
 
       module _ (n m : ℕ) (left_front : IsFront cmp xs l k n) (right_front : IsFront cmp ys r k m) where
-        pub left-turn : ArePositionsOf xs k (take n l)
+        left-turn : ArePositionsOf xs k (take n l)
         left-turn = turn total xs l (IsLeft xs l ys r) a.left_passed k f.has n left_front
 
-        pub right-turn : ArePositionsOf ys k (take m r)
+        right-turn : ArePositionsOf ys k (take m r)
         right-turn = turn total ys r (IsLeft xs l ys r) a.right_passed k f.has m right_front
 
         -- one of the fronts has a position
-        pub front-of_both : 0 < n + m
+        front-of_both : 0 < n + m
         front-of_both = ⊎_elim
             (λ any. let some = front-some total xs l k any n left_front in omega (arith, some))
             (λ any. let some = front-some total ys r k any m right_front in omega (arith, some))
@@ -202,7 +213,7 @@ module _ {K B : Type 0} (cmp : K → K → Ordering) where
             (key-or-later total ys r (IsLeft xs l ys r) a.right_passed k f.has m right_front j any))
 
         -- where the lists say the same of the key, it has passed
-        pub alike-key : ((d : ℕ) → first ≤ d → d ≤ last → RunsAlike xs ys k d) → AreAlikeBefore xs ys first last (drop n l) (drop m r)
+        alike-key : ((d : ℕ) → first ≤ d → d ≤ last → RunsAlike xs ys k d) → AreAlikeBefore xs ys first last (drop n l) (drop m r)
         alike-key says = record {
           left_rising = rising-after cmp xs l a.left_rising n;
           right_rising = rising-after cmp ys r a.right_rising m;
@@ -214,4 +225,19 @@ module _ {K B : Type 0} (cmp : K → K → Ordering) where
               (λ is. subst (λ i. RunsAlike xs ys i d) (sym is) (says d from upto))
               (λ apart. a.alike j (λ was. none (left-on j apart was)) d from upto)
               (decided j (cmp j k) refl);
+        }
+
+        pub are-fronts : AreFronts xs ys first last l r k (take n l) (drop n l) (take m r) (drop m r)
+        are-fronts = record {
+          left = left-turn;
+          right = right-turn;
+          smaller =
+              let left : length (drop n l) ≡ length l - n = length-drop n l in
+              let right : length (drop m r) ≡ length r - m = length-drop m r in
+              let some = front-of_both in
+              let left_upto = left_front.upto in
+              let right_upto = right_front.upto in
+              omega (arith, left, right, some, left_upto, right_upto);
+          alike = alike-key;
+          differ = first-difference;
         }

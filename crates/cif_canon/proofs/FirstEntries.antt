@@ -1,6 +1,6 @@
 -- The entry with the least key of two lists of positions, each in the order of its keys.
-use Rattle.std.proofs.Common.{◌≡◌, inl, inr, ℕ, ◌<◌, ◌≤◌, List, length, get_or, refl, sym, subst, arith}
-use Rattle.std.specs.Prelude.{All, true, false}
+use Rattle.std.proofs.Common.{◌≡◌, inl, inr, ℕ, ◌<◌, ◌≤◌, List, length, get_or, refl, sym, ◌∙◌, subst, arith}
+use Rattle.std.specs.Prelude.{All, Bool, true, false}
 use Rattle.std.specs.Cmp.{IsTotalOrder}
 use Rattle.std.specs.Ordering.{is_gt, is_lt}
 use Rattle.std.proofs.lemmas.List.Elements.{Contains-get_or}
@@ -51,17 +51,22 @@ module _ {K B : Type 0} (cmp : K → K → Ordering) (total : IsTotalOrder cmp) 
 
   module _ (same : (j k : K) → cmp j k ≡ Equal → j ≡ k) (a : K) (some_l : 0 < length l) (leads_l : HasKey xs (get_or l 0 0) a) (b : K)
       (some_r : 0 < length r) (leads_r : HasKey ys (get_or r 0 0) b) where
-    pub right-first : is_lt (cmp b a) ≡ true → IsFirstOfBoth cmp xs l ys r b
+    right-first : is_lt (cmp b a) ≡ true → IsFirstOfBoth cmp xs l ys r b
     right-first less = record {
       has = inr (any-first ys r b some_r leads_r);
       left_from = from-lower cmp total same xs l b a (lt-not_gt (cmp b a) less) (from-first cmp xs l up total a leads_l);
       right_from = from-first cmp ys r vp total b leads_r;
     }
 
-    pub left-first : is_lt (cmp b a) ≡ false → IsFirstOfBoth cmp xs l ys r a
+    left-first : is_lt (cmp b a) ≡ false → IsFirstOfBoth cmp xs l ys r a
     left-first not = record {
       has = inl (any-first xs l a some_l leads_l);
       left_from = from-first cmp xs l up total a leads_l;
       right_from = from-lower cmp total same ys r a b (subst (λ o. is_gt o ≡ false) (sym (total.antisymm a b)) (not_gt (cmp b a)
           not)) (from-first cmp ys r vp total b leads_r);
     }
+
+    -- the lesser key is the first
+    pub lesser-first : (less : Bool) → less ≡ is_lt (cmp b a) →
+        (less ≡ true → IsFirstOfBoth cmp xs l ys r b) × (less ≡ false → IsFirstOfBoth cmp xs l ys r a)
+    lesser-first less is = (λ yes. right-first (sym is ∙ yes), λ no. left-first (sym is ∙ no))

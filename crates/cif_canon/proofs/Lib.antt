@@ -7,6 +7,7 @@ pub mod DifferentDays
 pub mod DifferentTiplocs
 pub mod DistinctTiplocs
 pub mod FirstEntries
+pub mod HandedFaults
 pub mod KeptExtract
 pub mod KeyPositions
 pub mod KeyRecords

@@ -1,9 +1,11 @@
 -- What an input that is read and narrowed comes to.
 use Rattle.std.proofs.Common.{◌≡◌, ◌≤◌, ℕ, List, Option, Result, Ok, Err, IfErr, refl, sym, ap, ◌∙◌, subst, arith}
+use Rattle.std.specs.Prelude.{IfSome, IsErrAnd}
 use Rattle.cif_calendar.proofs.FirstClash.{first_clash-clear}
 use Rattle.cif_columns.specs.Contents.{contents_of}
 use Rattle.cif_columns.specs.Sink.{HasFailed}
 use Rattle.cif_columns.specs.declared.sink.Sink.{Sink}
+use Rattle.cif_columns.proofs.GivenLinesLaws.{known_so}
 use Rattle.cif_extract.specs.ExtractParts.{ExtractParts}
 use Rattle.cif_extract.specs.Texts.{FitsColumns}
 use Rattle.cif_extract.specs.declared.clash.Clash.{Clash}
@@ -26,6 +28,7 @@ use Rattle.cif_extract.proofs.FirstRefusals.{if_error}
 use Rattle.cif_canon.specs.Counts.{counts_of}
 use Rattle.cif_canon.proofs.SameExtracts.{same-parts}
 use Rattle.cif_canon.proofs.CanonForm.{canonical-of, made-of}
+use Rattle.cif_canon.proofs.HandedFaults.{at-fault, known-fault}
 use Rattle.cif_canon.proofs.NormalForms.{its-own, normal-unique, one-narrowed, reached}
 
 module _ (max : ℕ) (asked : Asked) (bytes : List ℕ) where
@@ -140,3 +143,25 @@ pub fault-writes : {W A : Type 0} (contents : W → Option (List ℕ)) (errors :
     FaultWrites contents errors text old new result
 fault-writes contents errors text old new result f failed write h =
     subst (FaultWrites contents errors text old new) (sym (failed ∙ ap Err write)) h
+
+-- ---- the same where the bytes may be unknown, of the fault that `?` hands on
+
+module _ (max : ℕ) (asked : Asked) (start after : Option (List ℕ)) {A : Type 0} (result : Result A Fault) (f : Fault)
+    (handed : IsErrAnd result (λ e. e ≡ f)) where
+  pub known-accepted : IfSome start (λ bytes. IsNormaliseFault max asked bytes after f) →
+      IfSome start (λ bytes. (x : ExtractParts) → IsAcceptedWithin max asked x bytes → IfErr result IsDeviceOrMemory)
+  known-accepted h = known_so start _ _ (λ bytes b. blamed max asked bytes after result f (at-fault result f handed) b) h
+
+  pub known-narrowing : (whole : ExtractParts) → IsNarrowingFault asked whole.header f →
+      IfSome start (λ bytes. BytesSpellWithin max bytes whole) →
+      IfSome start (λ bytes. IfErr result (IsNormaliseFault max asked bytes after))
+  known-narrowing whole h s =
+      known-fault result f handed start _ _ (λ bytes spelled. narrowing-fault max asked bytes after whole spelled f h) s
+
+  module _ (x : ExtractParts) (h : IsCanonFault x f) (s : IfSome start (SpellsNarrowed max asked x)) where
+    pub known-canon_fault : IfSome start (λ bytes. IfErr result (IsNormaliseFault max asked bytes after))
+    known-canon_fault = known-fault result f handed start _ _ (λ bytes spelled. canon-fault max asked bytes after x spelled f h) s
+
+    pub known-canon_accepted : IfSome start (λ bytes. (y : ExtractParts) → IsAcceptedWithin max asked y bytes →
+        IfErr result IsDeviceOrMemory)
+    known-canon_accepted = known-accepted (known_so start _ _ (λ bytes spelled. canon-fault max asked bytes after x spelled f h) s)

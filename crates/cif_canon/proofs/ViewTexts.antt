@@ -64,13 +64,17 @@ module _ {W A : Type 0} (contents : W → Option (List ℕ)) (errors : W → Opt
   pub fails-second : HasWritten contents errors a s t → HasFailed contents errors b t u → FaultWrites contents errors (a ++ b) s u result
   fails-second w h = fails contents errors (a ++ b) s u result failed (failed_second contents errors a b s t u w h)
 
+-- the lines of the associations' runs on a day, and of the trains'
+abbrev pub associations-text : ExtractParts → ℕ → List Run → List ℕ
+associations-text x d = flat_map (run_text (association_on d) (association_entries x.associations))
+
+abbrev pub trains-text : ExtractParts → ℕ → List Run → List ℕ
+trains-text x d = flat_map (run_text (train_on d) (schedule_entries x.schedules))
+
 module _ (x : ExtractParts) (d : ℕ) (within : IsWithin (header_window x.header) d) (form : Form) (associations schedules : List Run)
     (a : AreCanonicalRecords key_cmp form (header_window x.header) (association_entries x.associations) associations)
     (s : AreCanonicalRecords (slice_cmp nat_cmp) form (header_window x.header) (schedule_entries x.schedules) schedules) where
-  abbrev trains-text : List ℕ
-  trains-text = flat_map (run_text (train_on d) (schedule_entries x.schedules)) schedules
-
-  pub day-view : IsDayView x d (flat_map (run_text (association_on d) (association_entries x.associations)) associations ++ trains-text)
+  pub day-view : IsDayView x d (associations-text x d associations ++ trains-text x d schedules)
   day-view = record {
     within = within;
     clear = record { associations = a.clear; schedules = s.clear };
@@ -79,7 +83,7 @@ module _ (x : ExtractParts) (d : ℕ) (within : IsWithin (header_window x.header
     trains = map bodied (applying d s.records);
     run = running (slice_cmp nat_cmp) form (header_window x.header) (schedule_entries x.schedules) schedules s d within;
     text_is =
-        ap (λ (l : List ℕ). l ++ trains-text)
+        ap (λ (l : List ℕ). l ++ trains-text x d schedules)
         (texts-of_runs (association_entries x.associations) (association_on d) associations a.records a.runs_of
         ∙ chosen-text (λ e. applies_on e.1 d) bodied association_line a.records)
         ∙ ap (λ (l : List ℕ). flat_map association_line (map bodied (applying d a.records)) ++ l)

@@ -84,17 +84,11 @@ stands-yymmdd_in columns n width h =
       dated = is_dated-day_number from.yy from.month from.day n year.0 from.number;
     }
 
+-- the same digits, as if the year came first
 pub stands-ddmmyy_in : (columns : List ℕ) (n : ℕ) → length columns ≡ 6 → ddmmyy_in columns ≡ Some n → StandsInDdmmyy columns n
-unfolding ddmmyy_in
+unfolding ddmmyy_in yymmdd_in
 stands-ddmmyy_in columns n width h =
-    let from = parts_from _ _ _ n h in
-    let year = two_digits-number_in (get_or columns 4 0) (get_or columns 5 0) from.yy from.year_is in
-    let month = two_digits-number_in (get_or columns 2 0) (get_or columns 3 0) from.month from.month_is in
-    let day = two_digits-number_in (get_or columns 0 0) (get_or columns 1 0) from.day from.day_is in
-    record {
-      yy = from.yy;
-      month = from.month;
-      day = from.day;
-      spelled = six columns width ∙ cc (year.1, month.1, day.1);
-      dated = is_dated-day_number from.yy from.month from.day n year.0 from.number;
-    }
+    let turned = get_or columns 4 0 ∷ get_or columns 5 0 ∷ get_or columns 2 0 ∷ get_or columns 3 0 ∷ get_or columns 0 0
+    ∷ get_or columns 1 0 ∷ [] in
+    let s = stands-yymmdd_in turned n refl h in
+    record { yy = s.yy; month = s.month; day = s.day; spelled = six columns width ∙ cc s.spelled; dated = s.dated }

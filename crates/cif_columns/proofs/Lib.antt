@@ -13,6 +13,7 @@ pub mod HeldBytes
 pub mod Letters
 pub mod LineAnswers
 pub mod LineReasons
+pub mod LineTexts
 pub mod MaskUnion
 pub mod Masks
 pub mod PackedCodes
@@ -21,6 +22,7 @@ pub mod PlainColumns
 pub mod PlainLines
 pub mod PrintableBytes
 pub mod ReadSources
+pub mod SameMasks
 pub mod StoodValues
 pub mod TableLaws
 pub mod TestedRows

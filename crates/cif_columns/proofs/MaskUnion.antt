@@ -32,7 +32,7 @@ module _ (xs ys : List Bool) (both : List Bool) (k : ℕ) (in_xs : k < length xs
   )
 
 -- what holds of each of the numbers below seven
-each_of_seven : (P : ℕ → Type 0) → P 0 → P 1 → P 2 → P 3 → P 4 → P 5 → P 6 → (k : ℕ) → k < 7 → P k
+pub each_of_seven : (P : ℕ → Type 0) → P 0 → P 1 → P 2 → P 3 → P 4 → P 5 → P 6 → (k : ℕ) → k < 7 → P k
 each_of_seven P a b c d e f g zero h = a
 each_of_seven P a b c d e f g (suc zero) h = b
 each_of_seven P a b c d e f g (suc (suc zero)) h = c

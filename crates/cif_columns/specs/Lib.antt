@@ -15,6 +15,7 @@ pub mod Line
 pub mod LineBuilder
 pub mod LineFault
 pub mod LineReader
+pub mod Lines
 pub mod PlainTest
 pub mod PublicTime
 pub mod Refusal

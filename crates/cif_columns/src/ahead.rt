@@ -5,9 +5,13 @@ ghost use Rattle.std.specs.Prelude.{IfSome, IfNone, IsSome, IsTrue, ◌≢◌};
 ghost use Rattle.std.specs.Io.KnownBytes.{Keeps, Consumes, IsAtEnd};
 ghost use Rattle.cif_columns.specs.FirstLine.{is_decided};
 ghost use Rattle.cif_columns.specs.Source.{Reads, reader_of, source_failed};
+ghost use Rattle.cif_columns.specs.declared.ahead.TheConstants.{AHEAD};
+ghost use Rattle.cif_columns.specs.declared.first_line.TheConstants.{LONGEST_LINE};
 
-use crate::first_line::{FirstLine, first_line_of, first_plain_line, line_of_content};
-use crate::line::Line;
+use crate::first_line::{
+    FirstLine, LONGEST_LINE, first_line_of, first_plain_line, line_of_content,
+};
+use crate::line::{Line, PLAIN_LINE};
 use crate::read_device::ReadDevice;
 use crate::refusal::Refusal;
 use crate::source::{ReadFault, Source};
@@ -30,7 +34,7 @@ pub(crate) struct Ahead {
     start: usize,
     end: usize,
     ghost ordered: { start ≤ end },
-    ghost in_bounds: { end ≤ 65536 },
+    ghost in_bounds: { end ≤ AHEAD },
 }
 
 impl Ahead {
@@ -54,7 +58,7 @@ impl Ahead {
 
     // Moves the bytes to the front, where they are few.
     fn to_front(&mut self)
-        requires { length (held_bytes self.old) < 82 }
+        requires { length (held_bytes self.old) < LONGEST_LINE }
         ensures bytes { held_bytes self.new ≡ held_bytes self.old }
         ensures start { self.new.start ≡ 0 }
         ensures end { self.new.end ≡ length (held_bytes self.old) }
@@ -67,7 +71,7 @@ impl Ahead {
 
     // Reads once, and returns whether any bytes came.
     fn fill<R: ReadDevice>(&mut self, source: &mut Source<R>) -> Result<bool, ReadFault>
-        requires { length (held_bytes self.old) < 82 }
+        requires { length (held_bytes self.old) < LONGEST_LINE }
         ensures bytes { Keeps (known_left R.remaining self.old source.old)
             (known_left R.remaining self.new source.new) }
         ensures more { result ≡ Ok true
@@ -106,7 +110,7 @@ impl Ahead {
         requires { 81 ≤ length (held_bytes self.old) }
         ensures { held_bytes self.new ≡ drop 81 (held_bytes self.old) }
     {
-        self.start += 81;
+        self.start += PLAIN_LINE;
     }
 
     // What the held bytes decide, if they do.
@@ -175,11 +179,11 @@ impl Ahead {
 
 // Moves `len` bytes from `from` to the front.
 fn move_to_front(buf: &mut [u8], from: usize, len: usize)
-    requires few { len < 82 }
+    requires few { len < LONGEST_LINE }
     requires within { from + len ≤ length buf.old }
     ensures { take len buf.new ≡ take len (drop from buf.old) }
 {
-    let mut few = [0; 82];
+    let mut few = [0; LONGEST_LINE];
     few[..len].copy_from_slice(&buf[from..from + len]);
     buf[..len].copy_from_slice(&few[..len]);
 }

@@ -6,8 +6,12 @@ ghost use Rattle.std.specs.Str.Lines.{strip_carriage_return};
 ghost use Rattle.cif_columns.specs.FirstLine.{is_line_feed, is_printable, has_line_feed, line_of};
 ghost use Rattle.cif_columns.specs.FirstLine.{first_line, is_decided, after_content};
 
-use crate::line::Line;
+use crate::line::{LINE_WIDTH, Line, PLAIN_LINE};
 use crate::refusal::Refusal;
+
+/// How many bytes a line takes at most, with its ending: a carriage return and a line feed. With so
+/// many bytes and no line feed the first line is too long, whatever follows.
+pub(crate) const LONGEST_LINE: usize = LINE_WIDTH + 2;
 
 /// A decided line, or why it is none, and how many bytes it takes with its ending.
 pub(crate) struct FirstLine {
@@ -35,7 +39,10 @@ pub(crate) fn first_line_of(bytes: &[u8], is_full: bool) -> Option<FirstLine>
     let mut line = Line::blank();
     if take_plain_line(bytes, &mut line) {
         let line = Ok(line);
-        return Some(FirstLine { line, taken: 81 });
+        return Some(FirstLine {
+            line,
+            taken: PLAIN_LINE,
+        });
     }
     if let Some(at) = line_feed(bytes) {
         let line = line_of_content(stripped(&bytes[..at]));
@@ -44,7 +51,7 @@ pub(crate) fn first_line_of(bytes: &[u8], is_full: bool) -> Option<FirstLine>
             taken: at + 1,
         });
     }
-    if bytes.len() < 82 {
+    if bytes.len() < LONGEST_LINE {
         return None;
     }
     let line = Err(Refusal::BadLength);
@@ -70,23 +77,23 @@ fn take_plain_line(bytes: &[u8], line: &mut Line) -> bool
     ensures length { IsTrue result → 80 < length bytes.now }
     ensures ended { IsTrue result → position_or_len is_line_feed bytes.now ≡ 80 }
 {
-    if bytes.len() <= 80 || bytes[80] != b'\n' {
+    if bytes.len() <= LINE_WIDTH || bytes[LINE_WIDTH] != b'\n' {
         return false;
     }
-    match bytes.first_chunk::<80>() {
+    match bytes.first_chunk::<LINE_WIDTH>() {
         Some(columns) => line.replace(columns),
         None => false,
     }
 }
 
-// Where the first line feed is, if it is among the first 82 bytes.
+// Where the first line feed is, if it is among the bytes of a line of the greatest length.
 fn line_feed(bytes: &[u8]) -> Option<usize>
     ensures found { IfSome result (λ at. at ≡ position_or_len is_line_feed bytes.now) }
     ensures within { IfSome result (λ at. at < length bytes.now) }
     ensures none { IfNone result (min 82 (length bytes.now)
         ≤ position_or_len is_line_feed bytes.now) }
 {
-    position(&bytes[..bytes.len().min(82)])
+    position(&bytes[..bytes.len().min(LONGEST_LINE)])
 }
 
 // Where the first line feed is.
@@ -110,6 +117,6 @@ fn stripped(bytes: &[u8]) -> &[u8]
 pub(crate) fn line_of_content(content: &[u8]) -> Result<Line, Refusal>
     ensures { result ≡ line_of content.now }
 {
-    let bytes = content.as_array::<80>().ok_or(Refusal::BadLength)?;
+    let bytes = content.as_array::<LINE_WIDTH>().ok_or(Refusal::BadLength)?;
     Line::of(*bytes).ok_or(Refusal::BadByte)
 }

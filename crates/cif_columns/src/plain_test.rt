@@ -4,18 +4,18 @@ ghost use Rattle.cif_columns.specs.Field.{Row};
 ghost use Rattle.cif_columns.specs.PlainTest.{IsFollowed, IsFollowedOver, IsInRange, IsPlainLineOf};
 ghost use Rattle.cif_columns.specs.PlainTest.{IsTimed, Passes, asks_all, read_off};
 
-use crate::Line;
+use crate::line::{LINE_WIDTH, Line};
 
 /// What a plain line of one kind has in its columns, column by column, as tables that loops read.
 /// Where a table of bytes that ask for something should ask for nothing, it has `~`, which doesn't
 /// stand there in practice.
 pub struct PlainTest {
     /// The least byte of each column.
-    pub least: [u8; 80],
+    pub least: [u8; LINE_WIDTH],
     /// The greatest byte of each column.
-    pub most: [u8; 80],
+    pub most: [u8; LINE_WIDTH],
     /// A byte that each column may have besides.
-    pub also: [u8; 80],
+    pub also: [u8; LINE_WIDTH],
     /// The byte of a column that asks for a space in the next column: columns 1 to 79.
     pub next: [u8; 79],
     /// The byte of a column that asks for a space in the column after the next: columns 1 to 64.
@@ -42,7 +42,7 @@ impl PlainTest {
 
 /// Whether each column is as the test wants it.
 #[inline]
-fn has_all(columns: &[u8; 80], test: &PlainTest) -> bool
+fn has_all(columns: &[u8; LINE_WIDTH], test: &PlainTest) -> bool
     ensures { IsTrue result ↔ Passes test.now columns.now }
 {
     are_in_range(columns, test)
@@ -52,11 +52,11 @@ fn has_all(columns: &[u8; 80], test: &PlainTest) -> bool
 }
 
 #[inline]
-fn are_in_range(columns: &[u8; 80], test: &PlainTest) -> bool
+fn are_in_range(columns: &[u8; LINE_WIDTH], test: &PlainTest) -> bool
     ensures { IsTrue result ↔ ((k : ℕ) → k < 80 → IsInRange test.now columns.now k) }
 {
     let mut all = true;
-    for i in 0..80 {
+    for i in 0..LINE_WIDTH {
         all &= is_in_range(columns[i], test.least[i], test.most[i], test.also[i]);
     }
     all
@@ -64,7 +64,7 @@ fn are_in_range(columns: &[u8; 80], test: &PlainTest) -> bool
 
 /// Whether columns 1 to 64 are followed as the test wants it.
 #[inline]
-fn are_followed(columns: &[u8; 80], test: &PlainTest) -> bool
+fn are_followed(columns: &[u8; LINE_WIDTH], test: &PlainTest) -> bool
     ensures { IsTrue result ↔ ((k : ℕ) → k < 64 → IsFollowed test.now columns.now k
         × IsFollowedOver test.now columns.now k) }
 {
@@ -80,7 +80,7 @@ fn are_followed(columns: &[u8; 80], test: &PlainTest) -> bool
 /// Whether columns 64 to 79 are followed by spaces where the test wants it: sixteen columns, so that
 /// the compiler takes them at once.
 #[inline]
-fn last_are_followed(columns: &[u8; 80], test: &PlainTest) -> bool
+fn last_are_followed(columns: &[u8; LINE_WIDTH], test: &PlainTest) -> bool
     ensures { IsTrue result ↔ ((k : ℕ) → 63 ≤ k → k < 79 → IsFollowed test.now columns.now k) }
 {
     let mut all = true;
@@ -91,7 +91,7 @@ fn last_are_followed(columns: &[u8; 80], test: &PlainTest) -> bool
 }
 
 #[inline]
-fn are_timed(columns: &[u8; 80], test: &PlainTest) -> bool
+fn are_timed(columns: &[u8; LINE_WIDTH], test: &PlainTest) -> bool
     ensures { IsTrue result ↔ ((k : ℕ) → k < 32 → IsTimed test.now columns.now k) }
 {
     let mut all = true;

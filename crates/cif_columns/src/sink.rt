@@ -70,9 +70,7 @@ impl<W: WriteDevice> Sink<W> {
     pub fn write_line(&mut self, line: &Line) -> Result<(), WriteFault>
         ensures { Writes W.contents W.write_errors (line.now ++ 10 ∷ []) self.old self.new result }
     {
-        let mut text = [b'\n'; 81];
-        text[..80].copy_from_slice(line.bytes());
-        self.write_all(&text)
+        self.write_all(&line.text())
     }
 
     /// Hands on what the writer holds back, and writes no bytes of its own. A failure is the last,

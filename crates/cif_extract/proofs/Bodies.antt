@@ -3,7 +3,6 @@ use Rattle.std.proofs.Common.{◌≡◌, ℕ, suc, ◌-◌, ◌<◌, Bool, true,
 use Rattle.std.proofs.Common.{List, [], ◌∷◌, ◌++◌, length, map, take, drop, get_or, length-append}
 use Rattle.std.proofs.Common.{refl, sym, ◌∙◌, ap, subst, arith}
 use Rattle.std.specs.List.{slice_range}
-use Rattle.std.proofs.lemmas.List.{get_or_read}
 use Rattle.std.proofs.lemmas.List.Elements.{All-nil, All-cons}
 use Rattle.std.proofs.Math.Seq.{take-append_seam, get_or-append_seam}
 use Rattle.cif_columns.specs.Field.{Row, AllStandIn, plain_line}
@@ -186,26 +185,18 @@ pub journey_at : (lines : List (List ℕ)) (p : BodyParts) (some : Bool) → Kep
 journey_at lines p some h e = subst (λ b. KeepJourney (drop (cond b 2 1) lines) p) (h.marked ∙ sym e) h.way
 
 -- the journey's first line spells LO
-pub spells_origin : (lines : List (List ℕ)) (p : BodyParts) (line : List ℕ) → KeepJourney lines p → line ≡ get_or lines 0 line
+pub spells_origin : (lines : List (List ℕ)) (p : BodyParts) (line : List ℕ) → KeepJourney lines p → line ≡ get_or lines 0 []
     → SpellsOrigin line p.origin
 spells_origin lines p line k is =
     let there = journey lines p k in
-    subst (λ l. SpellsOrigin l p.origin) (sym (get_or_read lines 0 line (omega (arith, there.longer)) is [])) there.begun
+    subst (λ l. SpellsOrigin l p.origin) (sym is) there.begun
 
 -- and its last LT
 pub spells_terminus : (lines : List (List ℕ)) (p : BodyParts) (line : List ℕ) → KeepJourney lines p
-    → line ≡ get_or lines (length lines - 1) line → SpellsTerminus line p.terminus
+    → line ≡ get_or lines (length lines - 1) [] → SpellsTerminus line p.terminus
 spells_terminus lines p line k is =
     let there = journey lines p k in
-    subst (λ l. SpellsTerminus l p.terminus)
-    (sym (get_or_read lines (length lines - 1) line (omega (arith, there.longer)) is [])) there.ended
-
--- the line of the BX spells it
-pub spells_extra : (lines : List (List ℕ)) (p : BodyParts) (line : List ℕ) → Kept lines p → line ≡ get_or lines 1 line
-    → IfSome p.extra (λ e. SpellsRecord line (of.Extra e))
-spells_extra lines p line h is =
-    subst (λ l. IfSome p.extra (λ e. SpellsRecord l (of.Extra e)))
-    (sym (get_or_read lines 1 line (omega (arith, h.longer)) is [])) h.further
+    subst (λ l. SpellsTerminus l p.terminus) (sym is) there.ended
 
 -- the BX that a line spells is read from it
 pub extra_read : (line : List ℕ) (extra : Option Extra) (result : Result Extra Refusal) → is_some extra ≡ true

@@ -1,6 +1,6 @@
 -- The call that a line spells.
 use Rattle.std.proofs.Common.{◌≡◌, ℕ, true, false, List, sym, ap, subst, codes}
-use Rattle.std.proofs.Common.{length, map, ◌<◌, ◌∙◌, All, [], ◌∷◌, arith}
+use Rattle.std.proofs.Common.{◌≢◌, drop, get_or, refl, length, map, ◌<◌, ◌∙◌, All, [], ◌∷◌, arith}
 use Rattle.std.proofs.lemmas.List.Elements.{All-tail}
 use Rattle.std.specs.Str.{bytes_eq}
 use Rattle.cif_columns.specs.Field.{columns}
@@ -36,6 +36,12 @@ module _ (line letters : List ℕ) (h : SpellsSomeCall line) (there : letters �
       let test : bytes_eq (columns 1 2 line) (codes "CR") ≡ false = ap (λ l. bytes_eq l (codes "CR")) (sym there) ∙ e in
       let it : call_in line ≡ At (stop_in line) = rw test in
       (it, subst (λ call. SpellsRecord line (call_record call)) it (spelled line h))
+
+-- lines are the first of them and the others
+pub taken_apart : (lines others : List (List ℕ)) (first : List ℕ) → length lines ≢ 0 → first ≡ get_or lines 0 [] → others ≡ drop 1 lines
+    → lines ≡ first ∷ others
+taken_apart [] others first some a b = absurd (some refl)
+taken_apart (line ∷ lines) others first some a b = rw (a, b)
 
 -- each call of the lines is spelled, and so is each of the rest
 pub first_and_rest : (lines others : List (List ℕ)) (first : List ℕ) → lines ≡ first ∷ others → All SpellsSomeCall lines

@@ -1,5 +1,5 @@
 -- The order of records is that of the grammar: no line of an extract is refused.
-use Rattle.std.proofs.Common.{◌≡◌, ℕ, ◌+◌, ◌<◌, ◌≤◌, true, false, List, [], ◌∷◌, ◌++◌, is_some, length, map, Option, Some}
+use Rattle.std.proofs.Common.{◌≡◌, ℕ, ◌+◌, ◌<◌, ◌≤◌, Bool, true, false, List, [], ◌∷◌, ◌++◌, is_some, length, map, Option, Some}
 use Rattle.std.proofs.Common.{None, refl, sym}
 use Rattle.std.proofs.Common.{ap, ◌∙◌, subst, arith, cond, append_assoc, append-nil, length-append, ⊎_elim}
 use Rattle.std.proofs.lemmas.List.Elements.{All-head, All-tail}
@@ -69,51 +69,21 @@ stand_calls (Turn c ∷ calls) t = (refl, stand_calls calls t)
 
 -- the records of a schedule, from where one may stand
 module _ (from : Place) (may : may_stand from Bs ≡ true) (b : Basic) where
-  stand_with_body : has_body b.letter ≡ true → (x : Option Extra) (o : Origin) (calls : List Call) (t : Terminus) →
+  stand_journey : (x : Option Extra) (o : Origin) (calls : List Call) (t : Terminus) →
       IsOpen from (of.Basic b ∷ (extra_records x ++ journey_records o calls t))
-  stand_with_body runs None o calls t = record {
+  stand_journey x o calls t = record {
     to = at.Schedules;
-    stand = (
-      may,
-      subst (λ r. MayStand (cond r at.Basic at.Cancelled) (journey_records o calls t) at.Schedules) (sym runs)
-          (refl, stand_calls calls t),
-    );
+    stand = (may, behind (has_body b.letter) x);
     schedule = refl;
     trailer = refl;
   }
-  stand_with_body runs (Some x) o calls t = record {
-    to = at.Schedules;
-    stand = (
-      may,
-      subst (λ r. MayStand (cond r at.Basic at.Cancelled) (of.Extra x ∷ journey_records o calls t) at.Schedules) (sym runs)
-          (refl, (refl, stand_calls calls t)),
-    );
-    schedule = refl;
-    trailer = refl;
-  }
-
-  stand_cancelled : has_body b.letter ≡ false → (x : Option Extra) (o : Origin) (calls : List Call) (t : Terminus) →
-      IsOpen from (of.Basic b ∷ (extra_records x ++ journey_records o calls t))
-  stand_cancelled none None o calls t = record {
-    to = at.Schedules;
-    stand = (
-      may,
-      subst (λ r. MayStand (cond r at.Basic at.Cancelled) (journey_records o calls t) at.Schedules) (sym none)
-          (refl, stand_calls calls t),
-    );
-    schedule = refl;
-    trailer = refl;
-  }
-  stand_cancelled none (Some x) o calls t = record {
-    to = at.Schedules;
-    stand = (
-      may,
-      subst (λ r. MayStand (cond r at.Basic at.Cancelled) (of.Extra x ∷ journey_records o calls t) at.Schedules) (sym none)
-          (refl, (refl, stand_calls calls t)),
-    );
-    schedule = refl;
-    trailer = refl;
-  }
+    where
+      behind : (r : Bool) (x : Option Extra) →
+          MayStand (cond r at.Basic at.Cancelled) (extra_records x ++ journey_records o calls t) at.Schedules
+      behind true None = (refl, stand_calls calls t)
+      behind true (Some x) = (refl, (refl, stand_calls calls t))
+      behind false None = (refl, stand_calls calls t)
+      behind false (Some x) = (refl, (refl, stand_calls calls t))
 
   stand_alone : has_body b.letter ≡ false → (x : Option Extra) → IsOpen from (of.Basic b ∷ (extra_records x ++ []))
   stand_alone none None = record {
@@ -139,13 +109,13 @@ stand_schedule from may records s is =
     at (Some d) e (Some body) h =
         let (detail, extra, journey) = h in
         subst (λ rs. IsOpen from (of.Basic is.basic ∷ (extra_records is.extra ++ rs))) (sym journey)
-        (stand_with_body from may is.basic (sym e) is.extra body.origin body.calls body.terminus)
+        (stand_journey from may is.basic is.extra body.origin body.calls body.terminus)
     at None e None h =
         ⊎_elim
         (λ (none : is.journey ≡ []). subst (λ rs. IsOpen from (of.Basic is.basic ∷ (extra_records is.extra ++ rs))) (sym none)
         (stand_alone from may is.basic (sym e) is.extra))
         (λ (j : AreJourney is.journey). subst (λ rs. IsOpen from (of.Basic is.basic ∷ (extra_records is.extra ++ rs))) (sym j.are)
-        (stand_cancelled from may is.basic (sym e) is.extra j.origin j.calls j.terminus)) h
+        (stand_journey from may is.basic is.extra j.origin j.calls j.terminus)) h
     at (Some d) e None h = absurd h
     at None e (Some body) h = absurd h
 

@@ -1,5 +1,5 @@
 -- One record more of a schedule, where it may stand.
-use Rattle.std.proofs.Common.{◌≡◌, ◌⊎◌, List, [], ◌∷◌, ◌++◌, true, Option, None, Some, is_some, ap, refl, ◌∙◌, subst, append_assoc}
+use Rattle.std.proofs.Common.{◌≡◌, ◌⊎◌, ℕ, List, [], ◌∷◌, ◌++◌, true, Option, None, Some, is_some, ap, refl, ◌∙◌, subst, append_assoc}
 use Rattle.std.proofs.Common.{inl, inr, ⊎_elim, IfSome}
 use Rattle.cif_columns.specs.Field.{AllStandIn, plain_line}
 use Rattle.cif_extract.specs.BodyParts.{extra_records}
@@ -7,8 +7,9 @@ use Rattle.cif_extract.specs.Call.{call_record}
 use Rattle.cif_extract.specs.Grammar.{records_before_trailer}
 use Rattle.cif_extract.specs.Steps.Place.{after_extra, may_stand}
 use Rattle.cif_extract.specs.Steps.Reading.{HasOwn, HasRead, HasReadAt, IsCancelled, IsKeepable, IsOpened, IsWithin}
-use Rattle.cif_extract.specs.Steps.Reading.{Progress, begun, begun_journey, kept, parts_with_header, step}
+use Rattle.cif_extract.specs.Steps.Reading.{Progress, begun, begun_journey, kept, opened_by, parts_with_header, step}
 use Rattle.cif_extract.specs.declared.call.Call.{Call}
+use Rattle.cif_extract.specs.declared.opened.Opened.{Opened}
 use Rattle.cif_extract.specs.declared.place.Place.{Place}
 use Rattle.cif_extract.specs.declared.place.Place.TheVariants as at
 use Rattle.cif_extract.specs.declared.schedule.Schedule.{Schedule}
@@ -35,51 +36,47 @@ with_line p place r = record p { place = place; lines = kept p.opened p.lines r 
 
 module _ (records : List Record) (p : Progress) where
   -- a BS, behind whole schedules
+  begun_within : (b : Basic) (place : Place) (schedules : List Schedule) (opened : Option Opened) (lines : List (List ℕ)) →
+      AreClosed records p → let next = record p { place = place; schedules = schedules; opened = opened; lines = lines } in
+      HasOwn place next p.schedules (of.Basic b ∷ []) → IsWithin (records ++ (of.Basic b ∷ [])) next
+  begun_within b place schedules opened lines c here = record {
+    header = c.header;
+    is_header = c.is_header;
+    earlier = p.schedules;
+    groups = c.groups;
+    own = of.Basic b ∷ [];
+    parts = ap (λ rs. rs ++ (of.Basic b ∷ [])) c.parts;
+    are = c.are;
+    here = here;
+  }
+
   begun_here : (b : Basic) → (d : Option Detail) (e : is_some d ≡ has_body b.letter) → b.detail ≡ d →
       IfSome d (λ x. AllStandIn (plain_line (detail_table x)) (detail_table x)) → AreClosed records p →
       HasRead (records ++ (of.Basic b ∷ [])) (begun p b d e)
-  begun_here b None e is again c = record {
-    header = c.header;
-    is_header = c.is_header;
-    earlier = p.schedules;
-    groups = c.groups;
-    own = of.Basic b ∷ [];
-    parts = ap (λ rs. rs ++ (of.Basic b ∷ [])) c.parts;
-    are = c.are;
-    here = (
-      b,
-      refl,
-      record {
-        has_none = is;
-        opened = refl;
-        schedule = _;
-        schedules = refl;
-        terms = record { uid = refl; first = refl; last = refl; days = refl; letter = refl };
-        body = refl;
-      },
-    );
-  }
-  begun_here b (Some d) e is again c = record {
-    header = c.header;
-    is_header = c.is_header;
-    earlier = p.schedules;
-    groups = c.groups;
-    own = of.Basic b ∷ [];
-    parts = ap (λ rs. rs ++ (of.Basic b ∷ [])) c.parts;
-    are = c.are;
-    here = (
-      b,
-      refl,
-      record {
-        detail = d;
-        has = is;
-        runs = e;
-        opened = refl;
-        schedules = refl;
-        lines = (again, refl, tt);
-      },
-    );
-  }
+  begun_here b None e is again c = begun_within b at.Cancelled (begun p b None e).schedules None p.lines c (
+    b,
+    refl,
+    record {
+      has_none = is;
+      opened = refl;
+      schedule = _;
+      schedules = refl;
+      terms = record { uid = refl; first = refl; last = refl; days = refl; letter = refl };
+      body = refl;
+    },
+  )
+  begun_here b (Some d) e is again c = begun_within b at.Basic p.schedules (Some (opened_by b e)) (plain_line (detail_table d) ∷ []) c (
+    b,
+    refl,
+    record {
+      detail = d;
+      has = is;
+      runs = e;
+      opened = refl;
+      schedules = refl;
+      lines = (again, refl, tt);
+    },
+  )
 
   pub basic_step : (b : Basic) → IsKeepable (of.Basic b) → HasRead records p → may_stand p.place Bs ≡ true →
       HasRead (records ++ (of.Basic b ∷ [])) (step p (of.Basic b))

@@ -42,12 +42,13 @@ module _ {W : Type 0} (contents : W → Option (List ℕ)) (errors : W → Optio
       (failed_first contents errors (basic ++ (10 ∷ [])) (lines_text others) s t h)
 
   -- it goes on with the others
-  pub schedule_writes : {A E : Type 0} (rest : List (List ℕ)) (u : Sink W) (result : Result A E)
+  pub schedule_writes : {A E : Type 0} (rest : List (List ℕ)) (others : List ℕ) (u : Sink W) (result : Result A E)
       → KeepAll rest (map record_table (body_records p)) → HasWritten contents errors (basic ++ (10 ∷ [])) s t
-      → Writes contents errors (lines_text rest) t u result
+      → others ≡ lines_text rest → Writes contents errors others t u result
       → Writes contents errors (lines_text (schedule_lines uid first last days P (Some p))) s u result
-  schedule_writes rest u result kept written h =
+  schedule_writes rest others u result kept written is_text h =
       subst (λ text. Writes contents errors text s u result)
       (ap (λ line. (line ++ (10 ∷ [])) ++ lines_text rest) is
       ∙ sym (schedule_text uid first last days p rest (kept_plain rest (map record_table (body_records p)) kept)))
-      (writes_on contents errors (basic ++ (10 ∷ [])) (lines_text rest) s t u result written h)
+      (writes_on contents errors (basic ++ (10 ∷ [])) (lines_text rest) s t u result written
+      (subst (λ text. Writes contents errors text t u result) is_text h))

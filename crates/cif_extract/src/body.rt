@@ -1,14 +1,15 @@
 //! What runs on a schedule's dates.
-ghost use Rattle.std.specs.Prelude.{◌≡◌, ◌↔◌, IfOk, IsTrue, is_some, map, option_copied};
-ghost use Rattle.cif_extract.specs.Body.{KeepAll, KeepJourney, KeepMore, KeepSomeBody, parts_in};
+ghost use Rattle.std.specs.Prelude.{◌≡◌, ◌↔◌, IfOk, IfSome, IsTrue, is_some, map, option_copied};
+ghost use Rattle.cif_extract.specs.Body.{KeepAll, KeepJourney, KeepMore, KeepSomeBody, is_extra, parts_in};
 ghost use Rattle.cif_extract.specs.BodyParts.{body_records, extra_records};
-ghost use Rattle.cif_columns.specs.Field.{plain_line};
+ghost use Rattle.cif_columns.specs.Field.{AllStandIn, plain_line};
 ghost use Rattle.cif_extract.specs.Call.{call_record};
 ghost use Rattle.cif_records.specs.Detail.{detail_table};
+ghost use Rattle.cif_records.specs.SpellsExtra.{SpellsExtra};
 ghost use Rattle.cif_records.specs.SpellsRecord.{record_table};
 
 use crate::{Call, Calls};
-use cif_columns::{Line, columns_at};
+use cif_columns::{Line, LineSlice, Lines, columns_at};
 use cif_records::{Detail, Extra, Origin, Terminus};
 use std::alloc::{AllocError, Global};
 use std::marker::Model;
@@ -18,8 +19,8 @@ use std::marker::Model;
 #[derive(Debug, Drop)]
 pub struct Body {
     // The detail in columns 30 to 78 of a line of its own, the BX if there is one, and the lines
-    // from LO to LT.
-    lines: Vec<Line>,
+    // from LO to LT; all but the first go out as they lie.
+    lines: Lines,
 }
 
 impl Model for Body {
@@ -28,29 +29,29 @@ impl Model for Body {
 
     ghost Value = { BodyParts };
 
-    ghost view = { λ b. parts_in b.lines.items };
+    ghost view = { λ b. parts_in b.lines };
 
-    ghost invariant = { λ b. KeepSomeBody b.lines.items };
+    ghost invariant = { λ b. KeepSomeBody b.lines };
 }
 
 /// Appends the plain line of the BX, if there is one.
-fn push_extra(lines: &mut Vec<Line>, extra: Option<&Extra>) -> Result<(), AllocError>
-    ensures { IfOk result (λ _. KeepMore lines.old.items lines.new.items
+fn push_extra(lines: &mut Lines, extra: Option<&Extra>) -> Result<(), AllocError>
+    ensures { IfOk result (λ _. KeepMore lines.old lines.new
         (map record_table (extra_records (option_copied extra.entry)))) }
 {
     if let Some(extra) = extra {
-        lines.push(extra.write())?;
+        lines.push(&extra.write())?;
     }
     Ok(())
 }
 
 /// Appends the plain lines of the calls.
-fn push_calls(lines: &mut Vec<Line>, calls: &[Call]) -> Result<(), AllocError>
-    ensures { IfOk result (λ _. KeepMore lines.old.items lines.new.items
+fn push_calls(lines: &mut Lines, calls: &[Call]) -> Result<(), AllocError>
+    ensures { IfOk result (λ _. KeepMore lines.old lines.new
         (map record_table (map call_record calls.now))) }
 {
     for call in calls {
-        lines.push(call.write())?;
+        lines.push(&call.write())?;
     }
     Ok(())
 }
@@ -76,23 +77,22 @@ impl Body {
         }) }
     {
         let count = 3 + usize::from(extra.is_some()) + calls.len();
-        let mut lines = Vec::with_capacity(alloc, count)?;
-        lines.push(detail.write())?;
+        let mut lines = Lines::with_capacity(alloc, count)?;
+        lines.push(&detail.write())?;
         push_extra(&mut lines, extra)?;
-        lines.push(origin.write())?;
+        lines.push(&origin.write())?;
         push_calls(&mut lines, calls)?;
-        lines.push(terminus.write())?;
+        lines.push(&terminus.write())?;
         Ok(Body { lines })
     }
 
     /// The body that these lines keep.
-    pub(crate) fn of_lines(alloc: Global, lines: &[Line]) -> Result<Body, AllocError>
+    pub(crate) fn of_lines(alloc: Global, lines: &Lines) -> Result<Body, AllocError>
         requires { KeepSomeBody lines.now }
         ensures { IfOk result (λ b. b ≡ parts_in lines.now) }
     {
-        let mut copy = Vec::with_capacity(alloc, lines.len())?;
-        copy.extend_from_slice(lines)?;
-        Ok(Body { lines: copy })
+        let lines = Lines::of(alloc, &lines.as_slice())?;
+        Ok(Body { lines })
     }
 
     /// A law for proofs: bodies are equal where their parts are.
@@ -101,34 +101,43 @@ impl Body {
     {}
 
     /// The plain lines of the records that follow its BS.
-    pub(crate) fn further_lines(&self) -> &[Line]
-        ensures { KeepAll result.now (map record_table (body_records self.now)) }
+    pub(crate) fn further_lines(&self) -> LineSlice<'_>
+        ensures { KeepAll result (map record_table (body_records self.now)) }
     {
-        &self.lines[1..]
+        self.lines.as_slice().behind(1)
     }
 
     /// The line that its detail has to itself.
-    pub(crate) fn detail_line(&self) -> &Line
-        ensures { result.now ≡ plain_line (detail_table self.now.detail) }
+    pub(crate) fn detail_line(&self) -> Line
+        ensures plain { result ≡ plain_line (detail_table self.now.detail) }
+        ensures stands { AllStandIn result (detail_table self.now.detail) }
     {
-        &self.lines[0]
+        self.lines.as_slice().line(0)
+    }
+
+    /// The line of its BX or its LO.
+    fn second_line(&self) -> Line
+        ensures marked { is_extra result ≡ is_some self.now.extra }
+        ensures further { IfSome self.now.extra (λ extra. SpellsExtra result extra) }
+    {
+        self.lines.as_slice().line(1)
     }
 
     /// Whether it has a BX.
     fn has_extra(&self) -> bool
         ensures { result ≡ is_some self.now.extra }
     {
-        columns_at::<2>(&self.lines[1], 1) == *b"BX"
+        columns_at::<2>(&self.second_line(), 1) == *b"BX"
     }
 
     /// The lines from LO to LT.
-    fn journey(&self) -> &[Line]
-        ensures { KeepJourney result.now self.now }
+    fn journey(&self) -> LineSlice<'_>
+        ensures { KeepJourney result self.now }
     {
         if self.has_extra() {
-            &self.lines[2..]
+            self.lines.as_slice().behind(2)
         } else {
-            &self.lines[1..]
+            self.lines.as_slice().behind(1)
         }
     }
 
@@ -136,7 +145,7 @@ impl Body {
     pub fn detail(&self) -> Detail
         ensures { result ≡ self.now.detail }
     {
-        Detail::read(&self.lines[0])
+        Detail::read(&self.detail_line())
     }
 
     /// Its BX.
@@ -144,7 +153,7 @@ impl Body {
         ensures { result ≡ self.now.extra }
     {
         if self.has_extra() {
-            match Extra::read(&self.lines[1]) {
+            match Extra::read(&self.second_line()) {
                 Ok(extra) => Some(extra),
                 Err(_) => unreachable!(),
             }
@@ -158,7 +167,7 @@ impl Body {
         ensures { result ≡ self.now.origin }
     {
         let journey = self.journey();
-        match Origin::read(&journey[0]) {
+        match Origin::read(&journey.line(0)) {
             Ok(origin) => origin,
             Err(_) => unreachable!(),
         }
@@ -169,8 +178,8 @@ impl Body {
         ensures { result ≡ self.now.calls }
     {
         let journey = self.journey();
-        let last = journey.len() - 1;
-        Calls::of_lines(&journey[1..last])
+        let between = journey.len() - 2;
+        Calls::of_lines(journey.behind(1).first(between))
     }
 
     /// Where its journey ends.
@@ -178,7 +187,7 @@ impl Body {
         ensures { result ≡ self.now.terminus }
     {
         let journey = self.journey();
-        match Terminus::read(&journey[journey.len() - 1]) {
+        match Terminus::read(&journey.line(journey.len() - 1)) {
             Ok(terminus) => terminus,
             Err(_) => unreachable!(),
         }
@@ -194,7 +203,7 @@ impl PartialEq for Body {
     ghost laws = { parts_per };
 
     fn eq(&self, other: &Body) -> bool {
-        self.lines.as_slice() == other.lines.as_slice()
+        self.lines.as_slice().is(&other.lines.as_slice())
     }
 }
 

@@ -3,13 +3,13 @@ ghost use Rattle.std.specs.Prelude.{◌≡◌};
 ghost use Rattle.std.specs.Iterator.{YieldsFirst, item_count};
 
 use crate::Call;
-use cif_columns::Line;
+use cif_columns::LineSlice;
 use std::marker::Model;
 
 /// The calls of a journey that are still to come. A clause sees the list of them.
 #[derive(Debug, Drop)]
 pub struct Calls<'a> {
-    lines: &'a [Line],
+    lines: LineSlice<'a>,
 }
 
 impl<'a> Model for Calls<'a> {
@@ -19,9 +19,9 @@ impl<'a> Model for Calls<'a> {
 
     ghost Value = { List Call };
 
-    ghost view = { λ c. map call_in c.lines.now };
+    ghost view = { λ c. map call_in c.lines };
 
-    ghost invariant = { λ c. All SpellsSomeCall c.lines.now };
+    ghost invariant = { λ c. All SpellsSomeCall c.lines };
 }
 
 impl<'a> Calls<'a> {
@@ -29,9 +29,9 @@ impl<'a> Calls<'a> {
     ghost use Rattle.cif_extract.specs.Call.{SpellsSomeCall, call_in};
 
     /// The calls that these lines spell.
-    pub(crate) fn of_lines(lines: &'a [Line]) -> Calls<'a>
-        requires { All SpellsSomeCall lines.now }
-        ensures { result ≡ map call_in lines.now }
+    pub(crate) fn of_lines(lines: LineSlice<'a>) -> Calls<'a>
+        requires { All SpellsSomeCall lines }
+        ensures { result ≡ map call_in lines.entry }
     {
         Calls { lines }
     }
@@ -45,8 +45,11 @@ impl<'a> Iterator for Calls<'a> {
     ghost remaining = { item_count (λ s. s) };
 
     fn next(&mut self) -> Option<Call> {
-        let (first, others) = self.lines.split_first()?;
-        self.lines = others;
-        Some(Call::read(first))
+        if self.lines.len() == 0 {
+            return None;
+        }
+        let first = self.lines.line(0);
+        self.lines = self.lines.behind(1);
+        Some(Call::read(&first))
     }
 }

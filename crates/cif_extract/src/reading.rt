@@ -13,7 +13,7 @@ use crate::opened::Opened;
 use crate::place::Place;
 use crate::stop_at::StopAt;
 use crate::{Body, Extract, Fault, Schedule};
-use cif_columns::{Line, Refusal};
+use cif_columns::{Line, Lines, Refusal};
 use cif_records::{
     Association, BasicTerms, Detail, Header, Kind, Tiploc, Trailer, is_plain_line, kind_of,
     plain_line_of,
@@ -30,7 +30,7 @@ pub(crate) struct Reading {
     schedules: Vec<Schedule>,
     // The schedule that is being read, if it has a body, and the plain lines of this body so far.
     opened: Option<Opened>,
-    lines: Vec<Line>,
+    lines: Lines,
 }
 
 impl Reading {
@@ -52,7 +52,7 @@ impl Reading {
             associations: Vec::new(alloc),
             schedules: Vec::new(alloc),
             opened: None,
-            lines: Vec::new(alloc),
+            lines: Lines::new(alloc),
         }
     }
 
@@ -154,7 +154,7 @@ impl Reading {
         let terms = BasicTerms::read(line)?;
         if terms.has_body() {
             self.lines.clear();
-            push(&mut self.lines, Detail::line_of(line))?;
+            self.lines.push(&Detail::line_of(line))?;
             self.opened = Some(Opened {
                 uid: terms.uid,
                 first: terms.first,
@@ -218,7 +218,7 @@ impl Reading {
 
     /// Ends the schedule whose body's lines are kept.
     fn close(&mut self, alloc: Global, opened: Opened) -> Result<(), StopAt>
-        requires { KeepSomeBody self.old.lines.items }
+        requires { KeepSomeBody self.old.lines }
         ensures { IsClosed (progress_of self.old) opened result (progress_of self.new) }
     {
         let body = Body::of_lines(alloc, &self.lines)?;
@@ -246,7 +246,7 @@ impl Reading {
         ensures { OnOk result (progress_of self.new ≡ keeping (progress_of self.old) line.now) }
     {
         match &self.opened {
-            Some(_) => push(&mut self.lines, *line),
+            Some(_) => self.lines.push(line),
             None => Ok(()),
         }
     }

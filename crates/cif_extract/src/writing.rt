@@ -16,17 +16,6 @@ use cif_records::{
     AssocBody, AssocKey, Header, Tiploc, Trailer, permanent_association, permanent_basic_with,
 };
 
-/// Appends these lines, each with a line feed.
-fn write_lines<W: WriteDevice>(lines: &[Line], sink: &mut Sink<W>) -> Result<(), WriteFault>
-    requires { sink_failed sink.old ≡ false }
-    ensures { Writes W.contents W.write_errors (lines_text lines.now) sink.old sink.new result }
-{
-    for line in lines {
-        sink.write_line(line)?;
-    }
-    Ok(())
-}
-
 /// Appends the plain line of the header and a line feed.
 pub fn write_head<W: WriteDevice>(header: &Header, sink: &mut Sink<W>) -> Result<(), WriteFault>
     ensures { Writes W.contents W.write_errors
@@ -74,9 +63,9 @@ pub fn write_schedule<W: WriteDevice>(
     ensures { Writes W.contents W.write_errors
         (lines_text (schedule_lines uid.now first last days P (Some body.now))) sink.old sink.new result }
 {
-    let basic = permanent_basic_with(uid, body.detail_line(), first, last, days);
+    let basic = permanent_basic_with(uid, &body.detail_line(), first, last, days);
     sink.write_line(&basic)?;
-    write_lines(body.further_lines(), sink)
+    sink.write_all(body.further_lines().text())
 }
 
 /// Appends the plain line of the trailer and a line feed.

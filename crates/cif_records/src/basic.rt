@@ -14,8 +14,9 @@ use crate::checks::{
     Applicability, check_bank_holiday, check_identity, check_transaction, dates_at, days_at,
     has_body, letter_of,
 };
+use crate::detail::{DETAIL_WIDTH, Detail};
 use crate::layout::{self, Layout};
-use crate::{Detail, Kind, Record};
+use crate::{Kind, Record};
 use cif_columns::{Day, DaysRun, Field, Line, LineBuilder, Refusal, Stp, Uid, columns_at, uid_at};
 
 /// A record `BS` (the CIF End User Specification): on which dates a schedule runs, or is cancelled.
@@ -153,7 +154,7 @@ pub fn permanent_basic_with(uid: &Uid, detail: &Line, first: Day, last: Day, day
 {
     let mut line = LineBuilder::new();
     put_front(uid, first, last, days, &mut line);
-    line.put_columns(&columns_at::<49>(detail, 30));
+    line.put_columns(&columns_at::<DETAIL_WIDTH>(detail, 30));
     line.put_spare::<1>();
     Stp::P.put_on(&mut line);
     line.finish()
@@ -216,6 +217,6 @@ fn put_detail(detail: Option<&Detail>, line: &mut LineBuilder)
 {
     match detail {
         Some(detail) => detail.put_on(line),
-        None => line.put_spare::<49>(),
+        None => line.put_spare::<DETAIL_WIDTH>(),
     }
 }

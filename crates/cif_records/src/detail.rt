@@ -7,6 +7,9 @@ ghost use Rattle.cif_records.specs.Steps.Detail.{alone_in};
 
 use cif_columns::{Field, Line, LineBuilder, PlainTest, Text, columns_at, text_at};
 
+/// How many columns of a basic schedule are of its detail: 30 to 78.
+pub(crate) const DETAIL_WIDTH: usize = 49;
+
 /// The fields of a basic schedule that say what runs; a cancellation has none.
 #[derive(Debug, Drop, PartialEq, Eq)]
 pub struct Detail {
@@ -144,7 +147,7 @@ fn columns_alone(line: &Line) -> Line
 {
     let mut alone = LineBuilder::new();
     alone.put_spare::<29>();
-    alone.put_columns(&columns_at::<49>(line, 30));
+    alone.put_columns(&columns_at::<DETAIL_WIDTH>(line, 30));
     alone.put_spare::<2>();
     alone.finish()
 }

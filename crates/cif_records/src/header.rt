@@ -13,6 +13,12 @@ use crate::checks::{Dates, check_identity};
 use crate::layout::{self, Layout};
 use cif_columns::{Day, Line, LineBuilder, Refusal, columns_at};
 
+/// Where the first date begins, at column 49 of the line, in what a header keeps, from column 3 on.
+const FIRST_DATE: usize = 49 - 3;
+
+/// Where the last date begins there, at column 55.
+const LAST_DATE: usize = 55 - 3;
+
 /// A record `HD` of a full extract (the CIF End User Specification): where the extract comes from,
 /// and the window of dates that it speaks of.
 #[derive(Clone, Copy, Debug, PartialEq, Eq)]
@@ -123,8 +129,8 @@ impl Header {
         ensures columns { result.columns ≡ columns_with_window first last self.now.columns }
     {
         let mut columns = self.columns;
-        columns[46..52].copy_from_slice(&first.to_ddmmyy());
-        columns[52..58].copy_from_slice(&last.to_ddmmyy());
+        columns[FIRST_DATE..LAST_DATE].copy_from_slice(&first.to_ddmmyy());
+        columns[LAST_DATE..].copy_from_slice(&last.to_ddmmyy());
         Header {
             columns,
             first,

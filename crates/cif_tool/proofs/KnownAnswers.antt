@@ -1,5 +1,5 @@
 -- What the commands answer, by what their calls answer: of bytes that are known.
-use Rattle.std.proofs.Common.{ℕ, List, Option, IfSome, Err, inr, refl}
+use Rattle.std.proofs.Common.{ℕ, List, Option, IfSome, Result, Err, IfErr, inr, refl}
 use Rattle.cif_columns.specs.declared.line_reader.TheConstants.{MAX_LINES}
 use Rattle.cif_columns.proofs.GivenLinesLaws.{known_so}
 use Rattle.cif_extract.specs.ExtractParts.{ExtractParts}
@@ -15,8 +15,8 @@ use Rattle.cif_canon.specs.Views.{IsDayView, IsTrainView}
 use Rattle.cif_canon.specs.declared.asked.Asked.{Asked}
 use Rattle.cif_canon.specs.declared.comparison.Comparison.{Comparison}
 use Rattle.cif_canon.specs.declared.counts.Counts.{Counts}
-use Rattle.cif_tool.specs.Answer.{IsCheckAnswer, IsCompareAnswer, IsDayAnswer, IsNormaliseAnswer, IsPairRefusal, IsRightRefusal}
-use Rattle.cif_tool.specs.Answer.{IsTrainAnswer}
+use Rattle.cif_tool.specs.Answer.{IsCheckAnswer, IsCompareAnswer, IsCompareRefusal, IsDayAnswer, IsNormaliseAnswer, IsPairRefusal}
+use Rattle.cif_tool.specs.Answer.{IsRightRefusal, IsTrainAnswer}
 use Rattle.cif_tool.specs.Status.{outcome_of}
 
 module _ (start : Option (List ℕ)) where
@@ -67,29 +67,36 @@ module _ (start : Option (List ℕ)) where
           status_is = refl;
         }) spelled
 
-    -- a right input that spells x, beside a left extract
-    pub right-refusal : (asked : Asked) (left_whole : ExtractParts) (after : Option (List ℕ)) (f : Fault) →
-        IsPairRefusal asked left_whole x f → IfSome start (λ bytes. IsRightRefusal asked left_whole bytes after f)
-    right-refusal asked left_whole after f h =
-        known_so start (λ bytes. BytesSpellWithin MAX_LINES bytes x) (λ bytes. IsRightRefusal asked left_whole bytes after f)
-        (λ bytes s. inr (x, s, h)) spelled
+-- two inputs that spell extracts
+module _ (left right : Option (List ℕ)) (one other : ExtractParts)
+    (one_spelled : IfSome left (λ bytes. BytesSpellWithin MAX_LINES bytes one))
+    (other_spelled : IfSome right (λ bytes. BytesSpellWithin MAX_LINES bytes other)) (asked : Asked) where
+  -- which are narrowed and compared
+  pub compare-answer : (x y : ExtractParts) → IsNarrowed asked one x → IsNarrowed asked other y → (c : Comparison) → AreCompared x y c →
+      IfSome left (λ a. IfSome right (λ b. IsCompareAnswer asked a b (comparison_line c) (outcome_of c)))
+  compare-answer x y m n c compared =
+      let Is = λ (a b : List ℕ). IsCompareAnswer asked a b (comparison_line c) (outcome_of c) in
+      known_so left (λ a. BytesSpellWithin MAX_LINES a one) (λ a. IfSome right (Is a)) (λ a s.
+      known_so right (λ b. BytesSpellWithin MAX_LINES b other) (Is a) (λ b t. record {
+        left = x;
+        left_spelled = record { whole = one; spelled = s; narrowed = m };
+        right = y;
+        right_spelled = record { whole = other; spelled = t; narrowed = n };
+        comparison = c;
+        compared = compared;
+        text_is = refl;
+        status_is = refl;
+      }) other_spelled) one_spelled
 
--- two inputs that spell extracts, narrowed and compared
-pub compare-answer : (left right : Option (List ℕ)) (one other : ExtractParts)
-    → IfSome left (λ bytes. BytesSpellWithin MAX_LINES bytes one) →
-    IfSome right (λ bytes. BytesSpellWithin MAX_LINES bytes other) → (asked : Asked) (x y : ExtractParts) → IsNarrowed asked one x →
-    IsNarrowed asked other y → (c : Comparison) → AreCompared x y c →
-    IfSome left (λ a. IfSome right (λ b. IsCompareAnswer asked a b (comparison_line c) (outcome_of c)))
-compare-answer left right one other one_spelled other_spelled asked x y m n c compared =
-    let Is = λ (a b : List ℕ). IsCompareAnswer asked a b (comparison_line c) (outcome_of c) in
-    known_so left (λ a. BytesSpellWithin MAX_LINES a one) (λ a. IfSome right (Is a)) (λ a s.
-    known_so right (λ b. BytesSpellWithin MAX_LINES b other) (Is a) (λ b t. record {
-      left = x;
-      left_spelled = record { whole = one; spelled = s; narrowed = m };
-      right = y;
-      right_spelled = record { whole = other; spelled = t; narrowed = n };
-      comparison = c;
-      compared = compared;
-      text_is = refl;
-      status_is = refl;
-    }) other_spelled) one_spelled
+  -- or refused: an answer of which holds what holds of this fault
+  pub compare-refused : (after right_after : Option (List ℕ)) (Untouched : Type 0) (result : Result ℕ Fault) (f : Fault) →
+      ((P : Fault → Type 0) → P f → IfErr result P) → IsPairRefusal asked one other f →
+      IfSome left (λ bytes. IfErr result (IsCompareRefusal asked bytes after Untouched right right_after))
+  compare-refused after right_after Untouched result f hands h =
+      known_so left (λ bytes. BytesSpellWithin MAX_LINES bytes one) _ (λ bytes s.
+      hands (IsCompareRefusal asked bytes after Untouched right right_after) (inr (
+        one,
+        s,
+        known_so right (λ b. BytesSpellWithin MAX_LINES b other) (λ b. IsRightRefusal asked one b right_after f)
+            (λ b t. inr (other, t, h)) other_spelled,
+      ))) one_spelled

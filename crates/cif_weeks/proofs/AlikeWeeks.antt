@@ -15,7 +15,7 @@ use Rattle.cif_weeks.proofs.SourcesIn.{source_in-within}
 
 module _ (c : CalendarParts) (p : Piece) (tiles : Tiles c.pieces c.first (c.last + 1)) (listed : Contains c.pieces p) where
   -- the source of a day of the piece
-  source_in-piece : (n : ℕ) → p.first ≤ n → n ≤ p.last → source_in c n ≡ winner_of p n
+  pub source_in-piece : (n : ℕ) → p.first ≤ n → n ≤ p.last → source_in c n ≡ winner_of p n
   source_in-piece n from upto =
       let first : c.first ≤ p.first = tiles-from c.pieces c.first (c.last + 1) p tiles listed in
       let ends = tiles-ends c.pieces c.first (c.last + 1) p tiles listed in

@@ -5,8 +5,10 @@ use Rattle.std.proofs.lemmas.Bool.{cases_lt}
 use Rattle.std.proofs.lemmas.List.{get_or-set_same, get_or-set_other}
 use Rattle.cif_columns.specs.Day.{week_of, weekday_of}
 use Rattle.cif_calendar.specs.Calendar.{CalendarParts}
-use Rattle.cif_weeks.specs.Steps.WeekRows.{source_in, IsRowBefore}
+use Rattle.cif_calendar.specs.declared.piece.Piece.{Piece}
+use Rattle.cif_weeks.specs.Steps.WeekRows.{source_in, HasBegun, IsRowBefore}
 use Rattle.cif_weeks.proofs.WeekDays.{same_day}
+use Rattle.cif_weeks.proofs.AlikeWeeks.{source_in-piece}
 
 -- the row has the sources of the weekdays before k, and none from k on
 pub record IsRowUpTo (c : CalendarParts) (week k : ℕ) (row : List (Option ℕ)) : Type 0 where
@@ -14,6 +16,11 @@ pub record IsRowUpTo (c : CalendarParts) (week k : ℕ) (row : List (Option ℕ)
   pub each : (n : ℕ) → week_of n ≡ week → weekday_of n < k → get_or row (weekday_of n) None ≡ source_in c n
   pub rest : (w : ℕ) → k ≤ w → get_or row w None ≡ None
   pub only : (w i : ℕ) → get_or row w None ≡ Some i → (n : ℕ) × (week_of n ≡ week) × (weekday_of n ≡ w)
+
+-- a piece that has begun by a day has by a later weekday of its week
+pub begun-later : (c : CalendarParts) (p : Piece) (m n : ℕ) → HasBegun c p m → week_of m ≡ week_of n → weekday_of m ≤ weekday_of n
+    → HasBegun c p n
+begun-later c p m n b weeks days = record { tiles = b.tiles; listed = b.listed; from = omega (arith, b.from) }
 
 module _ (c : CalendarParts) (week : ℕ) where
   -- at the end it is the week's row
@@ -57,3 +64,10 @@ module _ (c : CalendarParts) (week : ℕ) where
           (cases_lt k w))
           (cases_lt w k);
     }
+
+    -- the weekday's day is in a piece
+    pub row-piece : (p : Piece) (m : ℕ) → week_of m ≡ week → weekday_of m ≡ k → HasBegun c p m → m ≤ p.last →
+        IsRowUpTo c week (k + 1) (set row k (get_or p.winners k None))
+    row-piece p m in_week day b upto =
+        row-more m (get_or p.winners k None) in_week day
+        (ap (λ w. get_or p.winners w None) (sym day) ∙ sym (source_in-piece c p b.tiles b.listed m b.from upto))

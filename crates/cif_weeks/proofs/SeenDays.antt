@@ -43,17 +43,22 @@ module _ {B : Type 0} (xs : List (Terms B)) (row : List (Option ℕ)) where
     );
   }
 
-  -- where nothing runs there is none
-  pub days-none : (w : ℕ) → slice_index_or row w None ≡ None → AreDaysOf xs row w (replicate 7 false)
-  days-none w none = record {
-    runs = λ v. (
-      λ on. absurd (none-on v on),
-      λ h. absurd (let no : None ≡ Some h.other = sym none ∙ h.second in cc),
-    );
-  }
-
   pub seen-none : AreSeen xs row 0 (replicate 7 false)
   seen-none = record { runs = λ v. (λ on. absurd (none-on v on), λ h. absurd (omega (arith, h.1))) }
+
+  -- a weekday on which nothing runs
+  pub seen-idle : (k : ℕ) (seen : List Bool) → AreSeen xs row k seen → slice_index_or row k None ≡ None → AreSeen xs row (k + 1) seen
+  seen-idle k seen s none = record {
+    runs = λ v. (
+      λ on_v. let (w, below, h) = (s.runs v).0 on_v in (w, omega arith, h),
+      λ h. let (w, below, both) = h in ⊎_elim
+          (λ old. (s.runs v).1 (w, old, both))
+          (λ new.
+          let here : w ≡ k = omega arith in
+          absurd (let no : None ≡ Some both.one = sym none ∙ ap (λ n. slice_index_or row n None) (sym here) ∙ both.first in cc))
+          (cases_lt w k),
+    );
+  }
 
   -- a weekday whose body was seen
   pub seen-same : (k : ℕ) (seen : List Bool) → AreSeen xs row k seen → RunsOn seen k → AreSeen xs row (k + 1) seen

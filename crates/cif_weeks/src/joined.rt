@@ -1,6 +1,6 @@
 //! The canonical runs of a calendar.
 
-ghost use Rattle.std.specs.Prelude.{◌≡◌, ◌<◌, ◌≤◌, ◌+◌, ◌*◌, ℕ, length, map, IfOk, MatchBool};
+ghost use Rattle.std.specs.Prelude.{◌≡◌, ◌<◌, ◌+◌, ◌*◌, ℕ, None, Some, length, map, slice_index_or, IfOk, MatchBool};
 ghost use Rattle.cif_columns.specs.Day.{IsDay};
 ghost use Rattle.cif_weeks.specs.Steps.MadeRecords.{AreRunsUpTo};
 ghost use Rattle.cif_weeks.specs.Runs.{AreCanonicalRuns, AreSources};
@@ -9,10 +9,10 @@ ghost use Rattle.cif_weeks.specs.Steps.WeekRows.{AreDaysOf, ArePositions, Begins
 use crate::form::Form;
 use crate::longest::{agree, longest};
 use crate::run::Run;
-use crate::week::{Row, Week, day_in, last_week};
+use crate::week::{Row, Week, last_week};
 use crate::week_mask::mask_of;
 use cif_calendar::{Calendar, Entry};
-use cif_columns::DaysRun;
+use cif_columns::{Day, DaysRun};
 use std::alloc::{AllocError, Global};
 
 /// Whether the body at `source`, which runs on these days of the week, goes on from the week
@@ -26,7 +26,6 @@ fn goes_on<E: Entry>(
     source: usize,
     days: DaysRun,
 ) -> bool
-    requires small { week ≤ 6000 }
     requires position { source < length entries.now }
     requires positions { ArePositions (map E.terms entries.now) before.now }
     ensures { MatchBool result
@@ -41,7 +40,7 @@ fn goes_on<E: Entry>(
 }
 
 /// Appends the run that begins on a weekday of the week, if one does, and gives the weekdays of its
-/// body. No earlier weekday has that body.
+/// body, that of the entry at `source`. No earlier weekday has that body.
 fn begin_run<E: Entry>(
     runs: &mut Vec<Run>,
     entries: &[E],
@@ -50,9 +49,10 @@ fn begin_run<E: Entry>(
     before: &Row,
     week: &Week,
     weekday: u8,
+    source: usize,
 ) -> Result<DaysRun, AllocError>
-    requires small { week.now.number ≤ 6000 }
     requires weekday { weekday < 7 }
+    requires source { slice_index_or week.now.row weekday None ≡ Some source }
     requires first { (earlier : ℕ) → earlier < weekday →
         ¬ HaveOneBody (map E.terms entries.now) week.now.row earlier weekday }
     requires sources { AreSources (map E.terms entries.now) calendar.now }
@@ -65,15 +65,11 @@ fn begin_run<E: Entry>(
         (week.now.number * 7 + weekday + 1) runs.new.items
         × AreDaysOf (map E.terms entries.now) week.now.row weekday days) }
 {
-    let source = match week.row[usize::from(weekday)] {
-        Some(source) => source,
-        None => return Ok(DaysRun::of([false; 7])),
-    };
     let days = mask_of(entries, &week.row, source);
     if goes_on(entries, calendar, form, week.number, before, source, days) {
         return Ok(days);
     }
-    let first = match day_in(week.number, weekday) {
+    let first = match Day::in_week(week.number, weekday) {
         Some(first) => first,
         None => unreachable!(),
     };
@@ -90,7 +86,6 @@ fn begin_runs<E: Entry>(
     before: &Row,
     week: &Week,
 ) -> Result<(), AllocError>
-    requires small { week.now.number ≤ 6000 }
     requires sources { AreSources (map E.terms entries.now) calendar.now }
     requires in_range { IsDay calendar.now.last }
     requires before { IsRowBefore calendar.now week.now.number before.now }
@@ -103,9 +98,11 @@ fn begin_runs<E: Entry>(
     // The weekdays of the bodies of earlier weekdays.
     let mut seen = DaysRun::of([false; 7]);
     for weekday in 0..7u8 {
-        if !seen.has(weekday) {
-            let days = begin_run(runs, entries, calendar, form, before, week, weekday)?;
-            seen = seen.union(days);
+        if let Some(source) = week.row[usize::from(weekday)] {
+            if !seen.has(weekday) {
+                let days = begin_run(runs, entries, calendar, form, before, week, weekday, source)?;
+                seen = seen.union(days);
+            }
         }
     }
     Ok(())

@@ -1,8 +1,8 @@
 //! The longest run of a body that begins on a date.
 
-ghost use Rattle.std.specs.Prelude.{◌≡◌, ◌<◌, ◌≤◌, ◌+◌, ◌*◌, ◌↔◌, ℕ, Some};
+ghost use Rattle.std.specs.Prelude.{◌≡◌, ◌<◌, ◌≤◌, ◌+◌, ◌↔◌, ℕ, Some};
 ghost use Rattle.std.specs.Prelude.{length, map, IsTrue, MatchBool};
-ghost use Rattle.cif_columns.specs.Day.{week_of};
+ghost use Rattle.cif_columns.specs.Day.{week_of, weekday_of};
 ghost use Rattle.cif_calendar.specs.Source.{body_at};
 ghost use Rattle.cif_weeks.specs.Steps.Growing.{HasEnded, IsGrown};
 ghost use Rattle.cif_weeks.specs.Runs.{AreSources, record_of, window_of};
@@ -14,24 +14,23 @@ use crate::run::Run;
 use crate::week::{Week, last_week};
 use crate::week_mask::{last_day, mask_of};
 use cif_calendar::{Calendar, Entry, Window};
-use cif_columns::{Day, DaysRun};
+use cif_columns::{DAYS_IN_WEEK, Day, DaysRun};
 
 /// Whether the dates of a weekday in the week before `next` and in this one lie in the window.
 fn lie_in_window(window: Window, next: u32, weekday: u8) -> bool
-    requires weekday { weekday < 7 }
-    requires small { next ≤ 6001 }
-    ensures { IsTrue result
-        ↔ (window.first + 11 ≤ next * 7 + weekday) × (next * 7 + weekday ≤ window.last + 4) }
+    requires { weekday < 7 }
+    ensures { IsTrue result ↔ ((n : ℕ) × (week_of n ≡ next) × (weekday_of n ≡ weekday)
+        × (window.first + 7 ≤ n) × (n ≤ window.last)) }
 {
-    let day = next * 7 + u32::from(weekday);
-    day >= u32::from(window.first.number()) + 11 && day <= u32::from(window.last.number()) + 4
+    let day = u64::from(next) * u64::from(DAYS_IN_WEEK) + u64::from(weekday);
+    let first = window.first.days_since_first_monday() + DAYS_IN_WEEK;
+    u64::from(first) <= day && day <= u64::from(window.last.days_since_first_monday())
 }
 
 /// Whether the week before `next` and this one have to agree on a weekday: in form 1 always, and in
 /// form 2 where its dates in both lie in the window.
 fn counts(form: Form, calendar: &Calendar, next: u32, weekday: u8) -> bool
-    requires weekday { weekday < 7 }
-    requires small { next ≤ 6001 }
+    requires { weekday < 7 }
     ensures { (week : ℕ) → week + 1 ≡ next →
         IsTrue result ↔ Counts form (window_of calendar.now) week weekday }
 {
@@ -49,7 +48,21 @@ pub(crate) fn agree(
     before: DaysRun,
     days: DaysRun,
 ) -> bool
-    requires small { next ≤ 6001 }
+    ensures { (week : ℕ) → week + 1 ≡ next → MatchBool result
+        (Agree form (window_of calendar.now) week before days)
+        (Differ form (window_of calendar.now) week before days) }
+{
+    before.is(days) || agree_by_weekday(form, calendar, next, before, days)
+}
+
+/// The same, weekday by weekday.
+fn agree_by_weekday(
+    form: Form,
+    calendar: &Calendar,
+    next: u32,
+    before: DaysRun,
+    days: DaysRun,
+) -> bool
     ensures { (week : ℕ) → week + 1 ≡ next → MatchBool result
         (Agree form (window_of calendar.now) week before days)
         (Differ form (window_of calendar.now) week before days) }

@@ -1,26 +1,14 @@
 //! The weeks of a calendar.
 
-ghost use Rattle.std.specs.Prelude.{◌≡◌, ◌<◌, ◌≤◌, ◌+◌, ◌-◌, ◌*◌, ℕ, IfSome, MatchOption};
-ghost use Rattle.cif_columns.specs.Day.{IsDay, week_of, weekday_of};
-ghost use Rattle.cif_weeks.specs.Steps.WeekRows.{IsInPiece, IsRowBefore, IsWeek};
+ghost use Rattle.std.specs.Prelude.{◌≡◌, ◌≤◌, ◌+◌, ◌-◌, ◌*◌, IfSome};
+ghost use Rattle.cif_columns.specs.Day.{IsDay, week_of};
+ghost use Rattle.cif_weeks.specs.Steps.WeekRows.{HasBegun, IsInPiece, IsRowBefore, IsWeek};
 
 use cif_calendar::{Calendar, Piece};
-use cif_columns::Day;
+use cif_columns::{DAYS_IN_WEEK, Day};
 
 /// The sources of the days of a week, Monday first; `None` for a day outside the window too.
 pub(crate) type Row = [Option<usize>; 7];
-
-/// The day of a week, 0 for Monday; `None` outside 1960 to 2059.
-pub(crate) fn day_in(week: u32, weekday: u8) -> Option<Day>
-    requires weekday { weekday < 7 }
-    requires small { week ≤ 6000 }
-    ensures { MatchOption result
-        ((n : ℕ) → week_of n ≡ week → weekday_of n ≡ weekday → ¬ IsDay n)
-        (λ n. (week_of n ≡ week) × (weekday_of n ≡ weekday)) }
-{
-    let number = (week * 7 + u32::from(weekday)).checked_sub(4)?;
-    Day::from_number(u16::try_from(number).ok()?)
-}
 
 /// The last week with a day of the window.
 pub(crate) fn last_week(calendar: &Calendar) -> u32
@@ -31,17 +19,33 @@ pub(crate) fn last_week(calendar: &Calendar) -> u32
     last.week()
 }
 
-/// The sources of the days of a week, each looked up by itself.
+/// The piece that has a day of the window: the one that has begun, if the day isn't after it.
+fn piece_of<'c>(calendar: &'c Calendar, begun: Option<&'c Piece>, day: Day) -> &'c Piece
+    requires from { calendar.now.first ≤ day }
+    requires upto { day ≤ calendar.now.last }
+    requires begun { IfSome begun (λ piece. HasBegun calendar.now piece.now day) }
+    ensures begun { HasBegun calendar.now result.now day }
+    ensures upto { day ≤ result.now.last }
+{
+    match begun {
+        Some(piece) if day <= piece.last => piece,
+        _ => calendar.piece_on(day),
+    }
+}
+
+/// The sources of the days of a week, by the pieces that have them.
 fn row_by_days(calendar: &Calendar, week: u32) -> Row
-    requires small { week ≤ 6000 }
     ensures { IsRowBefore calendar.now (week + 1) result }
 {
     let window = calendar.window();
     let mut row = [None; 7];
+    let mut begun = None;
     for weekday in 0..7u8 {
-        if let Some(day) = day_in(week, weekday) {
+        if let Some(day) = Day::in_week(week, weekday) {
             if window.first <= day && day <= window.last {
-                row[usize::from(weekday)] = calendar.source_on(day);
+                let piece = piece_of(calendar, begun, day);
+                row[usize::from(weekday)] = piece.winners[usize::from(weekday)];
+                begun = Some(piece);
             }
         }
     }
@@ -66,7 +70,7 @@ impl Week {
     {
         let row = piece.winners;
         // The first week with a day after the piece.
-        let over = (u32::from(piece.last.number()) + 5) / 7;
+        let over = (piece.last.days_since_first_monday() + 1) / DAYS_IN_WEEK;
         if number < over {
             Some(Week {
                 number,
@@ -80,11 +84,10 @@ impl Week {
 
     /// The week, where it lies whole in one piece.
     fn whole(calendar: &Calendar, number: u32) -> Option<Week>
-        requires small { number ≤ 6000 }
         ensures { IfSome result (λ week. (week.number ≡ number) × IsWeek calendar.now week) }
     {
         let window = calendar.window();
-        let monday = day_in(number, 0)?;
+        let monday = Day::in_week(number, 0)?;
         if monday < window.first || window.last < monday {
             return None;
         }
@@ -92,7 +95,6 @@ impl Week {
     }
 
     pub(crate) fn of(calendar: &Calendar, number: u32) -> Week
-        requires small { number ≤ 6000 }
         ensures number { result.number ≡ number }
         ensures week { IsWeek calendar.now result }
     {
@@ -112,7 +114,7 @@ impl Week {
         requires in_range { IsDay (day + 7 * (self.now.last_alike - self.now.number)) }
         ensures { result ≡ day + 7 * (self.now.last_alike - self.now.number) }
     {
-        let days = 7 * (self.last_alike - self.number);
+        let days = DAYS_IN_WEEK * (self.last_alike - self.number);
         match u16::try_from(u32::from(day.number()) + days) {
             Ok(number) => match Day::from_number(number) {
                 Some(later) => later,

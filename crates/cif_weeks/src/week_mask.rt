@@ -8,7 +8,7 @@ ghost use Rattle.cif_calendar.specs.Source.{body_at};
 ghost use Rattle.cif_weeks.specs.Steps.WeekMasks.{IsLastDay};
 ghost use Rattle.cif_weeks.specs.Steps.WeekRows.{IsMaskOf, ArePositions};
 
-use crate::week::{Row, day_in};
+use crate::week::Row;
 use cif_calendar::{Entry, same_body};
 use cif_columns::{Day, DaysRun};
 
@@ -48,12 +48,17 @@ pub(crate) fn mask_of<E: Entry>(entries: &[E], row: &Row, position: usize) -> Da
 {
     let mut days = [false; 7];
     for weekday in 0..7u8 {
-        let first = first_with_source(row, weekday);
-        // The body of a source is compared once, on the first weekday that has it.
-        days[usize::from(weekday)] = if first < weekday {
-            days[usize::from(first)]
+        let source = row[usize::from(weekday)];
+        days[usize::from(weekday)] = if source == Some(position) {
+            true
         } else {
-            has_body(entries, row[usize::from(weekday)], position)
+            // The body of another source is compared once, on the first weekday that has it.
+            let first = first_with_source(row, weekday);
+            if first < weekday {
+                days[usize::from(first)]
+            } else {
+                has_body(entries, source, position)
+            }
         };
     }
     DaysRun::of(days)
@@ -61,10 +66,9 @@ pub(crate) fn mask_of<E: Entry>(entries: &[E], row: &Row, position: usize) -> Da
 
 /// The last day of a week that is in the mask; `None` where the mask is empty.
 pub(crate) fn last_day(week: u32, days: DaysRun) -> Option<Day>
-    requires small { week ≤ 6000 }
-    requires days { (w : ℕ) → RunsOn days w →
+    requires { (w : ℕ) → RunsOn days w →
         (n : ℕ) × (week_of n ≡ week) × (weekday_of n ≡ w) × IsDay n }
     ensures { MatchOption result ((w : ℕ) → ¬ RunsOn days w) (IsLastDay week days) }
 {
-    day_in(week, days.last()?)
+    Day::in_week(week, days.last()?)
 }

@@ -1,5 +1,5 @@
 -- Who leads a layer on a day. No public clause cites it.
-use Rattle.std.specs.Prelude.{◌≡◌, ℕ, ◌<◌, ◌≤◌, List, Option, Some, None, Contains, length, replicate, take, slice_index_or}
+use Rattle.std.specs.Prelude.{◌≡◌, ℕ, ◌<◌, ◌≤◌, List, Option, Some, None, Contains, length, map, replicate, take, slice_index_or}
 use Rattle.cif_columns.specs.Day.{weekday_of}
 use Rattle.cif_columns.specs.DaysRun.{RunsOn}
 use Rattle.cif_calendar.specs.Terms.{Terms}
@@ -7,6 +7,7 @@ use Rattle.cif_calendar.specs.Source.{body_at}
 use Rattle.cif_calendar.specs.declared.lead.Lead.{Lead}
 use Rattle.cif_calendar.specs.declared.lead.Leader.{Leader}
 use Rattle.cif_calendar.specs.declared.leads.Leads.{Leads}
+use Rattle.cif_calendar.specs.declared.week_leads.WeekLeads.{WeekLeads}
 use Rattle.cif_calendar.specs.declared.layers.Layers.{Layers}
 use Rattle.cif_calendar.specs.declared.member.Member.{Member}
 
@@ -25,12 +26,17 @@ pub record IsLeft (m : Member) (w d : ℕ) : Type 0 where
 abbrev pub HaveOneBody : {B : Type 0} → List (Terms B) → ℕ → ℕ → Type 0
 HaveOneBody xs i j = body_at xs (Some i) ≡ body_at xs (Some j)
 
+-- the records at these positions have the bodies of the layer's members, one by one
+abbrev pub AreAlike : {B : Type 0} → List (Terms B) → List Member → List ℕ → Type 0
+AreAlike xs layer alike = map (λ i. body_at xs (Some i)) alike ≡ map (λ i. body_at xs (Some i)) (map (λ m. m.position) layer)
+
 -- of the members that were seen and are left, the leader ends last, and all have its body
 pub record IsLeader {B : Type 0} (xs : List (Terms B)) (seen : List Member) (w d : ℕ) (l : Leader) : Type 0 where
   pub member : Member
   pub listed : Contains seen member
   pub last_is : l.last ≡ member.last
   pub position_is : l.position ≡ member.position
+  pub known : HaveOneBody xs l.alike l.position
   pub begun : member.first ≤ d
   pub on_weekday : RunsOn member.days w
   pub last : (m : Member) → Contains seen m → IsLeft m w d → m.last ≤ l.last
@@ -46,23 +52,27 @@ pub record IsLead {B : Type 0} (xs : List (Terms B)) (layer : List Member) (w d 
   pub within : lead.seen ≤ length layer
   pub led : IsLed xs (take lead.seen layer) w d lead.leader
 
--- one lead for each weekday
-pub record AreWeekLeads {B : Type 0} (xs : List (Terms B)) (layer : List Member) (d : ℕ) (week : List Lead) : Type 0 where
-  pub seven : length week ≡ 7
-  pub lead : (w : ℕ) (lead : Lead) → w < 7 → slice_index_or week w lead ≡ lead → IsLead xs layer w d lead
+-- one lead for each weekday, and what is known of the bodies
+pub record AreWeekLeads {B : Type 0} (xs : List (Terms B)) (layer : List Member) (d : ℕ) (leads : WeekLeads) : Type 0 where
+  pub seven : length leads.days ≡ 7
+  pub lead : (w : ℕ) (lead : Lead) → w < 7 → slice_index_or leads.days w lead ≡ lead → IsLead xs layer w d lead
+  pub alike : AreAlike xs layer leads.alike.items
 
 -- no member was looked at
 abbrev pub unled : Lead
 unled = record { leader = None; seen = 0 }
 
--- none of any layer was
-abbrev pub all_unled : Leads
-all_unled = record {
-  cancellations = replicate 7 unled;
-  additions = replicate 7 unled;
-  overlays = replicate 7 unled;
-  permanents = replicate 7 unled;
-}
+-- on no weekday, and each member is known to be like itself
+pub record IsUnled (layer : List Member) (leads : WeekLeads) : Type 0 where
+  pub days : leads.days ≡ replicate 7 unled
+  pub alike : leads.alike.items ≡ map (λ m. m.position) layer
+
+-- the same of all layers
+pub record AreUnled (layers : Layers) (leads : Leads) : Type 0 where
+  pub cancellations : IsUnled layers.cancellations.items leads.cancellations
+  pub additions : IsUnled layers.additions.items leads.additions
+  pub overlays : IsUnled layers.overlays.items leads.overlays
+  pub permanents : IsUnled layers.permanents.items leads.permanents
 
 -- the leads of all layers
 pub record AreLeads {B : Type 0} (xs : List (Terms B)) (layers : Layers) (d : ℕ) (leads : Leads) : Type 0 where

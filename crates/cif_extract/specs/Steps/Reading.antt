@@ -52,7 +52,7 @@ progress_of r = record {
   associations = r.associations.items;
   schedules = r.schedules.items;
   opened = r.opened;
-  lines = r.lines.items;
+  lines = r.lines;
 }
 
 -- a schedule that has been opened by a BS of a letter with a body

@@ -1,11 +1,11 @@
 -- Steps to the runs: the sources of the days of a week. No public clause cites them.
 use Rattle.std.specs.Prelude.{◌≡◌, ℕ, ◌+◌, ◌<◌, ◌≤◌, Bool, List, length, Option, Some, None, slice_index_or, nat_le, if◌then◌else◌}
-use Rattle.std.specs.Prelude.{◌↔◌, ◌⊎◌}
+use Rattle.std.specs.Prelude.{◌↔◌, ◌⊎◌, Contains}
 use Rattle.cif_columns.specs.Day.{week_of, weekday_of}
 use Rattle.cif_columns.specs.DaysRun.{RunsOn}
 use Rattle.cif_calendar.specs.Terms.{Terms}
 use Rattle.cif_calendar.specs.Source.{body_at}
-use Rattle.cif_calendar.specs.Pieces.{source_at}
+use Rattle.cif_calendar.specs.Pieces.{Tiles, source_at}
 use Rattle.cif_calendar.specs.declared.piece.Piece.{Piece}
 use Rattle.cif_calendar.specs.Calendar.{CalendarParts}
 use Rattle.cif_weeks.specs.declared.form.Form.{Form}
@@ -16,6 +16,12 @@ use Rattle.cif_weeks.specs.Steps.WeekMasks.{Agree, Differ}
 -- the source of day n, and none outside the window
 abbrev pub source_in : CalendarParts → ℕ → Option ℕ
 source_in c n = if nat_le c.first n then (if nat_le n c.last then source_at c.pieces n else None) else None
+
+-- a piece of the calendar that doesn't begin after day n
+pub record HasBegun (c : CalendarParts) (p : Piece) (n : ℕ) : Type 0 where
+  pub tiles : Tiles c.pieces c.first (c.last + 1)
+  pub listed : Contains c.pieces p
+  pub from : p.first ≤ n
 
 -- the body that runs on day n, and none outside the window
 abbrev pub body_in : {B : Type 0} → List (Terms B) → CalendarParts → ℕ → Option B

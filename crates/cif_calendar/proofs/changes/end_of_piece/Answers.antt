@@ -1,3 +1,4 @@
+-- By where the next change is: there is none (`ends-last`), or it is in the window (`ends-before`) or after it (`ends-window`).
 use Rattle.std.proofs.Common.{◌<◌, ◌≤◌, ◌+◌, ◌-◌, ◌≡◌, ◌∙◌, ℕ, Option, None, Some, false, true, get_or, leb, length, arith, rules}
 use Rattle.std.specs.List.Sorted.{IsPartitionPoint}
 use Rattle.std.proofs.lemmas.List.Sorted.{IsPartitionPoint-from_clause, IsPartitionedBy-leb}

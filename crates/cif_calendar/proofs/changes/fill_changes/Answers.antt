@@ -1,3 +1,4 @@
+-- One member more adds its changes (`hold_changes-with`); the sort permutes them, so they are the same in order (`changes-sorted`).
 use Rattle.std.proofs.Common.{◌++◌, ◌∷◌, [], List, ℕ, map, take, get_or, subst, rules}
 use Rattle.std.proofs.lemmas.List.{take_all, take_more}
 use Rattle.std.proofs.lemmas.List.Sorted.{IsNonDecreasingBy-from_sort_by_key}

@@ -1,3 +1,4 @@
+-- The list has the changes of the members so far and no others, in whatever order.
 use Rattle.std.proofs.Common.{take}
 use Rattle.std.specs.Prelude.{map}
 use Rattle.cif_calendar.specs.Source.{IsChosen}

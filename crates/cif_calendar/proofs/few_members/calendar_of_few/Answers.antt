@@ -1,3 +1,4 @@
+-- One piece more is laid (`laid-more`), all are a calendar (`calendar-tiled`), and a clash is the window's first (`fault-tiled`).
 use Rattle.std.proofs.Common.{◌+◌, ◌∙◌, ap, map, sym, subst, arith, List, Err, ⊎_elim, inl, inr}
 use Rattle.std.proofs.lemmas.Result.{err_from_is_err_and}
 use Rattle.cif_calendar.specs.declared.piece.Piece.{Piece}

@@ -1,3 +1,4 @@
+-- The pieces so far cover the days before `first`, begin where something changes, and are few; what is left of the window gets shorter.
 use Rattle.std.proofs.Common.{◌≤◌, ◌-◌, map}
 use Rattle.cif_calendar.proofs.LaidPieces.{AreLaid}
 use Rattle.cif_calendar.proofs.few_members.calendar_of_few.Given as goal

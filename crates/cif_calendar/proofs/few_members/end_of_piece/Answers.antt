@@ -1,3 +1,4 @@
+-- One member more (`chosen-with`): nothing breaks off before the new end (`unbroken-with`), which is the old or a break (`breaks-with`).
 use Rattle.std.proofs.Common.{◌<◌, take, get_or, length, arith}
 use Rattle.std.specs.Prelude.{map}
 use Rattle.std.proofs.lemmas.List.{take_more}

@@ -1,3 +1,4 @@
+-- By the members so far the days up to `end` are unbroken, and `end` is the window's last day, or a member breaks off there.
 use Rattle.std.proofs.Common.{◌≡◌, ◌≤◌, take}
 use Rattle.std.specs.Prelude.{map, ◌⊎◌}
 use Rattle.cif_calendar.specs.Source.{IsChosen}

@@ -1,3 +1,4 @@
+-- No record begins or ends within the piece, so the winners of its first week are those of all its days (`piece-from_week`).
 use Rattle.std.proofs.Common.{map}
 use Rattle.cif_calendar.proofs.Alike.{piece-from_week}
 use Rattle.cif_calendar.proofs.few_members.piece_from.Goals as goal

@@ -1,3 +1,4 @@
+-- One day more sets its weekday's winner; among seven days that is no other day's, so the others stay (`week-step`).
 use Rattle.std.proofs.Common.{◌∙◌, arith, length-set, map}
 use Rattle.cif_calendar.proofs.FirstWeek.{week-step}
 use Rattle.cif_calendar.proofs.few_members.week_from.Goals as goal

@@ -1,3 +1,4 @@
+-- The winners so far are those of the days before `day`, which are clear; `day` is as many days behind the first as the loop went round.
 use Rattle.std.proofs.Common.{◌≡◌, ◌≤◌, ◌+◌, length}
 use Rattle.std.specs.Prelude.{map}
 use Rattle.cif_calendar.specs.Steps.PieceSteps.{IsWeekFrom}

@@ -1,3 +1,4 @@
+-- A law of all lists of lawful records: the bodies that run tell too where nothing does (`SameMeaning-from_bodies`).
 use Rattle.cif_calendar.proofs.SayTheSame.{SameMeaning-from_bodies}
 use Rattle.cif_calendar.proofs.laws.bodies_determine_the_meaning.Goals as goal
 

@@ -1,3 +1,4 @@
+-- Laws of any key: without records there is no winner, so nothing runs (`none-idle`), and no two winners differ (`none-clear`).
 use Rattle.cif_calendar.specs.Keys.{of_key}
 use Rattle.cif_calendar.proofs.NoEntries.{none-idle, none-clear}
 use Rattle.cif_calendar.proofs.laws.key_without_entries.Goals as goal

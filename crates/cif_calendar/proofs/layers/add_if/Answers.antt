@@ -1,3 +1,4 @@
+-- The test of letters is put in for their equality: the entry goes into the layer (`holds-adds`), or isn't of it (`holds-skips`).
 use Rattle.std.proofs.Common.{◌∙◌, ◌++◌, ◌∷◌, [], List, map, sym, subst, rules}
 use denote.Enum.Bare.{same_false, same_true}
 use Rattle.cif_columns.specs.contracts.stp.Stp.{the_type}

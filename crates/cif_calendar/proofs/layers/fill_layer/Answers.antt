@@ -1,3 +1,4 @@
+-- The sort permutes the layer: its members are the same (`letter-sorted`), in the order of their first dates (`layer-sorted`).
 use Rattle.std.proofs.Common.{List, ℕ, map, take, subst, rules}
 use Rattle.std.proofs.lemmas.List.{take_all}
 use Rattle.std.proofs.lemmas.List.Sorted.{IsNonDecreasingBy-from_sort_by_key}

@@ -1,3 +1,4 @@
+-- The layer has the members so far that have the letter and no others, in whatever order.
 use Rattle.std.proofs.Common.{take}
 use Rattle.std.specs.Prelude.{map}
 use Rattle.cif_calendar.specs.Steps.Layers.{Holds}

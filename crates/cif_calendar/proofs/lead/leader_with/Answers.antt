@@ -1,8 +1,8 @@
-use Rattle.std.proofs.Common.{◌<◌, ◌≤◌, ◌∙◌, ℕ, sym, subst, arith, map, rules}
+-- By exits: the member isn't left (`led-skips`), is the first (`led-first`), ends last (`led-takes`) or not (`led-keeps`), or differs.
+use Rattle.std.proofs.Common.{◌<◌, ◌≤◌, ℕ, sym, subst, arith, map, rules}
 use Rattle.cif_columns.specs.Day.{weekday_of}
 use Rattle.cif_columns.specs.DaysRun.{RunsOn}
 use Rattle.cif_calendar.proofs.Leading.{led-first, led-keeps, led-skips, led-takes}
-use Rattle.cif_calendar.proofs.Positions.{body_at-entry}
 use Rattle.cif_calendar.proofs.Winning.{refuted}
 use Rattle.cif_calendar.proofs.lead.leader_with.Goals as goal
 
@@ -20,27 +20,20 @@ returns-then-not-has-clause-led g c seen h =
 
 pub returns-in_default-clause-led : goal.returns-in_default-clause-led
 returns-in_default-clause-led g c seen h = rw c.number.ensures.value (
-    led-first (map g.E.Entry.terms c.args.entries.now) seen (weekday_of c.args.day) c.args.day c.args.member
+    led-first (map g.E.Entry.terms c.args.entries.now) seen (weekday_of c.args.day) c.args.day c.args.member c.args.alike.now
+    c.requires.alike
     (record {
       unfinished = search rules;
       on_weekday = subst (λ (w : ℕ). RunsOn c.args.member.days w) c.weekday.ensures.value (c.has.ensures.0 c.if-not-has.false);
     })
     c.requires.begun (rw c.in_default.is at h))
 
-pub returns-then-not-same_body-clause-apart : goal.returns-then-not-same_body-clause-apart
-returns-then-not-same_body-clause-apart g c =
-    let one = body_at-entry g.E.Entry.key g.E.Entry.terms c.args.entries.now c.in-Some.best.position c.index-entries-best.result
-    (c.requires.leader c.in-Some.best c.in-Some.is) c.index-entries-best.is in
-    let other = body_at-entry g.E.Entry.key g.E.Entry.terms c.args.entries.now c.args.member.position c.index-entries-member.result
-    c.requires.member c.index-entries-member.is in
-    (c.in-Some.best, c.in-Some.is, λ e. refuted _ c.same_body.ensures c.if-not-same_body.true (sym one ∙ e ∙ other))
+pub returns-then-not-have_one_body-clause-apart : goal.returns-then-not-have_one_body-clause-apart
+returns-then-not-have_one_body-clause-apart g c =
+    (c.in-Some.best, c.in-Some.is, λ e. refuted _ c.have_one_body.ensures c.if-not-have_one_body.true e)
 
 pub returns-then-best-own-clause-led : goal.returns-then-best-own-clause-led
 returns-then-best-own-clause-led g c seen h =
-    let one = body_at-entry g.E.Entry.key g.E.Entry.terms c.args.entries.now c.in-Some.best.position c.index-entries-best.result
-    (c.requires.leader c.in-Some.best c.in-Some.is) c.index-entries-best.is in
-    let other = body_at-entry g.E.Entry.key g.E.Entry.terms c.args.entries.now c.args.member.position c.index-entries-member.result
-    c.requires.member c.index-entries-member.is in
     let after : c.in-Some.best.last < c.args.member.last = omega (arith, c.number.ensures.value) in
     rw c.number.ensures.value (
     led-takes (map g.E.Entry.terms c.args.entries.now) seen (weekday_of c.args.day) c.args.day c.args.member c.in-Some.best
@@ -48,14 +41,10 @@ returns-then-best-own-clause-led g c seen h =
       unfinished = search rules;
       on_weekday = subst (λ (w : ℕ). RunsOn c.args.member.days w) c.weekday.ensures.value (c.has.ensures.0 c.if-not-has.false);
     })
-    c.requires.begun (one ∙ c.same_body.ensures.0 c.if-not-same_body.false ∙ sym other) after (rw c.in-Some.is at h))
+    c.requires.begun (c.have_one_body.ensures.0 c.if-not-have_one_body.false) after (rw c.in-Some.is at h))
 
 pub returns-else-best-own-clause-led : goal.returns-else-best-own-clause-led
 returns-else-best-own-clause-led g c seen h =
-    let one = body_at-entry g.E.Entry.key g.E.Entry.terms c.args.entries.now c.in-Some.best.position c.index-entries-best.result
-    (c.requires.leader c.in-Some.best c.in-Some.is) c.index-entries-best.is in
-    let other = body_at-entry g.E.Entry.key g.E.Entry.terms c.args.entries.now c.args.member.position c.index-entries-member.result
-    c.requires.member c.index-entries-member.is in
     let before : c.args.member.last ≤ c.in-Some.best.last = omega (arith, c.number.ensures.value) in
     led-keeps (map g.E.Entry.terms c.args.entries.now) seen (weekday_of c.args.day) c.args.day c.args.member c.in-Some.best
-    (one ∙ c.same_body.ensures.0 c.if-not-same_body.false ∙ sym other) before (rw c.in-Some.is at h)
+    (c.have_one_body.ensures.0 c.if-not-have_one_body.false) before (rw c.in-Some.is at h)

@@ -1,7 +1,7 @@
+-- A piece ends by the changes (`ends-unbroken`), and its first week tells it all (`piece-from_week`): so it is laid (`laid-more`).
 use Rattle.std.proofs.Common.{◌+◌, ◌∙◌, ℕ, ap, map, refl, sym, subst, arith, List, Err, ◌<◌, ⊎_elim, inl, inr}
 use Rattle.std.proofs.lemmas.Result.{err_from_is_err_and}
 use Rattle.cif_calendar.specs.declared.calendar_fault.CalendarFault.TheVariants.{Ambiguous}
-use Rattle.cif_calendar.specs.declared.leads.Leads.{Leads}
 use Rattle.cif_calendar.specs.declared.piece.Piece.{Piece}
 use Rattle.cif_calendar.specs.Calendar.{IsAnswer, IsCalendar}
 use Rattle.cif_calendar.specs.Pieces.{IsPiece}
@@ -25,8 +25,7 @@ loop-winners-init g c = let xs = map g.E.Entry.terms c.args.entries.now in recor
   changes = c.in_ok-fill.ensures.changes;
   layers = c.in_ok-fill.ensures.layers;
   whole = c.in_ok-fill.ensures.whole;
-  leads = subst (λ (l : Leads). AreLeads xs c.fill.new.self.layers c.args.window.first l) (sym c.nobody-leads.ensures)
-      (leads-none xs c.fill.new.self.layers c.args.window.first);
+  leads = leads-none xs c.fill.new.self.layers c.args.window.first c.fill.new.self.leads c.in_ok-fill.ensures.leads;
   laid = subst (λ (ps : List Piece). AreLaid xs c.args.members.now c.args.window.first c.args.window.first ps)
       (sym c.clear.ensures.items) (laid-none xs c.args.members.now c.args.window.first);
 }
@@ -57,7 +56,7 @@ returns-in-Err g c =
 
 -- the next piece
 ends : (g : Over) (c : In_ok-add_piece g) →
-    EndsPiece c.fill.new.self.changes.items c.loop-winners.first c.args.window.last c.end_of_piece-last.result
+    EndsPiece c.loop-winners.lists.changes.items c.loop-winners.first c.args.window.last c.end_of_piece-last.result
 ends g c =
     subst (λ (changes : List ℕ). EndsPiece changes c.loop-winners.first c.args.window.last c.end_of_piece-last.result)
     c.as_slice.ensures.value c.end_of_piece-last.ensures
@@ -67,7 +66,7 @@ piece : (g : Over) (c : In_ok-add_piece g) → IsPiece (map g.E.Entry.terms c.ar
 piece g c =
     let xs = map g.E.Entry.terms c.args.entries.now in
     piece-from_week xs c.args.members.now c.loop-winners.first c.end_of_piece-last.result c.in-Ok.winners
-    (ends-unbroken (IsChosen xs c.args.members.now) c.fill.new.self.changes.items c.loop-winners.first c.args.window.last
+    (ends-unbroken (IsChosen xs c.args.members.now) c.loop-winners.lists.changes.items c.loop-winners.first c.args.window.last
     c.end_of_piece-last.result c.loop-winners.invariant.changes (ends g c))
     (c.in-Ok.ensures.week c.args.members.now c.loop-winners.invariant.whole)
 
@@ -81,13 +80,13 @@ loop-winners-preserved g c =
       changes = c.loop-winners.invariant.changes;
       layers = c.loop-winners.invariant.layers;
       whole = c.loop-winners.invariant.whole;
-      leads = subst (λ (d : ℕ). AreLeads xs c.fill.new.self.layers d c.week_from.new.leads) (sym c.in-Some.ensures.1)
+      leads = subst (λ (d : ℕ). AreLeads xs c.loop-winners.lists.layers d c.week_from.new.leads) (sym c.in-Some.ensures.1)
           c.in-Ok.ensures.leads;
       laid = laid-more xs c.args.members.now c.args.window.first c.loop-winners.first
           c.in-Some.next c.args.window.last c.loop-winners.pieces.items c.add_piece.new.pieces.items
           (record { first = c.loop-winners.first; last = c.end_of_piece-last.result; winners = c.in-Ok.winners })
           c.in_ok-add_piece.ensures.ok refl (ends g here).from (piece g here)
-          (ends-breaks (IsChosen xs c.args.members.now) c.fill.new.self.changes.items c.loop-winners.first c.args.window.last
+          (ends-breaks (IsChosen xs c.args.members.now) c.loop-winners.lists.changes.items c.loop-winners.first c.args.window.last
           c.end_of_piece-last.result c.loop-winners.invariant.changes (ends g here))
           c.in-Some.ensures.0 c.in-Some.ensures.1 c.loop-winners.invariant.laid;
     }

@@ -1,3 +1,4 @@
+-- The pieces so far cover the days before `first`, and are few; the lists tell of the members; what is left of the window gets shorter.
 use Rattle.std.proofs.Common.{◌≤◌, ◌-◌, map}
 use Rattle.cif_calendar.specs.Source.{IsChosen}
 use Rattle.cif_calendar.specs.Steps.Layers.{AreLayers, AreLayersOf}
@@ -13,7 +14,7 @@ invariant-loop-winners g l = record {
   changes : AreChanges (IsChosen (map g.E.Entry.terms l.entries) l.members) l.lists.changes.items;
   layers : AreLayers (map g.E.Entry.terms l.entries) l.lists.layers;
   whole : AreLayersOf (map g.E.Entry.terms l.entries) l.members l.lists.layers;
-  leads : AreLeads (map g.E.Entry.terms l.entries) l.lists.layers l.first l.leads;
+  leads : AreLeads (map g.E.Entry.terms l.entries) l.lists.layers l.first l.lists.leads;
   laid : AreLaid (map g.E.Entry.terms l.entries) l.members l.window.first l.first l.pieces.items;
 }
 

@@ -1,3 +1,4 @@
+-- One day more sets its winner, whichever members the layers are of (`week-step`); who leads, leads on the next day too (`leads-later`).
 use Rattle.std.proofs.Common.{◌∙◌, arith, length-set, map}
 use Rattle.cif_calendar.proofs.FirstWeek.{week-step}
 use Rattle.cif_calendar.proofs.Leading.{leads-later}

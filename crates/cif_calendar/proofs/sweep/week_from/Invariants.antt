@@ -1,3 +1,4 @@
+-- Whichever members the layers are of, the winners so far are those of the days before `day`; the leads are those of `day`.
 use Rattle.std.proofs.Common.{◌≡◌, ℕ, ◌≤◌, ◌+◌, List, length}
 use Rattle.std.specs.Prelude.{map}
 use Rattle.cif_calendar.specs.Steps.Layers.{AreLayersOf}

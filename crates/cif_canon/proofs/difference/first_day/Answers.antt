@@ -1,8 +1,11 @@
 -- Each calendar has pieces of its own: up to the earlier end `found-by_pieces` tells of both calendars, date by date.
-use Rattle.std.proofs.Common.{◌≡◌, None, Some, arith, map, ⊎_elim}
+use Rattle.std.proofs.Common.{◌≡◌, ℕ, Option, None, Some, arith, map, ⊎_elim}
 use Rattle.cif_calendar.specs.Calendar.{body_on}
+use Rattle.cif_canon.specs.Steps.Differences.{AreAlikeBy, FindsOther}
 use Rattle.cif_canon.proofs.DifferentDays.{before-or-from, found-by_pieces, found-on, not-below, piece-bodies, piece-ends}
+use Rattle.cif_canon.proofs.difference.first_day.Given.{Over}
 use Rattle.cif_canon.proofs.difference.first_day.Goals as goal
+use Rattle.cif_canon.proofs.difference.first_day.Goals.{After-first_in_pieces}
 
 pub loop-day-init : goal.loop-day-init
 loop-day-init g c = record {
@@ -35,60 +38,49 @@ first_in_pieces-requires-clause-right g c =
     c.piece_on-peer.ensures.listed c.requires.right c.loop-day.first c.earlier-last.result c.piece_on-peer.ensures.from
     c.earlier-last.ensures.other (omega (arith, c.requires.first, c.loop-day.invariant.from))
 
+-- what is found by the two pieces is found of the calendars
+by_pieces : (g : Over) (c : After-first_in_pieces g) (found : Option ℕ) →
+    let xs = map g.E.Entry.terms c.args.left.now in
+    let ys = map g.E.Entry.terms c.args.right.now in
+    FindsOther (AreAlikeBy xs c.piece_on-piece.result.now ys c.piece_on-peer.result.now) c.loop-day.first c.earlier-last.result found →
+    FindsOther (λ d. body_on xs c.args.one.now d ≡ body_on ys c.args.other.now d) c.loop-day.first c.earlier-last.result found
+by_pieces g c found =
+    let p = c.piece_on-piece in
+    let q = c.piece_on-peer in
+    found-by_pieces (map g.E.Entry.terms c.args.left.now) c.args.one.now p.result.now p.ensures.tiles p.ensures.listed
+    (map g.E.Entry.terms c.args.right.now) c.args.other.now q.result.now q.ensures.tiles q.ensures.listed c.loop-day.first
+    c.earlier-last.result p.ensures.from c.earlier-last.ensures.one q.ensures.from c.earlier-last.ensures.other found
+
 pub returns-in-Some : goal.returns-in-Some
 returns-in-Some g c =
-    let one = c.args.one.now in
-    let other = c.args.other.now in
     let xs = map g.E.Entry.terms c.args.left.now in
     let ys = map g.E.Entry.terms c.args.right.now in
     let p = c.piece_on-piece in
-    let q = c.piece_on-peer in
     let last = c.earlier-last in
-    let ends = piece-ends xs one p.result.now p.ensures.tiles p.ensures.listed in
-    found-on (λ d. body_on xs one d ≡ body_on ys other d) one.first c.loop-day.first last.result one.last c.in-Some.day
-    c.loop-day.invariant.from (omega (arith, ends, last.ensures.one)) c.loop-day.invariant.alike
-    (found-by_pieces xs one p.result.now p.ensures.tiles p.ensures.listed ys other q.result.now q.ensures.tiles
-    q.ensures.listed c.loop-day.first last.result p.ensures.from last.ensures.one q.ensures.from last.ensures.other (Some
-    c.in-Some.day) c.in-Some.ensures)
+    let ends = piece-ends xs c.args.one.now p.result.now p.ensures.tiles p.ensures.listed in
+    found-on (λ d. body_on xs c.args.one.now d ≡ body_on ys c.args.other.now d) c.args.one.now.first c.loop-day.first last.result
+    c.args.one.now.last c.in-Some.day c.loop-day.invariant.from (omega (arith, ends, last.ensures.one)) c.loop-day.invariant.alike
+    (by_pieces g (goal.at.returns-in-Some g c).After-first_in_pieces (Some c.in-Some.day) c.in-Some.ensures)
 
 pub loop-day-preserved : goal.loop-day-preserved
 loop-day-preserved g c =
-    let one = c.args.one.now in
-    let other = c.args.other.now in
-    let xs = map g.E.Entry.terms c.args.left.now in
-    let ys = map g.E.Entry.terms c.args.right.now in
-    let p = c.piece_on-piece in
-    let q = c.piece_on-peer in
-    let last = c.earlier-last in
-    let far = last.ensures.latest c.loop-day.first p.ensures.upto q.ensures.upto in
-    let says = c.in-Some-next_up_to.ensures in
-    let below = says.0 in
-    let next = says.1 in record {
+    let far = c.earlier-last.ensures.latest c.loop-day.first c.piece_on-piece.ensures.upto c.piece_on-peer.ensures.upto in
+    let below = c.in-Some-next_up_to.ensures.0 in
+    let next = c.in-Some-next_up_to.ensures.1 in record {
       from = omega (arith, next, far, c.loop-day.invariant.from);
       upto = omega (arith, next, below, c.window-window.ensures.last);
       alike = λ d a b. ⊎_elim
           (λ early. c.loop-day.invariant.alike d a early)
-          (λ late. found-by_pieces xs one p.result.now p.ensures.tiles p.ensures.listed ys other q.result.now q.ensures.tiles
-          q.ensures.listed c.loop-day.first last.result p.ensures.from last.ensures.one q.ensures.from last.ensures.other None
-          c.in_default.ensures
-          d late (omega (arith, b, next)))
+          (λ late. by_pieces g (goal.at.loop-day-preserved g c).After-first_in_pieces None c.in_default.ensures d late
+          (omega (arith, b, next)))
           (before-or-from d c.loop-day.first);
     }
 
 pub returns-in-None : goal.returns-in-None
 returns-in-None g c d a b =
-    let one = c.args.one.now in
-    let other = c.args.other.now in
-    let xs = map g.E.Entry.terms c.args.left.now in
-    let ys = map g.E.Entry.terms c.args.right.now in
-    let p = c.piece_on-piece in
-    let q = c.piece_on-peer in
-    let last = c.earlier-last in
     let ends = not-below _ _ c.in-None.ensures in
     ⊎_elim
     (λ early. c.loop-day.invariant.alike d a early)
-    (λ late. found-by_pieces xs one p.result.now p.ensures.tiles p.ensures.listed ys other q.result.now q.ensures.tiles
-    q.ensures.listed c.loop-day.first last.result p.ensures.from last.ensures.one q.ensures.from last.ensures.other None
-    c.in_default.ensures
-    d late (omega (arith, b, ends, c.window-window.ensures.last)))
+    (λ late. by_pieces g (goal.at.returns-in-None g c).After-first_in_pieces None c.in_default.ensures d late
+    (omega (arith, b, ends, c.window-window.ensures.last)))
     (before-or-from d c.loop-day.first)

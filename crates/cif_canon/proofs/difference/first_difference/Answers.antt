@@ -2,14 +2,15 @@
 use Rattle.std.proofs.Common.{◌<◌, ℕ, List, length, sym, subst, arith}
 use Rattle.std.specs.Prelude.{All}
 use Rattle.std.proofs.lemmas.List.Elements.{All-drop}
-use Rattle.cif_calendar.specs.Keys.{ArePositionsOf, keyed}
+use Rattle.cif_calendar.specs.Keys.{keyed}
 use Rattle.cif_calendar.proofs.FirstClash.{same_key-cmp}
 use Rattle.cif_canon.specs.Steps.Turns.{AreFrom, IsFront}
 use Rattle.cif_canon.proofs.ComparedCalendars.{alike-on, clear-positions, differ-on}
-use Rattle.cif_canon.proofs.ComparedKeys.{AreAlikeBefore, alike-key, alike-nothing}
-use Rattle.cif_canon.proofs.ComparedKeys.{first-difference, front-of_both, left-turn, right-turn}
+use Rattle.cif_canon.proofs.ComparedKeys.{AreAlikeBefore, AreFronts, alike-nothing, are-fronts}
 use Rattle.cif_canon.proofs.KeyPositions.{within-entries}
+use Rattle.cif_canon.proofs.difference.first_difference.Given.{Over}
 use Rattle.cif_canon.proofs.difference.first_difference.Goals as goal
+use Rattle.cif_canon.proofs.difference.first_difference.Goals.{After-split_at-in-Some}
 
 pub loop-entry-init : goal.loop-entry-init
 loop-entry-init g c =
@@ -46,149 +47,75 @@ count_of_key-requires-in-Some-clause-from g c =
     subst (AreFrom g.E.Key.Ord.cmp (keyed g.E.Entry.key g.E.Entry.terms c.args.right.now) c.loop-entry.right_rest.now)
     (sym c.key-in-Some.ensures) c.in-Some.ensures.some.right_from
 
-pub clear_calendar-requires-clause-clear : goal.clear_calendar-requires-clause-clear
-clear_calendar-requires-clause-clear g c =
+-- the fronts of both rests, as they were counted and split off
+fronts : (g : Over) (c : After-split_at-in-Some g) →
+    AreFronts g.E.Key.Ord.cmp (keyed g.E.Entry.key g.E.Entry.terms c.args.left.now)
+    (keyed g.E.Entry.key g.E.Entry.terms c.args.right.now) c.args.window.now.first c.args.window.now.last c.loop-entry.left_rest.now
+    c.loop-entry.right_rest.now (g.E.Entry.key c.in-Some.entry.now) c.split_at.result.0.now c.split_at.result.1.now
+    c.split_at-in-Some.result.0.now c.split_at-in-Some.result.1.now
+fronts g c =
+    let cmp = g.E.Key.Ord.cmp in
     let xs = keyed g.E.Entry.key g.E.Entry.terms c.args.left.now in
     let ys = keyed g.E.Entry.key g.E.Entry.terms c.args.right.now in
-    let first = c.args.window.now.first in
-    let last = c.args.window.now.last in
-    let same = same_key-cmp g.E.Key.PartialEq.eq g.E.Key.Ord.cmp g.met.E.Key.Ord.matches_eq g.met.E.Entry.same_key in
     let l = c.loop-entry.left_rest.now in
     let r = c.loop-entry.right_rest.now in
-    let a = c.loop-entry.invariant.alike in
+    let left = subst (λ k. IsFront cmp xs l k c.count_of_key.result) c.key.ensures c.count_of_key.ensures in
+    let right = subst (λ k. IsFront cmp ys r k c.count_of_key-in-Some.result) c.key-in-Some.ensures c.count_of_key-in-Some.ensures in
+    rw (c.split_at.ensures.front, c.split_at.ensures.back, c.split_at-in-Some.ensures.front, c.split_at-in-Some.ensures.back)
+    (are-fronts cmp g.met.E.Key.Ord.total
+    (same_key-cmp g.E.Key.PartialEq.eq cmp g.met.E.Key.Ord.matches_eq g.met.E.Entry.same_key) xs ys c.args.window.now.first
+    c.args.window.now.last l r c.loop-entry.invariant.alike (g.E.Entry.key c.in-Some.entry.now) c.in-Some.ensures.some _ _ left right)
+
+pub clear_calendar-requires-clause-clear : goal.clear_calendar-requires-clause-clear
+clear_calendar-requires-clause-clear g c =
+    let here = (goal.at.clear_calendar-requires-clause-clear g c).After-split_at-in-Some in
     let k = g.E.Entry.key c.in-Some.entry.now in
-    let f = c.in-Some.ensures.some in
-    let left_front = subst (λ j. IsFront g.E.Key.Ord.cmp xs l j c.count_of_key.result) c.key.ensures c.count_of_key.ensures in
-    let right_front =
-    subst (λ j. IsFront g.E.Key.Ord.cmp ys r j c.count_of_key-in-Some.result) c.key-in-Some.ensures c.count_of_key-in-Some.ensures in
-    let n = c.count_of_key.result in
-    let m = c.count_of_key-in-Some.result in
-    let left_turn = subst (λ is. ArePositionsOf xs k is) (sym c.split_at.ensures.front)
-    (left-turn g.E.Key.Ord.cmp g.met.E.Key.Ord.total same xs ys first last l r a k f n m left_front right_front) in
-    let right_turn = subst (λ is. ArePositionsOf ys k is) (sym c.split_at-in-Some.ensures.front)
-    (right-turn g.E.Key.Ord.cmp g.met.E.Key.Ord.total same xs ys first last l r a k f n m left_front right_front) in
-    clear-positions g.E.Entry.key g.E.Entry.terms c.args.left.now k c.split_at.result.0.now left_turn first last (c.requires.left.key k)
+    clear-positions g.E.Entry.key g.E.Entry.terms c.args.left.now k c.split_at.result.0.now (fronts g here).left
+    c.args.window.now.first c.args.window.now.last (c.requires.left.key k)
 
 pub clear_calendar-requires-in-Some-clause-clear : goal.clear_calendar-requires-in-Some-clause-clear
 clear_calendar-requires-in-Some-clause-clear g c =
-    let xs = keyed g.E.Entry.key g.E.Entry.terms c.args.left.now in
-    let ys = keyed g.E.Entry.key g.E.Entry.terms c.args.right.now in
-    let first = c.args.window.now.first in
-    let last = c.args.window.now.last in
-    let same = same_key-cmp g.E.Key.PartialEq.eq g.E.Key.Ord.cmp g.met.E.Key.Ord.matches_eq g.met.E.Entry.same_key in
-    let l = c.loop-entry.left_rest.now in
-    let r = c.loop-entry.right_rest.now in
-    let a = c.loop-entry.invariant.alike in
+    let here = (goal.at.clear_calendar-requires-in-Some-clause-clear g c).After-split_at-in-Some in
     let k = g.E.Entry.key c.in-Some.entry.now in
-    let f = c.in-Some.ensures.some in
-    let left_front = subst (λ j. IsFront g.E.Key.Ord.cmp xs l j c.count_of_key.result) c.key.ensures c.count_of_key.ensures in
-    let right_front =
-    subst (λ j. IsFront g.E.Key.Ord.cmp ys r j c.count_of_key-in-Some.result) c.key-in-Some.ensures c.count_of_key-in-Some.ensures in
-    let n = c.count_of_key.result in
-    let m = c.count_of_key-in-Some.result in
-    let left_turn = subst (λ is. ArePositionsOf xs k is) (sym c.split_at.ensures.front)
-    (left-turn g.E.Key.Ord.cmp g.met.E.Key.Ord.total same xs ys first last l r a k f n m left_front right_front) in
-    let right_turn = subst (λ is. ArePositionsOf ys k is) (sym c.split_at-in-Some.ensures.front)
-    (right-turn g.E.Key.Ord.cmp g.met.E.Key.Ord.total same xs ys first last l r a k f n m left_front right_front) in
-    clear-positions g.E.Entry.key g.E.Entry.terms c.args.right.now k c.split_at-in-Some.result.0.now right_turn first last
-    (c.requires.right.key k)
+    clear-positions g.E.Entry.key g.E.Entry.terms c.args.right.now k c.split_at-in-Some.result.0.now (fronts g here).right
+    c.args.window.now.first c.args.window.now.last (c.requires.right.key k)
 
 pub returns-in-Some-first_day-clause-some : goal.returns-in-Some-first_day-clause-some
 returns-in-Some-first_day-clause-some g c =
-    let xs = keyed g.E.Entry.key g.E.Entry.terms c.args.left.now in
-    let ys = keyed g.E.Entry.key g.E.Entry.terms c.args.right.now in
+    let both = fronts g (goal.at.returns-in-Some-first_day-clause-some g c).After-split_at-in-Some in
+    let k = g.E.Entry.key c.in-Some.entry.now in
     let first = c.args.window.now.first in
     let last = c.args.window.now.last in
-    let same = same_key-cmp g.E.Key.PartialEq.eq g.E.Key.Ord.cmp g.met.E.Key.Ord.matches_eq g.met.E.Entry.same_key in
-    let l = c.loop-entry.left_rest.now in
-    let r = c.loop-entry.right_rest.now in
-    let a = c.loop-entry.invariant.alike in
-    let k = g.E.Entry.key c.in-Some.entry.now in
-    let f = c.in-Some.ensures.some in
-    let left_front = subst (λ j. IsFront g.E.Key.Ord.cmp xs l j c.count_of_key.result) c.key.ensures c.count_of_key.ensures in
-    let right_front =
-    subst (λ j. IsFront g.E.Key.Ord.cmp ys r j c.count_of_key-in-Some.result) c.key-in-Some.ensures c.count_of_key-in-Some.ensures in
-    let n = c.count_of_key.result in
-    let m = c.count_of_key-in-Some.result in
-    let left_turn = subst (λ is. ArePositionsOf xs k is) (sym c.split_at.ensures.front)
-    (left-turn g.E.Key.Ord.cmp g.met.E.Key.Ord.total same xs ys first last l r a k f n m left_front right_front) in
-    let right_turn = subst (λ is. ArePositionsOf ys k is) (sym c.split_at-in-Some.ensures.front)
-    (right-turn g.E.Key.Ord.cmp g.met.E.Key.Ord.total same xs ys first last l r a k f n m left_front right_front) in
     let found = c.in-Some-first_day.ensures in
     let is = c.in_ok-one.ensures.first_is in
     let ends = c.in_ok-one.ensures.last_is in
     let from = found.from in
     let upto = found.upto in
-    first-difference g.E.Key.Ord.cmp g.met.E.Key.Ord.total same xs ys first last l r a k f c.in-Some-first_day.day (omega (arith, from, is))
-    (omega (arith, upto, ends))
+    both.differ c.in-Some-first_day.day (omega (arith, from, is)) (omega (arith, upto, ends))
     (differ-on g.E.Entry.key g.E.Entry.terms g.met.E.Entry.cancelled c.args.left.now c.args.right.now k
-    c.split_at.result.0.now c.split_at-in-Some.result.0.now left_turn right_turn first last c.in_ok-one.one c.in_ok-other.other
+    c.split_at.result.0.now c.split_at-in-Some.result.0.now both.left both.right first last c.in_ok-one.one c.in_ok-other.other
     c.in_ok-one.ensures c.in_ok-other.ensures
     c.in-Some-first_day.day (omega (arith, from, is)) (omega (arith, upto, ends)) found.other)
     (λ e after before. alike-on g.E.Entry.key g.E.Entry.terms g.met.E.Entry.cancelled c.args.left.now c.args.right.now k
-    c.split_at.result.0.now c.split_at-in-Some.result.0.now left_turn right_turn first last c.in_ok-one.one c.in_ok-other.other
+    c.split_at.result.0.now c.split_at-in-Some.result.0.now both.left both.right first last c.in_ok-one.one c.in_ok-other.other
     c.in_ok-one.ensures c.in_ok-other.ensures
     e after (omega (arith, before, upto, ends)) (found.before e (omega (arith, after, is)) before))
 
 pub loop-entry-smaller : goal.loop-entry-smaller
-loop-entry-smaller g c =
-    let xs = keyed g.E.Entry.key g.E.Entry.terms c.args.left.now in
-    let ys = keyed g.E.Entry.key g.E.Entry.terms c.args.right.now in
-    let first = c.args.window.now.first in
-    let last = c.args.window.now.last in
-    let same = same_key-cmp g.E.Key.PartialEq.eq g.E.Key.Ord.cmp g.met.E.Key.Ord.matches_eq g.met.E.Entry.same_key in
-    let l = c.loop-entry.left_rest.now in
-    let r = c.loop-entry.right_rest.now in
-    let a = c.loop-entry.invariant.alike in
-    let k = g.E.Entry.key c.in-Some.entry.now in
-    let f = c.in-Some.ensures.some in
-    let left_front = subst (λ j. IsFront g.E.Key.Ord.cmp xs l j c.count_of_key.result) c.key.ensures c.count_of_key.ensures in
-    let right_front =
-    subst (λ j. IsFront g.E.Key.Ord.cmp ys r j c.count_of_key-in-Some.result) c.key-in-Some.ensures c.count_of_key-in-Some.ensures in
-    let n = c.count_of_key.result in
-    let m = c.count_of_key-in-Some.result in
-    let some = front-of_both g.E.Key.Ord.cmp g.met.E.Key.Ord.total same xs ys first last l r a k f n m left_front right_front in
-    omega (
-      arith,
-      some,
-      c.split_at.ensures.back_len,
-      c.split_at-in-Some.ensures.back_len,
-      c.count_of_key.ensures.upto,
-      c.count_of_key-in-Some.ensures.upto,
-    )
+loop-entry-smaller g c = (fronts g (goal.at.loop-entry-smaller g c).After-split_at-in-Some).smaller
 
 pub loop-entry-preserved : goal.loop-entry-preserved
 loop-entry-preserved g c =
-    let xs = keyed g.E.Entry.key g.E.Entry.terms c.args.left.now in
-    let ys = keyed g.E.Entry.key g.E.Entry.terms c.args.right.now in
-    let first = c.args.window.now.first in
-    let last = c.args.window.now.last in
-    let same = same_key-cmp g.E.Key.PartialEq.eq g.E.Key.Ord.cmp g.met.E.Key.Ord.matches_eq g.met.E.Entry.same_key in
-    let l = c.loop-entry.left_rest.now in
-    let r = c.loop-entry.right_rest.now in
-    let a = c.loop-entry.invariant.alike in
-    let k = g.E.Entry.key c.in-Some.entry.now in
-    let f = c.in-Some.ensures.some in
-    let left_front = subst (λ j. IsFront g.E.Key.Ord.cmp xs l j c.count_of_key.result) c.key.ensures c.count_of_key.ensures in
-    let right_front =
-    subst (λ j. IsFront g.E.Key.Ord.cmp ys r j c.count_of_key-in-Some.result) c.key-in-Some.ensures c.count_of_key-in-Some.ensures in
-    let n = c.count_of_key.result in
-    let m = c.count_of_key-in-Some.result in
-    let left_turn = subst (λ is. ArePositionsOf xs k is) (sym c.split_at.ensures.front)
-    (left-turn g.E.Key.Ord.cmp g.met.E.Key.Ord.total same xs ys first last l r a k f n m left_front right_front) in
-    let right_turn = subst (λ is. ArePositionsOf ys k is) (sym c.split_at-in-Some.ensures.front)
-    (right-turn g.E.Key.Ord.cmp g.met.E.Key.Ord.total same xs ys first last l r a k f n m left_front right_front) in
+    let both = fronts g (goal.at.loop-entry-preserved g c).After-split_at-in-Some in
     let is = c.in_ok-one.ensures.first_is in
     let ends = c.in_ok-one.ensures.last_is in record {
       left_within = subst (λ (rest : List ℕ). All (λ i. i < length c.args.left.now) rest) (sym c.split_at.ensures.back)
-          (All-drop (λ i. i < length c.args.left.now) n l c.loop-entry.invariant.left_within);
+          (All-drop (λ i. i < length c.args.left.now) _ _ c.loop-entry.invariant.left_within);
       right_within = subst (λ (rest : List ℕ). All (λ i. i < length c.args.right.now) rest) (sym c.split_at-in-Some.ensures.back)
-          (All-drop (λ i. i < length c.args.right.now) m r c.loop-entry.invariant.right_within);
+          (All-drop (λ i. i < length c.args.right.now) _ _ c.loop-entry.invariant.right_within);
       alike =
-          rw (c.split_at.ensures.back, c.split_at-in-Some.ensures.back)
-          (alike-key g.E.Key.Ord.cmp g.met.E.Key.Ord.total same xs ys first last l r a k f n m left_front right_front
-          (λ d from upto. alike-on g.E.Entry.key g.E.Entry.terms g.met.E.Entry.cancelled c.args.left.now c.args.right.now k
-          c.split_at.result.0.now c.split_at-in-Some.result.0.now left_turn right_turn first last c.in_ok-one.one c.in_ok-other.other
-          c.in_ok-one.ensures c.in_ok-other.ensures
-          d from upto (c.in_default-first_day.ensures d (omega (arith, from, is)) (omega (arith, upto, ends)))));
+          both.alike (λ d from upto. alike-on g.E.Entry.key g.E.Entry.terms g.met.E.Entry.cancelled c.args.left.now c.args.right.now
+          (g.E.Entry.key c.in-Some.entry.now) c.split_at.result.0.now c.split_at-in-Some.result.0.now both.left both.right
+          c.args.window.now.first c.args.window.now.last c.in_ok-one.one c.in_ok-other.other c.in_ok-one.ensures
+          c.in_ok-other.ensures d from upto (c.in_default-first_day.ensures d (omega (arith, from, is)) (omega (arith, upto, ends))));
     }

@@ -1,9 +1,8 @@
 -- The text has to be named: lines of one train's records; `train-view` says it is the view, and a fault leaves a front.
-use Rattle.std.proofs.Common.{List, ℕ, Err, ap, ◌∙◌, subst}
+use Rattle.std.proofs.Common.{List, ℕ, subst}
 use Rattle.std.specs.Cmp.Lexicographic.{slice_cmp}
 use Rattle.std.specs.List.{flat_map}
 use Rattle.std.specs.Ordering.{nat_cmp}
-use Rattle.std.proofs.lemmas.Result.{err_from_is_err_and}
 use Rattle.cif_calendar.specs.Entries.{schedule_entries, schedule_entry}
 use Rattle.cif_columns.specs.Sink.{HasFailed, HasWritten}
 use Rattle.cif_extract.specs.ExtractParts.{extract_parts}
@@ -11,6 +10,7 @@ use Rattle.cif_canon.specs.Asked.{header_window}
 use Rattle.cif_canon.specs.Steps.Texts.{run_text}
 use Rattle.cif_canon.specs.Steps.Views.{schedule_of}
 use Rattle.cif_canon.specs.Views.{IsTrainView}
+use Rattle.cif_canon.proofs.HandedFaults.{at-fault}
 use Rattle.cif_canon.proofs.ViewTexts.{fails, have-lines, sliced, train-view, written-so}
 use Rattle.cif_canon.proofs.lines_of_train.train_view.Goals as goal
 
@@ -21,17 +21,17 @@ write_runs-requires g c =
 
 pub returns-in_err-write_runs-clause-view : goal.returns-in_err-write_runs-clause-view
 returns-in_err-write_runs-clause-view g c =
-    let p = err_from_is_err_and c.from_residual-in_err-write_runs.result c.from_residual-in_err-write_runs.ensures.1 in
+    let result = c.from_residual-in_err-write_runs.result in
     let x = extract_parts c.args.extract.now in
     let uid = c.args.uid.now in
     let runs = c.in_ok-runs.runs in
     let text : List ℕ = flat_map (run_text (schedule_of uid) (schedule_entries x.schedules)) runs.schedules.items in (
       text,
-      fails _ _ text _ c.write_runs.new.sink c.from_residual-in_err-write_runs.result (p.1 ∙ ap Err p.2)
+      fails _ _ text _ c.write_runs.new.sink result (at-fault result _ c.from_residual-in_err-write_runs.ensures.1)
           (subst (λ t. HasFailed g.W.Write.contents g.W.WriteDevice.write_errors t c.args.sink.now c.write_runs.new.sink)
           (sliced (schedule_of uid) schedule_entry c.as_slice.result.now x.schedules c.as_slice-2.result.now runs.schedules.items
           c.as_slice.ensures.value c.as_slice-2.ensures.value) c.in_err-write_runs.ensures),
-      written-so c.from_residual-in_err-write_runs.result (IsTrainView c.args.form x uid text)
+      written-so result (IsTrainView c.args.form x uid text)
           (train-view x uid c.args.form runs.associations.items runs.schedules.items c.in_ok-runs.ensures.associations
           c.in_ok-runs.ensures.schedules),
     )

@@ -1,41 +1,26 @@
--- Of known bytes (`known_so`): what they spell, narrowed, has a form to count (`counted-text`), or is to blame (`canon-fault`).
-use Rattle.std.proofs.Common.{Err, ap, ◌∙◌}
-use Rattle.std.proofs.lemmas.Result.{err_from_is_err_and}
+-- Of known bytes (`known_so`): what they spell, narrowed, has a form to count (`counted-text`), or is to blame (`known-canon_fault`).
 use Rattle.cif_columns.specs.Source.{reader_of}
 use Rattle.cif_columns.proofs.GivenLinesLaws.{known_so}
 use Rattle.cif_extract.specs.ExtractParts.{extract_parts}
-use Rattle.cif_extract.proofs.FirstRefusals.{if_error}
-use Rattle.cif_canon.specs.Fault.{IsNormaliseFault}
-use Rattle.cif_canon.proofs.Normalising.{blamed, canon-fault, counted-text}
+use Rattle.cif_canon.proofs.Normalising.{counted-text, known-accepted, known-canon_accepted, known-canon_fault}
 use Rattle.cif_canon.proofs.normal_form.check.Goals as goal
 
 pub returns-in_err-extract-clause-accepted : goal.returns-in_err-extract-clause-accepted
 returns-in_err-extract-clause-accepted g c =
-    let p = err_from_is_err_and c.from_residual.result c.from_residual.ensures.1 in
-    let after = g.R.Read.remaining (reader_of c.read_narrowed.new.source) in
-    let fault = c.in_err-extract.field-0.0 in
-    known_so _ _ _ (λ bytes f.
-    blamed c.args.max_lines c.args.asked.now bytes after c.from_residual.result fault (p.1 ∙ ap Err p.2) f) c.in_err-extract.ensures.fault
+    known-accepted c.args.max_lines c.args.asked.now _ (g.R.Read.remaining (reader_of c.read_narrowed.new.source)) c.from_residual.result
+    c.in_err-extract.field-0.0 c.from_residual.ensures.1 c.in_err-extract.ensures.fault
 
 pub returns-in_err-canon-clause-fault : goal.returns-in_err-canon-clause-fault
 returns-in_err-canon-clause-fault g c =
-    let p = err_from_is_err_and c.from_residual-in_err-canon.result c.from_residual-in_err-canon.ensures.1 in
-    let after = g.R.Read.remaining (reader_of c.read_narrowed.new.source) in
-    let fault = c.in_err-canon.field-0.0 in
-    known_so _ _ _ (λ bytes spelled.
-    if_error (IsNormaliseFault c.args.max_lines c.args.asked.now bytes after) c.from_residual-in_err-canon.result fault (p.1 ∙ ap Err p.2)
-    (canon-fault c.args.max_lines c.args.asked.now bytes after (extract_parts c.in_ok-extract.extract) spelled fault
-    c.in_err-canon.ensures.fault)) c.in_ok-extract.ensures.ok
+    known-canon_fault c.args.max_lines c.args.asked.now _ (g.R.Read.remaining (reader_of c.read_narrowed.new.source))
+    c.from_residual-in_err-canon.result c.in_err-canon.field-0.0 c.from_residual-in_err-canon.ensures.1
+    (extract_parts c.in_ok-extract.extract) c.in_err-canon.ensures.fault c.in_ok-extract.ensures.ok
 
 pub returns-in_err-canon-clause-accepted : goal.returns-in_err-canon-clause-accepted
 returns-in_err-canon-clause-accepted g c =
-    let p = err_from_is_err_and c.from_residual-in_err-canon.result c.from_residual-in_err-canon.ensures.1 in
-    let after = g.R.Read.remaining (reader_of c.read_narrowed.new.source) in
-    let fault = c.in_err-canon.field-0.0 in
-    known_so _ _ _ (λ bytes spelled.
-    blamed c.args.max_lines c.args.asked.now bytes after c.from_residual-in_err-canon.result fault (p.1 ∙ ap Err p.2)
-    (canon-fault c.args.max_lines c.args.asked.now bytes after (extract_parts c.in_ok-extract.extract) spelled fault
-    c.in_err-canon.ensures.fault)) c.in_ok-extract.ensures.ok
+    known-canon_accepted c.args.max_lines c.args.asked.now _ (g.R.Read.remaining (reader_of c.read_narrowed.new.source))
+    c.from_residual-in_err-canon.result c.in_err-canon.field-0.0 c.from_residual-in_err-canon.ensures.1
+    (extract_parts c.in_ok-extract.extract) c.in_err-canon.ensures.fault c.in_ok-extract.ensures.ok
 
 pub returns-clause-ok : goal.returns-clause-ok
 returns-clause-ok g c =

@@ -21,26 +21,22 @@ pub returns-then-ne : goal.returns-then-ne
 returns-then-ne g c =
     let count = c.loop-count.count in
     let es = keyed g.E.Entry.key g.E.Entry.terms c.args.entries.now in
-    let has : HasKey es (get_or c.args.positions.now count 0) c.key.result.now =
-    subst (λ k. HasKey es (get_or c.args.positions.now count 0) k) (sym c.key.ensures)
-    (has-key g.E.Entry.key g.E.Entry.terms c.args.entries.now (get_or c.args.positions.now count 0) c.index-entries-i.result
-    (c.requires.within count 0 c.loop-count-test.true) c.index-entries-i.is) in
+    let has = has-key g.E.Entry.key g.E.Entry.terms c.args.entries.now (get_or c.args.positions.now count 0) c.index-entries-i.result
+    (c.requires.within count 0 c.loop-count-test.true) c.index-entries-i.is in
     front-ends g.E.Key.Ord.cmp es c.args.positions.now c.requires.rising g.met.E.Key.Ord.total
     (same_key-cmp g.E.Key.PartialEq.eq g.E.Key.Ord.cmp g.met.E.Key.Ord.matches_eq g.met.E.Entry.same_key) count c.args.key.now
-    c.key.result.now c.loop-count-test.true c.loop-count.invariant c.requires.from has
+    c.key.result.now c.loop-count-test.true c.loop-count.invariant c.requires.from (subst (HasKey es _) (sym c.key.ensures) has)
     (λ e. false≢true (sym (ap not ((g.met.E.Entry.same_key c.key.result.now c.args.key.now).1 e)) ∙ sym c.ne.ensures ∙ c.if-ne.true))
 
 pub loop-count-preserved : goal.loop-count-preserved
 loop-count-preserved g c =
     let count = c.loop-count.count in
     let es = keyed g.E.Entry.key g.E.Entry.terms c.args.entries.now in
-    let has : HasKey es (get_or c.args.positions.now count 0) c.key.result.now =
-    subst (λ k. HasKey es (get_or c.args.positions.now count 0) k) (sym c.key.ensures)
-    (has-key g.E.Entry.key g.E.Entry.terms c.args.entries.now (get_or c.args.positions.now count 0) c.index-entries-i.result
-    (c.requires.within count 0 c.loop-count-test.true) c.index-entries-i.is) in
+    let has = has-key g.E.Entry.key g.E.Entry.terms c.args.entries.now (get_or c.args.positions.now count 0) c.index-entries-i.result
+    (c.requires.within count 0 c.loop-count-test.true) c.index-entries-i.is in
+    let same = (g.met.E.Entry.same_key c.key.result.now c.args.key.now).0 (true_from_not _ (sym c.ne.ensures ∙ c.if-ne.false)) in
     All-more (λ i. HasKey es i c.args.key.now) c.args.positions.now count 0 c.loop-count-test.true
-    c.loop-count.invariant (subst (λ k. HasKey es (get_or c.args.positions.now count 0) k)
-    ((g.met.E.Entry.same_key c.key.result.now c.args.key.now).0 (true_from_not _ (sym c.ne.ensures ∙ c.if-ne.false))) has)
+    c.loop-count.invariant (subst (HasKey es _) (sym c.key.ensures ∙ same) has)
 
 pub returns : goal.returns
 returns g c =

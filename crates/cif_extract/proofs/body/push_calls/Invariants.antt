@@ -7,4 +7,4 @@ use Rattle.cif_extract.proofs.body.push_calls.Given as goal
 
 -- the lines of the calls so far stand behind those that were there
 abbrev pub invariant-loop-call : goal.invariant-loop-call
-invariant-loop-call l = KeepMore l.initial.lines.items l.lines.items (map record_table (map call_record (take l.call-index l.calls)))
+invariant-loop-call l = KeepMore l.initial.lines l.lines (map record_table (map call_record (take l.call-index l.calls)))

@@ -1,5 +1,5 @@
 -- The invariant names the lines so far: one more (`come_more`), one refused (`at_line`) and the end are said of them all.
-use Rattle.std.proofs.Common.{◌≡◌, ◌+◌, ◌<◌, ◌∙◌, length, [], ◌++◌, ◌∷◌, ◌≤◌, Err, IfErr, IfOk, Ok, Result, ap, arith, refl}
+use Rattle.std.proofs.Common.{◌≡◌, ◌+◌, ◌<◌, ◌∙◌, length, [], ◌++◌, ◌∷◌, ◌≤◌, Err, IfErr, IfOk, Ok, Result, ap, arith, refl, rules, subst, sym}
 use Rattle.std.proofs.lemmas.Result.{err_from_is_err_and}
 use Rattle.cif_columns.proofs.GivenLinesLaws.{known_so, nothing_left, reading_ends, reading_faults, reading_line}
 use Rattle.cif_columns.proofs.ReadSources.{read_on_both}
@@ -8,7 +8,7 @@ use Rattle.cif_extract.specs.Fault.{of_line_fault}
 use Rattle.cif_extract.specs.ReadFault.{IsOfReading, IsReadFault}
 use Rattle.cif_extract.specs.Steps.Reading.{progress_of}
 use Rattle.cif_extract.proofs.FirstRefusals.{at_fault, at_line, fault_handed_on, if_error, line_fault_of_reading}
-use Rattle.cif_extract.proofs.ReadingRuns.{come_more, refused_here, refused_reason, stop_of_reading, stop_result}
+use Rattle.cif_extract.proofs.ReadingRuns.{HasCome, come_more, come_none, refused_here, refused_reason, stop_of_reading, stop_result}
 use Rattle.cif_extract.proofs.ReadingRuns.{unfinished_of_reading, unfinished_result, whole_result}
 use Rattle.cif_extract.proofs.SpelledBytes.{only_fault, only_read}
 use Rattle.cif_extract.proofs.reader.read_extract.Goals as goal
@@ -138,3 +138,11 @@ returns-in_err-is_line-clause-device g c =
     let p = err_from_is_err_and c.from_residual.result c.from_residual.ensures.1 in
     fault_handed_on _ _ _ _ c.in_err-is_line.field-0.0 c.from_residual.result (p.1 ∙ ap Err p.2) read_on
     (c.in_err-is_line.ensures.device so_far.reads_on)
+
+pub loop-reading-init : goal.loop-reading-init
+loop-reading-init g c = (
+  [],
+  search rules,
+  subst (HasCome c.args.max_lines []) (sym c.new-reading.ensures) (come_none c.args.max_lines),
+  search rules,
+)

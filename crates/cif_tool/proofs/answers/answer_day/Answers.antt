@@ -1,10 +1,9 @@
 -- The text has to be named: that of the view, flushed or a front; of known bytes `day-answer` says that it answers.
-use Rattle.std.proofs.Common.{Err, ap, ◌∙◌, inr}
-use Rattle.std.proofs.lemmas.Result.{err_from_is_err_and}
+use Rattle.std.proofs.Common.{inr}
 use Rattle.cif_columns.specs.Source.{reader_of}
 use Rattle.cif_columns.proofs.GivenLinesLaws.{known_so}
 use Rattle.cif_extract.specs.ExtractParts.{extract_parts}
-use Rattle.cif_extract.proofs.FirstRefusals.{if_error}
+use Rattle.cif_canon.proofs.HandedFaults.{at-fault, known-fault}
 use Rattle.cif_tool.specs.Answer.{IsDayRefusal}
 use Rattle.cif_tool.proofs.Answered.{fails, flushed, only-write, written-then}
 use Rattle.cif_tool.proofs.KnownAnswers.{day-answer}
@@ -12,21 +11,19 @@ use Rattle.cif_tool.proofs.answers.answer_day.Goals as goal
 
 pub returns-in_err-day_view-clause-answer : goal.returns-in_err-day_view-clause-answer
 returns-in_err-day_view-clause-answer g c =
-    let p = err_from_is_err_and c.from_residual-in_err-day_view.result c.from_residual-in_err-day_view.ensures.1 in
+    let call = c.from_residual-in_err-day_view in
     let f = c.in_err-day_view.field-0.0 in
     let made = c.in_err-day_view.ensures.view in
     let x = extract_parts c.in_ok-extract.extract in
-    fails _ _ _ _ made.0 0 (Unit {0}) c.day_view.new.sink c.from_residual-in_err-day_view.result f (p.1 ∙ ap Err p.2) made.1
+    fails _ _ _ _ made.0 0 (Unit {0}) c.day_view.new.sink call.result f (at-fault call.result f call.ensures.1) made.1
     (written-then (Unit {0}) (Unit {0}) _ _ f (λ view. day-answer _ x c.in_ok-extract.ensures.ok c.args.day made.0 view) made.2)
 
 pub returns-in_err-day_view-clause-fault : goal.returns-in_err-day_view-clause-fault
 returns-in_err-day_view-clause-fault g c =
-    let p = err_from_is_err_and c.from_residual-in_err-day_view.result c.from_residual-in_err-day_view.ensures.1 in
     let after = g.R.Read.remaining (reader_of c.read_extract.new.source) in
-    let f = c.in_err-day_view.field-0.0 in
-    known_so _ _ _ (λ bytes spelled.
-    if_error (IsDayRefusal c.args.day bytes after) c.from_residual-in_err-day_view.result f (p.1 ∙ ap Err p.2)
-    (inr (extract_parts c.in_ok-extract.extract, spelled, c.in_err-day_view.ensures.fault))) c.in_ok-extract.ensures.ok
+    known-fault c.from_residual-in_err-day_view.result c.in_err-day_view.field-0.0 c.from_residual-in_err-day_view.ensures.1 _ _
+    (λ bytes. IsDayRefusal c.args.day bytes after)
+    (λ bytes spelled. inr (extract_parts c.in_ok-extract.extract, spelled, c.in_err-day_view.ensures.fault)) c.in_ok-extract.ensures.ok
 
 pub returns-clause-answer : goal.returns-clause-answer
 returns-clause-answer g c =

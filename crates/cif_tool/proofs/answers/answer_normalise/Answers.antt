@@ -1,6 +1,5 @@
 -- The text has to be named: what `normalise` wrote, flushed or a front; of known bytes `normalise-answer` says that it answers.
-use Rattle.std.proofs.Common.{Err, ap, ◌∙◌}
-use Rattle.std.proofs.lemmas.Result.{err_from_is_err_and}
+use Rattle.cif_canon.proofs.HandedFaults.{at-fault}
 use Rattle.cif_canon.specs.declared.counts.Counts.{Counts}
 use Rattle.cif_tool.proofs.Answered.{fails, flushed}
 use Rattle.cif_tool.proofs.KnownAnswers.{normalise-answer, normalise-failed}
@@ -8,10 +7,10 @@ use Rattle.cif_tool.proofs.answers.answer_normalise.Goals as goal
 
 pub returns-in_err-normalise-clause-answer : goal.returns-in_err-normalise-clause-answer
 returns-in_err-normalise-clause-answer g c =
-    let p = err_from_is_err_and c.from_residual.result c.from_residual.ensures.1 in
     let f = c.in_err-normalise.field-0.0 in
+    let is = at-fault c.from_residual.result f c.from_residual.ensures.1 in
     let made = c.in_err-normalise.ensures.normal in
-    fails _ _ _ _ made.0 0 Counts c.normalise.new.sink c.from_residual.result f (p.1 ∙ ap Err p.2) made.1
+    fails _ _ _ _ made.0 0 Counts c.normalise.new.sink c.from_residual.result f is made.1
     (normalise-failed _ c.args.form c.args.asked.now made.0 f made.2)
 
 pub returns-clause-answer : goal.returns-clause-answer

@@ -1,13 +1,10 @@
 -- The text is that of the view of what was narrowed (`train-answer`); both calls' faults are of known bytes (`train-fault`).
-use Rattle.std.proofs.Common.{Err, ap, ◌∙◌}
-use Rattle.std.proofs.lemmas.Result.{err_from_is_err_and}
 use Rattle.cif_columns.specs.Source.{reader_of}
 use Rattle.cif_columns.specs.declared.line_reader.TheConstants.{MAX_LINES}
-use Rattle.cif_columns.proofs.GivenLinesLaws.{known_so}
 use Rattle.cif_extract.specs.ExtractParts.{extract_parts}
-use Rattle.cif_extract.proofs.FirstRefusals.{if_error}
 use Rattle.cif_canon.specs.Fault.{IsNormaliseFault}
-use Rattle.cif_canon.proofs.Normalising.{narrowing-fault, spells-narrowed}
+use Rattle.cif_canon.proofs.HandedFaults.{at-fault, known-fault}
+use Rattle.cif_canon.proofs.Normalising.{known-narrowing, spells-narrowed}
 use Rattle.cif_tool.proofs.Answered.{fails, flushed, written-then}
 use Rattle.cif_tool.proofs.KnownAnswers.{train-answer}
 use Rattle.cif_tool.proofs.TrainFaults.{train-fault}
@@ -15,35 +12,30 @@ use Rattle.cif_tool.proofs.answers.answer_train.Goals as goal
 
 pub returns-in_err-extract-clause-fault : goal.returns-in_err-extract-clause-fault
 returns-in_err-extract-clause-fault g c =
-    let p = err_from_is_err_and c.from_residual-in_err-extract.result c.from_residual-in_err-extract.ensures.1 in
-    let after = g.R.Read.remaining (reader_of c.read_extract.new.source) in
-    let f = c.in_err-extract.field-0.0 in
-    known_so _ _ _ (λ bytes spelled.
-    if_error (IsNormaliseFault MAX_LINES c.args.asked.now bytes after) c.from_residual-in_err-extract.result f (p.1 ∙ ap Err p.2)
-    (narrowing-fault MAX_LINES c.args.asked.now bytes after (extract_parts c.in_ok-read_extract.field-0) spelled f
-    c.in_err-extract.ensures.fault)) c.in_ok-read_extract.ensures.ok
+    known-narrowing MAX_LINES c.args.asked.now _ (g.R.Read.remaining (reader_of c.read_extract.new.source))
+    c.from_residual-in_err-extract.result c.in_err-extract.field-0.0 c.from_residual-in_err-extract.ensures.1
+    (extract_parts c.in_ok-read_extract.field-0) c.in_err-extract.ensures.fault c.in_ok-read_extract.ensures.ok
 
 pub returns-in_err-train_view-clause-answer : goal.returns-in_err-train_view-clause-answer
 returns-in_err-train_view-clause-answer g c =
-    let p = err_from_is_err_and c.from_residual-in_err-train_view.result c.from_residual-in_err-train_view.ensures.1 in
+    let call = c.from_residual-in_err-train_view in
     let f = c.in_err-train_view.field-0.0 in
     let made = c.in_err-train_view.ensures.view in
-    fails _ _ _ _ made.0 0 (Unit {0}) c.train_view.new.sink c.from_residual-in_err-train_view.result f (p.1 ∙ ap Err p.2) made.1
+    fails _ _ _ _ made.0 0 (Unit {0}) c.train_view.new.sink call.result f (at-fault call.result f call.ensures.1) made.1
     (written-then (Unit {0}) (Unit {0}) _ _ f (λ view.
     train-answer _ (extract_parts c.in_ok-read_extract.field-0) c.in_ok-read_extract.ensures.ok c.args.form c.args.asked.now
     (extract_parts c.in_ok-extract.extract) c.args.uid.now made.0 c.in_ok-extract.ensures.ok view) made.2)
 
 pub returns-in_err-train_view-clause-fault : goal.returns-in_err-train_view-clause-fault
 returns-in_err-train_view-clause-fault g c =
-    let p = err_from_is_err_and c.from_residual-in_err-train_view.result c.from_residual-in_err-train_view.ensures.1 in
     let after = g.R.Read.remaining (reader_of c.read_extract.new.source) in
     let f = c.in_err-train_view.field-0.0 in
     let x = extract_parts c.in_ok-extract.extract in
-    known_so _ _ _ (λ bytes spelled.
-    if_error (IsNormaliseFault MAX_LINES c.args.asked.now bytes after) c.from_residual-in_err-train_view.result f (p.1 ∙ ap Err p.2)
-    (train-fault MAX_LINES c.args.asked.now bytes after x
+    known-fault c.from_residual-in_err-train_view.result f c.from_residual-in_err-train_view.ensures.1 _ _
+    (λ bytes. IsNormaliseFault MAX_LINES c.args.asked.now bytes after) (λ bytes spelled.
+    train-fault MAX_LINES c.args.asked.now bytes after x
     (spells-narrowed MAX_LINES c.args.asked.now bytes (extract_parts c.in_ok-read_extract.field-0) x spelled c.in_ok-extract.ensures.ok) f
-    c.in_err-train_view.ensures.fault)) c.in_ok-read_extract.ensures.ok
+    c.in_err-train_view.ensures.fault) c.in_ok-read_extract.ensures.ok
 
 pub returns-clause-answer : goal.returns-clause-answer
 returns-clause-answer g c =

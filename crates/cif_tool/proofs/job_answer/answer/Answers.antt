@@ -1,9 +1,8 @@
 -- For `compare` and `day` the job that was matched is put in; `of-fault` says of the fault what holds where bytes are known.
-use Rattle.std.proofs.Common.{List, ℕ, Option, Some, None, Result, Ok, Err, IfErr, IfSome, subst, sym, ◌≡◌}
+use Rattle.std.proofs.Common.{List, ℕ, Option, Some, None, Result, Ok, Err, IfErr, IfSome, ◌≡◌}
 use Rattle.cif_columns.specs.Source.{reader_of}
 use Rattle.cif_extract.specs.declared.fault.Fault.{Fault}
-use Rattle.cif_tool.specs.Answer.{Answers, IsCompareRefusal, IsDayRefusal, IsJobAnswer, IsJobRefusal}
-use Rattle.cif_tool.specs.declared.job.Job.{Job}
+use Rattle.cif_tool.specs.Answer.{IsCompareRefusal, IsDayRefusal}
 use Rattle.cif_tool.proofs.job_answer.answer.Goals as goal
 
 -- what holds of a fault where the bytes are known
@@ -15,12 +14,7 @@ of-fault (Some bytes) (Ok done) P h = tt
 of-fault (Some bytes) (Err f) P h = h
 
 pub returns-in-Compare-clause-answer : goal.returns-in-Compare-clause-answer
-returns-in-Compare-clause-answer g c =
-    let left = g.R.Read.remaining (reader_of c.args.source.now) in
-    let right = g.R.Read.remaining (reader_of c.args.right.now) in
-    subst (λ (job : Job).
-    Answers g.W.Write.contents g.W.WriteDevice.write_errors (IsJobAnswer job left right) c.args.sink.now c.answer_compare.new.sink
-    c.answer_compare.result) (sym c.in-Compare.is) c.answer_compare.ensures.answer
+returns-in-Compare-clause-answer g c = rw c.in-Compare.is c.answer_compare.ensures.answer
 
 pub returns-in-Compare-clause-fault : goal.returns-in-Compare-clause-fault
 returns-in-Compare-clause-fault g c =
@@ -29,25 +23,14 @@ returns-in-Compare-clause-fault g c =
     let after = g.R.Read.remaining (reader_of call.new.left) in
     let right = g.R.Read.remaining (reader_of c.args.right.now) in
     let right_after = g.R.Read.remaining (reader_of call.new.right) in
-    subst (λ (job : Job).
-    IfErr call.result (IsJobRefusal job start after (call.new.right ≡ c.args.right.now) right right_after)) (sym c.in-Compare.is)
-    (of-fault start call.result (λ bytes.
+    rw c.in-Compare.is (of-fault start call.result (λ bytes.
     IsCompareRefusal c.in-Compare.asked bytes after (call.new.right ≡ c.args.right.now) right right_after) call.ensures.fault)
 
 pub returns-in-Day-clause-answer : goal.returns-in-Day-clause-answer
-returns-in-Day-clause-answer g c =
-    let left = g.R.Read.remaining (reader_of c.args.source.now) in
-    let right = g.R.Read.remaining (reader_of c.args.right.now) in
-    subst (λ (job : Job).
-    Answers g.W.Write.contents g.W.WriteDevice.write_errors (IsJobAnswer job left right) c.args.sink.now c.answer_day.new.sink
-    c.answer_day.result) (sym c.in-Day.is) c.answer_day.ensures.answer
+returns-in-Day-clause-answer g c = rw c.in-Day.is c.answer_day.ensures.answer
 
 pub returns-in-Day-clause-fault : goal.returns-in-Day-clause-fault
 returns-in-Day-clause-fault g c =
     let call = c.answer_day in
-    let start = g.R.Read.remaining (reader_of c.args.source.now) in
     let after = g.R.Read.remaining (reader_of call.new.source) in
-    let right = g.R.Read.remaining (reader_of c.args.right.now) in
-    subst (λ (job : Job). IfErr call.result (IsJobRefusal job start after (c.args.right.now ≡ c.args.right.now) right right))
-    (sym c.in-Day.is)
-    (of-fault start call.result (λ bytes. IsDayRefusal c.in-Day.day bytes after) call.ensures.fault)
+    rw c.in-Day.is (of-fault _ call.result (λ bytes. IsDayRefusal c.in-Day.day bytes after) call.ensures.fault)

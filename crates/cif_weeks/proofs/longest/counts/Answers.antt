@@ -1,5 +1,5 @@
 -- Form 2 wants a date named, that of the weekday in the week: it is in `counts-within`, and `counted-within` is the way back.
-use Rattle.std.proofs.Common.{◌≡◌, ◌+◌, ◌*◌, ◌≤◌, sym, subst}
+use Rattle.std.proofs.Common.{◌≡◌, ◌+◌, ◌≤◌, sym, subst}
 use Rattle.cif_weeks.specs.Runs.{window_of}
 use Rattle.cif_weeks.proofs.AgreedDays.{counts-within, counted-within}
 use Rattle.cif_weeks.proofs.longest.counts.Goals as goal
@@ -10,13 +10,11 @@ returns-in-Two c week is =
     let last : c.window.result.last ≡ c.args.calendar.now.last = c.window.ensures.last in
     let says = c.lie_in_window.ensures in
     rw c.in-Two.is (
-      λ on. let h = says.0 on in
-          counts-within (window_of c.args.calendar.now) week c.args.next c.args.weekday is c.requires.weekday
-          (subst (λ v. v + 11 ≤ c.args.next * 7 + c.args.weekday) first h.0)
-          (subst (λ v. c.args.next * 7 + c.args.weekday ≤ v + 4) last h.1),
-      λ counts. let h = counted-within (window_of c.args.calendar.now) week c.args.next c.args.weekday is counts in
-          says.1 (
-            subst (λ v. v + 11 ≤ c.args.next * 7 + c.args.weekday) (sym first) h.0,
-            subst (λ v. c.args.next * 7 + c.args.weekday ≤ v + 4) (sym last) h.1,
-          ),
+      λ on. let (n, in_week, day, from, upto) = says.0 on in
+          counts-within (window_of c.args.calendar.now) week c.args.next c.args.weekday n is in_week day
+          (subst (λ v. v + 7 ≤ n) first from)
+          (subst (λ v. n ≤ v) last upto),
+      λ counts. let (n, in_week, day, from, upto) =
+          counted-within (window_of c.args.calendar.now) week c.args.next c.args.weekday is counts in
+          says.1 (n, in_week, day, subst (λ v. v + 7 ≤ n) (sym first) from, subst (λ v. n ≤ v) (sym last) upto),
     )

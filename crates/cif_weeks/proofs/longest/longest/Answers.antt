@@ -10,8 +10,8 @@ use Rattle.cif_weeks.proofs.longest.longest.Goals as goal
 use Rattle.cif_weeks.proofs.longest.longest.Goals.{After-unwrap_or, After-union-mask, then-number-end, else-number-end+in_default-2}
 use Rattle.cif_weeks.proofs.longest.longest.Goals.{else-number-end+in_default}
 
-pub last_day-requires-clause-days : goal.last_day-requires-clause-days
-last_day-requires-clause-days g c =
+pub last_day-requires : goal.last_day-requires
+last_day-requires g c =
     let xs = map g.E.Entry.terms c.args.entries.now in
     let some = source-body xs c.args.calendar.now c.requires.sources c.args.first c.args.source c.requires.starts in
     mask-days xs c.args.calendar.now c.requires.sources c.args.week.now.number some.0 c.args.days c.last_week-end.ensures.in_range
@@ -48,8 +48,8 @@ pub mask_of-days-requires-clause-positions : goal.mask_of-days-requires-clause-p
 mask_of-days-requires-clause-positions g c =
     row-positions (map g.E.Entry.terms c.args.entries.now) c.args.calendar.now c.requires.sources _ _ c.of-next.ensures.week.row
 
-pub last_day-requires-in-loop-number-clause-days : goal.last_day-requires-in-loop-number-clause-days
-last_day-requires-in-loop-number-clause-days g c =
+pub last_day-requires-in-loop-number : goal.last_day-requires-in-loop-number
+last_day-requires-in-loop-number g c =
     let xs = map g.E.Entry.terms c.args.entries.now in
     let some = source-body xs c.args.calendar.now c.requires.sources c.args.first c.args.source c.requires.starts in
     mask-days xs c.args.calendar.now c.requires.sources c.of-next.result.number some.0 c.mask_of-days.result

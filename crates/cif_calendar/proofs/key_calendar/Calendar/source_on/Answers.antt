@@ -1,10 +1,10 @@
+-- The winner that is read is the day's source: each piece that has the day tells the same (`source_at-piece`).
 use Rattle.std.proofs.Common.{◌≡◌, ◌∙◌, ap, sym, None, get_or}
 use Rattle.cif_calendar.specs.Pieces.{source_at}
 use Rattle.cif_calendar.proofs.PieceLists.{source_at-piece}
 use Rattle.cif_calendar.proofs.key_calendar.Calendar.source_on.Goals as goal
 use Rattle.cif_calendar.proofs.key_calendar.Calendar.source_on.Goals.{After-weekday}
 
--- the winner that is read is the day's source
 winner : (c : After-weekday) → get_or c.piece_on.result.now.winners c.weekday.result None ≡ source_at c.args.self.now.pieces c.args.day
 winner c =
     let says = c.piece_on.ensures in

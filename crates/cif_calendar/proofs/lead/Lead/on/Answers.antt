@@ -1,3 +1,4 @@
+-- The leader of those seen is a member that applies (`leader-on`); the others haven't begun, so it leads the whole layer (`led-on`).
 use Rattle.std.proofs.Common.{◌≡◌, ◌+◌, ◌++◌, ◌∷◌, [], ◌∙◌, ℕ, List, Some, ap, sym, subst, arith, map, take}
 use Rattle.std.proofs.lemmas.List.{take_more}
 use Rattle.std.proofs.lemmas.Result.{err_from_is_err_and}
@@ -5,7 +6,7 @@ use Rattle.cif_columns.specs.Day.{weekday_of}
 use Rattle.cif_calendar.specs.Steps.Leading.{IsLed}
 use Rattle.cif_calendar.specs.declared.member.Member.{Member}
 use Rattle.cif_calendar.specs.Source.{body_at}
-use Rattle.cif_calendar.proofs.Leading.{leader-listed, leader-on, leader-within, led-on, read-within}
+use Rattle.cif_calendar.proofs.Leading.{alike-at, alike-set, leader-listed, leader-on, leader-within, led-on, read-within}
 use Rattle.cif_calendar.proofs.lead.Lead.on.Goals as goal
 
 pub leader_with-requires-clause-leader : goal.leader_with-requires-clause-leader
@@ -17,6 +18,11 @@ pub leader_with-requires-clause-member : goal.leader_with-requires-clause-member
 leader_with-requires-clause-member g c =
     read-within g.E.Entry.terms c.args.entries.now c.args.members.now c.requires.layer c.in-Some.member
     (c.loop-member.seen, c.in-Some.ensures.within, c.in-Some.ensures.at)
+
+pub leader_with-requires-clause-alike : goal.leader_with-requires-clause-alike
+leader_with-requires-clause-alike g c =
+    alike-at (map g.E.Entry.terms c.args.entries.now) c.args.members.now c.loop-member.alike c.loop-member.seen 0 c.in-Some.member
+    c.loop-member.invariant.alike c.in-Some.ensures.within c.in-Some.ensures.at
 
 pub returns-in_err-leader-clause-apart : goal.returns-in_err-leader-clause-apart
 returns-in_err-leader-clause-apart g c =
@@ -45,6 +51,8 @@ loop-member-preserved g c =
     record {
       within = omega (arith, c.in-Some.ensures.within);
       left = c.in_ok-leader.ensures.unfinished;
+      alike = alike-set xs c.args.members.now c.loop-member.alike c.loop-member.seen c.leader_with.new.alike 0
+          c.in_ok-leader.ensures.alike c.loop-member.invariant.alike;
       led = subst (λ (front : List Member). IsLed xs front (weekday_of c.args.day) c.args.day c.in_ok-leader.leader) (sym more)
           (c.in_ok-leader.ensures.led seen c.loop-member.invariant.led);
     }

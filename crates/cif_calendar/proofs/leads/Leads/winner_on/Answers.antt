@@ -1,3 +1,4 @@
+-- A layer decides where none before it has a leader (`LayerWinners`): each exit carries what the layers that were asked have said.
 use Rattle.std.proofs.Common.{map}
 use Rattle.std.proofs.lemmas.Result.{err_from_is_err_and}
 use Rattle.cif_calendar.proofs.LayerWinners.{apart-is, led-is, cancelled-clash, cancelled-clear, cancelled-source}

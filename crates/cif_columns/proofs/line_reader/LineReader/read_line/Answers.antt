@@ -1,7 +1,7 @@
--- `answer`, and `undecided` of a failure, want the words of the subject (`LineAnswers`); `search` has the rest, one by one.
+-- What was found is told in the words of the subject by `LineAnswers`, which `search` would not try; it has the rest.
 use Rattle.std.proofs.Common.{None, drop, refl, rules}
 use Rattle.std.proofs.KnownBytes.{Keeps-refl}
-use Rattle.cif_columns.specs.Ahead.{held_bytes}
+use Rattle.cif_columns.specs.Ahead.{held_bytes, known_left}
 use Rattle.cif_columns.specs.declared.ahead.Found.TheVariants.{Next}
 use Rattle.cif_columns.proofs.FoundInHeld.{found_more}
 use Rattle.cif_columns.proofs.LineAnswers.{line_answered, refusal_answered, decides_nothing}
@@ -12,77 +12,27 @@ returns-then-plain_line g c =
     let this = c.args.self.now in
     let held = held_bytes this.ahead in
     let found = c.if-plain_line.ensures in
-    record {
-      answer = λ _. line_answered this.limit this.given this.counted _ _ c.plain_line.new.line
-          (rw c.pass_plain_line.ensures (found_more _ _ (g.R.Read.remaining c.args.source.now.reader) held (drop 81 held)
-          (Next c.plain_line.new.line) (Keeps-refl _) (found.decided refl) (found.found refl)));
-      device = search rules;
-      undecided = search rules;
-      endless = search rules;
-      fault = search rules;
-      past_now = search rules;
-      again = search rules;
-      still = search rules;
-      unread = search rules;
-      limit_now = search rules;
-      counted = search rules;
-      ended = search rules;
-      refused = search rules;
-    }
+    let remaining = g.R.Read.remaining in
+    let answer = line_answered this.limit this.given this.counted (known_left remaining this.ahead c.args.source.now)
+    (known_left remaining c.pass_plain_line.new.self c.args.source.now) c.plain_line.new.line
+    (rw c.pass_plain_line.ensures (found_more _ _ (remaining c.args.source.now.reader) held (drop 81 held)
+    (Next c.plain_line.new.line) (Keeps-refl _) (found.decided refl) (found.found refl))) in
+    search (rules, answer)
 
 pub returns-in-Next : goal.returns-in-Next
 returns-in-Next g c =
     let this = c.args.self.now in
-    record {
-      answer = λ _. line_answered this.limit this.given this.counted _ _ c.in-Next.next c.in-Next.ensures.found;
-      device = search rules;
-      undecided = search rules;
-      endless = search rules;
-      fault = search rules;
-      past_now = search rules;
-      again = search rules;
-      still = search rules;
-      unread = search rules;
-      limit_now = search rules;
-      counted = search rules;
-      ended = search rules;
-      refused = search rules;
-    }
+    let answer = line_answered this.limit this.given this.counted _ _ c.in-Next.next c.in-Next.ensures.found in
+    search (rules, answer)
 
 pub returns-in-Refused : goal.returns-in-Refused
 returns-in-Refused g c =
     let this = c.args.self.now in
-    record {
-      answer = λ _. refusal_answered this.limit this.given this.counted _ None c.in-Refused.why c.in-Refused.ensures.found;
-      device = search rules;
-      undecided = search rules;
-      endless = search rules;
-      fault = search rules;
-      past_now = search rules;
-      again = search rules;
-      still = search rules;
-      unread = search rules;
-      limit_now = search rules;
-      counted = search rules;
-      ended = search rules;
-      refused = search rules;
-    }
+    let answer = refusal_answered this.limit this.given this.counted _ None c.in-Refused.why c.in-Refused.ensures.found in
+    search (rules, answer)
 
 pub returns-in-Failed : goal.returns-in-Failed
 returns-in-Failed g c =
     let this = c.args.self.now in
-    record {
-      answer = search rules;
-      device = search rules;
-      undecided = λ _ _. decides_nothing this.limit this.given this.counted _ (c.in-Failed.ensures.undecided refl);
-      endless = search rules;
-      fault = search rules;
-      past_now = search rules;
-      again = search rules;
-      still = search rules;
-      unread = search rules;
-      limit_now = search rules;
-      counted = search rules;
-      ended = search rules;
-      refused = search rules;
-    }
+    let undecided = decides_nothing this.limit this.given this.counted _ (c.in-Failed.ensures.undecided refl) in
+    search (rules, undecided)

@@ -1,7 +1,7 @@
 -- The view and the invariant want the lines as those of all five parts, one put behind another: `more_by`, then `whole_body`.
-use Rattle.std.proofs.Common.{[], ◌∷◌, refl}
+use Rattle.std.proofs.Common.{[], ◌∷◌, ap, ◌∙◌}
+use Rattle.std.specs.Prelude.{◌++◌}
 use Rattle.std.specs.Option.{option_copied}
-use Rattle.std.proofs.lemmas.Slice.{pushed}
 use Rattle.cif_records.specs.Detail.{detail_table}
 use Rattle.cif_records.specs.SpellsRecord.{record_table}
 use Rattle.cif_records.specs.declared.record.Record.TheVariants.{Origin, Terminus}
@@ -19,17 +19,15 @@ invariant_of-result c =
       calls = c.args.calls.now;
       terminus = c.args.terminus.now;
     } in
-    let a = more_by [] c.push.new.self.items c.write.result (detail_table p.detail)
-    (pushed {xs = []} (c.write.result ∷ []) c.in_ok-lines.ensures.items c.in_ok-push.was c.push.ensures.items)
+    let a = more_by [] c.push.new.self c.write.result (detail_table p.detail)
+    (c.in_ok-push.ensures ∙ ap (λ lines. lines ++ (c.write.result ∷ [])) c.in_ok-lines.ensures)
     c.write.ensures.again c.write.ensures.plain in
-    let b = more_by c.push_extra.new.lines.items c.push-2.new.self.items c.write-2.result (record_table (Origin p.origin))
-    (pushed {xs = c.push_extra.new.lines.items} (c.write-2.result ∷ []) refl c.in_ok-push-2.was c.push-2.ensures.items)
-    c.write-2.ensures.again c.write-2.ensures.plain in
-    let e = more_by c.push_calls.new.lines.items c.push-3.new.self.items c.write-3.result (record_table (Terminus p.terminus))
-    (pushed {xs = c.push_calls.new.lines.items} (c.write-3.result ∷ []) refl c.in_ok-push-3.was c.push-3.ensures.items)
-    c.write-3.ensures.again c.write-3.ensures.plain in
-    let k = whole_body p c.push.new.self.items c.push_extra.new.lines.items c.push-2.new.self.items c.push_calls.new.lines.items
-    c.push-3.new.self.items a c.in_ok-push_extra.ensures b c.in_ok-push_calls.ensures e in
+    let b = more_by c.push_extra.new.lines c.push-2.new.self c.write-2.result (record_table (Origin p.origin))
+    c.in_ok-push-2.ensures c.write-2.ensures.again c.write-2.ensures.plain in
+    let e = more_by c.push_calls.new.lines c.push-3.new.self c.write-3.result (record_table (Terminus p.terminus))
+    c.in_ok-push-3.ensures c.write-3.ensures.again c.write-3.ensures.plain in
+    let k = whole_body p c.push.new.self c.push_extra.new.lines c.push-2.new.self c.push_calls.new.lines c.push-3.new.self
+    a c.in_ok-push_extra.ensures b c.in_ok-push_calls.ensures e in
     (p, k)
 
 pub returns : goal.returns
@@ -41,15 +39,13 @@ returns c =
       calls = c.args.calls.now;
       terminus = c.args.terminus.now;
     } in
-    let a = more_by [] c.push.new.self.items c.write.result (detail_table p.detail)
-    (pushed {xs = []} (c.write.result ∷ []) c.in_ok-lines.ensures.items c.in_ok-push.was c.push.ensures.items)
+    let a = more_by [] c.push.new.self c.write.result (detail_table p.detail)
+    (c.in_ok-push.ensures ∙ ap (λ lines. lines ++ (c.write.result ∷ [])) c.in_ok-lines.ensures)
     c.write.ensures.again c.write.ensures.plain in
-    let b = more_by c.push_extra.new.lines.items c.push-2.new.self.items c.write-2.result (record_table (Origin p.origin))
-    (pushed {xs = c.push_extra.new.lines.items} (c.write-2.result ∷ []) refl c.in_ok-push-2.was c.push-2.ensures.items)
-    c.write-2.ensures.again c.write-2.ensures.plain in
-    let e = more_by c.push_calls.new.lines.items c.push-3.new.self.items c.write-3.result (record_table (Terminus p.terminus))
-    (pushed {xs = c.push_calls.new.lines.items} (c.write-3.result ∷ []) refl c.in_ok-push-3.was c.push-3.ensures.items)
-    c.write-3.ensures.again c.write-3.ensures.plain in
-    let k = whole_body p c.push.new.self.items c.push_extra.new.lines.items c.push-2.new.self.items c.push_calls.new.lines.items
-    c.push-3.new.self.items a c.in_ok-push_extra.ensures b c.in_ok-push_calls.ensures e in
-    parts_in-keeps c.push-3.new.self.items p k
+    let b = more_by c.push_extra.new.lines c.push-2.new.self c.write-2.result (record_table (Origin p.origin))
+    c.in_ok-push-2.ensures c.write-2.ensures.again c.write-2.ensures.plain in
+    let e = more_by c.push_calls.new.lines c.push-3.new.self c.write-3.result (record_table (Terminus p.terminus))
+    c.in_ok-push-3.ensures c.write-3.ensures.again c.write-3.ensures.plain in
+    let k = whole_body p c.push.new.self c.push_extra.new.lines c.push-2.new.self c.push_calls.new.lines c.push-3.new.self
+    a c.in_ok-push_extra.ensures b c.in_ok-push_calls.ensures e in
+    parts_in-keeps c.push-3.new.self p k

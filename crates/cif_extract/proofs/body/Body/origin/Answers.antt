@@ -4,14 +4,14 @@ use Rattle.cif_extract.proofs.body.Body.origin.Goals as goal
 
 pub unreachable-requires : goal.unreachable-requires
 unreachable-requires c =
-    let there = spells_origin c.journey-journey.result.now c.args.self.now c.index-journey-0.result
-    c.journey-journey.ensures c.index-journey-0.is in
+    let there = spells_origin c.journey-journey.result c.args.self.now c.line.result
+    c.journey-journey.ensures c.line.ensures in
     let read = c.read.ensures.only c.args.self.now.origin there in
     cc
 
 pub returns : goal.returns
 returns c =
-    let there = spells_origin c.journey-journey.result.now c.args.self.now c.index-journey-0.result
-    c.journey-journey.ensures c.index-journey-0.is in
+    let there = spells_origin c.journey-journey.result c.args.self.now c.line.result
+    c.journey-journey.ensures c.line.ensures in
     let read = c.read.ensures.only c.args.self.now.origin there in
     cc

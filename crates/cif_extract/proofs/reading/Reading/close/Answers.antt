@@ -1,7 +1,6 @@
 -- A failed push is want of memory; else the schedule is put together from the steps, with the parts in the lines.
 use Rattle.std.proofs.Common.{◌∙◌, ◌++◌, ◌∷◌, [], List, ap}
 use Rattle.std.proofs.lemmas.Result.{err_from_is_err_and}
-use Rattle.cif_extract.specs.Body.{parts_in}
 use Rattle.cif_extract.specs.Steps.Reading.{progress_of, schedule_with, Progress}
 use Rattle.cif_extract.specs.declared.schedule.Schedule.{Schedule}
 use Rattle.cif_extract.proofs.reading.Reading.close.Goals as goal
@@ -16,4 +15,4 @@ returns c =
     let before : Progress = progress_of c.args.self.now in
     ap (λ (schedules : List Schedule). record before { schedules = schedules })
     (c.in_ok-push.ensures ∙ ap (λ (s : Schedule). before.schedules ++ (s ∷ []))
-    (c.schedule.ensures ∙ ap (schedule_with c.args.opened) (c.in_ok-body.ensures ∙ ap parts_in c.deref.ensures.value)))
+    (c.schedule.ensures ∙ ap (schedule_with c.args.opened) c.in_ok-body.ensures))

@@ -14,10 +14,7 @@ returns-in_ok-push c =
     let b = there.basic in
     let has : has_body b.letter ≡ true = ap has_body (sym there.terms.letter) ∙ sym c.has_body.ensures ∙ c.if-has_body.true in
     let some = detail_there c.args.line.now b there.spells has in
-    let put : ◌≡◌ {A = List (List ℕ)} c.push.new.items.items (c.line_of.result ∷ []) = rw (
-      c.in_ok-push.ensures,
-      c.clear.ensures.items,
-    ) refl in (
+    let put : ◌≡◌ {A = List (List ℕ)} c.push.new.self (c.line_of.result ∷ []) = rw (c.in_ok-push.ensures, c.clear.ensures) refl in (
       fine,
       (
         of.Basic b,

@@ -16,7 +16,7 @@ close-requires c =
     let (t, same) = is_terminus r (kind_here c.args.line.now r Lt spells c.requires.kind) in
     let (records, read) = c.requires.read in
     let now : progress_of c.keep.new.self ≡ record (progress_of c.args.self.now) {
-      lines = kept c.args.self.now.opened c.args.self.now.lines.items (of.Terminus t);
+      lines = kept c.args.self.now.opened c.args.self.now.lines (of.Terminus t);
     } = rw same at is in
     let opened : c.keep.new.self.opened ≡ Some c.in-Some.opened = sym c.take.ensures.value ∙ c.in-Some.is in
     subst KeepSomeBody (ap (λ (p : Progress). p.lines) (sym now))

@@ -8,6 +8,6 @@ pub returns : goal.returns
 returns c = IfSome_then c.in_piece.result c.in_piece.ensures (λ week is. (
   is.0,
   week-piece c.args.calendar.now c.piece_on.result.now
-      c.piece_on.ensures.tiles c.piece_on.ensures.listed week c.in_ok-monday.monday (c.in_ok-monday.ensures.0 ∙ sym is.0)
-      c.in_ok-monday.ensures.1 c.piece_on.ensures.from is.1,
+      c.piece_on.ensures.tiles c.piece_on.ensures.listed week c.in_ok-monday.monday (c.in_ok-monday.ensures.found.0 ∙ sym is.0)
+      c.in_ok-monday.ensures.found.1 c.piece_on.ensures.from is.1,
 ))

@@ -1,0 +1,61 @@
+-- The texts of lines and the lines in them determine each other.
+use Rattle.std.proofs.Common.{◌≡◌, ℕ, ◌<◌, List, [], ◌∷◌, ◌++◌, All, map, take, length, get_or, refl, sym, ◌∙◌, ap, arith, subst}
+use Rattle.std.specs.List.{flat_map}
+use Rattle.std.proofs.lemmas.List.{get_or-map, length-map, map-append}
+use Rattle.std.proofs.lemmas.List.Elements.{All-append, All-cons, All-nil, All-tail}
+use Rattle.std.proofs.lemmas.List.Folds.{flat_map-map}
+use Rattle.std.proofs.Math.Seq.{take-append_seam}
+use Rattle.cif_columns.specs.Contents.{lines_text}
+use Rattle.cif_columns.specs.Line.{ArePrintable}
+use Rattle.cif_columns.specs.Lines.{IsLineText, lines_in}
+
+-- a line with its line feed
+abbrev line_text : List ℕ → List ℕ
+line_text line = line ++ (10 ∷ [])
+
+-- the texts are those of the lines in them
+texts_again : (texts : List (List ℕ)) → All IsLineText texts → texts ≡ map line_text (lines_in texts)
+texts_again [] h = refl
+texts_again (text ∷ texts) h =
+    let first : IsLineText text = h 0 [] (omega arith) in
+    ap (λ t. t ∷ texts) first.ended
+    ∙ ap (λ ts. line_text (take 80 text) ∷ ts) (texts_again texts (All-tail IsLineText text texts h))
+
+-- one behind another they are the text of the lines
+pub joined_texts : (texts : List (List ℕ)) → All IsLineText texts → flat_map (λ text. text) texts ≡ lines_text (lines_in texts)
+joined_texts texts h =
+    ap (flat_map (λ text. text)) (texts_again texts h) ∙ flat_map-map (λ text. text) line_text (lines_in texts)
+
+-- the same lines have the same texts
+pub same_texts : (xs ys : List (List ℕ)) → All IsLineText xs → All IsLineText ys → lines_in xs ≡ lines_in ys → xs ≡ ys
+same_texts xs ys h k e = texts_again xs h ∙ ap (map line_text) e ∙ sym (texts_again ys k)
+
+-- the line at a place stands in the text there
+pub line_at : (texts : List (List ℕ)) (at : ℕ) → at < length texts → get_or (lines_in texts) at [] ≡ take 80 (get_or texts at [])
+line_at texts at within = get_or-map (take 80) texts at [] [] within
+
+pub count_of_texts : (texts : List (List ℕ)) → length (lines_in texts) ≡ length texts
+count_of_texts texts = length-map texts (take 80)
+
+-- a text more is a line more
+pub lines_more : (old new : List (List ℕ)) (text line : List ℕ) → new ≡ old ++ (text ∷ []) → take 80 text ≡ line
+    → lines_in new ≡ lines_in old ++ (line ∷ [])
+lines_more old new text line is here =
+    ap lines_in is ∙ map-append (take 80) old (text ∷ []) ∙ ap (λ l. lines_in old ++ (l ∷ [])) here
+
+pub texts_more : (old new : List (List ℕ)) (text : List ℕ) → new ≡ old ++ (text ∷ []) → All IsLineText old → IsLineText text
+    → All IsLineText new
+texts_more old new text is h whole =
+    subst (All IsLineText) (sym is) (All-append IsLineText old (text ∷ []) h (All-cons IsLineText text [] whole (All-nil IsLineText)))
+
+-- the line of a text, in front of its line feed
+pub front_of_text : (line : List ℕ) → length line ≡ 80 → take 80 (line ++ (10 ∷ [])) ≡ line
+front_of_text line width = ap (λ n. take n (line ++ (10 ∷ []))) (sym width) ∙ take-append_seam line (10 ∷ [])
+
+pub text_of_line : (line : List ℕ) → length line ≡ 80 → ArePrintable line → IsLineText (line ++ (10 ∷ []))
+text_of_line line width printable =
+    let front = front_of_text line width in
+    record {
+      printable = subst ArePrintable (sym front) printable;
+      ended = ap (λ l. l ++ (10 ∷ [])) (sym front);
+    }
