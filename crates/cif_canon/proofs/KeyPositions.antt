@@ -1,23 +1,17 @@
 -- Positions in the order of their keys.
-use Rattle.std.proofs.Common.{◌≡◌, ℕ, ◌+◌, ◌<◌, ◌≤◌, List, Option, Some, None, Bool, true, false, map, length, get_or}
-use Rattle.std.proofs.Common.{refl, sym, ◌∙◌, ap, arith}
-use Rattle.std.specs.Prelude.{Contains, All, slice_get, option_map}
-use Rattle.std.specs.List.{range_with_len, IsAllAdjacentAnswer}
-use Rattle.std.specs.List.Sorted.{IsSortedBy}
-use Rattle.std.specs.Option.{option_cmp}
+use Rattle.std.proofs.Common.{◌≡◌, ℕ, ◌+◌, ◌<◌, List, true, false, length, get_or}
+use Rattle.std.proofs.Common.{refl, sym, arith}
+use Rattle.std.specs.Prelude.{Contains, All}
+use Rattle.std.specs.List.{range_with_len}
 use Rattle.std.specs.Ordering.{is_gt, is_lt, is_le, ordering_reverse}
-use Rattle.std.specs.Cmp.{IsTotalOrder}
-use Rattle.std.specs.Cmp.Lexicographic.{options_total}
 use Rattle.std.specs.declared.cmp.Ordering.{Ordering}
 use Rattle.std.specs.declared.cmp.Ordering.TheVariants.{Less, Equal, Greater}
-use Rattle.std.proofs.lemmas.Option.{slice_get-map}
 use Rattle.std.proofs.lemmas.List.{length-map}
 use Rattle.std.proofs.lemmas.List.FromFn.{length-range_with_len, get_or-range_with_len}
-use Rattle.std.proofs.lemmas.List.Sorted.{ranks_by, sorted_far}
 use Rattle.cif_calendar.specs.Terms.{Terms}
 use Rattle.cif_calendar.specs.Keys.{keyed}
 use Rattle.cif_calendar.proofs.Winning.{terms_at}
-use Rattle.cif_canon.specs.Steps.Turns.{HasKey, IsRising}
+use Rattle.cif_canon.specs.Steps.Turns.{HasKey}
 
 -- the numbers below n
 pub range-within : (n : ℕ) → All (λ i. i < n) (range_with_len 0 n)

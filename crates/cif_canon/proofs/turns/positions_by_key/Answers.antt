@@ -1,6 +1,6 @@
 -- The positions are those of the turns that were sorted, so what holds of all turns is carried over by the permutation.
 use Rattle.std.proofs.Common.{◌≡◌, ◌<◌, List, ℕ, map, length, sym, subst, ◌∙◌, ap}
-use Rattle.std.specs.Prelude.{All, Contains}
+use Rattle.std.specs.Prelude.{Contains}
 use Rattle.std.specs.List.{range_with_len}
 use Rattle.std.specs.List.Sorted.{IsPermutation}
 use Rattle.std.proofs.lemmas.List.{length-map}
@@ -8,7 +8,6 @@ use Rattle.std.proofs.lemmas.List.Elements.{All-same}
 use Rattle.std.proofs.lemmas.List.Sorted.{All-permutation, Contains-permutation, IsPermutation-map}
 use Rattle.cif_calendar.specs.Keys.{keyed}
 use Rattle.cif_canon.specs.Steps.Turns.{IsRising}
-use Rattle.cif_canon.specs.declared.turns.Turn.{Turn}
 use Rattle.cif_canon.proofs.KeyPositions.{range-within, range-whole}
 use Rattle.cif_canon.proofs.SortedTurns.{IsTurnOf, rising-from_turns, turns-positions, turns_of_entries}
 use Rattle.cif_canon.proofs.turns.positions_by_key.Given.{Over}

@@ -1,10 +1,9 @@
 -- What a sort and a test of neighbours say is of a test alone: that keys compare in a total order makes it an order of all.
-use Rattle.std.proofs.Common.{List, rules, subst}
+use Rattle.std.proofs.Common.{rules, subst}
 use Rattle.std.specs.Ordering.{is_lt, is_le}
 use Rattle.std.proofs.lemmas.Fn.{always_returns_same}
 use Rattle.std.proofs.lemmas.List.Sorted.{ranks_by}
 use Rattle.cif_canon.specs.Steps.Turns.{AreRisingTurns}
-use Rattle.cif_canon.specs.declared.turns.Turn.{Turn}
 use Rattle.cif_canon.proofs.SortedTurns.{rising-from_sort, rising-from_test}
 use Rattle.cif_canon.proofs.turns.sort_turns.Goals as goal
 

@@ -1,6 +1,6 @@
 -- The lines that were copied are the same, so the parts in them are.
-use Rattle.std.proofs.Common.{ap, ◌∙◌, subst, sym}
-use Rattle.cif_extract.specs.Body.{KeepSomeBody, parts_in}
+use Rattle.std.proofs.Common.{ap, ◌∙◌}
+use Rattle.cif_extract.specs.Body.{parts_in}
 use Rattle.cif_extract.proofs.body.Body.of_lines.Goals as goal
 
 pub returns : goal.returns
