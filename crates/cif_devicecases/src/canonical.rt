@@ -2,9 +2,9 @@
 use crate::reading::reader_of;
 use crate::trials::push_trials;
 use crate::writers::writer_of;
-use crate::written::Written;
+use crate::written::{Written, writes_of_lines};
 use cif_canon::{Asked, Canon, Counts, canon, normalise, report, write_counts};
-use cif_cases::{Case, LINE_BYTES, text_of};
+use cif_cases::{Case, text_of};
 use cif_columns::{Sink, Source, WriteDevice, WriteFault};
 use cif_extract::{Extract, Fault, read_extract};
 use cif_weeks::Form;
@@ -97,8 +97,8 @@ impl Written for Answer<'_> {
         }
     }
 
-    fn writes_of(&self, count: usize) -> u64 {
-        u64::from(count > 0)
+    fn writes_of(&self, front: &[u8]) -> u64 {
+        u64::from(!front.is_empty())
     }
 }
 
@@ -114,7 +114,7 @@ impl Written for Canonical<'_> {
         }
     }
 
-    fn writes_of(&self, count: usize) -> u64 {
-        count.div_ceil(LINE_BYTES) as u64
+    fn writes_of(&self, front: &[u8]) -> u64 {
+        writes_of_lines(front)
     }
 }

@@ -62,12 +62,15 @@ fn calls_for_all<T: Written>(written: &T, text: &[u8]) -> Option<(u64, u64)> {
 fn is_let_be<T: Written>(written: &T, text: &[u8], takes: usize, zero: bool) -> bool
     requires { takes ≤ ROOM }
 {
+    let Some(front) = text.get(..takes) else {
+        return false;
+    };
     let mut sink = Sink::new(TrialWriter::new(takes, zero));
     let has_failed = written.write(&mut sink) == Err(WriteFault) && sink.failed();
     let calls = sink.writer().calls();
-    let once_more = calls == written.writes_of(takes).saturating_add(1);
+    let once_more = calls == written.writes_of(front).saturating_add(1);
     let fails_again = written.write(&mut sink) == Err(WriteFault)
         && sink.flush() == Err(WriteFault);
-    let is_front = text.get(..takes) == Some(sink.writer().bytes());
+    let is_front = sink.writer().bytes() == front;
     has_failed && once_more && fails_again && is_front && sink.writer().calls() == calls
 }

@@ -12,8 +12,8 @@ use std::alloc::{AllocError, Global};
 pub(crate) trait Written {
     fn write<W: WriteDevice>(&self, sink: &mut Sink<W>) -> Result<(), WriteFault>;
 
-    /// By how many writes so many of its bytes go out, to a writer that takes no more.
-    fn writes_of(&self, count: usize) -> u64;
+    /// By how many writes this front of its bytes goes out, to a writer that takes no more.
+    fn writes_of(&self, front: &[u8]) -> u64;
 }
 
 /// Bytes as they are, at once.
@@ -25,9 +25,26 @@ impl Written for Bytes<'_> {
         sink.write_all(self.0)
     }
 
-    fn writes_of(&self, count: usize) -> u64 {
-        u64::from(count > 0)
+    fn writes_of(&self, front: &[u8]) -> u64 {
+        u64::from(!front.is_empty())
     }
+}
+
+/// By how many writes this front of lines goes out: one for each line, but one for all that follow
+/// a BS.
+pub(crate) fn writes_of_lines(front: &[u8]) -> u64 {
+    let mut writes = 0_u64;
+    let mut goes_on = false;
+    for line in front.chunks(LINE_BYTES) {
+        if !goes_on {
+            writes = writes.saturating_add(1);
+        }
+        goes_on = matches!(
+            line,
+            [b'B', b'X', ..] | [b'L', b'O' | b'I', ..] | [b'C', b'R', ..]
+        );
+    }
+    writes
 }
 
 /// A record of an extract, of several by its position.
@@ -90,8 +107,8 @@ impl Written for Dated<'_> {
         }
     }
 
-    fn writes_of(&self, count: usize) -> u64 {
-        count.div_ceil(LINE_BYTES) as u64
+    fn writes_of(&self, front: &[u8]) -> u64 {
+        writes_of_lines(front)
     }
 }
 
