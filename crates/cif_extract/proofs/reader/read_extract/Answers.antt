@@ -1,5 +1,6 @@
 -- The invariant names the lines so far: one more (`come_more`), one refused (`at_line`) and the end are said of them all.
-use Rattle.std.proofs.Common.{◌≡◌, ◌+◌, ◌<◌, ◌∙◌, length, [], ◌++◌, ◌∷◌, ◌≤◌, Err, IfErr, IfOk, Ok, Result, ap, arith, refl, rules, subst, sym}
+use Rattle.std.proofs.Common.{◌≡◌, ◌+◌, ◌<◌, ◌≤◌, length, [], ◌++◌, ◌∷◌, Err, IfErr, IfOk, Ok, Result}
+use Rattle.std.proofs.Common.{◌∙◌, ap, arith, refl, rules, subst, sym}
 use Rattle.std.proofs.lemmas.Result.{err_from_is_err_and}
 use Rattle.cif_columns.proofs.GivenLinesLaws.{known_so, nothing_left, reading_ends, reading_faults, reading_line}
 use Rattle.cif_columns.proofs.ReadSources.{read_on_both}
