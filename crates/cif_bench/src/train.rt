@@ -1,5 +1,5 @@
 //! The schedules of an extract, taken as those of one train.
-ghost use Rattle.std.specs.Prelude.{◌≡◌, ◌<◌, All, IfOk, length, map};
+ghost use Rattle.std.specs.Prelude.{◌<◌, All, IfOk, length, map};
 ghost use Rattle.cif_weeks.specs.Runs.{AreSources};
 
 use crate::fault::Fault;

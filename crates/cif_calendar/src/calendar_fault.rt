@@ -1,7 +1,8 @@
 //! Why there is no calendar.
-ghost use Rattle.std.specs.Prelude.{Some};
+ghost use Rattle.std.specs.Prelude.{◌≡◌, Some};
 
 use cif_columns::{Day, as_text};
+use std::alloc::AllocError;
 use std::error::Error;
 use std::fmt;
 
@@ -12,6 +13,16 @@ pub enum CalendarFault {
     Ambiguous(Day),
     /// There is no memory for the pieces.
     Memory,
+}
+
+impl From<AllocError> for CalendarFault {
+    ghost use Rattle.cif_calendar.specs.declared.calendar_fault.CalendarFault.TheVariants.{Memory};
+
+    ghost from_gives = { λ _ fault. fault ≡ Memory };
+
+    fn from(_error: AllocError) -> CalendarFault {
+        CalendarFault::Memory
+    }
 }
 
 /// As `Ambiguous on 260106`, or Memory.

@@ -13,10 +13,8 @@ use std::alloc::AllocError;
 fn add(changes: &mut Vec<Day>, day: Day) -> Result<(), AllocError>
     ensures { OnOk result (changes.new.items ≡ changes.old.items ++ day ∷ []) }
 {
-    match changes.push(day) {
-        Ok(()) => Ok(()),
-        Err(_) => Err(AllocError),
-    }
+    changes.push(day)?;
+    Ok(())
 }
 
 /// Adds the two dates on which an entry begins and has just ended.

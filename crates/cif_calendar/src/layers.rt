@@ -50,10 +50,8 @@ impl Layers {
 fn add(layer: &mut Vec<Member>, member: Member) -> Result<(), AllocError>
     ensures { OnOk result (layer.new.items ≡ layer.old.items ++ member ∷ []) }
 {
-    match layer.push(member) {
-        Ok(()) => Ok(()),
-        Err(_) => Err(AllocError),
-    }
+    layer.push(member)?;
+    Ok(())
 }
 
 /// Adds the entry at position `i` to the layer, if it has the letter.

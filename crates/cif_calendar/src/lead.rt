@@ -1,7 +1,7 @@
 //! Who leads a layer on a weekday.
 
-ghost use Rattle.std.specs.Prelude.{◌≡◌, ◌<◌, ◌≤◌, ◌↔◌, ◌++◌, ◌∷◌, [], ℕ, List, Some, length, map};
-ghost use Rattle.std.specs.Prelude.{IsTrue, IfNone, IfSome, IfOk, OnOk, OnErr, slice_index_or, take};
+ghost use Rattle.std.specs.Prelude.{◌≡◌, ◌<◌, ◌≤◌, ◌↔◌, ◌++◌, ◌∷◌, [], List, Some, length, map};
+ghost use Rattle.std.specs.Prelude.{IsTrue, IfNone, IfSome, IfOk, OnOk, OnErr, slice_index_or};
 ghost use Rattle.std.specs.Option.{ForSome};
 ghost use Rattle.cif_columns.specs.Day.{weekday_of};
 ghost use Rattle.cif_calendar.specs.Steps.Layers.{IsLayer};

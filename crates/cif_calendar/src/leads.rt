@@ -1,6 +1,6 @@
 //! Who leads each layer on each weekday.
 
-ghost use Rattle.std.specs.Prelude.{◌≡◌, ◌<◌, ◌≤◌, ℕ, List, length, map, IfOk, OnOk, OnErr};
+ghost use Rattle.std.specs.Prelude.{◌<◌, ℕ, List, map, IfOk, OnOk, OnErr};
 ghost use Rattle.cif_calendar.specs.Clash.{IsClash, IsClear};
 ghost use Rattle.cif_calendar.specs.Source.{IsChosen, IsSource};
 ghost use Rattle.cif_calendar.specs.Steps.Layers.{AreLayers, AreLayersOf, IsLayer};

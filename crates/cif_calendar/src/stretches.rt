@@ -1,4 +1,4 @@
-//! What runs on each date of a window.
+//! The calendar of a list of members: few are looked at one by one, many are swept over.
 
 ghost use Rattle.std.specs.Prelude.{◌<◌, length, map, All};
 ghost use Rattle.cif_calendar.specs.Calendar.{IsAnswer};
@@ -31,13 +31,8 @@ pub fn calendar<E: Entry>(
     requires positions { All (λ i. i < length entries.now) members.now }
     ensures { IsAnswer (map E.terms entries.now) members.now window.first window.last result }
 {
-    let room = Vec::new(alloc);
-    if members.len() <= FEW {
-        calendar_of_few(room, entries, members, window)
-    } else {
-        let mut lists = SweepLists::new(alloc);
-        calendar_of_many(room, &mut lists, entries, members, window)
-    }
+    let mut lists = SweepLists::new(alloc);
+    calendar_in_room(Vec::new(alloc), &mut lists, entries, members, window)
 }
 
 /// The same calendar, in the room of pieces that are needed no more: `Calendar::into_room` gives

@@ -1,6 +1,6 @@
 //! The calendar of many members, by a sweep over the dates of its window.
 
-ghost use Rattle.std.specs.Prelude.{◌≡◌, ◌<◌, ◌≤◌, ◌+◌, ℕ, List, length, map, All, min};
+ghost use Rattle.std.specs.Prelude.{◌<◌, ◌≤◌, ◌+◌, ℕ, List, length, map, All, min};
 ghost use Rattle.std.specs.Prelude.{IfOk, IfErr, OnOk};
 ghost use Rattle.cif_calendar.specs.Calendar.{IsAnswer};
 ghost use Rattle.cif_calendar.specs.Clash.{IsFirstClash};

@@ -49,17 +49,9 @@ impl SweepLists {
         ensures leads { OnOk result (AreUnled self.new.layers self.new.leads) }
         ensures err { IfErr result (λ e. e ≡ Memory) }
     {
-        match fill_changes(&mut self.changes, entries, members) {
-            Ok(()) => {}
-            Err(_) => return Err(CalendarFault::Memory),
-        }
-        match self.layers.fill(entries, members) {
-            Ok(()) => {}
-            Err(_) => return Err(CalendarFault::Memory),
-        }
-        match self.leads.fill(&self.layers) {
-            Ok(()) => Ok(()),
-            Err(_) => Err(CalendarFault::Memory),
-        }
+        fill_changes(&mut self.changes, entries, members)?;
+        self.layers.fill(entries, members)?;
+        self.leads.fill(&self.layers)?;
+        Ok(())
     }
 }

@@ -1,6 +1,6 @@
 //! Who leads a layer on each weekday.
 
-ghost use Rattle.std.specs.Prelude.{◌≡◌, OnOk};
+ghost use Rattle.std.specs.Prelude.{OnOk};
 ghost use Rattle.cif_calendar.specs.Steps.Leading.{IsUnled};
 
 use crate::lead::Lead;

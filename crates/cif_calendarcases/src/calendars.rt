@@ -1,5 +1,5 @@
 //! Calendars of the records of an extract, and their runs.
-ghost use Rattle.std.specs.Prelude.{◌≤◌, ◌<◌, All, IfOk, length, map};
+ghost use Rattle.std.specs.Prelude.{◌<◌, All, IfOk, length, map};
 ghost use Rattle.cif_weeks.specs.Runs.{AreSources};
 
 use crate::positions::{all_positions, are_below, positions_of};

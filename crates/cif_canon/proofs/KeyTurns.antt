@@ -11,7 +11,7 @@ use Rattle.std.proofs.lemmas.Option.{same_Some}
 use Rattle.std.proofs.lemmas.List.{length-drop, get_or-drop, get_or_default}
 use Rattle.cif_calendar.specs.Terms.{Terms}
 use Rattle.cif_weeks.proofs.RisingLists.{not_less}
-use Rattle.cif_canon.specs.Steps.Turns.{AreFrom, HasKey, IsFirstRun, IsFront, IsNotAfter, IsRising}
+use Rattle.cif_canon.specs.Steps.Turns.{AreFrom, HasKey, AreOfFirstKey, IsFront, IsNotAfter, IsRising}
 
 -- a position has one key
 pub one-key : {K B : Type 0} (es : List (K × Terms B)) (i : ℕ) (j k : K) → HasKey es i j → HasKey es i k → j ≡ k
@@ -98,7 +98,7 @@ module _ {K B : Type 0} (cmp : K → K → Ordering) (es : List (K × Terms B)) 
         (cases_lt 0 i)
 
     -- the front of the first's key has a position
-    pub first-run : 0 < length rest → (n : ℕ) → IsFront cmp es rest k n → IsFirstRun cmp es rest n
-    first-run filled zero front =
+    pub of-first_key : 0 < length rest → (n : ℕ) → IsFront cmp es rest k n → AreOfFirstKey cmp es rest n
+    of-first_key filled zero front =
         absurd (not_less cmp total k k refl (front.later 0 0 (let z : 0 < length rest = filled in z) k leads))
-    first-run filled (suc n) front = record { key = k; some = (let z : 0 < suc n = omega arith in z); front = front }
+    of-first_key filled (suc n) front = record { key = k; some = (let z : 0 < suc n = omega arith in z); front = front }

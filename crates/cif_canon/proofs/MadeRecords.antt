@@ -24,7 +24,7 @@ use Rattle.cif_weeks.proofs.KeyByKey.{HasBody-more, canonical-none, of_key-more,
 use Rattle.cif_weeks.proofs.PermanentEntries.{records-meaning}
 use Rattle.cif_weeks.proofs.RisingLists.{Contains-none, less_one_way, not_less}
 use Rattle.cif_canon.specs.Steps.Records.{IsRunOf, AreSaid, AreRunsOfKey, AreCanonicalRecords, IsKeyFault, IsRecordsFault}
-use Rattle.cif_canon.specs.Steps.Turns.{HasKey, AnyHasKey, IsRising, IsFirstRun}
+use Rattle.cif_canon.specs.Steps.Turns.{HasKey, AnyHasKey, IsRising, AreOfFirstKey}
 use Rattle.cif_canon.specs.declared.records.RecordsFault.{RecordsFault}
 use Rattle.cif_canon.specs.declared.records.RecordsFault.TheVariants.{Clash, Memory}
 use Rattle.cif_canon.proofs.KeyTurns.{one-key, rising-after}
@@ -90,7 +90,7 @@ module _ {K B : Type 0} (cmp : K → K → Ordering) (form : Form) (window : Win
   }
 
   module _ (total : IsTotalOrder cmp) (same : (j k : K) → cmp j k ≡ Equal → j ≡ k) (runs : List Run) (rest : List ℕ)
-      (made : IsMade runs rest) (n : ℕ) (run : IsFirstRun cmp es rest n) where
+      (made : IsMade runs rest) (n : ℕ) (run : AreOfFirstKey cmp es rest n) where
     at-run : (i : ℕ) → Contains (take n rest) i → HasKey es i run.key
     at-run i c = All-contains (λ i. HasKey es i run.key) (take n rest) i run.front.same c
 

@@ -1,5 +1,5 @@
 //! The window that is asked for, and extracts that are narrowed to it.
-ghost use Rattle.std.specs.Prelude.{◌≡◌, ◌≤◌, IfErr, IfOk, IfSome, unwrap_or};
+ghost use Rattle.std.specs.Prelude.{◌≡◌, IfErr, IfOk, IfSome, unwrap_or};
 ghost use Rattle.cif_extract.specs.ExtractParts.{extract_parts};
 ghost use Rattle.cif_extract.specs.declared.fault.Fault.TheVariants.{OutsideWindow};
 ghost use Rattle.cif_weeks.specs.Window.{IsWithin};

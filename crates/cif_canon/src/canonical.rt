@@ -14,7 +14,7 @@ use cif_weeks::Form;
 use std::alloc::Global;
 
 /// The canonical form of the extract, or why it has none: Ambiguous with its first clash, associations
-/// before trains, by key and then date; Memory where a growth was refused.
+/// before trains, by key and then date; Memory where memory was refused.
 pub fn canon<'a>(alloc: Global, extract: &'a Extract, form: Form) -> Result<Canon<'a>, Fault>
     ensures ok { IfOk result (IsCanonOf form (extract_parts extract.now)) }
     ensures unique { IfOk result (λ canon. FitsColumns (extract_parts extract.now)

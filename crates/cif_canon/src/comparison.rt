@@ -9,7 +9,7 @@ use cif_extract::Clash;
 use cif_records::{AssocKey, Tiploc};
 
 /// The bytes of the longest line: that of a location.
-const LONGEST: usize = 90;
+const LONGEST: usize = 89;
 
 /// How two extracts compare in their window: whether they agree, and else the first difference.
 #[derive(Debug, Drop, PartialEq, Eq)]

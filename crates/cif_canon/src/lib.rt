@@ -1,4 +1,4 @@
-//! The canonical extract of a CIF extract.
+//! The canonical extract of a CIF extract, how two extracts compare, and what runs on a day.
 #![tactic(auto)]
 
 mod asked;

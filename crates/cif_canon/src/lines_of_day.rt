@@ -20,7 +20,7 @@ use std::alloc::Global;
 /// for each train that runs, rising by UID.
 ///
 /// OutsideWindow comes where the day isn't in the extract's window, and then Ambiguous with the first
-/// clash of the whole window, Memory, and Write. Nothing is written before the growths.
+/// clash of the whole window, Memory, and Write. Nothing is written before all memory is had.
 pub fn day_view<W: WriteDevice>(
     alloc: Global,
     extract: &Extract,

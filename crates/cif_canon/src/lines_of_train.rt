@@ -16,7 +16,7 @@ use std::alloc::Global;
 /// first date. A train that runs on no date has none.
 ///
 /// Ambiguous comes with the first clash of the extract, whatever the train, and then Memory, and
-/// Write. Nothing is written before the growths.
+/// Write. Nothing is written before all memory is had.
 pub fn train_view<W: WriteDevice>(
     alloc: Global,
     extract: &Extract,

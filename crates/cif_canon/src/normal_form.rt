@@ -1,5 +1,5 @@
 //! The canonical form of an input.
-ghost use Rattle.std.specs.Prelude.{◌≢◌, ◌≤◌, ℕ, List, IfErr, IfOk, IfSome};
+ghost use Rattle.std.specs.Prelude.{◌≤◌, ℕ, List, IfErr, IfOk, IfSome};
 ghost use Rattle.cif_columns.specs.Source.{reader_of};
 ghost use Rattle.cif_columns.specs.declared.line_reader.TheConstants.{MAX_LINES};
 ghost use Rattle.cif_extract.specs.ExtractParts.{ExtractParts, extract_parts};
@@ -19,7 +19,7 @@ use std::alloc::Global;
 /// this form, for the window that is asked for. The answer is how many records that text has.
 ///
 /// The faults come in this order: Refused and Read, OutsideWindow, WindowReversed, Ambiguous with the
-/// first clash, and then Write; Memory where a growth was refused. Nothing is written before the
+/// first clash, and then Write; Memory where memory was refused. Nothing is written before the
 /// whole input is accepted.
 pub fn normalise<R: ReadDevice, W: WriteDevice>(
     alloc: Global,

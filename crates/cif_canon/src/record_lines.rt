@@ -44,6 +44,7 @@ pub(crate) fn write_runs<E: Entry, L: RecordLines<E>, W: WriteDevice>(
         (flat_map (run_text (L.text lines.now) (keyed E.key E.terms entries.now)) runs.now)
         sink.old sink.new result }
 {
+    // Where no line is written, no write would tell it.
     if sink.failed() {
         return Err(WriteFault);
     }

@@ -5,7 +5,7 @@ ghost use Rattle.cif_calendar.specs.Keys.{keyed, ArePositionsOf};
 ghost use Rattle.cif_canon.specs.Steps.Records.{AreCanonicalRecords, IsRecordsFault};
 ghost use Rattle.cif_canon.specs.Steps.Records.{AreRunsOfKey, IsKeyFault, records_fault, window_from};
 
-use crate::turns::{CopiedKey, first_run, positions_by_key};
+use crate::turns::{CopiedKey, count_of_first_key, positions_by_key};
 use cif_calendar::{CalendarFault, Entry, Piece, SweepLists, Window, calendar_in_room};
 use cif_columns::Day;
 use cif_weeks::{Form, Run, runs_in_room};
@@ -16,7 +16,7 @@ use std::alloc::{AllocError, Global};
 pub(crate) enum RecordsFault {
     /// Two winners of the day have different bodies. Their key is that of the entry at `member`.
     Clash { member: usize, day: Day },
-    /// A growth was refused.
+    /// Memory was refused.
     Memory,
 }
 
@@ -86,7 +86,7 @@ fn runs_of_key<E: Entry>(
 /// position of an entry with the record's key and body.
 ///
 /// `Clash` comes only where on some date two winners of a key have different bodies, and names the
-/// first such key and its first such date; `Memory` where a growth was refused.
+/// first such key and its first such date; `Memory` where memory was refused.
 pub(crate) fn canonical_records<E: CopiedKey>(
     alloc: Global,
     entries: &[E],
@@ -110,7 +110,7 @@ where
     let mut lists = SweepLists::new(alloc);
     let mut rest = positions.as_slice();
     while !rest.is_empty() {
-        let (members, later) = rest.split_at(first_run(entries, rest));
+        let (members, later) = rest.split_at(count_of_first_key(entries, rest));
         room = runs_of_key(room, &mut lists, entries, members, &window, form)?;
         all.extend_from_slice(room.runs.as_slice())?;
         rest = later;

@@ -1,9 +1,9 @@
 //! The positions of entries in the order of their keys.
-ghost use Rattle.std.specs.Prelude.{◌≡◌, ℕ, ◌<◌, ◌≤◌, All, Contains, length, map};
+ghost use Rattle.std.specs.Prelude.{◌≡◌, ℕ, ◌<◌, All, Contains, length, map};
 ghost use Rattle.std.specs.Prelude.{IfNone, IfOk, IfSome, OnOk};
 ghost use Rattle.std.specs.List.Sorted.{IsPermutation};
 ghost use Rattle.cif_calendar.specs.Keys.{keyed};
-ghost use Rattle.cif_canon.specs.Steps.Turns.{AreFrom, IsFirstOfBoth, IsFirstRun, IsFront};
+ghost use Rattle.cif_canon.specs.Steps.Turns.{AreFrom, IsFirstOfBoth, AreOfFirstKey, IsFront};
 ghost use Rattle.cif_canon.specs.Steps.Turns.{AreRisingTurns, IsRising, turns_from};
 
 use cif_calendar::Entry;
@@ -95,11 +95,11 @@ where
 
 /// How many of the positions, from the first on, are of entries with one key. The positions are in
 /// the order of the keys.
-pub(crate) fn first_run<E: Entry>(entries: &[E], positions: &[usize]) -> usize
+pub(crate) fn count_of_first_key<E: Entry>(entries: &[E], positions: &[usize]) -> usize
     requires within { All (λ i. i < length entries.now) positions.now }
     requires some { 0 < length positions.now }
     requires rising { IsRising E.Key.cmp (keyed E.key E.terms entries.now) positions.now }
-    ensures { IsFirstRun E.Key.cmp (keyed E.key E.terms entries.now) positions.now result }
+    ensures { AreOfFirstKey E.Key.cmp (keyed E.key E.terms entries.now) positions.now result }
 {
     count_of_key(entries, positions, entries[positions[0]].key())
 }

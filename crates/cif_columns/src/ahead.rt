@@ -9,9 +9,9 @@ ghost use Rattle.cif_columns.specs.declared.ahead.TheConstants.{AHEAD};
 ghost use Rattle.cif_columns.specs.declared.first_line.TheConstants.{LONGEST_LINE};
 
 use crate::first_line::{
-    FirstLine, LONGEST_LINE, first_line_of, first_plain_line, line_of_content,
+    FirstLine, LONGEST_LINE, first_line_of, first_line_with_feed, line_of_content,
 };
-use crate::line::{Line, PLAIN_LINE};
+use crate::line::{LINE_TEXT_WIDTH, Line};
 use crate::read_device::ReadDevice;
 use crate::refusal::Refusal;
 use crate::source::{ReadFault, Source};
@@ -95,22 +95,22 @@ impl Ahead {
 
     /// Makes it the line that stands first in the held bytes, if that is 80 bytes and a line feed, and
     /// tells whether it did. Most lines are, and this gives them with one copy.
-    pub(crate) fn plain_line(&self, is_full: bool, line: &mut Line) -> bool
+    pub(crate) fn line_with_feed(&self, is_full: bool, line: &mut Line) -> bool
         ensures found { IsTrue result → Decides is_full (held_bytes self.now)
             (Found.Next line.new) (drop 81 (held_bytes self.now)) }
         ensures decided { IsTrue result → is_decided is_full (held_bytes self.now) ≡ true }
         ensures within { IsTrue result → 81 ≤ length (held_bytes self.now) }
         ensures not_full { IsTrue result → is_full ≡ false }
     {
-        !is_full && first_plain_line(self.as_slice(), line)
+        !is_full && first_line_with_feed(self.as_slice(), line)
     }
 
     /// Passes over 80 bytes and a line feed.
-    pub(crate) fn pass_plain_line(&mut self)
+    pub(crate) fn pass_line_with_feed(&mut self)
         requires { 81 ≤ length (held_bytes self.old) }
         ensures { held_bytes self.new ≡ drop 81 (held_bytes self.old) }
     {
-        self.start += PLAIN_LINE;
+        self.start += LINE_TEXT_WIDTH;
     }
 
     // What the held bytes decide, if they do.

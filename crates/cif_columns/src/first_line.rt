@@ -1,19 +1,19 @@
 //! The first line of bytes that may go on.
-ghost use Rattle.std.specs.Prelude.{◌≡◌, ◌↔◌, ◌+◌, ◌<◌, ◌≤◌, ℕ, List, length, take, drop, min};
-ghost use Rattle.std.specs.Prelude.{false, true, nat_le, IsTrue, IsOk, IsSome, IfSome, IfNone, Some, Ok};
+ghost use Rattle.std.specs.Prelude.{◌≡◌, ◌↔◌, ◌+◌, ◌<◌, ◌≤◌, length, take, drop, min};
+ghost use Rattle.std.specs.Prelude.{false, true, IsTrue, IsOk, IsSome, IfSome, IfNone, Some, Ok};
 ghost use Rattle.std.specs.List.{list_all, position, position_or_len};
 ghost use Rattle.std.specs.Str.Lines.{strip_carriage_return};
 ghost use Rattle.cif_columns.specs.FirstLine.{is_line_feed, is_printable, has_line_feed, line_of};
 ghost use Rattle.cif_columns.specs.FirstLine.{first_line, is_decided, after_content};
 
-use crate::line::{LINE_WIDTH, Line, PLAIN_LINE};
+use crate::line::{LINE_WIDTH, Line};
 use crate::refusal::Refusal;
 
 /// How many bytes a line takes at most, with its ending: a carriage return and a line feed. With so
 /// many bytes and no line feed the first line is too long, whatever follows.
 pub(crate) const LONGEST_LINE: usize = LINE_WIDTH + 2;
 
-/// A decided line, or why it is none, and how many bytes it takes with its ending.
+/// A decided line and how many bytes it takes with its ending, or why it is none; then `taken` says nothing.
 pub(crate) struct FirstLine {
     pub(crate) line: Result<Line, Refusal>,
     pub(crate) taken: usize,
@@ -36,14 +36,6 @@ pub(crate) fn first_line_of(bytes: &[u8], is_full: bool) -> Option<FirstLine>
         let line = Err(Refusal::TooManyLines);
         return Some(FirstLine { line, taken: 0 });
     }
-    let mut line = Line::blank();
-    if take_plain_line(bytes, &mut line) {
-        let line = Ok(line);
-        return Some(FirstLine {
-            line,
-            taken: PLAIN_LINE,
-        });
-    }
     if let Some(at) = line_feed(bytes) {
         let line = line_of_content(stripped(&bytes[..at]));
         return Some(FirstLine {
@@ -58,20 +50,21 @@ pub(crate) fn first_line_of(bytes: &[u8], is_full: bool) -> Option<FirstLine>
     Some(FirstLine { line, taken: 0 })
 }
 
-/// Makes it the first line of the bytes, if that is 80 bytes and a line feed, and tells whether it did.
+/// Makes it the first line of the bytes, if that is 80 bytes and a line feed, and tells whether it did. It
+/// answers nothing that `first_line_of` doesn't: nearly all lines are so, and it copies them once.
 #[tactic(auto, unfolding(crate::specs::FirstLine::first_line, crate::specs::FirstLine::is_decided))]
-pub(crate) fn first_plain_line(bytes: &[u8], line: &mut Line) -> bool
+pub(crate) fn first_line_with_feed(bytes: &[u8], line: &mut Line) -> bool
     ensures line { IsTrue result → first_line false bytes.now ≡ Ok line.new }
     ensures decided { IsTrue result → is_decided false bytes.now ≡ true }
     ensures within { IsTrue result → 81 ≤ length bytes.now }
     ensures rest { IsTrue result → drop 81 bytes.now ≡ after_content bytes.now }
     ensures ended { IsTrue result → has_line_feed bytes.now ≡ true }
 {
-    take_plain_line(bytes, line)
+    take_line_with_feed(bytes, line)
 }
 
 // Makes it the line that 80 bytes and a line feed are, if they are one.
-fn take_plain_line(bytes: &[u8], line: &mut Line) -> bool
+fn take_line_with_feed(bytes: &[u8], line: &mut Line) -> bool
     ensures line { IsTrue result → line.new ≡ take 80 bytes.now }
     ensures printable { IsTrue result → IsTrue (list_all is_printable (take 80 bytes.now)) }
     ensures length { IsTrue result → 80 < length bytes.now }

@@ -1,5 +1,5 @@
 //! Why there is no next line.
-ghost use Rattle.std.specs.Prelude.{◌≡◌, Some};
+ghost use Rattle.std.specs.Prelude.{Some};
 
 use crate::refusal::Refusal;
 use std::error::Error;

@@ -94,8 +94,8 @@ impl LineReader {
             Past::Faulted(fault) => return Err(fault),
         }
         let is_full = self.given == self.limit;
-        if self.ahead.plain_line(is_full, line) {
-            self.ahead.pass_plain_line();
+        if self.ahead.line_with_feed(is_full, line) {
+            self.ahead.pass_line_with_feed();
             self.given += 1;
             return Ok(true);
         }

@@ -1,15 +1,15 @@
 //! A part of the lines that are kept.
-ghost use Rattle.std.specs.Prelude.{◌≡◌, ◌<◌, ◌≤◌, ◌∷◌, ◌↔◌, [], IsTrue, IfNone, IfSome, All, drop, length, slice_index_or, take};
+ghost use Rattle.std.specs.Prelude.{◌≡◌, ◌<◌, ◌≤◌, ◌↔◌, [], IsTrue, All, drop, length, slice_index_or, take};
 ghost use Rattle.cif_columns.specs.Contents.{lines_text};
 ghost use Rattle.cif_columns.specs.Lines.{IsLineText, lines_in};
 
-use crate::line::{LINE_WIDTH, Line, PLAIN_LINE};
+use crate::line::{LINE_TEXT_WIDTH, LINE_WIDTH, Line};
 use std::marker::Model;
 
 /// A part of `Lines`. A clause sees the list of the lines.
 #[derive(Debug, Drop)]
 pub struct LineSlice<'a> {
-    texts: &'a [[u8; PLAIN_LINE]],
+    texts: &'a [[u8; LINE_TEXT_WIDTH]],
 }
 
 impl<'a> Model for LineSlice<'a> {
@@ -25,7 +25,7 @@ impl<'a> Model for LineSlice<'a> {
 
 impl<'a> LineSlice<'a> {
     /// The lines of these texts.
-    pub(crate) fn of(texts: &'a [[u8; PLAIN_LINE]]) -> LineSlice<'a>
+    pub(crate) fn of(texts: &'a [[u8; LINE_TEXT_WIDTH]]) -> LineSlice<'a>
         requires { All IsLineText texts.now }
         ensures { result ≡ lines_in texts.now }
     {
@@ -52,7 +52,7 @@ impl<'a> LineSlice<'a> {
     }
 
     /// The text of the line at this place.
-    fn text_at(&self, at: usize) -> &'a [u8; PLAIN_LINE]
+    fn text_at(&self, at: usize) -> &'a [u8; LINE_TEXT_WIDTH]
         requires { at < length self.now }
         ensures line { take 80 result.now ≡ slice_index_or self.now at [] }
         ensures text { IsLineText result.now }
@@ -91,7 +91,7 @@ impl<'a> LineSlice<'a> {
     }
 
     /// The texts of the lines.
-    pub(crate) fn texts(&self) -> &'a [[u8; PLAIN_LINE]]
+    pub(crate) fn texts(&self) -> &'a [[u8; LINE_TEXT_WIDTH]]
         ensures lines { lines_in result.now ≡ self.now }
         ensures texts { All IsLineText result.now }
     {

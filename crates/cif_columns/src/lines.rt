@@ -2,7 +2,7 @@
 ghost use Rattle.std.specs.Prelude.{◌≡◌, ◌++◌, ◌∷◌, [], OnOk, IfOk};
 ghost use Rattle.cif_columns.specs.Lines.{IsLineText, lines_in};
 
-use crate::line::{Line, PLAIN_LINE};
+use crate::line::{LINE_TEXT_WIDTH, Line};
 use crate::line_slice::LineSlice;
 use std::alloc::{AllocError, Global};
 use std::marker::Model;
@@ -11,7 +11,7 @@ use std::marker::Model;
 /// lines.
 #[derive(Debug, Drop)]
 pub struct Lines {
-    texts: Vec<[u8; PLAIN_LINE]>,
+    texts: Vec<[u8; LINE_TEXT_WIDTH]>,
 }
 
 impl Model for Lines {
@@ -53,7 +53,7 @@ impl Lines {
         Ok(Lines { texts })
     }
 
-    /// Appends the line.
+    /// Appends the line. After an error nothing is said of the lines.
     pub fn push(&mut self, line: &Line) -> Result<(), AllocError>
         ensures { OnOk result (self.new ≡ self.old ++ line.now ∷ []) }
     {

@@ -40,7 +40,7 @@ impl PlainTest {
     }
 }
 
-/// Whether each column is as the test wants it.
+/// What `passes` tells, without what that means for tables: this has a proof of its own.
 #[inline]
 fn has_all(columns: &[u8; LINE_WIDTH], test: &PlainTest) -> bool
     ensures { IsTrue result ↔ Passes test.now columns.now }

@@ -1,5 +1,5 @@
 //! Readers whose contract may tell their errors.
-ghost use Rattle.std.specs.Prelude.{◌≡◌, ℕ, Option, None, Some};
+ghost use Rattle.std.specs.Prelude.{ℕ, Option, None, Some};
 ghost use Rattle.std.specs.Io.{ReadsAtMost};
 ghost use Rattle.std.specs.Io.KnownBytes.{ReadConsumes};
 

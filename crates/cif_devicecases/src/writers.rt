@@ -1,5 +1,4 @@
 //! Trial writers by themselves, and behind a buffer.
-ghost use Rattle.std.specs.Prelude.{◌≤◌};
 
 use cif_cases::{Case, LINE_BYTES};
 use cif_columns::{Sink, TrialWriter, WriteFault};

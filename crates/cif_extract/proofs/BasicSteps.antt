@@ -7,8 +7,8 @@ use Rattle.cif_extract.specs.Steps.Reading.{IsClosed, IsKeepable, IsTaken, Progr
 use Rattle.cif_extract.specs.declared.opened.Opened.{Opened}
 use Rattle.cif_extract.specs.declared.place.Place.TheVariants as at
 use Rattle.cif_extract.specs.declared.schedule.Schedule.{Schedule}
-use Rattle.cif_extract.specs.declared.stop_at.StopAt.{StopAt}
-use Rattle.cif_extract.specs.declared.stop_at.StopAt.TheVariants as stop
+use Rattle.cif_extract.specs.declared.take_fault.TakeFault.{TakeFault}
+use Rattle.cif_extract.specs.declared.take_fault.TakeFault.TheVariants as untaken
 use Rattle.cif_records.specs.Bodies.{has_body}
 use Rattle.cif_records.specs.Detail.{detail_table}
 use Rattle.cif_records.specs.SpellsRecord.{SpellsRecord}
@@ -59,11 +59,11 @@ module _ (before now : Progress) (t : Terminus) (is : now ≡ record before { li
       ap (λ (n : Progress). record n { place = at.Schedules; opened = None }) is ∙ rw there refl
 
   -- and closing the schedule is the step
-  pub closing : (o : Opened) (after : Progress) (refusal : Option Refusal) (line : List ℕ) (result : Result Unit StopAt) →
+  pub closing : (o : Opened) (after : Progress) (refusal : Option Refusal) (line : List ℕ) (result : Result Unit TakeFault) →
       now.opened ≡ Some o →
       IsClosed (record now { place = at.Schedules; opened = None }) o result after → refusal ≡ None → SpellsRecord line (of.Terminus t) →
       IsKeepable (of.Terminus t) → IsTaken refusal line before result after
   closing o after refusal line (Ok done) some closed fine spells keepable =
       (fine, (of.Terminus t, spells, keepable, closed ∙ terminus_some o some))
-  closing o after refusal line (Err (stop.Refused why)) some closed fine spells keepable = absurd closed
-  closing o after refusal line (Err stop.Memory) some closed fine spells keepable = tt
+  closing o after refusal line (Err (untaken.Refused why)) some closed fine spells keepable = absurd closed
+  closing o after refusal line (Err untaken.Memory) some closed fine spells keepable = tt

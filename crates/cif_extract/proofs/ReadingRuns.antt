@@ -18,14 +18,14 @@ use Rattle.cif_extract.specs.ReadFault.{IsLineNumber, IsOfReading, IsReadFault}
 use Rattle.cif_extract.specs.Steps.Reading.{HasRead, HasReadAt, IsHeld, IsTaken, IsUnfinished, Progress, begun, no_progress}
 use Rattle.cif_extract.specs.Steps.Reading.{parts_with_header, refusal_here, step}
 use Rattle.cif_extract.specs.SpellsExtract.{BytesSpellWithin, SpellAll, SpellExtract}
-use Rattle.cif_extract.specs.Steps.StopAt.{stop_fault}
+use Rattle.cif_extract.specs.Steps.TakeFault.{fault_at_line}
 use Rattle.cif_extract.specs.declared.extract.Extract.{Extract}
 use Rattle.cif_extract.specs.declared.fault.Fault.{Fault}
 use Rattle.cif_extract.specs.declared.fault.Fault.TheVariants as fault
 use Rattle.cif_extract.specs.declared.place.Place.{Place}
 use Rattle.cif_extract.specs.declared.place.Place.TheVariants as at
-use Rattle.cif_extract.specs.declared.stop_at.StopAt.{StopAt}
-use Rattle.cif_extract.specs.declared.stop_at.StopAt.TheVariants as stop
+use Rattle.cif_extract.specs.declared.take_fault.TakeFault.{TakeFault}
+use Rattle.cif_extract.specs.declared.take_fault.TakeFault.TheVariants as untaken
 use Rattle.cif_records.specs.Bodies.{has_body}
 use Rattle.cif_records.specs.Checks.{first_of, unless}
 use Rattle.cif_records.specs.Kind.{kind_in}
@@ -198,24 +198,24 @@ unfinished_result start after max lines p number (Err f) all so_far is err =
       reason = refl;
     })) all)
 
--- a stop at a line
-pub stop_result : (start after : Option (List ℕ)) (max number : ℕ) (s : StopAt) →
-    ((why : Refusal) → s ≡ stop.Refused why → IfSome start (λ bytes. IsFirstRefusal max bytes number why)) →
-    IfSome start (λ bytes. IsReadFault max bytes after (stop_fault number s))
-stop_result start after max number (stop.Refused why) h = h why refl
-stop_result None after max number stop.Memory h = tt
-stop_result (Some bytes) after max number stop.Memory h = tt
+-- why a line is not taken, as the result at that line
+pub untaken_result : (start after : Option (List ℕ)) (max number : ℕ) (s : TakeFault) →
+    ((why : Refusal) → s ≡ untaken.Refused why → IfSome start (λ bytes. IsFirstRefusal max bytes number why)) →
+    IfSome start (λ bytes. IsReadFault max bytes after (fault_at_line number s))
+untaken_result start after max number (untaken.Refused why) h = h why refl
+untaken_result None after max number untaken.Memory h = tt
+untaken_result (Some bytes) after max number untaken.Memory h = tt
 
 -- the reason for which a line that isn't taken is refused
-pub refused_reason : (refusal : Option Refusal) (line : List ℕ) (before after : Progress) (s : StopAt) (why : Refusal) →
-    IsTaken refusal line before (Err s) after → s ≡ stop.Refused why → refusal ≡ Some why
-refused_reason refusal line before after (stop.Refused x) why taken e = taken ∙ (let same : x ≡ why = cc in ap Some same)
-refused_reason refusal line before after stop.Memory why taken e = cc
+pub refused_reason : (refusal : Option Refusal) (line : List ℕ) (before after : Progress) (s : TakeFault) (why : Refusal) →
+    IsTaken refusal line before (Err s) after → s ≡ untaken.Refused why → refusal ≡ Some why
+refused_reason refusal line before after (untaken.Refused x) why taken e = taken ∙ (let same : x ≡ why = cc in ap Some same)
+refused_reason refusal line before after untaken.Memory why taken e = cc
 
--- a stop is a fault of reading
-pub stop_of_reading : (max number : ℕ) (s : StopAt) → 1 ≤ number → number ≤ max → IsOfReading max (stop_fault number s)
-stop_of_reading max number (stop.Refused why) first h = (first, omega arith)
-stop_of_reading max number stop.Memory first h = tt
+-- why a line is not taken is a fault of reading
+pub untaken_of_reading : (max number : ℕ) (s : TakeFault) → 1 ≤ number → number ≤ max → IsOfReading max (fault_at_line number s)
+untaken_of_reading max number (untaken.Refused why) first h = (first, omega arith)
+untaken_of_reading max number untaken.Memory first h = tt
 
 -- and so is the want of a trailer
 pub unfinished_of_reading : (max : ℕ) (p : Progress) (number : ℕ) (result : Result Extract Fault) → number ≤ max →

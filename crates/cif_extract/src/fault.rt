@@ -21,7 +21,7 @@ pub enum Fault {
     OutsideWindow,
     /// The first date that was asked for is after the last.
     WindowReversed,
-    /// The source failed before a line was decided.
+    /// The source failed, and what it gave before decides no line that is refused.
     Read,
     /// The sink failed.
     Write,

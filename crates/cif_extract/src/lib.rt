@@ -14,7 +14,7 @@ mod place;
 mod reader;
 mod reading;
 mod schedule;
-mod stop_at;
+mod take_fault;
 mod writing;
 
 pub use body::Body;

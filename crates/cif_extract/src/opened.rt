@@ -5,7 +5,7 @@ ghost use Rattle.cif_records.specs.Bodies.{has_body};
 use crate::{Body, Schedule};
 use cif_columns::{Day, DaysRun, Stp, Uid};
 
-/// What the BS of a schedule with a body says of its dates.
+/// What the BS of a schedule with a body says, but for its detail.
 #[derive(Drop)]
 pub(crate) struct Opened {
     pub(crate) uid: Uid,

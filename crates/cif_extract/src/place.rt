@@ -58,9 +58,7 @@ impl Place {
     {
         match self {
             Place::Cancelled => Place::CancelledExtra,
-            Place::Start | Place::Tiplocs | Place::Associations | Place::Basic => Place::Extra,
-            Place::Extra | Place::CancelledExtra | Place::Journey => Place::Extra,
-            Place::Schedules | Place::Ended => Place::Extra,
+            _ => Place::Extra,
         }
     }
 }

@@ -42,7 +42,7 @@ pub fn read_extract<R: ReadDevice>(
         if is_line {
             match reading.take(alloc, &line) {
                 Ok(()) => {}
-                Err(stop) => return Err(stop.line(lines.line_number())),
+                Err(fault) => return Err(fault.at_line(lines.line_number())),
             }
         } else {
             return reading.finish(lines.line_number());

@@ -11,7 +11,7 @@ ghost use Rattle.cif_records.specs.Trailer.{trailer_refusal};
 
 use crate::opened::Opened;
 use crate::place::Place;
-use crate::stop_at::StopAt;
+use crate::take_fault::TakeFault;
 use crate::{Body, Extract, Fault, Schedule};
 use cif_columns::{Line, Lines, Refusal};
 use cif_records::{
@@ -58,26 +58,26 @@ impl Reading {
 
     /// Takes one line more. Its kind and its place are judged before its fields, and memory is
     /// asked for after them.
-    pub(crate) fn take(&mut self, alloc: Global, line: &Line) -> Result<(), StopAt>
+    pub(crate) fn take(&mut self, alloc: Global, line: &Line) -> Result<(), TakeFault>
         requires { (records : List Record) × HasRead records (progress_of self.old) }
         ensures taken { IsTaken (refusal_here self.old.place (kind_in line.now) line.now)
             line.now (progress_of self.old) result (progress_of self.new) }
         ensures line { IsLine line.now }
     {
         let Some(kind) = kind_of(line) else {
-            return Err(StopAt::Refused(Refusal::UnknownRecord));
+            return Err(TakeFault::Refused(Refusal::UnknownRecord));
         };
         if !self.place.allows(kind) {
-            return Err(StopAt::Refused(Refusal::OutOfOrder));
+            return Err(TakeFault::Refused(Refusal::OutOfOrder));
         }
         match kind {
-            Kind::Li | Kind::Cr | Kind::Lo => self.take_call(kind, line),
+            Kind::Li | Kind::Cr | Kind::Lo => self.take_on_the_way(kind, line),
             Kind::Lt => self.take_terminus(alloc, line),
             Kind::Bs => self.take_basic(line),
             Kind::Bx => self.take_extra(line),
             Kind::Aa => self.take_association(line),
             Kind::Ti => self.take_tiploc(line),
-            Kind::Ta | Kind::Td => Err(StopAt::Refused(Refusal::NotFull)),
+            Kind::Ta | Kind::Td => Err(TakeFault::Refused(Refusal::NotFull)),
             Kind::Hd => self.take_header(line),
             Kind::Zz => self.take_trailer(line),
         }
@@ -114,11 +114,12 @@ impl Reading {
                 associations,
                 schedules,
             }),
+            // No extract ends without a header: this is never so.
             None => Err(truncated),
         }
     }
 
-    fn take_header(&mut self, line: &Line) -> Result<(), StopAt>
+    fn take_header(&mut self, line: &Line) -> Result<(), TakeFault>
         ensures { IsTaken (header_refusal line.now) line.now (progress_of self.old) result
             (progress_of self.new) }
     {
@@ -127,7 +128,7 @@ impl Reading {
         Ok(())
     }
 
-    fn take_tiploc(&mut self, line: &Line) -> Result<(), StopAt>
+    fn take_tiploc(&mut self, line: &Line) -> Result<(), TakeFault>
         ensures { IsTaken (tiploc_refusal line.now) line.now (progress_of self.old) result
             (progress_of self.new) }
     {
@@ -137,7 +138,7 @@ impl Reading {
         Ok(())
     }
 
-    fn take_association(&mut self, line: &Line) -> Result<(), StopAt>
+    fn take_association(&mut self, line: &Line) -> Result<(), TakeFault>
         ensures { IsTaken (association_refusal line.now) line.now (progress_of self.old) result
             (progress_of self.new) }
     {
@@ -147,7 +148,7 @@ impl Reading {
         Ok(())
     }
 
-    fn take_basic(&mut self, line: &Line) -> Result<(), StopAt>
+    fn take_basic(&mut self, line: &Line) -> Result<(), TakeFault>
         ensures { IsTaken (basic_refusal line.now) line.now (progress_of self.old) result
             (progress_of self.new) }
     {
@@ -179,7 +180,7 @@ impl Reading {
         Ok(())
     }
 
-    fn take_extra(&mut self, line: &Line) -> Result<(), StopAt>
+    fn take_extra(&mut self, line: &Line) -> Result<(), TakeFault>
         requires { kind_in line.now ≡ Some Kind.Bx }
         ensures { IsTaken (record_refusal line.now) line.now (progress_of self.old) result
             (progress_of self.new) }
@@ -190,7 +191,7 @@ impl Reading {
     }
 
     /// A location or a change of a journey, but for its last location.
-    fn take_call(&mut self, kind: Kind, line: &Line) -> Result<(), StopAt>
+    fn take_on_the_way(&mut self, kind: Kind, line: &Line) -> Result<(), TakeFault>
         requires kind { kind_in line.now ≡ Some kind }
         requires on_the_way { IsOnTheWay (kind_in line.now) }
         ensures { IsTaken (record_refusal line.now) line.now (progress_of self.old) result
@@ -201,7 +202,7 @@ impl Reading {
         Ok(())
     }
 
-    fn take_terminus(&mut self, alloc: Global, line: &Line) -> Result<(), StopAt>
+    fn take_terminus(&mut self, alloc: Global, line: &Line) -> Result<(), TakeFault>
         requires kind { kind_in line.now ≡ Some Kind.Lt }
         requires journey { self.old.place ≡ Place.Journey }
         requires read { (records : List Record) × HasRead records (progress_of self.old) }
@@ -217,7 +218,7 @@ impl Reading {
     }
 
     /// Ends the schedule whose body's lines are kept.
-    fn close(&mut self, alloc: Global, opened: Opened) -> Result<(), StopAt>
+    fn close(&mut self, alloc: Global, opened: Opened) -> Result<(), TakeFault>
         requires { KeepSomeBody self.old.lines }
         ensures { IsClosed (progress_of self.old) opened result (progress_of self.new) }
     {
@@ -228,11 +229,12 @@ impl Reading {
 
     /// Keeps the line of a record of this kind as its plain line, if the schedule that is being read
     /// has a body.
-    fn keep(&mut self, kind: Kind, line: &Line) -> Result<(), StopAt>
+    fn keep(&mut self, kind: Kind, line: &Line) -> Result<(), TakeFault>
         requires { kind_in line.now ≡ Some kind }
         ensures { IsKept (record_refusal line.now) line.now (progress_of self.old) result
             (progress_of self.new) }
     {
+        // `plain_line_of` alone would do: of most lines this spares the copy, and finding the kind again.
         if is_plain_line(kind, line) {
             self.keep_plain(line)?;
         } else {
@@ -251,7 +253,7 @@ impl Reading {
         }
     }
 
-    fn take_trailer(&mut self, line: &Line) -> Result<(), StopAt>
+    fn take_trailer(&mut self, line: &Line) -> Result<(), TakeFault>
         ensures { IsTaken (trailer_refusal line.now) line.now (progress_of self.old) result
             (progress_of self.new) }
     {

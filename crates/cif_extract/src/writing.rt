@@ -1,7 +1,7 @@
 //! Records as plain lines, each with a line feed.
-ghost use Rattle.std.specs.Prelude.{◌≡◌, ◌≤◌, ◌++◌, ◌∷◌, [], false, Some};
+ghost use Rattle.std.specs.Prelude.{◌≤◌, ◌++◌, ◌∷◌, [], Some};
 ghost use Rattle.cif_columns.specs.Field.{plain_line};
-ghost use Rattle.cif_columns.specs.Sink.{Writes, sink_failed};
+ghost use Rattle.cif_columns.specs.Sink.{Writes};
 ghost use Rattle.cif_columns.specs.declared.stp.Stp.TheVariants.{P};
 ghost use Rattle.cif_columns.specs.Contents.{lines_text};
 ghost use Rattle.cif_extract.specs.Texts.{schedule_lines};
@@ -11,9 +11,9 @@ ghost use Rattle.cif_records.specs.Tiploc.{tiploc_table};
 ghost use Rattle.cif_records.specs.Trailer.{trailer_table};
 
 use crate::Body;
-use cif_columns::{Day, DaysRun, Line, Sink, Uid, WriteDevice, WriteFault};
+use cif_columns::{Day, DaysRun, Sink, Uid, WriteDevice, WriteFault};
 use cif_records::{
-    AssocBody, AssocKey, Header, Tiploc, Trailer, permanent_association, permanent_basic_with,
+    AssocBody, AssocKey, Header, Tiploc, Trailer, permanent_association, permanent_basic,
 };
 
 /// Appends the plain line of the header and a line feed.
@@ -63,7 +63,7 @@ pub fn write_schedule<W: WriteDevice>(
     ensures { Writes W.contents W.write_errors
         (lines_text (schedule_lines uid.now first last days P (Some body.now))) sink.old sink.new result }
 {
-    let basic = permanent_basic_with(uid, &body.detail_line(), first, last, days);
+    let basic = permanent_basic(uid, &body.detail_line(), first, last, days);
     sink.write_line(&basic)?;
     sink.write_all(body.further_lines().text())
 }

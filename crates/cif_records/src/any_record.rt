@@ -130,7 +130,12 @@ pub fn is_plain_line(kind: Kind, line: &Line) -> bool
         Kind::Lt => is_plain_as::<Terminus>(line),
         Kind::Lo => is_plain_as::<Origin>(line),
         Kind::Bx => is_plain_as::<Extra>(line),
-        Kind::Hd | Kind::Ti | Kind::Ta | Kind::Td | Kind::Aa | Kind::Bs | Kind::Zz => false,
+        Kind::Bs => is_plain_as::<Basic>(line),
+        Kind::Aa => is_plain_as::<Association>(line),
+        Kind::Ti => is_plain_as::<Tiploc>(line),
+        Kind::Hd => is_plain_as::<Header>(line),
+        Kind::Zz => is_plain_as::<Trailer>(line),
+        Kind::Ta | Kind::Td => false,
     }
 }
 

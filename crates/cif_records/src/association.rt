@@ -13,7 +13,7 @@ use crate::checks::{
     Applicability, check_identity, check_transaction, dates_at, days_at, has_body, letter_of,
 };
 use crate::layout::{self, Layout};
-use crate::{AssocBody, AssocKey, Kind, Record};
+use crate::{AssocBody, AssocKey, Record};
 use cif_columns::{Day, DaysRun, Field, Line, LineBuilder, Refusal, Stp, text_at, uid_at};
 
 /// A record `AA` (the CIF End User Specification): on which dates an association holds, or is
@@ -52,12 +52,12 @@ impl Layout for Association {
 
     ghost refusal = { association_refusal };
 
-    ghost found = { λ line terms. (columns 1 2 line ≡ codes "AA")
+    ghost found = { λ line checked. (columns 1 2 line ≡ codes "AA")
         × (columns 3 3 line ≡ codes "N")
-        × StandsIn (columns 16 21 line) (date terms.dates.first)
-        × StandsIn (columns 22 27 line) (date terms.dates.last)
-        × StandsIn (columns 28 34 line) (weekdays terms.days)
-        × StandsIn (columns 80 80 line) (indicator terms.letter) };
+        × StandsIn (columns 16 21 line) (date checked.dates.first)
+        × StandsIn (columns 22 27 line) (date checked.dates.last)
+        × StandsIn (columns 28 34 line) (weekdays checked.days)
+        × StandsIn (columns 80 80 line) (indicator checked.letter) };
 
     #[tactic(auto, unfolding(crate::specs::Association::association_refusal))]
     fn check(line: &Line) -> Result<Applicability, Refusal> {
@@ -73,14 +73,14 @@ impl Layout for Association {
         })
     }
 
-    fn with(line: &Line, terms: Applicability) -> Association {
+    fn with(line: &Line, checked: Applicability) -> Association {
         Association {
             key: key_at(line),
-            first: terms.dates.first,
-            last: terms.dates.last,
-            days: terms.days,
-            letter: terms.letter,
-            body: body_at(line, terms.letter),
+            first: checked.dates.first,
+            last: checked.dates.last,
+            days: checked.days,
+            letter: checked.letter,
+            body: body_at(line, checked.letter),
         }
     }
 
@@ -249,13 +249,14 @@ fn body_at(line: &Line, letter: Stp) -> Option<AssocBody>
     ensures bodied { is_some result ≡ has_body letter }
     ensures spells { SpellsBody line.now result }
 {
-    match letter {
-        Stp::C => None,
-        Stp::N | Stp::O | Stp::P => Some(AssocBody {
+    if has_body(letter) {
+        Some(AssocBody {
             category: text_at(line, 35),
             date_indicator: text_at(line, 37),
             diagram: text_at(line, 47),
             kind: text_at(line, 48),
-        }),
+        })
+    } else {
+        None
     }
 }

@@ -10,13 +10,13 @@ ghost use Rattle.cif_records.specs.Checks.{IsJudged};
 ghost use Rattle.cif_records.specs.Detail.{detail_rows, detail_table};
 ghost use Rattle.cif_records.specs.declared.detail.Detail.{Detail};
 
+use crate::Record;
 use crate::checks::{
     Applicability, check_bank_holiday, check_identity, check_transaction, dates_at, days_at,
     has_body, letter_of,
 };
 use crate::detail::{DETAIL_WIDTH, Detail};
 use crate::layout::{self, Layout};
-use crate::{Kind, Record};
 use cif_columns::{Day, DaysRun, Field, Line, LineBuilder, Refusal, Stp, Uid, columns_at, uid_at};
 
 /// A record `BS` (the CIF End User Specification): on which dates a schedule runs, or is cancelled.
@@ -54,13 +54,13 @@ impl Layout for Basic {
 
     ghost refusal = { basic_refusal };
 
-    ghost found = { λ line terms. (columns 1 2 line ≡ codes "BS")
+    ghost found = { λ line checked. (columns 1 2 line ≡ codes "BS")
         × (columns 3 3 line ≡ codes "N")
-        × StandsIn (columns 10 15 line) (date terms.dates.first)
-        × StandsIn (columns 16 21 line) (date terms.dates.last)
-        × StandsIn (columns 22 28 line) (weekdays terms.days)
+        × StandsIn (columns 10 15 line) (date checked.dates.first)
+        × StandsIn (columns 16 21 line) (date checked.dates.last)
+        × StandsIn (columns 22 28 line) (weekdays checked.days)
         × (columns 29 29 line ≡ codes " ")
-        × StandsIn (columns 80 80 line) (indicator terms.letter) };
+        × StandsIn (columns 80 80 line) (indicator checked.letter) };
 
     #[tactic(auto, unfolding(crate::specs::Basic::basic_refusal))]
     fn check(line: &Line) -> Result<Applicability, Refusal> {
@@ -77,14 +77,14 @@ impl Layout for Basic {
         })
     }
 
-    fn with(line: &Line, terms: Applicability) -> Basic {
+    fn with(line: &Line, checked: Applicability) -> Basic {
         Basic {
             uid: uid_at(line, 4),
-            first: terms.dates.first,
-            last: terms.dates.last,
-            days: terms.days,
-            letter: terms.letter,
-            detail: detail_at(line, terms.letter),
+            first: checked.dates.first,
+            last: checked.dates.last,
+            days: checked.days,
+            letter: checked.letter,
+            detail: detail_at(line, checked.letter),
         }
     }
 
@@ -134,20 +134,9 @@ impl Basic {
     }
 }
 
-/// The plain line of a permanent schedule: transaction type `N`, letter `P`.
-pub fn permanent_basic(uid: &Uid, detail: &Detail, first: Day, last: Day, days: DaysRun) -> Line
-    requires { first ≤ last }
-    ensures plain { result ≡ plain_line (basic_table uid.now first last days P (Some detail.now)) }
-    ensures again { AllStandIn result (basic_table uid.now first last days P (Some detail.now)) }
-{
-    let mut line = LineBuilder::new();
-    put_basic(uid, first, last, days, Stp::P, Some(detail), &mut line);
-    line.finish()
-}
-
 /// The plain line of a permanent schedule: transaction type `N`, letter `P`, and the detail that stands
 /// in columns 30 to 78 of `detail`, as they are.
-pub fn permanent_basic_with(uid: &Uid, detail: &Line, first: Day, last: Day, days: DaysRun) -> Line
+pub fn permanent_basic(uid: &Uid, detail: &Line, first: Day, last: Day, days: DaysRun) -> Line
     requires { first ≤ last }
     ensures { (d : Detail) → detail.now ≡ plain_line (detail_table d)
         → result ≡ plain_line (basic_table uid.now first last days P (Some d)) }
@@ -160,7 +149,7 @@ pub fn permanent_basic_with(uid: &Uid, detail: &Line, first: Day, last: Day, day
     line.finish()
 }
 
-/// Appends each column.
+/// Puts the plain columns of a basic schedule with these fields on an empty line.
 fn put_basic(
     uid: &Uid,
     first: Day,
@@ -202,9 +191,10 @@ fn detail_at(line: &Line, letter: Stp) -> Option<Detail>
     ensures bodied { is_some result ≡ has_body letter }
     ensures spells { AllStandIn line.now (detail_rows result) }
 {
-    match letter {
-        Stp::C => None,
-        Stp::N | Stp::O | Stp::P => Some(Detail::read(line)),
+    if has_body(letter) {
+        Some(Detail::read(line))
+    } else {
+        None
     }
 }
 

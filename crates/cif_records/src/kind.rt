@@ -38,7 +38,7 @@ pub enum Kind {
 }
 
 impl Kind {
-    /// All kinds, the most frequent first.
+    /// All kinds, in the order in which `kind_of` tries them. Most lines are LI.
     pub const ALL: [Kind; 12] = [
         Kind::Li,
         Kind::Cr,

@@ -43,8 +43,8 @@ pub(crate) trait Layout: Sized + Drop {
         requires { found line.now checked }
         ensures { AllStandIn line.now (table result) };
 
-    /// Whether the line spells a record and is its plain line. A `false` costs time alone, so that
-    /// the kinds of which there are few lines have no test.
+    /// Whether the line spells a record and is its plain line. A `false` costs time alone, so the
+    /// kinds of which there are few lines, or of which fields are read anyway, have no test.
     fn is_plain(line: &Line) -> bool
         ensures { IsTrue result → (refusal line.now ≡ None)
             × IsPlainOf Self table line.now line.now }

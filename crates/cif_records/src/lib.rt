@@ -26,7 +26,7 @@ pub use any_record::{is_plain_line, plain_line_of, read_record, write_record};
 pub use assoc_body::AssocBody;
 pub use assoc_key::AssocKey;
 pub use association::{Association, permanent_association};
-pub use basic::{Basic, permanent_basic, permanent_basic_with};
+pub use basic::{Basic, permanent_basic};
 pub use basic_terms::BasicTerms;
 pub use change::Change;
 pub use detail::Detail;

@@ -15,7 +15,7 @@ pub enum JobFault {
     BadDate,
     /// A word that stands for a UID isn't six bytes from 0x20 to 0x7E.
     BadUid,
-    /// A growth was refused.
+    /// Memory was refused.
     Memory,
 }
 

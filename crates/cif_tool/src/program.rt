@@ -45,6 +45,7 @@ fn done<R: Files + Input + Print + AllocGlobal>(rt: &R, job: &Job) -> Result<u8,
     let Ok(mut output) = BufWriter::with_capacity(rt.alloc(), OUTPUT_BUFFER, io::writer(rt)) else {
         return Err(Fault::Memory);
     };
+    // Of a job with one input `right` stands for no file, and is never touched.
     let (file, right) = job.inputs();
     let answer = answer(
         rt.alloc(),

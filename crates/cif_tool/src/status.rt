@@ -6,7 +6,7 @@ use cif_canon::{Comparison, report};
 use cif_columns::{Sink, WriteDevice};
 use cif_extract::Fault;
 
-/// The status of a fault: 3 where the input is refused, 4 where a device failed or a growth was
+/// The status of a fault: 3 where the input is refused, 4 where a device failed or memory was
 /// refused.
 pub fn status(fault: &Fault) -> u8
     ensures { result ≡ status_of fault.now }

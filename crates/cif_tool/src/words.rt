@@ -1,10 +1,10 @@
 //! What the words of a call ask for.
 ghost use Rattle.std.specs.Prelude.{◌≡◌, ◌≢◌, ◌⊎◌, IfOk, IfErr, IsSomeAnd, MatchOption, Some};
-ghost use Rattle.std.specs.Prelude.{codes, is_some, map, option_map, string_bytes, true};
-ghost use Rattle.clap.specs.Words.{Text, first_of, found_of, kind_of, rows_of};
+ghost use Rattle.std.specs.Prelude.{codes, map, option_map, string_bytes};
+ghost use Rattle.clap.specs.Words.{first_of, found_of, kind_of, rows_of};
 ghost use Rattle.clap.specs.Words.{subcommand_rows_of};
 ghost use Rattle.cif_columns.specs.Day.{StandsInYymmdd};
-ghost use Rattle.cif_tool.specs.Job.{AreCanonicalWords, Asks, HasFile, HasWord, IsAskedBy};
+ghost use Rattle.cif_tool.specs.Job.{Asks, HasFile, HasWord, IsAskedBy};
 ghost use Rattle.cif_tool.specs.Job.{IsChosen, IsDateOf, IsTaken, IsUidWord, form_of};
 ghost use Rattle.cif_tool.specs.JobFault.{HasBadDate, IsFaultOf, IsWordFault, NamesNoDay};
 ghost use Rattle.cif_tool.specs.JobFault.{IsNoUid};
@@ -25,8 +25,8 @@ static FORMS: [&str; 2] = ["1", "2"];
 /// What the words of a call ask for, of which the first is the program's name.
 ///
 /// `Usage` comes where `clap` refuses the words, or where they ask for help or for the version;
-/// else `BadUid` where a UID is no UID, and else `BadDate` where a date is no date; `Memory` where a
-/// growth was refused, `clap`'s or this call's own.
+/// else `BadUid` where a UID is no UID, and else `BadDate` where a date is no date; `Memory` where
+/// memory was refused, to `clap` or to this call itself.
 pub fn job_of(alloc: Global, words: Vec<String>) -> Result<Job, JobFault>
     ensures asked { IfOk result (Asks (map string_bytes words.items)) }
     ensures refused { IfErr result (IsFaultOf (map string_bytes words.items)) }

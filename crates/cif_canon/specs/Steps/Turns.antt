@@ -38,7 +38,7 @@ pub record IsFront {K B : Type 0} (cmp : K → K → Ordering) (entries : List (
   pub later : All (λ i. (k : K) → HasKey entries i k → cmp key k ≡ Less) (drop n positions)
 
 -- the first n positions, of which there is one, are those of one key, and the keys at the rest are after it
-pub record IsFirstRun {K B : Type 0} (cmp : K → K → Ordering) (entries : List (K × Terms B)) (positions : List ℕ) (n : ℕ) : Type 0 where
+pub record AreOfFirstKey {K B : Type 0} (cmp : K → K → Ordering) (entries : List (K × Terms B)) (positions : List ℕ) (n : ℕ) : Type 0 where
   pub key : K
   pub some : 0 < n
   pub front : IsFront cmp entries positions key n

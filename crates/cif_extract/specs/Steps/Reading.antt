@@ -15,8 +15,8 @@ use Rattle.cif_extract.specs.declared.place.Place.{Place}
 use Rattle.cif_extract.specs.declared.place.Place.TheVariants as at
 use Rattle.cif_extract.specs.declared.reading.Reading.{Reading}
 use Rattle.cif_extract.specs.declared.schedule.Schedule.{Schedule}
-use Rattle.cif_extract.specs.declared.stop_at.StopAt.{StopAt}
-use Rattle.cif_extract.specs.declared.stop_at.StopAt.TheVariants as stop
+use Rattle.cif_extract.specs.declared.take_fault.TakeFault.{TakeFault}
+use Rattle.cif_extract.specs.declared.take_fault.TakeFault.TheVariants as untaken
 use Rattle.cif_records.specs.Bodies.{has_body}
 use Rattle.cif_records.specs.Checks.{first_of}
 use Rattle.cif_records.specs.Detail.{detail_table}
@@ -156,24 +156,24 @@ IsKeepable of.Trailer = Unit {0}
 IsKeepable r = AllStandIn (plain_line (record_table r)) (record_table r)
 
 -- what taking a line gives where this is the first reason to refuse it: the reason, or one step more with the record that it spells
-abbrev pub IsTaken : Option Refusal → List ℕ → Progress → Result Unit StopAt → Progress → Type 0
+abbrev pub IsTaken : Option Refusal → List ℕ → Progress → Result Unit TakeFault → Progress → Type 0
 IsTaken refusal line before (Ok done) after = (refusal ≡ None) × ((r : Record) × SpellsRecord line r × IsKeepable r ×
     (after ≡ step before r))
-IsTaken refusal line before (Err (stop.Refused why)) after = refusal ≡ Some why
-IsTaken refusal line before (Err stop.Memory) after = Unit {0}
+IsTaken refusal line before (Err (untaken.Refused why)) after = refusal ≡ Some why
+IsTaken refusal line before (Err untaken.Memory) after = Unit {0}
 
 -- what keeping a line gives where this is the first reason to refuse it: the reason, or its record's plain line more, if it is kept
-abbrev pub IsKept : Option Refusal → List ℕ → Progress → Result Unit StopAt → Progress → Type 0
+abbrev pub IsKept : Option Refusal → List ℕ → Progress → Result Unit TakeFault → Progress → Type 0
 IsKept refusal line before (Ok done) after = (refusal ≡ None) × ((r : Record) × SpellsRecord line r
     × AllStandIn (plain_line (record_table r)) (record_table r) × (after ≡ record before { lines = kept before.opened before.lines r }))
-IsKept refusal line before (Err (stop.Refused why)) after = refusal ≡ Some why
-IsKept refusal line before (Err stop.Memory) after = Unit {0}
+IsKept refusal line before (Err (untaken.Refused why)) after = refusal ≡ Some why
+IsKept refusal line before (Err untaken.Memory) after = Unit {0}
 
 -- what closing a schedule gives: one schedule more, with the body that the lines keep
-abbrev pub IsClosed : Progress → Opened → Result Unit StopAt → Progress → Type 0
+abbrev pub IsClosed : Progress → Opened → Result Unit TakeFault → Progress → Type 0
 IsClosed before o (Ok done) after = after ≡ record before { schedules = closed before.schedules (Some o) before.lines }
-IsClosed before o (Err (stop.Refused why)) after = ⊥
-IsClosed before o (Err stop.Memory) after = Unit {0}
+IsClosed before o (Err (untaken.Refused why)) after = ⊥
+IsClosed before o (Err untaken.Memory) after = Unit {0}
 
 -- the kinds of a journey, but for its last
 abbrev pub IsOnTheWay : Option Kind → Type 0

@@ -35,10 +35,10 @@ loop-rest-preserved g c =
     let same = same_key-cmp g.E.Key.PartialEq.eq g.E.Key.Ord.cmp g.met.E.Key.Ord.matches_eq g.met.E.Entry.same_key in
     record {
       within = subst (λ (rest : List ℕ). All (λ i. i < length c.args.entries.now) rest) (sym c.split_at.ensures.back)
-          (All-drop (λ i. i < length c.args.entries.now) c.first_run.result c.loop-rest.rest.now c.loop-rest.invariant.within);
+          (All-drop (λ i. i < length c.args.entries.now) c.count_of_first_key.result c.loop-rest.rest.now c.loop-rest.invariant.within);
       made = rw (c.in_ok-extend_from_slice.ensures.items, c.as_slice.ensures.value, c.split_at.ensures.back)
           (made-key g.E.Key.Ord.cmp c.args.form window es g.met.E.Key.Ord.total same c.loop-rest.all.items c.loop-rest.rest.now
-          c.loop-rest.invariant.made c.first_run.result c.first_run.ensures c.in_ok-room.room.runs.items
+          c.loop-rest.invariant.made c.count_of_first_key.result c.count_of_first_key.ensures c.in_ok-room.room.runs.items
           (rw c.split_at.ensures.front at c.in_ok-room.ensures.runs));
     }
 
@@ -49,7 +49,7 @@ returns-in_err-room-clause-fault g c =
     let same = same_key-cmp g.E.Key.PartialEq.eq g.E.Key.Ord.cmp g.met.E.Key.Ord.matches_eq g.met.E.Entry.same_key in
     let p = err_from_is_err_and c.from_residual-in_err-room.result c.from_residual-in_err-room.ensures.1 in
     rw (p.1, p.2) (made-fault g.E.Key.Ord.cmp c.args.form window es g.met.E.Key.Ord.total same c.loop-rest.all.items c.loop-rest.rest.now
-    c.loop-rest.invariant.made c.first_run.result c.first_run.ensures c.in_err-room.field-0.0
+    c.loop-rest.invariant.made c.count_of_first_key.result c.count_of_first_key.ensures c.in_err-room.field-0.0
     (rw c.split_at.ensures.front at c.in_err-room.ensures.fault))
 
 pub returns-clause-records : goal.returns-clause-records

@@ -2,9 +2,5 @@
 use Rattle.std.proofs.Common.{◌+◌, ap, sym, drop}
 use Rattle.cif_columns.proofs.first_line.first_line_of.Goals as goal
 
-pub returns-then-take_plain_line-clause-rest : goal.returns-then-take_plain_line-clause-rest
-returns-then-take_plain_line-clause-rest c _ =
-    ap (λ n. drop (n + 1) c.args.bytes.now) (sym (c.take_plain_line.ensures.ended c.if-take_plain_line.true))
-
 pub returns-in-Some-clause-rest : goal.returns-in-Some-clause-rest
 returns-in-Some-clause-rest c _ = ap (λ n. drop (n + 1) c.args.bytes.now) c.in-Some.ensures.found

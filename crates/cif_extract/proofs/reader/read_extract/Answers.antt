@@ -9,7 +9,7 @@ use Rattle.cif_extract.specs.Fault.{of_line_fault}
 use Rattle.cif_extract.specs.ReadFault.{IsOfReading, IsReadFault}
 use Rattle.cif_extract.specs.Steps.Reading.{progress_of}
 use Rattle.cif_extract.proofs.FirstRefusals.{at_fault, at_line, fault_handed_on, if_error, line_fault_of_reading}
-use Rattle.cif_extract.proofs.ReadingRuns.{HasCome, come_more, come_none, refused_here, refused_reason, stop_of_reading, stop_result}
+use Rattle.cif_extract.proofs.ReadingRuns.{HasCome, come_more, come_none, refused_here, refused_reason, untaken_of_reading, untaken_result}
 use Rattle.cif_extract.proofs.ReadingRuns.{unfinished_of_reading, unfinished_result, whole_result}
 use Rattle.cif_extract.proofs.SpelledBytes.{only_fault, only_read}
 use Rattle.cif_extract.proofs.reader.read_extract.Goals as goal
@@ -48,13 +48,13 @@ returns-in-Err-clause-fault g c =
     reading_line g.R.Read.remaining _ _ _ _ ls so_far c.read_line.new.self c.read_line.new.source line next.answer next.past_now
     next.limit_now more in
     let number : c.line_number.result ≡ length ls + 1 = omega (arith, c.line_number.ensures, more, so_far.counted) in
-    rw c.line.ensures
-    (stop_result _ (g.R.Read.remaining c.read_line.new.source.reader) c.args.max_lines c.line_number.result c.in-Err.stop
+    rw c.at_line.ensures
+    (untaken_result _ (g.R.Read.remaining c.read_line.new.source.reader) c.args.max_lines c.line_number.result c.in-Err.fault
     (λ why e. at_line c.args.max_lines _ ls come.fine g.R.Read.remaining c.read_line.new.self c.read_line.new.source line
     c.line_number.result why
     now number
     (refused_here c.args.max_lines ls line c.take.ensures.line room (progress_of c.loop-reading.reading) come
-    ∙ refused_reason _ line (progress_of c.loop-reading.reading) (progress_of c.take.new.self) c.in-Err.stop why c.in-Err.ensures.taken e)))
+    ∙ refused_reason _ line (progress_of c.loop-reading.reading) (progress_of c.take.new.self) c.in-Err.fault why c.in-Err.ensures.taken e)))
 
 pub returns-in_err-is_line-clause-fault : goal.returns-in_err-is_line-clause-fault
 returns-in_err-is_line-clause-fault g c =
@@ -82,7 +82,7 @@ returns-in_err-is_line-clause-only g c =
 pub returns-in-Err-clause-only : goal.returns-in-Err-clause-only
 returns-in-Err-clause-only g c =
     only_fault (g.R.Read.remaining c.args.source.now.reader) c.args.max_lines (g.R.Read.remaining c.read_line.new.source.reader)
-    (Err c.line.result) c.line.result refl (returns-in-Err-clause-fault g c)
+    (Err c.at_line.result) c.at_line.result refl (returns-in-Err-clause-fault g c)
 
 pub returns-else-is_line-clause-only : goal.returns-else-is_line-clause-only
 returns-else-is_line-clause-only g c =
@@ -115,7 +115,7 @@ returns-in-Err-clause-answers g c =
     omega (arith, c.line_number.ensures, c.read_line.new.self.counted, next.limit_now, so_far.same_limit) in
     let more : given c.read_line.new.self ≡ given c.loop-reading.lines + 1 = (rw c.if-is_line.true at next).counted in
     let first : 1 ≤ c.line_number.result = omega (arith, c.line_number.ensures, more) in
-    rw c.line.ensures (stop_of_reading c.args.max_lines c.line_number.result c.in-Err.stop first within)
+    rw c.at_line.ensures (untaken_of_reading c.args.max_lines c.line_number.result c.in-Err.fault first within)
 
 pub returns-else-is_line-clause-answers : goal.returns-else-is_line-clause-answers
 returns-else-is_line-clause-answers g c =

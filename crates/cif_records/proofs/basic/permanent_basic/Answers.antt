@@ -1,26 +1,28 @@
--- `put_all-plain_line`: rows put on an empty line are the table's plain line, which is 80 long and spells the schedule.
-use Rattle.std.proofs.Common.{◌≡◌, Some, length, refl, subst, sym, ◌∙◌}
-use Rattle.cif_columns.specs.Field.{AllStandIn}
+-- Columns 30 to 78 are put as they stand: `detail_columns` has them as the detail's plain ones, and `put_all-append` joins.
+use Rattle.std.proofs.Common.{◌≡◌, ◌++◌, ℕ, List, [], Some, sym, ◌∙◌}
+use Rattle.cif_columns.specs.Field.{plain_line}
+use Rattle.cif_columns.specs.LineBuilder.{put_all}
 use Rattle.cif_columns.specs.declared.stp.Stp.TheVariants.{P}
-use Rattle.cif_columns.proofs.Parts.{length-plain_line, put_all-plain_line, stands-plain_line}
-use Rattle.cif_records.specs.Basic.{basic_table}
+use Rattle.cif_columns.proofs.Parts.{put_all-append, put_all-plain_line}
+use Rattle.cif_records.specs.Basic.{basic_back, basic_front, basic_table}
+use Rattle.cif_records.specs.Detail.{detail_rows}
+use Rattle.cif_records.proofs.Details.{detail_columns}
 use Rattle.cif_records.proofs.basic.permanent_basic.Goals as goal
 
-pub finish-requires : goal.finish-requires
-finish-requires c =
+pub returns : goal.returns
+returns c = λ d is.
     let a = c.args in
-    let table = basic_table a.uid.now a.first a.last a.days P (Some a.detail.now) in
-    subst (λ line. length line ≡ 80) (sym (c.put_basic.ensures.columns ∙ put_all-plain_line table))
-    (length-plain_line table refl c.put_basic.ensures.fits)
-
-pub returns-clause-plain : goal.returns-clause-plain
-returns-clause-plain c =
-    let a = c.args in
-    c.finish.ensures ∙ c.put_basic.ensures.columns
-    ∙ put_all-plain_line (basic_table a.uid.now a.first a.last a.days P (Some a.detail.now))
-
-pub returns-clause-again : goal.returns-clause-again
-returns-clause-again c =
-    let a = c.args in
-    let table = basic_table a.uid.now a.first a.last a.days P (Some a.detail.now) in
-    subst (λ line. AllStandIn line table) (sym (returns-clause-plain c)) (stands-plain_line table refl c.put_basic.ensures.fits)
+    let detail = detail_rows (Some d) in
+    let front = put_all [] (basic_front a.uid.now a.first a.last a.days) in
+    let kept = c.columns_at.ensures.value ∙ detail_columns d a.detail.now c.columns_at.ensures.line.width is in
+    let built : ◌≡◌ {A = List ℕ} c.finish.result (put_all (front ++ plain_line detail) (basic_back P)) =
+    rw (
+      c.finish.ensures,
+      c.put_on.ensures.columns,
+      c.put_spare.ensures.columns,
+      c.put_columns.ensures.columns,
+      kept,
+      c.put_front.ensures.columns,
+    ) in
+    built ∙ sym (put_all-append front detail (basic_back P))
+    ∙ put_all-plain_line (basic_table a.uid.now a.first a.last a.days P (Some d))

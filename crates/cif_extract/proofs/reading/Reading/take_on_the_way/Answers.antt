@@ -5,7 +5,7 @@ use Rattle.cif_extract.specs.Steps.Reading.{progress_of}
 use Rattle.cif_extract.specs.declared.place.Place.TheVariants as at
 use Rattle.cif_records.proofs.Records.{kind_there as spelled_kind}
 use Rattle.cif_extract.proofs.TakenLines.{step_on_the_way}
-use Rattle.cif_extract.proofs.reading.Reading.take_call.Goals as goal
+use Rattle.cif_extract.proofs.reading.Reading.take_on_the_way.Goals as goal
 
 pub returns : goal.returns
 returns c =

@@ -4,7 +4,7 @@ use Rattle.std.specs.List.{list_all}
 use Rattle.cif_columns.specs.FirstLine.{is_printable}
 use Rattle.cif_columns.proofs.FeedPlaces.{place-printable}
 use Rattle.cif_columns.proofs.PrintableBytes.{printable_true}
-use Rattle.cif_columns.proofs.first_line.take_plain_line.Goals as goal
+use Rattle.cif_columns.proofs.first_line.take_line_with_feed.Goals as goal
 
 pub returns-in-Some-clause-printable : goal.returns-in-Some-clause-printable
 returns-in-Some-clause-printable c took =

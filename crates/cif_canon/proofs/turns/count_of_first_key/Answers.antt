@@ -1,10 +1,10 @@
--- In the order of keys none is before that of the first position (`from-first`), so its front is a first run (`first-run`).
+-- In the order of keys none is before that of the first position (`from-first`), so its front is a first run (`of-first_key`).
 use Rattle.std.proofs.Common.{get_or, sym, subst}
 use Rattle.cif_calendar.specs.Keys.{keyed}
 use Rattle.cif_canon.specs.Steps.Turns.{HasKey}
 use Rattle.cif_canon.proofs.KeyPositions.{has-key}
-use Rattle.cif_canon.proofs.KeyTurns.{first-run, from-first}
-use Rattle.cif_canon.proofs.turns.first_run.Goals as goal
+use Rattle.cif_canon.proofs.KeyTurns.{of-first_key, from-first}
+use Rattle.cif_canon.proofs.turns.count_of_first_key.Goals as goal
 
 pub count_of_key-requires-clause-from : goal.count_of_key-requires-clause-from
 count_of_key-requires-clause-from g c =
@@ -22,5 +22,5 @@ returns g c =
     subst (λ k. HasKey es (get_or c.args.positions.now 0 0) k) (sym c.key.ensures)
     (has-key g.E.Entry.key g.E.Entry.terms c.args.entries.now (get_or c.args.positions.now 0 0) c.index-entries-positions.result
     (c.requires.within 0 0 c.requires.some) c.index-entries-positions.is) in
-    first-run g.E.Key.Ord.cmp es c.args.positions.now c.requires.rising g.met.E.Key.Ord.total c.key.result.now leads c.requires.some
+    of-first_key g.E.Key.Ord.cmp es c.args.positions.now c.requires.rising g.met.E.Key.Ord.total c.key.result.now leads c.requires.some
     c.count_of_key.result c.count_of_key.ensures

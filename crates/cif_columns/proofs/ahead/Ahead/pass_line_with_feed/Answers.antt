@@ -1,7 +1,7 @@
 -- A range that begins 81 bytes later is the held bytes without their first 81 (`range_rest`).
 use Rattle.std.proofs.Common.{◌+◌, ◌≤◌, arith}
 use Rattle.cif_columns.proofs.HeldBytes.{range_length, range_rest}
-use Rattle.cif_columns.proofs.ahead.Ahead.pass_plain_line.Goals as goal
+use Rattle.cif_columns.proofs.ahead.Ahead.pass_line_with_feed.Goals as goal
 
 pub returns : goal.returns
 returns c =
