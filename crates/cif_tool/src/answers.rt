@@ -12,7 +12,7 @@ ghost use Rattle.cif_tool.specs.Answer.{Answers, IsCheckAnswer, IsCompareAnswer}
 ghost use Rattle.cif_tool.specs.Answer.{IsCompareRefusal, IsDayAnswer, IsDayRefusal};
 ghost use Rattle.cif_tool.specs.Answer.{IsNormaliseAnswer, IsTrainAnswer, ReadsBoth};
 
-use crate::status::outcome;
+use crate::status::{DONE, outcome};
 use cif_canon::{
     Asked, check, compare, day_view, narrow, normalise, train_view, write_comparison, write_counts,
 };
@@ -37,7 +37,7 @@ pub fn answer_normalise<R: ReadDevice, W: WriteDevice>(
     ensures source { FaultReads R.read_errors source.old source.new result }
 {
     normalise(alloc, source, sink, MAX_LINES, asked, form)?;
-    flushed(sink, 0)
+    flushed(sink, DONE)
 }
 
 /// Writes how many records the canonical extract of what the source gives has, and answers
@@ -58,7 +58,7 @@ pub fn answer_check<R: ReadDevice, W: WriteDevice>(
 {
     let counts = check(alloc, source, MAX_LINES, asked, form)?;
     write_counts(&counts, sink)?;
-    flushed(sink, 0)
+    flushed(sink, DONE)
 }
 
 /// Writes how the extracts of two sources compare, and answers 0 where they say the same, else 1.
@@ -105,7 +105,7 @@ pub fn answer_day<R: ReadDevice, W: WriteDevice>(
 {
     let extract = read_extract(alloc, source, MAX_LINES)?;
     day_view(alloc, &extract, day, sink)?;
-    flushed(sink, 0)
+    flushed(sink, DONE)
 }
 
 /// Writes when the train runs, and answers status 0.
@@ -126,7 +126,7 @@ pub fn answer_train<R: ReadDevice, W: WriteDevice>(
 {
     let extract = narrowed(read_extract(alloc, source, MAX_LINES)?, asked)?;
     train_view(alloc, &extract, uid, sink, form)?;
-    flushed(sink, 0)
+    flushed(sink, DONE)
 }
 
 /// The extract, narrowed to the window that is asked for.

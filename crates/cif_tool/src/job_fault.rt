@@ -2,6 +2,7 @@
 ghost use Rattle.std.specs.Prelude.{◌≡◌, IfErr, IfOk, option_map};
 ghost use Rattle.cif_extract.specs.declared.fault.Fault.TheVariants.{Write};
 
+use crate::status::{DONE, FAILED, MISTAKEN};
 use cif_extract::Fault;
 use clap::error::ErrorKind;
 use std::alloc::AllocError;
@@ -60,11 +61,11 @@ impl JobFault {
     {
         match self {
             JobFault::Usage(error) => match error.kind() {
-                ErrorKind::DisplayHelp | ErrorKind::DisplayVersion => 0,
-                _ => 2,
+                ErrorKind::DisplayHelp | ErrorKind::DisplayVersion => DONE,
+                _ => MISTAKEN,
             },
-            JobFault::BadDate | JobFault::BadUid => 2,
-            JobFault::Memory => 4,
+            JobFault::BadDate | JobFault::BadUid => MISTAKEN,
+            JobFault::Memory => FAILED,
         }
     }
 

@@ -3,7 +3,7 @@
 use crate::input::source_of;
 use crate::job::Job;
 use crate::job_answer::answer;
-use crate::status::end;
+use crate::status::{MISTAKEN, end};
 use crate::words::job_of;
 use cif_columns::Sink;
 use cif_extract::Fault;
@@ -29,7 +29,7 @@ pub fn run<R: Env + Files + Input + Print + AllocGlobal, E: Print>(rt: &R, error
         Err(error) if error.kind() == ErrorKind::OutOfMemory => Err(Fault::Memory),
         Err(_) => {
             let _ = errors.println(NOT_TEXT);
-            Ok(2)
+            Ok(MISTAKEN)
         }
     };
     end(answer, &mut Sink::new(io::writer(errors)))

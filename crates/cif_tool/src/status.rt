@@ -6,6 +6,21 @@ use cif_canon::{Comparison, report};
 use cif_columns::{Sink, WriteDevice};
 use cif_extract::Fault;
 
+/// The answer was given; of `compare`, that the extracts say the same.
+pub const DONE: u8 = 0;
+
+/// The extracts that were compared don't say the same.
+pub const DIFFERENT: u8 = 1;
+
+/// The words of the call are mistaken.
+pub const MISTAKEN: u8 = 2;
+
+/// An input is refused, or a date that was asked for.
+pub const REFUSED: u8 = 3;
+
+/// A file, a standard stream or a request for memory failed.
+pub const FAILED: u8 = 4;
+
 /// The status of a fault: 3 where the input is refused, 4 where a device failed or memory was
 /// refused.
 pub fn status(fault: &Fault) -> u8
@@ -16,8 +31,8 @@ pub fn status(fault: &Fault) -> u8
         | Fault::Ambiguous(_)
         | Fault::WindowsDiffer
         | Fault::OutsideWindow
-        | Fault::WindowReversed => 3,
-        Fault::Read | Fault::Write | Fault::Memory => 4,
+        | Fault::WindowReversed => REFUSED,
+        Fault::Read | Fault::Write | Fault::Memory => FAILED,
     }
 }
 
@@ -26,8 +41,9 @@ pub fn outcome(comparison: &Comparison) -> u8
     ensures { result ≡ outcome_of comparison.now }
 {
     match comparison {
-        Comparison::Same => 0,
-        Comparison::Tiploc(_) | Comparison::Association(_, _) | Comparison::Train(_, _) => 1,
+        Comparison::Same => DONE,
+        Comparison::Tiploc(_) | Comparison::Association(_, _) | Comparison::Train(_, _) =>
+            DIFFERENT,
     }
 }
 
