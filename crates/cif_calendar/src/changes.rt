@@ -44,7 +44,7 @@ pub(crate) fn fill_changes<E: Entry>(
     for i in members {
         add_changes_of(changes, &entries[*i])?;
     }
-    changes.sort_unstable_by_key(|day| day.number());
+    changes.sort_unstable_by_key(|day| *day);
     Ok(())
 }
 

@@ -90,6 +90,6 @@ fn fill_layer<E: Entry>(
     for i in members {
         add_if(layer, entries, *i, letter)?;
     }
-    layer.sort_unstable_by_key(|member| member.first.number());
+    layer.sort_unstable_by_key(|member| member.first);
     Ok(())
 }

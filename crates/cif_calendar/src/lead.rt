@@ -18,7 +18,8 @@ use cif_columns::Day;
 /// A member that leads.
 #[derive(Clone, Copy, Debug, PartialEq, Eq)]
 pub(crate) struct Leader {
-    /// The number of the last date on which it may apply.
+    /// The number of the last date on which it may apply. It is no `Day`, since the checker covers
+    /// arrays of these only where their fields are plain numbers.
     pub(crate) last: u16,
     /// Its position in the entries.
     pub(crate) position: usize,
