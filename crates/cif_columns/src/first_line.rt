@@ -13,7 +13,8 @@ use crate::refusal::Refusal;
 /// many bytes and no line feed the first line is too long, whatever follows.
 pub(crate) const LONGEST_LINE: usize = LINE_WIDTH + 2;
 
-/// A decided line and how many bytes it takes with its ending, or why it is none; then `taken` says nothing.
+/// A decided line and how many bytes it takes with its ending, or why it is none; then `taken` says
+/// nothing.
 pub(crate) struct FirstLine {
     pub(crate) line: Result<Line, Refusal>,
     pub(crate) taken: usize,
@@ -50,8 +51,9 @@ pub(crate) fn first_line_of(bytes: &[u8], is_full: bool) -> Option<FirstLine>
     Some(FirstLine { line, taken: 0 })
 }
 
-/// Makes it the first line of the bytes, if that is 80 bytes and a line feed, and tells whether it did. It
-/// answers nothing that `first_line_of` doesn't: nearly all lines are so, and it copies them once.
+/// Makes it the first line of the bytes, if that is 80 bytes and a line feed, and tells whether it
+/// did. It answers nothing that `first_line_of` doesn't: nearly all lines are so, and it copies them
+/// once.
 #[tactic(auto, unfolding(crate::specs::FirstLine::first_line, crate::specs::FirstLine::is_decided))]
 pub(crate) fn first_line_with_feed(bytes: &[u8], line: &mut Line) -> bool
     ensures line { IsTrue result → first_line false bytes.now ≡ Ok line.new }

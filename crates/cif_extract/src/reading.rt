@@ -234,7 +234,8 @@ impl Reading {
         ensures { IsKept (record_refusal line.now) line.now (progress_of self.old) result
             (progress_of self.new) }
     {
-        // `plain_line_of` alone would do: of most lines this spares the copy, and finding the kind again.
+        // `plain_line_of` alone would do. Of most lines this spares the copy, and to find the kind
+        // again.
         if is_plain_line(kind, line) {
             self.keep_plain(line)?;
         } else {
