@@ -1,40 +1,52 @@
 #!/bin/sh
-# install.sh PREFIX [PATH_TO_CIF]
+# Installs cif below a prefix, or removes it: `install.sh --help` has the details.
 #
-# Puts the built program, its manual page and its completions below PREFIX, such as /usr/local or "$HOME/.local". The
-# program is PATH_TO_CIF, or else crates/cif_tool/out/cif_tool beside this file. All files are copied first, each to the
-# folder that it goes to, and then renamed. Where anything fails, what stood there before stands there again.
+# All files are copied first, each into its folder, and then renamed. If anything fails, the files that were there
+# before are put back.
 set -u
 umask 022
 top=$(CDPATH='' cd -- "$(dirname -- "$0")" && pwd) || exit 1
 
-case ${1-} in
-'' | -*) set -- ;;
-esac
-if [ $# -lt 1 ] || [ $# -gt 2 ]; then
-    echo "usage: install.sh PREFIX [PATH_TO_CIF]" >&2
-    exit 2
-fi
-prefix=${1%/}
-cif=${2-$top/crates/cif_tool/out/cif_tool}
-made=
-renaming=no
-
-# each STEP: takes the step for each file, with its source, its mode and its place, until one fails
-each() {
-    "$1" "$cif" 755 "$prefix/bin/cif" &&
-        "$1" "$top/man/cif.1" 644 "$prefix/share/man/man1/cif.1" &&
-        "$1" "$top/completions/cif.bash" 644 "$prefix/share/bash-completion/completions/cif" &&
-        "$1" "$top/completions/_cif" 644 "$prefix/share/zsh/site-functions/_cif" &&
-        "$1" "$top/completions/cif.fish" 644 "$prefix/share/fish/vendor_completions.d/cif.fish"
+usage() {
+    cat << 'END'
+usage: install.sh PREFIX [PATH_TO_CIF]
+       install.sh --uninstall PREFIX
+       install.sh --help
+END
 }
 
-told() {
+help() {
+    usage
+    cat << 'END'
+
+Installs the program cif, its manual page and its completions for bash, zsh and
+fish below PREFIX, a folder such as /usr/local or "$HOME/.local".
+
+PATH_TO_CIF is the program. Without it, the program is `cif` beside this script,
+as in an unpacked package, or else crates/cif_tool/out/cif_tool, as in a clone
+where it has been built.
+
+--uninstall removes these files. It leaves the folders.
+
+If DESTDIR is set, every path begins with it, and PREFIX has to be absolute.
+END
+}
+
+# each STEP: calls STEP for each file, with its source, its mode and its place, until a call fails
+each() {
+    "$1" "$cif" 755 "$base/bin/cif" &&
+        "$1" "$top/man/cif.1" 644 "$base/share/man/man1/cif.1" &&
+        "$1" "$top/completions/cif.bash" 644 "$base/share/bash-completion/completions/cif" &&
+        "$1" "$top/completions/_cif" 644 "$base/share/zsh/site-functions/_cif" &&
+        "$1" "$top/completions/cif.fish" 644 "$base/share/fish/vendor_completions.d/cif.fish"
+}
+
+report() {
     echo "install.sh: $*" >&2
     return 1
 }
 
-# folder PATH: makes the folder and those above it that aren't there, and notes them in $made, the last first
+# folder PATH: makes the folder and its missing parents, and adds them to $made, the last first
 folder() {
     [ -d "$1" ] && return
     folder "$(dirname -- "$1")" || return
@@ -49,7 +61,7 @@ copy() {
 
 keep_old() {
     if [ -d "$3" ]; then
-        told "$3 is a folder"
+        report "$3 is a folder"
     elif [ -e "$3" ] || [ -L "$3" ]; then
         cp -pP -- "$3" "$3.old.$$"
     fi
@@ -78,20 +90,85 @@ name_place() {
     echo "$3"
 }
 
+remove() {
+    if [ -d "$3" ] && [ ! -L "$3" ]; then
+        report "$3 is a folder"
+    elif [ -e "$3" ] || [ -L "$3" ]; then
+        rm -f -- "$3" && echo "$3"
+    fi
+}
+
 give_up() {
     trap '' 1 2 15
     each undo
     echo "$made" | while IFS= read -r path; do
         [ -z "$path" ] || rmdir -- "$path" 2> /dev/null
     done
-    told "nothing is installed"
+    report "nothing is installed"
     exit 1
 }
 
+most=2
+step=install
+case ${1-} in
+--help)
+    help
+    exit
+    ;;
+--uninstall)
+    shift
+    most=1
+    step=uninstall
+    ;;
+esac
+case ${1-} in
+'' | -*) set -- ;;
+esac
+if [ $# -lt 1 ] || [ $# -gt $most ]; then
+    usage >&2
+    exit 2
+fi
+case ${DESTDIR:+set}$1 in
+set/*) ;;
+set*)
+    report "PREFIX has to be absolute, as DESTDIR is set"
+    exit 2
+    ;;
+esac
+base=${DESTDIR-}${1%/}
+cif=${2-$top/cif}
+if [ $# -eq 1 ] && [ ! -e "$cif" ]; then
+    cif=$top/crates/cif_tool/out/cif_tool
+fi
+case $cif in
+*/*) ;;
+*) cif=./$cif ;;
+esac
+made=
+renaming=no
+
+if [ $step = uninstall ]; then
+    status=0
+    removed=$(each remove) || status=1
+    if [ -n "$removed" ]; then
+        echo "$removed"
+    elif [ $status -eq 0 ]; then
+        report "cif isn't installed below $1"
+        status=1
+    fi
+    exit $status
+fi
 if [ ! -f "$cif" ] || [ ! -x "$cif" ]; then
-    told "there is no program $cif: build it as README.md says, or name it behind PREFIX"
+    report "there is no program $cif: build it as README.md says, or give its path after PREFIX"
     exit 1
 fi
+case $("$cif" --version 2> /dev/null < /dev/null) in
+'cif '[0-9]*) ;;
+*)
+    report "$cif isn't cif: --version doesn't print its name and version"
+    exit 1
+    ;;
+esac
 trap give_up 1 2 15
 if ! each copy || ! each keep_old; then
     give_up

@@ -1,8 +1,8 @@
 # What the scripts of bench/ share. A script sources this file and then calls `begin`.
 # It needs a POSIX shell, rustc, awk, sed and sort.
 
-# begin PATH PROGRAM..: names our program, makes a folder for what is written, builds these programs
-# of bench/peers there, and goes there
+# begin PATH PROGRAM..: sets the path of our program, makes a folder for the output, builds these programs
+# of bench/peers there, and changes to it
 begin() {
     ours=$(cd "$(dirname "$1")" && pwd)/$(basename "$1")
     if [ ! -x "$ours" ]; then
@@ -30,7 +30,7 @@ noted() {
     fi
 }
 
-# what_is NAME FILE: the values behind the name in what a program has printed
+# what_is NAME FILE: the values after the name in what a program has printed
 what_is() {
     sed -n "s/^$1 //p" "$2"
 }
@@ -40,8 +40,8 @@ least() {
     what_is "$1" "$2" | sort -n | head -n 1
 }
 
-# agreed COUNT FILE..: fails unless the files have so many different lines beside those of times and memory, and
-# so unless all runs have made the same
+# agreed COUNT FILE..: fails unless the files have COUNT different lines besides those of times and memory, and so
+# unless all runs have made the same
 agreed() {
     count=$1
     shift

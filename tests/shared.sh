@@ -1,5 +1,5 @@
 # What the runners of tests/ share. A runner sources this file and then calls `begin`.
-# It needs a POSIX shell, cmp and sed.
+# It needs a POSIX shell, cmp, grep and sed.
 
 # begin PATH_TO_CIF: names the program, and a folder for what it writes
 begin() {
@@ -16,8 +16,39 @@ begin() {
     failed=0
 }
 
-# in_row FOLDER COMMAND..: runs the command in the folder of a row, with the row's words after it;
-# leaves $work/stdout, $work/stderr and $status, and in $work/told what a preloaded library says
+# each_row ROWS FUNCTION: calls the function for each row in the folder ROWS; for a row of both forms, also for a copy
+# in form 1
+each_row() {
+    for original in "$1"/*/; do
+        original=${original%/}
+        "$2" "$original"
+        IFS= read -r command < "$original/args"
+        case $command in
+        normalise | check | train)
+            if ! grep -q '^--form' "$original/args"; then
+                copy=$work/${original##*/}-in-form-1
+                in_form_1 "$original" "$copy"
+                "$2" "$copy"
+                rm -r "$copy"
+            fi
+            ;;
+        esac
+    done
+}
+
+# in_form_1 ROW NEW: copies the row, adds `--form 1` after its command, and takes its output in form 1
+in_form_1() {
+    cp -R "$1" "$2"
+    sed '1a\
+--form\
+1' "$1/args" > "$2/args"
+    if [ -e "$2/stdout-in-form-1" ]; then
+        mv "$2/stdout-in-form-1" "$2/stdout"
+    fi
+}
+
+# in_row FOLDER COMMAND..: runs the command in the folder of a row, with the row's arguments added;
+# sets $work/stdout, $work/stderr and $status, and $work/told to what a preloaded library says
 in_row() {
     row=$1
     shift
@@ -32,7 +63,7 @@ in_row() {
     status=$?
 }
 
-# same WANT GOT: whether the two files have the same bytes; a WANT that isn't there is any text
+# same WANT GOT: whether the two files have the same bytes; if WANT doesn't exist, any text will do
 same() {
     [ ! -e "$1" ] || cmp -s "$1" "$2"
 }
@@ -43,7 +74,7 @@ answers() {
     same "$1/stdout" "$work/stdout" && same "$1/stderr" "$work/stderr" && same "$1/status" "$work/status"
 }
 
-# shown FILE LINE: the line and the next, between bars, with a ? for each byte that can't be printed
+# shown FILE LINE: prints the line and the next between bars, with a ? for each unprintable byte
 shown() {
     LC_ALL=C sed -n -e "$2,$(($2 + 1)){" -e 's/[^ -~]/?/g' -e 's/^/    |/' -e 's/$/|/' -e p -e '}' "$1"
 }
@@ -83,7 +114,7 @@ end() {
 }
 
 # preload SOURCE: builds a library from the C file, which includes nothing, with the compiler of the
-# kit that proves the program; names it in $library
+# kit that proves the program; sets $library to its path
 preload() {
     compiler=$(dirname "$(rt doc)")/toolchain/bin/clang
     library=$work/$(basename "$1" .c).so

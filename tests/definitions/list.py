@@ -1,12 +1,13 @@
 #!/usr/bin/env python3
-"""Lists the definitions on which the clauses of a function rest, in the order in which they are met.
+"""Lists the definitions on which the clauses of a function rest, in the order in which they are cited.
 
     list.py CRATE SRC_FILE FUNCTION CLAUSES..
 
-CLAUSES are names of the function's clauses, with a comma between two. What they cite is followed from definition to
-definition, through the specs/ of all crates, and to what the types of the code say of their fields. A line for each says
-its crate and file, its name, and how many lines it has without comments and blank lines. A type is named with its file
-in src/ and counts no lines, and what std and the other libraries define isn't named. Each further CLAUSES lists what those before it don't rest on.
+CLAUSES are names of the function's clauses, separated by commas. What they cite is followed from definition to
+definition, through the specs/ of all crates, and to what the types of the code say of their fields. Each definition has a
+line with its crate and file, its name, and its number of lines without comments and blank lines. A type has its file in
+src/ and no number. What std and the other libraries define isn't listed. Each further CLAUSES lists only what those before
+it don't rest on.
 """
 import re
 import sys
@@ -86,7 +87,7 @@ def place(path, name):
 
 
 def cited(lines, imports, own, crate, inner):
-    """What the lines cite, in the order in which they name it."""
+    """What the lines cite, in that order."""
     found = []
     for line in lines:
         line = re.sub(r'"[^"]*"', "", line.split(" -- ")[0])
@@ -129,7 +130,7 @@ def invariants(crate, source, name):
 
 
 def resting(waiting, seen):
-    """Prints what is met from here on and wasn't before, and then how much it was."""
+    """Prints what is reached from here and wasn't before, and then the sums."""
     definitions = lines = types = 0
     while waiting:
         at = waiting.pop(0)

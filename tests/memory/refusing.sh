@@ -1,8 +1,8 @@
-# What the runners of tests/memory share, beside tests/shared.sh. Each has a function `is_right WANTED` of its own, which
-# tells whether a run's answer is right where that of the folder WANTED is the one with ample memory.
+# What the runners of tests/memory share, besides tests/shared.sh. Each has a function `is_right WANTED` of its own, which
+# says whether a run's answer is right, given the folder WANTED with the answer for enough memory.
 
-# begin_refusing PATH_TO_PROGRAM STATUS: begins, with the library that refuses, and the answer of a program that ends
-# for want of memory: this status, and no output
+# begin_refusing PATH_TO_PROGRAM STATUS: begins, with the library that refuses memory, and the answer of a program that
+# runs out of memory: this status, and no output
 begin_refusing() {
     begin "$1"
     preload "$here/refuse_nth.c"
@@ -16,8 +16,8 @@ is_refused() {
     [ -s "$work/told" ]
 }
 
-# refuse_each ROW WANTED: runs the program on the row with its first allocation refused, with its second, and so
-# on until none is; each run has to be right
+# refuse_each ROW WANTED: runs the program on the row with its first allocation refused, then its second, and so on
+# until none is refused; each run has to be right
 refuse_each() {
     n=0
     while :; do

@@ -1,14 +1,14 @@
-# The trials of tests/process/run of the standard streams, of devices, fifos and limits. They need cat, cp, dd,
-# env, mkfifo, timeout and wc too.
+# The trials of tests/process/run with standard streams, devices, fifos and limits. They also need cat, cp, dd, env,
+# mkfifo, timeout and wc.
 
-# by_hand COMMAND: runs the shell's command on the row, for ten seconds at most; its words are the program and the
-# row's words, $PEER is a name for a fifo or a file, and $LIBRARY is the library
+# by_hand COMMAND: runs the shell's command on the row, for ten seconds at most; its arguments are the program and the
+# row's arguments, $PEER is a name for a fifo or a file, and $LIBRARY is the library
 by_hand() {
     run_row timeout 10 env PEER="$work/peer" LIBRARY="$library" sh -c "$1" sh "$cif"
 }
 
-# new_row NEW STATUS LINE WORD..: makes a row with this status, this fault line if it isn't empty, no output, and these
-# words
+# new_row NEW STATUS LINE ARGUMENT..: makes a row with this status, this fault line if it isn't empty, no output, and
+# these arguments
 new_row() {
     mkdir "$1"
     : > "$1/stdout"
@@ -57,7 +57,7 @@ inputs() {
     owes "a standard input that can only be written" gives_fault '' 4 "$READ_FAULT"
 }
 
-# files ROW: the row opens its files in place of standard streams that are closed
+# files ROW: the row opens its files in place of closed standard streams
 files() {
     choose "$1"
     by_hand 'exec "$@" <&-'
@@ -79,14 +79,14 @@ refusals() {
     owes "refused, and no standard error" gives_silence 3
 }
 
-# unchanged ROW NAME COPY: whether the file that runs have read is still what it was
+# unchanged ROW NAME COPY: whether the file that the runs read is unchanged
 unchanged() {
     choose "$1"
     owes "the file $2 has changed" cmp -s "$row/$2" "$3"
 }
 
-# zeros ROW BEFORE TOLD: the row reads so many bytes, of which the library says this, and then zeros that never end. Of
-# these it needs 82 bytes, and takes no more than a buffer holds.
+# zeros ROW BEFORE TOLD: the row reads BEFORE bytes, about which the library says TOLD, and then endless zeros. It needs
+# 82 bytes of these, and takes no more than fit a buffer.
 zeros() {
     choose "$1"
     by_hand 'exec "$@"'
@@ -122,14 +122,14 @@ whole_fed() {
     owes "$2 is a fifo that gives a line at a time" gives_answer ''
 }
 
-# part_fed ROW NAME COUNT: of the file, which is accepted, only so many bytes come through a fifo
+# part_fed ROW NAME COUNT: only COUNT bytes of the file, which is accepted, come through a fifo
 part_fed() {
     fed "$1" "$2" "dd if=\"\$1\" bs=$3 count=1"
     cut_fault "$3" "$(bytes "$2")" 81
     owes "$2 is a fifo that gives $3 bytes" gives_fault '' 3 "$fault"
 }
 
-# endless_fed ROW NAME: through a fifo come zeros that never end
+# endless_fed ROW NAME: endless zeros come through a fifo
 endless_fed() {
     fed "$1" "$2" 'cat /dev/zero'
     owes "$2 is a fifo that gives zeros" gives_fault '' 3 "cif: line 1: BadLength"
@@ -208,8 +208,15 @@ full_disk() {
     rm "$work/peer"
 }
 
-# each_space FIRST STEP ROW: runs the row with so many kilobytes of address space, and with more by each step, until it
-# is answered; before that there isn't enough memory, or not enough to load the program
+# small_stack ROW: the stack is limited to 64 kilobytes
+small_stack() {
+    choose "$1"
+    by_hand 'ulimit -s 64; exec "$@"'
+    owes "a stack of 64 kilobytes" gives_answer ''
+}
+
+# each_space FIRST STEP ROW: runs the row with FIRST kilobytes of address space, and STEP more each time, until it gives
+# its answer; before that there isn't enough memory, or not enough to load the program
 each_space() {
     choose "$3"
     kbytes=$1

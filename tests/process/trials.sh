@@ -1,4 +1,4 @@
-# The trials of tests/process/run that the library makes, beside tests/shared.sh. They need cp, dd, env, tr and wc too.
+# The trials of tests/process/run with the preloaded library. They also need cp, dd, env, tr and wc.
 
 READ_FAULT="cif: ReadFault"
 WRITE_FAULT="cif: WriteFault"
@@ -10,19 +10,19 @@ ENOSPC=28
 EPIPE=32
 ERRORS="$EIO $ENOSPC $EPIPE $EINTR"
 
-# choose ROW: the row that the next runs are of, and the status that it wants
+# choose ROW: sets the row of the next runs, and the status that it expects
 choose() {
     row=$1
     IFS= read -r wanted < "$row/status"
 }
 
-# bytes NAME: how many the file of the row has
+# bytes NAME: the size of the row's file
 bytes() {
     wc -c < "$row/$1"
 }
 
-# calls CALL MOST: how many calls the row takes, of which each moves at most so many bytes; a read more finds the
-# end of each input
+# calls CALL MOST: how many calls the row takes if each moves at most MOST bytes; one more read finds the end of each
+# input
 calls() {
     count=0
     case $1 in
@@ -47,7 +47,7 @@ calls() {
     echo "$count"
 }
 
-# by_file ROW NEW: makes a row of the row, whose FILE `extract` has what was its standard input
+# by_file ROW NEW: makes a row like ROW whose FILE `extract` is the standard input of ROW
 by_file() {
     mkdir "$2"
     cp "$1/stdout" "$1/stderr" "$1/status" "$2"
@@ -56,7 +56,7 @@ by_file() {
     echo extract >> "$2/args"
 }
 
-# What is judged of a run: $status, $work/stdout, $work/stderr and $told, which is what the library says
+# These are checked after a run: $status, $work/stdout, $work/stderr, and $told, which is what the library says.
 
 # run_row COMMAND..: runs the command on the row
 run_row() {
@@ -65,12 +65,12 @@ run_row() {
     IFS= read -r told < "$work/told" || :
 }
 
-# hostile SETTING..: runs the program on the row, with what the settings let the library do to it
+# hostile SETTING..: runs the program on the row, with these settings for the library
 hostile() {
     run_row env LD_PRELOAD="$library" "$@" "$cif"
 }
 
-# owes WHAT CHECK..: whether the run before was as it should be
+# owes WHAT CHECK..: whether the last run was as it should be
 owes() {
     what=$1
     shift
@@ -100,7 +100,7 @@ says() {
     [ $? -eq 0 ] && [ "$line" = "$1" ] && [ -z "$more" ]
 }
 
-# alike NAME: whether the row has what the run gave by this name, or says nothing of it
+# alike NAME: whether the run gave what the row has under this name, if it has anything
 alike() {
     if [ -s "$row/$1" ] || [ -s "$work/$1" ]; then
         same "$row/$1" "$work/$1"
@@ -117,7 +117,7 @@ gives_fault() {
     tells "$1" && [ "$status" = "$2" ] && [ ! -s "$work/stdout" ] && says "$3"
 }
 
-# is_front COUNT WHOLE PART: whether the part is the first so many bytes of the whole
+# is_front COUNT WHOLE PART: whether the part is the first COUNT bytes of the whole
 is_front() {
     : > "$work/front"
     if [ "$1" -gt 0 ]; then
@@ -126,12 +126,12 @@ is_front() {
     cmp -s "$work/front" "$3"
 }
 
-# gives_front PATTERN COUNT: so many bytes of the row's answer, and then the output failed
+# gives_front PATTERN COUNT: the first COUNT bytes of the row's answer, and then the output failed
 gives_front() {
     tells "$1" && [ "$status" = 4 ] && says "$WRITE_FAULT" && is_front "$2" "$row/stdout" "$work/stdout"
 }
 
-# gives_cut_line PATTERN COUNT: the row's status, and so many bytes of its fault line
+# gives_cut_line PATTERN COUNT: the row's status, and the first COUNT bytes of its fault line
 gives_cut_line() {
     tells "$1" && [ "$status" = "$wanted" ] && [ ! -s "$work/stdout" ] &&
         is_front "$2" "$row/stderr" "$work/stderr"
@@ -147,8 +147,8 @@ no_failure() {
     ! tells '*e*' && gives_answer '*'
 }
 
-# fail_read ERROR NTH, fail_open ERROR NTH, fail_write ERROR NTH: what a run owes whose call with this number
-# failed so, where each moves 64 bytes
+# fail_read ERROR NTH, fail_open ERROR NTH, fail_write ERROR NTH: what is expected if the call with this number fails
+# with the error, and each moves 64 bytes
 fail_read() {
     gives_fault '*e' 4 "$READ_FAULT"
 }
@@ -169,7 +169,7 @@ fail_write() {
     fi
 }
 
-# each_call CALL ROW: each such call of the row fails, by each error; a write takes no byte too
+# each_call CALL ROW: each such call of the row fails, with each error; a write also accepts no byte
 each_call() {
     choose "$2"
     on=
@@ -191,8 +191,8 @@ each_call() {
     owes "there is no $1 $nth" no_failure
 }
 
-# each_split CALL ROW: the row's reads, or its writes, are cut after its first byte, after its second, and so on,
-# and then go on
+# each_split CALL ROW: the row's reads, or its writes, are cut after the first byte, after the second, and so on, and
+# then continue
 each_split() {
     choose "$2"
     split=1
@@ -209,8 +209,8 @@ each_split() {
     done
 }
 
-# each_failing_read ROW: reading the row's inputs fails before their first byte, before their second, and so on, and
-# where their end would be found
+# each_failing_read ROW: reading the row's inputs fails before their first byte, before their second, and so on, and at
+# their end
 each_failing_read() {
     choose "$1"
     at=0
@@ -241,7 +241,7 @@ each_failing_write() {
     owes "the output has room for the answer" gives_answer ''
 }
 
-# each_cut_line ROW: of the row's fault line no byte can be written, or only the first, and so on
+# each_cut_line ROW: no byte of the row's fault line can be written, or only the first, and so on
 each_cut_line() {
     choose "$1"
     at=0
@@ -255,8 +255,8 @@ each_cut_line() {
     done
 }
 
-# each_undecided ROW DECIDED FROM TO: the row's refusal is decided by so many bytes of its input; reading fails where
-# FROM bytes have come, and where one more has, up to TO
+# each_undecided ROW DECIDED FROM TO: the first DECIDED bytes of the input decide the row's refusal; reading fails after
+# FROM bytes, after one more, and so on up to TO
 each_undecided() {
     choose "$1"
     at=$3
@@ -271,8 +271,8 @@ each_undecided() {
     done
 }
 
-# cut_fault COUNT SIZE WIDTH: the fault line of an accepted input of so many bytes, in lines of 80 columns that take so
-# many with their endings, of which only the first COUNT come; none where it is accepted yet
+# cut_fault COUNT SIZE WIDTH: the fault line of an accepted input of SIZE bytes, in lines of 80 columns that have WIDTH
+# bytes with their endings, if only the first COUNT bytes come; none if it is still accepted
 cut_fault() {
     lines=$(($1 / $3))
     rest=$(($1 % $3))
@@ -309,8 +309,8 @@ each_end() {
     done
 }
 
-# bytewise ROW: each read and each write of the row moves one byte; where its inputs are accepted, the library says so
-# of each
+# bytewise ROW: each read and each write of the row moves one byte; if its inputs are accepted, the library says so for
+# each call
 bytewise() {
     choose "$1"
     hostile HOSTILE_MOST=1
@@ -321,7 +321,7 @@ bytewise() {
     count=0
     for file in "$row"/*; do
         case ${file##*/} in
-        args | stderr | status) ;;
+        args | stderr | status | stdout-in-form-1) ;;
         stdout)
             if [ -s "$file" ]; then
                 count=$((count + $(bytes stdout) - 1))
@@ -333,7 +333,7 @@ bytewise() {
     owes "each of $count calls moves one byte" [ "$(tr -cd rw < "$work/told" | wc -c)" -eq $count ]
 }
 
-# second_write ROW: the second write of an answer that takes more than one fails, by each error
+# second_write ROW: the second write of an answer that takes more than one fails, with each error
 second_write() {
     choose "$1"
     for error in $ERRORS; do

@@ -1,4 +1,4 @@
-"""What the completions tell of the program's words. That of bash is asked; those of zsh and fish are read."""
+"""What the completions say about the program's arguments. That of bash is run; those of zsh and fish are read."""
 import re
 import shlex
 import subprocess
@@ -22,7 +22,7 @@ def offered(completion, words):
 
 
 def bash_option_facts(completion, command, option, most):
-    """Of an option that is offered: whether it swallows a word, so that no place behind it moves, and which words."""
+    """For an option that is offered: whether it takes the next word, so that no later place moves, and which words."""
     found = {(OPTION, option)}
     behind = [["x"] * count + [""] for count in range(most + 1)]
     if all(offered(completion, [command, option, "x", *rest]) == offered(completion, [command, *rest]) for rest in behind):
@@ -32,7 +32,7 @@ def bash_option_facts(completion, command, option, most):
 
 
 def bash_facts(completion, most):
-    """The facts of each command that bash offers; it is asked for one place more than the most that a command has."""
+    """The facts of each command that bash offers, for one place more than the most that a command has."""
     names = offered(completion, [""])
     facts = {"": {(COMMAND, name) for name in names} | {(OPTION, name) for name in offered(completion, ["-"])}}
     for name in names:
@@ -58,7 +58,7 @@ ZSH_ACTIONS = {"_files": "files", "_cif_commands": "commands", "": None}
 
 
 def zsh_specs(text):
-    """The specifications of a call of _arguments, one a line."""
+    """The specifications of a call of _arguments, one per line."""
     lines = [line.strip().removesuffix("&& ret=0").removesuffix("\\").strip() for line in text.splitlines()]
     return [line for line in lines if line and not line.startswith("_arguments")]
 

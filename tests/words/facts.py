@@ -1,6 +1,6 @@
-"""What is told of a program's words: its commands, options, values and places, as facts that can be compared.
+"""What a text says about a program's arguments: its commands, options, values and places, as facts to be compared.
 
-A fact is a kind and a text. Not every text that names words tells all kinds: completions of bash have no names of values.
+A fact is a kind and a text. Not every text has all kinds: completions of bash have no names of values.
 """
 from dataclasses import dataclass, field
 
@@ -17,12 +17,12 @@ def bare(place):
 
 
 class NotUnderstood(Exception):
-    """A text isn't of the form that is read here."""
+    """A text doesn't have the form that is read here."""
 
 
 @dataclass
 class Option:
-    """An option: `-h` and `--help`, perhaps the name of its value, and the values where only some are right."""
+    """An option: `-h` and `--help`, perhaps the name of its value, and the values if only some are valid."""
 
     names: list
     value_name: str = ""
@@ -58,7 +58,7 @@ class Command:
 
 
 def place_fact(number, place):
-    """That there is a place; whether it can be repeated isn't asked."""
+    """That there is a place; whether it can be repeated isn't checked."""
     return PLACE, f"{number} {place.removesuffix('...')}"
 
 
@@ -75,7 +75,7 @@ def facts_of(program):
 
 
 def mistake(program, words):
-    """What is wrong with the words of an example, the first of which is the command; nothing where they are right."""
+    """What is wrong with the arguments of an example, the first of which is the command; nothing if they are right."""
     name, rest = words[0], words[1:]
     command = program.get(name)
     if not name or not command:

@@ -1,5 +1,5 @@
-# offered.bash COMPLETION WORD..: prints what the completion of bash offers for `cif WORD..` with the cursor behind the
-# last word, one a line; `files` where it leaves that to bash, which then offers the names of files
+# offered.bash COMPLETION WORD..: prints what the completion of bash offers for `cif WORD..` with the cursor after the
+# last word, one per line; `files` if it leaves that to bash, which then offers file names
 completion=$1
 shift
 . "$completion" || exit 2
@@ -7,7 +7,7 @@ registered=$(complete -p cif) || exit 2
 function=${registered#complete -F }
 function=${function% cif}
 
-# In place of bash's own, which is refused outside a completion.
+# This replaces bash's own, which isn't allowed outside a completion.
 compopt() {
     case $* in
     "-o default") echo files ;;

@@ -1,4 +1,4 @@
-"""What the manual page, in mdoc, tells of the program's words."""
+"""What the manual page, in mdoc, says about the program's arguments."""
 import re
 import shlex
 
@@ -63,7 +63,7 @@ def usage_part(words, where):
 
 
 def synopsis(text):
-    """The commands of the synopsis, and the program itself with the options that stand behind no command."""
+    """The commands of the synopsis, and the program itself with the options that follow no command."""
     program = {"": Command()}
     command = None
     for words in macros(section(text, "SYNOPSIS")):
@@ -85,7 +85,7 @@ def synopsis(text):
 
 
 def as_in_synopsis(program):
-    """The program as a synopsis tells it: options by their long names, and that of help for the program alone."""
+    """The program as in a synopsis: options by their long names, and help only for the program itself."""
     found = {}
     for name, command in program.items():
         shown = [option for option in command.options if not name or "--help" not in option.names]
@@ -150,7 +150,7 @@ def mentioned(text):
 
 
 def known(program):
-    """The same of the program, so that nothing else may be mentioned."""
+    """The same for the program, so that nothing else may be mentioned."""
     found = {("Cm", name) for name in program if name}
     for command in program.values():
         found |= {("Ar", bare(place)) for place in command.places}
@@ -165,6 +165,35 @@ def examples(text):
     found = []
     for words in re.findall(r"^\.Dl \$ (.*)$", section(text, "EXAMPLES"), re.MULTILINE):
         found += [part.strip() for part in words.split("|") if part.strip().startswith("cif ")]
+    return found
+
+
+def bare_words(text):
+    """The words of a text in lower case, without punctuation."""
+    return re.findall(r"[\w']+", text.lower())
+
+
+def summary(text):
+    """What the section NAME says about the program."""
+    match = re.search(r"^\.Nd (.*)$", section(text, "NAME"), re.MULTILINE)
+    if not match:
+        raise NotUnderstood("NAME says nothing about the program")
+    return match.group(1)
+
+
+def openings(text, heading):
+    """The words of the first paragraph below each tag of the section's outer list, by the first word of the tag."""
+    found, depth, current = {}, 0, None
+    for line in section(text, heading).splitlines():
+        macro = line[1:3] if line.startswith(".") else ""
+        words = [word for word in line.split() if word not in CALLED and word != "." + macro]
+        depth += (macro == "Bl") - (macro == "El")
+        if macro == "It" and depth == 1:
+            current = found.setdefault(words[0], [])
+        elif macro in ("Bd", "Bl", "Dl", "Pp"):
+            current = None
+        elif current is not None:
+            current += bare_words(" ".join(words))
     return found
 
 

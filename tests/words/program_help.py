@@ -1,4 +1,4 @@
-"""What the program's help tells of its words."""
+"""What the program's help says about its arguments."""
 import re
 import subprocess
 
@@ -11,7 +11,7 @@ HEADING = re.compile(r"^([A-Z]\w*):$")
 
 
 def asked(cif, words):
-    """What the program prints for words that ask for help or for the version."""
+    """What the program prints for arguments that ask for help or for the version."""
     done = subprocess.run([cif, *words], stdin=subprocess.DEVNULL, capture_output=True, text=True, check=False)
     if done.returncode != 0 or done.stderr or not done.stdout.endswith("\n"):
         raise NotUnderstood(f"{' '.join(['cif', *words])} has status {done.returncode} and says: {done.stderr}")
@@ -33,7 +33,7 @@ def sections(text):
 
 
 def items(lines):
-    """The lines of a section, each with the lines that go on from it behind a line break."""
+    """The lines of a section, each with the lines that continue it."""
     found = []
     for line in lines:
         if CONTINUED.match(line) and found:
@@ -56,7 +56,7 @@ def options_of(lines):
 
 
 def places_of(text, called):
-    """The places that the usage line has behind what is called."""
+    """The places that the usage line has after what is called."""
     usage = re.search(rf"^Usage: {called}( .*)?$", text, re.MULTILINE)
     if not usage:
         raise NotUnderstood(f"the help of {called} has no line of usage")
@@ -82,8 +82,16 @@ def program_of(cif):
     return program
 
 
+def sentences(cif):
+    """What the help says about the program, about each command, and about each status."""
+    text = asked(cif, ["--help"])
+    listed = [items(sections(text).get(heading, [])) for heading in ("Commands", "Statuses")]
+    commands, statuses = (dict(item.split(None, 1) for item in lines) for lines in listed)
+    return text.splitlines()[0], commands, statuses
+
+
 def help_texts(cif, names):
-    """Each text of help that can be asked for, with the words that ask for it."""
+    """Each text of help, with the arguments that ask for it."""
     asking = [["--help"], ["-h"], ["help"]]
     asking += [[name, word] for name in names if name != "help" for word in ("--help", "-h")]
     asking += [["help", name] for name in names]
@@ -94,7 +102,7 @@ def help_texts(cif, names):
 
 
 def examples(text):
-    """The words of the examples in a text of help: lines below `Example:` or `Examples:` that begin with cif."""
+    """The examples in a text of help, as words: lines below `Example:` or `Examples:` that begin with cif."""
     parts = sections(text)
     lines = parts.get("Example", []) + parts.get("Examples", [])
     return [line.strip() for line in lines if line.startswith("  cif ")]

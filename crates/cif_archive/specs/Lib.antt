@@ -1,1 +1,2 @@
 pub mod Archive
+pub mod ByHand

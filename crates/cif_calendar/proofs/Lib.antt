@@ -1,5 +1,7 @@
 pub mod Sets
 pub mod Winning
+pub mod Standings
+pub mod WithDates
 pub mod Meaning
 pub mod Total
 pub mod SayTheSame

@@ -30,6 +30,11 @@ pub terms_at : {X Y : Type 0} (f : X → Y) (xs : List X) (i : ℕ) (x : X) → 
     slice_get (map f xs) i ≡ Some (f x)
 terms_at f xs i x below is = slice_get-map f xs i ∙ ap (λ o. option_map f o) (slice_get_read xs (length xs) i x refl below is)
 
+-- what applies at a position is what stands there
+pub applies-at : {B : Type 0} (xs : List (Terms B)) (i : ℕ) (t r : Terms B) (d : ℕ) → slice_get xs i ≡ Some t → slice_get xs i ≡ Some r →
+    Applies r d → Applies t d
+applies-at {B} xs i t r d at_t at_r on = subst (λ (q : Terms B). Applies q d) (same_Some r t (sym at_r ∙ at_t)) on
+
 -- `more` has the records of `records`, and r
 pub record IsWith {B : Type 0} (records : Records B) (r : Terms B) (more : Records B) : Type 0 where
   pub kept : (s : Terms B) → records s → more s

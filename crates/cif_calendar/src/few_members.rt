@@ -7,13 +7,14 @@ ghost use Rattle.cif_calendar.specs.Clash.{IsFirstClash};
 ghost use Rattle.cif_calendar.specs.Steps.PieceSteps.{BreaksAfter, BreaksOff, IsWeekFrom};
 ghost use Rattle.cif_calendar.specs.Pieces.{IsPiece, IsUnbroken};
 ghost use Rattle.cif_calendar.specs.Source.{IsChosen};
+ghost use Rattle.cif_calendar.specs.Steps.Standing.{AreBelow, AreStandings};
 
 use crate::calendar_fault::CalendarFault;
 use crate::entry::Entry;
 use crate::key_calendar::Calendar;
 use crate::piece::{Piece, add_piece};
 use crate::window::Window;
-use crate::winner::{BodiesDiffer, winner_on};
+use crate::winner::{BodiesDiffer, Standings, standings_from, winner_by, winners_by};
 use cif_columns::Day;
 
 /// The first day from `first` on after which the record has ended or begins; `end` where there is
@@ -63,11 +64,13 @@ fn end_of_piece<E: Entry>(entries: &[E], members: &[usize], first: Day, last: Da
 fn week_from<E: Entry>(
     entries: &[E],
     members: &[usize],
+    standings: &Standings,
     first: Day,
     last: Day,
 ) -> Result<[Option<usize>; 7], Day>
-    requires positions { All (λ i. i < length entries.now) members.now }
     requires in_order { first ≤ last }
+    requires leaders { AreBelow (length entries.now) standings.now }
+    requires stands { AreStandings (map E.terms entries.now) members.now first last standings.now }
     ensures week { IfOk result (IsWeekFrom (map E.terms entries.now) members.now first
         (min (last + 1) (first + 7))) }
     ensures clash { IfErr result
@@ -76,8 +79,9 @@ fn week_from<E: Entry>(
     let mut winners = [None; 7];
     let mut day = first;
     for _ in 0..7u8 {
-        match winner_on(entries, members, day) {
-            Ok(source) => winners[day.weekday() as usize] = source,
+        let weekday = usize::from(day.weekday());
+        match winner_by(entries, standings[weekday]) {
+            Ok(source) => winners[weekday] = source,
             Err(BodiesDiffer) => return Err(day),
         }
         match day.next_up_to(last) {
@@ -107,7 +111,15 @@ fn piece_from<E: Entry>(
         (IsFault (IsChosen (map E.terms entries.now) members.now) first last) }
 {
     let end = end_of_piece(entries, members, first, last);
-    match week_from(entries, members, first, end) {
+    let standings = standings_from(entries, members, first, end);
+    if let Some(winners) = winners_by(entries, &standings) {
+        return Ok(Piece {
+            first,
+            last: end,
+            winners,
+        });
+    }
+    match week_from(entries, members, &standings, first, end) {
         Ok(winners) => Ok(Piece {
             first,
             last: end,

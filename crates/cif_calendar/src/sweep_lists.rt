@@ -16,7 +16,7 @@ use cif_columns::Day;
 use std::alloc::Global;
 
 /// The lists of a sweep over the dates of a window. They are handed on from one calendar to the next
-/// for their room alone: what they hold in between means nothing.
+/// only for their room: what they hold in between is not promised.
 #[derive(Debug, Drop)]
 pub struct SweepLists {
     pub(crate) changes: Vec<Day>,

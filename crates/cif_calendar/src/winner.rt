@@ -1,15 +1,18 @@
-//! The winner of one date.
+//! The winners of dates on which the same entries apply, weekday by weekday.
 
-ghost use Rattle.std.specs.Prelude.{◌≡◌, ◌<◌, ◌↔◌, List, ℕ, ◌++◌, ◌∷◌, [], length, map, All};
-ghost use Rattle.std.specs.Prelude.{IsTrue, IfSome, IfOk, OnOk, OnErr};
+ghost use Rattle.std.specs.Prelude.{◌≡◌, ◌<◌, ◌≤◌, ◌↔◌, ℕ, List, length, map, All};
+ghost use Rattle.std.specs.Prelude.{IsTrue, IfSome, IfOk, OnErr};
+ghost use Rattle.cif_columns.specs.Day.{weekday_of};
+ghost use Rattle.cif_columns.specs.DaysRun.{RunsOn};
 ghost use Rattle.cif_columns.specs.Stp.{letter};
-ghost use Rattle.cif_calendar.specs.Applies.{Applies};
-ghost use Rattle.cif_calendar.specs.Clash.{IsClash, IsClear};
-ghost use Rattle.cif_calendar.specs.Source.{IsChosen, IsSource};
-ghost use Rattle.cif_calendar.specs.Steps.Standing.{Stands, IsBelow};
+ghost use Rattle.cif_calendar.specs.Clash.{IsClash};
+ghost use Rattle.cif_calendar.specs.Pieces.{IsUnbroken};
+ghost use Rattle.cif_calendar.specs.Source.{IsChosen};
+ghost use Rattle.cif_calendar.specs.Steps.Standing.{AreBelow, AreJudgedUpTo, AreStandings};
+ghost use Rattle.cif_calendar.specs.Steps.Standing.{Considers, IsBelow, Judges, LooksAt, Stands};
 
 use crate::entry::Entry;
-use cif_columns::Day;
+use cif_columns::{Day, DaysRun};
 
 /// Two winners of a date have different bodies, so what runs can't be said.
 #[derive(Clone, Copy, Debug, PartialEq, Eq)]
@@ -26,10 +29,12 @@ pub(crate) enum Standing {
     Disputed(usize),
 }
 
-fn applies<E: Entry>(entry: &E, day: Day) -> bool
-    ensures { IsTrue result ↔ Applies (E.terms entry.now) day }
+/// Whether the day lies between the entry's first and last date, whatever its weekday.
+fn covers<E: Entry>(entry: &E, day: Day) -> bool
+    ensures { IsTrue result ↔
+        (((E.terms entry.now).first ≤ day) × (day ≤ (E.terms entry.now).last)) }
 {
-    entry.first() <= day && day <= entry.last() && entry.days().has(day.weekday())
+    entry.first() <= day && day <= entry.last()
 }
 
 /// Whether two entries have the same body, or both have none.
@@ -43,6 +48,28 @@ pub fn same_body<E: Entry>(one: &E, other: &E) -> bool
     }
 }
 
+/// Those of the weekdays that a date from `first` to `last` has.
+fn with_dates(days: DaysRun, first: Day, last: Day) -> DaysRun
+    requires in_order { first ≤ last }
+    ensures { (w : ℕ) → w < 7 → RunsOn result w ↔
+        (RunsOn days w × ((d : ℕ) × (first ≤ d) × (d ≤ last) × (weekday_of d ≡ w))) }
+{
+    let more = last.number() - first.number();
+    if more >= 6 {
+        return days;
+    }
+    let first_weekday = first.weekday();
+    let mut kept = [false; 7];
+    for weekday in 0..7u8 {
+        let later = (weekday + 7 - first_weekday) % 7;
+        kept[usize::from(weekday)] = u16::from(later) <= more && days.has(weekday);
+    }
+    DaysRun::of(kept)
+}
+
+/// Who leads on each weekday, Monday first.
+pub(crate) type Standings = [Standing; 7];
+
 fn outranks<E: Entry>(one: &E, other: &E) -> bool
     ensures { IsTrue result ↔
         (letter (E.terms one.now).letter < letter (E.terms other.now).letter) }
@@ -50,19 +77,14 @@ fn outranks<E: Entry>(one: &E, other: &E) -> bool
     one.letter().write() < other.letter().write()
 }
 
-/// Who leads once the entry at `i` is looked at too.
-fn consider<E: Entry>(entries: &[E], standing: Standing, i: usize, day: Day) -> Standing
+/// Who leads on a date once the entry at `i`, which applies on it, is looked at too.
+fn consider<E: Entry>(entries: &[E], standing: Standing, i: usize) -> Standing
     requires position { i < length entries.now }
     requires leader { IsBelow (length entries.now) standing }
     ensures leader { IsBelow (length entries.now) result }
-    ensures stands { (members : List ℕ) →
-        Stands (map E.terms entries.now) members day standing →
-        Stands (map E.terms entries.now) (members ++ i ∷ []) day result }
+    ensures stands { Considers (map E.terms entries.now) i standing result }
 {
     let entry = &entries[i];
-    if !applies(entry, day) {
-        return standing;
-    }
     match standing {
         Standing::Nobody => Standing::Leader(i),
         Standing::Leader(leader) => {
@@ -85,37 +107,64 @@ fn consider<E: Entry>(entries: &[E], standing: Standing, i: usize, day: Day) -> 
     }
 }
 
-/// Who leads among the entries at `members`.
-fn standing_on<E: Entry>(entries: &[E], members: &[usize], day: Day) -> Standing
-    requires { All (λ i. i < length entries.now) members.now }
-    ensures leader { IsBelow (length entries.now) result }
-    ensures stands { Stands (map E.terms entries.now) members.now day result }
+/// Looks at the entry at `i` too, on the weekdays on which it applies.
+fn consider_on<E: Entry>(entries: &[E], standings: &mut Standings, i: usize, days: DaysRun)
+    requires position { i < length entries.now }
+    requires leaders { AreBelow (length entries.now) standings.old }
+    ensures leaders { AreBelow (length entries.now) standings.new }
+    ensures each { (w : ℕ) → w < 7 →
+        LooksAt (map E.terms entries.now) i days standings.old standings.new w }
 {
-    let mut standing = Standing::Nobody;
-    for i in members {
-        standing = consider(entries, standing, *i, day);
+    for weekday in 0..7u8 {
+        if days.has(weekday) {
+            let place = usize::from(weekday);
+            let standing = consider(entries, standings[place], i);
+            standings[place] = standing;
+        }
     }
-    standing
 }
 
-/// The position in `entries` of a winner of the date among those at `members`; `None` where nothing
-/// runs.
-///
-/// Hand in the positions of one key's records: all members are judged together, whatever their
-/// keys. Which of several winners with one body is named is free. `Err` comes exactly where two
-/// winners have different bodies; a clash among records that do not win is no fault.
-pub(crate) fn winner_on<E: Entry>(
+/// Who leads among the entries at `members` on each weekday that a date from `first` to `last` has.
+/// None of them begins after `first`, or ends before `last`, in these dates.
+pub(crate) fn standings_from<E: Entry>(
     entries: &[E],
     members: &[usize],
-    day: Day,
-) -> Result<Option<usize>, BodiesDiffer>
+    first: Day,
+    last: Day,
+) -> Standings
     requires positions { All (λ i. i < length entries.now) members.now }
-    ensures within { IfOk result (λ source. IfSome source (λ i. i < length entries.now)) }
-    ensures clear { OnOk result (IsClear (IsChosen (map E.terms entries.now) members.now) day) }
-    ensures source { IfOk result (IsSource (map E.terms entries.now) members.now day) }
-    ensures clash { OnErr result (IsClash (IsChosen (map E.terms entries.now) members.now) day) }
+    requires in_order { first ≤ last }
+    requires unbroken { IsUnbroken (IsChosen (map E.terms entries.now) members.now) first last }
+    ensures leaders { AreBelow (length entries.now) result }
+    ensures stands { AreStandings (map E.terms entries.now) members.now first last result }
 {
-    match standing_on(entries, members, day) {
+    let mut standings = [Standing::Nobody; 7];
+    for i in members {
+        let entry = &entries[*i];
+        if covers(entry, first) {
+            let days = with_dates(entry.days(), first, last);
+            consider_on(entries, &mut standings, *i, days);
+        }
+    }
+    standings
+}
+
+/// The position in `entries` of a winner of a date on which this standing is that of all members;
+/// `None` where nothing runs.
+///
+/// Which of several winners with one body is named is free. `Err` comes exactly where two winners
+/// have different bodies; a clash among records that do not win is no fault.
+pub(crate) fn winner_by<E: Entry>(
+    entries: &[E],
+    standing: Standing,
+) -> Result<Option<usize>, BodiesDiffer>
+    requires leader { IsBelow (length entries.now) standing }
+    ensures judged { IfOk result (Judges (map E.terms entries.now) standing) }
+    ensures clash { (members : List ℕ) (d : ℕ) →
+        Stands (map E.terms entries.now) members d standing →
+        OnErr result (IsClash (IsChosen (map E.terms entries.now) members) d) }
+{
+    match standing {
         Standing::Nobody => Ok(None),
         Standing::Leader(leader) => match entries[leader].body() {
             None => Ok(None),
@@ -123,4 +172,23 @@ pub(crate) fn winner_on<E: Entry>(
         },
         Standing::Disputed(_) => Err(BodiesDiffer),
     }
+}
+
+/// The winners by the standings, weekday by weekday; `None` where one of these is disputed.
+pub(crate) fn winners_by<E: Entry>(
+    entries: &[E],
+    standings: &Standings,
+) -> Option<[Option<usize>; 7]>
+    requires leaders { AreBelow (length entries.now) standings.now }
+    ensures { IfSome result (AreJudgedUpTo (map E.terms entries.now) 7 standings.now) }
+{
+    let mut winners = [None; 7];
+    for weekday in 0..7u8 {
+        let place = usize::from(weekday);
+        match winner_by(entries, standings[place]) {
+            Ok(source) => winners[place] = source,
+            Err(BodiesDiffer) => return None,
+        }
+    }
+    Some(winners)
 }

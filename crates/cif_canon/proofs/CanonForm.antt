@@ -1,5 +1,5 @@
 -- The runs of an extract's canonical records, and its locations, make its canonical form.
-use Rattle.std.proofs.Common.{◌≡◌, ℕ, List, length, map, refl, sym, ap, ◌∙◌, subst}
+use Rattle.std.proofs.Common.{◌≡◌, ℕ, List, length, map, sym, ap, ◌∙◌, subst}
 use Rattle.std.specs.Prelude.{All}
 use Rattle.std.specs.Cmp.Lexicographic.{slice_cmp}
 use Rattle.std.specs.Ordering.{nat_cmp}
@@ -14,19 +14,22 @@ use Rattle.cif_weeks.specs.declared.form.Form.{Form}
 use Rattle.cif_weeks.specs.declared.run.Run.{Run}
 use Rattle.cif_weeks.proofs.PermanentEntries.{canonical-dated}
 use Rattle.cif_canon.specs.Asked.{header_window}
-use Rattle.cif_canon.specs.Canon.{CanonParts, IsCanonOf}
+use Rattle.cif_canon.specs.Canon.{IsCanonOf}
 use Rattle.cif_canon.specs.Canonical.{IsCanonicalOf}
+use Rattle.cif_canon.specs.Counts.{counts_of}
+use Rattle.cif_canon.specs.declared.counts.Counts.{Counts}
 use Rattle.cif_calendar.specs.Entries.{association_entries, schedule_entries}
 use Rattle.cif_canon.specs.Steps.Records.{AreCanonicalRecords, window_from}
 use Rattle.cif_canon.specs.Steps.Texts.{HasRecord, canon_text}
 use Rattle.cif_canon.specs.Steps.Tiplocs.{AreDistinct}
-use Rattle.cif_extract.specs.Texts.{FitsColumns}
+use Rattle.cif_extract.specs.Texts.{FitsColumns, extract_text}
 use Rattle.cif_extract.specs.SpellsExtract.{BytesSpell}
 use Rattle.cif_extract.proofs.PlainTexts.{text-spells}
 use Rattle.cif_canon.proofs.CanonTexts.{have-records, number-of_associations, number-of_schedules, same-number, written-text}
 use Rattle.cif_canon.proofs.KeptExtract.{canonical_of, is-canonical, same-meaning}
 use Rattle.cif_canon.proofs.MadeExtract.{IsDated, associations_of}
 use Rattle.cif_canon.proofs.MadeFits.{have-terms, made-fits}
+use Rattle.cif_canon.proofs.NormalForms.{its-own, normal-unique, reached}
 
 -- canonical records of what a slice has, in the window of these dates
 pub records-of_slice : {X K B : Type 0} (cmp : K → K → Ordering) (form : Form) (entry : X → K × Terms B) (h : Header) (first last : ℕ)
@@ -54,47 +57,66 @@ module _ (form : Form) (x : ExtractParts) (tiplocs : List Tiploc) (distinct : Ar
   pub schedules-have : All (HasRecord (schedule_entries x.schedules)) schedules
   schedules-have = have-records (schedule_entries x.schedules) schedules s.records s.runs_of dated-schedules
 
-  pub is-canon : IsCanonOf form x (record {
-    text = canon_text x tiplocs associations schedules;
-    counts = record { tiplocs = length tiplocs; associations = length associations; schedules = length schedules };
-  })
-  is-canon = record {
-    clear = record { associations = a.clear; schedules = s.clear };
-    made = canonical_of form x tiplocs distinct.rising distinct.members a.records a.canonical dated-associations a.same_meaning
-        s.records s.canonical dated-schedules s.same_meaning;
-    canonical = is-canonical form x tiplocs distinct.rising distinct.members a.records a.canonical dated-associations a.same_meaning
-        s.records s.canonical dated-schedules s.same_meaning;
-    same = same-meaning form x tiplocs distinct.rising distinct.members a.records a.canonical dated-associations a.same_meaning
-        s.records s.canonical dated-schedules s.same_meaning;
-    text = written-text x tiplocs associations a.records dated-associations a.runs_of schedules s.records dated-schedules s.runs_of;
-    counted = ap (λ n. record { tiplocs = length tiplocs; associations = n; schedules = length schedules })
-        (same-number (association_entries x.associations) associations a.records a.runs_of
-        ∙ number-of_associations a.records dated-associations)
-        ∙ ap (λ n. record {
-          tiplocs = length tiplocs;
-          associations = length (associations_of a.records dated-associations);
-          schedules = n;
-        })
-        (same-number (schedule_entries x.schedules) schedules s.records s.runs_of ∙ number-of_schedules s.records dated-schedules);
-    fits = λ fits. made-fits x fits tiplocs (λ t. (distinct.members t).1) associations a.records dated-associations
+  -- what is written, and how many records it has
+  text : List ℕ
+  text = canon_text x tiplocs associations schedules
+
+  abbrev counts : Counts
+  counts = record { tiplocs = length tiplocs; associations = length associations; schedules = length schedules }
+
+  made : ExtractParts
+  made =
+      canonical_of form x tiplocs distinct.rising distinct.members a.records a.canonical dated-associations a.same_meaning
+      s.records s.canonical dated-schedules s.same_meaning
+
+  made-text : text ≡ extract_text made
+  unfolding text made
+  made-text = written-text x tiplocs associations a.records dated-associations a.runs_of schedules s.records dated-schedules s.runs_of
+
+  made-counts : counts ≡ counts_of made
+  unfolding made
+  made-counts =
+      ap (λ n. record { tiplocs = length tiplocs; associations = n; schedules = length schedules })
+      (same-number (association_entries x.associations) associations a.records a.runs_of
+      ∙ number-of_associations a.records dated-associations)
+      ∙ ap (λ n. record {
+        tiplocs = length tiplocs;
+        associations = length (associations_of a.records dated-associations);
+        schedules = n;
+      })
+      (same-number (schedule_entries x.schedules) schedules s.records s.runs_of ∙ number-of_schedules s.records dated-schedules)
+
+  -- where what x says fits the columns of lines, so does what is made
+  module _ (fits : FitsColumns x) where
+    made-fit : FitsColumns made
+    unfolding made
+    made-fit =
+        made-fits x fits tiplocs (λ t. (distinct.members t).1) associations a.records dated-associations
         (have-terms key_cmp form (header_window x.header) a.records a.canonical (headers.last_is_day x.header)) a.runs_of
         schedules s.records dated-schedules
-        (have-terms (slice_cmp nat_cmp) form (header_window x.header) s.records s.canonical (headers.last_is_day x.header)) s.runs_of;
-  }
+        (have-terms (slice_cmp nat_cmp) form (header_window x.header) s.records s.canonical (headers.last_is_day x.header)) s.runs_of
 
--- where the extract fits the columns of lines, the text is its canonical bytes
-pub canonical-of : (form : Form) (x : ExtractParts) (c : CanonParts) → IsCanonOf form x c → FitsColumns x → IsCanonicalOf form x c.text
-canonical-of form x c is fits = record {
-  made = is.made;
-  canonical = record {
-    spelled = subst (λ t. BytesSpell t is.made) (sym is.text) (text-spells is.made (is.fits fits));
-    text = is.text;
-    canonical = is.canonical;
-  };
-  same = is.same;
-}
+    abbrev canonical : IsCanonicalOf form x text
+    unfolding made
+    canonical = record {
+      made = made;
+      canonical = record {
+        spelled = subst (λ t. BytesSpell t made) (sym made-text) (text-spells made made-fit);
+        text = made-text;
+        canonical = is-canonical form x tiplocs distinct.rising distinct.members a.records a.canonical dated-associations a.same_meaning
+            s.records s.canonical dated-schedules s.same_meaning;
+      };
+      same = same-meaning form x tiplocs distinct.rising distinct.members a.records a.canonical dated-associations a.same_meaning
+          s.records s.canonical dated-schedules s.same_meaning;
+    }
 
-pub made-of : (form : Form) (x : ExtractParts) (c : CanonParts) (is : IsCanonOf form x c) (fits : FitsColumns x) →
-    (canonical-of form x c is fits).made ≡ is.made
-unfolding canonical-of
-made-of form x c is fits = refl
+    pub is-canon : IsCanonOf form x (record { text = canon_text x tiplocs associations schedules; counts = counts })
+    unfolding text canonical made
+    is-canon = record {
+      clear = record { associations = a.clear; schedules = s.clear };
+      canonical = canonical;
+      unique = normal-unique form x text canonical;
+      again = its-own form x text canonical;
+      reached = reached form x text canonical;
+      counted = made-counts;
+    }

@@ -222,13 +222,13 @@ normal-again form other_form asked x bytes other p q narrowed = record {
   };
 }
 
--- where x is what was asked for of some input
-module _ (form : Form) (asked : Asked) (input : List ℕ) (x : ExtractParts) (bytes : List ℕ) (a : IsAccepted asked x input)
-    (p : IsCanonicalOf form x bytes) where
+-- where x is what was asked for of some extract
+module _ (form : Form) (x : ExtractParts) (bytes : List ℕ) (p : IsCanonicalOf form x bytes) (asked : Asked) (whole : ExtractParts)
+    (n : IsNarrowed asked whole x) where
   pub reached : IsReachedFromForms form asked x bytes
   reached = record {
     from = λ other_form others q. record {
-      asked_again = normal-again form other_form asked x bytes others p q (asked-again asked a.whole x a.narrowed q.made q.same);
+      asked_again = normal-again form other_form asked x bytes others p q (asked-again asked whole x n q.made q.same);
       unasked = normal-again form other_form nothing_asked x bytes others p q (unasked q.made);
     };
   }

@@ -2,21 +2,17 @@
 use Rattle.std.proofs.Common.{◌≡◌, ◌≤◌, ℕ, List, Option, Result, Ok, Err, IfErr, refl, sym, ap, ◌∙◌, subst, arith}
 use Rattle.std.specs.Prelude.{IfSome, IsErrAnd}
 use Rattle.cif_calendar.proofs.FirstClash.{first_clash-clear}
-use Rattle.cif_columns.specs.Contents.{contents_of}
 use Rattle.cif_columns.specs.Sink.{HasFailed}
 use Rattle.cif_columns.specs.declared.sink.Sink.{Sink}
 use Rattle.cif_columns.proofs.GivenLinesLaws.{known_so}
 use Rattle.cif_extract.specs.ExtractParts.{ExtractParts}
-use Rattle.cif_extract.specs.Texts.{FitsColumns}
 use Rattle.cif_extract.specs.declared.clash.Clash.{Clash}
 use Rattle.cif_extract.specs.declared.clash.Clash.TheVariants.{Association, Train}
 use Rattle.cif_extract.specs.declared.fault.Fault.{Fault}
 use Rattle.cif_extract.specs.declared.fault.Fault.TheVariants as fault
-use Rattle.cif_extract.proofs.PlainTexts.{spelled-fits}
 use Rattle.cif_extract.proofs.SpelledBytes.{one_spelled, spelled-refused}
-use Rattle.cif_records.proofs.Headers as headers
 use Rattle.cif_weeks.specs.declared.form.Form.{Form}
-use Rattle.cif_canon.specs.Accepted.{IsAccepted, IsAcceptedWithin, IsClearExtract, SpellsNarrowed}
+use Rattle.cif_canon.specs.Accepted.{IsAcceptedWithin, IsClearExtract, SpellsNarrowed}
 use Rattle.cif_canon.specs.Asked.{AskedDatesAreWithin, IsNarrowed, IsNarrowingFault, window_asked}
 use Rattle.cif_canon.specs.Canon.{CanonParts, IsCanonOf}
 use Rattle.cif_canon.specs.Fault.{IsCanonFault, IsDeviceOrMemory, IsFirstClashIn, IsNormaliseFault}
@@ -25,11 +21,8 @@ use Rattle.cif_canon.specs.declared.asked.Asked.{Asked}
 use Rattle.cif_canon.specs.declared.counts.Counts.{Counts}
 use Rattle.cif_extract.specs.SpellsExtract.{BytesSpellWithin}
 use Rattle.cif_extract.proofs.FirstRefusals.{if_error}
-use Rattle.cif_canon.specs.Counts.{counts_of}
-use Rattle.cif_canon.proofs.SameExtracts.{same-parts}
-use Rattle.cif_canon.proofs.CanonForm.{canonical-of, made-of}
 use Rattle.cif_canon.proofs.HandedFaults.{at-fault, known-fault}
-use Rattle.cif_canon.proofs.NormalForms.{its-own, normal-unique, one-narrowed, reached}
+use Rattle.cif_canon.proofs.NormalForms.{one-narrowed}
 
 module _ (max : ℕ) (asked : Asked) (bytes : List ℕ) where
   -- a window that can't be asked for
@@ -87,32 +80,18 @@ module _ (max : ℕ) (asked : Asked) (bytes : List ℕ) where
   blames-none after x a fault.Write h = tt
   blames-none after x a fault.Memory h = tt
 
-  -- what is read fits its columns, and so does what is narrowed
-  narrowed-fits : (x : ExtractParts) → SpellsNarrowed max asked x bytes → FitsColumns x
-  narrowed-fits x s =
-      let n = s.narrowed in
-      let w = s.whole in
-      let fits : FitsColumns w = spelled-fits (contents_of bytes) w s.spelled.spell.are_lines s.spelled.spell.spelled in
-      let moved : ExtractParts =
-      record { header = x.header; tiplocs = w.tiplocs; associations = w.associations; schedules = w.schedules } in
-      subst FitsColumns (same-parts moved x refl (sym n.tiplocs) (sym n.associations) (sym n.schedules)) (headers.fits x.header, fits.1)
-
   -- the canonical form of what is read and narrowed
   pub is-normalised : (form : Form) (x : ExtractParts) → SpellsNarrowed max asked x bytes → (c : CanonParts) → IsCanonOf form x c →
       IsNormalised form asked max bytes c.text c.counts
-  is-normalised form x s c is =
-      let canonical = canonical-of form x c is (narrowed-fits x s) in
-      let accepted : IsAccepted asked x bytes =
-      record { whole = s.whole; spelled = s.spelled.spell; narrowed = s.narrowed; clear = is.clear } in
-      record {
-        meant = x;
-        accepted = record { spelled = s; clear = is.clear };
-        canonical = canonical;
-        unique = normal-unique form x c.text canonical;
-        again = its-own form asked bytes x c.text accepted canonical;
-        reached = reached form asked bytes x c.text accepted canonical;
-        counted = is.counted ∙ ap counts_of (sym (made-of form x c is (narrowed-fits x s)));
-      }
+  is-normalised form x s c is = record {
+    meant = x;
+    accepted = record { spelled = s; clear = is.clear };
+    canonical = is.canonical;
+    unique = is.unique;
+    again = is.again asked s.whole s.narrowed;
+    reached = is.reached asked s.whole s.narrowed;
+    counted = is.counted;
+  }
 
   -- ---- the same, as the calls say it
 

@@ -1,12 +1,13 @@
 -- What a `Canon` is: the canonical form of an extract, and why there is none.
 use Rattle.std.specs.Prelude.{◌≡◌, ℕ, List}
 use Rattle.cif_extract.specs.ExtractParts.{ExtractParts}
-use Rattle.cif_extract.specs.Texts.{FitsColumns, extract_text}
 use Rattle.cif_weeks.specs.declared.form.Form.{Form}
 use Rattle.cif_canon.specs.Accepted.{IsClearExtract}
-use Rattle.cif_canon.specs.Canonical.{IsCanonicalExtract}
+use Rattle.cif_canon.specs.Asked.{IsNarrowed}
+use Rattle.cif_canon.specs.Canonical.{IsCanonicalOf}
 use Rattle.cif_canon.specs.Counts.{counts_of}
-use Rattle.cif_canon.specs.Meaning.{SameMeaning}
+use Rattle.cif_canon.specs.NormalForm.{IsNormalFormAgain, IsReachedFromForms, IsUnique}
+use Rattle.cif_canon.specs.declared.asked.Asked.{Asked}
 use Rattle.cif_canon.specs.declared.counts.Counts.{Counts}
 
 -- what a contract sees of it: its text, and how many records it has
@@ -14,13 +15,15 @@ pub record CanonParts : Type 0 where
   pub text : List ℕ
   pub counts : Counts
 
--- The extract x is clear, and this is its canonical form: the text of the canonical extract that says the same, and its counts.
+-- The extract x is clear, and this is its canonical form: the text of a canonical extract that says the same, and its counts.
 pub record IsCanonOf (form : Form) (x : ExtractParts) (c : CanonParts) : Type 0 where
   pub clear : IsClearExtract x
-  pub made : ExtractParts
-  pub canonical : IsCanonicalExtract form made
-  pub same : SameMeaning x made
-  pub text : c.text ≡ extract_text made
-  pub counted : c.counts ≡ counts_of made
-  -- where what x says fits the columns of lines, as what was read does, so does that
-  pub fits : FitsColumns x → FitsColumns made
+  -- the text is canonical, spells what it is the text of, and says what x says
+  pub canonical : IsCanonicalOf form x c.text
+  -- it is equal to other canonical texts exactly if their inputs say the same
+  pub unique : IsUnique form x c.text
+  -- whatever x was narrowed from: the text is its own canonical text, and that of each canonical text of either form that says the same
+  pub again : (asked : Asked) (whole : ExtractParts) → IsNarrowed asked whole x → IsNormalFormAgain form asked c.text c.text
+  pub reached : (asked : Asked) (whole : ExtractParts) → IsNarrowed asked whole x → IsReachedFromForms form asked x c.text
+  -- the counts are those of its records
+  pub counted : c.counts ≡ counts_of canonical.made

@@ -1,10 +1,8 @@
 //! Making the canonical form of an extract.
 ghost use Rattle.std.specs.Prelude.{IfErr, IfOk};
 ghost use Rattle.cif_extract.specs.ExtractParts.{extract_parts};
-ghost use Rattle.cif_extract.specs.Texts.{FitsColumns};
 ghost use Rattle.cif_canon.specs.Canon.{IsCanonOf};
 ghost use Rattle.cif_canon.specs.Fault.{IsCanonFault};
-ghost use Rattle.cif_canon.specs.NormalForm.{IsUnique};
 
 use crate::Canon;
 use crate::extract_runs::extract_runs;
@@ -17,13 +15,12 @@ use std::alloc::Global;
 /// before trains, by key and then date; Memory where memory was refused.
 pub fn canon<'a>(alloc: Global, extract: &'a Extract, form: Form) -> Result<Canon<'a>, Fault>
     ensures ok { IfOk result (IsCanonOf form (extract_parts extract.now)) }
-    ensures unique { IfOk result (λ canon. FitsColumns (extract_parts extract.now)
-        → IsUnique form (extract_parts extract.now) canon.text) }
     ensures fault { IfErr result (IsCanonFault (extract_parts extract.now)) }
 {
     let Ok(tiplocs) = distinct_tiplocs(alloc, extract.tiplocs.as_slice()) else {
         return Err(Fault::Memory);
     };
     let runs = extract_runs(alloc, extract, form)?;
+    extract.fits();
     Ok(Canon::of(extract, tiplocs, runs.associations, runs.schedules))
 }

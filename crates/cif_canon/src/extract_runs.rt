@@ -8,7 +8,7 @@ ghost use Rattle.cif_extract.specs.ExtractParts.{extract_parts};
 ghost use Rattle.cif_records.specs.AssocKey.{key_cmp};
 ghost use Rattle.cif_canon.specs.Asked.{header_window};
 ghost use Rattle.cif_canon.specs.Fault.{IsCanonFault};
-ghost use Rattle.cif_canon.specs.Steps.Records.{AreCanonicalRecords, IsRecordsFault};
+ghost use Rattle.cif_canon.specs.Steps.Records.{AreCanonicalRecords, IsRecordsFault, IsSameKind};
 
 use crate::records::{RecordsFault, canonical_records};
 use cif_calendar::Window;
@@ -77,7 +77,8 @@ pub(crate) fn window_of(extract: &Extract) -> Window
 fn association_fault(extract: &Extract, fault: RecordsFault) -> Fault
     requires { IsRecordsFault key_cmp (association_entries extract.now.associations.items)
         (header_window extract.now.header) fault }
-    ensures { IsCanonFault (extract_parts extract.now) result }
+    ensures fault { IsCanonFault (extract_parts extract.now) result }
+    ensures kind { IsSameKind fault result }
 {
     match fault {
         RecordsFault::Clash { member, day } => {
@@ -94,7 +95,8 @@ fn schedule_fault(extract: &Extract, fault: RecordsFault) -> Fault
         extract.now.header.first extract.now.header.last }
     requires fault { IsRecordsFault (slice_cmp nat_cmp) (schedule_entries extract.now.schedules.items)
         (header_window extract.now.header) fault }
-    ensures { IsCanonFault (extract_parts extract.now) result }
+    ensures fault { IsCanonFault (extract_parts extract.now) result }
+    ensures kind { IsSameKind fault result }
 {
     match fault {
         RecordsFault::Clash { member, day } => {

@@ -3,7 +3,7 @@ ghost use Rattle.std.specs.Prelude.{◌≤◌, ℕ, List, IfErr, IfOk, IfSome};
 ghost use Rattle.cif_columns.specs.Source.{reader_of};
 ghost use Rattle.cif_columns.specs.declared.line_reader.TheConstants.{MAX_LINES};
 ghost use Rattle.cif_extract.specs.ExtractParts.{ExtractParts, extract_parts};
-ghost use Rattle.cif_extract.specs.ReadFault.{FaultReads};
+ghost use Rattle.cif_extract.specs.ReadFault.{FaultReads, LeavesNothing};
 ghost use Rattle.cif_canon.specs.Accepted.{IsAcceptedWithin, SpellsNarrowed};
 ghost use Rattle.cif_canon.specs.Fault.{IsDeviceOrMemory, IsNormaliseFault};
 ghost use Rattle.cif_canon.specs.Fault.{IsOfCheck, IsOfNormalise};
@@ -40,6 +40,7 @@ pub fn normalise<R: ReadDevice, W: WriteDevice>(
         → IsAcceptedWithin max_lines asked.now x bytes → IfErr result IsDeviceOrMemory) }
     ensures answers { IfErr result (IsOfNormalise max_lines) }
     ensures source { FaultReads R.read_errors source.old source.new result }
+    ensures end { LeavesNothing R.remaining source.old source.new result }
 {
     let extract = read_narrowed(alloc, source, max_lines, asked)?;
     let canon = canon(alloc, &extract, form)?;
@@ -65,6 +66,7 @@ pub fn check<R: ReadDevice>(
         → IsAcceptedWithin max_lines asked.now x bytes → IfErr result IsDeviceOrMemory) }
     ensures answers { IfErr result (IsOfCheck max_lines) }
     ensures source { FaultReads R.read_errors source.old source.new result }
+    ensures end { LeavesNothing R.remaining source.old source.new result }
 {
     let extract = read_narrowed(alloc, source, max_lines, asked)?;
     Ok(canon(alloc, &extract, form)?.counts())
@@ -84,6 +86,7 @@ fn read_narrowed<R: ReadDevice>(
         (IsNormaliseFault max_lines asked.now bytes (R.remaining (reader_of source.new)))) }
     ensures answers { IfErr result (IsOfCheck max_lines) }
     ensures source { FaultReads R.read_errors source.old source.new result }
+    ensures end { LeavesNothing R.remaining source.old source.new result }
 {
     let mut extract = read_extract(alloc, source, max_lines)?;
     narrow(&mut extract, asked)?;

@@ -5,6 +5,7 @@ pub mod DayColumns
 pub mod DayDigits
 pub mod DecidedLines
 pub mod DigitsLemmas
+pub mod EachOfFifths
 pub mod FeedPlaces
 pub mod FieldLaws
 pub mod FoundInHeld
@@ -12,6 +13,7 @@ pub mod GivenLinesLaws
 pub mod HeldBytes
 pub mod Letters
 pub mod LineAnswers
+pub mod LineFifths
 pub mod LineReasons
 pub mod LineTexts
 pub mod MaskUnion

@@ -1,13 +1,15 @@
 -- The texts of lines and the lines in them determine each other.
-use Rattle.std.proofs.Common.{◌≡◌, ℕ, ◌<◌, List, [], ◌∷◌, ◌++◌, All, map, take, length, get_or, refl, sym, ◌∙◌, ap, arith, subst}
+use Rattle.std.proofs.Common.{◌≡◌, ℕ, ◌<◌, List, [], ◌∷◌, ◌++◌, All, map, take, length, get_or, refl, sym, ◌∙◌, ap, arith}
+use Rattle.std.proofs.Common.{length-append, subst}
 use Rattle.std.specs.List.{flat_map}
-use Rattle.std.proofs.lemmas.List.{get_or-map, length-map, map-append}
-use Rattle.std.proofs.lemmas.List.Elements.{All-append, All-cons, All-nil, All-tail}
+use Rattle.std.proofs.lemmas.List.{get_or-map, length-map, length-take, map-append}
+use Rattle.std.proofs.lemmas.List.Elements.{All-append, All-cons, All-map, All-nil, All-tail}
 use Rattle.std.proofs.lemmas.List.Folds.{flat_map-map}
 use Rattle.std.proofs.Math.Seq.{take-append_seam}
-use Rattle.cif_columns.specs.Contents.{lines_text}
-use Rattle.cif_columns.specs.Line.{ArePrintable}
+use Rattle.cif_columns.specs.Contents.{contents_of, lines_text}
+use Rattle.cif_columns.specs.Line.{ArePrintable, IsLine}
 use Rattle.cif_columns.specs.Lines.{IsLineText, lines_in}
+use Rattle.cif_columns.proofs.PlainLines.{contents-lines_text}
 
 -- a line with its line feed
 abbrev line_text : List ℕ → List ℕ
@@ -25,6 +27,19 @@ texts_again (text ∷ texts) h =
 pub joined_texts : (texts : List (List ℕ)) → All IsLineText texts → flat_map (λ text. text) texts ≡ lines_text (lines_in texts)
 joined_texts texts h =
     ap (flat_map (λ text. text)) (texts_again texts h) ∙ flat_map-map (λ text. text) line_text (lines_in texts)
+
+-- a text has a line in front of its line feed
+line_in_text : (text : List ℕ) → IsLineText text → IsLine (take 80 text)
+line_in_text text h =
+    let ended = ap length h.ended in
+    record {
+      width = omega (arith, ended, length-append (take 80 text) (10 ∷ []), length-take 80 text);
+      printable = h.printable;
+    }
+
+-- so the lines in texts are lines
+pub are_lines : (texts : List (List ℕ)) → All IsLineText texts → All IsLine (lines_in texts)
+are_lines texts h = All-map IsLine (take 80) texts (λ k d below. line_in_text (get_or texts k d) (h k d below))
 
 -- the same lines have the same texts
 pub same_texts : (xs ys : List (List ℕ)) → All IsLineText xs → All IsLineText ys → lines_in xs ≡ lines_in ys → xs ≡ ys
@@ -59,3 +74,10 @@ text_of_line line width printable =
       printable = subst ArePrintable (sym front) printable;
       ended = ap (λ l. l ++ (10 ∷ [])) (sym front);
     }
+
+-- lines with one text are the same
+pub same_from_text : (xs ys : List (List ℕ)) → All IsLineText xs → All IsLineText ys
+    → lines_text (lines_in xs) ≡ lines_text (lines_in ys) → lines_in xs ≡ lines_in ys
+same_from_text xs ys h k e =
+    sym (contents-lines_text (lines_in xs) (are_lines xs h)) ∙ ap contents_of e
+    ∙ contents-lines_text (lines_in ys) (are_lines ys k)

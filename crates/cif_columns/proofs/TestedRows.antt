@@ -68,17 +68,17 @@ module _ (t : PlainTest) (line : List ℕ) (wide : length line ≡ 80) (fits : P
       at (inr e) = e ∙ c
 
   next_at : (j i : ℕ) → j < 79 → j + 1 ≡ i → get_or t.next j 0 ≡ 32 → get_or line j 0 ≡ 32 → get_or line i 0 ≡ 32
-  next_at j i lt place asks space = subst (λ n. get_or line n 0 ≡ 32) place (fits.followed j lt (space ∙ sym asks))
+  next_at j i lt place asks space = subst (λ n. get_or line n 0 ≡ 32) place (fits.followed j lt asks space)
 
   over_at : (j i : ℕ) → j < 64 → j + 2 ≡ i → get_or t.over j 0 ≡ 32 → get_or line j 0 ≡ 32 → get_or line i 0 ≡ 32
-  over_at j i lt place asks space = subst (λ n. get_or line n 0 ≡ 32) place (fits.followed_over j lt (space ∙ sym asks))
+  over_at j i lt place asks space = subst (λ n. get_or line n 0 ≡ 32) place (fits.followed_over j lt asks space)
 
   back_at : (j i : ℕ) → j < 32 → j + 1 ≡ i → get_or t.back j 0 ≡ 32 → get_or line i 0 ≡ 32 → get_or line j 0 ≡ 32
   back_at j i lt place asks space =
-      (fits.timed j lt).0 (ap (λ n. get_or line n 0) place ∙ space ∙ sym asks)
+      (fits.timed j lt).0 asks (ap (λ n. get_or line n 0) place ∙ space)
 
   hour_at : (j i : ℕ) → j < 32 → j + 1 ≡ i → get_or t.hour j 0 ≡ 50 → get_or line j 0 ≡ 50 → get_or line i 0 ≤ 51
-  hour_at j i lt place asks two = subst (λ n. get_or line n 0 ≤ 51) place ((fits.timed j lt).1 (two ∙ sym asks))
+  hour_at j i lt place asks two = subst (λ n. get_or line n 0 ≤ 51) place ((fits.timed j lt).1 asks two)
 
   -- ---- columns from and to
   pub bytes_part : (from to : ℕ) (value : List ℕ) → 1 ≤ from → from ≤ to → to ≤ 80 → length value ≡ to + 1 - from

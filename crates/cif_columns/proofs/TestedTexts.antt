@@ -29,7 +29,7 @@ module _ (t : PlainTest) (line : List ℕ) (wide : length line ≡ 80) (fits : P
       → get_or (columns from to line) k 0 ≡ 32 → get_or (columns from to line) (k + 1) 0 ≡ 32
   followed_at from to k start within low lt asks space =
       let here : get_or line (from - 1 + k) 0 ≡ 32 = sym (read line from to k (omega arith)) ∙ space in
-      let then : get_or line (from - 1 + k + 1) 0 ≡ 32 = fits.followed (from - 1 + k) low (here ∙ sym asks) in
+      let then : get_or line (from - 1 + k + 1) 0 ≡ 32 = fits.followed (from - 1 + k) low asks here in
       let place : from - 1 + k + 1 ≡ from - 1 + (k + 1) = omega arith in
       read line from to (k + 1) lt ∙ ap (λ n. get_or line n 0) (sym place) ∙ then
 

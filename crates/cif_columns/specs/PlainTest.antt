@@ -33,19 +33,19 @@ IsInRange t line k =
     ((slice_index t.least k ≤ slice_index line k) × (slice_index line k ≤ slice_index t.most k))
     ⊎ (slice_index line k ≡ slice_index t.also k)
 
--- a byte that asks for a space in the next column has it
+-- a space that asks for one in the next column has it
 abbrev pub IsFollowed : PlainTest → List ℕ → ℕ → Type 0
-IsFollowed t line k = slice_index line k ≡ slice_index t.next k → slice_index line (k + 1) ≡ 32
+IsFollowed t line k = slice_index t.next k ≡ 32 → slice_index line k ≡ 32 → slice_index line (k + 1) ≡ 32
 
--- a byte that asks for a space in the column after the next has it
+-- a space that asks for one in the column after the next has it
 abbrev pub IsFollowedOver : PlainTest → List ℕ → ℕ → Type 0
-IsFollowedOver t line k = slice_index line k ≡ slice_index t.over k → slice_index line (k + 2) ≡ 32
+IsFollowedOver t line k = slice_index t.over k ≡ 32 → slice_index line k ≡ 32 → slice_index line (k + 2) ≡ 32
 
--- a next byte that asks for a space in this column has it, and a byte that asks for at most `3` in the next column
+-- a space in the next column that asks for one in this column has it, and a `2` that asks for at most `3` in the next column
 abbrev pub IsTimed : PlainTest → List ℕ → ℕ → Type 0
 IsTimed t line k =
-    (slice_index line (k + 1) ≡ slice_index t.back k → slice_index line k ≡ 32)
-    × (slice_index line k ≡ slice_index t.hour k → slice_index line (k + 1) ≤ 51)
+    (slice_index t.back k ≡ 32 → slice_index line (k + 1) ≡ 32 → slice_index line k ≡ 32)
+    × (slice_index t.hour k ≡ 50 → slice_index line k ≡ 50 → slice_index line (k + 1) ≤ 51)
 
 -- Each column is as the test wants it: as many as each of its tables has. What that means for records is the clause `plain` of
 -- `passes`.

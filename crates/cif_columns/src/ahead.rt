@@ -16,8 +16,8 @@ use crate::read_device::ReadDevice;
 use crate::refusal::Refusal;
 use crate::source::{ReadFault, Source};
 
-// A read gives about eight hundred lines. The buffer lies on the stack.
-const AHEAD: usize = 65_536;
+// A read gives about two hundred lines. The buffer lies on the stack.
+const AHEAD: usize = 16_384;
 
 /// What was found where a line should begin.
 pub(crate) enum Found {

@@ -99,6 +99,24 @@ impl LineReader {
             self.given += 1;
             return Ok(true);
         }
+        self.read_other_line(source, line)
+    }
+
+    /// What `read_line` does where the held bytes don't begin with 80 bytes and a line feed, or the
+    /// line would be one too many.
+    // Few lines come here, so it is kept out of the loops that `read_line` is inlined into.
+    #[cold]
+    #[inline(never)]
+    fn read_other_line<R: ReadDevice>(
+        &mut self,
+        source: &mut Source<R>,
+        line: &mut Line,
+    ) -> Result<bool, LineFault>
+        requires { past self.old ≡ Reading }
+        ensures { IsNext R.remaining R.read_errors self.old source.old (line_read result line.new)
+            self.new source.new }
+    {
+        let is_full = self.given == self.limit;
         match self.ahead.next_line(is_full, source) {
             Found::Next(next) => {
                 *line = next;

@@ -1,6 +1,7 @@
 //! A part of the lines that are kept.
 ghost use Rattle.std.specs.Prelude.{◌≡◌, ◌<◌, ◌≤◌, ◌↔◌, [], IsTrue, All, drop, length, slice_index_or, take};
 ghost use Rattle.cif_columns.specs.Contents.{lines_text};
+ghost use Rattle.cif_columns.specs.Line.{IsLine};
 ghost use Rattle.cif_columns.specs.Lines.{IsLineText, lines_in};
 
 use crate::line::{LINE_TEXT_WIDTH, LINE_WIDTH, Line};
@@ -83,6 +84,14 @@ impl<'a> LineSlice<'a> {
         }
     }
 
+    /// A law for proofs: each of them is a line.
+    #[inline]
+    pub fn are_lines(&self)
+        ensures { All IsLine self.now }
+    {
+        let _ = &self.texts;
+    }
+
     /// The text of the lines, each with its line feed.
     pub fn text(&self) -> &'a [u8]
         ensures { result.now ≡ lines_text self.now }
@@ -102,6 +111,7 @@ impl<'a> LineSlice<'a> {
     pub fn is(&self, other: &LineSlice<'_>) -> bool
         ensures { IsTrue result ↔ (self.now ≡ other.now) }
     {
-        self.texts == other.texts
+        // One behind another they are compared by many bytes at a time.
+        self.texts.as_flattened() == other.texts.as_flattened()
     }
 }

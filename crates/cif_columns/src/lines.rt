@@ -57,6 +57,8 @@ impl Lines {
     pub fn push(&mut self, line: &Line) -> Result<(), AllocError>
         ensures { OnOk result (self.new ≡ self.old ++ line.now ∷ []) }
     {
+        // With room for it the text is made in its place.
+        self.texts.reserve(1)?;
         self.texts.push(line.text())?;
         Ok(())
     }

@@ -1,5 +1,5 @@
 //! A writer that isn't written to again once it has failed.
-ghost use Rattle.std.specs.Prelude.{◌≡◌, ◌++◌, ◌∷◌, [], false};
+ghost use Rattle.std.specs.Prelude.{◌≡◌, ◌++◌, ◌∷◌, [], false, IfOk};
 
 use crate::line::Line;
 use crate::write_device::WriteDevice;
@@ -76,7 +76,8 @@ impl<W: WriteDevice> Sink<W> {
     /// Hands on what the writer holds back, and writes no bytes of its own. A failure is the last,
     /// as in `write_all`.
     pub fn flush(&mut self) -> Result<(), WriteFault>
-        ensures { Writes W.contents W.write_errors [] self.old self.new result }
+        ensures writes { Writes W.contents W.write_errors [] self.old self.new result }
+        ensures handed_on { IfOk result (λ _. W.holds_nothing (writer_of self.new)) }
     {
         if self.failed {
             return Err(WriteFault);

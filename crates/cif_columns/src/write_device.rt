@@ -16,6 +16,9 @@ pub trait WriteDevice: Write {
     // bytes has failed too.
     ghost write_errors: { Self → Option ℕ } = { λ _. None };
 
+    // It holds nothing back: what it took has gone to what lies below it. A writer without a buffer never does.
+    ghost holds_nothing: { Self → Type 0 } = { λ _. Unit {0} };
+
     /// Writes once, as `write` does.
     fn write_once(&mut self, bytes: &[u8]) -> io::Result<usize>
         ensures bound { WritesAtMost result bytes.now }
@@ -30,7 +33,8 @@ pub trait WriteDevice: Write {
     /// Flushes once, as `flush` does.
     fn flush_once(&mut self) -> io::Result<()>
         ensures bytes { Keeps (Self.contents self.old) (Self.contents self.new) }
-        ensures errors { TellsErrors (write_errors self.old) (write_errors self.new) result };
+        ensures errors { TellsErrors (write_errors self.old) (write_errors self.new) result }
+        ensures handed_on { IfOk result (λ _. holds_nothing self.new) };
 }
 
 impl WriteDevice for File {
@@ -85,8 +89,13 @@ impl<A: Allocator> WriteDevice for Vec<u8, A> {
     }
 }
 
-/// The errors of the writer behind the buffer aren't told.
+/// The errors of the writer behind the buffer aren't told. It holds back what is in the buffer.
 impl<W: WriteDevice + Drop, A: Allocator> WriteDevice for BufWriter<W, A> {
+    ghost use Rattle.std.specs.Prelude.{◌≡◌, []};
+    ghost use Rattle.std.specs.Io.Buffered.{writer_buffer};
+
+    ghost holds_nothing = { λ w. writer_buffer w ≡ [] };
+
     fn write_once(&mut self, bytes: &[u8]) -> io::Result<usize> {
         self.write(bytes)
     }
@@ -98,6 +107,8 @@ impl<W: WriteDevice + Drop, A: Allocator> WriteDevice for BufWriter<W, A> {
 
 impl<W: WriteDevice> WriteDevice for &mut W {
     ghost write_errors = { λ w. W.write_errors w.now };
+
+    ghost holds_nothing = { λ w. W.holds_nothing w.now };
 
     fn write_once(&mut self, bytes: &[u8]) -> io::Result<usize> {
         WriteDevice::write_once(&mut **self, bytes)

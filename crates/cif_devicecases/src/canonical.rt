@@ -69,7 +69,11 @@ fn push_canon_of(
 }
 
 /// Appends what goes to a writer that takes all of it.
-fn push_line<T: Written>(alloc: Global, out: &mut String, written: &T) -> Result<(), AllocError> {
+pub(crate) fn push_line<T: Written>(
+    alloc: Global,
+    out: &mut String,
+    written: &T,
+) -> Result<(), AllocError> {
     let mut sink = Sink::new(Vec::new(alloc));
     if written.write(&mut sink).is_err() {
         return Err(AllocError);
@@ -78,7 +82,7 @@ fn push_line<T: Written>(alloc: Global, out: &mut String, written: &T) -> Result
 }
 
 /// The form that the case asks for.
-fn form_of(case: &Case) -> Form {
+pub(crate) fn form_of(case: &Case) -> Form {
     match case.value("form") {
         Some("1") => Form::One,
         _ => Form::Two,
@@ -87,7 +91,7 @@ fn form_of(case: &Case) -> Form {
 
 /// The line that answers: the counts, or the fault.
 #[derive(Clone, Copy)]
-struct Answer<'a>(&'a Result<Counts, Fault>);
+pub(crate) struct Answer<'a>(pub(crate) &'a Result<Counts, Fault>);
 
 impl Written for Answer<'_> {
     fn write<W: WriteDevice>(&self, sink: &mut Sink<W>) -> Result<(), WriteFault> {

@@ -36,19 +36,24 @@
 //!   writer was called.
 //! - `canon form=1`: the answer is the canonical text of the extract that the input is, and the line
 //!   of the counts, or that of the fault.
+//! - `day day=YYMMDD`, `train uid=UID form=1`, `compare with=NAME`: the answer is what runs on the
+//!   day, when the train runs, or how the input compares with that of the case NAME; or the line of
+//!   the fault.
 //!
-//! What `records` and `bytes` write, the line of `normalise` and the text of `canon` is then
-//! written, each record by itself, to trial writers. One takes all bytes, and then it is flushed;
-//! the answer says how often it was called for each. The others take fewer bytes, every number of
-//! them, and then fail or answer 0. Such a sink has to fail, to have the bytes that fit, by one
-//! write a line and one for all lines that follow a BS (of `bytes` by one), and then the one that
-//! failed, and not to be touched again. The answer says so, or where first it isn't so.
+//! What `records` and `bytes` write, the line of `normalise`, the text of `canon` and the lines of
+//! `day`, `train` and `compare` is then written, each record by itself, to trial writers. One takes
+//! all bytes, and then it is flushed; the answer says how often it was called for each. The others
+//! take fewer bytes, every number of them, and then fail or answer 0. Such a sink has to fail, to
+//! have the bytes that fit, by one write a line and in extracts one for all lines that follow a BS
+//! (of `bytes` by one), and then the one that failed, and not to be touched again. The answer says
+//! so, or where first it isn't so.
 #![tactic(auto)]
 
 mod canonical;
 mod reading;
 mod sizes;
 mod trials;
+mod views;
 mod writers;
 mod writing;
 mod written;
@@ -59,21 +64,23 @@ use reading::push_read;
 use sizes::push_sizes;
 use std::alloc::Global;
 use std::io;
+use views::{push_comparison, push_day, push_train};
 use writers::{push_flushes, push_writes};
 use writing::{push_bytes, push_records};
 
 fn main(rt: HostRuntime) -> io::Result<()> {
     let text = io::read_to_string(rt.alloc(), rt.reader())?;
-    for case in &cases_of(rt.alloc(), text.as_str())? {
+    let cases = cases_of(rt.alloc(), text.as_str())?;
+    for case in &cases {
         let mut out = String::new(rt.alloc());
-        push_answer(rt.alloc(), &mut out, case)?;
+        push_answer(rt.alloc(), &mut out, case, cases.as_slice())?;
         print!(rt; "== {}\n{}", case.name, out.as_str())?;
     }
     Ok(())
 }
 
 /// Appends what the case's call answers.
-fn push_answer(alloc: Global, out: &mut String, case: &Case) -> io::Result<()> {
+fn push_answer(alloc: Global, out: &mut String, case: &Case, cases: &[Case]) -> io::Result<()> {
     match case.call {
         "records" => Ok(push_records(alloc, out, case)?),
         "bytes" => push_bytes(alloc, out, case.input.as_slice()),
@@ -81,6 +88,9 @@ fn push_answer(alloc: Global, out: &mut String, case: &Case) -> io::Result<()> {
         "flushes" => push_flushes(alloc, out, case),
         "normalise" => Ok(push_normalise(alloc, out, case)?),
         "canon" => Ok(push_canon(alloc, out, case)?),
+        "day" => Ok(push_day(alloc, out, case)?),
+        "train" => Ok(push_train(alloc, out, case)?),
+        "compare" => Ok(push_comparison(alloc, out, case, cases)?),
         "sizes" => Ok(push_sizes(alloc, out, case)?),
         _ => push_read(alloc, out, case),
     }

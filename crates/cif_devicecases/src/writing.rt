@@ -74,7 +74,7 @@ fn dates_of(case: &Case) -> Option<Dates> {
     }
 }
 
-fn day_of(columns: Option<&str>) -> Option<Day> {
+pub(crate) fn day_of(columns: Option<&str>) -> Option<Day> {
     Day::from_yymmdd(columns?.as_bytes().as_array()?)
 }
 

@@ -1,5 +1,6 @@
 pub mod BasicSteps
 pub mod Bodies
+pub mod BodyFits
 pub mod BodyLines
 pub mod CallLines
 pub mod FirstRefusals

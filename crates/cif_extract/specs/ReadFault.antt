@@ -1,6 +1,6 @@
 -- Why bytes are no extract, or can't be read.
-use Rattle.std.specs.Prelude.{◌≡◌, ◌≤◌, ◌+◌, ℕ, List, Option, IsSomeAnd, Result, Ok, Err}
-use Rattle.cif_columns.specs.Source.{HasFailedToRead, HasReadOn}
+use Rattle.std.specs.Prelude.{◌≡◌, ◌≤◌, ◌+◌, ⊤, ℕ, List, [], Option, Some, IfSome, IsSomeAnd, Result, Ok, Err}
+use Rattle.cif_columns.specs.Source.{HasFailedToRead, HasReadOn, reader_of}
 use Rattle.cif_columns.specs.declared.source.Source.{Source}
 use Rattle.cif_extract.specs.ExtractParts.{ExtractParts, extract_parts}
 use Rattle.cif_extract.specs.FirstRefusal.{IsFirstRefusal, IsCutBeforeRefusal}
@@ -39,3 +39,8 @@ abbrev pub FaultReads : {R A : Type 0} → (R → Option ℕ) → Source R → S
 FaultReads errors old new (Ok done) = HasReadOn errors old new
 FaultReads errors old new (Err Read) = HasFailedToRead errors old new
 FaultReads errors old new (Err fault) = HasReadOn errors old new
+
+-- where a call answers, nothing is left of what the reader had
+abbrev pub LeavesNothing : {R A E : Type 0} → (R → Option (List ℕ)) → Source R → Source R → Result A E → Type 0
+LeavesNothing remaining old new (Ok done) = IfSome (remaining (reader_of old)) (λ bytes. remaining (reader_of new) ≡ Some [])
+LeavesNothing remaining old new (Err fault) = ⊤

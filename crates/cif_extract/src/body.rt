@@ -1,10 +1,11 @@
 //! What runs on a schedule's dates.
-ghost use Rattle.std.specs.Prelude.{◌≡◌, ◌↔◌, IfOk, IfSome, IsTrue, is_some, map, option_copied};
+ghost use Rattle.std.specs.Prelude.{◌≡◌, ◌↔◌, IfOk, IfSome, IsTrue, Some, is_some, map, option_copied};
 ghost use Rattle.cif_extract.specs.Body.{KeepAll, KeepJourney, KeepMore, KeepSomeBody, is_extra, parts_in};
 ghost use Rattle.cif_extract.specs.BodyParts.{body_records, extra_records};
-ghost use Rattle.cif_columns.specs.Field.{AllStandIn, plain_line};
+ghost use Rattle.cif_columns.specs.Field.{AllFit, AllStandIn, plain_line};
 ghost use Rattle.cif_extract.specs.Call.{call_record};
-ghost use Rattle.cif_records.specs.Detail.{detail_table};
+ghost use Rattle.cif_extract.specs.Texts.{AllTablesFit};
+ghost use Rattle.cif_records.specs.Detail.{detail_rows, detail_table};
 ghost use Rattle.cif_records.specs.SpellsExtra.{SpellsExtra};
 ghost use Rattle.cif_records.specs.SpellsRecord.{record_table};
 
@@ -99,6 +100,15 @@ impl Body {
     pub fn equality_of_bodies()
         ensures { (a b : BodyParts) → IsTrue (⟦<Body as PartialEq>⟧.eq a b) ↔ (a ≡ b) }
     {}
+
+    /// A law for proofs: what it says fits its columns.
+    #[inline]
+    pub fn fits(&self)
+        ensures detail { AllFit (detail_rows (Some self.now.detail)) }
+        ensures further { AllTablesFit (map record_table (body_records self.now)) }
+    {
+        self.lines.as_slice().are_lines();
+    }
 
     /// The plain lines of the records that follow its BS.
     pub(crate) fn further_lines(&self) -> LineSlice<'_>

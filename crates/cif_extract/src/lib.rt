@@ -8,6 +8,7 @@ mod calls;
 mod clash;
 mod extract;
 mod fault;
+mod fits;
 pub mod laws;
 mod opened;
 mod place;

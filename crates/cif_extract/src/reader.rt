@@ -1,9 +1,10 @@
 //! Reading a whole extract, line by line.
-ghost use Rattle.std.specs.Prelude.{◌≡◌, ◌≤◌, [], false, Some, IfErr, IfOk, IfSome};
+ghost use Rattle.std.specs.Prelude.{◌≡◌, ◌≤◌, false, IfErr, IfOk, IfSome};
 ghost use Rattle.cif_columns.specs.Source.{reader_of, source_failed};
 ghost use Rattle.cif_columns.specs.declared.line_reader.TheConstants.{MAX_LINES};
 ghost use Rattle.cif_extract.specs.ExtractParts.{ExtractParts, extract_parts};
 ghost use Rattle.cif_extract.specs.ReadFault.{FaultReads, IsOfReading, IsReadAs, IsReadFault};
+ghost use Rattle.cif_extract.specs.ReadFault.{LeavesNothing};
 ghost use Rattle.cif_extract.specs.SpellsExtract.{BytesSpellWithin};
 
 use crate::reading::Reading;
@@ -29,8 +30,7 @@ pub fn read_extract<R: ReadDevice>(
     ensures fault { IfSome (R.remaining (reader_of source.old)) (λ bytes. IfErr result
         (IsReadFault max_lines bytes (R.remaining (reader_of source.new)))) }
     ensures answers { IfErr result (IsOfReading max_lines) }
-    ensures end { IfSome (R.remaining (reader_of source.old)) (λ bytes. IfOk result (λ _.
-        R.remaining (reader_of source.new) ≡ Some [])) }
+    ensures end { LeavesNothing R.remaining source.old source.new result }
     ensures endless { IfOk result (λ _. source_failed source.old ≡ false) }
     ensures device { FaultReads R.read_errors source.old source.new result }
 {

@@ -229,6 +229,7 @@ impl Reading {
 
     /// Keeps the line of a record of this kind as its plain line, if the schedule that is being read
     /// has a body.
+    #[inline(always)]
     fn keep(&mut self, kind: Kind, line: &Line) -> Result<(), TakeFault>
         requires { kind_in line.now ≡ Some kind }
         ensures { IsKept (record_refusal line.now) line.now (progress_of self.old) result
@@ -245,6 +246,7 @@ impl Reading {
     }
 
     /// Keeps a plain line, if the schedule that is being read has a body.
+    #[inline(always)]
     fn keep_plain(&mut self, line: &Line) -> Result<(), AllocError>
         ensures { OnOk result (progress_of self.new ≡ keeping (progress_of self.old) line.now) }
     {

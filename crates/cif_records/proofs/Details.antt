@@ -12,9 +12,11 @@ use Rattle.cif_columns.specs.Text.{text_of}
 use Rattle.cif_columns.specs.LineBuilder.{put_all}
 use Rattle.cif_columns.specs.declared.stp.Stp.{Stp}
 use Rattle.cif_columns.specs.declared.stp.Stp.TheVariants.{C, N, O, P}
+use Rattle.cif_columns.specs.Line.{IsLine}
 use Rattle.cif_columns.proofs.ColumnReads.{read, width}
-use Rattle.cif_columns.proofs.Parts.{fits-append, put_all-append, put_all-plain_line, stands-append, stands-front}
+use Rattle.cif_columns.proofs.Parts.{fits-append, fits-front, put_all-append, put_all-plain_line, stands-append, stands-front}
 use Rattle.cif_columns.proofs.Parts.{stands-plain_line}
+use Rattle.cif_columns.proofs.StoodValues as stood
 use Rattle.cif_columns.proofs.TableLaws.{columns_in, one_table}
 use Rattle.cif_columns.proofs.Texts.{is_text_of}
 use Rattle.cif_records.specs.Basic.{basic_back, basic_front}
@@ -36,6 +38,11 @@ module _ (d : Detail) (line : List ℕ) (built : line ≡ put_all (put_all [] (r
   detail_again fits =
       subst (λ l. AllStandIn l (detail_table d)) (sym plain_detail)
       (stands-plain_line (detail_table d) refl (tt, fits-append (detail_rows (Some d)) (row 79 80 spare ∷ []) fits (tt, tt)))
+
+-- a detail that stands in a line of its own fits its columns
+pub detail_fits : (line : List ℕ) (d : Detail) → IsLine line → AllStandIn line (detail_table d) → AllFit (detail_rows (Some d))
+detail_fits line d is_line stands =
+    fits-front (detail_rows (Some d)) (row 79 80 spare ∷ []) (stood.fit line is_line (detail_table d) refl refl stands).1
 
 -- the detail in columns 30 to 78 stands there
 pub detail_stands : (line : List ℕ) → AllStandIn line (detail_rows (Some (detail_in line)))

@@ -1,18 +1,26 @@
 -- A line spells at most one location, and there is no reason to refuse a line that spells one.
-use Rattle.std.proofs.Common.{◌≡◌, ℕ, List, None, sym, ap, ◌∙◌}
+use Rattle.std.proofs.Common.{◌≡◌, ℕ, List, None, codes, length, refl, sym, ap, ◌∙◌}
 use Rattle.std.proofs.Props.{props}
 use mathlib.Core.HLevel.{Σ_prop_path}
+use Rattle.cif_columns.specs.Field.{AllFit}
 use Rattle.cif_columns.specs.Line.{ArePrintable}
+use Rattle.cif_columns.proofs.PrintableBytes.{printable_fact}
+use Rattle.cif_records.proofs.Rows.{◌&◌}
 use Rattle.cif_records.specs.SpellsTiploc.{SpellsTiploc}
-use Rattle.cif_records.specs.Tiploc.{tiploc_refusal}
+use Rattle.cif_records.specs.Tiploc.{tiploc_refusal, tiploc_table}
 use Rattle.cif_records.specs.declared.tiploc.Tiploc.{Tiploc}
 
 -- a location is determined by its columns
 pub same_tiploc : (t u : Tiploc) → t.columns ≡ u.columns → t ≡ u
 same_tiploc t u same =
-    let parts : ◌≡◌ {A = (c : List ℕ) × ArePrintable c} (t.columns, t.printable) (u.columns, u.printable) =
+    let parts : ◌≡◌ {A = (c : List ℕ) × ((length c ≡ 70) × ArePrintable c)}
+    (t.columns, (t.wide, t.printable)) (u.columns, (u.wide, u.printable)) =
     Σ_prop_path (λ c. hlevel props) same in
-    ap (λ v. record { columns = v.0; printable = v.1 }) parts
+    ap (λ v. record { columns = v.0; wide = v.1.0; printable = v.1.1 }) parts
+
+-- what it says fits its columns
+pub fits : (t : Tiploc) → AllFit (tiploc_table t.columns)
+fits t = (refl, printable_fact (codes "TI") refl) & (t.wide, t.printable) & tt & tt
 
 pub one_tiploc : (line : List ℕ) (t u : Tiploc) → SpellsTiploc line t → SpellsTiploc line u → t ≡ u
 one_tiploc line t u p q = same_tiploc t u (sym p.1.0 ∙ q.1.0)

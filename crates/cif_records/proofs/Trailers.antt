@@ -1,8 +1,14 @@
 -- There is no reason to refuse a line that spells a trailer.
-use Rattle.std.proofs.Common.{◌≡◌, ℕ, List, None}
-use Rattle.cif_columns.specs.Field.{AllStandIn}
+use Rattle.std.proofs.Common.{◌≡◌, ℕ, List, None, codes, refl}
+use Rattle.cif_columns.specs.Field.{AllFit, AllStandIn}
+use Rattle.cif_columns.proofs.PrintableBytes.{printable_fact}
+use Rattle.cif_records.proofs.Rows.{◌&◌}
 use Rattle.cif_records.specs.Trailer.{trailer_refusal, trailer_table}
 
 pub no_refusal : (line : List ℕ) → AllStandIn line trailer_table → trailer_refusal line ≡ None
 unfolding trailer_refusal
 no_refusal line s = rw s.0
+
+-- it fits its columns
+pub fits : AllFit trailer_table
+fits = (refl, printable_fact (codes "ZZ") refl) & tt & tt

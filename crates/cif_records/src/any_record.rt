@@ -89,6 +89,8 @@ pub fn plain_line_of(line: &Line) -> Result<Line, Refusal>
 }
 
 /// What `plain_line_of` gives, without the law that no other record is spelled.
+// Few lines come here, so it is kept out of the loops over lines.
+#[inline(never)]
 #[tactic(auto, unfolding(crate::specs::Record::record_refusal))]
 fn plain_line_of_any(line: &Line) -> Result<Line, Refusal>
     ensures { IsJudged (record_refusal line.now) (IsPlainOf Record record_table line.now) result }
@@ -120,6 +122,7 @@ fn plain_line_as<R: Layout>(line: &Line) -> Result<Line, Refusal>
 
 /// Whether the line is the plain line of a record of this kind, and spells it, as far as one pass
 /// over its columns tells. A `false` costs time alone: `plain_line_of` answers then.
+#[inline(never)]
 pub fn is_plain_line(kind: Kind, line: &Line) -> bool
     ensures { IsTrue result → IsJudged (record_refusal line.now)
         (IsPlainOf Record record_table line.now) (Ok line.now) }

@@ -129,6 +129,22 @@ impl Association {
     {
         layout::write(self)
     }
+
+    /// A law for proofs: what it says fits its columns.
+    #[inline]
+    pub fn fits(&self)
+        ensures { AllFit (table_of self.now) }
+    {
+        self.key.base.fits();
+        self.key.associated.fits();
+        self.key.location.fits();
+        self.key.base_suffix.fits();
+        self.key.associated_suffix.fits();
+        self.first.fits();
+        self.last.fits();
+        self.days.fits();
+        body_fits(self.body.as_ref());
+    }
 }
 
 /// The plain line of a permanent association.
@@ -224,6 +240,23 @@ fn put_kinds(body: Option<&AssocBody>, line: &mut LineBuilder)
             line.put_spare::<1>();
             line.put_spare::<1>();
         }
+    }
+}
+
+/// A law for proofs: what a body says fits its columns.
+#[inline]
+fn body_fits(body: Option<&AssocBody>)
+    ensures category { Fits 2 (of_body (option_copied body.entry) (λ b. text b.category)) }
+    ensures date_indicator { Fits 1
+        (of_body (option_copied body.entry) (λ b. text b.date_indicator)) }
+    ensures diagram { Fits 1 (of_body (option_copied body.entry) (λ b. text b.diagram)) }
+    ensures kind { Fits 1 (of_body (option_copied body.entry) (λ b. text b.kind)) }
+{
+    if let Some(body) = body {
+        body.category.fits();
+        body.date_indicator.fits();
+        body.diagram.fits();
+        body.kind.fits();
     }
 }
 

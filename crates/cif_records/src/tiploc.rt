@@ -1,5 +1,5 @@
 //! A location of the timetable.
-ghost use Rattle.std.specs.Prelude.{◌≡◌, ◌↔◌, Ok, IsTrue};
+ghost use Rattle.std.specs.Prelude.{◌≡◌, ◌↔◌, Ok, IsTrue, length};
 ghost use Rattle.std.specs.Cmp.Lexicographic.{slice_cmp};
 ghost use Rattle.std.specs.Ordering.{nat_cmp};
 ghost use Rattle.cif_columns.specs.Field.{plain_line};
@@ -20,6 +20,7 @@ pub struct Tiploc {
     /// NLC check (18), TPS description (19 to 44), STANOX (45 to 49), PO MCP code (50 to 53), CRS
     /// code (54 to 56), description (57 to 72).
     pub columns: [u8; 70],
+    ghost wide: { length columns ≡ 70 },
     ghost printable: { ArePrintable columns },
 }
 

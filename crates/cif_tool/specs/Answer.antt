@@ -1,11 +1,12 @@
 -- What the commands answer: a text on the output, and a status.
 use Rattle.std.specs.Prelude.{◌≡◌, ◌⊎◌, ⊤, ℕ, List, Option, IfSome, Result, Ok, Err}
+use Rattle.cif_columns.specs.Sink.{writer_of}
 use Rattle.cif_columns.specs.Source.{HasReadOn}
 use Rattle.cif_columns.specs.declared.line_reader.TheConstants.{MAX_LINES}
 use Rattle.cif_columns.specs.declared.sink.Sink.{Sink}
 use Rattle.cif_columns.specs.declared.source.Source.{Source}
 use Rattle.cif_extract.specs.ExtractParts.{ExtractParts}
-use Rattle.cif_extract.specs.ReadFault.{FaultReads, IsReadFault}
+use Rattle.cif_extract.specs.ReadFault.{FaultReads, IsReadFault, LeavesNothing}
 use Rattle.cif_extract.specs.SpellsExtract.{BytesSpellWithin}
 use Rattle.cif_extract.specs.declared.fault.Fault.{Fault}
 use Rattle.cif_extract.specs.declared.fault.Fault.TheVariants.{Write}
@@ -108,6 +109,21 @@ abbrev pub ReadsBoth : {R A : Type 0} → (R → Option ℕ) → Source R → So
 ReadsBoth errors left left_new right right_new result =
     (FaultReads errors left left_new result × (right_new ≡ right))
     ⊎ (HasReadOn errors left left_new × FaultReads errors right right_new result)
+
+-- where a command answers, its sink's writer holds nothing back: the whole answer is handed on
+abbrev pub IsHandedOn : {W A E : Type 0} → (W → Type 0) → Sink W → Result A E → Type 0
+IsHandedOn holds_nothing new (Ok done) = holds_nothing (writer_of new)
+IsHandedOn holds_nothing new (Err fault) = ⊤
+
+-- What the job's command owes its sources: `compare` reads both, one after the other, and each other command its input alone. Where it
+-- answers, nothing is left of what it has read.
+abbrev pub ReadsInputs : {R A : Type 0} → (R → Option (List ℕ)) → (R → Option ℕ) → Job → Source R → Source R → Source R → Source R →
+    Result A Fault → Type 0
+ReadsInputs remaining errors (Compare left_file right_file asked) left left_new right right_new result =
+    ReadsBoth errors left left_new right right_new result × LeavesNothing remaining left left_new result
+    × LeavesNothing remaining right right_new result
+ReadsInputs remaining errors _ source source_new right right_new result =
+    FaultReads errors source source_new result × LeavesNothing remaining source source_new result × (right_new ≡ right)
 
 -- What the job's command answers, where `start` is what the reader of its input gives, and `right` what that of a second one gives.
 abbrev pub IsJobAnswer : Job → Option (List ℕ) → Option (List ℕ) → List ℕ → ℕ → Type 0

@@ -1,10 +1,15 @@
 -- Why the words of a call ask for nothing.
-use Rattle.std.specs.Prelude.{◌≡◌, ◌⊎◌, ℕ, List, [], Option, Some, None, ⊤, IsSomeAnd, codes}
+use Rattle.std.specs.Prelude.{◌≡◌, ◌≢◌, ◌⊎◌, ℕ, List, [], ◌∷◌, ◌++◌, Option, Some, None, ⊤, IfSome, IsSomeAnd, Result, Ok, Err, codes}
 use Rattle.clap.specs.Words.{IsAmong, Row, Text, first_of, kind_of}
 use Rattle.clap.specs.declared.error.ErrorKind.{ErrorKind}
 use Rattle.clap.specs.declared.error.ErrorKind.TheVariants.{DisplayHelp, DisplayVersion}
 use Rattle.cif_columns.specs.Day.{StandsInYymmdd}
+use Rattle.cif_columns.specs.Sink.{HasFailed, HasWritten, Writes}
 use Rattle.cif_columns.specs.Uid.{IsUid}
+use Rattle.cif_columns.specs.declared.sink.Sink.{Sink}
+use Rattle.cif_columns.specs.declared.sink.WriteFault.{WriteFault}
+use Rattle.cif_extract.specs.declared.fault.Fault.{Fault}
+use Rattle.cif_extract.specs.declared.fault.Fault.TheVariants.{Write, Memory as OutOfMemory}
 use Rattle.cif_tool.specs.CommandLine.{AreForms, Forms, chosen, faults_of}
 use Rattle.cif_tool.specs.declared.job_fault.JobFault.{JobFault}
 use Rattle.cif_tool.specs.declared.job_fault.JobFault.TheVariants.{Usage, BadDate, BadUid, Memory}
@@ -64,3 +69,33 @@ text_of (Usage error) = None
 text_of BadDate = Some (codes "cif: bad date")
 text_of BadUid = Some (codes "cif: bad UID")
 text_of Memory = Some (codes "cif: Memory")
+
+-- A text was shown on the output: it was written whole, and nothing went to the errors.
+pub record IsShown {O E : Type 0} (contents : O → Option (List ℕ)) (write_errors : O → Option ℕ) (output output_new : Sink O)
+    (errors errors_new : Sink E) : Type 0 where
+  pub text : List ℕ
+  pub written : HasWritten contents write_errors text output output_new
+  pub silent : errors_new ≡ errors
+
+-- A text went to the errors, as far as it could be written, and nothing to the output: the line that names the fault, or else `clap`'s text.
+pub record IsReported {O E : Type 0} (contents : E → Option (List ℕ)) (write_errors : E → Option ℕ) (line : Option Text)
+    (output output_new : Sink O) (errors errors_new : Sink E) : Type 0 where
+  pub text : List ℕ
+  pub names : IfSome line (λ words. text ≡ words ++ (10 ∷ []))
+  pub told : Result (Unit {0}) WriteFault
+  pub writes : Writes contents write_errors text errors errors_new told
+  pub silent : output_new ≡ output
+
+-- What an explanation of a fault owes the two sinks: help and the version go to the output, and all else to the errors. At Write the
+-- output has failed to take the whole text of help or the version; at Memory nothing was written.
+abbrev pub Explains : {O E : Type 0} → (O → Option (List ℕ)) → (O → Option ℕ) → (E → Option (List ℕ)) → (E → Option ℕ) → JobFault →
+    Sink O → Sink O → Sink E → Sink E → Result ℕ Fault → Type 0
+Explains contents write_errors error_contents error_errors fault output output_new errors errors_new (Ok status) =
+    (status ≡ status_of fault)
+    × (status_of fault ≡ 0 → IsShown contents write_errors output output_new errors errors_new)
+    × (status_of fault ≢ 0 → IsReported error_contents error_errors (text_of fault) output output_new errors errors_new)
+Explains contents write_errors error_contents error_errors fault output output_new errors errors_new (Err Write) =
+    (status_of fault ≡ 0) × (errors_new ≡ errors) × ((text : List ℕ) × HasFailed contents write_errors text output output_new)
+Explains contents write_errors error_contents error_errors fault output output_new errors errors_new (Err OutOfMemory) =
+    (output_new ≡ output) × (errors_new ≡ errors)
+Explains contents write_errors error_contents error_errors fault output output_new errors errors_new (Err _) = ⊥

@@ -4,13 +4,13 @@ ghost use Rattle.cif_columns.specs.Sink.{Writes};
 ghost use Rattle.cif_columns.specs.Source.{reader_of};
 ghost use Rattle.cif_columns.specs.declared.line_reader.TheConstants.{MAX_LINES};
 ghost use Rattle.cif_extract.specs.ExtractParts.{extract_parts};
-ghost use Rattle.cif_extract.specs.ReadFault.{FaultReads};
+ghost use Rattle.cif_extract.specs.ReadFault.{FaultReads, LeavesNothing};
 ghost use Rattle.cif_extract.specs.declared.fault.Fault.TheVariants.{Write};
 ghost use Rattle.cif_canon.specs.Asked.{IsNarrowed, IsNarrowingFault};
 ghost use Rattle.cif_canon.specs.Fault.{IsNormaliseFault};
 ghost use Rattle.cif_tool.specs.Answer.{Answers, IsCheckAnswer, IsCompareAnswer};
 ghost use Rattle.cif_tool.specs.Answer.{IsCompareRefusal, IsDayAnswer, IsDayRefusal};
-ghost use Rattle.cif_tool.specs.Answer.{IsNormaliseAnswer, IsTrainAnswer, ReadsBoth};
+ghost use Rattle.cif_tool.specs.Answer.{IsHandedOn, IsNormaliseAnswer, IsTrainAnswer, ReadsBoth};
 
 use crate::status::{DONE, outcome};
 use cif_canon::{
@@ -35,6 +35,8 @@ pub fn answer_normalise<R: ReadDevice, W: WriteDevice>(
     ensures fault { IfSome (R.remaining (reader_of source.old)) (λ bytes. IfErr result
         (IsNormaliseFault MAX_LINES asked.now bytes (R.remaining (reader_of source.new)))) }
     ensures source { FaultReads R.read_errors source.old source.new result }
+    ensures end { LeavesNothing R.remaining source.old source.new result }
+    ensures handed_on { IsHandedOn W.holds_nothing sink.new result }
 {
     normalise(alloc, source, sink, MAX_LINES, asked, form)?;
     flushed(sink, DONE)
@@ -55,6 +57,8 @@ pub fn answer_check<R: ReadDevice, W: WriteDevice>(
     ensures fault { IfSome (R.remaining (reader_of source.old)) (λ bytes. IfErr result
         (IsNormaliseFault MAX_LINES asked.now bytes (R.remaining (reader_of source.new)))) }
     ensures source { FaultReads R.read_errors source.old source.new result }
+    ensures end { LeavesNothing R.remaining source.old source.new result }
+    ensures handed_on { IsHandedOn W.holds_nothing sink.new result }
 {
     let counts = check(alloc, source, MAX_LINES, asked, form)?;
     write_counts(&counts, sink)?;
@@ -79,6 +83,9 @@ pub fn answer_compare<R: ReadDevice, W: WriteDevice>(
         (right.new ≡ right.old) (R.remaining (reader_of right.old))
         (R.remaining (reader_of right.new)))) }
     ensures sources { ReadsBoth R.read_errors left.old left.new right.old right.new result }
+    ensures left_end { LeavesNothing R.remaining left.old left.new result }
+    ensures right_end { LeavesNothing R.remaining right.old right.new result }
+    ensures handed_on { IsHandedOn W.holds_nothing sink.new result }
 {
     let left = read_extract(alloc, left, MAX_LINES)?;
     let right = read_extract(alloc, right, MAX_LINES)?;
@@ -102,6 +109,8 @@ pub fn answer_day<R: ReadDevice, W: WriteDevice>(
     ensures fault { IfSome (R.remaining (reader_of source.old)) (λ bytes. IfErr result
         (IsDayRefusal day bytes (R.remaining (reader_of source.new)))) }
     ensures source { FaultReads R.read_errors source.old source.new result }
+    ensures end { LeavesNothing R.remaining source.old source.new result }
+    ensures handed_on { IsHandedOn W.holds_nothing sink.new result }
 {
     let extract = read_extract(alloc, source, MAX_LINES)?;
     day_view(alloc, &extract, day, sink)?;
@@ -123,6 +132,8 @@ pub fn answer_train<R: ReadDevice, W: WriteDevice>(
     ensures fault { IfSome (R.remaining (reader_of source.old)) (λ bytes. IfErr result
         (IsNormaliseFault MAX_LINES asked.now bytes (R.remaining (reader_of source.new)))) }
     ensures source { FaultReads R.read_errors source.old source.new result }
+    ensures end { LeavesNothing R.remaining source.old source.new result }
+    ensures handed_on { IsHandedOn W.holds_nothing sink.new result }
 {
     let extract = narrowed(read_extract(alloc, source, MAX_LINES)?, asked)?;
     train_view(alloc, &extract, uid, sink, form)?;
@@ -144,6 +155,7 @@ fn flushed<W: WriteDevice>(sink: &mut Sink<W>, status: u8) -> Result<u8, Fault>
     ensures writes { Writes W.contents W.write_errors [] sink.old sink.new result }
     ensures ok { IfOk result (λ answered. answered ≡ status) }
     ensures fault { IfErr result (λ fault. fault ≡ Write) }
+    ensures handed_on { IsHandedOn W.holds_nothing sink.new result }
 {
     sink.flush()?;
     Ok(status)

@@ -1,7 +1,7 @@
 //! What the command of a job answers.
 ghost use Rattle.std.specs.Prelude.{◌≡◌, IfErr};
 ghost use Rattle.cif_columns.specs.Source.{reader_of};
-ghost use Rattle.cif_tool.specs.Answer.{Answers, IsJobAnswer, IsJobRefusal};
+ghost use Rattle.cif_tool.specs.Answer.{Answers, IsHandedOn, IsJobAnswer, IsJobRefusal, ReadsInputs};
 
 use crate::answers::{answer_check, answer_compare, answer_day, answer_normalise, answer_train};
 use crate::job::Job;
@@ -25,6 +25,9 @@ pub fn answer<R: ReadDevice, W: WriteDevice>(
         (R.remaining (reader_of source.old)) (R.remaining (reader_of source.new))
         (right.new ≡ right.old)
         (R.remaining (reader_of right.old)) (R.remaining (reader_of right.new))) }
+    ensures sources { ReadsInputs R.remaining R.read_errors job.now
+        source.old source.new right.old right.new result }
+    ensures handed_on { IsHandedOn W.holds_nothing sink.new result }
 {
     match job {
         Job::Normalise {

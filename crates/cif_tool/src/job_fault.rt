@@ -1,11 +1,16 @@
 //! Why a call of `cif` asks for nothing.
-ghost use Rattle.std.specs.Prelude.{◌≡◌, IfErr, IfOk, option_map};
-ghost use Rattle.cif_extract.specs.declared.fault.Fault.TheVariants.{Write};
+ghost use Rattle.std.specs.Prelude.{◌≡◌, ◌<◌, ◌++◌, ◌∷◌, [], IfSome, length, option_map};
+ghost use Rattle.cif_tool.specs.declared.job_fault.TheConstants.{LONGEST_LINE};
 
 use crate::status::{DONE, FAILED, MISTAKEN};
+use arrayvec::ArrayString;
+use cif_columns::{Sink, WriteDevice};
 use cif_extract::Fault;
 use clap::error::ErrorKind;
-use std::alloc::AllocError;
+use std::alloc::{AllocError, Global};
+
+/// The bytes of the longest line that names a fault, with its line feed.
+const LONGEST_LINE: usize = 14;
 
 /// Why a call of `cif` asks for nothing.
 #[derive(Debug, Drop)]
@@ -31,28 +36,41 @@ impl From<AllocError> for JobFault {
 }
 
 impl JobFault {
-    ghost use Rattle.cif_tool.specs.JobFault.{status_of, text_of};
+    ghost use Rattle.cif_tool.specs.JobFault.{Explains, status_of, text_of};
 
-    /// Says on `errors` why the words ask for nothing, and answers the status. Help and the version,
-    /// where they are asked for, go to `output`; Write comes where that can't be written to.
-    pub fn explain<O: Print, E: Print>(&self, output: &O, errors: &E) -> Result<u8, Fault>
-        ensures ok { IfOk result (λ status. status ≡ status_of self.now) }
-        ensures fault { IfErr result (λ fault. (fault ≡ Write) × (status_of self.now ≡ 0)) }
+    /// Says why the arguments ask for nothing, and answers the status. Help and the version go to
+    /// `output`; all else goes to `errors`, and that it can't be written there changes no status.
+    /// Write comes where `output` fails, and Memory where there is none for `clap`'s text.
+    pub fn explain<O: WriteDevice, E: WriteDevice>(
+        &self,
+        alloc: Global,
+        output: &mut Sink<O>,
+        errors: &mut Sink<E>,
+    ) -> Result<u8, Fault>
+        ensures { Explains O.contents O.write_errors E.contents E.write_errors self.now
+            output.old output.new errors.old errors.new result }
     {
+        let status = self.status();
         match self {
-            JobFault::Usage(error) if error.use_stderr() => {
-                let _ = errors.print(error);
-            }
             JobFault::Usage(error) => {
-                if output.print(error).is_err() {
-                    return Err(Fault::Write);
+                let Ok(text) = error.to_string(alloc) else {
+                    return Err(Fault::Memory);
+                };
+                if status == DONE {
+                    output.write_all(text.as_bytes())?;
+                    output.flush()?;
+                    Ok(status)
+                } else {
+                    let _ = errors.write_all(text.as_bytes());
+                    Ok(status)
                 }
             }
             _ => {
-                let _ = errors.println(self.text().unwrap_or(""));
+                let line = line_of(self.text().unwrap_or(""));
+                let _ = errors.write_all(line.as_str().as_bytes());
+                Ok(status)
             }
         }
-        Ok(self.status())
     }
 
     /// The status that the program exits with.
@@ -71,7 +89,8 @@ impl JobFault {
 
     /// The line that names the fault, without its line feed; none where `clap` has the text.
     pub fn text(&self) -> Option<&str>
-        ensures { option_map (λ line. line.now) result ≡ text_of self.now }
+        ensures text { option_map (λ line. line.now) result ≡ text_of self.now }
+        ensures short { IfSome result (λ line. length line.now < LONGEST_LINE) }
     {
         match self {
             JobFault::Usage(_) => None,
@@ -80,4 +99,15 @@ impl JobFault {
             JobFault::Memory => Some("cif: Memory"),
         }
     }
+}
+
+/// The text as a line.
+fn line_of(text: &str) -> ArrayString<LONGEST_LINE>
+    requires { length text.now < LONGEST_LINE }
+    ensures { result.bytes ≡ text.now ++ 10 ∷ [] }
+{
+    let mut line = ArrayString::new();
+    line.push_str(text);
+    line.push_str("\n");
+    line
 }

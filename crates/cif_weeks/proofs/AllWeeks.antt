@@ -13,9 +13,9 @@ use Rattle.cif_weeks.specs.Meets.{Meets}
 use Rattle.cif_weeks.specs.Runs.{AreSources, AreCanonicalRuns, window_of}
 use Rattle.cif_weeks.specs.Steps.WeekRows.{source_in, body_in, IsRowBefore, AreAlikeUpTo}
 use Rattle.cif_weeks.specs.Steps.MadeRecords.{AreMade, AreRunsUpTo}
-use Rattle.cif_weeks.proofs.SourcesIn.{source_in-within, source_in-before}
+use Rattle.cif_weeks.proofs.SourcesIn.{source_in-within}
 use Rattle.cif_weeks.proofs.AlikeWeeks.{alike-bodies}
-use Rattle.cif_weeks.proofs.Growth.{inside}
+use Rattle.cif_weeks.proofs.Growth.{body-source, inside}
 use Rattle.cif_weeks.proofs.Made.{made_none, made_meets}
 use Rattle.cif_weeks.proofs.Covered.{made_alike}
 
@@ -29,11 +29,16 @@ none-at (suc (suc (suc (suc (suc zero))))) = refl
 none-at (suc (suc (suc (suc (suc (suc zero)))))) = refl
 none-at (suc (suc (suc (suc (suc (suc (suc w))))))) = refl
 
--- before the window's first week there is no source
-pub row-none : (c : CalendarParts) (week : ℕ) → week ≡ week_of c.first →
+no-source : (o : Option ℕ) → ((i : ℕ) → o ≡ Some i → ⊥) → o ≡ None
+no-source None h = refl
+no-source (Some i) h = absurd (h i refl)
+
+-- before the first week with a source there is none
+pub row-none : (c : CalendarParts) (week : ℕ) → ((n i : ℕ) → source_in c n ≡ Some i → week ≤ week_of n) →
     IsRowBefore c week (None ∷ None ∷ None ∷ None ∷ None ∷ None ∷ None ∷ [])
-row-none c week is = record {
-  each = λ n next. none-at (weekday_of n) ∙ sym (source_in-before c n (omega arith));
+row-none c week from = record {
+  each = λ n next. none-at (weekday_of n) ∙ sym (no-source (source_in c n)
+      (λ i is. let h : week ≤ week_of n = from n i is in absurd (omega arith)));
   only = λ w i below e. absurd (let no : None ≡ Some i = sym (none-at w) ∙ e in cc);
 }
 
@@ -70,12 +75,13 @@ row-jump c week alike row r up a = record {
 }
 
 module _ {B : Type 0} (form : Form) (xs : List (Terms B)) (c : CalendarParts) (sources : AreSources xs c) where
-  pub upto-none : (week : ℕ) → week ≡ week_of c.first → AreRunsUpTo form xs c (week * 7) []
-  upto-none week is = record {
+  pub upto-none : (week : ℕ) → ((n i : ℕ) → source_in c n ≡ Some i → week ≤ week_of n) → AreRunsUpTo form xs c (week * 7) []
+  upto-none week from = record {
     records = [];
     runs_of = tt;
     made = made_none (window_of c) (body_in xs c) (inside xs c sources) form (week * 7) (λ n b early runs.
-        let from : c.first ≤ n = (inside xs c sources n b runs).from in omega arith);
+        let (i, is) = body-source xs c sources (source_in c n) b runs in
+        let h : week ≤ week_of n = from n i is in omega arith);
   }
 
   -- over the weeks that are like one
@@ -106,12 +112,13 @@ module _ {B : Type 0} (form : Form) (xs : List (Terms B)) (c : CalendarParts) (s
   }
 
   -- after the last week
-  pub upto-all : (week : ℕ) (runs : List Run) → week_of c.last < week → AreRunsUpTo form xs c (week * 7) runs →
-      AreCanonicalRuns form xs c runs
+  pub upto-all : (week : ℕ) (runs : List Run) → ((n i : ℕ) → source_in c n ≡ Some i → week_of n < week) →
+      AreRunsUpTo form xs c (week * 7) runs → AreCanonicalRuns form xs c runs
   upto-all week runs over u = record {
     records = u.records;
     runs_of = u.runs_of;
     meets = on-window u.records (made_meets (window_of c) (body_in xs c) (inside xs c sources) form (week * 7) u.records u.made
         (λ n b runs_n.
-        let upto : n ≤ c.last = (inside xs c sources n b runs_n).upto in omega arith));
+        let (i, is) = body-source xs c sources (source_in c n) b runs_n in
+        let h : week_of n < week = over n i is in omega arith));
   }

@@ -2,14 +2,13 @@
 use Rattle.std.proofs.Common.{◌≡◌, inl, inr, zero, suc, ℕ, ◌+◌, ◌-◌, ◌*◌, ◌<◌, ◌≤◌, List, Bool, Option, Some, arith, sym, ◌∙◌, subst}
 use Rattle.std.proofs.lemmas.Bool.{cases_lt}
 use Rattle.std.proofs.lemmas.Option.{same_Some}
-use Rattle.cif_columns.specs.Day.{week_of, weekday_of}
+use Rattle.cif_columns.specs.Day.{week_of}
 use Rattle.cif_columns.specs.DaysRun.{RunsOn}
 use Rattle.cif_weeks.specs.declared.form.Form.{Form}
 use Rattle.cif_weeks.specs.Window.{Window, IsWithin}
 use Rattle.cif_weeks.specs.Permanent.{Permanent}
 use Rattle.cif_weeks.specs.Steps.WeekMasks.{IsMask, Agree, Differ, AreAlike}
 use Rattle.cif_weeks.specs.Steps.Growing.{Breaks, IsGrown}
-use Rattle.cif_weeks.proofs.WeekDays.{week_of-rises}
 use Rattle.cif_weeks.proofs.AlignedDays.{week_of-applies, tight, day_in_week}
 use Rattle.cif_weeks.proofs.Grown.{grown_runs, grown_applies, grown_aligned}
 use Rattle.cif_weeks.proofs.JoiningWeeks.{agree_joins, alike_joins, never_differ}
@@ -102,19 +101,6 @@ module _ {B : Type 0} (window : Window) (body_on : ℕ → Option B)
           (record { begun = omega arith; unfinished = omega arith }) in
           rest k (omega arith)
           (subst (λ v. body_on k ≡ Some v) (same_body n b runs c) (grown_runs window body_on inside form c.it g k on))
-
-      -- so where the body's mask of the week before has no weekday
-      pub free_after_empty : (week : ℕ) (this : List Bool) → week_of n ≡ week + 1 → IsMask body_on b week this
-          → ((w : ℕ) → ¬ RunsOn this w) → ¬ IsCovered records n
-      free_after_empty week this at j none =
-          free_after_rest (λ k before runs_k. none (weekday_of k) (j.shows k (omega arith) runs_k))
-
-      -- and in the first week of the window
-      pub free_in_first_week : week_of n ≤ week_of window.first → ¬ IsCovered records n
-      free_in_first_week first =
-          free_after_rest (λ k before runs_k.
-          let from : week_of window.first ≤ week_of k = week_of-rises window.first k (inside k b runs_k).from in
-          omega arith)
 
       -- nor does one apply where the body's masks of the week before and of this one differ
       pub free_after_change : (week : ℕ) (this next : List Bool) → week_of n ≡ week + 1 → IsMask body_on b week this

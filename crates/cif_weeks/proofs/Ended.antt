@@ -1,5 +1,5 @@
 -- When a record has ended.
-use Rattle.std.proofs.Common.{◌≡◌, inl, inr, ℕ, ◌+◌, ◌≤◌, List, Bool, Option, Some, arith, sym, ◌∙◌, subst}
+use Rattle.std.proofs.Common.{◌≡◌, inl, inr, ℕ, ◌+◌, List, Bool, Option, Some, arith, sym, ◌∙◌, subst}
 use Rattle.cif_columns.specs.Day.{week_of, weekday_of}
 use Rattle.cif_columns.specs.DaysRun.{RunsOn}
 use Rattle.cif_weeks.specs.declared.form.Form.{Form}
@@ -9,7 +9,7 @@ use Rattle.cif_weeks.specs.Permanent.{Permanent}
 use Rattle.cif_weeks.specs.Separate.{ExactlyOne}
 use Rattle.cif_weeks.specs.Steps.WeekMasks.{IsMask, Differ}
 use Rattle.cif_weeks.specs.Steps.Growing.{IsGrown, HasEnded}
-use Rattle.cif_weeks.proofs.WeekDays.{week_of-rises, week_of-next, weekday_of-next}
+use Rattle.cif_weeks.proofs.WeekDays.{week_of-next, weekday_of-next}
 use Rattle.cif_weeks.proofs.Masks.{mask_runs, one_mask}
 use Rattle.cif_weeks.proofs.Grown.{fits_last}
 
@@ -63,8 +63,3 @@ module _ {B : Type 0} (window : Window) (body_on : ℕ → Option B)
   pub ended_rest : (form : Form) (r : Permanent B) (week : ℕ) (next : List Bool) → week_of r.last ≡ week
       → IsMask body_on r.body (week + 1) next → ((w : ℕ) → ¬ RunsOn next w) → HasEnded form window body_on r
   ended_rest form r week next here k none n at runs = absurd (none (weekday_of n) (k.shows n (omega arith) runs))
-
-  -- where the window has no later week
-  pub ended_window : (form : Form) (r : Permanent B) → week_of window.last ≤ week_of r.last → HasEnded form window body_on r
-  ended_window form r over n at runs =
-      let upto : week_of n ≤ week_of window.last = week_of-rises n window.last (inside n r.body runs).upto in absurd (omega arith)

@@ -17,7 +17,7 @@ use Rattle.cif_weeks.specs.Runs.{AreSources, window_of}
 use Rattle.cif_weeks.specs.Steps.WeekRows.{source_in, body_in, IsRowBefore, IsMaskOf, ArePositions, AreAlikeUpTo, IsWeek}
 use Rattle.cif_weeks.specs.declared.week.Week.{Week}
 use Rattle.cif_weeks.proofs.Growing.{grown_start, grown_more}
-use Rattle.cif_weeks.proofs.Ended.{ended_differ, ended_rest, ended_window}
+use Rattle.cif_weeks.proofs.Ended.{ended_differ, ended_rest}
 use Rattle.cif_weeks.proofs.Jump.{grown_jump, mask_alike}
 use Rattle.cif_weeks.proofs.AlikeWeeks.{alike-bodies}
 use Rattle.cif_weeks.proofs.WeekDays.{RunsOn-below}
@@ -183,10 +183,11 @@ module _ {B : Type 0} (form : Form) (xs : List (Terms B)) (c : CalendarParts) (s
       ended-rests b is none = ended_rest (window_of c) (body_in xs c) (inside xs c sources) form
           (record { first = first; last = last; days = mask; body = b }) week next_days g.week_is (next-mask b is) none
 
-    pub ended-over : (b : B) → week_of c.last ≤ week →
+    pub ended-over : (b : B) → body_at xs (Some source) ≡ Some b → ((n i : ℕ) → source_in c n ≡ Some i → week_of n ≤ week) →
         HasEnded form (window_of c) (body_in xs c) (record { first = first; last = last; days = mask; body = b })
-    ended-over b over = ended_window (window_of c) (body_in xs c) (inside xs c sources) form
-        (record { first = first; last = last; days = mask; body = b }) (omega (arith, g.week_is))
+    ended-over b is over = λ n next runs.
+        let (i, is_i) = body-source xs c sources (source_in c n) b runs in
+        let upto : week_of n ≤ week = over n i is_i in absurd (omega (arith, g.week_is))
 
     -- its last date is one of the calendar's
     pub growing-day : (b : B) → body_at xs (Some source) ≡ Some b → last ≤ c.last

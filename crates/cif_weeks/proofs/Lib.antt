@@ -24,5 +24,6 @@ pub mod AlikeWeeks
 pub mod AgreedDays
 pub mod Growth
 pub mod BegunRuns
+pub mod BusyWeeks
 pub mod AllWeeks
 pub mod CalendarSources

@@ -9,6 +9,7 @@ use Rattle.cif_calendar.specs.declared.piece.Piece.{Piece}
 use Rattle.cif_weeks.specs.Steps.WeekRows.{source_in, HasBegun, IsRowBefore}
 use Rattle.cif_weeks.proofs.WeekDays.{same_day}
 use Rattle.cif_weeks.proofs.AlikeWeeks.{source_in-piece}
+use Rattle.cif_weeks.proofs.SourcesIn.{source_in-after}
 
 -- the row has the sources of the weekdays before k, and none from k on
 pub record IsRowUpTo (c : CalendarParts) (week k : ℕ) (row : List (Option ℕ)) : Type 0 where
@@ -27,6 +28,17 @@ module _ (c : CalendarParts) (week : ℕ) where
   pub row-whole : (row : List (Option ℕ)) → IsRowUpTo c week 7 row → IsRowBefore c (week + 1) row
   row-whole row r = record {
     each = λ n at. r.each n (omega arith) (omega arith);
+    only = λ w i below is. let (n, in_week, day) = r.only w i is in (n, (let next : week_of n + 1 ≡ week + 1 = omega arith in next), day);
+  }
+
+  -- where the weekdays from k on are after the window, it is too
+  pub row-ends : (k : ℕ) (row : List (Option ℕ)) → ((n : ℕ) → week_of n ≡ week → k ≤ weekday_of n → c.last < n) → IsRowUpTo c week k row
+      → IsRowBefore c (week + 1) row
+  row-ends k row over r = record {
+    each = λ n at. ⊎_elim
+        (λ old. r.each n (omega arith) old)
+        (λ new. r.rest (weekday_of n) new ∙ sym (source_in-after c n (over n (omega arith) new)))
+        (cases_lt (weekday_of n) k);
     only = λ w i below is. let (n, in_week, day) = r.only w i is in (n, (let next : week_of n + 1 ≡ week + 1 = omega arith in next), day);
   }
 

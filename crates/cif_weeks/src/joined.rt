@@ -1,15 +1,18 @@
 //! The canonical runs of a calendar.
 
-ghost use Rattle.std.specs.Prelude.{◌≡◌, ◌<◌, ◌+◌, ◌*◌, ℕ, None, Some, length, map, slice_index_or, IfOk, MatchBool};
-ghost use Rattle.cif_columns.specs.Day.{IsDay};
+ghost use Rattle.std.specs.Prelude.{◌≡◌, ◌<◌, ◌≤◌, ◌+◌, ◌*◌, ℕ, None, Some, length, map};
+ghost use Rattle.std.specs.Prelude.{slice_index_or, IfOk, MatchBool};
+ghost use Rattle.cif_columns.specs.Day.{IsDay, week_of};
 ghost use Rattle.cif_weeks.specs.Steps.MadeRecords.{AreRunsUpTo};
 ghost use Rattle.cif_weeks.specs.Runs.{AreCanonicalRuns, AreSources};
-ghost use Rattle.cif_weeks.specs.Steps.WeekRows.{AreDaysOf, ArePositions, Begins, GoesOn, HaveOneBody, IsRowBefore, IsWeek};
+ghost use Rattle.cif_weeks.specs.Steps.WeekRows.{AreDaysOf, ArePositions, Begins, GoesOn};
+ghost use Rattle.cif_weeks.specs.Steps.WeekRows.{HaveOneBody, IsRowBefore, IsWeek, source_in};
 
+use crate::busy_weeks::busy_weeks;
 use crate::form::Form;
 use crate::longest::{agree, longest};
 use crate::run::Run;
-use crate::week::{Row, Week, last_week};
+use crate::week::{Row, Week};
 use crate::week_mask::mask_of;
 use cif_calendar::{Calendar, Entry};
 use cif_columns::{Day, DaysRun};
@@ -40,7 +43,8 @@ fn goes_on<E: Entry>(
 }
 
 /// Appends the run that begins on a weekday of the week, if one does, and gives the weekdays of its
-/// body, that of the entry at `source`. No earlier weekday has that body.
+/// body, that of the entry at `source`. No earlier weekday has that body, and nothing runs after the
+/// week `end`.
 fn begin_run<E: Entry>(
     runs: &mut Vec<Run>,
     entries: &[E],
@@ -48,6 +52,7 @@ fn begin_run<E: Entry>(
     form: Form,
     before: &Row,
     week: &Week,
+    end: u32,
     weekday: u8,
     source: usize,
 ) -> Result<DaysRun, AllocError>
@@ -56,6 +61,8 @@ fn begin_run<E: Entry>(
     requires first { (earlier : ℕ) → earlier < weekday →
         ¬ HaveOneBody (map E.terms entries.now) week.now.row earlier weekday }
     requires sources { AreSources (map E.terms entries.now) calendar.now }
+    requires end { (n i : ℕ) → source_in calendar.now n ≡ Some i → week_of n ≤ end }
+    requires end_within { end ≤ week_of calendar.now.last }
     requires in_range { IsDay calendar.now.last }
     requires before { IsRowBefore calendar.now week.now.number before.now }
     requires week { IsWeek calendar.now week.now }
@@ -73,11 +80,12 @@ fn begin_run<E: Entry>(
         Some(first) => first,
         None => unreachable!(),
     };
-    runs.push(longest(entries, calendar, form, week, first, days, source))?;
+    runs.push(longest(entries, calendar, form, week, end, first, days, source))?;
     Ok(days)
 }
 
-/// Appends the runs that begin in the week, in the order of their first dates.
+/// Appends the runs that begin in the week, in the order of their first dates. Nothing runs after
+/// the week `end`.
 fn begin_runs<E: Entry>(
     runs: &mut Vec<Run>,
     entries: &[E],
@@ -85,8 +93,11 @@ fn begin_runs<E: Entry>(
     form: Form,
     before: &Row,
     week: &Week,
+    end: u32,
 ) -> Result<(), AllocError>
     requires sources { AreSources (map E.terms entries.now) calendar.now }
+    requires end { (n i : ℕ) → source_in calendar.now n ≡ Some i → week_of n ≤ end }
+    requires end_within { end ≤ week_of calendar.now.last }
     requires in_range { IsDay calendar.now.last }
     requires before { IsRowBefore calendar.now week.now.number before.now }
     requires week { IsWeek calendar.now week.now }
@@ -100,7 +111,9 @@ fn begin_runs<E: Entry>(
     for weekday in 0..7u8 {
         if let Some(source) = week.row[usize::from(weekday)] {
             if !seen.has(weekday) {
-                let days = begin_run(runs, entries, calendar, form, before, week, weekday, source)?;
+                let days = begin_run(
+                    runs, entries, calendar, form, before, week, end, weekday, source,
+                )?;
                 seen = seen.union(days);
             }
         }
@@ -138,12 +151,14 @@ pub fn runs_in_room<E: Entry>(
 {
     let mut runs = room;
     runs.clear();
-    let end = last_week(calendar);
+    let weeks = busy_weeks(calendar);
     let mut before = [None; 7];
-    let mut number = calendar.window().first.week();
-    while number <= end {
+    let mut number = weeks.first;
+    while number <= weeks.last {
         let week = Week::of(calendar, number);
-        begin_runs(&mut runs, entries, calendar, form, &before, &week)?;
+        begin_runs(
+            &mut runs, entries, calendar, form, &before, &week, weeks.last,
+        )?;
         before = week.row;
         number = week.last_alike + 1;
     }

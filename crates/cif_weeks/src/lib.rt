@@ -2,6 +2,7 @@
 //! runs on each day determines them.
 #![tactic(auto)]
 
+mod busy_weeks;
 mod form;
 mod joined;
 pub mod laws;

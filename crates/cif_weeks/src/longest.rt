@@ -2,7 +2,7 @@
 
 ghost use Rattle.std.specs.Prelude.{◌≡◌, ◌<◌, ◌≤◌, ◌+◌, ◌↔◌, ℕ, Some};
 ghost use Rattle.std.specs.Prelude.{length, map, IsTrue, MatchBool};
-ghost use Rattle.cif_columns.specs.Day.{week_of, weekday_of};
+ghost use Rattle.cif_columns.specs.Day.{IsDay, week_of, weekday_of};
 ghost use Rattle.cif_calendar.specs.Source.{body_at};
 ghost use Rattle.cif_weeks.specs.Steps.Growing.{HasEnded, IsGrown};
 ghost use Rattle.cif_weeks.specs.Runs.{AreSources, record_of, window_of};
@@ -11,7 +11,7 @@ ghost use Rattle.cif_weeks.specs.Steps.WeekRows.{body_in, source_in, IsMaskOf, I
 
 use crate::form::Form;
 use crate::run::Run;
-use crate::week::{Week, last_week};
+use crate::week::Week;
 use crate::week_mask::{last_day, mask_of};
 use cif_calendar::{Calendar, Entry, Window};
 use cif_columns::{DAYS_IN_WEEK, Day, DaysRun};
@@ -76,12 +76,13 @@ fn agree_by_weekday(
 }
 
 /// The longest run that begins on `first`, in `week`, with the body of the entry at `source`, which
-/// runs in that week on `days`.
+/// runs in that week on `days`. Nothing runs after the week `end`.
 pub(crate) fn longest<E: Entry>(
     entries: &[E],
     calendar: &Calendar,
     form: Form,
     week: &Week,
+    end: u32,
     first: Day,
     days: DaysRun,
     source: usize,
@@ -89,6 +90,9 @@ pub(crate) fn longest<E: Entry>(
     requires position { source < length entries.now }
     requires sources { AreSources (map E.terms entries.now) calendar.now }
     requires week { IsWeek calendar.now week.now }
+    requires end { (n i : ℕ) → source_in calendar.now n ≡ Some i → week_of n ≤ end }
+    requires end_within { end ≤ week_of calendar.now.last }
+    requires in_range { IsDay calendar.now.last }
     requires in_week { week_of first ≡ week.now.number }
     requires days { IsMaskOf (map E.terms entries.now) week.now.row source days }
     requires starts { source_in calendar.now first ≡ Some source }
@@ -104,7 +108,6 @@ pub(crate) fn longest<E: Entry>(
         HasEnded form (window_of calendar.now) (body_in (map E.terms entries.now) calendar.now)
         (record_of result b) }
 {
-    let end = last_week(calendar);
     let mut last = week.last_like(last_day(week.number, days).unwrap_or(first));
     let mut number = week.last_alike;
     let mut before = days;

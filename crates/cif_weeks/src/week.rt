@@ -1,7 +1,7 @@
 //! The weeks of a calendar.
 
 ghost use Rattle.std.specs.Prelude.{◌≡◌, ◌≤◌, ◌+◌, ◌-◌, ◌*◌, IfSome};
-ghost use Rattle.cif_columns.specs.Day.{IsDay, week_of};
+ghost use Rattle.cif_columns.specs.Day.{IsDay, week_of, weekday_of};
 ghost use Rattle.cif_weeks.specs.Steps.WeekRows.{HasBegun, IsInPiece, IsRowBefore, IsWeek};
 
 use cif_calendar::{Calendar, Piece};
@@ -52,6 +52,31 @@ fn row_by_days(calendar: &Calendar, week: u32) -> Row
     row
 }
 
+/// The sources of the days of a week whose Monday is in the piece.
+fn row_from(calendar: &Calendar, piece: &Piece, week: u32, monday: Day) -> Row
+    requires in_week { week_of monday ≡ week }
+    requires weekday { weekday_of monday ≡ 0 }
+    requires from { calendar.now.first ≤ monday }
+    requires upto { monday ≤ calendar.now.last }
+    requires begun { HasBegun calendar.now piece.now monday }
+    ensures { IsRowBefore calendar.now (week + 1) result }
+{
+    let last = calendar.window().last;
+    let mut row = [None; 7];
+    let mut begun = Some(piece);
+    let mut day = monday;
+    for weekday in 0..7u8 {
+        let piece = piece_of(calendar, begun, day);
+        row[usize::from(weekday)] = piece.winners[usize::from(weekday)];
+        begun = Some(piece);
+        match day.next_up_to(last) {
+            Some(next) => day = next,
+            None => return row,
+        }
+    }
+    row
+}
+
 /// A week of a calendar, and how far the weeks after it are like it.
 #[derive(Clone, Copy)]
 pub(crate) struct Week {
@@ -82,29 +107,45 @@ impl Week {
         }
     }
 
-    /// The week, where it lies whole in one piece.
-    fn whole(calendar: &Calendar, number: u32) -> Option<Week>
-        ensures { IfSome result (λ week. (week.number ≡ number) × IsWeek calendar.now week) }
+    /// The week of a Monday that is in the piece.
+    fn from_monday(calendar: &Calendar, piece: &Piece, number: u32, monday: Day) -> Week
+        requires number { week_of monday ≡ number }
+        requires weekday { weekday_of monday ≡ 0 }
+        requires from { calendar.now.first ≤ monday }
+        requires upto { monday ≤ calendar.now.last }
+        requires begun { HasBegun calendar.now piece.now monday }
+        ensures number { result.number ≡ number }
+        ensures week { IsWeek calendar.now result }
     {
-        let window = calendar.window();
-        let monday = Day::in_week(number, 0)?;
-        if monday < window.first || window.last < monday {
-            return None;
+        match Week::in_piece(piece, number) {
+            Some(week) => week,
+            None => Week {
+                number,
+                row: row_from(calendar, piece, number, monday),
+                last_alike: number,
+            },
         }
-        Week::in_piece(calendar.piece_on(monday), number)
     }
 
     pub(crate) fn of(calendar: &Calendar, number: u32) -> Week
         ensures number { result.number ≡ number }
         ensures week { IsWeek calendar.now result }
     {
-        match Week::whole(calendar, number) {
-            Some(week) => week,
-            None => Week {
-                number,
-                row: row_by_days(calendar, number),
-                last_alike: number,
-            },
+        let window = calendar.window();
+        if let Some(monday) = Day::in_week(number, 0) {
+            if window.first <= monday && monday <= window.last {
+                return Week::from_monday(
+                    calendar,
+                    piece_of(calendar, None, monday),
+                    number,
+                    monday,
+                );
+            }
+        }
+        Week {
+            number,
+            row: row_by_days(calendar, number),
+            last_alike: number,
         }
     }
 

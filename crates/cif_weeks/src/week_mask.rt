@@ -1,7 +1,7 @@
 //! The weekdays of one body in a week.
 
-ghost use Rattle.std.specs.Prelude.{◌≡◌, ◌<◌, ◌≤◌, ◌↔◌, ℕ, Some, None, length, map, IsTrue, MatchOption};
-ghost use Rattle.std.specs.Prelude.{slice_index_or};
+ghost use Rattle.std.specs.Prelude.{◌≡◌, ◌<◌, ◌≤◌, ◌↔◌, ℕ, Some, None, length, map, IsTrue};
+ghost use Rattle.std.specs.Prelude.{slice_index_or, MatchOption};
 ghost use Rattle.cif_columns.specs.Day.{IsDay, week_of, weekday_of};
 ghost use Rattle.cif_columns.specs.DaysRun.{RunsOn};
 ghost use Rattle.cif_calendar.specs.Source.{body_at};
@@ -12,18 +12,14 @@ use crate::week::Row;
 use cif_calendar::{Entry, same_body};
 use cif_columns::{Day, DaysRun};
 
-/// Whether the body at a source is that of the entry at `position`.
-fn has_body<E: Entry>(entries: &[E], source: Option<usize>, position: usize) -> bool
-    requires position { position < length entries.now }
-    requires source { (i : ℕ) → source ≡ Some i → i < length entries.now }
-    ensures { IsTrue result ↔ ((i : ℕ) × (source ≡ Some i)
-        × (body_at (map E.terms entries.now) (Some i)
-        ≡ body_at (map E.terms entries.now) (Some position))) }
+/// Whether the entries at two positions have one body.
+fn have_one_body<E: Entry>(entries: &[E], one: usize, other: usize) -> bool
+    requires one { one < length entries.now }
+    requires other { other < length entries.now }
+    ensures { IsTrue result ↔ (body_at (map E.terms entries.now) (Some one)
+        ≡ body_at (map E.terms entries.now) (Some other)) }
 {
-    match source {
-        None => false,
-        Some(other) => { other == position || same_body(&entries[other], &entries[position]) }
-    }
+    same_body(&entries[one], &entries[other])
 }
 
 /// The first weekday that has the source of this one.
@@ -49,17 +45,20 @@ pub(crate) fn mask_of<E: Entry>(entries: &[E], row: &Row, position: usize) -> Da
     let mut days = [false; 7];
     for weekday in 0..7u8 {
         let source = row[usize::from(weekday)];
-        days[usize::from(weekday)] = if source == Some(position) {
-            true
-        } else {
-            // The body of another source is compared once, on the first weekday that has it.
-            let first = first_with_source(row, weekday);
-            if first < weekday {
-                days[usize::from(first)]
-            } else {
-                has_body(entries, source, position)
+        let runs = match source {
+            None => false,
+            Some(other) if other == position => true,
+            Some(other) => {
+                // The body of another source is compared once, on the first weekday that has it.
+                let first = first_with_source(row, weekday);
+                if first < weekday {
+                    days[usize::from(first)]
+                } else {
+                    have_one_body(entries, other, position)
+                }
             }
         };
+        days[usize::from(weekday)] = runs;
     }
     DaysRun::of(days)
 }

@@ -9,6 +9,9 @@ use Rattle.cif_calendar.specs.Meaning.{SameMeaning}
 use Rattle.cif_calendar.specs.Runs.{BodyRuns}
 use Rattle.cif_calendar.specs.declared.calendar_fault.CalendarFault.{CalendarFault}
 use Rattle.cif_calendar.specs.declared.calendar_fault.CalendarFault.TheVariants as calendar
+use Rattle.cif_extract.specs.declared.fault.Fault.{Fault}
+use Rattle.cif_extract.specs.declared.fault.Fault.TheVariants as fault
+use Rattle.cif_extract.specs.declared.fault.Fault.TheVariants.{Ambiguous}
 use Rattle.cif_weeks.specs.Canonical.{AreCanonical, with_key}
 use Rattle.cif_weeks.specs.HaveForm.{HaveForm}
 use Rattle.cif_weeks.specs.Permanent.{Permanent, Permanents, permanent_entries}
@@ -76,3 +79,9 @@ pub record IsClashAt {K B : Type 0} (cmp : K → K → Ordering) (entries : List
 abbrev pub IsRecordsFault : {K B : Type 0} → (K → K → Ordering) → List (K × Terms B) → Window → RecordsFault → Type 0
 IsRecordsFault cmp entries window (Clash member day) = IsClashAt cmp entries window member day
 IsRecordsFault cmp entries window Memory = ⊤
+
+-- the fault of an extract is of the same kind: Ambiguous of a clash, and Memory of Memory
+abbrev pub IsSameKind : RecordsFault → Fault → Type 0
+IsSameKind (Clash member day) (Ambiguous clash) = ⊤
+IsSameKind Memory fault.Memory = ⊤
+IsSameKind _ _ = ⊥

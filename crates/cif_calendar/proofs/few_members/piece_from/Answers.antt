@@ -1,7 +1,15 @@
--- No record begins or ends within the piece, so the winners of its first week are those of all its days (`piece-from_week`).
+-- No record begins or ends within the piece, so the standings of its first date are those of all (`piece-judged`); where one is
+-- disputed, the winners of the first week are asked one by one (`piece-from_week`).
 use Rattle.std.proofs.Common.{map}
 use Rattle.cif_calendar.proofs.Alike.{piece-from_week}
+use Rattle.cif_calendar.proofs.Standings.{piece-judged}
 use Rattle.cif_calendar.proofs.few_members.piece_from.Goals as goal
+
+pub returns-in-Some-clause-piece : goal.returns-in-Some-clause-piece
+returns-in-Some-clause-piece g c =
+    piece-judged (map g.E.Entry.terms c.args.entries.now) c.args.members.now c.args.first c.end_of_piece-end.result
+    c.standings_from-standings.result c.in-Some.winners c.end_of_piece-end.ensures.unbroken c.standings_from-standings.ensures.stands
+    c.in-Some.ensures
 
 pub returns-in-Ok-clause-piece : goal.returns-in-Ok-clause-piece
 returns-in-Ok-clause-piece g c =

@@ -1,10 +1,9 @@
--- Distinct locations and the runs of both kinds make a canonical form (`CanonForm`), whose bytes are unique (`normal-unique`).
+-- Distinct locations and the runs of both kinds make a canonical form (`CanonForm`).
 use Rattle.std.proofs.Common.{length, ap, sym, ◌∙◌, subst}
 use Rattle.cif_extract.specs.ExtractParts.{extract_parts}
 use Rattle.cif_canon.specs.Canon.{IsCanonOf}
 use Rattle.cif_canon.specs.Steps.Tiplocs.{AreDistinct}
-use Rattle.cif_canon.proofs.CanonForm.{associations-have, canonical-of, is-canon, schedules-have}
-use Rattle.cif_canon.proofs.NormalForms.{normal-unique}
+use Rattle.cif_canon.proofs.CanonForm.{associations-have, is-canon, schedules-have}
 use Rattle.cif_canon.proofs.canonical.canon.Goals as goal
 
 pub of-requires-clause-associations : goal.of-requires-clause-associations
@@ -33,9 +32,4 @@ returns-clause-ok c =
     }) (sym c.of.ensures.text)
     ∙ ap (λ n. record { text = c.of.result.text; counts = n }) (sym c.of.ensures.counts))
     (is-canon c.args.form (extract_parts c.args.extract.now) c.in-Ok.tiplocs.items distinct c.in_ok-runs.runs.associations.items
-    c.in_ok-runs.ensures.associations c.in_ok-runs.runs.schedules.items c.in_ok-runs.ensures.schedules)
-
-pub returns-clause-unique : goal.returns-clause-unique
-returns-clause-unique c fits =
-    normal-unique c.args.form (extract_parts c.args.extract.now) c.of.result.text
-    (canonical-of c.args.form (extract_parts c.args.extract.now) c.of.result (returns-clause-ok c) fits)
+    c.in_ok-runs.ensures.associations c.in_ok-runs.runs.schedules.items c.in_ok-runs.ensures.schedules c.fits.ensures)

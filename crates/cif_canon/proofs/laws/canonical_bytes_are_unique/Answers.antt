@@ -9,7 +9,7 @@ pub returns-clause-unique : goal.returns-clause-unique
 returns-clause-unique c = normal-unique
 
 pub returns-clause-again : goal.returns-clause-again
-returns-clause-again c = its-own
+returns-clause-again c form asked input x bytes a p = its-own form x bytes p asked a.whole a.narrowed
 
 pub returns-clause-forms : goal.returns-clause-forms
-returns-clause-forms c = reached
+returns-clause-forms c form asked input x bytes a p = reached form x bytes p asked a.whole a.narrowed

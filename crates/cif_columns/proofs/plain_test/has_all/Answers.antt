@@ -1,38 +1,21 @@
--- A column is among the first 64 or among columns 64 to 79, each with a loop of its own: `below_all` joins what they tell.
-use Rattle.std.proofs.Common.{◌≡◌, ◌<◌, ◌≤◌, ℕ, Bool, ◌&&◌, true, false, nat_lt, refl, arith}
-use Rattle.std.proofs.lemmas.Bool.{and_parts}
-use Rattle.std.proofs.lemmas.Bool.Decides.{nat_tests}
+-- Each step adds what its six tests say, and sixteen steps see each column (`passes_by_fifths`).
+use Rattle.std.proofs.Common.{◌≡◌, ◌<◌, ◌≤◌, ℕ, arith, refl, subst}
+use Rattle.std.proofs.lemmas.Bool.{not-true, not_from_false}
+use Rattle.cif_columns.proofs.LineFifths.{AreMet, none_more, none_of_six, passes_by_fifths}
 use Rattle.cif_columns.proofs.plain_test.has_all.Goals as goal
 
-all_four : (a b c d : Bool) → a ≡ true → b ≡ true → c ≡ true → d ≡ true → a && b && c && d ≡ true
-all_four true true true d p q r s = s
-all_four true true false d p q r s = cc
-all_four true false c d p q r s = cc
-all_four false b c d p q r s = cc
-
--- what holds below 64, and from 63 on below 79, holds below 79
-below_all : (P : ℕ → Type 0) → ((k : ℕ) → k < 64 → P k) → ((k : ℕ) → 63 ≤ k → k < 79 → P k) → (k : ℕ) → k < 79 → P k
-below_all P first last k lt = at (nat_lt k 64) refl
-  where
-    at : (b : Bool) → nat_lt k 64 ≡ b → P k
-    at true e = first k (grind (arith, nat_tests))
-    at false e = last k (grind (arith, nat_tests)) lt
+pub loop-i-preserved : goal.loop-i-preserved
+loop-i-preserved c =
+    let test = c.args.test.now in
+    let line = c.args.columns.now in
+    none_more c.loop-i.fails _ (AreMet test line) c.loop-i.i c.loop-i.invariant
+    (none_of_six _ _ _ _ _ _ test line c.loop-i.i c.fails_timed.ensures c.fails_timed-in-loop-i.ensures
+    c.fails_followed.ensures c.fails_followed-in-loop-i.ensures c.is_unfollowed.ensures c.is_out_of_range.ensures)
 
 pub returns : goal.returns
-returns c = (
-  (λ yes.
-      let d = and_parts _ _ yes in
-      let b = and_parts _ _ d.0 in
-      let a = and_parts _ _ b.0 in
-      record {
-        in_range = c.are_in_range.ensures.0 a.0;
-        followed = below_all _ (λ k lt. (c.are_followed.ensures.0 a.1 k lt).0) (c.last_are_followed.ensures.0 b.1);
-        followed_over = λ k lt. (c.are_followed.ensures.0 a.1 k lt).1;
-        timed = c.are_timed.ensures.0 d.1;
-      }),
-  (λ h.
-      all_four _ _ _ _ (c.are_in_range.ensures.1 h.in_range)
-      (c.are_followed.ensures.1 (λ k lt. (h.followed k (omega (arith, lt)), h.followed_over k lt)))
-      (c.last_are_followed.ensures.1 (λ k from lt. h.followed k lt))
-      (c.are_timed.ensures.1 h.timed)),
-)
+returns c =
+    let all = passes_by_fifths c.args.test.now c.args.columns.now in
+    let end : c.loop-i.i ≡ 16 = omega (arith, c.loop-i-test.false, c.loop-i.auto.i-end) in (
+      (λ yes. all.0 (λ k lt. c.loop-i.invariant.0 (not-true c.loop-i.fails yes) k (omega (arith, end, lt)))),
+      (λ h. not_from_false c.loop-i.fails (c.loop-i.invariant.1 (λ k lt. all.1 h k (omega (arith, end, lt))))),
+    )

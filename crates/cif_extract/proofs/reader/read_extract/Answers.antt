@@ -1,12 +1,14 @@
 -- The invariant names the lines so far: one more (`come_more`), one refused (`at_line`) and the end are said of them all.
-use Rattle.std.proofs.Common.{◌≡◌, ◌+◌, ◌<◌, ◌≤◌, length, [], ◌++◌, ◌∷◌, Err, IfErr, IfOk, Ok, Result}
+use Rattle.std.proofs.Common.{◌≡◌, ◌+◌, ◌<◌, ◌≤◌, length, ℕ, List, [], ◌++◌, ◌∷◌, Err, IfErr, IfSome, Ok, Option, Result, Some}
 use Rattle.std.proofs.Common.{◌∙◌, ap, arith, refl, rules, subst, sym}
 use Rattle.std.proofs.lemmas.Result.{err_from_is_err_and}
 use Rattle.cif_columns.proofs.GivenLinesLaws.{known_so, nothing_left, reading_ends, reading_faults, reading_line}
 use Rattle.cif_columns.proofs.ReadSources.{read_on_both}
 use Rattle.cif_columns.specs.LineReader.{given}
+use Rattle.cif_columns.specs.Source.{reader_of}
+use Rattle.cif_columns.specs.declared.source.Source.{Source}
 use Rattle.cif_extract.specs.Fault.{of_line_fault}
-use Rattle.cif_extract.specs.ReadFault.{IsOfReading, IsReadFault}
+use Rattle.cif_extract.specs.ReadFault.{IsOfReading, IsReadFault, LeavesNothing}
 use Rattle.cif_extract.specs.Steps.Reading.{progress_of}
 use Rattle.cif_extract.proofs.FirstRefusals.{at_fault, at_line, fault_handed_on, if_error, line_fault_of_reading}
 use Rattle.cif_extract.proofs.ReadingRuns.{HasCome, come_more, come_none, refused_here, refused_reason, untaken_of_reading, untaken_result}
@@ -14,10 +16,11 @@ use Rattle.cif_extract.proofs.ReadingRuns.{unfinished_of_reading, unfinished_res
 use Rattle.cif_extract.proofs.SpelledBytes.{only_fault, only_read}
 use Rattle.cif_extract.proofs.reader.read_extract.Goals as goal
 
--- what holds anyway holds where there is an extract
-if_extract : {A E : Type 0} {P : Type 0} (r : Result A E) → P → IfOk r (λ _. P)
-if_extract (Ok a) h = h
-if_extract (Err e) h = tt
+-- nothing is left, whether there is an extract or not
+if_done : {R A E : Type 0} (remaining : R → Option (List ℕ)) (old new : Source R) (r : Result A E) →
+    IfSome (remaining (reader_of old)) (λ bytes. remaining (reader_of new) ≡ Some []) → LeavesNothing remaining old new r
+if_done remaining old new (Ok a) h = h
+if_done remaining old new (Err e) h = tt
 
 pub loop-reading-preserved : goal.loop-reading-preserved
 loop-reading-preserved g c =
@@ -54,7 +57,8 @@ returns-in-Err-clause-fault g c =
     c.line_number.result why
     now number
     (refused_here c.args.max_lines ls line c.take.ensures.line room (progress_of c.loop-reading.reading) come
-    ∙ refused_reason _ line (progress_of c.loop-reading.reading) (progress_of c.take.new.self) c.in-Err.fault why c.in-Err.ensures.taken e)))
+    ∙ refused_reason _ line (progress_of c.loop-reading.reading) (progress_of c.take.new.self) c.in-Err.fault why
+    c.in-Err.ensures.taken e)))
 
 pub returns-in_err-is_line-clause-fault : goal.returns-in_err-is_line-clause-fault
 returns-in_err-is_line-clause-fault g c =
@@ -130,7 +134,7 @@ pub returns-else-is_line-clause-end : goal.returns-else-is_line-clause-end
 returns-else-is_line-clause-end g c =
     let (ls, so_far, come, read_on) = c.loop-reading.invariant in
     let next = rw c.if-is_line.false at c.in_ok-is_line.ensures in
-    known_so _ _ _ (λ bytes none. if_extract c.finish.result none)
+    if_done g.R.Read.remaining c.args.source.now c.read_line.new.source c.finish.result
     (nothing_left g.R.Read.remaining _ _ _ _ ls so_far c.read_line.new.self c.read_line.new.source next.answer)
 
 pub returns-in_err-is_line-clause-device : goal.returns-in_err-is_line-clause-device

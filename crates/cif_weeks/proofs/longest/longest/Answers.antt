@@ -1,7 +1,6 @@
 -- The run grows by each week that joins, and by those like it (`Growth`); where the loop ends, each way out is an end of the run.
 use Rattle.std.proofs.Common.{◌+◌, ◌-◌, ◌*◌, ◌≤◌, map, sym, arith}
 use Rattle.cif_columns.specs.Day.{week_of}
-use Rattle.std.proofs.lemmas.Bool.Decides.{nat_tests}
 use Rattle.cif_weeks.proofs.Growth.{IsGrowing, source-body, row-positions, mask-of_row, mask-days, growing-first, growing-more}
 use Rattle.cif_weeks.proofs.Growth.{ended-differs, ended-rests, ended-over, growing-day}
 use Rattle.cif_weeks.proofs.SourcesIn.{source_in-inside}
@@ -14,7 +13,7 @@ pub last_day-requires : goal.last_day-requires
 last_day-requires g c =
     let xs = map g.E.Entry.terms c.args.entries.now in
     let some = source-body xs c.args.calendar.now c.requires.sources c.args.first c.args.source c.requires.starts in
-    mask-days xs c.args.calendar.now c.requires.sources c.args.week.now.number some.0 c.args.days c.last_week-end.ensures.in_range
+    mask-days xs c.args.calendar.now c.requires.sources c.args.week.now.number some.0 c.args.days c.requires.in_range
     (mask-of_row xs c.args.calendar.now c.requires.sources c.args.week.now.number c.args.source some.0 c.args.week.now.row c.args.days
     c.requires.week.row some.1 c.requires.days)
 
@@ -32,15 +31,14 @@ last_like-last-requires-clause-in_range g c =
     let some = source-body xs c.args.calendar.now c.requires.sources c.args.first c.args.source c.requires.starts in
     let day = growing-day c.args.form xs c.args.calendar.now c.requires.sources c.args.source c.args.first _ _ c.args.days c.args.days
     (begun g c) some.0 some.1 in
-    omega (arith, day, c.last_week-end.ensures.in_range)
+    omega (arith, day, c.requires.in_range)
 
 pub loop-number-init : goal.loop-number-init
 loop-number-init g c =
     let within = source_in-inside c.args.calendar.now c.args.first c.args.source c.requires.starts in
     let end : c.args.week.now.number ≤ week_of c.args.calendar.now.last = omega (arith, within.upto, c.requires.in_week) in
     record {
-      end_is = c.last_week-end.ensures.week;
-      upto = omega (arith, c.requires.week.upto end, c.last_week-end.ensures.week);
+      upto = c.requires.week.upto end;
       growing = rw c.last_like-last.ensures (begun g (goal.at.loop-number-init g c).After-unwrap_or);
     }
 
@@ -53,7 +51,7 @@ last_day-requires-in-loop-number g c =
     let xs = map g.E.Entry.terms c.args.entries.now in
     let some = source-body xs c.args.calendar.now c.requires.sources c.args.first c.args.source c.requires.starts in
     mask-days xs c.args.calendar.now c.requires.sources c.of-next.result.number some.0 c.mask_of-days.result
-    c.last_week-end.ensures.in_range
+    c.requires.in_range
     (mask-of_row xs c.args.calendar.now c.requires.sources c.of-next.result.number c.args.source some.0
     c.of-next.result.row c.mask_of-days.result c.of-next.ensures.week.row some.1 c.mask_of-days.ensures)
 
@@ -75,15 +73,14 @@ last_like-last-requires-in-Some-clause-in_range g c =
     let day = growing-day c.args.form xs c.args.calendar.now c.requires.sources c.args.source c.args.first _ _ _ _
     (grown g (goal.at.last_like-last-requires-in-Some-clause-in_range g c).After-union-mask)
     some.0 some.1 in
-    omega (arith, day, c.last_week-end.ensures.in_range)
+    omega (arith, day, c.requires.in_range)
 
 pub loop-number-preserved : goal.loop-number-preserved
 loop-number-preserved g c =
     let end : c.of-next.result.number ≤ week_of c.args.calendar.now.last =
-    omega (arith, c.if-number-end.false, c.of-next.ensures.number, c.last_week-end.ensures.week) in
+    omega (arith, c.if-number-end.false, c.of-next.ensures.number, c.requires.end_within) in
     record {
-      end_is = c.last_week-end.ensures.week;
-      upto = omega (arith, c.of-next.ensures.week.upto end, c.last_week-end.ensures.week);
+      upto = c.of-next.ensures.week.upto end;
       growing = rw c.last_like-last-in-Some.ensures (grown g (goal.at.loop-number-preserved g c).After-union-mask);
     }
 
@@ -93,7 +90,8 @@ returns-clause-ended g c b is =
     let growing = c.loop-number.invariant.growing in
     elim c.if-number-end.branch [
       | then-number-end w ↦ ended-over c.args.form xs c.args.calendar.now c.requires.sources c.args.source c.args.first
-          c.loop-number.number c.loop-number.last c.loop-number.before c.loop-number.mask growing b (grind (arith, nat_tests))
+          c.loop-number.number c.loop-number.last c.loop-number.before c.loop-number.mask growing b is
+          (λ n i is_i. let upto : week_of n ≤ c.args.end = c.requires.end n i is_i in omega (arith, w.if-number-end.true))
       | else-number-end+in_default-2 w ↦ ended-differs c.args.form xs c.args.calendar.now c.requires.sources c.args.source c.args.first
           c.loop-number.number c.loop-number.last c.loop-number.before c.loop-number.mask growing w.of-next.result w.of-next.ensures.number
           w.of-next.ensures.week w.mask_of-days.result w.mask_of-days.ensures b is

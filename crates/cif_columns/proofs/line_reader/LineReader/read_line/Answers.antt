@@ -1,10 +1,10 @@
--- What was found is told in the words of the subject by `LineAnswers`, which `search` would not try; it has the rest.
-use Rattle.std.proofs.Common.{None, drop, refl, rules}
+-- What was found is told in the words of the subject by `line_answered`, which `search` would not try; it has the rest.
+use Rattle.std.proofs.Common.{drop, refl, rules}
 use Rattle.std.proofs.KnownBytes.{Keeps-refl}
 use Rattle.cif_columns.specs.Ahead.{held_bytes, known_left}
 use Rattle.cif_columns.specs.declared.ahead.Found.TheVariants.{Next}
 use Rattle.cif_columns.proofs.FoundInHeld.{found_more}
-use Rattle.cif_columns.proofs.LineAnswers.{line_answered, refusal_answered, decides_nothing}
+use Rattle.cif_columns.proofs.LineAnswers.{line_answered}
 use Rattle.cif_columns.proofs.line_reader.LineReader.read_line.Goals as goal
 
 pub returns-then-line_with_feed : goal.returns-then-line_with_feed
@@ -18,21 +18,3 @@ returns-then-line_with_feed g c =
     (rw c.pass_line_with_feed.ensures (found_more _ _ (remaining c.args.source.now.reader) held (drop 81 held)
     (Next c.line_with_feed.new.line) (Keeps-refl _) (found.decided refl) (found.found refl))) in
     search (rules, answer)
-
-pub returns-in-Next : goal.returns-in-Next
-returns-in-Next g c =
-    let this = c.args.self.now in
-    let answer = line_answered this.limit this.given this.counted _ _ c.in-Next.next c.in-Next.ensures.found in
-    search (rules, answer)
-
-pub returns-in-Refused : goal.returns-in-Refused
-returns-in-Refused g c =
-    let this = c.args.self.now in
-    let answer = refusal_answered this.limit this.given this.counted _ None c.in-Refused.why c.in-Refused.ensures.found in
-    search (rules, answer)
-
-pub returns-in-Failed : goal.returns-in-Failed
-returns-in-Failed g c =
-    let this = c.args.self.now in
-    let undecided = decides_nothing this.limit this.given this.counted _ (c.in-Failed.ensures.undecided refl) in
-    search (rules, undecided)

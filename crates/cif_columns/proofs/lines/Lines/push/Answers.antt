@@ -6,11 +6,13 @@ use Rattle.cif_columns.proofs.lines.Lines.push.Goals as goal
 
 pub invariant_of-self-2 : goal.invariant_of-self-2
 invariant_of-self-2 c =
-    let items = pushed {xs = c.self.inside.texts.items} (c.text.result ∷ []) refl c.in_ok-push.was c.push.ensures.items in
-    texts_more c.self.inside.texts.items c.push.new.self.items c.text.result items c.self.invariant c.text.ensures.whole
+    let items = pushed {xs = c.reserve.new.self.items} (c.text.result ∷ []) refl c.in_ok-push.was c.push.ensures.items in
+    texts_more c.self.inside.texts.items c.push.new.self.items c.text.result (items ∙ ap (λ l. l ++ (c.text.result ∷ [])) c.reserve.ensures.items)
+    c.self.invariant c.text.ensures.whole
 
 pub returns : goal.returns
 returns c =
-    let items = pushed {xs = c.self.inside.texts.items} (c.text.result ∷ []) refl c.in_ok-push.was c.push.ensures.items in
-    lines_more c.self.inside.texts.items c.push.new.self.items c.text.result c.args.line.now items c.text.ensures.line
+    let items = pushed {xs = c.reserve.new.self.items} (c.text.result ∷ []) refl c.in_ok-push.was c.push.ensures.items in
+    lines_more c.self.inside.texts.items c.push.new.self.items c.text.result c.args.line.now
+    (items ∙ ap (λ l. l ++ (c.text.result ∷ [])) c.reserve.ensures.items) c.text.ensures.line
     ∙ ap (λ lines. lines ++ (c.args.line.now ∷ [])) c.self.view_is

@@ -6,7 +6,8 @@ use Rattle.cif_extract.proofs.reading.Reading.take.Goals as goal
 
 pub returns-in-Li-clause-taken : goal.returns-in-Li-clause-taken
 returns-in-Li-clause-taken c =
-    subst (λ refusal. IsTaken refusal c.args.line.now (progress_of c.args.self.now) c.take_on_the_way.result (progress_of c.take_on_the_way.new.self))
+    subst (λ refusal. IsTaken refusal c.args.line.now (progress_of c.args.self.now) c.take_on_the_way.result
+    (progress_of c.take_on_the_way.new.self))
     (sym (refusal_of_record c.args.self.now.place c.args.line.now c.in-Some.kind (sym c.kind_of.ensures.kind ∙ c.in-Some.is)
     (sym c.allows.ensures ∙ c.if-not-allows.false))) c.take_on_the_way.ensures
 

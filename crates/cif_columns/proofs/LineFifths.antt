@@ -1,0 +1,122 @@
+-- A test of a line that takes one column of each fifth in a step.
+use Rattle.std.proofs.Common.{◌≡◌, ℕ, ◌+◌, ◌-◌, ◌<◌, ◌≤◌, ◌↔◌, ◌⊎◌, inl, inr, Bool, true, false, ◌||◌, List, refl, sym, ap, subst, arith}
+use Rattle.std.proofs.lemmas.Bool.{cases_lt, or_from, or_parts}
+use Rattle.cif_columns.proofs.EachOfFifths.{each_of_fifths, from_column}
+use Rattle.cif_columns.specs.PlainTest.{IsFollowed, IsFollowedOver, IsInRange, IsTimed, Passes}
+use Rattle.cif_columns.specs.declared.plain_test.PlainTest.{PlainTest}
+
+-- what the test asks of one of the first 64 columns, and of one of the first 32
+abbrev pub MeetsFollowed : PlainTest → List ℕ → ℕ → Type 0
+MeetsFollowed t line k = IsInRange t line k × IsFollowed t line k × IsFollowedOver t line k
+
+abbrev pub MeetsTimed : PlainTest → List ℕ → ℕ → Type 0
+MeetsTimed t line k = IsInRange t line k × IsFollowed t line k × IsFollowedOver t line k × IsTimed t line k
+
+-- what it asks of the columns that one step looks at
+pub record AreMet (t : PlainTest) (line : List ℕ) (k : ℕ) : Type 0 where
+  pub first : MeetsTimed t line k
+  pub second : MeetsTimed t line (16 + k)
+  pub third : MeetsFollowed t line (32 + k)
+  pub fourth : MeetsFollowed t line (48 + k)
+  pub before_fifth : IsFollowed t line (63 + k)
+  pub fifth : IsInRange t line (64 + k)
+
+-- six tests that all have to answer false
+pub none_of_six : (a b c d e f : Bool) (t : PlainTest) (line : List ℕ) (k : ℕ)
+    → ((a ≡ false) ↔ MeetsTimed t line k) → ((b ≡ false) ↔ MeetsTimed t line (16 + k))
+    → ((c ≡ false) ↔ MeetsFollowed t line (32 + k)) → ((d ≡ false) ↔ MeetsFollowed t line (48 + k))
+    → ((e ≡ false) ↔ IsFollowed t line (63 + k)) → ((f ≡ false) ↔ IsInRange t line (64 + k))
+    → (a || b || c || d || e || f ≡ false) ↔ AreMet t line k
+none_of_six a b c d e f t line k p q r s u v = (
+  (λ none.
+      let n5 = or_parts (a || b || c || d || e) f none in
+      let n4 = or_parts (a || b || c || d) e n5.0 in
+      let n3 = or_parts (a || b || c) d n4.0 in
+      let n2 = or_parts (a || b) c n3.0 in
+      let n1 = or_parts a b n2.0 in
+      record {
+        first = p.0 n1.0;
+        second = q.0 n1.1;
+        third = r.0 n2.1;
+        fourth = s.0 n3.1;
+        before_fifth = u.0 n4.1;
+        fifth = v.0 n5.1;
+      }),
+  (λ met.
+      or_from (a || b || c || d || e) f
+      (or_from (a || b || c || d) e
+      (or_from (a || b || c) d
+      (or_from (a || b) c
+      (or_from a b (p.1 met.first) (q.1 met.second))
+      (r.1 met.third)) (s.1 met.fourth)) (u.1 met.before_fifth)) (v.1 met.fifth)),
+)
+
+-- the next step of a loop that has found no fault so far
+pub none_more : (found this : Bool) (P : ℕ → Type 0) (i : ℕ) → ((found ≡ false) ↔ ((k : ℕ) → k < i → P k)) → ((this ≡ false) ↔ P i)
+    → (found || this ≡ false) ↔ ((k : ℕ) → k < i + 1 → P k)
+none_more found this P i before here = (
+  (λ none k lt.
+      let n = or_parts found this none in
+      at n.0 n.1 k lt (cases_lt k i)),
+  (λ all. or_from found this (before.1 (λ k lt. all k (omega (arith, lt)))) (here.1 (all i (omega arith)))),
+)
+  where
+    at : found ≡ false → this ≡ false → (k : ℕ) → k < i + 1 → (k < i) ⊎ (i ≤ k) → P k
+    at none now k lt (inl below) = before.0 none k below
+    at none now k lt (inr above) = let same : i ≡ k = omega (arith, lt, above) in subst P same (here.0 now)
+
+module _ (t : PlainTest) (line : List ℕ) (met : (k : ℕ) → k < 16 → AreMet t line k) where
+  in_range : (k : ℕ) → k < 80 → IsInRange t line k
+  in_range = each_of_fifths (λ n. IsInRange t line n) (λ n l.
+      let m = met n l in
+      record { first = m.first.0; second = m.second.0; third = m.third.0; fourth = m.fourth.0; fifth = m.fifth })
+
+  followed : (k : ℕ) → k < 79 → IsFollowed t line k
+  followed k lt = at (cases_lt k 16) (cases_lt k 32) (cases_lt k 48) (cases_lt k 63)
+    where
+      at : (k < 16) ⊎ (16 ≤ k) → (k < 32) ⊎ (32 ≤ k) → (k < 48) ⊎ (48 ≤ k) → (k < 63) ⊎ (63 ≤ k) → IsFollowed t line k
+      at (inl a) b c d = (met k a).first.1
+      at (inr z) (inl a) c d = from_column (λ n. IsFollowed t line n) 16 (λ n l. (met n l).second.1) k z (omega (arith, a))
+      at (inr y) (inr z) (inl a) d = from_column (λ n. IsFollowed t line n) 32 (λ n l. (met n l).third.1) k z (omega (arith, a))
+      at (inr x) (inr y) (inr z) (inl a) = from_column (λ n. IsFollowed t line n) 48 (λ n l. (met n l).fourth.1) k z (omega (arith, a))
+      at (inr w) (inr x) (inr y) (inr z) = from_column (λ n. IsFollowed t line n) 63 (λ n l. (met n l).before_fifth) k z (omega (arith, lt))
+
+  followed_over : (k : ℕ) → k < 64 → IsFollowedOver t line k
+  followed_over k lt = at (cases_lt k 16) (cases_lt k 32) (cases_lt k 48)
+    where
+      at : (k < 16) ⊎ (16 ≤ k) → (k < 32) ⊎ (32 ≤ k) → (k < 48) ⊎ (48 ≤ k) → IsFollowedOver t line k
+      at (inl a) b c = (met k a).first.2
+      at (inr z) (inl a) c = from_column (λ n. IsFollowedOver t line n) 16 (λ n l. (met n l).second.2) k z (omega (arith, a))
+      at (inr y) (inr z) (inl a) = from_column (λ n. IsFollowedOver t line n) 32 (λ n l. (met n l).third.2) k z (omega (arith, a))
+      at (inr x) (inr y) (inr z) = from_column (λ n. IsFollowedOver t line n) 48 (λ n l. (met n l).fourth.2) k z (omega (arith, lt))
+
+  timed : (k : ℕ) → k < 32 → IsTimed t line k
+  timed k lt = at (cases_lt k 16)
+    where
+      at : (k < 16) ⊎ (16 ≤ k) → IsTimed t line k
+      at (inl a) = (met k a).first.3
+      at (inr z) = from_column (λ n. IsTimed t line n) 16 (λ n l. (met n l).second.3) k z (omega (arith, lt))
+
+-- the line is as the test wants it exactly if the sixteen steps find nothing else
+pub passes_by_fifths : (t : PlainTest) (line : List ℕ) → ((k : ℕ) → k < 16 → AreMet t line k) ↔ Passes t line
+passes_by_fifths t line = (
+  (λ met. record {
+    in_range = in_range t line met;
+    followed = followed t line met;
+    followed_over = followed_over t line met;
+    timed = timed t line met;
+  }),
+  (λ h k lt. record {
+    first = (h.in_range k (omega (arith, lt)), h.followed k (omega (arith, lt)), h.followed_over k (omega (arith, lt)), h.timed k (omega (arith, lt)));
+    second = (
+      h.in_range (16 + k) (omega (arith, lt)),
+      h.followed (16 + k) (omega (arith, lt)),
+      h.followed_over (16 + k) (omega (arith, lt)),
+      h.timed (16 + k) (omega (arith, lt)),
+    );
+    third = (h.in_range (32 + k) (omega (arith, lt)), h.followed (32 + k) (omega (arith, lt)), h.followed_over (32 + k) (omega (arith, lt)));
+    fourth = (h.in_range (48 + k) (omega (arith, lt)), h.followed (48 + k) (omega (arith, lt)), h.followed_over (48 + k) (omega (arith, lt)));
+    before_fifth = h.followed (63 + k) (omega (arith, lt));
+    fifth = h.in_range (64 + k) (omega (arith, lt));
+  }),
+)

@@ -1,0 +1,102 @@
+#!/bin/sh
+# package.sh FOLDER [PATH_TO_CIF]
+#
+# Writes the packages of the built program into FOLDER:
+#
+#   cif-VERSION-x86_64-linux.tar.gz  the program, install.sh and what it installs, the documents and the examples
+#   cif_VERSION_amd64.deb            for Debian: what install.sh installs, below /usr, with the licence and the examples
+#   cif-VERSION.sha256               the SHA-256 of both, for `sha256sum -c`
+#
+# PATH_TO_CIF is the built program. Without it, that is crates/cif_tool/out/cif_tool. VERSION is what the program
+# prints. The Debian package depends on the packages of the libraries that `ldd` lists. Every time stamp is that of the
+# program, or SOURCE_DATE_EPOCH, so the same files give the same bytes. Debian's base system has all that this needs.
+set -eu
+umask 022
+export LC_ALL=C
+top=$(CDPATH='' cd -- "$(dirname -- "$0")" && pwd)
+case ${1-} in
+'' | -*) set -- ;;
+esac
+if [ $# -lt 1 ] || [ $# -gt 2 ]; then
+    echo "usage: package.sh FOLDER [PATH_TO_CIF]" >&2
+    exit 2
+fi
+work=$(mktemp -d)
+trap 'rm -rf "$work"' 0
+trap 'exit 1' 1 2 15
+
+# The files of the Debian package. install.sh refuses a program that isn't cif.
+root=$work/root
+DESTDIR=$root "$top/install.sh" /usr "${2-$top/crates/cif_tool/out/cif_tool}" > /dev/null
+mkdir -p -- "$1"
+folder=$(CDPATH='' cd -- "$1" && pwd)
+cif=$root/usr/bin/cif
+version=$("$cif" --version)
+version=${version#cif }
+time=${SOURCE_DATE_EPOCH:-$(stat -c %Y "${2-$top/crates/cif_tool/out/cif_tool}")}
+
+# put MODE PLACE FILE..: copies the files into the folder PLACE
+put() {
+    mode=$1
+    place=$2
+    shift 2
+    mkdir -p "$place"
+    install -m "$mode" "$@" "$place"
+}
+
+# dependencies: the packages of the libraries, one per line, with the oldest version of libc6 that has all the symbols
+dependencies() {
+    ldd -v "$cif" > "$work/ldd"
+    libc=$(awk -v program="$cif:" '/:$/ { own = substr($0, 2) == program } own { print $2 }' "$work/ldd" |
+        sed -n 's/^(GLIBC_\([0-9.]*\))$/\1/p' | sort -V | tail -n 1)
+    awk '$2 == "=>" { print $3 }' "$work/ldd" > "$work/libraries"
+    # dpkg may know a library of /lib as one of /usr/lib.
+    while IFS= read -r library; do
+        dpkg-query -S "$library" 2> /dev/null || dpkg-query -S "/usr$library"
+    done < "$work/libraries" > "$work/owners"
+    sed -e 's/[:,].*//' -e "s/^libc6\$/libc6 (>= $libc)/" "$work/owners" | sort -u
+}
+
+# Debian's zsh doesn't look in site-functions below /usr/share.
+put 644 "$root/usr/share/zsh/vendor-completions" "$root/usr/share/zsh/site-functions/_cif"
+rm -r "$root/usr/share/zsh/site-functions"
+gzip -9n "$root/usr/share/man/man1/cif.1"
+put 644 "$root/usr/share/doc/cif/examples" "$top"/examples/*.cif
+install -m 644 "$top/LICENSE" "$root/usr/share/doc/cif/copyright"
+dependencies > "$work/dependencies"
+size=$(du -sk "$root/usr" | cut -f 1)
+mkdir "$root/DEBIAN"
+(cd "$root" && find usr -type f -exec md5sum {} +) | sort -k 2 > "$root/DEBIAN/md5sums"
+cat > "$root/DEBIAN/control" << END
+Package: cif
+Version: $version
+Architecture: amd64
+Maintainer: The Colteapot authors
+Installed-Size: $size
+Depends: $(paste -s -d , "$work/dependencies" | sed 's/,/, /g')
+Section: utils
+Priority: optional
+Description: work out what runs on each date of a CIF timetable extract
+ cif reads full extracts of the CIF timetable format, works out what runs on
+ each date of the extract's window, and writes that down as an extract that
+ needs no further rules. It also compares two extracts, and lists a day or a
+ train.
+END
+deb=cif_${version}_amd64.deb
+SOURCE_DATE_EPOCH=$time dpkg-deb --root-owner-group -Zxz --build "$root" "$work/$deb" > /dev/null
+
+name=cif-$version-x86_64-linux
+put 755 "$work/$name" "$cif" "$top/install.sh"
+put 644 "$work/$name" "$top/README.md" "$top/CHANGELOG.md" "$top/LICENSE"
+put 644 "$work/$name/man" "$top"/man/*
+put 644 "$work/$name/completions" "$top"/completions/*
+put 644 "$work/$name/docs" "$top"/docs/*.md
+put 644 "$work/$name/examples" "$top"/examples/*
+tar --sort=name --owner=0 --group=0 --numeric-owner --mtime="@$time" -C "$work" -cf "$work/$name.tar" "$name"
+gzip -9n "$work/$name.tar"
+
+(cd "$work" && sha256sum "$name.tar.gz" "$deb") > "$work/cif-$version.sha256"
+for file in "$name.tar.gz" "$deb" "cif-$version.sha256"; do
+    mv -f "$work/$file" "$folder"
+    echo "$folder/$file"
+done
