@@ -1,0 +1,83 @@
+//! Calendars of the records of an extract, and their runs.
+ghost use Rattle.std.specs.Prelude.{◌<◌, All, IfOk, length, map};
+ghost use Rattle.cif_weeks.specs.Runs.{AreSources};
+
+use crate::calendars::positions::{all_positions, are_below, positions_of};
+use crate::calendars::report::{push_pieces, push_run, push_sources, push_window};
+use crate::case::Case;
+use cif_calendar::{Calendar, CalendarFault, Entry, Window, calendar};
+use cif_columns::Day;
+use cif_weeks::{Form, runs};
+use std::alloc::{AllocError, Global};
+use std::fmt::Write;
+
+/// Appends what runs on the dates from the first to the last by the members that the case asks for.
+pub(crate) fn push_calendar<E: Entry>(
+    alloc: Global,
+    out: &mut String,
+    case: &Case,
+    entries: &[E],
+    first: Day,
+    last: Day,
+) -> Result<(), AllocError> {
+    if first > last {
+        return writeln!(out, "no window");
+    }
+    let members = match case.value("members") {
+        Some(words) => positions_of(alloc, words)?,
+        None => all_positions(alloc, entries.len())?,
+    };
+    if !are_below(members.as_slice(), entries.len()) {
+        return writeln!(out, "no such record");
+    }
+    match calendar_of(alloc, entries, members.as_slice(), Window { first, last }) {
+        Ok(calendar) => push_dates(alloc, out, entries, &calendar),
+        Err(fault) => writeln!(out, "{fault}"),
+    }
+}
+
+/// Appends what the calendar and its runs say.
+fn push_dates<E: Entry>(
+    alloc: Global,
+    out: &mut String,
+    entries: &[E],
+    calendar: &Calendar,
+) -> Result<(), AllocError>
+    requires { AreSources (map E.terms entries.now) calendar.now }
+{
+    push_window(out, calendar.window())?;
+    push_sources(out, entries, calendar)?;
+    push_pieces(out, entries, calendar.pieces())?;
+    push_runs(alloc, out, entries, calendar, Form::One)?;
+    push_runs(alloc, out, entries, calendar, Form::Two)
+}
+
+/// The calendar of these members.
+#[tactic(auto, using(cif_weeks::proofs::CalendarSources::calendar_sources))]
+pub(crate) fn calendar_of<E: Entry>(
+    alloc: Global,
+    entries: &[E],
+    members: &[usize],
+    window: Window,
+) -> Result<Calendar, CalendarFault>
+    requires { All (λ i. i < length entries.now) members.now }
+    ensures sources { IfOk result (AreSources (map E.terms entries.now)) }
+{
+    calendar(alloc, entries, members, window)
+}
+
+/// Appends the runs of the calendar in this form.
+fn push_runs<E: Entry>(
+    alloc: Global,
+    out: &mut String,
+    entries: &[E],
+    calendar: &Calendar,
+    form: Form,
+) -> Result<(), AllocError>
+    requires { AreSources (map E.terms entries.now) calendar.now }
+{
+    for run in &runs(alloc, entries, calendar, form)? {
+        push_run(out, entries, form, run)?;
+    }
+    Ok(())
+}

@@ -1,0 +1,120 @@
+//! What is said of a calendar.
+use crate::calendars::positions::{Place, first_alike};
+use crate::case::text_of;
+use cif_calendar::{Calendar, Entry, Piece, Window};
+use cif_columns::Day;
+use cif_weeks::{Form, Run};
+use std::alloc::AllocError;
+use std::fmt::Write;
+
+/// Appends the dates of the window.
+pub(crate) fn push_window(out: &mut String, window: Window) -> Result<(), AllocError> {
+    push_dates(out, "window", window.first, window.last)?;
+    writeln!(out)
+}
+
+/// Appends two dates behind a label.
+fn push_dates(out: &mut String, label: &str, first: Day, last: Day) -> Result<(), AllocError> {
+    let first = first.to_yymmdd();
+    let last = last.to_yymmdd();
+    write!(out, "{label} {} to {}", text_of(&first), text_of(&last))
+}
+
+/// Neighbouring dates with one source.
+#[derive(Clone, Copy)]
+struct Stretch {
+    first: Day,
+    last: Day,
+    place: Place,
+}
+
+/// Appends the sources of the dates, neighbouring dates with one source together.
+pub(crate) fn push_sources<E: Entry>(
+    out: &mut String,
+    entries: &[E],
+    calendar: &Calendar,
+) -> Result<(), AllocError> {
+    let window = calendar.window();
+    let mut stretch = Stretch {
+        first: window.first,
+        last: window.first,
+        place: place_on(entries, calendar, window.first),
+    };
+    for number in window.first.number()..=window.last.number() {
+        if let Some(day) = Day::from_number(number) {
+            let place = place_on(entries, calendar, day);
+            stretch = gone_on(out, stretch, day, place)?;
+        }
+    }
+    push_stretch(out, stretch)
+}
+
+/// The source of the date, which is in the window.
+pub(crate) fn place_on<E: Entry>(entries: &[E], calendar: &Calendar, day: Day) -> Place {
+    let window = calendar.window();
+    if window.first <= day && day <= window.last {
+        first_alike(entries, calendar.source_on(day))
+    } else {
+        Place(None)
+    }
+}
+
+/// The stretch with one date more; where its source is another, the stretch is appended and a new
+/// one begins.
+fn gone_on(
+    out: &mut String,
+    stretch: Stretch,
+    day: Day,
+    place: Place,
+) -> Result<Stretch, AllocError> {
+    if stretch.place == place {
+        return Ok(Stretch {
+            last: day,
+            ..stretch
+        });
+    }
+    push_stretch(out, stretch)?;
+    Ok(Stretch {
+        first: day,
+        last: day,
+        place,
+    })
+}
+
+fn push_stretch(out: &mut String, stretch: Stretch) -> Result<(), AllocError> {
+    push_dates(out, "source", stretch.first, stretch.last)?;
+    writeln!(out, ": {}", stretch.place)
+}
+
+/// Appends the pieces with the sources of their weekdays.
+pub(crate) fn push_pieces<E: Entry>(
+    out: &mut String,
+    entries: &[E],
+    pieces: &[Piece],
+) -> Result<(), AllocError> {
+    for piece in pieces {
+        push_dates(out, "piece", piece.first, piece.last)?;
+        write!(out, ":")?;
+        for winner in &piece.winners {
+            write!(out, " {}", first_alike(entries, *winner))?;
+        }
+        writeln!(out)?;
+    }
+    Ok(())
+}
+
+/// Appends a run in this form.
+pub(crate) fn push_run<E: Entry>(
+    out: &mut String,
+    entries: &[E],
+    form: Form,
+    run: &Run,
+) -> Result<(), AllocError> {
+    let label = match form {
+        Form::One => "form 1",
+        Form::Two => "form 2",
+    };
+    push_dates(out, label, run.first, run.last)?;
+    let place = first_alike(entries, Some(run.source));
+    writeln!(out, " {}: {place}", text_of(&run.days.write()))
+}

@@ -1,0 +1,47 @@
+//! Winners of single dates.
+use crate::calendars::positions::{are_below, first_alike, positions_of};
+use crate::case::{Case, day_in};
+use cif_calendar::{CalendarFault, Entry, Window, calendar};
+use cif_columns::Day;
+use std::alloc::{AllocError, Global};
+use std::fmt::Write;
+
+/// Appends, for each word of the case, the source on its date by the records at its positions.
+pub(crate) fn push_winners<E: Entry>(
+    alloc: Global,
+    out: &mut String,
+    case: &Case,
+    entries: &[E],
+) -> Result<(), AllocError> {
+    for word in case.words.split_whitespace() {
+        write!(out, "{word}: ")?;
+        let (date, members) = word.split_once('=').unwrap_or((word, ""));
+        match day_in(date) {
+            Some(day) => push_winner(alloc, out, entries, members, day)?,
+            None => writeln!(out, "no date")?,
+        }
+    }
+    Ok(())
+}
+
+fn push_winner<E: Entry>(
+    alloc: Global,
+    out: &mut String,
+    entries: &[E],
+    members: &str,
+    day: Day,
+) -> Result<(), AllocError> {
+    let members = positions_of(alloc, members)?;
+    if !are_below(members.as_slice(), entries.len()) {
+        return writeln!(out, "no such record");
+    }
+    let window = Window {
+        first: day,
+        last: day,
+    };
+    match calendar(alloc, entries, members.as_slice(), window) {
+        Ok(calendar) => writeln!(out, "{}", first_alike(entries, calendar.source_on(day))),
+        Err(CalendarFault::Ambiguous(_)) => writeln!(out, "bodies differ"),
+        Err(CalendarFault::Memory) => writeln!(out, "memory"),
+    }
+}

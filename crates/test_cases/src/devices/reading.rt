@@ -1,0 +1,169 @@
+//! What is read.
+use crate::case::{Case, text_of};
+use cif_columns::{End, LineFault, LineReader, Source, TrialReader, count_lines};
+use cif_extract::{Extract, read_extract};
+use std::alloc::{AllocError, Global};
+use std::fmt::Write;
+use std::io;
+use std::io::BufReader;
+
+/// Appends what the case's call reads, if it is one of these.
+pub(crate) fn push_read(alloc: Global, out: &mut String, case: &Case) -> io::Result<bool> {
+    let max_lines = case.number("max", 1000);
+    if !matches!(
+        case.call,
+        "lines" | "count" | "devices" | "extract" | "reads"
+    ) {
+        return Ok(false);
+    }
+    let Some(reader) = reader_of(case) else {
+        writeln!(out, "no such reader")?;
+        return Ok(true);
+    };
+    let mut source = Source::new(reader);
+    match case.call {
+        "lines" => push_lines(out, &mut source, max_lines)?,
+        "count" => {
+            push_count(out, count_lines(&mut source, u64::from(max_lines)))?;
+            writeln!(out, "reads {}", source.reader().calls())?;
+        }
+        "devices" => push_devices(alloc, out, case.input.as_slice(), max_lines)?,
+        "extract" => push_extract(alloc, out, &mut source, max_lines)?,
+        _ => push_reads(out, &mut source)?,
+    }
+    Ok(true)
+}
+
+/// The reader that the case asks for.
+pub(crate) fn reader_of<'a>(case: &'a Case) -> Option<TrialReader<'a>> {
+    let bytes = case.input.as_slice();
+    let step = usize::from(case.number("by", 1));
+    if step == 0 {
+        return None;
+    }
+    if case.value("end") == Some("fail") {
+        return Some(TrialReader::new(bytes, step, End::Fail));
+    }
+    if case.value("from") == None {
+        return Some(TrialReader::new(bytes, step, End::Stop));
+    }
+    let from = usize::from(case.number("from", 0));
+    if from < bytes.len() {
+        Some(TrialReader::new(bytes, step, End::Again(from)))
+    } else {
+        None
+    }
+}
+
+/// Appends what each call for a line gives.
+fn push_lines(
+    out: &mut String,
+    source: &mut Source<TrialReader>,
+    max_lines: u16,
+) -> Result<(), AllocError> {
+    let mut lines = LineReader::new(u64::from(max_lines));
+    let mut has_ended = false;
+    for _ in 0..=max_lines.saturating_add(1) {
+        let answer = lines.next(source);
+        let reads = source.reader().calls();
+        match answer {
+            Ok(Some(line)) => {
+                writeln!(out, "after {reads} reads {}", text_of(line.bytes()))?;
+                continue;
+            }
+            Ok(None) => writeln!(out, "after {reads} reads the end")?,
+            Err(fault) => {
+                write!(out, "after {reads} reads ")?;
+                push_fault(out, fault)?;
+            }
+        }
+        if has_ended {
+            break;
+        }
+        has_ended = true;
+    }
+    writeln!(out, "lines {}", lines.line_number())
+}
+
+fn push_fault(out: &mut String, fault: LineFault) -> Result<(), AllocError> {
+    match fault {
+        LineFault::Refused { line: _, why } => writeln!(out, "{fault}, number {}", why.number()),
+        LineFault::Read => writeln!(out, "{fault}"),
+    }
+}
+
+/// Appends how many lines there are, or why there is no further one.
+fn push_count(out: &mut String, count: Result<u64, LineFault>) -> Result<(), AllocError> {
+    match count {
+        Ok(count) => writeln!(out, "lines {count}"),
+        Err(fault) => push_fault(out, fault),
+    }
+}
+
+/// Appends what the source is read as, and how often it is read.
+fn push_extract(
+    alloc: Global,
+    out: &mut String,
+    source: &mut Source<TrialReader>,
+    max_lines: u16,
+) -> Result<(), AllocError> {
+    match read_extract(alloc, source, u64::from(max_lines)) {
+        Ok(extract) => push_counts(out, &extract)?,
+        Err(fault) => write!(out, "{fault}")?,
+    }
+    writeln!(out, ", after {} reads", source.reader().calls())
+}
+
+/// Appends how many records the extract has.
+pub(crate) fn push_counts(out: &mut String, extract: &Extract) -> Result<(), AllocError> {
+    let tiplocs = extract.tiplocs.len();
+    let associations = extract.associations.len();
+    let schedules = extract.schedules.len();
+    write!(out, "{tiplocs} TI, {associations} AA, {schedules} BS")
+}
+
+/// Appends how many lines these bytes are, over several devices.
+fn push_devices(alloc: Global, out: &mut String, bytes: &[u8], max_lines: u16) -> io::Result<()> {
+    if begins_with_line(bytes, max_lines) {
+        writeln!(out, "begins with a line")?;
+    }
+    let max_lines = u64::from(max_lines);
+    push_count(out, count_lines(&mut Source::new(bytes), max_lines))?;
+    let reader = BufReader::with_capacity(alloc, 16, bytes)?;
+    push_count(out, count_lines(&mut Source::new(reader), max_lines))?;
+    let mut reader = TrialReader::new(bytes, 9, End::Stop);
+    push_count(out, count_lines(&mut Source::new(&mut reader), max_lines))?;
+    Ok(())
+}
+
+/// Whether a line stands first in the bytes. A slice never fails.
+fn begins_with_line(bytes: &[u8], max_lines: u16) -> bool {
+    let mut lines = LineReader::new(u64::from(max_lines));
+    match lines.next(&mut Source::new(bytes)) {
+        Ok(line) => line.is_some(),
+        Err(LineFault::Refused { line: _, why: _ }) => false,
+        Err(LineFault::Read) => unreachable!(),
+    }
+}
+
+/// Appends what each read gives.
+fn push_reads(out: &mut String, source: &mut Source<TrialReader>) -> Result<(), AllocError> {
+    let mut buf = [0; 100];
+    let mut has_ended = false;
+    for _ in 0..u16::MAX {
+        match source.read(&mut buf) {
+            Ok(0) => writeln!(out, "the end")?,
+            Ok(count) => {
+                writeln!(out, "{count} bytes")?;
+                continue;
+            }
+            Err(fault) => writeln!(out, "{fault}")?,
+        }
+        if has_ended {
+            break;
+        }
+        has_ended = true;
+    }
+    let reads = source.reader().calls();
+    writeln!(out, "reads {reads}, failed {}", source.failed())
+}

@@ -1,0 +1,76 @@
+//! Writers that take all bytes, or too few.
+ghost use Rattle.std.specs.Prelude.{◌≤◌};
+
+use crate::devices::written::Written;
+use cif_columns::{Sink, TrialWriter, WriteFault};
+use std::alloc::{AllocError, Global};
+use std::fmt::Write;
+
+/// The most bytes that a trial writer takes.
+const ROOM: usize = 2048;
+
+/// Appends how often a writer that takes all bytes is called, and whether each that takes too few
+/// keeps those that fit, is called for these and once more, and is let be then.
+pub(crate) fn push_trials<T: Written>(
+    alloc: Global,
+    out: &mut String,
+    name: &str,
+    written: &T,
+) -> Result<(), AllocError> {
+    let mut sink = Sink::new(Vec::new(alloc));
+    if written.write(&mut sink).is_err() {
+        return Err(AllocError);
+    }
+    let text = sink.writer().as_slice();
+    let len = text.len();
+    match calls_for_all(written, text) {
+        Some((writes, flushes)) => {
+            writeln!(
+                out,
+                "{name}: {len} bytes, calls to write {writes}, to flush {flushes}"
+            )?;
+        }
+        None => return writeln!(out, "{name}: otherwise where all bytes fit"),
+    }
+    for takes in 0..len.min(ROOM) {
+        for zero in [false, true] {
+            if !is_let_be(written, text, takes, zero) {
+                return writeln!(out, "{name}: otherwise where {takes} bytes fit ({zero})");
+            }
+        }
+    }
+    writeln!(out, "{name}: {WriteFault} where fewer than {len} bytes fit")
+}
+
+/// How often a writer that takes all bytes of the text, and no more, is called to write them, and
+/// then to flush; nothing where it is blamed or hasn't got them.
+fn calls_for_all<T: Written>(written: &T, text: &[u8]) -> Option<(u64, u64)> {
+    let mut sink = Sink::new(TrialWriter::new(text.len().min(ROOM), false));
+    let is_written = written.write(&mut sink).is_ok();
+    let writes = sink.writer().calls();
+    let is_flushed = sink.flush().is_ok();
+    let calls = sink.writer().calls();
+    if is_written && is_flushed && !sink.failed() && sink.writer().bytes() == text {
+        Some((writes, calls.saturating_sub(writes)))
+    } else {
+        None
+    }
+}
+
+/// Whether a writer that takes so few bytes of the text, and then answers 0 if `zero` and else
+/// fails, is blamed, has kept them, was called for them and once more, and isn't touched again.
+fn is_let_be<T: Written>(written: &T, text: &[u8], takes: usize, zero: bool) -> bool
+    requires { takes ≤ ROOM }
+{
+    let Some(front) = text.get(..takes) else {
+        return false;
+    };
+    let mut sink = Sink::new(TrialWriter::new(takes, zero));
+    let has_failed = written.write(&mut sink) == Err(WriteFault) && sink.failed();
+    let calls = sink.writer().calls();
+    let once_more = calls == written.writes_of(front).saturating_add(1);
+    let fails_again = written.write(&mut sink) == Err(WriteFault)
+        && sink.flush() == Err(WriteFault);
+    let is_front = sink.writer().bytes() == front;
+    has_failed && once_more && fails_again && is_front && sink.writer().calls() == calls
+}

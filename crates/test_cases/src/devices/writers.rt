@@ -1,0 +1,61 @@
+//! Trial writers by themselves, and behind a buffer.
+
+use crate::case::{Case, LINE_BYTES};
+use cif_columns::{Sink, TrialWriter, WriteFault};
+use std::alloc::{AllocError, Global};
+use std::fmt::Write;
+use std::io;
+use std::io::BufWriter;
+
+/// The most bytes that a trial writer takes.
+const ROOM: usize = 2048;
+
+/// The writer that the case asks for.
+pub(crate) fn writer_of(case: &Case) -> TrialWriter {
+    let takes = usize::from(case.number("takes", 2048)).min(ROOM);
+    TrialWriter::new(takes, case.value("then") == Some("zero"))
+}
+
+/// Appends what a trial writer answers to each line of the input, and then to a flush.
+pub(crate) fn push_writes(out: &mut String, case: &Case) -> Result<(), AllocError> {
+    let mut writer = writer_of(case);
+    for line in case.input.as_slice().chunks(LINE_BYTES) {
+        match io::Write::write(&mut writer, line) {
+            Ok(count) => writeln!(out, "{count} bytes")?,
+            Err(_) => writeln!(out, "an error")?,
+        }
+    }
+    match io::Write::flush(&mut writer) {
+        Ok(()) => writeln!(out, "flushed")?,
+        Err(_) => writeln!(out, "an error at the flush")?,
+    }
+    let len = writer.bytes().len();
+    writeln!(out, "{len} bytes by {} calls", writer.calls())
+}
+
+/// Appends what a sink answers over a buffer that holds the input, before a trial writer: to the
+/// bytes, and to two flushes.
+pub(crate) fn push_flushes(alloc: Global, out: &mut String, case: &Case) -> io::Result<()> {
+    let mut writer = writer_of(case);
+    let mut buffer = BufWriter::with_capacity(alloc, ROOM, &mut writer)?;
+    let mut sink = Sink::new(&mut buffer);
+    push_outcome(out, "written", sink.write_all(case.input.as_slice()))?;
+    push_outcome(out, "flushed", sink.flush())?;
+    push_outcome(out, "flushed", sink.flush())?;
+    // A `BufWriter` that is dropped writes what it holds.
+    let _ = buffer.into_parts();
+    let len = writer.bytes().len();
+    writeln!(out, "{len} bytes by {} calls", writer.calls())?;
+    Ok(())
+}
+
+fn push_outcome(
+    out: &mut String,
+    done: &str,
+    outcome: Result<(), WriteFault>,
+) -> Result<(), AllocError> {
+    match outcome {
+        Ok(()) => writeln!(out, "{done}"),
+        Err(fault) => writeln!(out, "{fault}"),
+    }
+}

@@ -1,0 +1,100 @@
+//! What is written.
+use crate::case::{Case, text_of};
+use crate::devices::trials::push_trials;
+use crate::devices::written::{Bytes, Dated, Dates, Written, parts_of};
+use cif_columns::{DaysRun, Sink, Source, TrialWriter};
+use cif_extract::{Extract, read_extract};
+use std::alloc::{AllocError, Global};
+use std::fmt::Write;
+use std::io;
+use std::io::BufWriter;
+
+/// Appends what goes out of the records of an extract on the dates that the case asks for.
+pub(crate) fn push_records(alloc: Global, out: &mut String, case: &Case) -> Result<(), AllocError> {
+    match dates_of(case) {
+        Some(dates) => push_on(alloc, out, case.input.as_slice(), &dates),
+        None => writeln!(out, "no dates"),
+    }
+}
+
+fn push_on(alloc: Global, out: &mut String, bytes: &[u8], dates: &Dates) -> Result<(), AllocError> {
+    match read_extract(alloc, &mut Source::new(bytes), 100) {
+        Ok(extract) => push_parts(alloc, out, &extract, dates),
+        Err(_) => writeln!(out, "no extract"),
+    }
+}
+
+fn push_parts(
+    alloc: Global,
+    out: &mut String,
+    extract: &Extract,
+    dates: &Dates,
+) -> Result<(), AllocError> {
+    let parts = parts_of(alloc, extract)?;
+    let mut sink = Sink::new(TrialWriter::new(2048, false));
+    for part in &parts {
+        let part = *part;
+        let outcome = Dated {
+            extract,
+            part,
+            dates,
+        }
+        .write(&mut sink);
+        if outcome.is_err() {
+            writeln!(out, "the sink has failed")?;
+        }
+    }
+    out.push_str(text_of(sink.writer().bytes()))?;
+    for part in &parts {
+        let part = *part;
+        let name = format!(in alloc; "{part:?}")?;
+        push_trials(
+            alloc,
+            out,
+            name.as_str(),
+            &Dated {
+                extract,
+                part,
+                dates,
+            },
+        )?;
+    }
+    Ok(())
+}
+
+/// The dates that the case asks for.
+fn dates_of(case: &Case) -> Option<Dates> {
+    let first = case.day("first")?;
+    let last = case.day("last")?;
+    let days = days_of(case.value("days"))?;
+    if first <= last {
+        Some(Dates { first, last, days })
+    } else {
+        None
+    }
+}
+
+fn days_of(columns: Option<&str>) -> Option<DaysRun> {
+    DaysRun::read(columns?.as_bytes().as_array()?)
+}
+
+/// Appends what goes out of these bytes through a buffer.
+pub(crate) fn push_bytes(alloc: Global, out: &mut String, bytes: &[u8]) -> io::Result<()> {
+    push_buffered(alloc, out, bytes)?;
+    push_trials(alloc, out, "Bytes", &Bytes(bytes))?;
+    Ok(())
+}
+
+fn push_buffered(alloc: Global, out: &mut String, bytes: &[u8]) -> io::Result<()> {
+    let mut kept = Vec::new(alloc);
+    let mut buffer = BufWriter::with_capacity(alloc, 16, &mut kept)?;
+    let mut sink = Sink::new(&mut buffer);
+    let is_written = sink.write_all(bytes).is_ok() && sink.flush().is_ok();
+    // A `BufWriter` that is dropped writes what it holds: what the flush handed on is out by now.
+    let _ = buffer.into_parts();
+    if !is_written {
+        writeln!(out, "the sink has failed")?;
+    }
+    out.push_str(text_of(kept.as_slice()))?;
+    Ok(())
+}

@@ -1,0 +1,101 @@
+//! Readings beside a plain look at the whole contents.
+use crate::case::push_case;
+use crate::readings::damage::damaged;
+use crate::readings::numbers::Numbers;
+use crate::readings::plain_reading::{contents_of, first_refusal, has_records_of};
+use crate::readings::read::read_slice;
+use cif_extract::Fault;
+use std::alloc::{AllocError, Global};
+use std::fmt::Write;
+
+/// What a reading and a look at the contents came to.
+#[derive(Clone, Copy)]
+struct Comparison {
+    is_same: bool,
+    /// The number of the refusal, 0 if there is none.
+    number: u8,
+}
+
+/// Whether the bytes are read as their contents say, and what they say.
+fn compare(alloc: Global, bytes: &[u8], max_lines: u16) -> Result<Comparison, AllocError> {
+    let contents = contents_of(alloc, bytes)?;
+    let given = read_slice(alloc, bytes, max_lines);
+    Ok(match first_refusal(&contents, max_lines) {
+        Some((line, why)) => Comparison {
+            is_same: given.err() == Some(Fault::Refused { line, why }),
+            number: why.number(),
+        },
+        None => Comparison {
+            is_same: given.is_ok_and(|extract| has_records_of(&extract, &contents)),
+            number: 0,
+        },
+    })
+}
+
+/// Appends whether the bytes are read as their contents say.
+pub(crate) fn push_compared(
+    alloc: Global,
+    out: &mut String,
+    bytes: &[u8],
+    max_lines: u16,
+) -> Result<(), AllocError> {
+    let compared = compare(alloc, bytes, max_lines)?;
+    let number = compared.number;
+    if compared.is_same {
+        writeln!(out, "read as its contents say: {number}")
+    } else {
+        writeln!(out, "not read as its contents say: {number}")
+    }
+}
+
+/// Appends how so many damaged extracts are read, up to the first that is not read as its contents
+/// say.
+pub(crate) fn push_damage(
+    alloc: Global,
+    out: &mut String,
+    bytes: &[u8],
+    others: &[u8],
+    count: u16,
+) -> Result<(), AllocError> {
+    let mut numbers = Numbers::new();
+    let mut met = [false; 15];
+    for _ in 0..count {
+        let input = damaged(alloc, bytes, others, &mut numbers)?;
+        let max_lines = match numbers.below(16) {
+            0 => 9,
+            1 => 11,
+            _ => 100,
+        };
+        let compared = compare(alloc, input.as_slice(), max_lines)?;
+        if !compared.is_same {
+            return push_difference(alloc, out, input.as_slice(), max_lines);
+        }
+        if let Some(is_met) = met.get_mut(usize::from(compared.number)) {
+            *is_met = true;
+        }
+    }
+    writeln!(out, "{count} inputs, each read as its contents say")?;
+    push_met(out, &met)
+}
+
+/// Appends the numbers that were met.
+fn push_met(out: &mut String, met: &[bool; 15]) -> Result<(), AllocError> {
+    write!(out, "met")?;
+    for (number, is_met) in met.iter().enumerate() {
+        if *is_met {
+            write!(out, " {number}")?;
+        }
+    }
+    writeln!(out)
+}
+
+/// Appends an input that isn't read as its contents say.
+fn push_difference(
+    alloc: Global,
+    out: &mut String,
+    input: &[u8],
+    max_lines: u16,
+) -> Result<(), AllocError> {
+    let call = format!(in alloc; "plain-look max={max_lines}")?;
+    push_case(out, "not-read-as-its-contents-say", call.as_str(), input)
+}

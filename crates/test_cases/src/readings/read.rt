@@ -1,0 +1,114 @@
+//! Readings over slices and trial readers.
+ghost use Rattle.std.specs.Prelude.{◌<◌};
+
+use crate::readings::answer::{Answer, Outcome};
+use crate::readings::listing::push_extract;
+use cif_columns::{End, Source, TrialReader};
+use cif_extract::{Extract, Fault, read_extract};
+use std::alloc::{AllocError, Global};
+use std::fmt::Write;
+
+/// What the bytes are read as.
+pub(crate) fn read_slice(alloc: Global, bytes: &[u8], max_lines: u16) -> Result<Extract, Fault> {
+    read_extract(alloc, &mut Source::new(bytes), u64::from(max_lines))
+}
+
+/// What the bytes are read as, one byte a read.
+pub(crate) fn read_byte_by_byte(
+    alloc: Global,
+    bytes: &[u8],
+    max_lines: u16,
+) -> Result<Extract, Fault> {
+    let mut source = Source::new(TrialReader::new(bytes, 1, End::Stop));
+    read_extract(alloc, &mut source, u64::from(max_lines))
+}
+
+/// What the bytes come to.
+pub(crate) fn answer_of(alloc: Global, bytes: &[u8], max_lines: u16) -> Answer {
+    Answer {
+        outcome: Outcome::of(&read_slice(alloc, bytes, max_lines)),
+        again: Outcome::of(&read_byte_by_byte(alloc, bytes, max_lines)),
+        failed: false,
+    }
+}
+
+/// What the bytes come to where the reader fails after them.
+pub(crate) fn answer_of_failing(alloc: Global, bytes: &[u8], max_lines: u16) -> Answer {
+    let (outcome, failed) = read_before_failure(alloc, bytes, 1, max_lines);
+    let (again, _) = read_before_failure(alloc, bytes, 100, max_lines);
+    Answer {
+        outcome,
+        again,
+        failed,
+    }
+}
+
+/// What the bytes come to in pieces of at most `step`, where the reader fails after them, and
+/// whether the source has failed.
+fn read_before_failure(alloc: Global, bytes: &[u8], step: usize, max_lines: u16) -> (Outcome, bool)
+    requires { 0 < step }
+{
+    let mut source = Source::new(TrialReader::new(bytes, step, End::Fail));
+    let read = read_extract(alloc, &mut source, u64::from(max_lines));
+    (Outcome::of(&read), source.failed())
+}
+
+/// Appends what the bytes are read as.
+pub(crate) fn push_reading(
+    alloc: Global,
+    out: &mut String,
+    bytes: &[u8],
+    max_lines: u16,
+) -> Result<(), AllocError> {
+    let whole = reading_text(alloc, &read_slice(alloc, bytes, max_lines))?;
+    let in_pieces = reading_text(alloc, &read_byte_by_byte(alloc, bytes, max_lines))?;
+    push_texts(out, whole.as_str(), in_pieces.as_str())
+}
+
+/// Appends the text, and the one of the bytes in pieces where it is another.
+fn push_texts(out: &mut String, whole: &str, in_pieces: &str) -> Result<(), AllocError> {
+    out.push_str(whole)?;
+    if in_pieces != whole {
+        writeln!(out, "one byte a read:")?;
+        out.push_str(in_pieces)?;
+    }
+    Ok(())
+}
+
+fn reading_text(alloc: Global, read: &Result<Extract, Fault>) -> Result<String, AllocError> {
+    let mut text = String::new(alloc);
+    writeln!(text, "{}", Outcome::of(read))?;
+    if let Ok(extract) = read {
+        push_extract(alloc, &mut text, extract)?;
+    }
+    Ok(text)
+}
+
+/// Appends what the bytes come to where the reader fails after them.
+pub(crate) fn push_failing(
+    alloc: Global,
+    out: &mut String,
+    bytes: &[u8],
+    max_lines: u16,
+) -> Result<(), AllocError> {
+    writeln!(out, "{}", answer_of_failing(alloc, bytes, max_lines))
+}
+
+/// Appends what the bytes come to where the reader goes on with them from this place, one byte a
+/// read, and the number of reads.
+pub(crate) fn push_endless(
+    alloc: Global,
+    out: &mut String,
+    bytes: &[u8],
+    from: u16,
+    max_lines: u16,
+) -> Result<(), AllocError> {
+    let from = usize::from(from);
+    if from >= bytes.len() {
+        return writeln!(out, "no byte to go on from");
+    }
+    let mut source = Source::new(TrialReader::new(bytes, 1, End::Again(from)));
+    let read = read_extract(alloc, &mut source, u64::from(max_lines));
+    let reads = source.reader().calls();
+    writeln!(out, "{}, after {reads} reads", Outcome::of(&read))
+}

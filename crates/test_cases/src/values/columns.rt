@@ -1,0 +1,135 @@
+//! Values but days.
+ghost use Rattle.std.specs.Prelude.{◌≤◌};
+
+use crate::case::text_of;
+use cif_columns::{DaysRun, Line, PublicTime, Stp, Text, WorkTime, activities_at, text_at, uid_at};
+use std::alloc::AllocError;
+use std::fmt::Write;
+
+/// Appends the columns that a value is written in.
+fn push_written(out: &mut String, columns: &[u8]) -> Result<(), AllocError> {
+    write!(out, "|{}|", text_of(columns))
+}
+
+/// The line that begins with these columns.
+fn line_with(columns: &[u8]) -> Option<Line> {
+    if columns.len() > 80 {
+        return None;
+    }
+    let mut line = [b' '; 80];
+    line[..columns.len()].copy_from_slice(columns);
+    Line::of(line)
+}
+
+pub(crate) fn push_text(out: &mut String, columns: &[u8]) -> Result<(), AllocError> {
+    let Some(line) = line_with(columns) else {
+        return writeln!(out, "none");
+    };
+    match columns.len() {
+        1 => push_text_of::<1>(out, &line),
+        2 => push_text_of::<2>(out, &line),
+        3 => push_text_of::<3>(out, &line),
+        4 => push_text_of::<4>(out, &line),
+        5 => push_text_of::<5>(out, &line),
+        6 => push_text_of::<6>(out, &line),
+        7 => push_text_of::<7>(out, &line),
+        8 => push_text_of::<8>(out, &line),
+        _ => writeln!(out, "no such text"),
+    }
+}
+
+/// Appends the text in the first `N` columns.
+fn push_text_of<const N: usize>(out: &mut String, line: &Line) -> Result<(), AllocError>
+    requires { N ≤ 80 }
+{
+    let text: Text<N> = text_at(line, 1);
+    let written = text.write();
+    push_written(out, &written)?;
+    writeln!(out)
+}
+
+pub(crate) fn push_uid(out: &mut String, columns: &[u8]) -> Result<(), AllocError> {
+    let Some(line) = line_with(columns) else {
+        return writeln!(out, "none");
+    };
+    let uid = uid_at(&line, 1);
+    let written = uid.write();
+    push_written(out, &written)?;
+    writeln!(out)
+}
+
+pub(crate) fn push_activities(out: &mut String, columns: &[u8]) -> Result<(), AllocError> {
+    let Some(line) = line_with(columns) else {
+        return writeln!(out, "none");
+    };
+    let codes = activities_at(&line, 1);
+    let written = codes.write();
+    push_written(out, &written)?;
+    writeln!(out)
+}
+
+pub(crate) fn push_work_time(out: &mut String, columns: &[u8]) -> Result<(), AllocError> {
+    let Some(time) = columns.as_array().and_then(WorkTime::read) else {
+        return writeln!(out, "none");
+    };
+    let written = time.write();
+    push_written(out, &written)?;
+    writeln!(out)
+}
+
+pub(crate) fn push_public_time(out: &mut String, columns: &[u8]) -> Result<(), AllocError> {
+    let Some(time) = columns.as_array().and_then(PublicTime::read) else {
+        return writeln!(out, "none");
+    };
+    let written = time.write();
+    push_written(out, &written)?;
+    writeln!(out)
+}
+
+pub(crate) fn push_days(out: &mut String, columns: &[u8]) -> Result<(), AllocError> {
+    match columns.as_array().and_then(DaysRun::read) {
+        Some(days) => push_days_run(out, days),
+        None => writeln!(out, "none"),
+    }
+}
+
+/// Appends the mask with this weekday alone.
+pub(crate) fn push_weekday(out: &mut String, columns: &[u8]) -> Result<(), AllocError> {
+    match columns {
+        [digit @ b'0'..=b'6'] => push_days_run(out, DaysRun::only(*digit - b'0')),
+        _ => writeln!(out, "none"),
+    }
+}
+
+fn push_days_run(out: &mut String, days: DaysRun) -> Result<(), AllocError> {
+    let written = days.write();
+    push_written(out, &written)?;
+    match (days.first(), days.last()) {
+        (Some(first), Some(last)) => write!(out, " from {first} to {last}:")?,
+        _ => write!(out, " no weekday")?,
+    }
+    for weekday in 0..7u8 {
+        if days.has(weekday) {
+            write!(out, " {weekday}")?;
+        }
+    }
+    writeln!(out)
+}
+
+pub(crate) fn push_letter(out: &mut String, columns: &[u8]) -> Result<(), AllocError> {
+    let letter = match columns {
+        [column] => Stp::read(*column),
+        _ => None,
+    };
+    let Some(letter) = letter else {
+        return writeln!(out, "none");
+    };
+    let written = letter.write();
+    push_written(out, &[written])?;
+    for other in [Stp::C, Stp::N, Stp::O, Stp::P] {
+        if letter < other {
+            write!(out, " before {other:?}")?;
+        }
+    }
+    writeln!(out)
+}
