@@ -6,7 +6,7 @@
 //! Reads an extract, takes all its schedules as those of one train, and says what runs on each date of the
 //! window: a table has a place for each date, and each schedule looks at the places of all its dates. What
 //! goes out is how many pieces the window has, where a piece ends before the first date of a schedule and
-//! with the last date of one, a checksum of the pieces, as `cif_bench` makes it, and the least
+//! with the last date of one, a checksum of the pieces, as `bench_jobs` makes it, and the least
 //! nanoseconds of so many repeats that the table took. Making pieces of the table doesn't count. The status
 //! is 0, 2 for the words, 3 where the dates can't be read or two winners of a date differ, and 4 where the
 //! file can't be read.

@@ -2,7 +2,7 @@
 ghost use Rattle.std.specs.Prelude.{◌≡◌, ◌≤◌, true, IfOk};
 ghost use Rattle.cif_columns.specs.Sink.{writer_of};
 ghost use Rattle.cif_extract.specs.ExtractParts.{extract_parts};
-ghost use Rattle.cif_archive.specs.ByHand.{IsCanonicalTextOf};
+ghost use Rattle.example_archive.specs.ByHand.{IsCanonicalTextOf};
 
 use cif_canon::canon;
 use cif_columns::{Day, Line, MAX_LINES, Sink, Source, Stp};

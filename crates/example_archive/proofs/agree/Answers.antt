@@ -7,9 +7,9 @@ use Rattle.cif_weeks.specs.Window.{Window}
 use Rattle.cif_weeks.specs.declared.form.Form.TheVariants.{Two}
 use Rattle.cif_canon.specs.Meaning.{Agree}
 use Rattle.cif_canon.specs.NormalForm.{IsNormalFormOf, after_first_line}
-use Rattle.cif_archive.specs.Archive.{AreCanonicalBytes, dates}
-use Rattle.cif_archive.proofs.Archived.{accepted, window_is}
-use Rattle.cif_archive.proofs.agree.Goals as goal
+use Rattle.example_archive.specs.Archive.{AreCanonicalBytes, dates}
+use Rattle.example_archive.proofs.Archived.{accepted, window_is}
+use Rattle.example_archive.proofs.agree.Goals as goal
 
 -- canonical bytes are unique, and the answer is whether they are equal after the header's line
 pub returns : goal.returns

@@ -11,8 +11,8 @@ use Rattle.cif_canon.specs.NormalForm.{IsNormalFormOf}
 use Rattle.cif_canon.specs.declared.asked.Asked.{Asked}
 use Rattle.cif_canon.proofs.NormalForms.{one-accepted, one-narrowed, unasked}
 use Rattle.cif_canon.proofs.SameExtracts.{same-sym, same-trans}
-use Rattle.cif_archive.specs.Archive.{AreCanonicalBytes, dates}
-use Rattle.cif_archive.specs.ByHand.{IsCanonicalTextOf}
+use Rattle.example_archive.specs.Archive.{AreCanonicalBytes, dates}
+use Rattle.example_archive.specs.ByHand.{IsCanonicalTextOf}
 
 module _ (from to : ℕ) (extract bytes : List ℕ) (c : AreCanonicalBytes from to extract bytes) where
   -- what has canonical bytes is accepted, with the window that was asked for

@@ -1,4 +1,4 @@
-//! Does a piece of work that is measured: `cif_bench JOB [FILE [REPEATS [FORM]]]`. Without FILE it
+//! Does a piece of work that is measured: `bench_jobs JOB [FILE [REPEATS [FORM]]]`. Without FILE it
 //! reads the standard input. JOB is one of these:
 //!
 //! - `lines`: copies lines of 80 columns to the standard output.

@@ -4,8 +4,8 @@ use Rattle.std.specs.Cmp.Lexicographic.{bytes_decides}
 use Rattle.cif_columns.specs.Sink.{writer_of}
 use Rattle.cif_extract.specs.ExtractParts.{extract_parts}
 use Rattle.cif_extract.specs.SpellsExtract.{BytesSpell}
-use Rattle.cif_archive.proofs.Archived.{same-read}
-use Rattle.cif_archive.proofs.by_hand.reads_back.Goals as goal
+use Rattle.example_archive.proofs.Archived.{same-read}
+use Rattle.example_archive.proofs.by_hand.reads_back.Goals as goal
 
 pub returns : goal.returns
 returns c =

@@ -1,7 +1,7 @@
 -- Of fewer bytes than a line has, nothing follows it (`drop_all`); of more, all that is left is taken (`take_all`).
 use Rattle.std.proofs.Common.{◌≤◌, ◌-◌, arith, drop, length, sym}
 use Rattle.std.proofs.lemmas.List.{drop_all, length-drop, take_all}
-use Rattle.cif_archive.proofs.after_header.Goals as goal
+use Rattle.example_archive.proofs.after_header.Goals as goal
 
 pub returns-then-bytes-lt-HEADER_LINE : goal.returns-then-bytes-lt-HEADER_LINE
 returns-then-bytes-lt-HEADER_LINE c =

@@ -4,7 +4,7 @@
 
 ghost use Rattle.std.specs.Prelude.{◌≡◌, true, IfOk};
 ghost use Rattle.cif_columns.specs.Sink.{writer_of};
-ghost use Rattle.cif_archive.specs.Archive.{AreCanonicalBytes, IsAnswer};
+ghost use Rattle.example_archive.specs.Archive.{AreCanonicalBytes, IsAnswer};
 ghost use Rattle.cif_canon.specs.NormalForm.{after_first_line};
 
 mod by_hand;
@@ -82,7 +82,7 @@ fn date_of(argument: &str) -> anyhow::Result<Day> {
 fn run(rt: &HostRuntime) -> anyhow::Result<bool> {
     let arguments = env::args(rt)?.collect::<Vec<String>>(rt.alloc())?;
     let [_, from, to, archived, offered] = arguments.as_slice() else {
-        bail!("usage: cif_archive FROM TO ARCHIVED OFFERED, with dates YYMMDD");
+        bail!("usage: example_archive FROM TO ARCHIVED OFFERED, with dates YYMMDD");
     };
     let (from, to) = (date_of(from)?, date_of(to)?);
     let archived = fs::read(rt, archived.as_str())?;
@@ -111,7 +111,7 @@ fn main(rt: HostRuntime) -> ExitCode {
     match run(&rt) {
         Ok(same) => ExitCode::from(u8::from(!same)),
         Err(error) => {
-            let _ = eprintln!(rt; "cif_archive: {error}");
+            let _ = eprintln!(rt; "example_archive: {error}");
             ExitCode::from(2)
         }
     }

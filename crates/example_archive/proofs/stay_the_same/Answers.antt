@@ -2,9 +2,9 @@
 use Rattle.std.proofs.Common.{◌≡◌, ◌∙◌, rules, subst, sym}
 use Rattle.std.specs.Cmp.Lexicographic.{bytes_decides}
 use Rattle.cif_columns.specs.Sink.{writer_of}
-use Rattle.cif_archive.specs.Archive.{AreCanonicalBytes}
-use Rattle.cif_archive.proofs.Archived.{same-again}
-use Rattle.cif_archive.proofs.stay_the_same.Goals as goal
+use Rattle.example_archive.specs.Archive.{AreCanonicalBytes}
+use Rattle.example_archive.proofs.Archived.{same-again}
+use Rattle.example_archive.proofs.stay_the_same.Goals as goal
 
 pub returns : goal.returns
 returns c =
