@@ -1,5 +1,5 @@
 -- Weeks that lie whole in one piece are alike.
-use Rattle.std.proofs.Common.{◌≡◌, ℕ, ◌+◌, ◌-◌, ◌*◌, ◌≤◌, List, None, get_or, sym, ◌∙◌, ap, arith}
+use Rattle.std.proofs.Common.{◌≡◌, ℕ, zero, suc, ◌+◌, ◌-◌, ◌*◌, ◌≤◌, List, None, get_or, sym, ◌∙◌, ap, arith}
 use Rattle.std.specs.Prelude.{Contains}
 use Rattle.cif_columns.specs.Day.{week_of, weekday_of}
 use Rattle.cif_calendar.specs.Terms.{Terms}
@@ -72,3 +72,11 @@ alike-bodies xs c week last upto a = record {
   same = λ n from before. ap (body_at xs) (a.same n from (omega arith));
   whole = λ some. a.whole (omega arith);
 }
+
+-- in weeks that are alike the sources come again
+pub alike-source : (c : CalendarParts) (week alike : ℕ) → AreAlikeUpTo c week alike → (k i : ℕ) → week ≤ week_of i → week_of i + k ≤ alike →
+    source_in c (i + 7 * k) ≡ source_in c i
+alike-source c week alike a zero i from upto = let same : i + 7 * zero ≡ i = omega arith in ap (source_in c) same
+alike-source c week alike a (suc k) i from upto =
+    let step : i + 7 * suc k ≡ (i + 7 * k) + 7 = omega arith in
+    ap (source_in c) step ∙ a.same (i + 7 * k) (omega arith) (omega arith) ∙ alike-source c week alike a k i from (omega arith)

@@ -11,7 +11,6 @@ use Rattle.cif_weeks.specs.Steps.WeekMasks.{IsMask, Agree, IsLastDay}
 use Rattle.cif_weeks.specs.Steps.Growing.{Fits, IsGrown}
 use Rattle.cif_weeks.proofs.WeekDays.{day_rises, week_of-next, weekday_of-next, RunsOn-below}
 use Rattle.cif_weeks.proofs.Masks.{mask_runs, mask_moved, last_runs, last_latest}
-use Rattle.cif_weeks.proofs.Grown.{fits_last}
 
 module _ {B : Type 0} (window : Window) (body_on : ℕ → Option B)
     (inside : (n : ℕ) (b : B) → body_on n ≡ Some b → IsWithin window n) where
@@ -37,26 +36,18 @@ module _ {B : Type 0} (window : Window) (body_on : ℕ → Option B)
             start_fits form r week (mask_moved body_on r.body (week_of r.first) week r.days (omega arith) m);
       }
 
-  module _ (r : Permanent B) (week : ℕ) (this next both : List Bool) (here : week_of r.last ≡ week)
-      (m : IsMask body_on r.body week this) (k : IsMask body_on r.body (week + 1) next)
+  module _ (r : Permanent B) (week : ℕ) (next both : List Bool) (here : week_of r.last ≡ week)
+      (k : IsMask body_on r.body (week + 1) next)
       (seven : length both ≡ 7) (union : (w : ℕ) → RunsOn both w ↔ (RunsOn r.days w ⊎ RunsOn next w)) where
     -- form 1: the weekdays of the record's mask are those of the next week's
-    module _ (g : IsGrown One window body_on r) (agree : Agree One window week this next) where
-      one_next : (w : ℕ) → RunsOn r.days w → RunsOn next w
-      one_next w on =
-          let (n, at, day, runs) = (fits_last window body_on inside One r g).only w on in
-          (agree w (RunsOn-below r.days w g.seven on) tt).0 (subst (λ v. RunsOn this v) day (m.shows n (at ∙ here) runs))
-
-      one_old : (w : ℕ) → RunsOn next w → RunsOn r.days w
-      one_old w on =
-          let (n, at, day, runs) = m.only w ((agree w (RunsOn-below next w k.seven on) tt).1 on) in
-          subst (λ v. RunsOn r.days v) day ((fits_last window body_on inside One r g).shows n (at ∙ sym here) runs)
-
-      one_both : (w : ℕ) → RunsOn both w → RunsOn r.days w
-      one_both w on = elim ((union w).0 on) [ inl h ↦ h | inr h ↦ one_old w h ]
+    one_both : Agree One window week r.days next → (w : ℕ) → RunsOn both w → RunsOn r.days w
+    one_both agree w on = elim ((union w).0 on) [
+      | inl h ↦ h
+      | inr h ↦ (agree w (RunsOn-below next w k.seven h) tt).1 h
+    ]
 
     -- form 2: the weekdays of the next week's mask are right in the record's weeks, and those of the record's in the next week
-    module _ (g : IsGrown Two window body_on r) (agree : Agree Two window week this next) where
+    module _ (g : IsGrown Two window body_on r) (agree : Agree Two window week r.days next) where
       two_old : (n : ℕ) → week_of r.first ≤ week_of n → week_of n ≤ week_of r.last → IsWithin window n
           → RunsOn next (weekday_of n) → body_on n ≡ Some r.body
       two_old n begun unfinished within on =
@@ -71,13 +62,8 @@ module _ {B : Type 0} (window : Window) (body_on : ℕ → Option B)
           let upto : j ≤ window.last = within_j.upto in
           let within_i : IsWithin window i = record { from = omega arith; upto = omega arith } in
           let next_within : IsWithin window (i + 7) = subst (λ v. IsWithin window v) (sym j_is) within_j in
-          let same : RunsOn this (weekday_of n) ↔ RunsOn next (weekday_of n) =
-          agree (weekday_of n) (RunsOn-below next (weekday_of n) k.seven on) (i, week_i, day_i, within_i, next_within) in
-          let runs_i : body_on i ≡ Some r.body =
-          mask_runs body_on r.body week this i m week_i (subst (λ v. RunsOn this v) (sym day_i) (same.1 on)) in
-          let on_i : RunsOn r.days (weekday_of i) =
-          (fits_last window body_on inside Two r g).shows i (week_i ∙ sym here) runs_i in
-          (g.fits (week_of n) begun unfinished).full n refl within (subst (λ v. RunsOn r.days v) day_i on_i)
+          (g.fits (week_of n) begun unfinished).full n refl within
+          ((agree (weekday_of n) (RunsOn-below next (weekday_of n) k.seven on) (i, week_i, day_i, within_i, next_within)).1 on)
 
       two_next : (n : ℕ) → week_of n ≡ week + 1 → IsWithin window n → RunsOn r.days (weekday_of n) → body_on n ≡ Some r.body
       two_next n at within on =
@@ -92,21 +78,17 @@ module _ {B : Type 0} (window : Window) (body_on : ℕ → Option B)
           let upto : n ≤ window.last = within.upto in
           let within_i : IsWithin window i = record { from = omega arith; upto = omega arith } in
           let next_within : IsWithin window (i + 7) = subst (λ v. IsWithin window v) (sym n_is) within in
-          let runs_i : body_on i ≡ Some r.body =
-          (fits_last window body_on inside Two r g).full i (week_i ∙ sym here) within_i (subst (λ v. RunsOn r.days v) (sym day_i) on) in
-          let on_this : RunsOn this (weekday_of n) = subst (λ v. RunsOn this v) day_i (m.shows i week_i runs_i) in
-          let same : RunsOn this (weekday_of n) ↔ RunsOn next (weekday_of n) =
-          agree (weekday_of n) (RunsOn-below r.days (weekday_of n) g.seven on) (i, week_i, day_i, within_i, next_within) in
-          mask_runs body_on r.body (week + 1) next n k at (same.0 on_this)
+          mask_runs body_on r.body (week + 1) next n k at
+          ((agree (weekday_of n) (RunsOn-below r.days (weekday_of n) g.seven on) (i, week_i, day_i, within_i, next_within)).0 on)
 
     module _ (last : ℕ) where
-      old_fits : (form : Form) (v : ℕ) → IsGrown form window body_on r → Agree form window week this next
+      old_fits : (form : Form) (v : ℕ) → IsGrown form window body_on r → Agree form window week r.days next
           → week_of r.first ≤ v → v ≤ week_of r.last
           → Fits form window body_on (record { first = r.first; last = last; days = both; body = r.body }) v
       old_fits One v g agree begun unfinished = record {
         seven = seven;
         shows = λ n at runs. (union (weekday_of n)).1 (inl ((g.fits v begun unfinished).shows n at runs));
-        only = λ w on. (g.fits v begun unfinished).only w (one_both g agree w on);
+        only = λ w on. (g.fits v begun unfinished).only w (one_both agree w on);
       }
       old_fits Two v g agree begun unfinished = record {
         shows = λ n at runs. (union (weekday_of n)).1 (inl ((g.fits v begun unfinished).shows n at runs));
@@ -116,12 +98,12 @@ module _ {B : Type 0} (window : Window) (body_on : ℕ → Option B)
         ];
       }
 
-      new_fits : (form : Form) → IsGrown form window body_on r → Agree form window week this next
+      new_fits : (form : Form) → IsGrown form window body_on r → Agree form window week r.days next
           → Fits form window body_on (record { first = r.first; last = last; days = both; body = r.body }) (week + 1)
       new_fits One g agree = record {
         seven = seven;
         shows = λ n at runs. (union (weekday_of n)).1 (inr (k.shows n at runs));
-        only = λ w on. k.only w (one_next g agree w (one_both g agree w on));
+        only = λ w on. k.only w ((agree w (RunsOn-below both w seven on) tt).0 (one_both agree w on));
       }
       new_fits Two g agree = record {
         shows = λ n at runs. (union (weekday_of n)).1 (inr (k.shows n at runs));
@@ -132,12 +114,12 @@ module _ {B : Type 0} (window : Window) (body_on : ℕ → Option B)
       }
 
   -- the record with the next week, which agrees with its last one
-  pub grown_more : (form : Form) (r : Permanent B) (week : ℕ) (this next both : List Bool) (last : ℕ)
+  pub grown_more : (form : Form) (r : Permanent B) (week : ℕ) (next both : List Bool) (last : ℕ)
       → week_of r.last ≡ week → IsGrown form window body_on r
-      → IsMask body_on r.body week this → IsMask body_on r.body (week + 1) next → Agree form window week this next
+      → IsMask body_on r.body (week + 1) next → Agree form window week r.days next
       → length both ≡ 7 → ((w : ℕ) → RunsOn both w ↔ (RunsOn r.days w ⊎ RunsOn next w)) → IsLastDay (week + 1) next last
       → IsGrown form window body_on (record { first = r.first; last = last; days = both; body = r.body })
-  grown_more form r week this next both last here g m k agree seven union l =
+  grown_more form r week next both last here g k agree seven union l =
       let at_last : week_of last ≡ week + 1 = l.in_week in
       let in_order : week_of r.first ≤ week_of r.last = g.in_order in
       record {
@@ -152,10 +134,10 @@ module _ {B : Type 0} (window : Window) (body_on : ℕ → Option B)
           | inr h ↦ let (n, at, day, runs) = k.only w h in (n, day, omega arith, omega arith, runs)
         ];
         fits = λ v begun unfinished. elim (cases_lt (week_of r.last) v) [
-          | inr old ↦ old_fits r week this next both here m k seven union last form v g agree begun old
+          | inr old ↦ old_fits r week next both here k seven union last form v g agree begun old
           | inl new ↦
               let is : week + 1 ≡ v = omega arith in
               subst (λ v. Fits form window body_on (record { first = r.first; last = last; days = both; body = r.body }) v) is
-              (new_fits r week this next both here m k seven union last form g agree)
+              (new_fits r week next both here k seven union last form g agree)
         ];
       }

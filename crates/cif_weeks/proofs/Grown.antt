@@ -11,7 +11,7 @@ use Rattle.cif_weeks.specs.Applies.{Applies}
 use Rattle.cif_weeks.specs.Aligned.{IsAligned}
 use Rattle.cif_weeks.specs.Separate.{Change}
 use Rattle.cif_weeks.specs.Steps.WeekMasks.{IsMask}
-use Rattle.cif_weeks.specs.Steps.Growing.{Fits, IsGrown, HasEnded}
+use Rattle.cif_weeks.specs.Steps.Growing.{Breaks, Fits, IsGrown}
 use Rattle.cif_weeks.proofs.WeekDays.{week_of-rises, day_rises_week, week_of-next}
 use Rattle.cif_weeks.proofs.Masks.{mask_runs}
 use Rattle.cif_weeks.proofs.Separate.{change-seven_days}
@@ -110,16 +110,14 @@ module _ {B : Type 0} (window : Window) (body_on : ℕ → Option B)
         (n, day, grown_applies Two r g n begun unfinished runs);
   }
 
-  -- where a record with the body of one that has ended begins in the week after it, there is a change
-  pub grown_change : (form : Form) (r s : Permanent B) → IsGrown form window body_on r → HasEnded form window body_on r
+  -- where a record with the body of one begins in the week after it, which doesn't join it, there is a change
+  pub grown_change : (form : Form) (r s : Permanent B) → IsGrown form window body_on r → Breaks form window body_on r
       → IsGrown form window body_on s → r.body ≡ s.body → week_of s.first ≡ week_of r.last + 1 → Change form window r s
-  grown_change One r s g ended h same next =
+  grown_change One r s g breaks h same next =
       let there : IsMask body_on s.body (week_of r.last + 1) s.days =
       subst (λ v. IsMask body_on s.body v s.days) next (fits_first One s h) in
-      ended s.first next (subst (λ b. body_on s.first ≡ Some b) (sym same) h.first_runs) s.days
-      (subst (λ b. IsMask body_on b (week_of r.last + 1) s.days) (sym same) there)
-  grown_change Two r s g ended h same next =
-      let (n, t) = ended s.first next (subst (λ b. body_on s.first ≡ Some b) (sym same) h.first_runs) in
+      breaks s.days (subst (λ b. IsMask body_on b (week_of r.last + 1) s.days) (sym same) there)
+  grown_change Two r s g (n, t) h same next =
       let at : week_of n ≡ week_of r.last = t.in_week in
       let there : week_of (n + 7) ≡ week_of s.first = omega (arith, week_of-next n) in
       let in_order : week_of s.first ≤ week_of s.last = h.in_order in

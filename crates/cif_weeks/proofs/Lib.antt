@@ -1,13 +1,10 @@
 pub mod AlignedDays
-pub mod Covered
 pub mod Ended
 pub mod Growing
 pub mod Grown
-pub mod JoiningWeeks
 pub mod JoinedLists
 pub mod Jump
 pub mod KeyByKey
-pub mod Made
 pub mod Masks
 pub mod Meeting
 pub mod PermanentEntries
@@ -23,7 +20,9 @@ pub mod RowMasks
 pub mod AlikeWeeks
 pub mod AgreedDays
 pub mod Growth
-pub mod BegunRuns
+pub mod OpenRuns
+pub mod JoinedPlaces
+pub mod RunsRead
 pub mod BusyWeeks
 pub mod AllWeeks
 pub mod CalendarSources

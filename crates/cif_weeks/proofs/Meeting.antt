@@ -13,7 +13,7 @@ use Rattle.cif_weeks.specs.Separate.{AreSeparate}
 use Rattle.cif_weeks.specs.HaveForm.{HaveForm}
 use Rattle.cif_weeks.specs.WhatRuns.{HasBody}
 use Rattle.cif_weeks.specs.Meets.{Meets}
-use Rattle.cif_weeks.specs.Steps.MadeRecords.{IsApartFrom}
+use Rattle.cif_weeks.specs.Steps.OpenRuns.{IsApartFrom}
 use Rattle.cif_weeks.proofs.RisingLists.{AllPairs-members}
 use Rattle.cif_weeks.proofs.AlignedDays.{IsTight, tight, week_of-applies}
 use Rattle.cif_weeks.proofs.Separate.{AreSeparate-sym, separate-from_before}

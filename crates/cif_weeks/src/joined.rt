@@ -1,124 +1,162 @@
 //! The canonical runs of a calendar.
 
-ghost use Rattle.std.specs.Prelude.{◌≡◌, ◌<◌, ◌≤◌, ◌+◌, ◌*◌, ℕ, None, Some, length, map};
-ghost use Rattle.std.specs.Prelude.{slice_index_or, IfOk, MatchBool};
-ghost use Rattle.cif_columns.specs.Day.{IsDay, week_of};
-ghost use Rattle.cif_weeks.specs.Steps.MadeRecords.{AreRunsUpTo};
+ghost use Rattle.std.specs.Prelude.{◌≡◌, ◌<◌, ◌+◌, ◌*◌, ℕ, None, Some, length, map};
+ghost use Rattle.std.specs.Prelude.{slice_get, slice_index_or, IfOk, MatchOption};
+ghost use Rattle.cif_columns.specs.Day.{IsDay};
+ghost use Rattle.cif_columns.specs.DaysRun.{IsFirstOf};
 ghost use Rattle.cif_weeks.specs.Runs.{AreCanonicalRuns, AreSources};
-ghost use Rattle.cif_weeks.specs.Steps.WeekRows.{AreDaysOf, ArePositions, Begins, GoesOn};
-ghost use Rattle.cif_weeks.specs.Steps.WeekRows.{HaveOneBody, IsRowBefore, IsWeek, source_in};
+ghost use Rattle.cif_weeks.specs.Steps.OpenRuns.{AreOpen, ArePlaces, IsAdded, IsBefore, IsKnown};
+ghost use Rattle.cif_weeks.specs.Steps.OpenRuns.{JoinNone, Joins};
+ghost use Rattle.cif_weeks.specs.Steps.WeekRows.{IsMaskOf, IsWeek};
 
+use crate::agreed::agree;
 use crate::busy_weeks::busy_weeks;
 use crate::form::Form;
-use crate::longest::{agree, longest};
 use crate::run::Run;
-use crate::week::{Row, Week};
-use crate::week_mask::mask_of;
+use crate::week::Week;
+use crate::week_mask::{have_one_body, last_day, mask_of};
 use cif_calendar::{Calendar, Entry};
 use cif_columns::{Day, DaysRun};
 use std::alloc::{AllocError, Global};
 
-/// Whether the body at `source`, which runs on these days of the week, goes on from the week
-/// before.
+/// For each weekday of a week on which a body runs that ran on no weekday before it, the place in the
+/// list of its run.
+type Places = [Option<usize>; 7];
+
+/// The place of the run, among those at `places`, that the body at `source` goes on, which runs on
+/// these days of the week; `None` where it goes on none.
 fn goes_on<E: Entry>(
+    runs: &[Run],
     entries: &[E],
     calendar: &Calendar,
     form: Form,
+    places: &Places,
     week: u32,
-    before: &Row,
-    source: usize,
     days: DaysRun,
-) -> bool
+    source: usize,
+) -> Option<usize>
     requires position { source < length entries.now }
-    requires positions { ArePositions (map E.terms entries.now) before.now }
-    ensures { MatchBool result
-        (GoesOn form (map E.terms entries.now) calendar.now week before.now source days)
-        (Begins form (map E.terms entries.now) calendar.now week before.now source days) }
+    requires positions { (w k : ℕ) → slice_index_or places.now w None ≡ Some k →
+        (run : Run) × (slice_get runs.now k ≡ Some run) × (run.source < length entries.now) }
+    ensures { MatchOption result
+        (JoinNone form (map E.terms entries.now) calendar.now week source days runs.now places.now 7)
+        (Joins form (map E.terms entries.now) calendar.now week source days runs.now places.now) }
 {
-    let mask = mask_of(entries, before, source);
-    match mask.first() {
-        Some(_) => agree(form, calendar, week, mask, days),
-        None => false,
+    for weekday in 0..7u8 {
+        if let Some(place) = places[usize::from(weekday)] {
+            let run = &runs[place];
+            if have_one_body(entries, run.source, source)
+                && agree(form, calendar, week, run.days, days)
+            {
+                return Some(place);
+            }
+        }
     }
+    None
 }
 
-/// Appends the run that begins on a weekday of the week, if one does, and gives the weekdays of its
-/// body, that of the entry at `source`. No earlier weekday has that body, and nothing runs after the
-/// week `end`.
-fn begin_run<E: Entry>(
+/// Adds the days of the body at `source`, which runs on these days of the week, `weekday` the first:
+/// a run of the week before goes on, or one begins. Gives the place of the run.
+fn add_body<E: Entry>(
     runs: &mut Vec<Run>,
     entries: &[E],
     calendar: &Calendar,
     form: Form,
-    before: &Row,
+    before: &Places,
     week: &Week,
-    end: u32,
     weekday: u8,
+    days: DaysRun,
     source: usize,
-) -> Result<DaysRun, AllocError>
+) -> Result<usize, AllocError>
     requires weekday { weekday < 7 }
     requires source { slice_index_or week.now.row weekday None ≡ Some source }
-    requires first { (earlier : ℕ) → earlier < weekday →
-        ¬ HaveOneBody (map E.terms entries.now) week.now.row earlier weekday }
+    requires days { IsMaskOf (map E.terms entries.now) week.now.row source days }
+    requires first { IsFirstOf days weekday }
     requires sources { AreSources (map E.terms entries.now) calendar.now }
-    requires end { (n i : ℕ) → source_in calendar.now n ≡ Some i → week_of n ≤ end }
-    requires end_within { end ≤ week_of calendar.now.last }
     requires in_range { IsDay calendar.now.last }
-    requires before { IsRowBefore calendar.now week.now.number before.now }
     requires week { IsWeek calendar.now week.now }
-    requires made { AreRunsUpTo form (map E.terms entries.now) calendar.now
-        (week.now.number * 7 + weekday) runs.now.items }
-    ensures { IfOk result (λ days. AreRunsUpTo form (map E.terms entries.now) calendar.now
-        (week.now.number * 7 + weekday + 1) runs.new.items
-        × AreDaysOf (map E.terms entries.now) week.now.row weekday days) }
+    requires before { ArePlaces (map E.terms entries.now) calendar.now (IsBefore week.now.number)
+        week.now.number runs.now.items before.now }
+    requires runs { AreOpen form (map E.terms entries.now) calendar.now week.now.number
+        week.now.last_alike (week.now.number * 7 + weekday) runs.now.items }
+    ensures { IfOk result (IsAdded form (map E.terms entries.now) calendar.now week.now
+        (week.now.number * 7 + weekday) source runs.old.items runs.new.items) }
 {
-    let days = mask_of(entries, &week.row, source);
-    if goes_on(entries, calendar, form, week.number, before, source, days) {
-        return Ok(days);
+    let last = match last_day(week.number, days) {
+        Some(day) => week.last_like(day),
+        None => unreachable!(),
+    };
+    let joined = goes_on(
+        runs.as_slice(),
+        entries,
+        calendar,
+        form,
+        before,
+        week.number,
+        days,
+        source,
+    );
+    if let Some(place) = joined {
+        let run = runs[place];
+        runs[place] = Run {
+            last,
+            days: run.days.union(days),
+            ..run
+        };
+        return Ok(place);
     }
     let first = match Day::in_week(week.number, weekday) {
         Some(first) => first,
         None => unreachable!(),
     };
-    runs.push(longest(entries, calendar, form, week, end, first, days, source))?;
-    Ok(days)
+    let place = runs.len();
+    runs.push(Run {
+        first,
+        last,
+        days,
+        source,
+    })?;
+    Ok(place)
 }
 
-/// Appends the runs that begin in the week, in the order of their first dates. Nothing runs after
-/// the week `end`.
-fn begin_runs<E: Entry>(
+/// Adds the week, and those that are like it. Gives the places of the runs that have it.
+fn add_week<E: Entry>(
     runs: &mut Vec<Run>,
     entries: &[E],
     calendar: &Calendar,
     form: Form,
-    before: &Row,
+    before: &Places,
     week: &Week,
-    end: u32,
-) -> Result<(), AllocError>
+) -> Result<Places, AllocError>
     requires sources { AreSources (map E.terms entries.now) calendar.now }
-    requires end { (n i : ℕ) → source_in calendar.now n ≡ Some i → week_of n ≤ end }
-    requires end_within { end ≤ week_of calendar.now.last }
     requires in_range { IsDay calendar.now.last }
-    requires before { IsRowBefore calendar.now week.now.number before.now }
     requires week { IsWeek calendar.now week.now }
-    requires made { AreRunsUpTo form (map E.terms entries.now) calendar.now
-        (week.now.number * 7) runs.now.items }
-    ensures { IfOk result (λ _. AreRunsUpTo form (map E.terms entries.now) calendar.now
-        (week.now.number * 7 + 7) runs.new.items) }
+    requires before { ArePlaces (map E.terms entries.now) calendar.now (IsBefore week.now.number)
+        week.now.number runs.now.items before.now }
+    requires runs { AreOpen form (map E.terms entries.now) calendar.now week.now.number
+        week.now.last_alike (week.now.number * 7) runs.now.items }
+    ensures runs { IfOk result (λ _. AreOpen form (map E.terms entries.now) calendar.now
+        week.now.number week.now.last_alike (week.now.number * 7 + 7) runs.new.items) }
+    ensures places { IfOk result (ArePlaces (map E.terms entries.now) calendar.now
+        (IsKnown week.now.number (week.now.number * 7 + 7)) (week.now.last_alike + 1)
+        runs.new.items) }
 {
+    let mut places = [None; 7];
     // The weekdays of the bodies of earlier weekdays.
     let mut seen = DaysRun::of([false; 7]);
     for weekday in 0..7u8 {
         if let Some(source) = week.row[usize::from(weekday)] {
             if !seen.has(weekday) {
-                let days = begin_run(
-                    runs, entries, calendar, form, before, week, end, weekday, source,
+                let days = mask_of(entries, &week.row, source);
+                let place = add_body(
+                    runs, entries, calendar, form, before, week, weekday, days, source,
                 )?;
+                places[usize::from(weekday)] = Some(place);
                 seen = seen.union(days);
             }
         }
     }
-    Ok(())
+    Ok(places)
 }
 
 /// The canonical runs of a calendar in a form, rising by first date.
@@ -156,10 +194,7 @@ pub fn runs_in_room<E: Entry>(
     let mut number = weeks.first;
     while number <= weeks.last {
         let week = Week::of(calendar, number);
-        begin_runs(
-            &mut runs, entries, calendar, form, &before, &week, weeks.last,
-        )?;
-        before = week.row;
+        before = add_week(&mut runs, entries, calendar, form, &before, &week)?;
         number = week.last_alike + 1;
     }
     Ok(runs)

@@ -2,11 +2,11 @@
 //! runs on each day determines them.
 #![tactic(auto)]
 
+mod agreed;
 mod busy_weeks;
 mod form;
 mod joined;
 pub mod laws;
-mod longest;
 mod run;
 mod week;
 mod week_mask;

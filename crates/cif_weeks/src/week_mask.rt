@@ -13,7 +13,7 @@ use cif_calendar::{Entry, same_body};
 use cif_columns::{Day, DaysRun};
 
 /// Whether the entries at two positions have one body.
-fn have_one_body<E: Entry>(entries: &[E], one: usize, other: usize) -> bool
+pub(crate) fn have_one_body<E: Entry>(entries: &[E], one: usize, other: usize) -> bool
     requires one { one < length entries.now }
     requires other { other < length entries.now }
     ensures { IsTrue result ↔ (body_at (map E.terms entries.now) (Some one)

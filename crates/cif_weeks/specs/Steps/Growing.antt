@@ -43,7 +43,3 @@ pub record TurnsOn {B : Type 0} (window : Window) (body_on : ℕ → Option B) (
 abbrev pub Breaks : {B : Type 0} → Form → Window → (ℕ → Option B) → Permanent B → Type 0
 Breaks One window body_on r = (next : List Bool) → IsMask body_on r.body (week_of r.last + 1) next → r.days ≢ next
 Breaks Two window body_on r = (n : ℕ) × TurnsOn window body_on r.body (week_of r.last) n
-
--- A record has ended: where its body runs in the week after its last, that week doesn't join it.
-abbrev pub HasEnded : {B : Type 0} → Form → Window → (ℕ → Option B) → Permanent B → Type 0
-HasEnded form window body_on r = (n : ℕ) → week_of n ≡ week_of r.last + 1 → body_on n ≡ Some r.body → Breaks form window body_on r

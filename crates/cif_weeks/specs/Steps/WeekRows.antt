@@ -1,6 +1,6 @@
 -- Steps to the runs: the sources of the days of a week. No public clause cites them.
 use Rattle.std.specs.Prelude.{◌≡◌, ℕ, ◌+◌, ◌<◌, ◌≤◌, Bool, List, length, Option, Some, None, slice_index_or, nat_le, if◌then◌else◌}
-use Rattle.std.specs.Prelude.{◌↔◌, ◌⊎◌, Contains}
+use Rattle.std.specs.Prelude.{◌↔◌, Contains}
 use Rattle.cif_columns.specs.Day.{week_of, weekday_of}
 use Rattle.cif_columns.specs.DaysRun.{RunsOn}
 use Rattle.cif_calendar.specs.Terms.{Terms}
@@ -8,10 +8,7 @@ use Rattle.cif_calendar.specs.Source.{body_at}
 use Rattle.cif_calendar.specs.Pieces.{Tiles, source_at}
 use Rattle.cif_calendar.specs.declared.piece.Piece.{Piece}
 use Rattle.cif_calendar.specs.Calendar.{CalendarParts}
-use Rattle.cif_weeks.specs.declared.form.Form.{Form}
 use Rattle.cif_weeks.specs.declared.week.Week.{Week}
-use Rattle.cif_weeks.specs.Runs.{window_of}
-use Rattle.cif_weeks.specs.Steps.WeekMasks.{Agree, Differ}
 
 -- the source of day n, and none outside the window
 abbrev pub source_in : CalendarParts → ℕ → Option ℕ
@@ -56,22 +53,6 @@ pub record AreSeen {B : Type 0} (xs : List (Terms B)) (row : List (Option ℕ)) 
 -- each source of a row is the position of a record
 pub record ArePositions {B : Type 0} (xs : List (Terms B)) (row : List (Option ℕ)) : Type 0 where
   pub below : (w i : ℕ) → w < 7 → slice_index_or row w None ≡ Some i → i < length xs
-
--- The body at this position goes on from the week before `week`: its mask there isn't empty, and agrees with `days`.
-pub record GoesOn {B : Type 0} (form : Form) (xs : List (Terms B)) (c : CalendarParts) (week : ℕ) (before : List (Option ℕ))
-    (source : ℕ) (days : List Bool) : Type 0 where
-  pub mask : List Bool
-  pub is_mask : IsMaskOf xs before source mask
-  pub weekday : ℕ
-  pub runs : RunsOn mask weekday
-  pub agree : (earlier : ℕ) → earlier + 1 ≡ week → Agree form (window_of c) earlier mask days
-
--- or it doesn't: the mask is empty, or differs
-pub record Begins {B : Type 0} (form : Form) (xs : List (Terms B)) (c : CalendarParts) (week : ℕ) (before : List (Option ℕ))
-    (source : ℕ) (days : List Bool) : Type 0 where
-  pub mask : List Bool
-  pub is_mask : IsMaskOf xs before source mask
-  pub why : ((w : ℕ) → ¬ RunsOn mask w) ⊎ ((earlier : ℕ) → earlier + 1 ≡ week → Differ form (window_of c) earlier mask days)
 
 -- On each day of the weeks from `week` on and before `last` the source is that of the day seven later. None of them is the
 -- week of day 0, which begins before that day.

@@ -29,7 +29,8 @@ loop-piece-preserved c =
           let ends = tiles-ends ps c.args.calendar.now.first (c.args.calendar.now.last + 1) p tiles listed in
           let last : week_of p.last ≤ end = week_of-rises p.last c.args.calendar.now.last (omega (arith, ends)) in
           rw (w.first-is, w.last-is) (weeks-more end (take i ps) c.loop-piece.first c.loop-piece.last a p w.min-first.result
-          w.later-last.result (omega (arith, w.min-first.ensures)) (omega (arith, w.min-first.ensures, w.week.ensures)) w.later-last.ensures.from
+          w.later-last.result (omega (arith, w.min-first.ensures)) (omega (arith, w.min-first.ensures, w.week.ensures))
+          w.later-last.ensures.from
           (omega (arith, w.later-last.ensures.from_other, w.week-then-is_busy.ensures))
           (w.later-last.ensures.within end a.last_upto (omega (arith, w.week-then-is_busy.ensures, last))))
       | else-is_busy w ↦ rw (w.first-is, w.last-is) (weeks-idle end (take i ps) c.loop-piece.first c.loop-piece.last a p

@@ -1,4 +1,4 @@
--- A week whose Monday and other days are in one piece is one of the calendar, and so are those like it (`week-piece`); else it is by itself.
+-- A week whose days are in one piece is one of the calendar, and so are those like it (`week-piece`); else it is by itself.
 use Rattle.std.proofs.Common.{◌∙◌, sym}
 use Rattle.cif_weeks.proofs.AlikeWeeks.{week-piece}
 use Rattle.cif_weeks.proofs.week.Week.from_monday.Goals as goal

@@ -1,0 +1,360 @@
+-- The list of runs as it is built: one day more is known, with a run that goes on or begins, or without; and then a week.
+use Rattle.std.proofs.Common.{◌≡◌, ◌≢◌, ◌⊎◌, inl, inr, ℕ, ◌+◌, ◌-◌, ◌*◌, ◌<◌, ◌≤◌, Bool, List, [], ◌∷◌, ◌++◌, Option, None, Some, length}
+use Rattle.std.proofs.Common.{get_or, set, refl, sym, ◌∙◌, ap, subst, arith, ⊎_elim}
+use Rattle.std.specs.Prelude.{◌↔◌, slice_get}
+use Rattle.std.proofs.lemmas.Bool.{cases_lt}
+use Rattle.std.proofs.lemmas.Option.{same_Some, slice_get_within}
+use Rattle.cif_columns.specs.Day.{week_of, weekday_of}
+use Rattle.cif_columns.specs.DaysRun.{RunsOn, IsFirstOf}
+use Rattle.cif_calendar.specs.Terms.{Terms}
+use Rattle.cif_calendar.specs.Source.{body_at}
+use Rattle.cif_calendar.specs.Calendar.{CalendarParts}
+use Rattle.cif_weeks.specs.declared.form.Form.{Form}
+use Rattle.cif_weeks.specs.declared.run.Run.{Run}
+use Rattle.cif_weeks.specs.declared.week.Week.{Week}
+use Rattle.cif_weeks.specs.Runs.{AreSources, record_of, window_of}
+use Rattle.cif_weeks.specs.Steps.Growing.{Breaks, IsGrown}
+use Rattle.cif_weeks.specs.Steps.WeekMasks.{Agree, Differ, IsLastDay, IsMask}
+use Rattle.cif_weeks.specs.Steps.WeekRows.{source_in, body_in, IsMaskOf, IsWeek}
+use Rattle.cif_weeks.specs.Steps.OpenRuns.{RunsBefore, IsOpenRun, ComesBefore, AreOpen, ArePlaces, IsBefore}
+use Rattle.cif_weeks.specs.Steps.OpenRuns.{Joins, JoinNone, IsAdded}
+use Rattle.cif_weeks.proofs.RunsRead.{same_or_other, IsPut, put-set, put-push}
+use Rattle.cif_weeks.proofs.Growing.{grown_start, grown_more}
+use Rattle.cif_weeks.proofs.Ended.{breaks_differ}
+use Rattle.cif_weeks.proofs.Jump.{grown_jump}
+use Rattle.cif_weeks.proofs.Masks.{last_runs}
+use Rattle.cif_weeks.proofs.SourcesIn.{source_in-inside}
+use Rattle.cif_weeks.proofs.AlikeWeeks.{alike-bodies, alike-source}
+use Rattle.cif_weeks.proofs.Growth.{inside, body-source, source-body, mask-of_row}
+
+-- a day more is known
+known-more : {B : Type 0} (xs : List (Terms B)) (c : CalendarParts) (week limit : ℕ) (b : B) → RunsBefore xs c week limit b →
+    RunsBefore xs c week (limit + 1) b
+known-more xs c week limit b h = record { day = h.day; in_week = h.in_week; before = omega (arith, h.before); runs = h.runs }
+
+module _ {B : Type 0} (form : Form) (xs : List (Terms B)) (c : CalendarParts) (week last limit : ℕ) (old : List Run)
+    (u : AreOpen form xs c week last limit old) (in_week : (n : ℕ) → n + 4 ≡ limit → week_of n ≡ week) where
+  -- a run that stays as it is
+  later : (r : Run) → (o : IsOpenRun form xs c week last limit r) → ((n : ℕ) → n + 4 ≡ limit → week_of r.last + 1 ≡ week →
+      body_in xs c n ≡ Some o.body → Breaks form (window_of c) (body_in xs c) (record_of r o.body)) →
+      IsOpenRun form xs c week last (limit + 1) r
+  later r o breaks = record {
+    body = o.body;
+    has = o.has;
+    starts = o.starts;
+    grown = o.grown;
+    begun = omega (arith, o.begun);
+    reaches = ⊎_elim (λ sooner. inl sooner) (λ there. inr (there.0, known-more xs c week limit o.body there.1)) o.reaches;
+    ended = λ i known next runs. ⊎_elim
+        (λ sooner. o.ended i sooner next runs)
+        (λ from.
+        let now : i + 4 ≡ limit = omega arith in
+        breaks i now (omega (arith, next, in_week i now)) runs)
+        (cases_lt (i + 4) limit);
+  }
+
+  -- what runs on the day runs on a day of its week that is known
+  pub open-more : ((n : ℕ) (b : B) → n + 4 ≡ limit → body_in xs c n ≡ Some b → RunsBefore xs c week limit b) →
+      AreOpen form xs c week last (limit + 1) old
+  open-more seen = record {
+    each = λ k r at.
+        let o = u.each k r at in
+        later r o (λ n now next runs.
+        let h = seen n o.body now runs in o.ended h.day h.before (omega (arith, h.in_week, next)) h.runs);
+    pairs = u.pairs;
+    complete = λ m b known runs. ⊎_elim
+        (λ sooner. u.complete m b sooner runs)
+        (λ from.
+        let now : m + 4 ≡ limit = omega arith in
+        let h = seen m b now runs in
+        let d = u.complete h.day b h.before h.runs in
+        record {
+          place = d.place;
+          run = d.run;
+          at = d.at;
+          has = d.has;
+          from = omega (arith, d.from, h.in_week, in_week m now);
+          upto = omega (arith, d.upto, h.in_week, in_week m now);
+        })
+        (cases_lt (m + 4) limit);
+  }
+
+  -- a run with the day is put to a place
+  module _ (n : ℕ) (now : n + 4 ≡ limit) (b : B) (runs : body_in xs c n ≡ Some b) (new : List Run) (place : ℕ) (it : Run)
+      (p : IsPut old new place it) (i : IsOpenRun form xs c week last (limit + 1) it) (has : body_at xs (Some it.source) ≡ Some b)
+      (from : week_of it.first ≤ week) (upto : week ≤ week_of it.last)
+      (breaks : (j : ℕ) (r : Run) (d : B) → j ≢ place → slice_get old j ≡ Some r → body_at xs (Some r.source) ≡ Some d →
+      IsGrown form (window_of c) (body_in xs c) (record_of r d) →
+      body_in xs c n ≡ Some d → week_of r.last + 1 ≡ week → Breaks form (window_of c) (body_in xs c) (record_of r d))
+      (before : (j : ℕ) (r : Run) → j < place → slice_get old j ≡ Some r → ComesBefore xs r it)
+      (after : (j : ℕ) (r : Run) → place < j → slice_get old j ≡ Some r → ComesBefore xs it r) where
+    pub open-put : AreOpen form xs c week last (limit + 1) new
+    open-put = record {
+      each = λ j r at. ⊎_elim
+          (λ same.
+          let one : it ≡ r = same_Some it r (sym p.at ∙ ap (slice_get new) (sym same) ∙ at) in
+          subst (λ v. IsOpenRun form xs c week last (limit + 1) v) one i)
+          (λ other.
+          let was = p.others j r other at in
+          let o = u.each j r was in
+          later r o (λ i now_i next runs_i.
+          let same : i ≡ n = omega arith in
+          breaks j r o.body other was o.has o.grown (subst (λ v. body_in xs c v ≡ Some o.body) same runs_i) next))
+          (same_or_other j place);
+      pairs = λ j k r s less at_j at_k. ⊎_elim
+          (λ same.
+          let one : it ≡ r = same_Some it r (sym p.at ∙ ap (slice_get new) (sym same) ∙ at_j) in
+          subst (λ v. ComesBefore xs v s) one (after k s (omega arith) (p.others k s (λ e. omega arith) at_k)))
+          (λ other. ⊎_elim
+          (λ same.
+          let one : it ≡ s = same_Some it s (sym p.at ∙ ap (slice_get new) (sym same) ∙ at_k) in
+          subst (λ v. ComesBefore xs r v) one (before j r (omega arith) (p.others j r other at_j)))
+          (λ other_k. u.pairs j k r s less (p.others j r other at_j) (p.others k s other_k at_k))
+          (same_or_other k place))
+          (same_or_other j place);
+      complete = λ m d known runs_m. ⊎_elim
+          (λ sooner.
+          let h = u.complete m d sooner runs_m in
+          let t = p.kept h.place h.run h.at in
+          record {
+            place = h.place;
+            run = t.it;
+            at = t.at;
+            has = ap (λ v. body_at xs (Some v)) t.source ∙ h.has;
+            from = subst (λ v. week_of v ≤ week_of m) (sym t.first) h.from;
+            upto = omega (arith, h.upto, t.upto);
+          })
+          (λ from_n.
+          let same : m ≡ n = omega arith in
+          record {
+            place = place;
+            run = it;
+            at = p.at;
+            has = has ∙ sym runs ∙ ap (body_in xs c) (sym same) ∙ runs_m;
+            from = omega (arith, in_week n now);
+            upto = omega (arith, in_week n now);
+          })
+          (cases_lt (m + 4) limit);
+    }
+
+-- the body of a weekday of the week, the first on which it runs
+module _ {B : Type 0} (form : Form) (xs : List (Terms B)) (c : CalendarParts) (sources : AreSources xs c) (week : Week)
+    (k : IsWeek c week) (w : ℕ) (below : w < 7) (old : List Run)
+    (u : AreOpen form xs c week.number week.last_alike (week.number * 7 + w) old)
+    (source : ℕ) (is : get_or week.row w None ≡ Some source)
+    (days : List Bool) (m : IsMaskOf xs week.row source days) (f : IsFirstOf days w) where
+  -- its day and its mask
+  pub day-of : (n : ℕ) × (n + 4 ≡ week.number * 7 + w) × (source_in c n ≡ Some source)
+  day-of =
+      let (n, next, day) = k.row.only w source below is in
+      (n, (let at : n + 4 ≡ week.number * 7 + w = omega arith in at), sym (k.row.each n next) ∙ ap (λ v. get_or week.row v None) day ∙ is)
+
+  pub body-of : (b : B) × (body_at xs (Some source) ≡ Some b)
+  body-of = source-body xs c sources day-of.0 source day-of.2
+
+  pub mask : IsMask (body_in xs c) body-of.0 week.number days
+  mask = mask-of_row xs c sources week.number source body-of.0 week.row days k.row body-of.1 m
+
+  runs-first : (n : ℕ) → n + 4 ≡ week.number * 7 + w → body_in xs c n ≡ Some body-of.0
+  runs-first n at =
+      let same : day-of.0 ≡ n = omega (arith, day-of.1) in
+      subst (λ v. body_in xs c v ≡ Some body-of.0) same (ap (body_at xs) day-of.2 ∙ body-of.1)
+
+  -- it runs on no earlier day of the week
+  not-before : (i : ℕ) → week_of i ≡ week.number → i + 4 < week.number * 7 + w → body_in xs c i ≡ Some body-of.0 → ⊥
+  not-before i at before runs = f.none_before (weekday_of i) (omega arith) (mask.shows i at runs)
+
+  earliest : (n i : ℕ) → n + 4 ≡ week.number * 7 + w → week_of i ≡ week_of n → body_in xs c i ≡ Some body-of.0 → n ≤ i
+  earliest n i at same runs = ⊎_elim
+      (λ before. absurd (not-before i (omega arith) before runs))
+      (λ from. omega arith)
+      (cases_lt (i + 4) (week.number * 7 + w))
+
+  -- a run that has the days up to the week before, with the week and those like it
+  module _ (before : List (Option ℕ)) (q : ArePlaces xs c (IsBefore week.number) week.number old before) where
+    -- where a run at one of the places has the body, it ends in the week before
+    ends-before : (v place : ℕ) (run : Run) → get_or before v None ≡ Some place → slice_get old place ≡ Some run →
+        body_at xs (Some run.source) ≡ Some body-of.0 → week_of run.last + 1 ≡ week.number
+    ends-before v place run at_v at has =
+        let (other, at_too, from) = q.only v place at_v in
+        let one : other ≡ run = same_Some other run (sym at_too ∙ at) in
+        let late : week.number ≤ week_of run.last + 1 = subst (λ (r : Run). week.number ≤ week_of r.last + 1) one from in
+        let o = u.each place run at in
+        ⊎_elim
+        (λ sooner. omega arith)
+        (λ there.
+        let t = there.1 in
+        let same : o.body ≡ body-of.0 = same_Some o.body body-of.0 (sym o.has ∙ has) in
+        absurd (not-before t.day t.in_week t.before (subst (λ b. body_in xs c t.day ≡ Some b) same t.runs)))
+        o.reaches
+
+    -- two runs with the body that end in the week before are one
+    one-before : (i j : ℕ) (r s : Run) → slice_get old i ≡ Some r → slice_get old j ≡ Some s →
+        body_at xs (Some r.source) ≡ body_at xs (Some s.source) → week_of r.last + 1 ≡ week.number → week_of s.last + 1 ≡ week.number →
+        i < j → ⊥
+    one-before i j r s at_i at_j same ends_r ends_s less =
+        let apart : week_of r.last < week_of s.first = (u.pairs i j r s less at_i at_j).apart same in
+        let in_order : week_of s.first ≤ week_of s.last = (u.each j s at_j).grown.in_order in
+        omega arith
+
+    pub extend : (place : ℕ) → Joins form xs c week.number source days old before place → (run : Run) →
+        slice_get old place ≡ Some run → (last : ℕ) (both : List Bool) (day : ℕ) → IsLastDay week.number days day →
+        last ≡ day + 7 * (week.last_alike - week.number) → length both ≡ 7 →
+        ((v : ℕ) → RunsOn both v ↔ (RunsOn run.days v ⊎ RunsOn days v)) →
+        IsAdded form xs c week (week.number * 7 + w) source old
+        (set old place (record { first = run.first; last = last; days = both; source = run.source })) place
+    extend place j run at last both day l is_last seven union =
+        let it : Run = record { first = run.first; last = last; days = both; source = run.source } in
+        let b = body-of.0 in
+        let o = u.each place run at in
+        let one_run : j.run ≡ run = same_Some j.run run (sym j.at ∙ at) in
+        let same : body_at xs (Some run.source) ≡ body_at xs (Some source) =
+        subst (λ (r : Run). body_at xs (Some r.source) ≡ body_at xs (Some source)) one_run j.same in
+        let has : body_at xs (Some it.source) ≡ Some b = same ∙ body-of.1 in
+        let body_is : b ≡ o.body = same_Some b o.body (sym has ∙ o.has) in
+        let ends = ends-before j.weekday place run j.is at has in
+        let old_week = week_of run.last in
+        let grown : IsGrown form (window_of c) (body_in xs c) (record_of run b) =
+        subst (λ d. IsGrown form (window_of c) (body_in xs c) (record_of run d)) (sym body_is) o.grown in
+        let next : IsMask (body_in xs c) b (old_week + 1) days = subst (λ v. IsMask (body_in xs c) b v days) (sym ends) mask in
+        let one : IsGrown form (window_of c) (body_in xs c) (record { first = run.first; last = day; days = both; body = b }) =
+        grown_more (window_of c) (body_in xs c) (inside xs c sources) form (record_of run b) old_week days both day refl grown
+        next (subst (λ (r : Run). Agree form (window_of c) old_week r.days days) one_run (j.agree old_week ends)) seven union
+        (subst (λ v. IsLastDay v days day) (sym ends) l) in
+        let all : IsGrown form (window_of c) (body_in xs c) (record_of it b) =
+        subst (λ v. IsGrown form (window_of c) (body_in xs c) (record { first = run.first; last = v; days = both; body = b })) (sym is_last)
+        (grown_jump (window_of c) (body_in xs c) (inside xs c sources) form
+        (record { first = run.first; last = day; days = both; body = b }) week.number (week.last_alike - week.number) l.in_week one
+        (alike-bodies xs c week.number week.last_alike k.from k.alike)) in
+        let upto : week_of it.last ≡ week.last_alike = omega (arith, k.from, l.in_week) in
+        let n = day-of.0 in
+        let at_n = day-of.1 in
+        let runs_n = runs-first n at_n in
+        let begun : run.first + 4 < week.number * 7 + w = o.begun in
+        let p : IsPut old (set old place it) place it =
+        put-set old place run it at refl refl (omega (arith, k.from)) in
+        record {
+          runs = open-put form xs c week.number week.last_alike (week.number * 7 + w) old u (λ i at_i. omega arith) n at_n b runs_n
+              (set old place it) place it p
+              (record {
+                body = b;
+                has = has;
+                starts = o.starts;
+                grown = all;
+                begun = omega arith;
+                reaches = inr (upto, record { day = n; in_week = omega arith; before = omega arith; runs = runs_n });
+                ended = λ i known after runs. absurd (omega (arith, k.from));
+              })
+              has (omega arith) (omega (arith, k.from))
+              (λ i r d other at_r has_r grown_r runs_d ends_r.
+              let bodies : body_at xs (Some r.source) ≡ body_at xs (Some run.source) =
+              has_r ∙ sym runs_d ∙ runs_n ∙ sym has in
+              ⊎_elim
+              (λ less. absurd (one-before i place r run at_r at bodies ends_r ends less))
+              (λ more. absurd (one-before place i run r at at_r (sym bodies) ends ends_r (omega arith)))
+              (cases_lt i place))
+              (λ i r less at_r. let h = u.pairs i place r run less at_r at in record { rising = h.rising; apart = h.apart })
+              (λ i r more at_r.
+              let h = u.pairs place i run r more at at_r in
+              record {
+                rising = h.rising;
+                apart = λ bodies.
+                    let s = u.each i r at_r in
+                    let later_r : week_of run.last < week_of r.first = h.apart bodies in
+                    let begun_r : r.first + 4 < week.number * 7 + w = s.begun in
+                    absurd (not-before r.first (omega arith) begun_r (ap (body_at xs) s.starts ∙ sym bodies ∙ has));
+              });
+          kept = p.kept;
+          run = it;
+          at = p.at;
+          same = same;
+          upto = upto;
+        }
+
+    pub begin : JoinNone form xs c week.number source days old before 7 → (first last day : ℕ) → first + 4 ≡ week.number * 7 + w →
+        IsLastDay week.number days day → last ≡ day + 7 * (week.last_alike - week.number) →
+        IsAdded form xs c week (week.number * 7 + w) source old
+        (old ++ record { first = first; last = last; days = days; source = source } ∷ []) (length old)
+    begin none first last day at_first l is_last =
+        let it : Run = record { first = first; last = last; days = days; source = source } in
+        let b = body-of.0 in
+        let has = body-of.1 in
+        let in_week : week.number ≡ week_of first = omega arith in
+        let runs_first = runs-first first at_first in
+        let one : IsGrown form (window_of c) (body_in xs c) (record { first = first; last = day; days = days; body = b }) =
+        grown_start (window_of c) (body_in xs c) (inside xs c sources) form (record { first = first; last = day; days = days; body = b })
+        (subst (λ v. IsMask (body_in xs c) b v days) in_week mask) (subst (λ v. IsLastDay v days day) in_week l) runs_first
+        (λ i same runs. earliest first i at_first same runs) in
+        let all : IsGrown form (window_of c) (body_in xs c) (record_of it b) =
+        subst (λ v. IsGrown form (window_of c) (body_in xs c) (record { first = first; last = v; days = days; body = b })) (sym is_last)
+        (grown_jump (window_of c) (body_in xs c) (inside xs c sources) form
+        (record { first = first; last = day; days = days; body = b }) week.number (week.last_alike - week.number) l.in_week one
+        (alike-bodies xs c week.number week.last_alike k.from k.alike)) in
+        let upto : week_of it.last ≡ week.last_alike = omega (arith, k.from, l.in_week) in
+        let starts : source_in c first ≡ Some source =
+        let same : day-of.0 ≡ first = omega (arith, day-of.1) in ap (source_in c) (sym same) ∙ day-of.2 in
+        let p = put-push old it in
+        record {
+          runs = open-put form xs c week.number week.last_alike (week.number * 7 + w) old u (λ i at_i. omega arith) first at_first b
+              runs_first (old ++ it ∷ []) (length old) it p
+              (record {
+                body = b;
+                has = has;
+                starts = starts;
+                grown = all;
+                begun = omega arith;
+                reaches = inr (upto, record { day = first; in_week = sym in_week; before = omega arith; runs = runs_first });
+                ended = λ i known after runs. absurd (omega (arith, k.from));
+              })
+              has (omega arith) (omega (arith, k.from))
+              (λ i r d other at_r has_r grown_r runs_d ends_r.
+              let is_b : d ≡ b = same_Some d b (sym runs_d ∙ runs_first) in
+              let h = q.each r.last d ends_r grown_r.last_runs in
+              let has_h : body_at xs (Some h.run.source) ≡ Some b = h.has ∙ ap Some is_b in
+              let ends_h = ends-before h.weekday h.place h.run h.is h.at has_h in
+              let bodies : body_at xs (Some r.source) ≡ body_at xs (Some h.run.source) = has_r ∙ sym h.has in
+              ⊎_elim
+              (λ same.
+              let r_is : h.run ≡ r = same_Some h.run r (sym h.at ∙ ap (slice_get old) (sym same) ∙ at_r) in
+              let differ : Differ form (window_of c) (week_of r.last) r.days days =
+              subst (λ (v : Run). Differ form (window_of c) (week_of v.last) v.days days) r_is
+              (none.differ h.weekday h.place h.run h.below h.is h.at (has_h ∙ sym has) (week_of h.run.last) ends_h) in
+              breaks_differ (window_of c) (body_in xs c) (inside xs c sources) form (record_of r d) days grown_r
+              (subst (λ v. IsMask (body_in xs c) d v days) (sym ends_r)
+              (subst (λ v. IsMask (body_in xs c) v week.number days) (sym is_b) mask))
+              differ)
+              (λ apart. ⊎_elim
+              (λ less. absurd (one-before i h.place r h.run at_r h.at bodies ends_r ends_h less))
+              (λ more. absurd (one-before h.place i h.run r h.at at_r (sym bodies) ends_h ends_r (omega arith)))
+              (cases_lt i h.place))
+              (same_or_other i h.place))
+              (λ i r less at_r.
+              let o = u.each i r at_r in
+              let begun : r.first + 4 < week.number * 7 + w = o.begun in
+              record {
+                rising = omega arith;
+                apart = λ bodies. ⊎_elim
+                    (λ sooner. omega arith)
+                    (λ there.
+                    let t = there.1 in
+                    let is_b : o.body ≡ b = same_Some o.body b (sym o.has ∙ bodies ∙ has) in
+                    absurd (not-before t.day t.in_week t.before (subst (λ v. body_in xs c t.day ≡ Some v) is_b t.runs)))
+                    o.reaches;
+              })
+              (λ i r more at_r. let within : i < length old = slice_get_within old i r at_r in absurd (omega arith));
+          kept = p.kept;
+          run = it;
+          at = p.at;
+          same = refl;
+          upto = upto;
+        }
+
+  -- the last day of the mask in the last of the weeks that are like this one is a day of the calendar
+  pub last-within : (day : ℕ) → IsLastDay week.number days day → day + 7 * (week.last_alike - week.number) ≤ c.last
+  last-within day l =
+      let runs : body_in xs c day ≡ Some body-of.0 = last_runs (body_in xs c) body-of.0 week.number days day mask l in
+      let (i, is) = body-source xs c sources (source_in c day) body-of.0 runs in
+      let there : source_in c (day + 7 * (week.last_alike - week.number)) ≡ Some i =
+      alike-source c week.number week.last_alike k.alike (week.last_alike - week.number) day (omega (arith, l.in_week))
+      (omega (arith, l.in_week, k.from)) ∙ is in
+      (source_in-inside c (day + 7 * (week.last_alike - week.number)) i there).upto
