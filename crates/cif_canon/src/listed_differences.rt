@@ -1,10 +1,10 @@
 //! The differences of two extracts.
-ghost use Rattle.std.specs.Prelude.{◌≡◌, ◌↔◌, IfErr, IsTrue};
+ghost use Rattle.std.specs.Prelude.{◌≡◌, ◌↔◌, IfErr, IsTrue, length};
 ghost use Rattle.cif_columns.specs.Sink.{Writes};
 ghost use Rattle.cif_extract.specs.declared.fault.Fault.TheVariants.{Write};
 
-use crate::marked_lines::{write_marked_runs, write_marked_tiplocs};
-use crate::side::Sided;
+use crate::marked_lines::{MarkedLines, write_marked_tiplocs, write_sided_runs};
+use crate::side::{Side, Sided};
 use cif_columns::{Sink, WriteDevice, WriteFault};
 use cif_extract::{Extract, Fault};
 use cif_records::Tiploc;
@@ -89,7 +89,11 @@ impl<'a> Differences<'a> {
     pub fn is_empty(&self) -> bool
         ensures { IsTrue result ↔ AreNone self.now }
     {
-        self.tiplocs.is_empty() && self.associations.is_empty() && self.schedules.is_empty()
+        are_empty(
+            self.tiplocs.as_slice(),
+            self.associations.as_slice(),
+            self.schedules.as_slice(),
+        )
     }
 
     /// Appends the plain lines of the differences, each behind `< ` where it is of the left extract
@@ -109,18 +113,35 @@ impl<'a> Differences<'a> {
             sink.old sink.new result }
     {
         let (left, right) = (self.left, self.right);
+        let left_lines = MarkedLines { side: Side::Left };
+        let right_lines = MarkedLines { side: Side::Right };
         write_marked_tiplocs(self.tiplocs.as_slice(), sink)?;
-        write_marked_runs(
+        write_sided_runs(
+            &left_lines,
             left.associations.as_slice(),
+            &right_lines,
             right.associations.as_slice(),
             self.associations.as_slice(),
             sink,
         )?;
-        write_marked_runs(
+        write_sided_runs(
+            &left_lines,
             left.schedules.as_slice(),
+            &right_lines,
             right.schedules.as_slice(),
             self.schedules.as_slice(),
             sink,
         )
     }
+}
+
+/// Whether all three lists are empty.
+fn are_empty(
+    tiplocs: &[Sided<Tiploc>],
+    associations: &[Sided<Run>],
+    schedules: &[Sided<Run>],
+) -> bool
+    ensures { IsTrue result ↔ ((length tiplocs.now ≡ 0) × (length associations.now ≡ 0) × (length schedules.now ≡ 0)) }
+{
+    tiplocs.is_empty() && associations.is_empty() && schedules.is_empty()
 }

@@ -1,15 +1,15 @@
 //! Canonical records as plain lines, each behind the mark of its side.
-ghost use Rattle.std.specs.Prelude.{◌≡◌, ◌∷◌, [], false, codes, map};
+ghost use Rattle.std.specs.Prelude.{◌≡◌, ◌∷◌, [], All, false};
 ghost use Rattle.std.specs.List.{flat_map};
 ghost use Rattle.cif_calendar.specs.Keys.{keyed};
-ghost use Rattle.cif_columns.specs.Line.{IsLine};
 ghost use Rattle.cif_columns.specs.Sink.{Writes, sink_failed};
 ghost use Rattle.cif_canon.specs.Differences.{mark, marked_text, marked_tiploc};
+ghost use Rattle.cif_canon.specs.Steps.Sides.{HasSidedRecord, sided_run_text};
 
 use crate::record_lines::{RecordLines, write_run};
 use crate::side::{Side, Sided};
 use cif_calendar::Entry;
-use cif_columns::{Line, Sink, Uid, WriteDevice, WriteFault};
+use cif_columns::{Line, LineSlice, Sink, Uid, WriteDevice, WriteFault};
 use cif_extract::{Body, Schedule};
 use cif_records::{
     AssocBody, AssocKey, Association, Tiploc, permanent_association, permanent_basic,
@@ -37,6 +37,23 @@ fn write_marked<W: WriteDevice>(
 {
     sink.write_all(mark_of(side))?;
     sink.write_line(line)
+}
+
+/// Appends the lines, as `write_marked` does.
+fn write_marked_lines<W: WriteDevice>(
+    side: Side,
+    lines: &LineSlice<'_>,
+    sink: &mut Sink<W>,
+) -> Result<(), WriteFault>
+    requires { sink_failed sink.old ≡ false }
+    ensures { Writes W.contents W.write_errors (marked_text side lines.now)
+        sink.old sink.new result }
+{
+    let count = lines.len();
+    for i in 0..count {
+        write_marked(side, &lines.line(i), sink)?;
+    }
+    Ok(())
 }
 
 /// The plain lines of records, behind the mark of a side.
@@ -76,11 +93,7 @@ impl RecordLines<Schedule> for MarkedLines {
     ) -> Result<(), WriteFault> {
         let basic = permanent_basic(uid, &body.detail_line(), run.first, run.last, run.days);
         write_marked(self.side, &basic, sink)?;
-        let further = body.further_lines();
-        for i in 0..further.len() {
-            write_marked(self.side, &further.line(i), sink)?;
-        }
-        Ok(())
+        write_marked_lines(self.side, &body.further_lines(), sink)
     }
 }
 
@@ -102,26 +115,48 @@ pub(crate) fn write_marked_tiplocs<W: WriteDevice>(
     Ok(())
 }
 
-/// Appends the lines of the runs' records. A run is of the entries of its side.
-pub(crate) fn write_marked_runs<E: Entry, W: WriteDevice>(
+/// Appends the lines of the run's record, which is of an entry of its side.
+fn write_sided_run<E: Entry, L: RecordLines<E>, W: WriteDevice>(
+    left_lines: &L,
     left: &[E],
+    right_lines: &L,
+    right: &[E],
+    run: &Sided<Run>,
+    sink: &mut Sink<W>,
+) -> Result<(), WriteFault>
+    requires going { sink_failed sink.old ≡ false }
+    requires record { HasSidedRecord (keyed E.key E.terms left.now) (keyed E.key E.terms right.now) run.now }
+    ensures { Writes W.contents W.write_errors
+        (sided_run_text (L.text left_lines.now) (keyed E.key E.terms left.now)
+        (L.text right_lines.now) (keyed E.key E.terms right.now) run.now)
+        sink.old sink.new result }
+{
+    match run.side {
+        Side::Left => write_run(left_lines, left, &run.it, sink),
+        Side::Right => write_run(right_lines, right, &run.it, sink),
+    }
+}
+
+/// Appends the lines of the runs' records, each of which is of an entry of its side.
+pub(crate) fn write_sided_runs<E: Entry, L: RecordLines<E>, W: WriteDevice>(
+    left_lines: &L,
+    left: &[E],
+    right_lines: &L,
     right: &[E],
     runs: &[Sided<Run>],
     sink: &mut Sink<W>,
 ) -> Result<(), WriteFault>
-where
-    MarkedLines: RecordLines<E>,
+    requires { All (HasSidedRecord (keyed E.key E.terms left.now) (keyed E.key E.terms right.now)) runs.now }
+    ensures { Writes W.contents W.write_errors
+        (flat_map (sided_run_text (L.text left_lines.now) (keyed E.key E.terms left.now)
+        (L.text right_lines.now) (keyed E.key E.terms right.now)) runs.now)
+        sink.old sink.new result }
 {
     if sink.failed() {
         return Err(WriteFault);
     }
-    for found in runs {
-        let lines = MarkedLines { side: found.side };
-        let entries = match found.side {
-            Side::Left => left,
-            Side::Right => right,
-        };
-        write_run(&lines, entries, &found.it, sink)?;
+    for run in runs {
+        write_sided_run(left_lines, left, right_lines, right, run, sink)?;
     }
     Ok(())
 }

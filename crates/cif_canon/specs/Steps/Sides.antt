@@ -3,7 +3,7 @@ use Rattle.std.specs.Prelude.{◌≡◌, ℕ, List, [], ◌∷◌, Option, None,
 use Rattle.cif_calendar.specs.Terms.{Terms}
 use Rattle.cif_weeks.specs.Permanent.{Permanent}
 use Rattle.cif_weeks.specs.declared.run.Run.{Run}
-use Rattle.cif_canon.specs.Steps.Texts.{HasRecord, record_at}
+use Rattle.cif_canon.specs.Steps.Texts.{HasRecord, record_at, run_text}
 use Rattle.cif_canon.specs.declared.side.Side.{Side}
 use Rattle.cif_canon.specs.declared.side.Side.TheVariants.{Left, Right}
 use Rattle.cif_canon.specs.declared.side.Sided.{Sided}
@@ -27,3 +27,8 @@ abbrev pub sided_records : {K B : Type 0} → List (K × Terms B) → List (K ×
     → List (Sided (K × Permanent B))
 sided_records xs ys [] = []
 sided_records xs ys (s ∷ rest) = with_record s.side (record_at (at_side xs ys s.side) s.it) (sided_records xs ys rest)
+
+-- the text of a run, by its side
+abbrev pub sided_run_text : {K B : Type 0} → (K × Permanent B → List ℕ) → List (K × Terms B) → (K × Permanent B → List ℕ)
+    → List (K × Terms B) → Sided Run → List ℕ
+sided_run_text left_text xs right_text ys s = run_text (at_side left_text right_text s.side) (at_side xs ys s.side) s.it
