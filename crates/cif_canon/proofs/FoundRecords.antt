@@ -486,8 +486,8 @@ module _ {K B : Type 0} (window : Window) (xs ys : List (K × Terms B)) (found :
 pub found-all : {K B : Type 0} (cmp : K → K → Ordering) (total : IsTotalOrder cmp) (same : (j k : K) → cmp j k ≡ Equal → j ≡ k)
     (window : Window) (xs ys : List (K × Terms B)) (runs : List (Sided Run)) → AreFound cmp window xs ys [] [] runs →
     AreDifferentRuns cmp window xs ys runs
-found-all cmp total same window xs ys runs a =
-    let told = λ k. a.passed.told k (nobody cmp total same xs ys window.first window.last k) in record {
+found-all {K = K} cmp total same window xs ys runs a =
+    let told = λ (k : K). a.passed.told k (nobody cmp total same xs ys window.first window.last k) in record {
       found = a.found;
       runs_of = a.runs_of;
       different = record {

@@ -1,6 +1,7 @@
 -- The locations that only one of two rising lists has are found one by one.
 use Rattle.std.proofs.Common.{◌≡◌, ◌⊎◌, inl, inr, ℕ, ◌+◌, ◌<◌, Bool, true, false, List, [], ◌∷◌, ◌++◌, Some, None, length, drop}
-use Rattle.std.proofs.Common.{refl, sym, ap, ◌∙◌, subst, arith, ⊎_elim, append-nil}
+use Rattle.std.proofs.Common.{refl, sym, ap, ◌∙◌, subst, arith, ⊎_elim, append-nil, take, ◌-◌}
+use Rattle.std.proofs.lemmas.List.{length-drop, take_all}
 use Rattle.std.specs.Prelude.{AllPairs, Contains, ◌↔◌}
 use Rattle.std.specs.Cmp.Lexicographic.{nat_list_cmp_total, slice_cmp}
 use Rattle.std.specs.Ordering.{nat_cmp}
@@ -314,3 +315,8 @@ module _ (lefts rights : List Tiploc) where
       sifting-all ls rs p q found
       (subst (λ (z : List Tiploc). AreSifting lefts rights [] z found) no_right
       (subst (λ (z : List Tiploc). AreSifting lefts rights z r found) no_left a))
+
+-- the slice behind the first
+pub behind-first : (l : List Tiploc) → take (length l - 1) (drop 1 l) ≡ drop 1 l
+behind-first l =
+    let len : length (drop 1 l) ≡ length l - 1 = length-drop 1 l in take_all (length l - 1) (drop 1 l) (omega (arith, len))

@@ -15,6 +15,10 @@ loop-order-init c =
     c.as_slice-rights.result.now z) (sym c.new-found.ensures.items)
     (sifting-nothing c.as_slice-lefts.result.now c.as_slice-rights.result.now left.rising right.rising)
 
+pub loop-order-preserved : goal.loop-order-preserved
+loop-order-preserved c =
+    c.in_ok-rest.ensures.sifting c.as_slice-lefts.result.now c.as_slice-rights.result.now c.loop-order.invariant
+
 pub returns : goal.returns
 returns c =
     let left = subst (AreDistinct c.args.left.now) (sym c.as_slice-lefts.ensures.value) c.in_ok-left.ensures in

@@ -1,7 +1,7 @@
 -- The lesser of the first locations has moved behind the others, or both are passed (`moved-left`, `moved-right`, `passed-both`).
-use Rattle.std.proofs.Common.{Some, refl, subst}
+use Rattle.std.proofs.Common.{Some, subst}
 use Rattle.cif_canon.specs.Steps.OnlySides.{IsFirstOrder}
-use Rattle.cif_canon.proofs.SiftedTiplocs.{moved-left, moved-right, passed-both}
+use Rattle.cif_canon.proofs.SiftedTiplocs.{behind-first, moved-left, moved-right, passed-both}
 use Rattle.cif_canon.proofs.different_tiplocs.push_next.Goals as goal
 
 pub returns-in_ok-rest-in-Less-clause-sifting : goal.returns-in_ok-rest-in-Less-clause-sifting
@@ -19,4 +19,5 @@ returns-in_ok-rest-in-Greater-clause-sifting c left right a =
 pub returns-in-Equal-clause-sifting : goal.returns-in-Equal-clause-sifting
 returns-in-Equal-clause-sifting c left right a =
     (passed-both left right c.args.lefts.now c.args.rights.now c.args.found.now.items
-    (subst (λ o. IsFirstOrder c.args.lefts.now c.args.rights.now (Some o)) c.in-Equal.is c.requires) a _ _ refl refl).0
+    (subst (λ o. IsFirstOrder c.args.lefts.now c.args.rights.now (Some o)) c.in-Equal.is c.requires) a _ _ (behind-first c.args.lefts.now)
+    (behind-first c.args.rights.now)).0
