@@ -189,12 +189,6 @@ module _ {K B : Type 0} (cmp : K → K → Ordering) (total : IsTotalOrder cmp) 
       (subst (λ (z : List Run). AllZip (IsRunOf xs) z (with_key k left.records)) (sym are.left) left.runs_of)
       (subst (λ (z : List Run). AllZip (IsRunOf ys) z (with_key k right.records)) (sym are.right) right.runs_of)
 
-  pub own : List (Sided (K × Permanent B))
-  own = zipped.found
-
-  all : List (Sided (K × Permanent B))
-  all = a.found ++ zipped.found
-
   left-all : of_side Left (a.found ++ zipped.found) ≡ of_side Left a.found ++ with_key k left.records
   left-all = of_side-append Left a.found zipped.found ∙ ap (λ (z : List (K × Permanent B)). of_side Left a.found ++ z) zipped.left
 

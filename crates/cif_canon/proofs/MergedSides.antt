@@ -61,17 +61,6 @@ module _ {A : Type 0} where
 
 -- ---- which run is first
 
-pub first-left-some : (l r : List Run) → IsFirstSide l r (Some Left) → 0 < length l
-first-left-some [] [] h = absurd h
-first-left-some [] (y ∷ r) h = absurd h
-first-left-some (x ∷ l) r h = omega arith
-
-pub first-right-some : (l r : List Run) → IsFirstSide l r (Some Right) → 0 < length r
-first-right-some [] [] h = absurd h
-first-right-some (x ∷ l) [] h = absurd h
-first-right-some [] (y ∷ r) h = omega arith
-first-right-some (x ∷ l) (y ∷ r) h = omega arith
-
 -- it doesn't begin after those of the other side
 first-left : (x : Run) (l r : List Run) → IsFirstSide (x ∷ l) r (Some Left) → AreRisingRuns r → (y : Run) → Contains r y → x.first ≤ y.first
 first-left x l [] h rising y in' = absurd (Contains-none y in')
@@ -188,12 +177,6 @@ module _ (lefts rights : List Run) (old : List (Sided Run)) where
     moved-right l r rest first moved m =
         merging-right moved.item l rest (subst (λ (z : List Run). IsFirstSide l z (Some Right)) moved.items_are first)
         (subst (λ (z : List Run). AreMerging lefts rights l z old new) moved.items_are m) moved.new_is
-
--- what has moved is one less
-pub moved-length : {T : Type 0} (side : Side) (items rest : List T) (old new : List (Sided T)) → HasMoved side items rest old new →
-    length items ≡ length rest + 1
-moved-length {T} side items rest old new moved =
-    let is : length items ≡ length (moved.item ∷ rest) = ap (λ (z : List T). length z) moved.items_are in omega (arith, is)
 
 pub nothing-first : (l r : List Run) → IsFirstSide l r None → (l ≡ []) × (r ≡ [])
 nothing-first [] [] h = (refl, refl)

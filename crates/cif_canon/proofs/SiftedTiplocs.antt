@@ -81,17 +81,6 @@ first-greater y (z ∷ l) r h rising x in' = ⊎_elim
     (λ later. onward y z x (before-greater z y h) (pairs-head Before z x l rising later))
     (Contains-cases z l x in')
 
-pub less-some : (l r : List Tiploc) → IsFirstOrder l r (Some Less) → 0 < length l
-less-some [] [] h = absurd h
-less-some [] (y ∷ r) h = absurd h
-less-some (x ∷ l) r h = omega arith
-
-pub greater-some : (l r : List Tiploc) → IsFirstOrder l r (Some Greater) → 0 < length r
-greater-some [] [] h = absurd h
-greater-some (x ∷ l) [] h = absurd h
-greater-some [] (y ∷ r) h = omega arith
-greater-some (x ∷ l) (y ∷ r) h = omega arith
-
 pub nothing-first : (l r : List Tiploc) → IsFirstOrder l r None → (l ≡ []) × (r ≡ [])
 nothing-first [] [] h = (refl, refl)
 nothing-first [] (y ∷ r) h = absurd h
