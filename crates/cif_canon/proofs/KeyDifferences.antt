@@ -1,5 +1,5 @@
 -- What only one of a key's two calendars says is what only one list says of the key.
-use Rattle.std.proofs.Common.{◌≡◌, ◌≢◌, ◌⊎◌, inl, inr, ℕ, ◌≤◌, Bool, true, false, List, Option, None, Some, map, refl, sym, ap, ◌∙◌, subst}
+use Rattle.std.proofs.Common.{◌≡◌, ◌≢◌, ◌⊎◌, inl, inr, ℕ, Bool, true, false, List, Option, None, Some, map, refl, sym, ap, ◌∙◌, subst}
 use Rattle.std.specs.Prelude.{All, Contains, IsNone, IsTrue, ◌↔◌}
 use Rattle.std.proofs.lemmas.Bool.{false≢true}
 use Rattle.std.proofs.lemmas.List.Elements.{Contains-get_or}
@@ -10,7 +10,6 @@ use Rattle.cif_calendar.specs.Keys.{ArePositionsOf, keyed}
 use Rattle.cif_calendar.specs.Terms.{Terms}
 use Rattle.cif_calendar.proofs.KeyCalendar.{key-runs}
 use Rattle.cif_weeks.specs.HaveForm.{HaveForm}
-use Rattle.cif_weeks.specs.Permanent.{Permanent}
 use Rattle.cif_weeks.specs.Runs.{window_of}
 use Rattle.cif_weeks.specs.Window.{IsWithin}
 use Rattle.cif_weeks.specs.declared.form.Form.TheVariants.{Two}

@@ -1,5 +1,5 @@
 -- The runs of what is left of a calendar are those of what only it says.
-use Rattle.std.proofs.Common.{◌≡◌, ◌≢◌, ◌≤◌, ◌<◌, ℕ, zero, suc, List, [], ◌∷◌, Option, None, Some, sym, ◌∙◌, ap, subst, arith, ⊎_elim}
+use Rattle.std.proofs.Common.{◌≡◌, ◌≢◌, ◌≤◌, ◌<◌, ℕ, zero, suc, List, [], ◌∷◌, None, Some, sym, ◌∙◌, ap, subst, arith, ⊎_elim}
 use Rattle.std.specs.Prelude.{All, AllPairs, Contains, ◌↔◌}
 use Rattle.std.specs.List.{AllZip}
 use Rattle.std.proofs.lemmas.List.Elements.{All-nil, All-cons, All-head, All-tail, All-contains}
@@ -16,7 +16,6 @@ use Rattle.cif_weeks.specs.declared.form.Form.TheVariants.{Two}
 use Rattle.cif_weeks.specs.declared.run.Run.{Run}
 use Rattle.cif_weeks.proofs.CalendarSources.{firsts-within}
 use Rattle.cif_weeks.proofs.RisingLists.{Contains-none}
-use Rattle.cif_canon.specs.Steps.Differences.{FindsOther}
 use Rattle.cif_canon.specs.Steps.OnlySides.{AreOnlyRuns, AreRisingRuns, IsOnlyCalendar}
 use Rattle.cif_canon.specs.Steps.Records.{window_from}
 

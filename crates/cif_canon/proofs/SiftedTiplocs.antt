@@ -1,11 +1,10 @@
 -- The locations that only one of two rising lists has are found one by one.
-use Rattle.std.proofs.Common.{◌≡◌, ◌⊎◌, inl, inr, ℕ, ◌+◌, ◌<◌, Bool, true, false, List, [], ◌∷◌, ◌++◌, Some, None, length, drop}
+use Rattle.std.proofs.Common.{◌≡◌, ◌⊎◌, inl, inr, ◌+◌, ◌<◌, List, [], ◌∷◌, ◌++◌, Some, None, length, drop}
 use Rattle.std.proofs.Common.{refl, sym, ap, ◌∙◌, subst, arith, ⊎_elim, append-nil, take, ◌-◌}
 use Rattle.std.proofs.lemmas.List.{length-drop, take_all}
 use Rattle.std.specs.Prelude.{AllPairs, Contains, ◌↔◌}
 use Rattle.std.specs.Cmp.Lexicographic.{nat_list_cmp_total, slice_cmp}
 use Rattle.std.specs.Ordering.{nat_cmp}
-use Rattle.std.specs.declared.cmp.Ordering.{Ordering}
 use Rattle.std.specs.declared.cmp.Ordering.TheVariants.{Less, Equal, Greater}
 use Rattle.std.proofs.lemmas.List.Elements.{Contains-append_cases, Contains-append_left, Contains-append_right}
 use Rattle.cif_calendar.proofs.Elements.{Contains-first, Contains-rest, Contains-cases}
@@ -15,7 +14,6 @@ use Rattle.cif_weeks.proofs.RisingLists.{Contains-none, not_less}
 use Rattle.cif_canon.specs.Differences.{AreDifferentTiplocs, of_side}
 use Rattle.cif_canon.specs.Steps.OnlySides.{AreSifting, HasMoved, IsFirstOrder}
 use Rattle.cif_canon.specs.Steps.Tiplocs.{AreDistinct}
-use Rattle.cif_canon.specs.declared.side.Side.{Side}
 use Rattle.cif_canon.specs.declared.side.Side.TheVariants.{Left, Right}
 use Rattle.cif_canon.specs.declared.side.Sided.{Sided}
 use Rattle.cif_canon.proofs.DifferentTiplocs.{Before, before-greater, equal-tiplocs}

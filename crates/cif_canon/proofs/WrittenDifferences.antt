@@ -1,5 +1,5 @@
 -- The parts of the text of differences, written one after another.
-use Rattle.std.proofs.Common.{◌≡◌, ℕ, List, [], ◌∷◌, ◌++◌, Option, Result, sym, subst}
+use Rattle.std.proofs.Common.{ℕ, List, ◌++◌, Option, Result, subst}
 use Rattle.std.specs.List.{flat_map}
 use Rattle.cif_calendar.specs.Entries.{association_entries, schedule_entries}
 use Rattle.cif_columns.specs.Sink.{HasFailed, HasWritten, Writes}
@@ -13,7 +13,7 @@ use Rattle.cif_records.specs.declared.association.Association.{Association}
 use Rattle.cif_records.specs.declared.tiploc.Tiploc.{Tiploc}
 use Rattle.cif_weeks.specs.Permanent.{Permanent}
 use Rattle.cif_weeks.specs.declared.run.Run.{Run}
-use Rattle.cif_canon.specs.Differences.{differences_text, marked_association, marked_schedule, marked_tiploc}
+use Rattle.cif_canon.specs.Differences.{marked_association, marked_schedule, marked_tiploc}
 use Rattle.cif_canon.specs.Steps.Sides.{sided_records, sided_run_text}
 use Rattle.cif_canon.specs.declared.side.Side.TheVariants.{Left, Right}
 use Rattle.cif_canon.specs.declared.side.Sided.{Sided}

@@ -1,13 +1,11 @@
 -- The fronts of both rests are the positions of one key (`ComparedKeys`), whose differences go behind the others (`found-key`).
-use Rattle.std.proofs.Common.{◌≡◌, ◌<◌, ℕ, List, [], length, drop, sym, subst, ◌∙◌, arith}
+use Rattle.std.proofs.Common.{◌<◌, ℕ, List, [], length, sym, subst}
 use Rattle.std.specs.Prelude.{All}
 use Rattle.std.proofs.lemmas.List.{nil_from_length}
 use Rattle.std.proofs.lemmas.List.Elements.{All-drop}
 use Rattle.cif_calendar.specs.Keys.{keyed}
 use Rattle.cif_calendar.proofs.FirstClash.{same_key-cmp}
-use Rattle.cif_weeks.proofs.CalendarSources.{calendar_sources}
 use Rattle.cif_weeks.specs.declared.run.Run.{Run}
-use Rattle.std.proofs.Common.{map}
 use Rattle.cif_canon.specs.Steps.Records.{window_from}
 use Rattle.cif_canon.specs.Steps.Turns.{AreFrom, IsFront}
 use Rattle.cif_canon.specs.declared.side.Sided.{Sided}

@@ -1,5 +1,5 @@
 -- Where the calendars have the same bodies nothing is said by one alone (`only-none`).
-use Rattle.std.proofs.Common.{[], map, refl, sym, append-nil, arith}
+use Rattle.std.proofs.Common.{[], map, sym, arith}
 use Rattle.cif_canon.proofs.MergedSides.{merged-none}
 use Rattle.cif_canon.proofs.OnlyRuns.{only-none}
 use Rattle.cif_canon.proofs.different_records.push_differences.Goals as goal

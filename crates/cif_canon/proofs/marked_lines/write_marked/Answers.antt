@@ -1,6 +1,6 @@
 -- The mark and then the line with its line feed are the marked text (`marked-line`).
-use Rattle.std.proofs.Common.{◌∷◌, ◌++◌, [], subst, sym, ap, ◌∙◌}
-use Rattle.cif_columns.specs.Sink.{HasFailed, HasWritten, Writes}
+use Rattle.std.proofs.Common.{◌∷◌, ◌++◌, [], subst, ap, ◌∙◌}
+use Rattle.cif_columns.specs.Sink.{Writes}
 use Rattle.cif_columns.proofs.WrittenTexts.{failed_first, writes_err, writes_on}
 use Rattle.cif_canon.proofs.MarkedTexts.{marked-line}
 use Rattle.cif_canon.proofs.marked_lines.write_marked.Goals as goal

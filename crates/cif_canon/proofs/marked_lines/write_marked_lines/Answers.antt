@@ -1,5 +1,5 @@
 -- One line more goes behind the text (`item_written`), and a failure leaves a front of it (`item_failed`).
-use Rattle.std.proofs.Common.{◌≡◌, ◌∷◌, [], ◌<◌, ◌≤◌, ℕ, List, arith, get_or, length, sym, ap, ◌∙◌, subst}
+use Rattle.std.proofs.Common.{◌∷◌, [], ◌<◌, ◌≤◌, ℕ, List, arith, length, sym, ap, ◌∙◌, subst}
 use Rattle.std.specs.List.{flat_map}
 use Rattle.std.proofs.lemmas.List.{get_or_default, take_all}
 use Rattle.cif_columns.specs.Sink.{HasFailed, HasWritten}

@@ -1,10 +1,9 @@
 -- One piece more: up to the earlier end it has what is left of both calendars' pieces (`only-more`).
-use Rattle.std.proofs.Common.{◌≡◌, ◌≤◌, ◌+◌, ◌∙◌, ℕ, List, map, refl, sym, subst, arith}
-use Rattle.cif_calendar.specs.Pieces.{Tiles, source_at}
+use Rattle.std.proofs.Common.{◌+◌, List, map, refl, sym, subst, arith}
+use Rattle.cif_calendar.specs.Pieces.{Tiles}
 use Rattle.cif_calendar.specs.declared.piece.Piece.{Piece}
-use Rattle.cif_canon.specs.Steps.OnlySides.{IsOnlySource}
 use Rattle.cif_canon.proofs.DifferentDays.{not-below, piece-bodies, piece-ends}
-use Rattle.cif_canon.proofs.OnlyDays.{OnlyBefore, only-more, tiles-more}
+use Rattle.cif_canon.proofs.OnlyDays.{only-more, tiles-more}
 use Rattle.cif_canon.proofs.only.only_calendar.Goals as goal
 
 pub loop-pieces-init : goal.loop-pieces-init
