@@ -31,7 +31,8 @@ impl Model for Calendar {
 }
 
 impl Calendar {
-    pub(crate) fn new(window: Window, pieces: Vec<Piece>) -> Calendar
+    /// The calendar of these pieces, which cover the window.
+    pub fn new(window: Window, pieces: Vec<Piece>) -> Calendar
         requires { Tiles pieces.items window.first (window.last + 1) }
         ensures { result ≡ record {
           first = window.first;

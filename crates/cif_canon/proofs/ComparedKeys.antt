@@ -91,13 +91,25 @@ module _ {K B : Type 0} (cmp : K → K → Ordering) where
       any.member k any.has))
   front-some total es rest k any (suc n) front = (let z : 0 < suc n = omega arith in z)
 
-  -- Of each key that isn't left the lists say the same, and what isn't at the rests has passed.
-  pub record AreAlikeBefore (xs ys : List (K × Terms B)) (first last : ℕ) (l r : List ℕ) : Type 0 where
+  -- What isn't at the rests has passed, and of each key that isn't left something is told.
+  pub record ArePassed (xs ys : List (K × Terms B)) (l r : List ℕ) (Told : K → Type 0) : Type 0 where
     pub left_rising : IsRising cmp xs l
     pub right_rising : IsRising cmp ys r
     pub left_passed : HasPassed xs l (IsLeft xs l ys r)
     pub right_passed : HasPassed ys r (IsLeft xs l ys r)
-    pub alike : (k : K) → (IsLeft xs l ys r k → ⊥) → (d : ℕ) → first ≤ d → d ≤ last → RunsAlike xs ys k d
+    pub told : (k : K) → (IsLeft xs l ys r k → ⊥) → Told k
+
+  -- the fronts of both rests are the positions of the key, and the keys of what is later are those that are left, and after it
+  pub record AreTurns (xs ys : List (K × Terms B)) (l r : List ℕ) (k : K) (l_front l_later r_front r_later : List ℕ) : Type 0 where
+    pub left : ArePositionsOf xs k l_front
+    pub right : ArePositionsOf ys k r_front
+    pub smaller : length l_later + length r_later < length l + length r
+    pub still : (j : K) → IsLeft xs l_later ys r_later j → IsLeft xs l ys r j
+    pub later : (j : K) → IsLeft xs l_later ys r_later j → cmp k j ≡ Less
+
+  -- Of each key that isn't left the lists say the same.
+  abbrev pub AreAlikeBefore : List (K × Terms B) → List (K × Terms B) → ℕ → ℕ → List ℕ → List ℕ → Type 0
+  AreAlikeBefore xs ys first last l r = ArePassed xs ys l r (λ k. (d : ℕ) → first ≤ d → d ≤ last → RunsAlike xs ys k d)
 
   -- The fronts of both rests are the positions of the key, and what is later is less; where the lists say the same of the key, it has
   -- passed, and where they don't, that is the first difference.
@@ -118,38 +130,48 @@ module _ {K B : Type 0} (cmp : K → K → Ordering) where
     one-way es fs k none other d (Some b) h = absurd (none h.winner h.wins.listed)
 
     -- at first all positions are left
-    pub alike-nothing : (l r : List ℕ) → IsRising cmp xs l → IsRising cmp ys r → ((i : ℕ) → i < length xs → Contains l i) →
-        ((i : ℕ) → i < length ys → Contains r i) → AreAlikeBefore xs ys first last l r
-    alike-nothing l r up vp whole_l whole_r = record {
+    pub passed-nothing : (l r : List ℕ) → IsRising cmp xs l → IsRising cmp ys r → ((i : ℕ) → i < length xs → Contains l i) →
+        ((i : ℕ) → i < length ys → Contains r i) → (Told : K → Type 0) →
+        ((k : K) → ((t : Terms B) → of_key xs k t → ⊥) → ((t : Terms B) → of_key ys k t → ⊥) → Told k) → ArePassed xs ys l r Told
+    passed-nothing l r up vp whole_l whole_r Told idle = record {
       left_rising = up;
       right_rising = vp;
       left_passed = λ i j has. inl (whole_l i (slice_get_within xs i (j, has.terms) has.at));
       right_passed = λ i j has. inl (whole_r i (slice_get_within ys i (j, has.terms) has.at));
-      alike = λ k none d from upto o.
-          let no_x : (t : Terms B) → of_key xs k t → ⊥ = λ t in'.
+      told = λ k none. idle k
+          (λ t in'.
           let (i, at) = at-contains xs (k, t) in' in
           none (inl (record {
             position = i;
             member = whole_l i (slice_get_within xs i (k, t) at);
             has = record { terms = t; at = at };
-          })) in
-          let no_y : (t : Terms B) → of_key ys k t → ⊥ = λ t in'.
+          })))
+          (λ t in'.
           let (i, at) = at-contains ys (k, t) in' in
           none (inr (record {
             position = i;
             member = whole_r i (slice_get_within ys i (k, t) at);
             has = record { terms = t; at = at };
-          })) in (one-way xs ys k no_x no_y d o, one-way ys xs k no_y no_x d o);
+          })));
     }
+
+    pub alike-nothing : (l r : List ℕ) → IsRising cmp xs l → IsRising cmp ys r → ((i : ℕ) → i < length xs → Contains l i) →
+        ((i : ℕ) → i < length ys → Contains r i) → AreAlikeBefore xs ys first last l r
+    alike-nothing l r up vp whole_l whole_r =
+        passed-nothing l r up vp whole_l whole_r (λ k. (d : ℕ) → first ≤ d → d ≤ last → RunsAlike xs ys k d)
+        (λ k no_x no_y d from upto o. (one-way xs ys k no_x no_y d o, one-way ys xs k no_y no_x d o))
+
+    -- nobody is left where there are no positions
+    pub nobody : (k : K) → IsLeft xs [] ys [] k → ⊥
+    nobody k = ⊎_elim (λ any. Contains-none any.position any.member) (λ any. Contains-none any.position any.member)
 
     -- in the end none is
     pub alike-all : AreAlikeBefore xs ys first last [] [] → SameMeaning xs ys first last
     alike-all a = record {
-      same = λ k d o from upto.
-          a.alike k (⊎_elim (λ any. Contains-none any.position any.member) (λ any. Contains-none any.position any.member)) d from upto o;
+      same = λ k d o from upto. a.told k (nobody k) d from upto o;
     }
 
-    module _ (l r : List ℕ) (a : AreAlikeBefore xs ys first last l r) (k : K) (f : IsFirstOfBoth cmp xs l ys r k) where
+    module _ (l r : List ℕ) (Told : K → Type 0) (a : ArePassed xs ys l r Told) (k : K) (f : IsFirstOfBoth cmp xs l ys r k) where
       -- a key before this one isn't left
       not-left : (j : K) → cmp j k ≡ Less → IsLeft xs l ys r j → ⊥
       not-left j less = ⊎_elim
@@ -163,17 +185,6 @@ module _ {K B : Type 0} (cmp : K → K → Ordering) where
 
           before : (j : K) → is_gt (cmp k j) ≡ false → cmp j k ≡ Less → ⊥
           before j from less = true≢false (sym (ap is_gt (backward j less)) ∙ from)
-
-      -- so a difference of this key is the first
-      first-difference : (d : ℕ) → first ≤ d → d ≤ last → RunsDiffer xs ys k d →
-          ((e : ℕ) → first ≤ e → e < d → RunsAlike xs ys k e) → IsFirstDifference cmp xs ys first last k d
-      first-difference d from upto differ before = record {
-        from = from;
-        upto = upto;
-        differ = differ;
-        alike_before = before;
-        keys_before = λ j e less from upto. a.alike j (not-left j less) e from upto;
-      }
 
       module _ (n m : ℕ) (left_front : IsFront cmp xs l k n) (right_front : IsFront cmp ys r k m) where
         left-turn : ArePositionsOf xs k (take n l)
@@ -212,23 +223,8 @@ module _ {K B : Type 0} (cmp : K → K → Ordering) where
             (λ any. ⊎_elim (λ is. absurd (apart is)) (λ later. inr later)
             (key-or-later total ys r (IsLeft xs l ys r) a.right_passed k f.has m right_front j any))
 
-        -- where the lists say the same of the key, it has passed
-        alike-key : ((d : ℕ) → first ≤ d → d ≤ last → RunsAlike xs ys k d) → AreAlikeBefore xs ys first last (drop n l) (drop m r)
-        alike-key says = record {
-          left_rising = rising-after cmp xs l a.left_rising n;
-          right_rising = rising-after cmp ys r a.right_rising m;
-          left_passed = passed-more total xs l (IsLeft xs l ys r) a.left_passed k f.has n left_front
-              (IsLeft xs (drop n l) ys (drop m r)) still less;
-          right_passed = passed-more total ys r (IsLeft xs l ys r) a.right_passed k f.has m right_front
-              (IsLeft xs (drop n l) ys (drop m r)) still less;
-          alike = λ j none d from upto. ⊎_elim
-              (λ is. subst (λ i. RunsAlike xs ys i d) (sym is) (says d from upto))
-              (λ apart. a.alike j (λ was. none (left-on j apart was)) d from upto)
-              (decided j (cmp j k) refl);
-        }
-
-        pub are-fronts : AreFronts xs ys first last l r k (take n l) (drop n l) (take m r) (drop m r)
-        are-fronts = record {
+        pub turns : AreTurns xs ys l r k (take n l) (drop n l) (take m r) (drop m r)
+        turns = record {
           left = left-turn;
           right = right-turn;
           smaller =
@@ -238,6 +234,46 @@ module _ {K B : Type 0} (cmp : K → K → Ordering) where
               let left_upto = left_front.upto in
               let right_upto = right_front.upto in
               omega (arith, left, right, some, left_upto, right_upto);
-          alike = alike-key;
-          differ = first-difference;
+          still = still;
+          later = less;
         }
+
+        -- the key has passed
+        pub pass : (Next : K → Type 0) → Next k → ((j : K) → (j ≡ k → ⊥) → Told j → Next j) → ArePassed xs ys (drop n l) (drop m r) Next
+        pass Next here on = record {
+          left_rising = rising-after cmp xs l a.left_rising n;
+          right_rising = rising-after cmp ys r a.right_rising m;
+          left_passed = passed-more total xs l (IsLeft xs l ys r) a.left_passed k f.has n left_front
+              (IsLeft xs (drop n l) ys (drop m r)) still less;
+          right_passed = passed-more total ys r (IsLeft xs l ys r) a.right_passed k f.has m right_front
+              (IsLeft xs (drop n l) ys (drop m r)) still less;
+          told = λ j none. ⊎_elim
+              (λ is. subst (λ i. Next i) (sym is) here)
+              (λ apart. on j apart (a.told j (λ was. none (left-on j apart was))))
+              (decided j (cmp j k) refl);
+        }
+
+    module _ (l r : List ℕ) (a : AreAlikeBefore xs ys first last l r) (k : K) (f : IsFirstOfBoth cmp xs l ys r k) where
+      -- a difference of this key is the first
+      first-difference : (d : ℕ) → first ≤ d → d ≤ last → RunsDiffer xs ys k d →
+          ((e : ℕ) → first ≤ e → e < d → RunsAlike xs ys k e) → IsFirstDifference cmp xs ys first last k d
+      first-difference d from upto differ before = record {
+        from = from;
+        upto = upto;
+        differ = differ;
+        alike_before = before;
+        keys_before = λ j e less from upto.
+            a.told j (not-left l r (λ k. (d : ℕ) → first ≤ d → d ≤ last → RunsAlike xs ys k d) a k f j less) e from upto;
+      }
+
+      pub are-fronts : (n m : ℕ) → IsFront cmp xs l k n → IsFront cmp ys r k m →
+          AreFronts xs ys first last l r k (take n l) (drop n l) (take m r) (drop m r)
+      are-fronts n m left_front right_front =
+          let Alike : K → Type 0 = λ k. (d : ℕ) → first ≤ d → d ≤ last → RunsAlike xs ys k d in
+          let t = turns l r Alike a k f n m left_front right_front in record {
+            left = t.left;
+            right = t.right;
+            smaller = t.smaller;
+            alike = λ says. pass l r Alike a k f n m left_front right_front Alike says (λ j apart was. was);
+            differ = first-difference;
+          }

@@ -33,7 +33,7 @@ module _ {E K B : Type 0} (key : E → K) (terms : E → Terms B) (es : List E) 
   key_fault m member first last (Ambiguous day) h = (member, key-fault key terms es k members p first last (Ambiguous day) h)
 
   module _ (first last : ℕ) (c : CalendarParts) (cal : IsCalendar (map terms es) members first last c) where
-    window-is : window_of c ≡ window_from first last
+    pub window-is : window_of c ≡ window_from first last
     window-is = ap (λ n. window_from n c.last) cal.first_is ∙ ap (λ n. window_from first n) cal.last_is
 
     -- a run's source is the position of an entry of the key
@@ -52,7 +52,7 @@ module _ {E K B : Type 0} (key : E → K) (terms : E → Terms B) (es : List E) 
           body = sym (ap (λ o. option_and_then (λ (u : Terms B). u.body) o) (terms_at-keyed key terms es run.source k t at)) ∙ is.body;
         }
 
-    key-runs_of : (runs : List Run) (records : List (Permanent B)) → All (λ r. IsWithin (window_of c) r.first) records →
+    pub key-runs_of : (runs : List Run) (records : List (Permanent B)) → All (λ r. IsWithin (window_of c) r.first) records →
         AllZip (IsCalendarRun (map terms es) c) runs records → AllZip (IsRunOf (keyed key terms es)) runs (with_key k records)
     key-runs_of [] [] within z = tt
     key-runs_of [] (r ∷ records) within z = absurd z

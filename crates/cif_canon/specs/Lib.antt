@@ -4,6 +4,7 @@ pub mod Canon
 pub mod Canonical
 pub mod Comparison
 pub mod Counts
+pub mod Differences
 pub mod Fault
 pub mod Meaning
 pub mod NormalForm

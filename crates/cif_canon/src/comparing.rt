@@ -1,5 +1,5 @@
 //! How two extracts compare.
-ghost use Rattle.std.specs.Prelude.{◌≡◌, IfErr, IfOk};
+ghost use Rattle.std.specs.Prelude.{◌≡◌, IfErr, IfOk, OnOk};
 ghost use Rattle.cif_extract.specs.ExtractParts.{extract_parts};
 ghost use Rattle.cif_canon.specs.Accepted.{IsClearExtract};
 ghost use Rattle.cif_canon.specs.Asked.{header_window};
@@ -24,15 +24,29 @@ pub fn compare(alloc: Global, left: &Extract, right: &Extract) -> Result<Compari
     ensures fault { IfErr result
         (IsCompareFault (extract_parts left.now) (extract_parts right.now)) }
 {
+    check_comparable(alloc, left, right)?;
+    match first_found(alloc, left, right) {
+        Ok(comparison) => Ok(comparison),
+        Err(_) => Err(Fault::Memory),
+    }
+}
+
+/// Whether two extracts can be compared: they have one window, and neither has a clash in it.
+/// Otherwise the fault is that of `compare`.
+pub(crate) fn check_comparable(alloc: Global, left: &Extract, right: &Extract) -> Result<(), Fault>
+    ensures window { OnOk result
+        (header_window left.now.header ≡ header_window right.now.header) }
+    ensures left { OnOk result (IsClearExtract (extract_parts left.now)) }
+    ensures right { OnOk result (IsClearExtract (extract_parts right.now)) }
+    ensures fault { IfErr result
+        (IsCompareFault (extract_parts left.now) (extract_parts right.now)) }
+{
     if left.header.first != right.header.first || left.header.last != right.header.last {
         return Err(Fault::WindowsDiffer);
     }
     extract_runs(alloc, left, Form::Two)?;
     extract_runs(alloc, right, Form::Two)?;
-    match first_found(alloc, left, right) {
-        Ok(comparison) => Ok(comparison),
-        Err(_) => Err(Fault::Memory),
-    }
+    Ok(())
 }
 
 /// How two clear extracts with one window compare.

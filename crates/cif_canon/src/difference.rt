@@ -67,7 +67,7 @@ where
 }
 
 /// The calendar of the entries at `members`, which have no clash in the window.
-fn clear_calendar<E: Entry>(
+pub(crate) fn clear_calendar<E: Entry>(
     room: Vec<Piece>,
     lists: &mut SweepLists,
     entries: &[E],
@@ -88,7 +88,12 @@ fn clear_calendar<E: Entry>(
 }
 
 /// The first day of their window on which the calendars have different bodies.
-fn first_day<E: Entry>(left: &[E], one: &Calendar, right: &[E], other: &Calendar) -> Option<Day>
+pub(crate) fn first_day<E: Entry>(
+    left: &[E],
+    one: &Calendar,
+    right: &[E],
+    other: &Calendar,
+) -> Option<Day>
     requires first { other.now.first ≡ one.now.first }
     requires last { other.now.last ≡ one.now.last }
     requires left { AreSources (map E.terms left.now) one.now }
@@ -113,7 +118,7 @@ fn first_day<E: Entry>(left: &[E], one: &Calendar, right: &[E], other: &Calendar
 }
 
 /// The earlier of two days.
-fn earlier(one: Day, other: Day) -> Day
+pub(crate) fn earlier(one: Day, other: Day) -> Day
     ensures one { result ≤ one }
     ensures other { result ≤ other }
     ensures latest { (d : ℕ) → d ≤ one → d ≤ other → d ≤ result }
@@ -152,7 +157,7 @@ fn first_in_pieces<E: Entry>(
 }
 
 /// Whether the entries at two sources have the same body, or there is none at both.
-fn have_same_body<E: Entry>(
+pub(crate) fn have_same_body<E: Entry>(
     left: &[E],
     one: Option<usize>,
     right: &[E],

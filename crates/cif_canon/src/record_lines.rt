@@ -55,7 +55,7 @@ pub(crate) fn write_runs<E: Entry, L: RecordLines<E>, W: WriteDevice>(
 }
 
 /// Appends the lines of the run's record.
-fn write_run<E: Entry, L: RecordLines<E>, W: WriteDevice>(
+pub(crate) fn write_run<E: Entry, L: RecordLines<E>, W: WriteDevice>(
     lines: &L,
     entries: &[E],
     run: &Run,

@@ -111,14 +111,14 @@ impl Body {
     }
 
     /// The plain lines of the records that follow its BS.
-    pub(crate) fn further_lines(&self) -> LineSlice<'_>
+    pub fn further_lines(&self) -> LineSlice<'_>
         ensures { KeepAll result (map record_table (body_records self.now)) }
     {
         self.lines.as_slice().behind(1)
     }
 
     /// The line that its detail has to itself.
-    pub(crate) fn detail_line(&self) -> Line
+    pub fn detail_line(&self) -> Line
         ensures plain { result ≡ plain_line (detail_table self.now.detail) }
         ensures stands { AllStandIn result (detail_table self.now.detail) }
     {

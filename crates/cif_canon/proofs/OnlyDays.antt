@@ -1,0 +1,121 @@
+-- What is left of a calendar where another one has the same bodies on some days.
+use Rattle.std.proofs.Common.{◌≡◌, ◌≢◌, ◌⊎◌, ℕ, ◌+◌, ◌-◌, ◌%◌, ◌<◌, ◌≤◌, List, [], ◌∷◌, ◌++◌, Option, None, length, sym, ap, ◌∙◌}
+use Rattle.std.proofs.Common.{subst, arith, ⊎_elim, set, get_or}
+use Rattle.std.specs.Prelude.{Contains}
+use Rattle.std.proofs.lemmas.List.{get_or-set_same, get_or-set_other}
+use Rattle.std.proofs.lemmas.List.Elements.{Contains-append_left, Contains-append_right}
+use Rattle.cif_columns.specs.Day.{weekday_of}
+use Rattle.cif_calendar.specs.Calendar.{CalendarParts}
+use Rattle.cif_calendar.specs.Pieces.{Tiles, source_at, winner_of}
+use Rattle.cif_calendar.specs.Terms.{Terms}
+use Rattle.cif_calendar.specs.declared.piece.Piece.{Piece}
+use Rattle.cif_calendar.proofs.Elements.{Contains-first}
+use Rattle.cif_calendar.proofs.PieceLists.{source_at-piece, tiles-find, tiles-push}
+use Rattle.cif_canon.specs.Steps.OnlySides.{AreOnlyWinners, IsOnlySource}
+use Rattle.cif_canon.proofs.DifferentDays.{before-or-from}
+
+weekday-below : (d : ℕ) → weekday_of d < 7
+weekday-below d = omega arith
+
+weekday-apart : (d e : ℕ) → d < e → e < d + 7 → weekday_of d ≢ weekday_of e
+weekday-apart d e less near same = omega arith
+
+at-or-before : (d e : ℕ) → d < e + 1 → (d ≡ e) ⊎ (d < e)
+at-or-before d e h = grind arith
+
+-- a day and the one of its weekday in the seven days from another
+in-week : (first d : ℕ) → first ≤ d → (e : ℕ) × (first ≤ e) × (e < first + 7) × (weekday_of e ≡ weekday_of d)
+in-week first d from = (first + (d - first) % 7, omega arith, omega arith, omega arith)
+
+module _ {B : Type 0} (xs ys : List (Terms B)) (p q : Piece) where
+  -- what is left of the days from `first` and before `next`
+  abbrev pub OnlyUpTo : ℕ → ℕ → List (Option ℕ) → Type 0
+  OnlyUpTo first next ws =
+      (d : ℕ) → first ≤ d → d < next → IsOnlySource xs ys (winner_of p d) (winner_of q d) (get_or ws (weekday_of d) None)
+
+  -- one more day sets the winner of its weekday, which is no other's among seven days
+  pub only-step : (first day w next : ℕ) (ws : List (Option ℕ)) (o : Option ℕ) → w ≡ weekday_of day → next ≡ day + 1 → length ws ≡ 7 →
+      first ≤ day → day < first + 7 → IsOnlySource xs ys (get_or p.winners w None) (get_or q.winners w None) o →
+      OnlyUpTo first day ws → OnlyUpTo first next (set ws w o)
+  only-step first day w next ws o at is seven from near here before d after below = ⊎_elim
+      (λ (same : d ≡ day).
+      let place : weekday_of d ≡ w = ap weekday_of same ∙ sym at in
+      let inside : w < length ws = let k = weekday-below day in omega (arith, k, at, seven) in
+      subst (λ v. IsOnlySource xs ys (get_or p.winners v None) (get_or q.winners v None) (get_or (set ws w o) v None)) (sym place)
+      (subst (λ v. IsOnlySource xs ys (get_or p.winners w None) (get_or q.winners w None) v) (sym (get_or-set_same ws w o None inside))
+      here))
+      (λ (less : d < day).
+      subst (λ v. IsOnlySource xs ys (winner_of p d) (winner_of q d) v)
+      (sym (get_or-set_other ws w (weekday_of d) o None (λ e. weekday-apart d day less (omega arith) (e ∙ at))))
+      (before d after less))
+      (at-or-before d day (omega (arith, below, is)))
+
+  -- up to the last day
+  pub only-last : (first next last : ℕ) (ws : List (Option ℕ)) → last < next → OnlyUpTo first next ws →
+      AreOnlyWinners xs ys p q first last ws
+  only-last first next last ws far before = record { each = λ d from upto. before d from (omega arith) }
+
+  -- seven days are all
+  pub only-week : (first next last : ℕ) (ws : List (Option ℕ)) → first + 7 ≤ next → OnlyUpTo first next ws →
+      AreOnlyWinners xs ys p q first last ws
+  only-week first next last ws far before = record {
+    each = λ d from upto.
+        let (e, after, near, same) = in-week first d from in
+        subst (λ v. IsOnlySource xs ys (get_or p.winners v None) (get_or q.winners v None) (get_or ws v None)) same
+        (before e after (omega (arith, near, far)));
+  }
+
+-- ---- one piece more
+
+module _ (ps : List Piece) (from to : ℕ) (tiles : Tiles ps from to) (r : Piece) (at : r.first ≡ to) (up : r.first ≤ r.last) where
+  more : Tiles (ps ++ r ∷ []) from (r.last + 1)
+  more = tiles-push ps from to r tiles at up
+
+  -- the days before it keep their sources
+  source-before : (d : ℕ) → from ≤ d → d < to → source_at (ps ++ r ∷ []) d ≡ source_at ps d
+  source-before d a b =
+      let f = tiles-find ps from to d tiles a b in
+      source_at-piece (ps ++ r ∷ []) from (r.last + 1) f.piece d more (Contains-append_left ps (r ∷ []) f.piece f.listed) f.from f.upto
+      ∙ sym (source_at-piece ps from to f.piece d tiles f.listed f.from f.upto)
+
+  -- and its own days have its winners
+  source-there : (d : ℕ) → r.first ≤ d → d ≤ r.last → source_at (ps ++ r ∷ []) d ≡ winner_of r d
+  source-there d a b =
+      source_at-piece (ps ++ r ∷ []) from (r.last + 1) r d more (Contains-append_right ps (r ∷ []) r (Contains-first r [])) a b
+
+module _ {B : Type 0} (xs : List (Terms B)) (c : CalendarParts) (p : Piece) (tiles_c : Tiles c.pieces c.first (c.last + 1))
+    (listed_p : Contains c.pieces p) (ys : List (Terms B)) (e : CalendarParts) (q : Piece) (tiles_e : Tiles e.pieces e.first (e.last + 1))
+    (listed_q : Contains e.pieces q) where
+  -- what is left of the days of the window before `next`
+  abbrev pub OnlyBefore : ℕ → List Piece → Type 0
+  OnlyBefore next ps = (d : ℕ) → c.first ≤ d → d < next →
+      IsOnlySource xs ys (source_at c.pieces d) (source_at e.pieces d) (source_at ps d)
+
+  -- with a piece more, whose winners are left of those of both calendars' pieces
+  pub only-more : (ps qs : List Piece) (first last next : ℕ) (winners : List (Option ℕ)) → Tiles ps c.first first → first ≤ last →
+      qs ≡ ps ++ (record { first = first; last = last; winners = winners }) ∷ [] → next ≡ last + 1 → p.first ≤ first → last ≤ p.last →
+      q.first ≤ first → last ≤ q.last → AreOnlyWinners xs ys p q first last winners → OnlyBefore first ps → OnlyBefore next qs
+  only-more ps qs first last next winners tiles up are is p_from p_upto q_from q_upto only before d from below =
+      let r : Piece = record { first = first; last = last; winners = winners } in
+      subst (λ (zs : List Piece). IsOnlySource xs ys (source_at c.pieces d) (source_at e.pieces d) (source_at zs d)) (sym are) (⊎_elim
+      (λ early. subst (λ v. IsOnlySource xs ys (source_at c.pieces d) (source_at e.pieces d) v)
+      (sym (source-before ps c.first first tiles r refl_at up d from early)) (before d from early))
+      (λ late.
+      let upto : d ≤ last = omega (arith, below, is) in
+      subst (λ v. IsOnlySource xs ys (source_at c.pieces d) (source_at e.pieces d) v)
+      (sym (source-there ps c.first first tiles r refl_at up d late upto))
+      (subst (λ v. IsOnlySource xs ys v (source_at e.pieces d) (winner_of r d))
+      (sym (source_at-piece c.pieces c.first (c.last + 1) p d tiles_c listed_p (omega arith) (omega arith)))
+      (subst (λ v. IsOnlySource xs ys (winner_of p d) v (winner_of r d))
+      (sym (source_at-piece e.pieces e.first (e.last + 1) q d tiles_e listed_q (omega arith) (omega arith)))
+      (only.each d late upto))))
+      (before-or-from d first))
+    where
+      refl_at : first ≡ first
+      refl_at = omega arith
+
+  pub tiles-more : (ps qs : List Piece) (from first last next : ℕ) (winners : List (Option ℕ)) → Tiles ps from first → first ≤ last →
+      qs ≡ ps ++ (record { first = first; last = last; winners = winners }) ∷ [] → next ≡ last + 1 → Tiles qs from next
+  tiles-more ps qs from first last next winners tiles up are is =
+      let r : Piece = record { first = first; last = last; winners = winners } in
+      rw (are, is) (more ps from first tiles r (let z : first ≡ first = omega arith in z) up)

@@ -1,0 +1,138 @@
+-- The runs of what is left of a calendar are those of what only it says.
+use Rattle.std.proofs.Common.{◌≡◌, ◌≢◌, ◌≤◌, ◌<◌, ℕ, zero, suc, List, [], ◌∷◌, None, Some, sym, ◌∙◌, ap, subst, arith, ⊎_elim}
+use Rattle.std.specs.Prelude.{All, AllPairs, Contains, ◌↔◌}
+use Rattle.std.specs.List.{AllZip}
+use Rattle.std.proofs.lemmas.List.Elements.{All-nil, All-cons, All-head, All-tail, All-contains}
+use Rattle.std.proofs.lemmas.List.Kept.{AllPairs-cons}
+use Rattle.cif_calendar.specs.Calendar.{CalendarParts, body_on}
+use Rattle.cif_calendar.specs.Pieces.{source_at}
+use Rattle.cif_calendar.specs.Source.{body_at}
+use Rattle.cif_calendar.specs.Terms.{Terms}
+use Rattle.cif_weeks.specs.HaveForm.{HaveForm}
+use Rattle.cif_weeks.specs.Permanent.{Permanent}
+use Rattle.cif_weeks.specs.Runs.{AreCanonicalRuns, AreSources, IsRunOf as IsCalendarRun, window_of}
+use Rattle.cif_weeks.specs.Window.{IsWithin}
+use Rattle.cif_weeks.specs.declared.form.Form.TheVariants.{Two}
+use Rattle.cif_weeks.specs.declared.run.Run.{Run}
+use Rattle.cif_weeks.proofs.CalendarSources.{firsts-within}
+use Rattle.cif_weeks.proofs.RisingLists.{Contains-none}
+use Rattle.cif_canon.specs.Steps.OnlySides.{AreOnlyRuns, AreRisingRuns, IsOnlyCalendar}
+use Rattle.cif_canon.specs.Steps.Records.{window_from}
+
+-- what holds of the pairs of one list holds of those of another that goes with it one by one
+module _ {X Y : Type 0} (R : X → Y → Type 0) (P : X → X → Type 0) (Q : Y → Y → Type 0)
+    (with' : (x u : X) (y v : Y) → R x y → R u v → Q y v → P x u) where
+  all-zip : (x : X) (y : Y) → R x y → (us : List X) (vs : List Y) → AllZip R us vs → All (Q y) vs → All (P x) us
+  all-zip x y h [] [] z a = All-nil (P x)
+  all-zip x y h [] (v ∷ vs) z a = absurd z
+  all-zip x y h (u ∷ us) [] z a = absurd z
+  all-zip x y h (u ∷ us) (v ∷ vs) z a =
+      All-cons (P x) u us (with' x u y v h z.0 (All-head (Q y) v vs a)) (all-zip x y h us vs z.1 (All-tail (Q y) v vs a))
+
+  pub pairs-zip : (xs : List X) (ys : List Y) → AllZip R xs ys → AllPairs Q ys → AllPairs P xs
+  pairs-zip [] [] z a = λ i j d less within. absurd (omega arith)
+  pairs-zip [] (y ∷ ys) z a = absurd z
+  pairs-zip (x ∷ xs) [] z a = absurd z
+  pairs-zip (x ∷ xs) (y ∷ ys) z a =
+      AllPairs-cons P x xs (all-zip x y z.0 xs ys z.1 (λ k d within. a zero (suc k) d (omega arith) (omega arith)))
+      (pairs-zip xs ys z.1 (λ i j d less within. a (suc i) (suc j) d (omega arith) (omega arith)))
+
+-- the runs of records rise as these do
+pub rising-runs : {B : Type 0} (xs : List (Terms B)) (c : CalendarParts) (runs : List Run) (records : List (Permanent B)) →
+    AllZip (IsCalendarRun xs c) runs records → AllPairs (λ r s. r.first < s.first) records → AreRisingRuns runs
+rising-runs {B} xs c runs records z rising =
+    pairs-zip (IsCalendarRun xs c) (λ r s. r.first < s.first) (λ (r s : Permanent B). r.first < s.first)
+    (λ x u y v h k less.
+    let one : y.first ≡ x.first = ap (λ (r : Permanent B). r.first) h.dates in
+    let other : v.first ≡ u.first = ap (λ (r : Permanent B). r.first) k.dates in
+    omega (arith, one, other, less))
+    runs records z rising
+
+module _ {B : Type 0} (xs : List (Terms B)) (c : CalendarParts) (ys : List (Terms B)) (e : CalendarParts) (only : CalendarParts)
+    (is : IsOnlyCalendar xs c ys e only) where
+  window-is : window_of only ≡ window_of c
+  window-is = ap (λ n. window_from n only.last) is.first_is ∙ ap (λ n. window_from c.first n) is.last_is
+
+  -- what is left of a day's source is that source
+  source-left : (d i : ℕ) → IsWithin (window_of c) d → source_at only.pieces d ≡ Some i → source_at c.pieces d ≡ Some i
+  source-left d i within at = ⊎_elim
+      (λ same. absurd (let no : None ≡ Some i = sym same.1 ∙ at in cc))
+      (λ differ. sym differ.1 ∙ at)
+      (is.sources d within.from within.upto)
+
+  pub only-sources : AreSources xs c → AreSources xs only
+  only-sources sources = record {
+    bodied = λ n i from upto at.
+        let after : c.first ≤ n = subst (λ f. f ≤ n) is.first_is from in
+        let before : n ≤ c.last = subst (λ l. n ≤ l) is.last_is upto in
+        sources.bodied n i after before (source-left n i (record { from = after; upto = before }) at);
+  }
+
+  own-runs : (runs : List Run) (records : List (Permanent B)) → All (λ r. IsWithin (window_of c) r.first) records →
+      AllZip (IsCalendarRun xs only) runs records → AllZip (IsCalendarRun xs c) runs records
+  own-runs [] [] within z = tt
+  own-runs [] (r ∷ records) within z = absurd z
+  own-runs (run ∷ runs) [] within z = absurd z
+  own-runs (run ∷ runs) (r ∷ records) within z = (
+    record {
+      dates = z.0.dates;
+      source = source-left run.first run.source
+          (subst (λ (s : Permanent B). IsWithin (window_of c) s.first) z.0.dates
+          (All-head (λ s. IsWithin (window_of c) s.first) r records within)) z.0.source;
+      body = z.0.body;
+    },
+    own-runs runs records (All-tail (λ s. IsWithin (window_of c) s.first) r records within) z.1,
+  )
+
+  -- its body is one that the other calendar hasn't
+  left-says : (n : ℕ) (b : B) → IsWithin (window_of c) n →
+      (body_on xs only n ≡ Some b) ↔ ((body_on xs c n ≡ Some b) × (body_on ys e n ≢ Some b))
+  left-says n b within = ⊎_elim
+      (λ same. (
+        λ h. absurd (let no : None ≡ Some b = sym (ap (body_at xs) same.1) ∙ h in cc),
+        λ h. absurd (h.1 (sym same.0 ∙ h.0)),
+      ))
+      (λ differ. (
+        λ h.
+            let own : body_on xs c n ≡ Some b = sym (ap (body_at xs) differ.1) ∙ h in
+            (own, λ other. differ.0 (own ∙ sym other)),
+        λ h. ap (body_at xs) differ.1 ∙ h.0,
+      ))
+      (is.sources n within.from within.upto)
+
+  pub only-runs : (runs : List Run) → AreCanonicalRuns Two xs only runs → AreOnlyRuns xs c ys e runs
+  only-runs runs a =
+      let within : All (λ r. IsWithin (window_of c) r.first) a.records =
+      subst (λ w. All (λ r. IsWithin w r.first) a.records) window-is
+      (firsts-within Two (window_of only) (body_on xs only) a.records a.meets) in
+      record {
+        records = a.records;
+        runs_of = own-runs runs a.records within a.runs_of;
+        within = λ r in'. All-contains (λ s. IsWithin (window_of c) s.first) a.records r within in';
+        rising = a.meets.rising;
+        have_form = subst (λ w. HaveForm Two w (Contains a.records)) window-is a.meets.have_form;
+        say = λ n b here.
+            let says = a.meets.say.says n b (subst (λ w. IsWithin w n) (sym window-is) here) in
+            let left = left-says n b here in
+            (λ h. left.0 (says.1 h), λ h. says.0 (left.1 h));
+      }
+
+-- where the calendars have the same bodies nothing is said by one alone
+module _ {B : Type 0} (xs : List (Terms B)) (c : CalendarParts) (ys : List (Terms B)) (e : CalendarParts)
+    (alike : (d : ℕ) → c.first ≤ d → d ≤ c.last → body_on xs c d ≡ body_on ys e d) where
+  pub only-none : AreOnlyRuns xs c ys e []
+  only-none = record {
+    records = [];
+    runs_of = tt;
+    within = λ r in'. absurd (Contains-none r in');
+    rising = λ i j d less within. absurd (omega arith);
+    have_form = record {
+      single = λ n r s in_r. absurd (Contains-none r in_r);
+      aligned = λ r in_r. absurd (Contains-none r in_r);
+      separate = λ r s in_r. absurd (Contains-none r in_r);
+    };
+    say = λ n b within. (
+      λ h. absurd (Contains-none h.it h.listed),
+      λ h. absurd (h.1 (sym (alike n within.from within.upto) ∙ h.0)),
+    );
+  }

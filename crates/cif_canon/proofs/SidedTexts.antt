@@ -1,0 +1,109 @@
+-- The records of runs with their sides, and their text.
+use Rattle.std.proofs.Common.{◌≡◌, ℕ, ◌≤◌, Bool, length, List, [], ◌∷◌, ◌++◌, Option, None, Some, refl, sym, ap, ◌∙◌}
+use Rattle.std.specs.Prelude.{All, IsTrue, ◌↔◌}
+use Rattle.std.specs.List.{AllZip, flat_map}
+use Rattle.std.proofs.lemmas.List.Elements.{All-nil, All-cons, All-head, All-tail}
+use Rattle.std.proofs.lemmas.List.{nil_from_length}
+use Rattle.cif_calendar.specs.Terms.{Terms}
+use Rattle.cif_extract.specs.BodyParts.{BodyParts}
+use Rattle.cif_records.specs.declared.assoc_body.AssocBody.{AssocBody}
+use Rattle.cif_records.specs.declared.assoc_key.AssocKey.{AssocKey}
+use Rattle.cif_records.specs.declared.tiploc.Tiploc.{Tiploc}
+use Rattle.cif_weeks.specs.Permanent.{Permanent}
+use Rattle.cif_weeks.specs.declared.run.Run.{Run}
+use Rattle.cif_canon.specs.Differences.{AreNone}
+use Rattle.cif_canon.specs.Steps.OnlySides.{IsSidedRunOf}
+use Rattle.cif_canon.specs.Steps.Sides.{HasSidedRecord, at_side, sided_records, sided_run_text, with_record}
+use Rattle.cif_canon.specs.Steps.Texts.{record_at, text_if}
+use Rattle.cif_canon.specs.declared.side.Side.{Side}
+use Rattle.cif_canon.specs.declared.side.Side.TheVariants.{Left, Right}
+use Rattle.cif_canon.specs.declared.side.Sided.{Sided}
+use Rattle.cif_canon.proofs.RunTexts.{record-of_entry}
+
+module _ {K B : Type 0} (xs ys : List (K × Terms B)) where
+  -- the text of a list of runs is that of their records
+  module _ (text : Sided (K × Permanent B) → List ℕ) where
+    one-text : (side : Side) (o : Option (K × Permanent B)) (rest : List (Sided (K × Permanent B))) →
+        flat_map text (with_record side o rest) ≡ text_if (λ e. text (record { side = side; it = e })) o ++ flat_map text rest
+    one-text side None rest = refl
+    one-text side (Some e) rest = refl
+
+    by-side : (s : Sided Run) (side : Side) → s.side ≡ side →
+        text_if (λ e. text (record { side = side; it = e })) (record_at (at_side xs ys side) s.it)
+        ≡ text_if (at_side (λ e. text (record { side = Left; it = e })) (λ e. text (record { side = Right; it = e })) side)
+        (record_at (at_side xs ys side) s.it)
+    by-side s Left is = refl
+    by-side s Right is = refl
+
+    pub sided-text : (runs : List (Sided Run)) →
+        flat_map (sided_run_text (λ e. text (record { side = Left; it = e })) xs (λ e. text (record { side = Right; it = e })) ys) runs
+        ≡ flat_map text (sided_records xs ys runs)
+    sided-text [] = refl
+    sided-text (s ∷ runs) =
+        sym (one-text s.side (record_at (at_side xs ys s.side) s.it) (sided_records xs ys runs)
+        ∙ ap (λ (l : List ℕ). l ++ flat_map text (sided_records xs ys runs)) (by-side s s.side refl)
+        ∙ ap (λ (l : List ℕ). sided_run_text (λ e. text (record { side = Left; it = e })) xs (λ e. text (record { side = Right; it = e })) ys s
+        ++ l) (sym (sided-text runs)))
+
+  -- the record of a run with its side
+  record-there : (s : Sided Run) (e : Sided (K × Permanent B)) → IsSidedRunOf xs ys s e →
+      record_at (at_side xs ys e.side) s.it ≡ Some e.it
+  record-there s e h =
+      record-of_entry (at_side xs ys e.side) s.it (e.it.0, h.run_of.terms) e.it.1.body h.run_of.at h.run_of.body
+      ∙ ap (λ (r : Permanent B). Some (e.it.0, r)) (sym h.run_of.dates)
+
+  -- the records of runs are those that they are the runs of
+  pub records-of_runs : (runs : List (Sided Run)) (found : List (Sided (K × Permanent B))) → AllZip (IsSidedRunOf xs ys) runs found →
+      sided_records xs ys runs ≡ found
+  records-of_runs [] [] z = refl
+  records-of_runs [] (e ∷ found) z = absurd z
+  records-of_runs (s ∷ runs) [] z = absurd z
+  records-of_runs (s ∷ runs) (e ∷ found) z =
+      ap (λ side. with_record side (record_at (at_side xs ys side) s.it) (sided_records xs ys runs)) z.0.side
+      ∙ ap (λ o. with_record e.side o (sided_records xs ys runs)) (record-there s e z.0)
+      ∙ ap (λ (l : List (Sided (K × Permanent B))). e ∷ l) (records-of_runs runs found z.1)
+
+  pub have-sided_records : (runs : List (Sided Run)) (found : List (Sided (K × Permanent B))) → AllZip (IsSidedRunOf xs ys) runs found →
+      All (λ e. e.it.1.first ≤ e.it.1.last) found → All (HasSidedRecord xs ys) runs
+  have-sided_records [] [] z dated = All-nil (HasSidedRecord xs ys)
+  have-sided_records [] (e ∷ found) z dated = absurd z
+  have-sided_records (s ∷ runs) [] z dated = absurd z
+  have-sided_records (s ∷ runs) (e ∷ found) z dated =
+      All-cons (HasSidedRecord xs ys) s runs
+      (record {
+        it = e.it;
+        is = ap (λ side. record_at (at_side xs ys side) s.it) z.0.side ∙ record-there s e z.0;
+        in_order = All-head (λ (e : Sided (K × Permanent B)). e.it.1.first ≤ e.it.1.last) e found dated;
+      })
+      (have-sided_records runs found z.1 (All-tail (λ (e : Sided (K × Permanent B)). e.it.1.first ≤ e.it.1.last) e found dated))
+
+  -- where each run has a record, there is none of the one exactly where there is none of the other
+  pub records-none : (runs : List (Sided Run)) → All (HasSidedRecord xs ys) runs → sided_records xs ys runs ≡ [] → runs ≡ []
+  records-none [] all h = refl
+  records-none (s ∷ runs) all h =
+      let there = All-head (HasSidedRecord xs ys) s runs all in
+      absurd (let no : (record { side = s.side; it = there.it }) ∷ sided_records xs ys runs ≡ [] =
+      sym (ap (λ o. with_record s.side o (sided_records xs ys runs)) there.is) ∙ h in cc)
+
+-- no location and no run are no difference
+pub none-listed : (tiplocs : List (Sided Tiploc)) (xa ya : List (AssocKey × Terms AssocBody)) (ra : List (Sided Run)) →
+    All (HasSidedRecord xa ya) ra → (xs ys : List (List ℕ × Terms BodyParts)) (rs : List (Sided Run)) → All (HasSidedRecord xs ys) rs →
+    (answer : Bool) → IsTrue answer ↔ ((length tiplocs ≡ 0) × (length ra ≡ 0) × (length rs ≡ 0)) →
+    IsTrue answer ↔ AreNone (record {
+      tiplocs = tiplocs;
+      associations = sided_records xa ya ra;
+      schedules = sided_records xs ys rs;
+    })
+none-listed tiplocs xa ya ra all_a xs ys rs all_s answer h = (
+  λ yes.
+      let n = h.0 yes in record {
+        tiplocs = nil_from_length tiplocs n.0;
+        associations = ap (sided_records xa ya) (nil_from_length ra n.1);
+        schedules = ap (sided_records xs ys) (nil_from_length rs n.2);
+      },
+  λ none. h.1 (
+    ap (λ (l : List (Sided Tiploc)). length l) none.tiplocs,
+    ap (λ (l : List (Sided Run)). length l) (records-none xa ya ra all_a none.associations),
+    ap (λ (l : List (Sided Run)). length l) (records-none xs ys rs all_s none.schedules),
+  ),
+)

@@ -1,0 +1,42 @@
+-- Three parts are written one behind another: for each exit `WrittenDifferences` says that the whole text, or a front of it, was.
+use Rattle.std.proofs.Common.{subst}
+use Rattle.cif_columns.specs.Sink.{Writes}
+use Rattle.cif_columns.proofs.WrittenTexts.{writes_err}
+use Rattle.cif_canon.specs.Differences.{differences_text}
+use Rattle.cif_canon.proofs.WrittenDifferences.{in-associations, in-schedules, in-tiplocs}
+use Rattle.cif_canon.proofs.listed_differences.Differences.write_text.Goals as goal
+
+pub returns-in_err-write_marked_tiplocs : goal.returns-in_err-write_marked_tiplocs
+unfolding differences_text
+returns-in_err-write_marked_tiplocs g c =
+    let e = c.self.inside in
+    subst (λ d. Writes g.W.Write.contents g.W.WriteDevice.write_errors (differences_text d) c.args.sink.now
+    c.write_marked_tiplocs.new.sink c.from_residual.result) c.self.view_is
+    (writes_err _ _ _ _ _ c.from_residual.result c.from_residual.ensures.0
+    (in-tiplocs _ _ e.tiplocs.items e.left.now.associations.items e.right.now.associations.items e.associations.items
+    e.left.now.schedules.items e.right.now.schedules.items e.schedules.items _ _
+    (rw c.as_slice.ensures.value at c.in_err-write_marked_tiplocs.ensures)))
+
+pub returns-in_err-write_sided_runs : goal.returns-in_err-write_sided_runs
+unfolding differences_text
+returns-in_err-write_sided_runs g c =
+    let e = c.self.inside in
+    subst (λ d. Writes g.W.Write.contents g.W.WriteDevice.write_errors (differences_text d) c.args.sink.now
+    c.write_sided_runs.new.sink c.from_residual-in_err-write_sided_runs.result) c.self.view_is
+    (writes_err _ _ _ _ _ c.from_residual-in_err-write_sided_runs.result c.from_residual-in_err-write_sided_runs.ensures.0
+    (in-associations _ _ e.tiplocs.items e.left.now.associations.items e.right.now.associations.items e.associations.items
+    e.left.now.schedules.items e.right.now.schedules.items e.schedules.items _ _
+    (rw c.as_slice.ensures.value at c.in_ok-write_marked_tiplocs.ensures) _
+    (rw (c.as_slice-2.ensures.value, c.as_slice-3.ensures.value, c.as_slice-4.ensures.value) at c.in_err-write_sided_runs.ensures)))
+
+pub returns : goal.returns
+unfolding differences_text
+returns g c =
+    let e = c.self.inside in
+    subst (λ d. Writes g.W.Write.contents g.W.WriteDevice.write_errors (differences_text d) c.args.sink.now
+    c.write_sided_runs-2.new.sink c.write_sided_runs-2.result) c.self.view_is
+    (in-schedules _ _ e.tiplocs.items e.left.now.associations.items e.right.now.associations.items e.associations.items
+    e.left.now.schedules.items e.right.now.schedules.items e.schedules.items _ _
+    (rw c.as_slice.ensures.value at c.in_ok-write_marked_tiplocs.ensures) _ _ c.write_sided_runs-2.result
+    (rw (c.as_slice-2.ensures.value, c.as_slice-3.ensures.value, c.as_slice-4.ensures.value) at c.in_ok-write_sided_runs.ensures)
+    (rw (c.as_slice-5.ensures.value, c.as_slice-6.ensures.value, c.as_slice-7.ensures.value) at c.write_sided_runs-2.ensures))

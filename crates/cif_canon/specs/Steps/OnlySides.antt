@@ -1,0 +1,153 @@
+-- What only one of two calendars says, and the runs of both sides as they are found. No public clause cites it.
+use Rattle.std.specs.Prelude.{◌≡◌, ◌≢◌, ◌↔◌, ◌⊎◌, ℕ, ◌<◌, ◌≤◌, List, [], ◌∷◌, ◌++◌, Option, None, Some, AllPairs, Contains}
+use Rattle.std.specs.Prelude.{slice_index_or}
+use Rattle.std.specs.List.{AllZip}
+use Rattle.std.specs.Ordering.{nat_cmp}
+use Rattle.std.specs.Cmp.Lexicographic.{slice_cmp}
+use Rattle.std.specs.declared.cmp.Ordering.{Ordering}
+use Rattle.std.specs.declared.cmp.Ordering.TheVariants.{Less, Greater}
+use Rattle.cif_calendar.specs.Calendar.{CalendarParts, body_on}
+use Rattle.cif_calendar.specs.Meaning.{SameMeaning}
+use Rattle.cif_calendar.specs.Pieces.{source_at, winner_of}
+use Rattle.cif_calendar.specs.Source.{body_at}
+use Rattle.cif_calendar.specs.Terms.{Terms}
+use Rattle.cif_calendar.specs.declared.piece.Piece.{Piece}
+use Rattle.cif_columns.specs.Day.{weekday_of}
+use Rattle.cif_records.specs.declared.tiploc.Tiploc.{Tiploc}
+use Rattle.cif_weeks.specs.HaveForm.{HaveForm}
+use Rattle.cif_weeks.specs.Permanent.{Permanent}
+use Rattle.cif_weeks.specs.Runs.{IsRunOf as IsCalendarRun, window_of}
+use Rattle.cif_weeks.specs.WhatRuns.{HasBody}
+use Rattle.cif_weeks.specs.Window.{Window, IsWithin}
+use Rattle.cif_weeks.specs.declared.form.Form.TheVariants.{Two}
+use Rattle.cif_weeks.specs.declared.run.Run.{Run}
+use Rattle.cif_canon.specs.Differences.{AreDifferentRecords, TurnInto, of_side}
+use Rattle.cif_canon.specs.Steps.Records.{IsRunOf}
+use Rattle.cif_canon.specs.Steps.Sides.{at_side}
+use Rattle.cif_canon.specs.declared.side.Side.{Side}
+use Rattle.cif_canon.specs.declared.side.Side.TheVariants.{Left, Right}
+use Rattle.cif_canon.specs.declared.side.Sided.{Sided}
+
+-- what is left of a source: none where the other one has the same body, and else itself
+abbrev pub IsOnlySource : {B : Type 0} → List (Terms B) → List (Terms B) → Option ℕ → Option ℕ → Option ℕ → Type 0
+IsOnlySource xs ys one other only =
+    ((body_at xs one ≡ body_at ys other) × (only ≡ None)) ⊎ ((body_at xs one ≢ body_at ys other) × (only ≡ one))
+
+-- the winners have what is left of the source of each day from `first` to `last`, by the pieces of both sides
+pub record AreOnlyWinners {B : Type 0} (xs ys : List (Terms B)) (p q : Piece) (first last : ℕ) (winners : List (Option ℕ)) : Type 0 where
+  pub each : (d : ℕ) → first ≤ d → d ≤ last →
+      IsOnlySource xs ys (winner_of p d) (winner_of q d) (slice_index_or winners (weekday_of d) None)
+
+-- the calendar has what is left of the source of each day of the window, by the calendars of both sides
+pub record IsOnlyCalendar {B : Type 0} (xs : List (Terms B)) (c : CalendarParts) (ys : List (Terms B)) (e : CalendarParts)
+    (only : CalendarParts) : Type 0 where
+  pub first_is : only.first ≡ c.first
+  pub last_is : only.last ≡ c.last
+  pub sources : (d : ℕ) → c.first ≤ d → d ≤ c.last →
+      IsOnlySource xs ys (source_at c.pieces d) (source_at e.pieces d) (source_at only.pieces d)
+
+-- The runs are those of the canonical records, in form 2, of what only calendar c says: body b on a day on which by c it runs, and by
+-- e it doesn't.
+pub record AreOnlyRuns {B : Type 0} (xs : List (Terms B)) (c : CalendarParts) (ys : List (Terms B)) (e : CalendarParts) (runs : List Run)
+    : Type 0 where
+  pub records : List (Permanent B)
+  pub runs_of : AllZip (IsCalendarRun xs c) runs records
+  pub within : (r : Permanent B) → Contains records r → IsWithin (window_of c) r.first
+  pub rising : AllPairs (λ r s. r.first < s.first) records
+  pub have_form : HaveForm Two (window_of c) (Contains records)
+  pub say : (n : ℕ) (b : B) → IsWithin (window_of c) n →
+      HasBody (Contains records) n b ↔ ((body_on xs c n ≡ Some b) × (body_on ys e n ≢ Some b))
+
+-- ---- runs of both sides in one list
+
+-- one run comes before another: by first date, and where that is the same the left one before the right one
+abbrev pub RunComesBefore : Sided Run → Sided Run → Type 0
+RunComesBefore s t = (s.it.first < t.it.first) ⊎ ((s.it.first ≡ t.it.first) × (s.side ≡ Left) × (t.side ≡ Right))
+
+-- the runs rise by first date
+abbrev pub AreRisingRuns : List Run → Type 0
+AreRisingRuns runs = AllPairs (λ r s. r.first < s.first) runs
+
+-- the runs of both sides in one list, in order
+pub record AreMergedRuns (lefts rights : List Run) (merged : List (Sided Run)) : Type 0 where
+  pub left : of_side Left merged ≡ lefts
+  pub right : of_side Right merged ≡ rights
+  pub in_order : AllPairs RunComesBefore merged
+
+-- the runs of both sides are behind the others
+pub record AreAppendedRuns (lefts rights : List Run) (old new : List (Sided Run)) : Type 0 where
+  pub merged : List (Sided Run)
+  pub are : AreMergedRuns lefts rights merged
+  pub appended : new ≡ old ++ merged
+
+-- The runs of both sides so far are behind the others, and the rest come after them.
+pub record AreMerging (lefts rights : List Run) (l r : List Run) (old new : List (Sided Run)) : Type 0 where
+  pub merged : List (Sided Run)
+  pub appended : new ≡ old ++ merged
+  pub left : of_side Left merged ++ l ≡ lefts
+  pub right : of_side Right merged ++ r ≡ rights
+  pub in_order : AllPairs RunComesBefore merged
+  pub left_after : (s : Sided Run) (x : Run) → Contains merged s → Contains l x → RunComesBefore s (record { side = Left; it = x })
+  pub right_after : (s : Sided Run) (x : Run) → Contains merged s → Contains r x → RunComesBefore s (record { side = Right; it = x })
+  pub left_rising : AreRisingRuns l
+  pub right_rising : AreRisingRuns r
+
+-- the side of the run that comes first of two lists; none where there is no run
+abbrev pub IsFirstSide : List Run → List Run → Option Side → Type 0
+IsFirstSide [] [] None = Unit {0}
+IsFirstSide [] (y ∷ ys) (Some Right) = Unit {0}
+IsFirstSide (x ∷ xs) [] (Some Left) = Unit {0}
+IsFirstSide (x ∷ xs) (y ∷ ys) (Some Left) = x.first ≤ y.first
+IsFirstSide (x ∷ xs) (y ∷ ys) (Some Right) = y.first < x.first
+IsFirstSide _ _ _ = ⊥
+
+-- the order of the first locations of two lists, of which one that has none is the greater; none where neither has one
+abbrev pub IsFirstOrder : List Tiploc → List Tiploc → Option Ordering → Type 0
+IsFirstOrder [] [] None = Unit {0}
+IsFirstOrder [] (y ∷ ys) (Some Greater) = Unit {0}
+IsFirstOrder (x ∷ xs) [] (Some Less) = Unit {0}
+IsFirstOrder (x ∷ xs) (y ∷ ys) (Some order) = slice_cmp nat_cmp x.columns y.columns ≡ order
+IsFirstOrder _ _ _ = ⊥
+
+-- Of the locations that only one of two lists has, those so far are found, and the others are left; both lists rise strictly.
+pub record AreSifting (lefts rights : List Tiploc) (l r : List Tiploc) (found : List (Sided Tiploc)) : Type 0 where
+  pub left : (t : Tiploc) → (Contains lefts t × ¬ Contains rights t) ↔ (Contains (of_side Left found) t ⊎ (Contains l t × ¬ Contains r t))
+  pub right : (t : Tiploc) → (Contains rights t × ¬ Contains lefts t)
+      ↔ (Contains (of_side Right found) t ⊎ (Contains r t × ¬ Contains l t))
+  pub rising : AllPairs (λ s t. slice_cmp nat_cmp s.it.columns t.it.columns ≡ Less) found
+  pub left_after : (s : Sided Tiploc) (t : Tiploc) → Contains found s → Contains l t → slice_cmp nat_cmp s.it.columns t.columns ≡ Less
+  pub right_after : (s : Sided Tiploc) (t : Tiploc) → Contains found s → Contains r t → slice_cmp nat_cmp s.it.columns t.columns ≡ Less
+  pub left_rising : AllPairs (λ s t. slice_cmp nat_cmp s.columns t.columns ≡ Less) l
+  pub right_rising : AllPairs (λ s t. slice_cmp nat_cmp s.columns t.columns ≡ Less) r
+
+-- the first item has moved behind the others, with its side
+pub record HasMoved {T : Type 0} (side : Side) (items rest : List T) (old new : List (Sided T)) : Type 0 where
+  pub item : T
+  pub items_are : items ≡ item ∷ rest
+  pub new_is : new ≡ old ++ (record { side = side; it = item } ∷ [])
+
+-- what a key's two calendars say by themselves is behind the runs that were found
+pub record AreKeyDifferences {B : Type 0} (xs : List (Terms B)) (c : CalendarParts) (ys : List (Terms B)) (e : CalendarParts)
+    (old new : List (Sided Run)) : Type 0 where
+  pub lefts : List Run
+  pub rights : List Run
+  pub left : AreOnlyRuns xs c ys e lefts
+  pub right : AreOnlyRuns ys e xs c rights
+  pub appended : AreAppendedRuns lefts rights old new
+
+-- ---- of all keys
+
+-- the run of a side has the dates and the mask of the record, and its source is an entry of that side with its key and its body
+pub record IsSidedRunOf {K B : Type 0} (xs ys : List (K × Terms B)) (run : Sided Run) (e : Sided (K × Permanent B)) : Type 0 where
+  pub side : run.side ≡ e.side
+  pub run_of : IsRunOf (at_side xs ys e.side) run.it e.it
+
+-- The runs are, one by one, those of the differences of two lists; these turn the one into the other, and there is none exactly where
+-- the lists say the same.
+pub record AreDifferentRuns {K B : Type 0} (cmp : K → K → Ordering) (window : Window) (xs ys : List (K × Terms B)) (runs : List (Sided Run))
+    : Type 0 where
+  pub found : List (Sided (K × Permanent B))
+  pub runs_of : AllZip (IsSidedRunOf xs ys) runs found
+  pub different : AreDifferentRecords cmp window xs ys found
+  pub turn : TurnInto window xs ys found
+  pub none : (found ≡ []) ↔ SameMeaning xs ys window.first window.last

@@ -1,0 +1,34 @@
+-- The runs of both sides, and their records. No public clause cites them.
+use Rattle.std.specs.Prelude.{ℕ, List, [], ◌∷◌, Option, None, Some}
+use Rattle.cif_calendar.specs.Terms.{Terms}
+use Rattle.cif_weeks.specs.Permanent.{Permanent}
+use Rattle.cif_weeks.specs.declared.run.Run.{Run}
+use Rattle.cif_canon.specs.Steps.Texts.{HasRecord, record_at, run_text}
+use Rattle.cif_canon.specs.declared.side.Side.{Side}
+use Rattle.cif_canon.specs.declared.side.Side.TheVariants.{Left, Right}
+use Rattle.cif_canon.specs.declared.side.Sided.{Sided}
+
+-- the list of a side
+abbrev pub at_side : {A : Type 0} → A → A → Side → A
+at_side left right Left = left
+at_side left right Right = right
+
+-- a run that has a record among the entries of its side
+abbrev pub HasSidedRecord : {K B : Type 0} → List (K × Terms B) → List (K × Terms B) → Sided Run → Type 0
+HasSidedRecord xs ys s = HasRecord (at_side xs ys s.side) s.it
+
+-- the record, if there is one, before others
+abbrev pub with_record : {A : Type 0} → Side → Option A → List (Sided A) → List (Sided A)
+with_record side None others = others
+with_record side (Some a) others = record { side = side; it = a } ∷ others
+
+-- the records of the runs, with their sides
+abbrev pub sided_records : {K B : Type 0} → List (K × Terms B) → List (K × Terms B) → List (Sided Run)
+    → List (Sided (K × Permanent B))
+sided_records xs ys [] = []
+sided_records xs ys (s ∷ rest) = with_record s.side (record_at (at_side xs ys s.side) s.it) (sided_records xs ys rest)
+
+-- the text of a run, by its side
+abbrev pub sided_run_text : {K B : Type 0} → (K × Permanent B → List ℕ) → List (K × Terms B) → (K × Permanent B → List ℕ)
+    → List (K × Terms B) → Sided Run → List ℕ
+sided_run_text left_text xs right_text ys s = run_text (at_side left_text right_text s.side) (at_side xs ys s.side) s.it
