@@ -8,7 +8,8 @@ use Rattle.cif_weeks.specs.declared.run.Run.{Run}
 use Rattle.cif_weeks.proofs.JoinedLists.{AllPairs-append}
 use Rattle.cif_weeks.proofs.RisingLists.{Contains-none}
 use Rattle.cif_canon.specs.Differences.{is_side, of_side}
-use Rattle.cif_canon.specs.Steps.OnlySides.{AreAppendedRuns, AreMergedRuns, AreMerging, AreRisingRuns, HasMoved, IsFirstSide, RunComesBefore}
+use Rattle.cif_canon.specs.Steps.OnlySides.{AreAppendedRuns, AreMergedRuns, AreMerging, AreRisingRuns, HasMoved}
+use Rattle.cif_canon.specs.Steps.OnlySides.{IsFirstSide, RunComesBefore}
 use Rattle.cif_canon.specs.declared.side.Side.{Side}
 use Rattle.cif_canon.specs.declared.side.Side.TheVariants.{Left, Right}
 use Rattle.cif_canon.specs.declared.side.Sided.{Sided}

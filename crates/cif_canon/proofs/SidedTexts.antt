@@ -42,8 +42,9 @@ module _ {K B : Type 0} (xs ys : List (K × Terms B)) where
     sided-text (s ∷ runs) =
         sym (one-text s.side (record_at (at_side xs ys s.side) s.it) (sided_records xs ys runs)
         ∙ ap (λ (l : List ℕ). l ++ flat_map text (sided_records xs ys runs)) (by-side s s.side refl)
-        ∙ ap (λ (l : List ℕ). sided_run_text (λ e. text (record { side = Left; it = e })) xs (λ e. text (record { side = Right; it = e })) ys s
-        ++ l) (sym (sided-text runs)))
+        ∙ ap (λ (l : List ℕ).
+        sided_run_text (λ e. text (record { side = Left; it = e })) xs (λ e. text (record { side = Right; it = e })) ys s ++ l)
+        (sym (sided-text runs)))
 
   -- the record of a run with its side
   record-there : (s : Sided Run) (e : Sided (K × Permanent B)) → IsSidedRunOf xs ys s e →

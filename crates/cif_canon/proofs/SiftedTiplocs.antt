@@ -295,7 +295,7 @@ module _ (lefts rights : List Tiploc) where
             let other : length r' ≡ length r = ap (λ (z : List Tiploc). length z) f in omega (arith, one, other),
       )
 
-  pub sifting-end : (l r : List Tiploc) (ls rs : List Tiploc) → AreDistinct ls lefts → AreDistinct rs rights → (found : List (Sided Tiploc)) →
+  pub sifting-end : (l r ls rs : List Tiploc) → AreDistinct ls lefts → AreDistinct rs rights → (found : List (Sided Tiploc)) →
       IsFirstOrder l r None → AreSifting lefts rights l r found → AreDifferentTiplocs ls rs found
   sifting-end l r ls rs p q found h a =
       let (no_left, no_right) = nothing-first l r h in
