@@ -11,7 +11,7 @@ _cif_offer() {
 }
 
 _cif() {
-    local IFS=$' \t\n' commands='normalise check compare day train help'
+    local IFS=$' \t\n' commands='normalise check compare diff day train explain clashes help'
     local command='' options='' places=0 given=' ' front='' written=${COMP_WORDS[COMP_CWORD]}
     # the option whose value comes next, and whether -- has ended the options
     local awaited='' ended='' word i
@@ -52,16 +52,18 @@ _cif() {
     if [[ -z $ended && $written == -* ]]; then
         case $command in
         '') options='-h --help -V --version' ;;
-        normalise | check | train) options='--from --to --form -h --help' ;;
-        compare) options='--from --to -h --help' ;;
-        day) options='-h --help' ;;
+        normalise | check | train) options='-v --verbose --from --to --form -h --help' ;;
+        compare | diff) options='-v --verbose --from --to --common -h --help' ;;
+        clashes) options='-v --verbose --from --to -h --help' ;;
+        day | explain) options='-v --verbose -h --help' ;;
         esac
         _cif_offer "$options"
         return
     fi
     case $command:$places in
     :0 | help:0) _cif_offer "$commands" ;;
-    normalise:0 | check:0 | compare:[01] | day:1 | train:1) compopt -o default ;;
+    normalise:0 | check:0 | compare:[01] | diff:[01]) compopt -o default ;;
+    day:1 | train:1 | explain:2 | clashes:0) compopt -o default ;;
     esac
 }
 

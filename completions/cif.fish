@@ -40,17 +40,23 @@ complete -c cif -f
 complete -c cif -n __cif_without_command -a normalise -d 'Write the canonical extract'
 complete -c cif -n __cif_without_command -a check -d 'Count the records of the canonical extract'
 complete -c cif -n __cif_without_command -a compare -d 'Say where two extracts first differ'
+complete -c cif -n __cif_without_command -a diff -d 'List everything in which two extracts differ'
 complete -c cif -n __cif_without_command -a day -d 'List the associations and the trains of one date'
 complete -c cif -n __cif_without_command -a train -d 'List the schedules of one train'
+complete -c cif -n __cif_without_command -a explain -d 'Say why a train runs on a date'
+complete -c cif -n __cif_without_command -a clashes -d 'List the clashes of an extract'
 complete -c cif -n __cif_without_command -a help -d 'Print the help of the program or of a command'
 complete -c cif -n __cif_without_command -s h -l help -d 'Print help'
 complete -c cif -n __cif_without_command -s V -l version -d 'Print the version'
 
-complete -c cif -n '__cif_in normalise check compare train' -l from -x -d 'First date of the window, YYMMDD'
-complete -c cif -n '__cif_in normalise check compare train' -l to -x -d 'Last date of the window, YYMMDD'
+complete -c cif -n '__cif_in normalise check compare diff train clashes' -l from -x -d 'First date of the window, YYMMDD'
+complete -c cif -n '__cif_in normalise check compare diff train clashes' -l to -x -d 'Last date of the window, YYMMDD'
+complete -c cif -n '__cif_in compare diff' -l common -d 'Take the common window'
 complete -c cif -n '__cif_in normalise check train' -l form -x -a '1 2' -d 'How weeks are joined'
-complete -c cif -n '__cif_in normalise check compare day train' -s h -l help -d 'Print help'
+complete -c cif -n '__cif_in normalise check compare diff day train explain clashes' -s v -l verbose -d 'Say more on standard error'
+complete -c cif -n '__cif_in normalise check compare diff day train explain clashes' -s h -l help -d 'Print help'
 
-complete -c cif -n '__cif_at 0 normalise check compare' -F
-complete -c cif -n '__cif_at 1 compare day train' -F
-complete -c cif -n '__cif_at 0 help' -a 'normalise check compare day train help'
+complete -c cif -n '__cif_at 0 normalise check compare diff clashes' -F
+complete -c cif -n '__cif_at 1 compare diff day train' -F
+complete -c cif -n '__cif_at 2 explain' -F
+complete -c cif -n '__cif_at 0 help' -a 'normalise check compare diff day train explain clashes help'

@@ -12,7 +12,8 @@ def words_of(job):
     words = [job.command]
     for option, word in ("--from", job.first), ("--to", job.last), ("--form", job.form):
         words += [] if word is None else [option, word]
-    return words + [word for word in (job.day, job.uid) if word is not None] + list(job.files)
+    words += ["--common"] if job.common else []
+    return words + [word for word in (job.uid, job.day) if word is not None] + list(job.files)
 
 
 def written(folder, job, inputs):

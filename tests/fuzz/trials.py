@@ -12,7 +12,10 @@ from generator.damage import damaged, damaged_in_turn
 from generator.derived import changed_once, said_otherwise
 from generator.spelling import PLAIN, spelled, with_one_moved
 from generator.timetables import each_sort
-from reference.answers import DIFFERENCE, Answer, Job, answer
+from reference.answers import SOME, Answer, Job, answer, date_of
+from reference.dates import yymmdd
+from reference.extracts import common_of, read_extract
+from reference.faults import REFUSED
 
 # A name of what is tried, the job, the bytes of each input, and the answer that is wanted.
 Trial = namedtuple("Trial", "name job inputs want")
@@ -67,12 +70,103 @@ def of_second_extracts(rng, job, inputs, output, timetable):
     yield Trial("the input and what is changed in one place", compared, [*inputs, changed], comparison)
 
 
+def with_dates(job, inputs):
+    """The job of two files without --common, with the dates that it stands for."""
+    if not job.common:
+        return job
+    dates = common_of([read_extract(data) for data in inputs])
+    first, last = (yymmdd(date_of(word) or day) for word, day in zip((job.first, job.last), dates))
+    return job._replace(first=first, last=last, common=False)
+
+
 def of_comparison(job, inputs, want):
     """Two extracts differ alike in the other order, and after one is normalised."""
-    window = {"first": job.first, "last": job.last}
     yield Trial("the other order", job, inputs[::-1], want)
-    output = answer(Job("normalise", **window), inputs[:1]).stdout
+    yield from of_equal_jobs(job, inputs, want)
+
+
+def of_equal_jobs(job, inputs, want):
+    """Two extracts differ alike with the dates of their common window, and after one is normalised."""
+    dated = with_dates(job, inputs)
+    if job.common:
+        yield Trial("with the dates of the common window", dated, inputs, want)
+    output = answer(Job("normalise", first=dated.first, last=dated.last), inputs[:1]).stdout
     yield Trial("the left one normalised", job, [output, inputs[1]], want)
+
+
+def records_of(lines):
+    """The lines of HD, of TI, of AA and of schedules."""
+    kinds = {b"HD": 0, b"TI": 1, b"AA": 2}
+    found = [], [], [], []
+    for line in lines:
+        if line[:2] != b"ZZ":
+            found[kinds.get(line[:2], 3)].append(line)
+    return found
+
+
+def with_letter(lines, letter):
+    return [line[:79] + letter if line[:2] in (b"AA", b"BS") else line for line in lines]
+
+
+def turned_into(left, differences, header):
+    """An extract in which nothing runs of what only the left one says, and what only the right one says overlays the rest."""
+    ours, theirs = ([line[2:] for line in differences.splitlines() if line[:1] == mark] for mark in (b"<", b">"))
+    _, tiplocs, associations, schedules = records_of(left.splitlines())
+    _, no_tiplocs, no_associations, no_schedules = records_of(with_letter(ours, b"C"))
+    _, new_tiplocs, new_associations, new_schedules = records_of(with_letter(theirs, b"O"))
+    places = [line for line in tiplocs if line not in no_tiplocs] + new_tiplocs
+
+    def extract(*records):
+        return b"".join(line + b"\n" for line in [header, *places, *chain(*records), b"ZZ".ljust(80)])
+
+    cancelled = answer(Job("normalise"), [extract(associations, no_associations, schedules, no_schedules)]).stdout
+    _, _, associations, schedules = records_of(cancelled.splitlines())
+    return extract(associations, new_associations, schedules, new_schedules)
+
+
+def of_differences(job, inputs, want):
+    """Nothing differs exactly if the two compare as the same; and the differences turn the left one into the right one."""
+    compared = job._replace(command="compare")
+    comparison = answer(compared, inputs)
+    if (comparison == SAME) != (want == Answer(b"", b"", 0)):
+        raise Inconsistent("two extracts compare as the same and differ, or don't")
+    yield Trial("how they compare", compared, inputs, comparison)
+    yield Trial("the other order", job, inputs[::-1], answer(job, inputs[::-1]))
+    yield from of_equal_jobs(job, inputs, want)
+    dated = with_dates(job, inputs)
+    normalised = Job("normalise", first=dated.first, last=dated.last)
+    left, right = (answer(normalised, [data]).stdout for data in inputs)
+    turned = turned_into(left, want.stdout, right.splitlines()[0])
+    if answer(Job("normalise"), [turned]).stdout != right:
+        raise Inconsistent("the differences don't turn the left extract into the right one")
+    yield Trial("the left one turned into the right one", Job("normalise"), [turned], Answer(right, b"", 0))
+
+
+def of_explanation(job, inputs, want):
+    """What wins on a date is what day says, where there is no clash, and the only record of a canonical extract."""
+    day = Job("day", day=job.day)
+    listed = answer(day, inputs)
+    yield Trial("the day of it", day, inputs, listed)
+    if listed.status == 0:
+        of_uid = [line for line in listed.stdout.split(b"\n") if line[3:9] == job.uid.encode()]
+        won = [line for line in want.stdout.split(b"\n") if line.startswith(b"wins  ") and line[10:11] != b"C"]
+        if of_uid != list(dict.fromkeys(line[7:10] + line[34:] for line in won)):
+            raise Inconsistent("the records that win aren't what the day has")
+        canonical = [answer(Job("normalise"), inputs).stdout]
+        yield Trial("the same of the canonical extract", job._replace(files=()), canonical, answer(job, canonical))
+
+
+def of_clashes(job, inputs, want):
+    """The first clash is the one for which check refuses the extract; and each is explained."""
+    checked = answer(job._replace(command="check"), inputs)
+    lines = want.stdout.splitlines()
+    if lines and checked != Answer(b"", b"cif: Ambiguous: " + lines[0] + b"\n", REFUSED) or not lines and checked.status:
+        raise Inconsistent("the first clash isn't the one that check names")
+    yield Trial("the check of it", job._replace(command="check"), inputs, checked)
+    for line in lines[:2]:
+        uid, day = line.split(b"[", 1)[1][:6].decode(), line[-6:].decode()
+        explain = Job("explain", job.files, day=day, uid=uid)
+        yield Trial("a clash explained", explain, inputs, answer(explain, inputs))
 
 
 def of_view(job, inputs, want):
@@ -111,10 +205,19 @@ def further_trials(rng, case, want, options):
         yield from of_canonical(job, inputs, want.stdout, options)
         if case.timetable:
             yield from of_second_extracts(rng, job, inputs, want.stdout, case.timetable)
-    elif job.command == "compare":
-        yield from of_comparison(job, inputs, want)
-    elif job.command in ("day", "train"):
-        yield from of_view(job, inputs, want)
+    else:
+        yield from FURTHER[job.command](job, inputs, want)
+
+
+FURTHER = {
+    "check": lambda *_: (),
+    "compare": of_comparison,
+    "diff": of_differences,
+    "day": of_view,
+    "train": of_view,
+    "explain": of_explanation,
+    "clashes": of_clashes,
+}
 
 
 def trials_of(rng, turn, case, commands, options):
@@ -123,6 +226,6 @@ def trials_of(rng, turn, case, commands, options):
     further = [[Trial("", case.job, case.inputs, want)], of_small_extracts(rng, turn), of_faults(rng, commands, options)]
     if case.timetable:
         further.append(of_damage(rng, case.inputs[0]))
-    if want.status in (0, DIFFERENCE):
+    if want.status in (0, SOME):
         further.append(further_trials(rng, case, want, options))
     yield from (trial for trial in chain(*further) if trial.job.command in commands)

@@ -158,7 +158,7 @@ in_turn() {
 one_fifo() {
     mkdir "$work/one"
     cp "$1/stdout" "$1/stderr" "$1/status" "$work/one"
-    printf '%s\n' compare fifo fifo > "$work/one/args"
+    { sed -n 1p "$1/args" && printf '%s\n' fifo fifo; } > "$work/one/args"
     choose "$work/one"
     mkfifo "$row/fifo"
     rm -f "$work/told" "$work/turned"

@@ -52,7 +52,8 @@ def bash_facts(completion, most):
 ZSH_ARM = re.compile(r"^ {8}\(([a-z|]+)\)\n(.*?)^ {12};;\n", re.MULTILINE | re.DOTALL)
 ZSH_LISTED = re.compile(r"^ {8}'([a-z]+):[^']*'$", re.MULTILINE)
 ZSH_OPTION = re.compile(r"^(--[a-z]+)=\[[^]]*\]:(\w+):(?:\(([^()]*)\))?$")
-ZSH_FLAG = re.compile(r"^'\(- : \*\)'\{(-\w),(--[a-z]+)\}'\[[^]]*\]'$")
+ZSH_SWITCH = re.compile(r"^(--[a-z]+)\[[^]]*\]$")
+ZSH_FLAG = re.compile(r"^'\((?:- : \*|-\w --[a-z]+)\)'\{(-\w),(--[a-z]+)\}'\[[^]]*\]'$")
 ZSH_PLACE = re.compile(r"^:(:?)(\w+):(\w*)$")
 ZSH_ACTIONS = {"_files": "files", "_cif_commands": "commands", "": None}
 
@@ -68,11 +69,14 @@ def zsh_facts_of(specs):
     for spec in specs:
         flag = ZSH_FLAG.match(spec)
         option = ZSH_OPTION.match(spec.strip("'"))
+        switch = ZSH_SWITCH.match(spec.strip("'"))
         place = ZSH_PLACE.match(spec.strip("'"))
         if flag:
             found |= Option(list(flag.groups())).facts()
         elif option:
             found |= Option([option[1]], option[2], (option[3] or "").split()).facts()
+        elif switch:
+            found |= Option([switch[1]]).facts()
         elif place and place[3] in ZSH_ACTIONS:
             number += 1
             found.add(place_fact(number, f"[{place[2]}]" if place[1] else f"<{place[2]}>"))

@@ -1,13 +1,16 @@
 pub mod CanonForm
 pub mod CanonTexts
 pub mod ChosenRecords
+pub mod ClashLists
 pub mod ComparedCalendars
 pub mod ComparedKeys
 pub mod DifferentDays
 pub mod DifferentTiplocs
 pub mod DistinctTiplocs
+pub mod ExplainedLines
 pub mod FirstEntries
 pub mod FoundRecords
+pub mod FoundClashes
 pub mod HandedFaults
 pub mod KeyDifferences
 pub mod KeptExtract

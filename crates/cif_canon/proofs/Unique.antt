@@ -48,7 +48,7 @@ order-of cmp total f = record {
 bytes-total : IsTotalOrder (slice_cmp nat_cmp)
 bytes-total = nat_list_cmp_total
 
-keys-total : IsTotalOrder key_cmp
+pub keys-total : IsTotalOrder key_cmp
 keys-total =
     then_total (order-of (slice_cmp nat_cmp) bytes-total (λ (a : AssocKey). a.base))
     (then_total (order-of (slice_cmp nat_cmp) bytes-total (λ (a : AssocKey). a.associated))

@@ -2,9 +2,11 @@ pub mod Accepted
 pub mod Asked
 pub mod Canon
 pub mod Canonical
+pub mod Clashes
 pub mod Comparison
 pub mod Counts
 pub mod Differences
+pub mod Explanation
 pub mod Fault
 pub mod Meaning
 pub mod NormalForm

@@ -44,11 +44,10 @@ journey_fields b =
     ∷ place_fields b.origin.location b.origin.suffix b.origin.departure b.origin.platform
     ++ place_fields b.terminus.location b.terminus.suffix b.terminus.arrival b.terminus.platform
 
--- the line of an association that holds
-unfoldable pub association_line : AssocKey × AssocBody → List ℕ
-association_line e = line_of (
-    codes "AA"
-    ∷ e.0.base
+-- the fields of an association that holds
+abbrev pub association_fields : AssocKey × AssocBody → List (List ℕ)
+association_fields e =
+    e.0.base
     ∷ e.0.associated
     ∷ left_justified 2 e.1.category
     ∷ left_justified 1 e.1.date_indicator
@@ -57,11 +56,19 @@ association_line e = line_of (
     ∷ left_justified 1 e.0.associated_suffix
     ∷ left_justified 1 e.1.diagram
     ∷ left_justified 1 e.1.kind
-    ∷ [])
+    ∷ []
 
--- the line of a train that runs
+-- its line
+unfoldable pub association_line : AssocKey × AssocBody → List ℕ
+association_line e = line_of (codes "AA" ∷ association_fields e)
+
+-- the fields of a train that runs
+abbrev pub train_fields : List ℕ × BodyParts → List (List ℕ)
+train_fields e = e.0 ∷ journey_fields e.1
+
+-- its line
 unfoldable pub train_line : List ℕ × BodyParts → List ℕ
-train_line e = line_of (codes "BS" ∷ e.0 ∷ journey_fields e.1)
+train_line e = line_of (codes "BS" ∷ train_fields e)
 
 -- the line of a canonical schedule: from its first to its last date it runs on these days of the week
 unfoldable pub schedule_line : Permanent BodyParts → List ℕ

@@ -1,9 +1,11 @@
 //! The canonical extract of a CIF extract, how two extracts compare, and what runs on a day.
 #![tactic(auto)]
 
+mod all_clashes;
 mod asked;
 mod canonical;
 mod canonical_form;
+mod clash_list;
 mod comparing;
 mod comparison;
 mod counts;
@@ -11,12 +13,17 @@ mod difference;
 mod different_records;
 mod different_tiplocs;
 mod differing;
+mod explained;
+mod explained_line;
+mod explanation;
 mod extract_runs;
 mod fault_line;
+mod key_clashes;
 pub mod laws;
 mod lines_of_day;
 mod lines_of_train;
 mod listed_differences;
+mod mark;
 mod marked_lines;
 mod normal_form;
 mod only;
@@ -28,13 +35,16 @@ mod tiplocs;
 mod turns;
 mod view_line;
 
+pub use all_clashes::clashes;
 pub use asked::{Asked, narrow};
 pub use canonical::canon;
 pub use canonical_form::Canon;
+pub use clash_list::Clashes;
 pub use comparing::compare;
 pub use comparison::{Comparison, write_comparison};
 pub use counts::{Counts, write_counts};
 pub use differing::differences;
+pub use explanation::explain_view;
 pub use fault_line::report;
 pub use lines_of_day::day_view;
 pub use lines_of_train::train_view;

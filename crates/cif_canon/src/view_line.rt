@@ -4,8 +4,8 @@ ghost use Rattle.std.specs.List.{join_with_byte};
 ghost use Rattle.arrayvec.specs.ArrayString.{array_string_len};
 ghost use Rattle.cif_columns.specs.Line.{ArePrintable};
 ghost use Rattle.cif_weeks.specs.Runs.{record_of};
-ghost use Rattle.cif_canon.specs.Views.{association_line, journey_fields, place_fields};
-ghost use Rattle.cif_canon.specs.Views.{schedule_line, train_line};
+ghost use Rattle.cif_canon.specs.Views.{association_fields, association_line, journey_fields};
+ghost use Rattle.cif_canon.specs.Views.{place_fields, schedule_line, train_fields, train_line};
 
 use arrayvec::ArrayString;
 use cif_columns::{Text, Uid, WorkTime, as_text};
@@ -13,8 +13,8 @@ use cif_extract::Body;
 use cif_records::{AssocBody, AssocKey};
 use cif_weeks::Run;
 
-/// The bytes of the longest line: that of a train's schedule.
-const LONGEST: usize = 65;
+/// The bytes of the longest line: that of a schedule in an explanation.
+pub(crate) const LONGEST: usize = 84;
 
 /// The line of an association that holds.
 #[tactic(auto, unfolding(crate::specs::Views::association_line))]
@@ -23,15 +23,7 @@ pub(crate) fn association_line(key: &AssocKey, body: &AssocBody) -> ArrayString<
 {
     let mut line = ArrayString::new();
     line.push_str("AA");
-    push_field(&mut line, &key.base.write());
-    push_field(&mut line, &key.associated.write());
-    push_field(&mut line, &body.category.write());
-    push_field(&mut line, &body.date_indicator.write());
-    push_field(&mut line, &key.location.write());
-    push_field(&mut line, &key.base_suffix.write());
-    push_field(&mut line, &key.associated_suffix.write());
-    push_field(&mut line, &body.diagram.write());
-    push_field(&mut line, &body.kind.write());
+    push_association(&mut line, key, body);
     line.push_str("\n");
     line
 }
@@ -43,8 +35,7 @@ pub(crate) fn train_line(uid: &Uid, body: &Body) -> ArrayString<LONGEST>
 {
     let mut line = ArrayString::new();
     line.push_str("BS");
-    push_field(&mut line, &uid.write());
-    push_journey(&mut line, body);
+    push_train(&mut line, uid, body);
     line.push_str("\n");
     line
 }
@@ -61,6 +52,35 @@ pub(crate) fn schedule_line(run: &Run, body: &Body) -> ArrayString<LONGEST>
     push_journey(&mut line, body);
     line.push_str("\n");
     line
+}
+
+/// Appends the fields of an association that holds.
+pub(crate) fn push_association(line: &mut ArrayString<LONGEST>, key: &AssocKey, body: &AssocBody)
+    requires { array_string_len line.old + 35 ≤ LONGEST }
+    ensures text { line.new.bytes ≡ line.old.bytes
+        ++ (32 ∷ join_with_byte 32 (association_fields (key.now, body.now))) }
+    ensures len { array_string_len line.new ≡ array_string_len line.old + 35 }
+{
+    push_field(line, &key.base.write());
+    push_field(line, &key.associated.write());
+    push_field(line, &body.category.write());
+    push_field(line, &body.date_indicator.write());
+    push_field(line, &key.location.write());
+    push_field(line, &key.base_suffix.write());
+    push_field(line, &key.associated_suffix.write());
+    push_field(line, &body.diagram.write());
+    push_field(line, &body.kind.write());
+}
+
+/// Appends the fields of a train that runs.
+pub(crate) fn push_train(line: &mut ArrayString<LONGEST>, uid: &Uid, body: &Body)
+    requires { array_string_len line.old + 50 ≤ LONGEST }
+    ensures text { line.new.bytes ≡ line.old.bytes
+        ++ (32 ∷ join_with_byte 32 (train_fields (uid.now, body.now))) }
+    ensures len { array_string_len line.new ≡ array_string_len line.old + 50 }
+{
+    push_field(line, &uid.write());
+    push_journey(line, body);
 }
 
 /// Appends the fields of the body's journey.
@@ -108,7 +128,7 @@ fn push_place(
 }
 
 /// Appends a space and the columns of a field.
-fn push_field(line: &mut ArrayString<LONGEST>, columns: &[u8])
+pub(crate) fn push_field(line: &mut ArrayString<LONGEST>, columns: &[u8])
     requires room { array_string_len line.old + length columns.now + 1 ≤ LONGEST }
     requires printable { ArePrintable columns.now }
     ensures text { line.new.bytes ≡ line.old.bytes ++ (32 ∷ columns.now) }

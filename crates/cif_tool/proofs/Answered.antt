@@ -1,5 +1,5 @@
 -- What a command owes its sink, by the calls that it makes.
-use Rattle.std.proofs.Common.{◌≡◌, ℕ, List, [], Option, Result, Ok, Err, IfOk, IfErr, refl, sym, subst, append-nil, ap, ◌∙◌}
+use Rattle.std.proofs.Common.{◌≡◌, ◌≢◌, ℕ, List, [], Option, Result, Ok, Err, IfOk, IfErr, refl, sym, subst, append-nil, ap, ◌∙◌}
 use Rattle.cif_columns.specs.Sink.{HasFailed, HasWritten, Writes}
 use Rattle.cif_columns.specs.declared.sink.Sink.{Sink}
 use Rattle.cif_columns.proofs.WrittenTexts.{failed_second, written_both}
@@ -25,6 +25,16 @@ pub only-write : {A : Type 0} (P : Fault → Type 0) (result : Result A Fault) �
 only-write P (Ok done) is h = tt
 only-write P (Err f) is h = subst P (sym is) h
 
+unanswered : (P : ℕ → Type 0) (f : Fault) → f ≢ fault.Write → IfAnswered (Err f) P
+unanswered P (fault.Refused line why) silent = tt
+unanswered P (fault.Ambiguous clash) silent = tt
+unanswered P fault.WindowsDiffer silent = tt
+unanswered P fault.OutsideWindow silent = tt
+unanswered P fault.WindowReversed silent = tt
+unanswered P fault.Read silent = tt
+unanswered P fault.Write silent = absurd (silent refl)
+unanswered P fault.Memory silent = tt
+
 module _ {W : Type 0} (contents : W → Option (List ℕ)) (errors : W → Option ℕ) where
   -- a fault owes the same, whatever would have been answered
   owes-same : (A B : Type 0) (text : List ℕ) (old new : Sink W) (f : Fault) → FaultWrites {A = A} contents errors text old new (Err f) →
@@ -37,6 +47,26 @@ module _ {W : Type 0} (contents : W → Option (List ℕ)) (errors : W → Optio
   owes-same A B text old new fault.Read h = h
   owes-same A B text old new fault.Write h = h
   owes-same A B text old new fault.Memory h = h
+
+  unwritten : (A : Type 0) (old : Sink W) (f : Fault) → f ≢ fault.Write → FaultWrites {A = A} contents errors [] old old (Err f)
+  unwritten A old (fault.Refused line why) silent = refl
+  unwritten A old (fault.Ambiguous clash) silent = refl
+  unwritten A old fault.WindowsDiffer silent = refl
+  unwritten A old fault.OutsideWindow silent = refl
+  unwritten A old fault.WindowReversed silent = refl
+  unwritten A old fault.Read silent = refl
+  unwritten A old fault.Write silent = absurd (silent refl)
+  unwritten A old fault.Memory silent = refl
+
+  -- a fault before anything is written
+  pub fails-silently : (P : List ℕ → ℕ → Type 0) (old : Sink W) (result : Result ℕ Fault) (f : Fault) → result ≡ Err f →
+      f ≢ fault.Write → Answers contents errors P old old result
+  fails-silently P old result f is silent =
+      subst (Answers contents errors P old old) (sym is) record {
+        text = [];
+        writes = unwritten ℕ old f silent;
+        answer = unanswered (P []) f silent;
+      }
 
   module _ (P : List ℕ → ℕ → Type 0) (old : Sink W) (text : List ℕ) (status : ℕ) where
     answered : (A : Type 0) (f : Fault) → IfWritten {A = A} (Err f) (P text status) → IfAnswered (Err f) (P text)

@@ -1,11 +1,12 @@
 -- A command that is built call by call is the one that the definition says.
 use Rattle.std.proofs.Common.{◌≡◌, ◌∙◌, Some, true, false, refl, ap, ap₂, ◌||◌}
 use Rattle.std.specs.Borrow.{Bor}
-use Rattle.clap.specs.Words.{AddsSubcommand, App, Text, app_of, is_simple, is_simple_and_free, new_app, with_subcommand}
+use Rattle.clap.specs.Words.{AddsArg, AddsSubcommand, App, Rule, Text, app_of, is_simple, is_simple_and_free, new_app, rule_of, with_rule, with_subcommand}
 use Rattle.clap.specs.Simple.{app_of_fields}
 use Rattle.clap.specs.declared.Command.{Command}
+use Rattle.clap.specs.declared.builder.arg.Arg.{Arg}
 use Rattle.clap.specs.declared.Command.TheViews.{out-Command}
-use Rattle.cif_tool.specs.CommandLine.{Forms, IsCommand, cif, program}
+use Rattle.cif_tool.specs.CommandLine.{Forms, IsCommand, cif, program, with_dates}
 
 -- `clap` says exactly what it makes of the command's words
 pub is_simple_cif : (forms : Forms) → is_simple (cif forms) ≡ true
@@ -45,3 +46,15 @@ subcommand_added a s old sub new is_old is_sub added = record {
   app = added.shape is_sub.local ∙ ap₂ with_subcommand is_old.app (ap (λ (x : App). x.top) is_sub.app);
   local = added.globals ∙ ap₂ (λ x y. x || y) is_old.local is_sub.local;
 }
+
+-- one more argument
+pub argument_added : (a : App) (r : Rule) (old : Command) (x : Arg) (new : Command) → IsCommand a old → rule_of x ≡ r → x.global ≡ false
+    → AddsArg old x new → IsCommand (with_rule a r) new
+argument_added a r old x new is_old rule local added = record {
+  app = added.shape local ∙ ap₂ with_rule is_old.app rule;
+  local = added.globals ∙ ap₂ (λ x y. x || y) is_old.local local;
+}
+
+-- the options for a narrower window
+pub dates_added : (a : App) (old new : Command) → IsCommand a old → IsCommand (with_dates (app_of old)) new → IsCommand (with_dates a) new
+dates_added a old new is_old is_new = record { app = is_new.app ∙ ap with_dates is_old.app; local = is_new.local }

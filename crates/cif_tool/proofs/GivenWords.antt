@@ -1,7 +1,7 @@
 -- Where `clap` takes the words of a command, each argument that it finds has a value.
 use Rattle.std.proofs.Common.{◌≡◌, ◌⊎◌, inl, inr, Bool, true, false, ℕ, zero, suc, refl, sym, subst, List, [], ◌∷◌, ◌++◌, ◌||◌}
 use Rattle.std.proofs.Common.{◌&&◌, not, length, drop, Option, Some, None, is_some, if◌then◌else◌, true≢false}
-use Rattle.std.specs.Prelude.{IfSome, find, slice_get, encode_utf8}
+use Rattle.std.specs.Prelude.{⊤, IfSome, find, slice_get, encode_utf8}
 use Rattle.std.specs.List.{fold, list_any}
 use Rattle.std.specs.Option.{option_map_or, option_and_then}
 use Rattle.std.specs.Str.{bytes_eq, chars}
@@ -24,7 +24,7 @@ use Rattle.clap.specs.Faults.{flags_fault, level_fault, long_fault, option_fault
 use Rattle.clap.specs.Faults.{settle_fault, short_fault, step_fault, stray_fault, turn_fault, use_fault, walk_fault, word_fault}
 use Rattle.clap.specs.declared.error.ErrorKind.TheVariants.{TooManyValues}
 use Rattle.clap.specs.declared.builder.ArgAction.{ArgAction}
-use Rattle.clap.specs.declared.builder.ArgAction.TheVariants.{Set, Help}
+use Rattle.clap.specs.declared.builder.ArgAction.TheVariants.{Set, SetTrue, SetFalse, Append, Count, Help, HelpShort, HelpLong, Version}
 use Rattle.clap.specs.declared.parser.ValueSource.{ValueSource}
 use Rattle.clap.specs.declared.parser.ValueSource.TheVariants.{DefaultValue, CommandLine}
 use Rattle.cif_tool.proofs.Each.{Each, found_holds}
@@ -58,33 +58,55 @@ values_filled : (a : Rule) (s : ValueSource) (v : Text) (vs : List Text) (rows :
 values_filled a s v vs rows f =
     changed_filled a.id (more_values s (v ∷ vs)) _ (λ r h. (more_here r.values (v ∷ vs) h, tt)) (refl, tt) rows f
 
+-- the same of a list that has a first value
+some_filled : (a : Rule) (s : ValueSource) (values : List Text) (rows : List Row) → is_some (slice_get values 0) ≡ true
+    → Each IsFilled rows → Each IsFilled (with_values a.id (reading_by a) s values rows)
+some_filled a s [] rows e f = absurd (true≢false (sym e))
+some_filled a s (v ∷ vs) rows e f = values_filled a s v vs rows f
+
 without_filled : (id : Text) (rows : List Row) → Each IsFilled rows → Each IsFilled (without id rows)
 without_filled id rows f = changed_filled id (λ r. []) [] (λ r h. tt) tt rows f
 
 -- ---- one use of an argument
 
--- a use sets one value or more, or asks for help
+-- a use sets one value or more, or that of a flag, or it asks for help
+abbrev pub IsPlainAction : ArgAction → Rule → Type 0
+IsPlainAction Set a = (unwrap_or_range a.range).start_inclusive ≡ 1
+IsPlainAction SetTrue a = is_some (slice_get a.missing 0) ≡ true
+IsPlainAction Help a = ⊤
+IsPlainAction _ a = ⊥
+
 abbrev pub IsPlainRule : Rule → Type 0
-IsPlainRule a = ((action_of a ≡ Set) × ((unwrap_or_range a.range).start_inclusive ≡ 1)) ⊎ (action_of a ≡ Help)
+IsPlainRule a = IsPlainAction (action_of a) a
 
 no_values : (most : ℕ) → range_kinds 1 most 0 ≡ [] → ⊥
 no_values most e = cc
 
-help_refused : {P : Type 0} → request_kinds Help ≡ [] → P
-help_refused e = cc
+flag_value : (a : Rule) (values : List Text) → is_some (slice_get a.missing 0) ≡ true
+    → is_some (slice_get (values_or_missing a values) 0) ≡ true
+flag_value a [] e = e
+flag_value a (v ∷ vs) e = refl
+
+used_by : (x : ArgAction) (a : Rule) (values : List Text) (rows : List Row) → IsPlainAction x a
+    → range_kinds (unwrap_or_range a.range).start_inclusive (most_values a) (length values) ≡ [] → Each IsFilled rows
+    → Each IsFilled (used_as x a.id (reading_by a) (values_or_missing a values) rows)
+used_by Set a [] rows one few f =
+    absurd (no_values (most_values a) (subst (λ (n : ℕ). range_kinds n (most_values a) 0 ≡ []) one few))
+used_by Set a (v ∷ vs) rows one few f = values_filled a CommandLine v vs (without a.id rows) (without_filled a.id rows f)
+used_by SetTrue a values rows has few f =
+    some_filled a CommandLine (values_or_missing a values) (without a.id rows) (flag_value a values has) (without_filled a.id rows f)
+used_by Help a values rows ok few f = f
+used_by SetFalse a values rows bad few f = absurd bad
+used_by Append a values rows bad few f = absurd bad
+used_by Count a values rows bad few f = absurd bad
+used_by HelpShort a values rows bad few f = absurd bad
+used_by HelpLong a values rows bad few f = absurd bad
+used_by Version a values rows bad few f = absurd bad
 
 use_filled : (again : Bool) (a : Rule) (values : List Text) (rows : List Row) → IsPlainRule a → use_fault again a values rows ≡ []
     → Each IsFilled rows
     → Each IsFilled (used a values rows)
-use_filled again a values rows (inr help) e f =
-    let fault : action_fault (action_of a) again a (values_or_missing a values) rows ≡ [] = later_passes _ _ e in
-    help_refused (subst (λ (x : ArgAction). action_fault x again a (values_or_missing a values) rows ≡ []) help fault)
-use_filled again a [] rows (inl set) e f =
-    let few = first_passes _ _ e in
-    absurd (no_values (most_values a) (subst (λ (n : ℕ). range_kinds n (most_values a) 0 ≡ []) set.1 few))
-use_filled again a (v ∷ vs) rows (inl set) e f =
-    subst (λ (x : ArgAction). Each IsFilled (used_as x a.id (reading_by a) (v ∷ vs) rows)) (sym set.0)
-    (values_filled a CommandLine v vs (without a.id rows) (without_filled a.id rows f))
+use_filled again a values rows ok e f = used_by (action_of a) a values rows ok (first_passes _ _ e) f
 
 -- ---- the walk over the words
 

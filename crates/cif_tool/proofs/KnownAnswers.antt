@@ -1,23 +1,33 @@
 -- What the commands answer, by what their calls answer: of bytes that are known.
-use Rattle.std.proofs.Common.{ℕ, List, Option, IfSome, Result, Err, IfErr, inr, refl}
+use Rattle.std.proofs.Common.{◌≡◌, ◌↔◌, ◌⊎◌, ℕ, Bool, true, false, List, [], Option, IfSome, Result, Err, IfErr, IsTrue, inl, inr, refl, subst, sym, true≢false}
 use Rattle.cif_columns.specs.declared.line_reader.TheConstants.{MAX_LINES}
 use Rattle.cif_columns.proofs.GivenLinesLaws.{known_so}
 use Rattle.cif_extract.specs.ExtractParts.{ExtractParts}
 use Rattle.cif_extract.specs.SpellsExtract.{BytesSpellWithin}
+use Rattle.cif_extract.specs.declared.clash.Clash.{Clash}
 use Rattle.cif_extract.specs.declared.fault.Fault.{Fault}
 use Rattle.cif_extract.specs.declared.fault.Fault.TheVariants as fault
+use Rattle.cif_weeks.specs.Window.{IsWithin}
 use Rattle.cif_weeks.specs.declared.form.Form.{Form}
-use Rattle.cif_canon.specs.Asked.{IsNarrowed}
-use Rattle.cif_canon.specs.Comparison.{AreCompared, comparison_line}
+use Rattle.cif_canon.specs.Asked.{IsNarrowed, header_window}
+use Rattle.cif_canon.specs.Comparison.{AreCompared, IsCompareFault, comparison_line}
+use Rattle.cif_canon.specs.Clashes.{AreAllClashes, clashes_text}
 use Rattle.cif_canon.specs.Counts.{counts_line}
+use Rattle.cif_canon.specs.Differences.{AreDifferences, AreNone, DifferencesParts, differences_text}
 use Rattle.cif_canon.specs.Normalised.{IfWritten, IsNormalised, Normalises}
 use Rattle.cif_canon.specs.Views.{IsDayView, IsTrainView}
 use Rattle.cif_canon.specs.declared.asked.Asked.{Asked}
 use Rattle.cif_canon.specs.declared.comparison.Comparison.{Comparison}
 use Rattle.cif_canon.specs.declared.counts.Counts.{Counts}
-use Rattle.cif_tool.specs.Answer.{IsCheckAnswer, IsCompareAnswer, IsCompareRefusal, IsDayAnswer, IsNormaliseAnswer, IsPairRefusal}
-use Rattle.cif_tool.specs.Answer.{IsRightRefusal, IsTrainAnswer}
-use Rattle.cif_tool.specs.Status.{outcome_of}
+use Rattle.cif_tool.specs.Answer.{IsCheckAnswer, IsClashesAnswer, IsCompareAnswer, IsDayAnswer, IsDiffAnswer}
+use Rattle.cif_tool.specs.Answer.{IsExplainAnswer, IsListedStatus, IsNormaliseAnswer, IsTrainAnswer}
+use Rattle.cif_tool.specs.Pair.{AreNarrowed, IsCompareRefusal, IsPairRefusal, IsRightRefusal, ReadAsPair, SpellPair, asked_of_both}
+use Rattle.cif_tool.specs.Status.{listed_status, outcome_of}
+
+-- the status of a list, of which it is told whether there is none
+pub listed : (None : Type 0) (none : Bool) → IsTrue none ↔ None → IsListedStatus None (listed_status none)
+listed None true tells = inl (refl, tells.0 refl)
+listed None false tells = inr (refl, λ n. true≢false (sym (tells.1 n)))
 
 module _ (start : Option (List ℕ)) where
   module _ (form : Form) (asked : Asked) (counts : Counts) where
@@ -56,6 +66,26 @@ module _ (start : Option (List ℕ)) where
         known_so start (λ bytes. BytesSpellWithin MAX_LINES bytes x) (λ bytes. IsDayAnswer day bytes text 0)
         (λ bytes s. record { extract = x; spelled = s; view = view; status_is = refl }) spelled
 
+    pub explain-answer : (uid : List ℕ) (day : ℕ) (text : List ℕ) → IsWithin (header_window x.header) day →
+        IfSome start (λ bytes. IsExplainAnswer uid day bytes text 0)
+    explain-answer uid day text within =
+        known_so start (λ bytes. BytesSpellWithin MAX_LINES bytes x) (λ bytes. IsExplainAnswer uid day bytes text 0)
+        (λ bytes s. record { extract = x; spelled = s; within = within; status_is = refl }) spelled
+
+    pub clashes-answer : (asked : Asked) (y : ExtractParts) (clashes : List Clash) (none : Bool) → IsNarrowed asked x y →
+        AreAllClashes y clashes → IsTrue none ↔ (clashes ≡ []) →
+        IfSome start (λ bytes. IsClashesAnswer asked bytes (clashes_text clashes) (listed_status none))
+    clashes-answer asked y clashes none narrowed all tells =
+        known_so start (λ bytes. BytesSpellWithin MAX_LINES bytes x)
+        (λ bytes. IsClashesAnswer asked bytes (clashes_text clashes) (listed_status none)) (λ bytes s. record {
+          extract = y;
+          spelled = record { whole = x; spelled = s; narrowed = narrowed };
+          clashes = clashes;
+          are_clashes = all;
+          text_is = refl;
+          status_is = listed (clashes ≡ []) none tells;
+        }) spelled
+
     pub train-answer : (form : Form) (asked : Asked) (y : ExtractParts) (uid text : List ℕ) → IsNarrowed asked x y →
         IsTrainView form y uid text → IfSome start (λ bytes. IsTrainAnswer form asked uid bytes text 0)
     train-answer form asked y uid text narrowed view =
@@ -67,36 +97,76 @@ module _ (start : Option (List ℕ)) where
           status_is = refl;
         }) spelled
 
--- two inputs that spell extracts
-module _ (left right : Option (List ℕ)) (one other : ExtractParts)
-    (one_spelled : IfSome left (λ bytes. BytesSpellWithin MAX_LINES bytes one))
-    (other_spelled : IfSome right (λ bytes. BytesSpellWithin MAX_LINES bytes other)) (asked : Asked) where
-  -- which are narrowed and compared
-  pub compare-answer : (x y : ExtractParts) → IsNarrowed asked one x → IsNarrowed asked other y → (c : Comparison) → AreCompared x y c →
-      IfSome left (λ a. IfSome right (λ b. IsCompareAnswer asked a b (comparison_line c) (outcome_of c)))
-  compare-answer x y m n c compared =
-      let Is = λ (a b : List ℕ). IsCompareAnswer asked a b (comparison_line c) (outcome_of c) in
-      known_so left (λ a. BytesSpellWithin MAX_LINES a one) (λ a. IfSome right (Is a)) (λ a s.
-      known_so right (λ b. BytesSpellWithin MAX_LINES b other) (Is a) (λ b t. record {
+-- a left input that spells an extract, and a reader that gives one, have no answer where the two extracts have none
+pub spelled-refused : (asked : Asked) (common : Bool) (right : Option (List ℕ)) (bytes : List ℕ) (after right_after : Option (List ℕ))
+    (Untouched : Type 0) (one other : ExtractParts) → BytesSpellWithin MAX_LINES bytes one →
+    IfSome right (λ b. BytesSpellWithin MAX_LINES b other) → (f : Fault) (wanted : Asked) →
+    wanted ≡ asked_of_both common asked one other → IsPairRefusal wanted one other f →
+    IsCompareRefusal asked common bytes after Untouched right right_after f
+spelled-refused asked common right bytes after right_after Untouched one other s t f wanted is h = inr (
+  one,
+  s,
+  known_so right (λ b. BytesSpellWithin MAX_LINES b other) (λ b. IsRightRefusal asked common one b right_after f)
+      (λ b spelled. inr (other, spelled, subst (λ (w : Asked). IsPairRefusal w one other f) is h)) t,
+)
+
+-- two whole extracts, narrowed to what is asked for of both
+pub are-narrowed : (asked : Asked) (common : Bool) (one other x y : ExtractParts) (wanted : Asked) →
+    wanted ≡ asked_of_both common asked one other → IsNarrowed wanted one x → IsNarrowed wanted other y →
+    AreNarrowed asked common one other x y
+are-narrowed asked common one other x y wanted is m n = record {
+  left = subst (λ (w : Asked). IsNarrowed w one x) is m;
+  right = subst (λ (w : Asked). IsNarrowed w other y) is n;
+}
+
+-- two readers, of which what they give is read as these extracts
+module _ (asked : Asked) (common : Bool) (left right : Option (List ℕ)) (x y : ExtractParts)
+    (read : ReadAsPair asked common left right x y) where
+  -- what follows from what the bytes spell, where these are known
+  pub known-pair : (P : List ℕ → List ℕ → Type 0) → ((a b : List ℕ) → SpellPair asked common a b x y → P a b) →
+      IfSome left (λ a. IfSome right (P a))
+  known-pair P so =
+      known_so left (λ a. BytesSpellWithin MAX_LINES a read.left_whole) (λ a. IfSome right (P a)) (λ a s.
+      known_so right (λ b. BytesSpellWithin MAX_LINES b read.right_whole) (P a) (λ b t. so a b record {
+        left_whole = read.left_whole;
+        right_whole = read.right_whole;
+        left_spelled = s;
+        right_spelled = t;
+        narrowed = read.narrowed;
+      }) read.right_spelled) read.left_spelled
+
+  pub compare-answer : (c : Comparison) → AreCompared x y c →
+      IfSome left (λ a. IfSome right (λ b. IsCompareAnswer asked common a b (comparison_line c) (outcome_of c)))
+  compare-answer c compared =
+      known-pair (λ a b. IsCompareAnswer asked common a b (comparison_line c) (outcome_of c)) (λ a b spelled. record {
         left = x;
-        left_spelled = record { whole = one; spelled = s; narrowed = m };
         right = y;
-        right_spelled = record { whole = other; spelled = t; narrowed = n };
+        spelled = spelled;
         comparison = c;
         compared = compared;
         text_is = refl;
         status_is = refl;
-      }) other_spelled) one_spelled
+      })
 
-  -- or refused: an answer of which holds what holds of this fault
+  pub diff-answer : (d : DifferencesParts) (none : Bool) → AreDifferences x y d → IsTrue none ↔ AreNone d →
+      IfSome left (λ a. IfSome right (λ b. IsDiffAnswer asked common a b (differences_text d) (listed_status none)))
+  diff-answer d none are tells =
+      known-pair (λ a b. IsDiffAnswer asked common a b (differences_text d) (listed_status none)) (λ a b spelled. record {
+        left = x;
+        right = y;
+        spelled = spelled;
+        differences = d;
+        are_differences = are;
+        text_is = refl;
+        status_is = listed (AreNone d) none tells;
+      })
+
+  -- they aren't compared, or the answer can't be written: what holds of an answer, of which holds what holds of this fault
   pub compare-refused : (after right_after : Option (List ℕ)) (Untouched : Type 0) (result : Result ℕ Fault) (f : Fault) →
-      ((P : Fault → Type 0) → P f → IfErr result P) → IsPairRefusal asked one other f →
-      IfSome left (λ bytes. IfErr result (IsCompareRefusal asked bytes after Untouched right right_after))
+      ((P : Fault → Type 0) → P f → IfErr result P) → IsCompareFault x y f ⊎ (f ≡ fault.Write) →
+      IfSome left (λ bytes. IfErr result (IsCompareRefusal asked common bytes after Untouched right right_after))
   compare-refused after right_after Untouched result f hands h =
-      known_so left (λ bytes. BytesSpellWithin MAX_LINES bytes one) _ (λ bytes s.
-      hands (IsCompareRefusal asked bytes after Untouched right right_after) (inr (
-        one,
-        s,
-        known_so right (λ b. BytesSpellWithin MAX_LINES b other) (λ b. IsRightRefusal asked one b right_after f)
-            (λ b t. inr (other, t, h)) other_spelled,
-      ))) one_spelled
+      known_so left (λ bytes. BytesSpellWithin MAX_LINES bytes read.left_whole) _ (λ bytes s.
+      hands (IsCompareRefusal asked common bytes after Untouched right right_after)
+      (spelled-refused asked common right bytes after right_after Untouched read.left_whole read.right_whole s read.right_spelled f _ refl
+      (inr (x, read.narrowed.left, inr (y, read.narrowed.right, h))))) read.left_spelled

@@ -124,23 +124,30 @@ enters_own forms words e =
         λ name on is ws h. inr (inl refl),
         (
           λ name on is ws h.
-              let given = required_given _ ws (
-                inl (refl, refl),
-                (inl (refl, refl), (inl (refl, refl), (inl (refl, refl), (inr refl, tt)))),
-              ) h in
-              inr (inr (inl (refl, given.0 refl, given.1.0 refl))),
+              let given = required_given _ ws (refl, (refl, (refl, (refl, (refl, (refl, (tt, tt))))))) h in
+              inr (inr (inl (refl, given.1.0 refl, given.1.1.0 refl))),
           (
             λ name on is ws h.
-                let given = required_given _ ws (inl (refl, refl), (inl (refl, refl), (inr refl, tt))) h in
-                inr (inr (inr (inl (refl, given.0 refl)))),
+                let given = required_given _ ws (refl, (refl, (refl, (refl, (refl, (refl, (tt, tt))))))) h in
+                inr (inr (inr (inl (refl, given.1.0 refl, given.1.1.0 refl)))),
             (
               λ name on is ws h.
-                  let given = required_given _ ws (
-                    inl (refl, refl),
-                    (inl (refl, refl), (inl (refl, refl), (inl (refl, refl), (inl (refl, refl), (inr refl, tt))))),
-                  ) h in
-                  inr (inr (inr (inr (refl, given.0 refl)))),
-              (λ name on is ws h. absurd (not_help name on is), tt),
+                  let given = required_given _ ws (refl, (refl, (refl, (tt, tt)))) h in
+                  inr (inr (inr (inr (inl (refl, given.1.0 refl))))),
+              (
+                λ name on is ws h.
+                    let given = required_given _ ws (refl, (refl, (refl, (refl, (refl, (refl, (tt, tt))))))) h in
+                    inr (inr (inr (inr (inr (inl (refl, given.1.0 refl)))))),
+                (
+                  λ name on is ws h.
+                      let given = required_given _ ws (refl, (refl, (refl, (refl, (tt, tt))))) h in
+                      inr (inr (inr (inr (inr (inr (inl (refl, given.1.0 refl, given.1.1.0 refl))))))),
+                  (
+                    λ name on is ws h. inr (inr (inr (inr (inr (inr (inr refl)))))),
+                    (λ name on is ws h. absurd (not_help name on is), tt),
+                  ),
+                ),
+              ),
             ),
           ),
         ),

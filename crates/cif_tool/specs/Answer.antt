@@ -1,5 +1,5 @@
 -- What the commands answer: a text on the output, and a status.
-use Rattle.std.specs.Prelude.{◌≡◌, ◌⊎◌, ⊤, ℕ, List, Option, IfSome, Result, Ok, Err}
+use Rattle.std.specs.Prelude.{◌≡◌, ◌⊎◌, ⊤, ℕ, Bool, List, Option, IfSome, Result, Ok, Err, []}
 use Rattle.cif_columns.specs.Sink.{writer_of}
 use Rattle.cif_columns.specs.Source.{HasReadOn}
 use Rattle.cif_columns.specs.declared.line_reader.TheConstants.{MAX_LINES}
@@ -9,21 +9,27 @@ use Rattle.cif_extract.specs.ExtractParts.{ExtractParts}
 use Rattle.cif_extract.specs.ReadFault.{FaultReads, IsReadFault, LeavesNothing}
 use Rattle.cif_extract.specs.SpellsExtract.{BytesSpellWithin}
 use Rattle.cif_extract.specs.declared.fault.Fault.{Fault}
-use Rattle.cif_extract.specs.declared.fault.Fault.TheVariants.{Write}
+use Rattle.cif_extract.specs.declared.fault.Fault.TheVariants.{Memory, Write}
+use Rattle.cif_weeks.specs.Window.{IsWithin}
 use Rattle.cif_weeks.specs.declared.form.Form.{Form}
 use Rattle.cif_canon.specs.Accepted.{SpellsNarrowed}
-use Rattle.cif_canon.specs.Asked.{IsNarrowed, IsNarrowingFault}
-use Rattle.cif_canon.specs.Comparison.{AreCompared, IsCompareFault, comparison_line}
+use Rattle.cif_extract.specs.declared.clash.Clash.{Clash}
+use Rattle.cif_canon.specs.Asked.{IsNarrowingFault, header_window}
+use Rattle.cif_canon.specs.Clashes.{AreAllClashes, clashes_text}
+use Rattle.cif_canon.specs.Comparison.{AreCompared, comparison_line}
 use Rattle.cif_canon.specs.Counts.{counts_line}
+use Rattle.cif_canon.specs.Differences.{AreDifferences, AreNone, DifferencesParts, differences_text}
+use Rattle.cif_canon.specs.Explanation.{IsExplanationFault}
 use Rattle.cif_canon.specs.Fault.{IsNormaliseFault}
 use Rattle.cif_canon.specs.Normalised.{FaultWrites, IsNormalised}
 use Rattle.cif_canon.specs.Views.{IsDayFault, IsDayView, IsTrainView}
 use Rattle.cif_canon.specs.declared.asked.Asked.{Asked}
 use Rattle.cif_canon.specs.declared.comparison.Comparison.{Comparison}
 use Rattle.cif_canon.specs.declared.counts.Counts.{Counts}
+use Rattle.cif_tool.specs.Pair.{IsCompareRefusal, SpellPair}
 use Rattle.cif_tool.specs.Status.{outcome_of}
 use Rattle.cif_tool.specs.declared.job.Job.{Job}
-use Rattle.cif_tool.specs.declared.job.Job.TheVariants.{Check, Compare, Day, Normalise, Train}
+use Rattle.cif_tool.specs.declared.job.Job.TheVariants.{Check, Clashes, Compare, Day, Diff, Explain, Normalise, Train}
 
 -- P holds of the status of an answer, whose text was written or, at Write, a front of it was
 abbrev pub IfAnswered : Result ℕ Fault → (ℕ → Type 0) → Type 0
@@ -68,15 +74,44 @@ pub record IsTrainAnswer (form : Form) (asked : Asked) (uid bytes text : List �
   pub status_is : status ≡ 0
 
 -- `compare` answers two inputs by how they compare in the window that is asked for.
-pub record IsCompareAnswer (asked : Asked) (left_bytes right_bytes text : List ℕ) (status : ℕ) : Type 0 where
+pub record IsCompareAnswer (asked : Asked) (common : Bool) (left_bytes right_bytes text : List ℕ) (status : ℕ) : Type 0 where
   pub left : ExtractParts
-  pub left_spelled : SpellsNarrowed MAX_LINES asked left left_bytes
   pub right : ExtractParts
-  pub right_spelled : SpellsNarrowed MAX_LINES asked right right_bytes
+  pub spelled : SpellPair asked common left_bytes right_bytes left right
   pub comparison : Comparison
   pub compared : AreCompared left right comparison
   pub text_is : text ≡ comparison_line comparison
   pub status_is : status ≡ outcome_of comparison
+
+-- the status tells whether there is none of what is listed
+abbrev pub IsListedStatus : Type 0 → ℕ → Type 0
+IsListedStatus None status = ((status ≡ 0) × None) ⊎ ((status ≡ 1) × ¬ None)
+
+-- `diff` answers two inputs by their differences in the window that is asked for.
+pub record IsDiffAnswer (asked : Asked) (common : Bool) (left_bytes right_bytes text : List ℕ) (status : ℕ) : Type 0 where
+  pub left : ExtractParts
+  pub right : ExtractParts
+  pub spelled : SpellPair asked common left_bytes right_bytes left right
+  pub differences : DifferencesParts
+  pub are_differences : AreDifferences left right differences
+  pub text_is : text ≡ differences_text differences
+  pub status_is : IsListedStatus (AreNone differences) status
+
+-- `explain` answers an input that is accepted, of which the day is in the window. Which text it answers isn't said here.
+pub record IsExplainAnswer (uid : List ℕ) (day : ℕ) (bytes text : List ℕ) (status : ℕ) : Type 0 where
+  pub extract : ExtractParts
+  pub spelled : BytesSpellWithin MAX_LINES bytes extract
+  pub within : IsWithin (header_window extract.header) day
+  pub status_is : status ≡ 0
+
+-- `clashes` answers an input by all its clashes in the window that is asked for.
+pub record IsClashesAnswer (asked : Asked) (bytes text : List ℕ) (status : ℕ) : Type 0 where
+  pub extract : ExtractParts
+  pub spelled : SpellsNarrowed MAX_LINES asked extract bytes
+  pub clashes : List Clash
+  pub are_clashes : AreAllClashes extract clashes
+  pub text_is : text ≡ clashes_text clashes
+  pub status_is : IsListedStatus (clashes ≡ []) status
 
 -- Why `day` has no answer to these bytes, where `after` is what the reader has left then: the first refusal, or else what the view
 -- refuses.
@@ -84,25 +119,17 @@ abbrev pub IsDayRefusal : ℕ → List ℕ → Option (List ℕ) → Fault → T
 IsDayRefusal day bytes after fault = IsReadFault MAX_LINES bytes after fault
     ⊎ ((extract : ExtractParts) × BytesSpellWithin MAX_LINES bytes extract × IsDayFault extract day fault)
 
--- Why two whole extracts have no answer: the window that is asked for doesn't fit the left one's, or else it doesn't fit the right one's,
--- or else the narrowed ones aren't compared; or the answer can't be written.
-abbrev pub IsPairRefusal : Asked → ExtractParts → ExtractParts → Fault → Type 0
-IsPairRefusal asked left_whole right_whole fault = IsNarrowingFault asked left_whole.header fault
-    ⊎ ((left : ExtractParts) × IsNarrowed asked left_whole left × (IsNarrowingFault asked right_whole.header fault
-    ⊎ ((right : ExtractParts) × IsNarrowed asked right_whole right × (IsCompareFault left right fault ⊎ (fault ≡ Write)))))
+-- Why `explain` has no answer: the input's first refusal, or why there is no explanation.
+abbrev pub IsExplainRefusal : ℕ → List ℕ → Option (List ℕ) → Fault → Type 0
+IsExplainRefusal day bytes after fault = IsReadFault MAX_LINES bytes after fault
+    ⊎ ((extract : ExtractParts) × BytesSpellWithin MAX_LINES bytes extract × IsExplanationFault extract day fault)
 
--- Why the right input has no answer beside a left extract: its first refusal, or else why the two extracts have none.
-abbrev pub IsRightRefusal : Asked → ExtractParts → List ℕ → Option (List ℕ) → Fault → Type 0
-IsRightRefusal asked left_whole bytes after fault = IsReadFault MAX_LINES bytes after fault
-    ⊎ ((right_whole : ExtractParts) × BytesSpellWithin MAX_LINES bytes right_whole × IsPairRefusal asked left_whole right_whole fault)
-
--- Why `compare` has no answer to the left input and the right one, of which `after` and `right_after` are left then: the first refusal of
--- the left one, and then Untouched holds of the right one; or else why the right one has none.
-abbrev pub IsCompareRefusal : Asked → List ℕ → Option (List ℕ) → Type 0 → Option (List ℕ) → Option (List ℕ) → Fault → Type 0
-IsCompareRefusal asked bytes after Untouched right right_after fault =
-    (IsReadFault MAX_LINES bytes after fault × Untouched)
-    ⊎ ((left_whole : ExtractParts) × BytesSpellWithin MAX_LINES bytes left_whole
-    × IfSome right (λ right_bytes. IsRightRefusal asked left_whole right_bytes right_after fault))
+-- Why `clashes` has no answer: the input's first refusal, or the window that is asked for doesn't fit, or memory was refused, or the sink
+-- failed.
+abbrev pub IsClashesRefusal : Asked → List ℕ → Option (List ℕ) → Fault → Type 0
+IsClashesRefusal asked bytes after fault = IsReadFault MAX_LINES bytes after fault
+    ⊎ ((extract : ExtractParts) × BytesSpellWithin MAX_LINES bytes extract
+    × (IsNarrowingFault asked extract.header fault ⊎ ((fault ≡ Memory) ⊎ (fault ≡ Write))))
 
 -- What a command that reads a left and then a right source owes them: the right one is as it was where the left one isn't read on.
 abbrev pub ReadsBoth : {R A : Type 0} → (R → Option ℕ) → Source R → Source R → Source R → Source R → Result A Fault → Type 0
@@ -115,11 +142,14 @@ abbrev pub IsHandedOn : {W A E : Type 0} → (W → Type 0) → Sink W → Resul
 IsHandedOn holds_nothing new (Ok done) = holds_nothing (writer_of new)
 IsHandedOn holds_nothing new (Err fault) = ⊤
 
--- What the job's command owes its sources: `compare` reads both, one after the other, and each other command its input alone. Where it
+-- What the job's command owes its sources: `compare` and `diff` read both, one after the other, and each other command its input alone. Where it
 -- answers, nothing is left of what it has read.
 abbrev pub ReadsInputs : {R A : Type 0} → (R → Option (List ℕ)) → (R → Option ℕ) → Job → Source R → Source R → Source R → Source R →
     Result A Fault → Type 0
-ReadsInputs remaining errors (Compare left_file right_file asked) left left_new right right_new result =
+ReadsInputs remaining errors (Compare left_file right_file asked common) left left_new right right_new result =
+    ReadsBoth errors left left_new right right_new result × LeavesNothing remaining left left_new result
+    × LeavesNothing remaining right right_new result
+ReadsInputs remaining errors (Diff left_file right_file asked common) left left_new right right_new result =
     ReadsBoth errors left left_new right right_new result × LeavesNothing remaining left left_new result
     × LeavesNothing remaining right right_new result
 ReadsInputs remaining errors _ source source_new right right_new result =
@@ -130,10 +160,14 @@ abbrev pub IsJobAnswer : Job → Option (List ℕ) → Option (List ℕ) → Lis
 IsJobAnswer (Normalise file asked form) start right text status =
     IfSome start (λ bytes. IsNormaliseAnswer form asked bytes text status)
 IsJobAnswer (Check file asked form) start right text status = IfSome start (λ bytes. IsCheckAnswer form asked bytes text status)
-IsJobAnswer (Compare left_file right_file asked) start right text status =
-    IfSome start (λ left_bytes. IfSome right (λ right_bytes. IsCompareAnswer asked left_bytes right_bytes text status))
+IsJobAnswer (Compare left_file right_file asked common) start right text status =
+    IfSome start (λ left_bytes. IfSome right (λ right_bytes. IsCompareAnswer asked common left_bytes right_bytes text status))
+IsJobAnswer (Diff left_file right_file asked common) start right text status =
+    IfSome start (λ left_bytes. IfSome right (λ right_bytes. IsDiffAnswer asked common left_bytes right_bytes text status))
 IsJobAnswer (Day day file) start right text status = IfSome start (λ bytes. IsDayAnswer day bytes text status)
 IsJobAnswer (Train uid file asked form) start right text status = IfSome start (λ bytes. IsTrainAnswer form asked uid bytes text status)
+IsJobAnswer (Explain uid day file) start right text status = IfSome start (λ bytes. IsExplainAnswer uid day bytes text status)
+IsJobAnswer (Clashes file asked) start right text status = IfSome start (λ bytes. IsClashesAnswer asked bytes text status)
 
 -- Why it has no answer, where `after` and `right_after` are what the readers have left then, and Untouched says that the second wasn't
 -- touched.
@@ -142,9 +176,15 @@ IsJobRefusal (Normalise file asked form) start after Untouched right right_after
     IfSome start (λ bytes. IsNormaliseFault MAX_LINES asked bytes after fault)
 IsJobRefusal (Check file asked form) start after Untouched right right_after fault =
     IfSome start (λ bytes. IsNormaliseFault MAX_LINES asked bytes after fault)
-IsJobRefusal (Compare left_file right_file asked) start after Untouched right right_after fault =
-    IfSome start (λ bytes. IsCompareRefusal asked bytes after Untouched right right_after fault)
+IsJobRefusal (Compare left_file right_file asked common) start after Untouched right right_after fault =
+    IfSome start (λ bytes. IsCompareRefusal asked common bytes after Untouched right right_after fault)
+IsJobRefusal (Diff left_file right_file asked common) start after Untouched right right_after fault =
+    IfSome start (λ bytes. IsCompareRefusal asked common bytes after Untouched right right_after fault)
 IsJobRefusal (Day day file) start after Untouched right right_after fault =
     IfSome start (λ bytes. IsDayRefusal day bytes after fault)
 IsJobRefusal (Train uid file asked form) start after Untouched right right_after fault =
     IfSome start (λ bytes. IsNormaliseFault MAX_LINES asked bytes after fault)
+IsJobRefusal (Explain uid day file) start after Untouched right right_after fault =
+    IfSome start (λ bytes. IsExplainRefusal day bytes after fault)
+IsJobRefusal (Clashes file asked) start after Untouched right right_after fault =
+    IfSome start (λ bytes. IsClashesRefusal asked bytes after fault)

@@ -5,6 +5,7 @@ use Rattle.clap.specs.Words.{App, Row, Rule, Text, app_of, fault_of, new_app, ne
 use Rattle.clap.specs.Kinds.{Kinds}
 use Rattle.clap.specs.declared.Command.{Command}
 use Rattle.clap.specs.declared.Command.TheViews.{out-Command}
+use Rattle.clap.specs.declared.builder.ArgAction.TheVariants.{SetTrue}
 use Rattle.clap.specs.declared.builder.ValueParser.TheVariants.{Names}
 
 -- a word that may be left out
@@ -19,6 +20,14 @@ required id = record (new_rule id) { required = true }
 abbrev pub option : Text → Rule
 option id = record (new_rule id) { long = Some id; value_names = 1 }
 
+-- an option without one: `--ID`
+abbrev pub flag : Text → Rule
+flag id = record (new_rule id) { long = Some id; action = Some SetTrue }
+
+-- `-v` or `--verbose`
+abbrev pub verbose : Rule
+verbose = record (flag (codes "verbose")) { short = Some 118 }
+
 -- where the program keeps the words that name a form: a command line borrows them
 abbrev pub Forms : Type 0
 Forms = Bor (List (Bor Text))
@@ -31,38 +40,56 @@ AreForms forms = map (λ word. word.now) forms.now ≡ codes "1" ∷ codes "2" �
 abbrev pub form_option : Forms → Rule
 form_option forms = record (option (codes "form")) { parser = Some (Names forms); defaults = codes "2" ∷ [] }
 
+-- a subcommand with `--verbose`
+abbrev pub subcommand : Text → App
+subcommand name = with_rule (new_app name) verbose
+
 -- `--from YYMMDD` and `--to YYMMDD` too
 abbrev pub with_dates : App → App
 with_dates a = with_rule (with_rule a (option (codes "from"))) (option (codes "to"))
 
--- `cif NAME [--from YYMMDD] [--to YYMMDD] [--form FORM] [FILE]`
+-- `cif NAME [-v] [--from YYMMDD] [--to YYMMDD] [--form FORM] [FILE]`
 abbrev pub canonical : Text → Forms → App
-canonical name forms = with_rule (with_dates (with_rule (new_app name) (optional (codes "FILE")))) (form_option forms)
+canonical name forms = with_rule (with_dates (with_rule (subcommand name) (optional (codes "FILE")))) (form_option forms)
 
--- `cif compare [--from YYMMDD] [--to YYMMDD] LEFT RIGHT`
-abbrev pub compare : App
-compare = with_dates (with_rule (with_rule (new_app (codes "compare")) (required (codes "LEFT"))) (required (codes "RIGHT")))
+-- `cif NAME [-v] [--from YYMMDD] [--to YYMMDD] [--common] LEFT RIGHT`
+abbrev pub of_two_files : Text → App
+of_two_files name =
+    with_rule (with_dates (with_rule (with_rule (subcommand name) (required (codes "LEFT"))) (required (codes "RIGHT"))))
+    (flag (codes "common"))
 
--- `cif day YYMMDD [FILE]`
+-- `cif day [-v] YYMMDD [FILE]`
 abbrev pub day : App
-day = with_rule (with_rule (new_app (codes "day")) (required (codes "YYMMDD"))) (optional (codes "FILE"))
+day = with_rule (with_rule (subcommand (codes "day")) (required (codes "YYMMDD"))) (optional (codes "FILE"))
 
--- `cif train [--from YYMMDD] [--to YYMMDD] [--form FORM] UID [FILE]`
+-- `cif train [-v] [--from YYMMDD] [--to YYMMDD] [--form FORM] UID [FILE]`
 abbrev pub train : Forms → App
 train forms =
-    with_rule (with_dates (with_rule (with_rule (new_app (codes "train")) (required (codes "UID"))) (optional (codes "FILE"))))
+    with_rule (with_dates (with_rule (with_rule (subcommand (codes "train")) (required (codes "UID"))) (optional (codes "FILE"))))
     (form_option forms)
+
+-- `cif explain [-v] UID YYMMDD [FILE]`
+abbrev pub explain : App
+explain =
+    with_rule (with_rule (with_rule (subcommand (codes "explain")) (required (codes "UID"))) (required (codes "YYMMDD")))
+    (optional (codes "FILE"))
+
+-- `cif clashes [-v] [--from YYMMDD] [--to YYMMDD] [FILE]`
+abbrev pub clashes : App
+clashes = with_dates (with_rule (subcommand (codes "clashes")) (optional (codes "FILE")))
 
 -- a program that tells its version and wants a subcommand
 abbrev pub program : Text → App
 program name = let made = new_app name in record made { top = record made.top { has_version = true; subcommand_required = true } }
 
--- the program `cif` with its five subcommands
+-- the program `cif` with its eight subcommands
 unfoldable pub cif : Forms → App
-cif forms = with_subcommand (with_subcommand (with_subcommand (with_subcommand (with_subcommand (program (codes "cif"))
+cif forms = with_subcommand (with_subcommand (with_subcommand (with_subcommand (with_subcommand (with_subcommand (with_subcommand
+    (with_subcommand (program (codes "cif"))
     (canonical (codes "normalise") forms).top)
     (canonical (codes "check") forms).top)
-    compare.top) day.top) (train forms).top
+    (of_two_files (codes "compare")).top)
+    (of_two_files (codes "diff")).top) day.top) (train forms).top) explain.top) clashes.top
 
 -- the command is built as `a` says, and no argument is global
 pub record IsCommand (a : App) (c : Command) : Type 0 where

@@ -1,5 +1,5 @@
 -- What the words of a call ask for.
-use Rattle.std.specs.Prelude.{◌≡◌, ◌⊎◌, ⊤, ℕ, List, [], Option, Some, None, option_map, string_bytes, IsSomeAnd, is_some, true, codes}
+use Rattle.std.specs.Prelude.{◌≡◌, ◌⊎◌, ⊤, ℕ, Bool, List, [], Option, Some, None, option_map, string_bytes, IsSomeAnd, is_some, true, false, codes}
 use Rattle.std.specs.Prelude.{if◌then◌else◌}
 use Rattle.std.specs.Str.{bytes_eq}
 use Rattle.clap.specs.Words.{Row, Text, first_of}
@@ -10,7 +10,7 @@ use Rattle.cif_weeks.specs.declared.form.Form.{Form}
 use Rattle.cif_weeks.specs.declared.form.Form.TheVariants.{One, Two}
 use Rattle.cif_tool.specs.CommandLine.{AreForms, Forms, chosen, faults_of}
 use Rattle.cif_tool.specs.declared.job.Job.{Job}
-use Rattle.cif_tool.specs.declared.job.Job.TheVariants.{Check, Compare, Day, Normalise, Train}
+use Rattle.cif_tool.specs.declared.job.Job.TheVariants.{Check, Clashes, Compare, Day, Diff, Explain, Normalise, Train}
 
 -- the matches have a word of this id
 abbrev pub HasWord : Text → List Row → Type 0
@@ -36,6 +36,15 @@ abbrev pub form_of : Option Text → Form
 form_of (Some word) = if bytes_eq word (codes "1") then One else Two
 form_of None = Two
 
+-- the value of a flag: that `clap` gives `true` for it
+abbrev pub is_set : Option Text → Bool
+is_set (Some word) = bytes_eq word (codes "true")
+is_set None = false
+
+-- whether `--common` is among the words
+abbrev pub has_common : List Row → Bool
+has_common rows = is_set (first_of (codes "common") rows)
+
 -- the six columns of the word are a UID, and it is this one
 abbrev pub IsUidWord : Text → List ℕ → Type 0
 IsUidWord word uid = IsUid word × (uid ≡ word)
@@ -46,27 +55,44 @@ pub record AreCanonicalWords (rows : List Row) (name : Option Text) (asked : Ask
   pub is_asked : IsAskedBy rows asked
   pub is_form : form ≡ form_of (first_of (codes "form") rows)
 
+-- the matches name these two files, this window, and whether it is the common one that is asked for
+pub record AreTwoFilesWords (rows : List Row) (left right : Text) (asked : Asked) (common : Bool) : Type 0 where
+  pub left_is : Some left ≡ first_of (codes "LEFT") rows
+  pub right_is : Some right ≡ first_of (codes "RIGHT") rows
+  pub is_asked : IsAskedBy rows asked
+  pub is_common : common ≡ has_common rows
+
 -- the subcommand is the job's, and its matches hold what the job holds
 abbrev pub IsChosen : Job → Text × List Row → Type 0
 IsChosen (Normalise file asked form) met = (met.0 ≡ codes "normalise") × AreCanonicalWords met.1 (option_map string_bytes file) asked form
 IsChosen (Check file asked form) met = (met.0 ≡ codes "check") × AreCanonicalWords met.1 (option_map string_bytes file) asked form
-IsChosen (Compare left right asked) met = (met.0 ≡ codes "compare")
-    × (Some (string_bytes left) ≡ first_of (codes "LEFT") met.1)
-    × (Some (string_bytes right) ≡ first_of (codes "RIGHT") met.1)
-    × IsAskedBy met.1 asked
+IsChosen (Compare left right asked common) met = (met.0 ≡ codes "compare")
+    × AreTwoFilesWords met.1 (string_bytes left) (string_bytes right) asked common
+IsChosen (Diff left right asked common) met = (met.0 ≡ codes "diff")
+    × AreTwoFilesWords met.1 (string_bytes left) (string_bytes right) asked common
 IsChosen (Day day file) met = (met.0 ≡ codes "day")
     × IsDateOf (first_of (codes "YYMMDD") met.1) (Some day)
     × HasFile met.1 (option_map string_bytes file)
 IsChosen (Train uid file asked form) met = (met.0 ≡ codes "train")
     × IsSomeAnd (first_of (codes "UID") met.1) (λ word. IsUidWord word uid)
     × AreCanonicalWords met.1 (option_map string_bytes file) asked form
+IsChosen (Explain uid day file) met = (met.0 ≡ codes "explain")
+    × IsSomeAnd (first_of (codes "UID") met.1) (λ word. IsUidWord word uid)
+    × IsDateOf (first_of (codes "YYMMDD") met.1) (Some day)
+    × HasFile met.1 (option_map string_bytes file)
+IsChosen (Clashes file asked) met = (met.0 ≡ codes "clashes")
+    × IsAskedBy met.1 asked
+    × HasFile met.1 (option_map string_bytes file)
 
 -- the subcommand is one of the program's own, with the words that it wants
 abbrev pub IsTaken : Text × List Row → Type 0
 IsTaken met = (met.0 ≡ codes "normalise") ⊎ ((met.0 ≡ codes "check")
     ⊎ (((met.0 ≡ codes "compare") × HasWord (codes "LEFT") met.1 × HasWord (codes "RIGHT") met.1)
+    ⊎ (((met.0 ≡ codes "diff") × HasWord (codes "LEFT") met.1 × HasWord (codes "RIGHT") met.1)
     ⊎ (((met.0 ≡ codes "day") × HasWord (codes "YYMMDD") met.1)
-    ⊎ ((met.0 ≡ codes "train") × HasWord (codes "UID") met.1))))
+    ⊎ (((met.0 ≡ codes "train") × HasWord (codes "UID") met.1)
+    ⊎ (((met.0 ≡ codes "explain") × HasWord (codes "UID") met.1 × HasWord (codes "YYMMDD") met.1)
+    ⊎ (met.0 ≡ codes "clashes")))))))
 
 -- `clap` takes the words, enters the job's subcommand and finds what the job holds
 pub record Asks (words : List Text) (job : Job) : Type 0 where
@@ -75,10 +101,13 @@ pub record Asks (words : List Text) (job : Job) : Type 0 where
   pub taken : faults_of forms words ≡ []
   pub is_chosen : IsSomeAnd (chosen forms words) (IsChosen job)
 
--- the names of the files that a job reads: the first is standard input where it is absent, and only `compare` has a second
+-- the names of the files that a job reads: the first is standard input where it is absent, and only `compare` and `diff` have a second
 abbrev pub input_names : Job → Option Text × Option Text
 input_names (Normalise file asked form) = (option_map string_bytes file, None)
 input_names (Check file asked form) = (option_map string_bytes file, None)
-input_names (Compare left right asked) = (Some (string_bytes left), Some (string_bytes right))
+input_names (Compare left right asked common) = (Some (string_bytes left), Some (string_bytes right))
+input_names (Diff left right asked common) = (Some (string_bytes left), Some (string_bytes right))
 input_names (Day day file) = (option_map string_bytes file, None)
 input_names (Train uid file asked form) = (option_map string_bytes file, None)
+input_names (Explain uid day file) = (option_map string_bytes file, None)
+input_names (Clashes file asked) = (option_map string_bytes file, None)

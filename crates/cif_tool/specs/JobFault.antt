@@ -26,9 +26,9 @@ IsNoUid word = ¬ IsUid word
 abbrev pub HasBadDate : Text → List Row → Type 0
 HasBadDate id rows = IsSomeAnd (first_of id rows) NamesNoDay
 
--- the subcommand is `train`, and its UID is none
+-- the subcommand is `train` or `explain`, and its UID is none
 abbrev pub HasBadUid : Text × List Row → Type 0
-HasBadUid met = (met.0 ≡ codes "train") × IsSomeAnd (first_of (codes "UID") met.1) IsNoUid
+HasBadUid met = ((met.0 ≡ codes "train") ⊎ (met.0 ≡ codes "explain")) × IsSomeAnd (first_of (codes "UID") met.1) IsNoUid
 
 -- Why words that `clap` takes ask for nothing: a UID is none, or else a date is none. Want of memory may come at any words.
 abbrev pub IsWordFault : JobFault → Text × List Row → Type 0

@@ -2,4 +2,5 @@ pub mod Answer
 pub mod CommandLine
 pub mod Job
 pub mod JobFault
+pub mod Pair
 pub mod Status

@@ -1,5 +1,5 @@
 -- The statuses that the program exits with, and what it tells of a fault.
-use Rattle.std.specs.Prelude.{◌≡◌, ℕ, List, Option, Result, Ok, Err}
+use Rattle.std.specs.Prelude.{◌≡◌, ℕ, Bool, true, false, List, Option, Result, Ok, Err}
 use Rattle.cif_columns.specs.Sink.{Writes}
 use Rattle.cif_columns.specs.declared.sink.Sink.{Sink}
 use Rattle.cif_columns.specs.declared.sink.WriteFault.{WriteFault}
@@ -27,6 +27,11 @@ outcome_of Same = 0
 outcome_of (Tiploc tiploc) = 1
 outcome_of (Association key day) = 1
 outcome_of (Train uid day) = 1
+
+-- where nothing is listed it is 0, and else 1
+abbrev pub listed_status : Bool → ℕ
+listed_status true = 0
+listed_status false = 1
 
 -- the status that an answer ends with: its own, or that of its fault
 abbrev pub end_status : Result ℕ Fault → ℕ

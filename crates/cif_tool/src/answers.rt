@@ -3,21 +3,24 @@ ghost use Rattle.std.specs.Prelude.{◌≡◌, [], IfErr, IfOk, IfSome};
 ghost use Rattle.cif_columns.specs.Sink.{Writes};
 ghost use Rattle.cif_columns.specs.Source.{reader_of};
 ghost use Rattle.cif_columns.specs.declared.line_reader.TheConstants.{MAX_LINES};
-ghost use Rattle.cif_extract.specs.ExtractParts.{extract_parts};
 ghost use Rattle.cif_extract.specs.ReadFault.{FaultReads, LeavesNothing};
 ghost use Rattle.cif_extract.specs.declared.fault.Fault.TheVariants.{Write};
-ghost use Rattle.cif_canon.specs.Asked.{IsNarrowed, IsNarrowingFault};
 ghost use Rattle.cif_canon.specs.Fault.{IsNormaliseFault};
 ghost use Rattle.cif_tool.specs.Answer.{Answers, IsCheckAnswer, IsCompareAnswer};
-ghost use Rattle.cif_tool.specs.Answer.{IsCompareRefusal, IsDayAnswer, IsDayRefusal};
+ghost use Rattle.cif_tool.specs.Answer.{IsClashesAnswer, IsClashesRefusal, IsDayAnswer};
+ghost use Rattle.cif_tool.specs.Answer.{IsDayRefusal, IsDiffAnswer, IsExplainAnswer};
+ghost use Rattle.cif_tool.specs.Answer.{IsExplainRefusal};
 ghost use Rattle.cif_tool.specs.Answer.{IsHandedOn, IsNormaliseAnswer, IsTrainAnswer, ReadsBoth};
+ghost use Rattle.cif_tool.specs.Pair.{IsCompareRefusal};
 
-use crate::status::{DONE, outcome};
+use crate::pair::{narrowed, read_pair};
+use crate::status::{DONE, listed, outcome};
 use cif_canon::{
-    Asked, check, compare, day_view, narrow, normalise, train_view, write_comparison, write_counts,
+    Asked, check, clashes, compare, day_view, differences, explain_view, normalise, train_view,
+    write_comparison, write_counts,
 };
 use cif_columns::{Day, MAX_LINES, ReadDevice, Sink, Source, Uid, WriteDevice};
-use cif_extract::{Extract, Fault, read_extract};
+use cif_extract::{Fault, read_extract};
 use cif_weeks::Form;
 use std::alloc::Global;
 
@@ -73,13 +76,15 @@ pub fn answer_compare<R: ReadDevice, W: WriteDevice>(
     right: &mut Source<R>,
     sink: &mut Sink<W>,
     asked: &Asked,
+    common: bool,
 ) -> Result<u8, Fault>
     ensures answer { Answers W.contents W.write_errors
         (λ text status. IfSome (R.remaining (reader_of left.old)) (λ left_bytes.
         IfSome (R.remaining (reader_of right.old)) (λ right_bytes.
-        IsCompareAnswer asked.now left_bytes right_bytes text status))) sink.old sink.new result }
+        IsCompareAnswer asked.now common left_bytes right_bytes text status)))
+        sink.old sink.new result }
     ensures fault { IfSome (R.remaining (reader_of left.old)) (λ bytes. IfErr result
-        (IsCompareRefusal asked.now bytes (R.remaining (reader_of left.new))
+        (IsCompareRefusal asked.now common bytes (R.remaining (reader_of left.new))
         (right.new ≡ right.old) (R.remaining (reader_of right.old))
         (R.remaining (reader_of right.new)))) }
     ensures sources { ReadsBoth R.read_errors left.old left.new right.old right.new result }
@@ -87,13 +92,41 @@ pub fn answer_compare<R: ReadDevice, W: WriteDevice>(
     ensures right_end { LeavesNothing R.remaining right.old right.new result }
     ensures handed_on { IsHandedOn W.holds_nothing sink.new result }
 {
-    let left = read_extract(alloc, left, MAX_LINES)?;
-    let right = read_extract(alloc, right, MAX_LINES)?;
-    let left = narrowed(left, asked)?;
-    let right = narrowed(right, asked)?;
+    let (left, right) = read_pair(alloc, left, right, asked, common)?;
     let comparison = compare(alloc, &left, &right)?;
     write_comparison(&comparison, sink)?;
     flushed(sink, outcome(&comparison))
+}
+
+/// Writes in what the extracts of two sources differ, and answers 0 where they don't, else 1. The
+/// right one isn't touched before the left one is read to its end and no line of it is refused.
+pub fn answer_diff<R: ReadDevice, W: WriteDevice>(
+    alloc: Global,
+    left: &mut Source<R>,
+    right: &mut Source<R>,
+    sink: &mut Sink<W>,
+    asked: &Asked,
+    common: bool,
+) -> Result<u8, Fault>
+    ensures answer { Answers W.contents W.write_errors
+        (λ text status. IfSome (R.remaining (reader_of left.old)) (λ left_bytes.
+        IfSome (R.remaining (reader_of right.old)) (λ right_bytes.
+        IsDiffAnswer asked.now common left_bytes right_bytes text status)))
+        sink.old sink.new result }
+    ensures fault { IfSome (R.remaining (reader_of left.old)) (λ bytes. IfErr result
+        (IsCompareRefusal asked.now common bytes (R.remaining (reader_of left.new))
+        (right.new ≡ right.old) (R.remaining (reader_of right.old))
+        (R.remaining (reader_of right.new)))) }
+    ensures sources { ReadsBoth R.read_errors left.old left.new right.old right.new result }
+    ensures left_end { LeavesNothing R.remaining left.old left.new result }
+    ensures right_end { LeavesNothing R.remaining right.old right.new result }
+    ensures handed_on { IsHandedOn W.holds_nothing sink.new result }
+{
+    let (left, right) = read_pair(alloc, left, right, asked, common)?;
+    let found = differences(alloc, &left, &right)?;
+    let status = listed(found.is_empty());
+    found.write(sink)?;
+    flushed(sink, status)
 }
 
 /// Writes what runs on the day, and answers status 0.
@@ -140,14 +173,50 @@ pub fn answer_train<R: ReadDevice, W: WriteDevice>(
     flushed(sink, DONE)
 }
 
-/// The extract, narrowed to the window that is asked for.
-fn narrowed(mut extract: Extract, asked: &Asked) -> Result<Extract, Fault>
-    ensures ok { IfOk result (λ narrowed.
-        IsNarrowed asked.now (extract_parts extract) (extract_parts narrowed)) }
-    ensures fault { IfErr result (IsNarrowingFault asked.now extract.header) }
+/// Writes why the train runs on the day, or doesn't, and answers status 0.
+pub fn answer_explain<R: ReadDevice, W: WriteDevice>(
+    alloc: Global,
+    source: &mut Source<R>,
+    sink: &mut Sink<W>,
+    uid: &Uid,
+    day: Day,
+) -> Result<u8, Fault>
+    ensures answer { Answers W.contents W.write_errors
+        (λ text status. IfSome (R.remaining (reader_of source.old)) (λ bytes.
+        IsExplainAnswer uid.now day bytes text status)) sink.old sink.new result }
+    ensures fault { IfSome (R.remaining (reader_of source.old)) (λ bytes. IfErr result
+        (IsExplainRefusal day bytes (R.remaining (reader_of source.new)))) }
+    ensures source { FaultReads R.read_errors source.old source.new result }
+    ensures end { LeavesNothing R.remaining source.old source.new result }
+    ensures handed_on { IsHandedOn W.holds_nothing sink.new result }
 {
-    narrow(&mut extract, asked)?;
-    Ok(extract)
+    let extract = read_extract(alloc, source, MAX_LINES)?;
+    explain_view(alloc, &extract, uid, day, sink)?;
+    flushed(sink, DONE)
+}
+
+/// Writes all clashes, and answers 0 where there is none, else 1.
+pub fn answer_clashes<R: ReadDevice, W: WriteDevice>(
+    alloc: Global,
+    source: &mut Source<R>,
+    sink: &mut Sink<W>,
+    asked: &Asked,
+) -> Result<u8, Fault>
+    ensures answer { Answers W.contents W.write_errors
+        (λ text status. IfSome (R.remaining (reader_of source.old)) (λ bytes.
+        IsClashesAnswer asked.now bytes text status)) sink.old sink.new result }
+    ensures fault { IfSome (R.remaining (reader_of source.old)) (λ bytes. IfErr result
+        (IsClashesRefusal asked.now bytes (R.remaining (reader_of source.new)))) }
+    ensures source { FaultReads R.read_errors source.old source.new result }
+    ensures end { LeavesNothing R.remaining source.old source.new result }
+    ensures handed_on { IsHandedOn W.holds_nothing sink.new result }
+{
+    let whole = read_extract(alloc, source, MAX_LINES)?;
+    let extract = narrowed(whole, asked)?;
+    let found = clashes(alloc, &extract)?;
+    let status = listed(found.is_empty());
+    found.write(sink)?;
+    flushed(sink, status)
 }
 
 /// Answers this status, once what was written is handed on.

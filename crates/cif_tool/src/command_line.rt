@@ -2,12 +2,13 @@
 ghost use Rattle.std.specs.Prelude.{◌≡◌, IfOk, false, map, string_bytes};
 ghost use Rattle.clap.specs.Words.{FailsBy, app_of, rule_of, subcommand_rows_of};
 ghost use Rattle.clap.specs.declared.Command.TheViews.{out-Command};
-ghost use Rattle.cif_tool.specs.CommandLine.{IsCommand, canonical, chosen, cif, compare, day};
-ghost use Rattle.cif_tool.specs.CommandLine.{faults_of, form_option, option, optional, required};
-ghost use Rattle.cif_tool.specs.CommandLine.{train, with_dates};
+ghost use Rattle.cif_tool.specs.CommandLine.{IsCommand, canonical, chosen, cif, clashes, day};
+ghost use Rattle.cif_tool.specs.CommandLine.{explain, faults_of, flag, form_option, of_two_files};
+ghost use Rattle.cif_tool.specs.CommandLine.{option, optional, required, subcommand, train};
+ghost use Rattle.cif_tool.specs.CommandLine.{with_dates};
 
 use crate::help;
-use clap::{Arg, ArgMatches, Command};
+use clap::{Arg, ArgAction, ArgMatches, Command};
 use std::alloc::{AllocError, Global};
 
 /// A word that may be left out.
@@ -32,6 +33,33 @@ fn date_option<'a>(alloc: Global, id: &'a str, help: &'a str) -> Arg<'a>
     ensures local { result.global ≡ false }
 {
     Arg::new(alloc, id).long(id).value_name("YYMMDD").help(help)
+}
+
+/// `--ID`.
+fn flag<'a>(alloc: Global, id: &'a str, help: &'a str) -> Arg<'a>
+    ensures rule { rule_of result ≡ flag id.entry.now }
+    ensures local { result.global ≡ false }
+{
+    Arg::new(alloc, id)
+        .long(id)
+        .action(ArgAction::SetTrue)
+        .help(help)
+}
+
+/// The subcommand of this name, with `--verbose`.
+fn subcommand<'a>(
+    alloc: Global,
+    name: &'a str,
+    about: &'a str,
+    more: &'a str,
+) -> Result<Command<'a>, AllocError>
+    ensures { IfOk result (IsCommand (subcommand name.entry.now)) }
+{
+    let verbose = flag(alloc, "verbose", help::VERBOSE).short('v');
+    Command::new(alloc, name)
+        .about(about)
+        .after_help(more)
+        .arg(verbose)
 }
 
 /// `--form FORM`, which is one of the two words.
@@ -67,32 +95,30 @@ fn canonical<'a>(
 ) -> Result<Command<'a>, AllocError>
     ensures { IfOk result (IsCommand (canonical name.entry.now forms.entry)) }
 {
-    let command = Command::new(alloc, name)
-        .about(about)
-        .after_help(more)
-        .arg(optional(alloc, "FILE", help::FILE))?;
+    let command = subcommand(alloc, name, about, more)?.arg(optional(alloc, "FILE", help::FILE))?;
     with_dates(alloc, command)?.arg(form_option(alloc, forms))
 }
 
-/// `compare`, which takes two files.
-fn compare<'a>(alloc: Global) -> Result<Command<'a>, AllocError>
-    ensures { IfOk result (IsCommand compare) }
+/// `compare` or `diff`, which take two files.
+fn of_two_files<'a>(
+    alloc: Global,
+    name: &'a str,
+    about: &'a str,
+    more: &'a str,
+) -> Result<Command<'a>, AllocError>
+    ensures { IfOk result (IsCommand (of_two_files name.entry.now)) }
 {
-    let command = Command::new(alloc, "compare")
-        .about(help::COMPARE)
-        .after_help(help::COMPARE_MORE)
+    let command = subcommand(alloc, name, about, more)?
         .arg(required(alloc, "LEFT", help::LEFT))?
         .arg(required(alloc, "RIGHT", help::RIGHT))?;
-    with_dates(alloc, command)
+    with_dates(alloc, command)?.arg(flag(alloc, "common", help::COMMON))
 }
 
 /// `day`, which takes a date.
 fn day<'a>(alloc: Global) -> Result<Command<'a>, AllocError>
     ensures { IfOk result (IsCommand day) }
 {
-    Command::new(alloc, "day")
-        .about(help::DAY)
-        .after_help(help::DAY_MORE)
+    subcommand(alloc, "day", help::DAY, help::DAY_MORE)?
         .arg(required(alloc, "YYMMDD", help::DATE))?
         .arg(optional(alloc, "FILE", help::FILE))
 }
@@ -101,12 +127,32 @@ fn day<'a>(alloc: Global) -> Result<Command<'a>, AllocError>
 fn train<'a>(alloc: Global, forms: &'a [&'a str]) -> Result<Command<'a>, AllocError>
     ensures { IfOk result (IsCommand (train forms.entry)) }
 {
-    let command = Command::new(alloc, "train")
-        .about(help::TRAIN)
-        .after_help(help::TRAIN_MORE)
+    let command = subcommand(alloc, "train", help::TRAIN, help::TRAIN_MORE)?
         .arg(required(alloc, "UID", help::UID))?
         .arg(optional(alloc, "FILE", help::FILE))?;
     with_dates(alloc, command)?.arg(form_option(alloc, forms))
+}
+
+/// `explain`, which takes a UID and a date.
+fn explain<'a>(alloc: Global) -> Result<Command<'a>, AllocError>
+    ensures { IfOk result (IsCommand explain) }
+{
+    subcommand(alloc, "explain", help::EXPLAIN, help::EXPLAIN_MORE)?
+        .arg(required(alloc, "UID", help::UID))?
+        .arg(required(alloc, "YYMMDD", help::DATE))?
+        .arg(optional(alloc, "FILE", help::FILE))
+}
+
+/// `clashes`, which lists all clashes of a file.
+fn clashes<'a>(alloc: Global) -> Result<Command<'a>, AllocError>
+    ensures { IfOk result (IsCommand clashes) }
+{
+    let command = subcommand(alloc, "clashes", help::CLASHES, help::CLASHES_MORE)?.arg(optional(
+        alloc,
+        "FILE",
+        help::FILE,
+    ))?;
+    with_dates(alloc, command)
 }
 
 /// The command line of `cif`, with the words that name a form.
@@ -127,9 +173,12 @@ fn cif_command<'a>(alloc: Global, forms: &'a [&'a str]) -> Result<Command<'a>, A
             forms,
         )?)?
         .subcommand(canonical(alloc, "check", help::CHECK, help::CHECK_MORE, forms)?)?
-        .subcommand(compare(alloc)?)?
+        .subcommand(of_two_files(alloc, "compare", help::COMPARE, help::COMPARE_MORE)?)?
+        .subcommand(of_two_files(alloc, "diff", help::DIFF, help::DIFF_MORE)?)?
         .subcommand(day(alloc)?)?
-        .subcommand(train(alloc, forms)?)
+        .subcommand(train(alloc, forms)?)?
+        .subcommand(explain(alloc)?)?
+        .subcommand(clashes(alloc)?)
 }
 
 /// The matches that `clap` gives for the words, of which the first is the program's name.

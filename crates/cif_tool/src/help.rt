@@ -11,9 +11,9 @@ Example:
   cif normalise extract.cif > canonical.cif
 
 Statuses:
-  0  done; of compare: no difference
-  1  of compare: a difference
-  2  a mistake in the words of the command
+  0  done; of compare and diff: no difference; of clashes: no clash
+  1  of compare and diff: a difference; of clashes: a clash
+  2  a usage error
   3  an extract is refused, or its window doesn't fit what was asked for
   4  a fault of reading, of writing or of memory";
 
@@ -30,7 +30,7 @@ Example:
 
 Statuses:
   0  done
-  2  a mistake in the words of the command
+  2  a usage error
   3  the input is refused, or the dates asked for don't fit its window
   4  a fault of reading, of writing or of memory";
 
@@ -47,7 +47,7 @@ Example:
 
 Statuses:
   0  accepted
-  2  a mistake in the words of the command
+  2  a usage error
   3  the input is refused, or the dates asked for don't fit its window
   4  a fault of reading, of writing or of memory";
 
@@ -56,6 +56,9 @@ pub(crate) const COMPARE: &str = "Says where two extracts first differ, or that 
 pub(crate) const COMPARE_MORE: &str = "\
 Prints one line: `same`, or the first difference. Tiplocs come first, then
 associations, then trains. Of the headers only the windows are compared.
+With --common, the common window goes from the later of the two first dates
+to the earlier of the two last dates: extracts of two days have two windows.
+
   differs: tiploc [COLUMNS 3-72]
   differs: association [BASE][OTHER][LOCATION][SUFFIX][SUFFIX] on YYMMDD
   differs: train [UID] on YYMMDD
@@ -66,7 +69,26 @@ Example:
 Statuses:
   0  no difference
   1  a difference
-  2  a mistake in the words of the command
+  2  a usage error
+  3  one is refused, or their windows differ or don't fit the dates asked for
+  4  a fault of reading, of writing or of memory";
+
+pub(crate) const DIFF: &str = "Lists everything in which two extracts differ";
+
+pub(crate) const DIFF_MORE: &str = "\
+Prints the records of what only one of the two says: `< ` stands before each
+line of LEFT, and `> ` before each line of RIGHT. Locations come first, then
+associations, then schedules. If there is no difference, prints nothing.
+With --common, the common window goes from the later of the two first dates
+to the earlier of the two last dates: extracts of two days have two windows.
+
+Example:
+  cif diff --common yesterday.cif today.cif
+
+Statuses:
+  0  no difference
+  1  a difference
+  2  a usage error
   3  one is refused, or their windows differ or don't fit the dates asked for
   4  a fault of reading, of writing or of memory";
 
@@ -83,7 +105,7 @@ Example:
 
 Statuses:
   0  done
-  2  a mistake in the words of the command
+  2  a usage error
   3  the input is refused, or the date isn't in its window
   4  a fault of reading, of writing or of memory";
 
@@ -101,7 +123,46 @@ Example:
 
 Statuses:
   0  done, also where the train doesn't run
-  2  a mistake in the words of the command
+  2  a usage error
+  3  the input is refused, or the dates asked for don't fit its window
+  4  a fault of reading, of writing or of memory";
+
+pub(crate) const EXPLAIN: &str = "Says why a train runs on a date, or why it doesn't";
+
+pub(crate) const EXPLAIN_MORE: &str = "\
+Prints a line for each record of the train that applies on the date, those of
+its associations first:
+  MARK AA LETTER FIRST LAST DAYS and what `cif day` prints after AA
+  MARK BS LETTER FIRST LAST DAYS and what `cif day` prints after BS
+MARK is `wins`, `hidden` (a record with an earlier letter wins) or `clash`
+(two winners differ). Of a cancellation (letter C) only the UID is printed,
+and of an association's its key.
+
+Example:
+  cif explain C00123 260114 extract.cif
+
+Statuses:
+  0  done, also where no record applies
+  2  a usage error
+  3  the input is refused, or the date isn't in its window
+  4  a fault of reading, of writing or of memory";
+
+pub(crate) const CLASHES: &str = "Lists the clashes of an extract";
+
+pub(crate) const CLASHES_MORE: &str = "\
+Prints a line for each train or association with a clash in the window, with
+the first date on which two records of the same rank contradict each other:
+  association [BASE][OTHER][LOCATION][SUFFIX][SUFFIX] on YYMMDD
+  train [UID] on YYMMDD
+If there is none, prints nothing.
+
+Example:
+  cif clashes extract.cif
+
+Statuses:
+  0  no clash
+  1  a clash
+  2  a usage error
   3  the input is refused, or the dates asked for don't fit its window
   4  a fault of reading, of writing or of memory";
 
@@ -118,5 +179,9 @@ pub(crate) const UID: &str = "The UID of the train: six characters; quote it whe
 pub(crate) const FROM: &str = "First date of the window [default: the header's]";
 
 pub(crate) const TO: &str = "Last date of the window [default: the header's]";
+
+pub(crate) const VERBOSE: &str = "Say more on standard error";
+
+pub(crate) const COMMON: &str = "Take dates that aren't given from the common window";
 
 pub(crate) const FORM: &str = "How weeks are joined";

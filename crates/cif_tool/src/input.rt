@@ -1,52 +1,156 @@
 //! Where the program reads an extract.
-use cif_columns::{ReadDevice, Source};
-use std::io::Read;
+use arrayvec::ArrayVec;
+use cif_columns::{LINE_WIDTH, Line, ReadDevice};
+use cif_records::Header;
+use std::fs::OpenFile;
+use std::io::{Read, Seek, SeekFrom};
 use std::rt::Files;
 use std::{fs, io};
 
 /// The standard input, or a file. Neither is touched before it is read first, and a file that can't
 /// be opened is one that can't be read.
 #[derive(Drop)]
-pub(crate) enum ExtractInput<'a, R: Files + Input> {
+pub(crate) struct ExtractInput<'a, R: Files + Input> {
+    /// What the user knows it by: of two inputs the side, and the file's name.
+    side: &'static str,
+    name: &'a str,
+    device: Device<'a, R>,
+    /// What was read first, up to the length of a line.
+    start: ArrayVec<u8, LINE_WIDTH>,
+    /// The system's number of the error that a read ended with.
+    failure: Option<i32>,
+}
+
+#[derive(Drop)]
+enum Device<'a, R: Files + Input> {
     Unlocked(&'a R),
     Standard(R::Reader),
     Named { files: &'a R, name: &'a str },
     Opened(R::File),
 }
 
-/// The file of this name, or the standard input where there is none.
-pub(crate) fn source_of<'a, R: Files + Input>(
-    rt: &'a R,
-    file: Option<&'a str>,
-) -> Source<ExtractInput<'a, R>> {
-    Source::new(match file {
-        Some(name) => ExtractInput::Named { files: rt, name },
-        None => ExtractInput::Unlocked(rt),
-    })
+impl<'a, R: Files + Input> ExtractInput<'a, R> {
+    /// The file of this name, or the standard input where there is none.
+    pub(crate) fn of(rt: &'a R, side: &'static str, file: Option<&'a str>) -> Self {
+        ExtractInput {
+            side,
+            name: file.unwrap_or("standard input"),
+            device: match file {
+                Some(name) => Device::Named { files: rt, name },
+                None => Device::Unlocked(rt),
+            },
+            start: ArrayVec::new(),
+            failure: None,
+        }
+    }
+
+    /// Of two inputs the side, with what separates it from the name.
+    pub(crate) fn side(&self) -> &str {
+        self.side
+    }
+
+    /// The file's name.
+    pub(crate) fn name(&self) -> &str {
+        self.name
+    }
+
+    /// Whether it was read.
+    pub(crate) fn is_touched(&self) -> bool {
+        match self.device {
+            Device::Standard(_) | Device::Opened(_) => true,
+            Device::Unlocked(_) | Device::Named { .. } => self.failure.is_some(),
+        }
+    }
+
+    /// What was read first, up to the length of a line.
+    pub(crate) fn start(&self) -> &[u8] {
+        self.start.as_slice()
+    }
+
+    /// The header, if what was read begins with one.
+    pub(crate) fn header(&self) -> Option<Header> {
+        let columns = <[u8; LINE_WIDTH]>::try_from(self.start.as_slice()).ok()?;
+        Header::read(&Line::of(columns)?).ok()
+    }
+
+    /// The error that a read ended with.
+    pub(crate) fn failure(&self) -> Option<io::Error> {
+        Some(io::Error::from_raw_os_error(self.failure?))
+    }
+
+    /// The file, to be read again from its beginning: none where the input isn't a file that allows
+    /// it.
+    pub(crate) fn again(&self) -> Option<R::File> {
+        match &self.device {
+            Device::Opened(file) => {
+                let mut file = file.try_clone().ok()?;
+                file.seek(SeekFrom::Start(0)).ok()?;
+                Some(file)
+            }
+            _ => None,
+        }
+    }
 }
 
-impl<R: Files + Input> Read for ExtractInput<'_, R> {
+impl<R: Files + Input> Read for Device<'_, R> {
     fn read(&mut self, buf: &mut [u8]) -> io::Result<usize> {
         match self {
-            ExtractInput::Standard(reader) => reader.read(buf),
-            ExtractInput::Opened(file) => file.read(buf),
-            ExtractInput::Unlocked(rt) => {
+            Device::Standard(reader) => reader.read(buf),
+            Device::Opened(file) => file.read(buf),
+            Device::Unlocked(rt) => {
                 let mut reader = rt.reader();
                 let count = reader.read(buf);
-                *self = ExtractInput::Standard(reader);
+                *self = Device::Standard(reader);
                 count
             }
-            ExtractInput::Named { files, name } => {
+            Device::Named { files, name } => {
                 let mut file = fs::open(*files, *name)?;
                 let count = file.read(buf);
-                *self = ExtractInput::Opened(file);
+                *self = Device::Opened(file);
                 count
             }
         }
     }
 }
 
+impl<R: Files + Input> Read for ExtractInput<'_, R> {
+    fn read(&mut self, buf: &mut [u8]) -> io::Result<usize> {
+        match self.device.read(buf) {
+            Ok(count) => {
+                for byte in buf.iter().take(count) {
+                    if self.start.try_push(*byte).is_err() {
+                        break;
+                    }
+                }
+                Ok(count)
+            }
+            Err(error) => {
+                self.failure = error.raw_os_error();
+                Err(error)
+            }
+        }
+    }
+}
+
 impl<R: Files + Input> ReadDevice for ExtractInput<'_, R> {
+    fn read_once(&mut self, buf: &mut [u8]) -> io::Result<usize> {
+        self.read(buf)
+    }
+}
+
+/// A file that is read again.
+#[derive(Drop)]
+pub(crate) struct AgainInput<F: Read + Drop> {
+    pub(crate) file: F,
+}
+
+impl<F: Read + Drop> Read for AgainInput<F> {
+    fn read(&mut self, buf: &mut [u8]) -> io::Result<usize> {
+        self.file.read(buf)
+    }
+}
+
+impl<F: Read + Drop> ReadDevice for AgainInput<F> {
     fn read_once(&mut self, buf: &mut [u8]) -> io::Result<usize> {
         self.read(buf)
     }

@@ -20,11 +20,20 @@ pub enum Job {
         asked: Asked,
         form: Form,
     },
-    /// To say where two extracts first differ.
+    /// To say where two extracts first differ. With `common`, dates that aren't asked for are those
+    /// of the window that both have in common.
     Compare {
         left: String,
         right: String,
         asked: Asked,
+        common: bool,
+    },
+    /// To list everything in which two extracts differ. `common` is as of `Compare`.
+    Diff {
+        left: String,
+        right: String,
+        asked: Asked,
+        common: bool,
     },
     /// To list what runs on a day.
     Day {
@@ -38,13 +47,24 @@ pub enum Job {
         asked: Asked,
         form: Form,
     },
+    /// To say why a train runs on a day, or doesn't.
+    Explain {
+        uid: Uid,
+        day: Day,
+        file: Option<String>,
+    },
+    /// To list the clashes.
+    Clashes {
+        file: Option<String>,
+        asked: Asked,
+    },
 }
 
 impl Job {
     ghost use Rattle.cif_tool.specs.Job.{input_names};
 
-    /// The names of the files that are read: one, or of `compare` two. `None` is the standard input,
-    /// or no second file.
+    /// The names of the files that are read: one, or two of `Compare` and `Diff`. `None` is the
+    /// standard input, or no second file.
     pub fn inputs(&self) -> (Option<&str>, Option<&str>)
         ensures { (option_map (λ name. name.now) result.0, option_map (λ name. name.now) result.1)
             ≡ input_names self.now }
@@ -53,8 +73,12 @@ impl Job {
             Job::Normalise { file, .. }
             | Job::Check { file, .. }
             | Job::Day { file, .. }
-            | Job::Train { file, .. } => (file.as_deref(), None),
-            Job::Compare { left, right, .. } => (Some(left.as_str()), Some(right.as_str())),
+            | Job::Train { file, .. }
+            | Job::Explain { file, .. }
+            | Job::Clashes { file, .. } => (file.as_deref(), None),
+            Job::Compare { left, right, .. } | Job::Diff { left, right, .. } => {
+                (Some(left.as_str()), Some(right.as_str()))
+            }
         }
     }
 }

@@ -3,13 +3,16 @@ ghost use Rattle.std.specs.Prelude.{◌≡◌, IfErr};
 ghost use Rattle.cif_columns.specs.Source.{reader_of};
 ghost use Rattle.cif_tool.specs.Answer.{Answers, IsHandedOn, IsJobAnswer, IsJobRefusal, ReadsInputs};
 
-use crate::answers::{answer_check, answer_compare, answer_day, answer_normalise, answer_train};
+use crate::answers::{
+    answer_check, answer_clashes, answer_compare, answer_day, answer_diff, answer_explain,
+    answer_normalise, answer_train,
+};
 use crate::job::Job;
 use cif_columns::{ReadDevice, Sink, Source, WriteDevice};
 use cif_extract::Fault;
 use std::alloc::Global;
 
-/// Writes what the job's command answers of its input, and of `compare` of the right one too; the
+/// Writes what the job's command answers of its input, and of `compare` and `diff` of the right one too; the
 /// answer is the status.
 pub fn answer<R: ReadDevice, W: WriteDevice>(
     alloc: Global,
@@ -44,7 +47,14 @@ pub fn answer<R: ReadDevice, W: WriteDevice>(
             left: _,
             right: _,
             asked,
-        } => answer_compare(alloc, source, right, sink, asked),
+            common,
+        } => answer_compare(alloc, source, right, sink, asked, *common),
+        Job::Diff {
+            left: _,
+            right: _,
+            asked,
+            common,
+        } => answer_diff(alloc, source, right, sink, asked, *common),
         Job::Day { day, file: _ } => answer_day(alloc, source, sink, *day),
         Job::Train {
             uid,
@@ -52,5 +62,7 @@ pub fn answer<R: ReadDevice, W: WriteDevice>(
             asked,
             form,
         } => answer_train(alloc, source, sink, uid, asked, *form),
+        Job::Explain { uid, day, file: _ } => answer_explain(alloc, source, sink, uid, *day),
+        Job::Clashes { file: _, asked } => answer_clashes(alloc, source, sink, asked),
     }
 }

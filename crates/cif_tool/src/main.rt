@@ -1,14 +1,20 @@
 //! The program `cif`: extracts of the CIF timetable format, normalised.
 #![tactic(auto)]
 
+mod advice;
 mod answers;
+mod clash_lines;
 mod command_line;
 mod help;
 mod input;
 mod job;
 mod job_answer;
 mod job_fault;
+mod line_again;
+mod output;
+mod pair;
 mod program;
+mod refused_columns;
 mod status;
 mod words;
 

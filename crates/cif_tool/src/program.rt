@@ -1,12 +1,14 @@
 //! From the words of the process to its status: what is said here, the rows of `tests/` show over the
 //! built program.
-use crate::input::source_of;
+use crate::advice::{advise, advise_on_date, advise_on_uid, tell_failure, tell_window};
+use crate::input::ExtractInput;
 use crate::job::Job;
 use crate::job_answer::answer;
 use crate::job_fault::JobFault;
+use crate::output::Output;
 use crate::status::{MISTAKEN, end};
 use crate::words::job_of;
-use cif_columns::{Sink, WriteDevice};
+use cif_columns::{Sink, Source, WriteDevice};
 use cif_extract::Fault;
 use std::env::Env;
 use std::io::{BufWriter, ErrorKind, Printer};
@@ -23,18 +25,32 @@ const NOT_TEXT: &str =
 /// to `errors`; that one can't be written changes no status.
 pub fn run<R: Env + Files + Input + Print + AllocGlobal, E: Print>(rt: &R, errors: &E) -> u8 {
     let mut errors = Sink::new(io::writer(errors));
-    let answer = match words_of(rt) {
-        Ok(words) => match job_of(rt.alloc(), words) {
-            Ok(job) => done(rt, &job),
-            Err(fault) => explained(rt, &fault, &mut errors),
-        },
-        Err(error) if error.kind() == ErrorKind::OutOfMemory => Err(Fault::Memory),
+    let words = match words_of(rt) {
+        Ok(words) => words,
+        Err(error) if error.kind() == ErrorKind::OutOfMemory => return end(
+            &Err(Fault::Memory),
+            &mut errors,
+        ),
         Err(_) => {
             let _ = errors.write_all(NOT_TEXT.as_bytes());
-            Ok(MISTAKEN)
+            return MISTAKEN;
         }
     };
-    end(answer, &mut errors)
+    let verbose = is_verbose(words.as_slice());
+    match job_of(rt.alloc(), words) {
+        Ok(job) => done(rt, &job, verbose, &mut errors),
+        Err(fault) => {
+            let status = end(&explained(rt, &fault, &mut errors), &mut errors);
+            if verbose && let Ok(words) = words_of(rt) {
+                match fault {
+                    JobFault::BadDate => advise_on_date(rt.alloc(), words.as_slice(), &mut errors),
+                    JobFault::BadUid => advise_on_uid(rt.alloc(), words.as_slice(), &mut errors),
+                    JobFault::Usage(_) | JobFault::Memory => {}
+                }
+            }
+            status
+        }
+    }
 }
 
 /// The words of the process, the program's name first. One that is no text fails them all.
@@ -42,21 +58,60 @@ fn words_of<R: Env + AllocGlobal>(rt: &R) -> io::Result<Vec<String>> {
     Ok(env::args(rt)?.collect(rt.alloc())?)
 }
 
-/// Answers the job on the standard output.
-fn done<R: Files + Input + Print + AllocGlobal>(rt: &R, job: &Job) -> Result<u8, Fault> {
-    let mut output = buffered_output(rt)?;
+/// Whether `--verbose` is among the options.
+fn is_verbose(words: &[String]) -> bool {
+    words
+        .iter()
+        .map(|word| word.as_str())
+        .take_while(|word| *word != "--")
+        .any(|word| word == "-v" || word == "--verbose")
+}
+
+/// Answers the job on the standard output, and returns the status to exit with.
+fn done<R: Files + Input + Print + AllocGlobal, W: WriteDevice>(
+    rt: &R,
+    job: &Job,
+    verbose: bool,
+    errors: &mut Sink<W>,
+) -> u8 {
     // Of a job with one input `right` stands for no file, and is never touched.
-    let (file, right) = job.inputs();
-    let answer = answer(
-        rt.alloc(),
-        job,
-        &mut source_of(rt, file),
-        &mut source_of(rt, right),
-        &mut Sink::new(&mut output),
-    );
+    let (file, right_file) = job.inputs();
+    let (side, right_side) = match right_file {
+        Some(_) => ("LEFT, ", "RIGHT, "),
+        None => ("", ""),
+    };
+    let mut left = Source::new(ExtractInput::of(rt, side, file));
+    let mut right = Source::new(ExtractInput::of(rt, right_side, right_file));
+    let (answer, failure) = answered(rt, job, &mut left, &mut right);
+    let status = end(&answer, errors);
+    if verbose {
+        match &answer {
+            Ok(_) => {
+                tell_window(left.reader(), errors);
+                tell_window(right.reader(), errors);
+            }
+            Err(Fault::Write) => tell_failure(rt.alloc(), "", "standard output", failure, errors),
+            Err(fault) => advise(rt.alloc(), fault, left.reader(), right.reader(), errors),
+        }
+    }
+    status
+}
+
+/// Answers the job on the standard output. With the answer comes the error that a write ended with.
+fn answered<'a, R: Files + Input + Print + AllocGlobal>(
+    rt: &R,
+    job: &Job,
+    left: &mut Source<ExtractInput<'a, R>>,
+    right: &mut Source<ExtractInput<'a, R>>,
+) -> (Result<u8, Fault>, Option<io::Error>) {
+    let mut output = match buffered_output(rt) {
+        Ok(output) => output,
+        Err(fault) => return (Err(fault), None),
+    };
+    let answer = answer(rt.alloc(), job, left, right, &mut Sink::new(&mut output));
     // A `BufWriter` that is dropped writes what it holds, also after a failure.
-    let _ = output.into_parts();
-    answer
+    let (output, _) = output.into_parts();
+    (answer, output.failure())
 }
 
 /// Says why the words ask for nothing: help and the version on the standard output, all else on
@@ -73,8 +128,10 @@ fn explained<R: Print + AllocGlobal, W: WriteDevice>(
 }
 
 /// The standard output behind a buffer.
-fn buffered_output<R: Print + AllocGlobal>(rt: &R) -> Result<BufWriter<Printer<'_, R>>, Fault> {
-    match BufWriter::with_capacity(rt.alloc(), OUTPUT_BUFFER, io::writer(rt)) {
+fn buffered_output<R: Print + AllocGlobal>(
+    rt: &R,
+) -> Result<BufWriter<Output<Printer<'_, R>>>, Fault> {
+    match BufWriter::with_capacity(rt.alloc(), OUTPUT_BUFFER, Output::new(io::writer(rt))) {
         Ok(output) => Ok(output),
         Err(_) => Err(Fault::Memory),
     }

@@ -1,15 +1,17 @@
 //! The statuses that the program exits with.
 ghost use Rattle.std.specs.Prelude.{◌≡◌};
-ghost use Rattle.cif_tool.specs.Status.{TellsFault, end_status, outcome_of, status_of};
+ghost use Rattle.cif_tool.specs.Status.{TellsFault, end_status, listed_status};
+ghost use Rattle.cif_tool.specs.Status.{outcome_of, status_of};
 
 use cif_canon::{Comparison, report};
 use cif_columns::{Sink, WriteDevice};
 use cif_extract::Fault;
 
-/// The answer was given; of `compare`, that the extracts say the same.
+/// The answer was given; of `compare` and `diff`, that the extracts say the same; of `clashes`, that
+/// there is none.
 pub const DONE: u8 = 0;
 
-/// The extracts that were compared don't say the same.
+/// The extracts that were compared don't say the same; of `clashes`, that there are some.
 pub const DIFFERENT: u8 = 1;
 
 /// The words of the call are mistaken.
@@ -47,17 +49,24 @@ pub fn outcome(comparison: &Comparison) -> u8
     }
 }
 
+/// The status of a list: 0 where nothing is listed, else 1.
+pub fn listed(is_empty: bool) -> u8
+    ensures { result ≡ listed_status is_empty }
+{
+    if is_empty { DONE } else { DIFFERENT }
+}
+
 /// The status that an answer ends with. A fault's line goes to `errors`; that it can't be written
 /// changes no status.
-pub fn end<W: WriteDevice>(answer: Result<u8, Fault>, errors: &mut Sink<W>) -> u8
-    ensures status { result ≡ end_status answer }
-    ensures line { TellsFault W.contents W.write_errors answer errors.old errors.new }
+pub fn end<W: WriteDevice>(answer: &Result<u8, Fault>, errors: &mut Sink<W>) -> u8
+    ensures status { result ≡ end_status answer.now }
+    ensures line { TellsFault W.contents W.write_errors answer.now errors.old errors.new }
 {
     match answer {
-        Ok(status) => status,
+        Ok(status) => *status,
         Err(fault) => {
-            let _ = report(&fault, errors);
-            status(&fault)
+            let _ = report(fault, errors);
+            status(fault)
         }
     }
 }

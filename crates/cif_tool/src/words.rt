@@ -5,7 +5,7 @@ ghost use Rattle.clap.specs.Words.{first_of, found_of, kind_of, rows_of};
 ghost use Rattle.clap.specs.Words.{subcommand_rows_of};
 ghost use Rattle.cif_columns.specs.Day.{StandsInYymmdd};
 ghost use Rattle.cif_tool.specs.Job.{Asks, HasFile, HasWord, IsAskedBy};
-ghost use Rattle.cif_tool.specs.Job.{IsChosen, IsDateOf, IsTaken, IsUidWord, form_of};
+ghost use Rattle.cif_tool.specs.Job.{IsChosen, IsDateOf, IsTaken, IsUidWord, form_of, has_common};
 ghost use Rattle.cif_tool.specs.JobFault.{HasBadDate, IsFaultOf, IsWordFault, NamesNoDay};
 ghost use Rattle.cif_tool.specs.JobFault.{IsNoUid};
 
@@ -39,6 +39,32 @@ pub fn job_of(alloc: Global, words: Vec<String>) -> Result<Job, JobFault>
     }
 }
 
+/// The first word that should name a date and doesn't.
+#[inline(never)]
+pub(crate) fn mistaken_date<'a>(alloc: Global, words: &'a [String]) -> Option<&'a str> {
+    let matches = matches_of(alloc, FORMS.as_slice(), words).ok()?;
+    let (_, inner) = matches.subcommand()?;
+    for id in ["YYMMDD", "from", "to"] {
+        if let Some(word) = word_of(inner, id)
+            && day_of_word(word).is_none()
+        {
+            return Some(word);
+        }
+    }
+    None
+}
+
+/// The word that should name a UID and doesn't.
+#[inline(never)]
+pub(crate) fn mistaken_uid<'a>(alloc: Global, words: &'a [String]) -> Option<&'a str> {
+    let matches = matches_of(alloc, FORMS.as_slice(), words).ok()?;
+    let (_, inner) = matches.subcommand()?;
+    match word_of(inner, "UID") {
+        Some(word) if uid_of_word(word).is_none() => Some(word),
+        _ => None,
+    }
+}
+
 /// Why `clap` gives no matches.
 fn fault_of_error(error: clap::Error) -> JobFault
     ensures { ((kind_of error ≡ ErrorKind.OutOfMemory) × (result ≡ JobFault.Memory))
@@ -63,8 +89,11 @@ fn chosen_job(alloc: Global, matches: &ArgMatches<'_>) -> Result<Job, JobFault>
         Some(("normalise", inner)) => normalise_job(alloc, inner),
         Some(("check", inner)) => check_job(alloc, inner),
         Some(("compare", inner)) => compare_job(alloc, inner),
+        Some(("diff", inner)) => diff_job(alloc, inner),
         Some(("day", inner)) => day_job(alloc, inner),
         Some(("train", inner)) => train_job(alloc, inner),
+        Some(("explain", inner)) => explain_job(alloc, inner),
+        Some(("clashes", inner)) => clashes_job(alloc, inner),
         _ => unreachable!(),
     }
 }
@@ -105,6 +134,23 @@ fn compare_job(alloc: Global, matches: &ArgMatches<'_>) -> Result<Job, JobFault>
 {
     Ok(Job::Compare {
         asked: asked_of(matches)?,
+        common: has_common(matches),
+        left: String::from_str(alloc, required_word(matches, "LEFT"))?,
+        right: String::from_str(alloc, required_word(matches, "RIGHT"))?,
+    })
+}
+
+fn diff_job(alloc: Global, matches: &ArgMatches<'_>) -> Result<Job, JobFault>
+    requires left { HasWord (codes "LEFT") (rows_of (found_of matches.now)) }
+    requires right { HasWord (codes "RIGHT") (rows_of (found_of matches.now)) }
+    ensures ok { IfOk result (λ job. IsChosen job
+        (codes "diff", rows_of (found_of matches.now))) }
+    ensures err { IfErr result (λ fault. IsWordFault fault
+        (codes "diff", rows_of (found_of matches.now))) }
+{
+    Ok(Job::Diff {
+        asked: asked_of(matches)?,
+        common: has_common(matches),
         left: String::from_str(alloc, required_word(matches, "LEFT"))?,
         right: String::from_str(alloc, required_word(matches, "RIGHT"))?,
     })
@@ -140,6 +186,39 @@ fn train_job(alloc: Global, matches: &ArgMatches<'_>) -> Result<Job, JobFault>
         uid,
         asked: asked_of(matches)?,
         form: form_of(matches),
+        file: file_of(alloc, matches)?,
+    })
+}
+
+fn explain_job(alloc: Global, matches: &ArgMatches<'_>) -> Result<Job, JobFault>
+    requires uid { HasWord (codes "UID") (rows_of (found_of matches.now)) }
+    requires day { HasWord (codes "YYMMDD") (rows_of (found_of matches.now)) }
+    ensures ok { IfOk result (λ job. IsChosen job
+        (codes "explain", rows_of (found_of matches.now))) }
+    ensures err { IfErr result (λ fault. IsWordFault fault
+        (codes "explain", rows_of (found_of matches.now))) }
+{
+    let Some(uid) = uid_of_word(required_word(matches, "UID")) else {
+        return Err(JobFault::BadUid);
+    };
+    let Some(day) = day_of_word(required_word(matches, "YYMMDD")) else {
+        return Err(JobFault::BadDate);
+    };
+    Ok(Job::Explain {
+        uid,
+        day,
+        file: file_of(alloc, matches)?,
+    })
+}
+
+fn clashes_job(alloc: Global, matches: &ArgMatches<'_>) -> Result<Job, JobFault>
+    ensures ok { IfOk result (λ job. IsChosen job
+        (codes "clashes", rows_of (found_of matches.now))) }
+    ensures err { IfErr result (λ fault. IsWordFault fault
+        (codes "clashes", rows_of (found_of matches.now))) }
+{
+    Ok(Job::Clashes {
+        asked: asked_of(matches)?,
         file: file_of(alloc, matches)?,
     })
 }
@@ -207,6 +286,16 @@ fn form_of(matches: &ArgMatches<'_>) -> Form
     match word_of(matches, "form") {
         Some(word) if word == "1" => Form::One,
         _ => Form::Two,
+    }
+}
+
+/// Whether the words ask for the common window.
+fn has_common(matches: &ArgMatches<'_>) -> bool
+    ensures { result ≡ has_common (rows_of (found_of matches.now)) }
+{
+    match word_of(matches, "common") {
+        Some(word) => word == "true",
+        None => false,
     }
 }
 

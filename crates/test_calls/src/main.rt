@@ -1,5 +1,5 @@
 //! Makes one call of the libraries on the extract of its standard input, and where memory is refused
-//! to the call makes it again: `test_calls CALL [WORD]`. It is a test program, and no part of the
+//! to the call makes it again: `test_calls CALL [WORD..]`. It is a test program, and no part of the
 //! product: `tests/memory/run_calls` refuses it memory.
 //!
 //! CALL is one of these, in form 2 where there is a form. The answer is what the call writes, and what
@@ -9,7 +9,9 @@
 //! - `normalise`, `check`: the line of the counts.
 //! - `canon`: the canonical text, and the line of the counts.
 //! - `compare`: the line that says so. The second extract stands behind a line `==`.
-//! - `day_view YYMMDD`, `train_view UID`: nothing more.
+//! - `differences`, `clashes`: `none` where there is none, and else `some`. The second extract of
+//!   `differences` stands behind a line `==`.
+//! - `day_view YYMMDD`, `train_view UID`, `explain_view UID YYMMDD`: nothing more.
 //! - `calendar`: the dates of the pieces, each with the positions of the winners from Monday on, or
 //!   the date on which it is ambiguous. All schedules are taken as those of one train.
 //! - `runs`: the dates and days of the runs of that calendar.
@@ -97,8 +99,14 @@ fn call_of_extracts<'a>(
     match word_at(words, 1) {
         "canon" => Some(Call::Canon(left)),
         "compare" => Some(Call::Compare(left, right)),
+        "differences" => Some(Call::Differences(left, right)),
         "day_view" => Some(Call::DayView(left, day_of(word)?)),
         "train_view" => Some(Call::TrainView(left, uid_of(word)?)),
+        "explain_view" => {
+            let day = day_of(word_at(words, 3))?;
+            Some(Call::ExplainView(left, uid_of(word)?, day))
+        }
+        "clashes" => Some(Call::Clashes(left)),
         "calendar" => Some(Call::Calendar(left)),
         "runs" => Some(Call::Runs(left)),
         _ => None,

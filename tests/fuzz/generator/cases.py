@@ -1,20 +1,20 @@
 """Cases: a job, its inputs, and the timetable from which the first of them was made."""
 from collections import namedtuple
 
-from reference.answers import Job
+from reference.answers import Job, OF_TWO, OPTIONS
 from reference.dates import DAY, yymmdd
 
 from .damage import damaged
 from .derived import changed_once, said_otherwise
 from .spelling import some_habits, spelled
 from .timetables import UIDS, some_header, some_timetable
-from .windows import some_day, some_window, with_one_end_moved
+from .windows import bounded, some_day, some_window, with_one_end_moved
 
 # The job; the bytes of each of its inputs, None for a file that isn't there; and the timetable of the first one, or None
 # where an input was damaged or isn't there.
 Case = namedtuple("Case", "job inputs timetable")
 
-COMMANDS = {"normalise": 40, "check": 8, "compare": 24, "day": 12, "train": 16}
+COMMANDS = {"normalise": 32, "check": 6, "compare": 14, "diff": 16, "day": 7, "train": 10, "explain": 9, "clashes": 6}
 FORMS = (None, None, "1", "1", "2")
 NO_FORMS = ("3", "0", "", "12", "1 ", "one")
 BAD_DATE_WORDS = ("260230", "2601141", "26014", "", "26 114", "999999", "abcdef", "260114 ", "26\u06611", "\u0662\u0666\u0661")
@@ -25,6 +25,9 @@ BAD_UID_WORDS = ("C0012", "C001234", "", "C0012\t", "C0012\u00e9", "C001\u00e9",
 FAULTS = ("dates", "mistake", "no date", "outside", "reversed", "no UID", "no file", "damage", "another window", "clash")
 SELDOM = dict(zip(FAULTS, (0.4, 0.005, 0.02, 0.04, 0.04, 0.04, 0.02, 0.15, 0.08, None)))
 OFTEN = dict(zip(FAULTS, (0.8, 0.05, 0.2, 0.3, 0.4, 0.4, 0.1, 0.3, 0.4, 1)))
+
+# The same of clashes, for the commands that accept them.
+CLASHES = (0, 0.2, 1, 1)
 
 
 def some_bytes(rng, timetable):
@@ -52,43 +55,69 @@ def window_words(rng, window, odds):
     return [word if rng.random() < 0.7 else None for word in words]
 
 
-def uid_word(rng, timetable, odds):
+def uid_of(record):
+    """The UID of a train, or the base UID of an association."""
+    return record.key[0][1]
+
+
+def uid_word(rng, records, odds):
     if rng.random() < odds["no UID"]:
         return rng.choice(BAD_UID_WORDS)
-    if timetable.schedules and rng.random() < 0.95:
-        return dict(rng.choice(timetable.schedules).key)["uid"]
+    if records and rng.random() < 0.95:
+        return uid_of(rng.choice(records))
     return rng.choice(UIDS)
 
 
-def second_timetable(rng, timetable, odds):
+def uid_and_day(rng, timetable, odds):
+    """The words of explain: often a UID and a date on which a record of it applies."""
+    records = timetable.associations + timetable.schedules
+    first, last = timetable.window
+    days = [(record, max(record.first, first) + rng.randrange(14) * DAY) for record in records]
+    apply = [(record, day) for record, day in days if day <= last and record.applies(day)]
+    if not apply or rng.random() < 0.3:
+        return uid_word(rng, records, odds), date_word(rng, timetable.window, odds)
+    record, day = rng.choice(apply)
+    return uid_of(record), yymmdd(day)
+
+
+def beside_it(rng, window):
+    """A window of the next days, which has some dates in common, or now and then none."""
+    first, last = window
+    days = rng.choice([1, 1, 2, 7, (last - first).days + rng.choice([0, 1])]) * rng.choice([1, 1, -1]) * DAY
+    return bounded(first + days), bounded(last + days)
+
+
+def second_timetable(rng, job, timetable, odds):
     """What another extract is compared with: often it says the same, or differs in a few places."""
     chance = rng.random()
-    if chance < 0.35:
+    if chance < (0.2 if job.command == "diff" else 0.35):
         other = said_otherwise(rng, timetable)
     elif chance < 0.9:
         other = timetable
-        for _ in range(rng.choice([1, 1, 1, 2, 4])):
+        for _ in range(rng.choice([1, 1, 1, 2, 4, 8])):
             other = changed_once(rng, other)
     else:
         other = some_timetable(rng, odds["clash"])
         other.window = timetable.window
     if rng.random() < 0.5:
         other.header = some_header(rng)
-    if rng.random() < odds["another window"]:
+    if job.common and rng.random() < 0.7:
+        other.window = beside_it(rng, other.window)
+    elif rng.random() < odds["another window"]:
         other.window = some_window(rng) if rng.random() < 0.5 else with_one_end_moved(rng, other.window)
     return other
 
 
 def some_files(rng, command, odds):
-    names = ("left.cif", "right.cif") if command == "compare" else ("extract.cif",) if rng.random() < 0.3 else ()
+    names = ("left.cif", "right.cif") if command in OF_TWO else ("extract.cif",) if rng.random() < 0.3 else ()
     return (*names, "further.cif") if names and rng.random() < odds["mistake"] else names
 
 
 def some_inputs(rng, job, timetable, odds):
     """The bytes of each input, and whether they are as they were spelled."""
     inputs, sound = [some_bytes(rng, timetable)], True
-    if job.command == "compare":
-        inputs.append(some_bytes(rng, second_timetable(rng, timetable, odds)))
+    if job.command in OF_TWO:
+        inputs.append(some_bytes(rng, second_timetable(rng, job, timetable, odds)))
     for at, data in enumerate(inputs):
         if rng.random() < odds["damage"] / len(inputs):
             inputs[at], sound = damaged(rng, data), False
@@ -102,19 +131,31 @@ def some_job(rng, command, timetable, options, odds):
     if command == "day":
         job = job._replace(day=date_word(rng, timetable.window, odds))
     if command == "train":
-        job = job._replace(uid=uid_word(rng, timetable, odds))
-    if options and command != "day":
+        job = job._replace(uid=uid_word(rng, timetable.schedules, odds))
+    if command == "explain":
+        uid, day = uid_and_day(rng, timetable, odds)
+        job = job._replace(uid=uid, day=day)
+    return with_options(rng, job, timetable, odds) if options else job
+
+
+def with_options(rng, job, timetable, odds):
+    """The job with options that its command takes, and now and then with others."""
+    taken = set().union(*OPTIONS.values()) if rng.random() < odds["mistake"] else OPTIONS[job.command]
+    if "first" in taken:
         first, last = window_words(rng, timetable.window, odds)
         job = job._replace(first=first, last=last)
-    if options and command in ("normalise", "check", "train"):
+    if "common" in taken:
+        job = job._replace(common=rng.random() < 0.5)
+    if "form" in taken:
         job = job._replace(form=rng.choice(FORMS if rng.random() > odds["mistake"] else NO_FORMS))
     return job
 
 
 def some_case(rng, commands, options, odds):
     """A case of one of these commands; options says whether the job may have some."""
-    timetable = some_timetable(rng, odds["clash"])
     command = rng.choices(commands, [COMMANDS[name] for name in commands])[0]
+    clashes = rng.choice(CLASHES) if command in ("explain", "clashes") else odds["clash"]
+    timetable = some_timetable(rng, clashes)
     job = some_job(rng, command, timetable, options, odds)
     inputs, sound = some_inputs(rng, job, timetable, odds)
     return Case(job, inputs, timetable if sound else None)

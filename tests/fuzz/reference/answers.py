@@ -4,21 +4,33 @@ from collections import namedtuple
 
 from . import texts
 from .dates import from_yymmdd
-from .extracts import narrowed, read_extract, window_of
+from .explanation import explained
+from .extracts import common_of, narrowed, read_extract, window_of
 from .faults import Fault, REFUSED, WORDS
-from .meaning import Meaning, first_difference
+from .meaning import Meaning, all_clashes, first_difference
 
 # What the words of a command ask for. Dates and a UID are words as they were given, or None where there is none; without
-# a form it is 2. Files are names; where there is none, the command reads standard input.
-Job = namedtuple("Job", "command files day uid first last form", defaults=((), None, None, None, None, None))
+# a form it is 2, and common says whether --common is there. Files are names; where there is none, the command reads standard
+# input.
+Job = namedtuple("Job", "command files day uid first last form common", defaults=((), None, None, None, None, None, False))
 
 Answer = namedtuple("Answer", "stdout stderr status")
 
 UID = re.compile(r"[ -~]{6}")
-DIFFERENCE = 1
+SOME = 1
 
-# The numbers of files that each command takes.
-FILES = {"normalise": (0, 1), "check": (0, 1), "compare": (2,), "day": (0, 1), "train": (0, 1)}
+# The options that each command takes, and the commands that take two files; the others take one or none.
+OPTIONS = {
+    "normalise": {"first", "last", "form"},
+    "check": {"first", "last", "form"},
+    "compare": {"first", "last", "common"},
+    "diff": {"first", "last", "common"},
+    "day": set(),
+    "train": {"first", "last", "form"},
+    "explain": set(),
+    "clashes": {"first", "last"},
+}
+OF_TWO = ("compare", "diff")
 
 # Where the command line itself is at fault, standard error begins so, and what follows isn't fixed.
 MISTAKE = Answer(b"", b"error:", WORDS)
@@ -38,12 +50,23 @@ def output(job, inputs):
         raise Fault("bad UID", WORDS)
     day, asked = date_of(job.day), (date_of(job.first), date_of(job.last))
     extracts = [read_extract(data) for data in inputs]
+    if job.common:
+        asked = [given or common for given, common in zip(asked, common_of(extracts))]
     extracts = [narrowed(extract, asked) for extract in extracts]
     window, *others = [window_of(extract) for extract in extracts]
     if others not in ([], [window]):
         raise Fault("WindowsDiffer", REFUSED)
     if day is not None and not window[0] <= day <= window[1]:
         raise Fault("OutsideWindow", REFUSED)
+    return said(job, day, extracts)
+
+
+def said(job, day, extracts):
+    """The same of extracts that have the window asked for, in which the day lies if there is one."""
+    if job.command == "explain":
+        return explained(extracts[0], job.uid, day), 0
+    if job.command == "clashes":
+        return some_or_none(all_clashes(extracts[0]))
     meaning, *others = [Meaning(extract) for extract in extracts]
     form = job.form or "2"
     if job.command == "normalise":
@@ -54,8 +77,14 @@ def output(job, inputs):
         return texts.day_view(meaning, day), 0
     if job.command == "train":
         return texts.train_view(meaning, job.uid, form), 0
+    if job.command == "diff":
+        return some_or_none(texts.differences(meaning, *others))
     difference = first_difference(meaning, *others)
-    return ([f"differs: {difference}"], DIFFERENCE) if difference else (["same"], 0)
+    return ([f"differs: {difference}"], SOME) if difference else (["same"], 0)
+
+
+def some_or_none(lines):
+    return lines, SOME if lines else 0
 
 
 def agrees(want, got):
@@ -65,9 +94,16 @@ def agrees(want, got):
     return got == want
 
 
+def is_mistake(job):
+    """Whether the command doesn't take such options, or not so many files."""
+    given = {name for name in ("first", "last", "form", "common") if getattr(job, name) not in (None, False)}
+    counts = (2,) if job.command in OF_TWO else (0, 1)
+    return not given <= OPTIONS[job.command] or job.form not in (None, "1", "2") or len(job.files) not in counts
+
+
 def answer(job, inputs):
     """What the program has to print and to end with."""
-    if job.form not in (None, "1", "2") or len(job.files) not in FILES[job.command]:
+    if is_mistake(job):
         return MISTAKE
     try:
         lines, status = output(job, inputs)

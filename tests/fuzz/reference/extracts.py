@@ -117,6 +117,12 @@ def window_of(extract):
     return layouts.window_of("HD", extract.header)
 
 
+def common_of(extracts):
+    """The first and the last date of the part that the windows of two extracts have in common, if they have one."""
+    firsts, lasts = zip(*(window_of(extract) for extract in extracts))
+    return max(firsts), min(lasts)
+
+
 def narrowed(extract, asked):
     """The extract with the window that is asked for: a first and a last date, each of them or None."""
     own = window_of(extract)

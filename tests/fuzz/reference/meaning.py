@@ -12,11 +12,16 @@ def applies(entry, day):
     return entry.first <= day <= entry.last and entry.days[day.weekday()] == "1"
 
 
-def body_on(entries, day):
-    """The body that runs on a date, of all records of one key, or None where nothing runs."""
+def winners(entries, day):
+    """Those of the records of one key that apply on the date with the first letter."""
     applying = [entry for entry in entries if applies(entry, day)]
     least = min((entry.letter for entry in applying), default=None)
-    bodies = {entry.body for entry in applying if entry.letter == least}
+    return [entry for entry in applying if entry.letter == least]
+
+
+def body_on(entries, day):
+    """The body that runs on a date, of all records of one key, or None where nothing runs."""
+    bodies = {entry.body for entry in winners(entries, day)}
     if len(bodies) > 1:
         raise Clash
     return bodies.pop() if bodies else None
@@ -27,11 +32,15 @@ def name_of(key):
     return ("train " if len(key) == 1 else "association ") + "".join(f"[{part}]" for part in key)
 
 
+def by_key(entries):
+    """The keys, rising, each with its records in their order."""
+    return [(key, [entry for entry in entries if entry.key == key]) for key in sorted({entry.key for entry in entries})]
+
+
 def running(entries, days):
     """For each key, rising, the body of each date on which one runs."""
     found = {}
-    for key in sorted({entry.key for entry in entries}):
-        of_key = [entry for entry in entries if entry.key == key]
+    for key, of_key in by_key(entries):
         found[key] = {}
         for day in days:
             try:
@@ -40,6 +49,18 @@ def running(entries, days):
                 raise Fault(f"Ambiguous: {name_of(key)} on {yymmdd(day)}", REFUSED) from None
             if body is not None:
                 found[key][day] = body
+    return found
+
+
+def all_clashes(extract):
+    """The name of the first clash of each key that has one: associations, then trains, each rising by key."""
+    found = []
+    for entries in extract.associations, extract.schedules:
+        for key, of_key in by_key(entries):
+            for day in dates_of(window_of(extract)):
+                if len({entry.body for entry in winners(of_key, day)}) > 1:
+                    found.append(f"{name_of(key)} on {yymmdd(day)}")
+                    break
     return found
 
 

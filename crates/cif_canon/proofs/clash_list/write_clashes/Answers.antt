@@ -1,0 +1,19 @@
+-- The text is a fold over clashes: one more goes behind it (`item_written`), a failure leaves a front (`item_failed`).
+use Rattle.std.proofs.Common.{◌∙◌, sym}
+use Rattle.cif_columns.proofs.WrittenTexts.{item_failed, item_written, writes_err, written_nothing}
+use Rattle.cif_canon.specs.Clashes.{clash_line}
+use Rattle.cif_canon.proofs.clash_list.write_clashes.Goals as goal
+
+pub loop-clash-init : goal.loop-clash-init
+loop-clash-init g c = written_nothing _ _ _ (sym c.failed.ensures ∙ c.if-failed.false)
+
+pub loop-clash-preserved : goal.loop-clash-preserved
+loop-clash-preserved g c =
+    item_written clash_line c.args.clashes.now c.loop-clash.clash-index c.clash-item.result c.loop-clash-test.true
+    c.clash-item.is _ _ _ _ _ c.loop-clash.invariant c.in_ok-write_clash.ensures
+
+pub returns-in_err-write_clash : goal.returns-in_err-write_clash
+returns-in_err-write_clash g c =
+    writes_err _ _ _ _ _ c.from_residual.result c.from_residual.ensures.0
+    (item_failed clash_line c.args.clashes.now c.loop-clash.clash-index c.clash-item.result c.loop-clash-test.true
+    c.clash-item.is _ _ _ _ _ c.loop-clash.invariant c.in_err-write_clash.ensures)

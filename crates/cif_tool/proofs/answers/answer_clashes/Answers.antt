@@ -1,0 +1,73 @@
+-- The text is that of all clashes of what was narrowed (`clashes-answer`); each call's faults are of known bytes.
+use Rattle.std.proofs.Common.{◌≢◌, ◌∙◌, inl, inr, refl, subst, sym}
+use Rattle.std.proofs.lemmas.Result.{IfOk-weaker}
+use Rattle.cif_columns.specs.Source.{reader_of}
+use Rattle.cif_columns.proofs.GivenLinesLaws.{known_so}
+use Rattle.cif_extract.specs.ExtractParts.{extract_parts}
+use Rattle.cif_extract.specs.declared.fault.Fault.TheVariants.{Write}
+use Rattle.cif_canon.specs.Clashes.{clashes_text}
+use Rattle.cif_canon.proofs.HandedFaults.{at-fault, known-fault}
+use Rattle.cif_tool.specs.Answer.{IsClashesRefusal}
+use Rattle.cif_tool.specs.Status.{listed_status}
+use Rattle.cif_tool.proofs.Answered.{fails-silently, fails-to-write, flushed, only-write}
+use Rattle.cif_tool.proofs.KnownAnswers.{clashes-answer}
+use Rattle.cif_tool.proofs.answers.answer_clashes.Goals as goal
+
+pub returns-in_err-extract-clause-fault : goal.returns-in_err-extract-clause-fault
+returns-in_err-extract-clause-fault g c =
+    let after = g.R.Read.remaining (reader_of c.read_extract.new.source) in
+    known-fault c.from_residual-in_err-extract.result c.in_err-extract.field-0.0 c.from_residual-in_err-extract.ensures.1 _ _
+    (λ bytes. IsClashesRefusal c.args.asked.now bytes after)
+    (λ bytes spelled. inr (extract_parts c.in_ok-whole.whole, spelled, inl c.in_err-extract.ensures.fault))
+    c.in_ok-whole.ensures.ok
+
+pub returns-in_err-found-clause-answer : goal.returns-in_err-found-clause-answer
+returns-in_err-found-clause-answer g c =
+    let call = c.from_residual-in_err-found in
+    let f = c.in_err-found.field-0.0 in
+    fails-silently _ _ _ c.args.sink.now call.result f (at-fault call.result f call.ensures.1)
+    (subst (λ f. f ≢ Write) (sym c.in_err-found.ensures.fault) (λ is. cc))
+
+pub returns-in_err-found-clause-fault : goal.returns-in_err-found-clause-fault
+returns-in_err-found-clause-fault g c =
+    let after = g.R.Read.remaining (reader_of c.read_extract.new.source) in
+    known-fault c.from_residual-in_err-found.result c.in_err-found.field-0.0 c.from_residual-in_err-found.ensures.1 _ _
+    (λ bytes. IsClashesRefusal c.args.asked.now bytes after)
+    (λ bytes spelled. inr (extract_parts c.in_ok-whole.whole, spelled, inr (inl c.in_err-found.ensures.fault)))
+    c.in_ok-whole.ensures.ok
+
+pub returns-in_err-write-clause-answer : goal.returns-in_err-write-clause-answer
+returns-in_err-write-clause-answer g c =
+    let call = c.from_residual-in_err-write in
+    let f = c.in_err-write.field-0.0 in
+    let made = c.in_ok-found.found in
+    let none = c.is_empty.result in
+    fails-to-write _ _ _ _ (clashes_text made) (listed_status none) c.write.new.sink call.result f
+    (at-fault call.result f call.ensures.1) c.in_err-write.ensures.fault c.in_err-write.ensures.writes
+    (clashes-answer _ (extract_parts c.in_ok-whole.whole) c.in_ok-whole.ensures.ok c.args.asked.now
+    (extract_parts c.in_ok-extract.extract) made none c.in_ok-extract.ensures.ok c.in_ok-found.ensures.all c.is_empty.ensures)
+
+pub returns-in_err-write-clause-fault : goal.returns-in_err-write-clause-fault
+returns-in_err-write-clause-fault g c =
+    let after = g.R.Read.remaining (reader_of c.read_extract.new.source) in
+    known-fault c.from_residual-in_err-write.result c.in_err-write.field-0.0 c.from_residual-in_err-write.ensures.1 _ _
+    (λ bytes. IsClashesRefusal c.args.asked.now bytes after)
+    (λ bytes spelled. inr (extract_parts c.in_ok-whole.whole, spelled, inr (inr c.in_err-write.ensures.fault)))
+    c.in_ok-whole.ensures.ok
+
+pub returns-clause-answer : goal.returns-clause-answer
+returns-clause-answer g c =
+    let made = c.in_ok-found.found in
+    let none = c.is_empty.result in
+    flushed _ _ _ _ (clashes_text made) (listed_status none) c.write.new.sink c.flushed.new.sink c.flushed.result
+    c.in_ok-write.ensures.writes c.flushed.ensures.writes
+    (IfOk-weaker c.flushed.result _ _ (λ status is. is ∙ c.listed-status.ensures) c.flushed.ensures.ok) c.flushed.ensures.fault
+    (clashes-answer _ (extract_parts c.in_ok-whole.whole) c.in_ok-whole.ensures.ok c.args.asked.now
+    (extract_parts c.in_ok-extract.extract) made none c.in_ok-extract.ensures.ok c.in_ok-found.ensures.all c.is_empty.ensures)
+
+pub returns-clause-fault : goal.returns-clause-fault
+returns-clause-fault g c =
+    let after = g.R.Read.remaining (reader_of c.read_extract.new.source) in
+    known_so _ _ _ (λ bytes spelled.
+    only-write (IsClashesRefusal c.args.asked.now bytes after) c.flushed.result c.flushed.ensures.fault
+    (inr (extract_parts c.in_ok-whole.whole, spelled, inr (inr refl)))) c.in_ok-whole.ensures.ok

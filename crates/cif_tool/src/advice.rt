@@ -1,0 +1,325 @@
+//! What `--verbose` says on standard error beyond the line that names a fault. It is said when the answer is decided
+//! and changes nothing of it.
+use crate::clash_lines::ClashLines;
+use crate::input::{AgainInput, ExtractInput};
+use crate::line_again::{LONGEST, LineAgain, line_again};
+use crate::refused_columns::columns_refused;
+use crate::words::{mistaken_date, mistaken_uid};
+use arrayvec::ArrayString;
+use cif_canon::explain_view;
+use cif_columns::{Day, LINE_WIDTH, MAX_LINES, Refusal, Sink, Source, Uid, WriteDevice, as_text};
+use cif_extract::{Clash, Extract, Fault, read_extract};
+use itoa::Buffer;
+use std::alloc::Global;
+use std::io;
+use std::rt::Files;
+
+/// Writes the parts as one line, indented by two spaces. That it can't be written changes nothing.
+fn tell<W: WriteDevice>(errors: &mut Sink<W>, parts: &[&str]) {
+    let _ = errors.write_all(b"  ");
+    for part in parts {
+        let _ = errors.write_all(part.as_bytes());
+    }
+    let _ = errors.write_all(b"\n");
+}
+
+/// Says which input it is about.
+pub(crate) fn tell_input<W: WriteDevice>(errors: &mut Sink<W>, side: &str, name: &str) {
+    tell(errors, &["in ", side, name]);
+}
+
+/// Says what helps with the fault. A job with one input has read nothing of `right`.
+pub(crate) fn advise<R: Files + Input, W: WriteDevice>(
+    alloc: Global,
+    fault: &Fault,
+    left: &ExtractInput<'_, R>,
+    right: &ExtractInput<'_, R>,
+    errors: &mut Sink<W>,
+) {
+    match fault {
+        Fault::Refused { line, why } => {
+            if right.is_touched() {
+                tell_refusal(right, *line, *why, errors);
+            } else {
+                tell_refusal(left, *line, *why, errors);
+            }
+        }
+        Fault::Read => {
+            if right.is_touched() {
+                tell_failure(alloc, right.side(), right.name(), right.failure(), errors);
+            } else {
+                tell_failure(alloc, left.side(), left.name(), left.failure(), errors);
+            }
+        }
+        Fault::OutsideWindow => {
+            tell_window(left, errors);
+            tell_window(right, errors);
+        }
+        Fault::WindowsDiffer => {
+            tell_window(left, errors);
+            tell_window(right, errors);
+            tell(errors, &["--common compares the dates that both have"]);
+        }
+        Fault::WindowReversed => tell(errors, &["the date of --from is after the date of --to"]),
+        Fault::Ambiguous(clash) => {
+            if !tell_clash(alloc, clash, left, errors) && !tell_clash(alloc, clash, right, errors) {
+                tell_explain(clash, errors);
+            }
+        }
+        Fault::Write | Fault::Memory => {}
+    }
+}
+
+/// Says what wasn't read or written, and why if the system told it.
+pub(crate) fn tell_failure<W: WriteDevice>(
+    alloc: Global,
+    side: &str,
+    name: &str,
+    failure: Option<io::Error>,
+    errors: &mut Sink<W>,
+) {
+    let reason = match failure {
+        Some(error) => error.to_string(alloc).ok(),
+        None => None,
+    };
+    match reason {
+        Some(reason) => tell(errors, &["in ", side, name, ": ", reason.as_str()]),
+        None => tell_input(errors, side, name),
+    }
+}
+
+/// Says the window of the input, if it begins with a header.
+pub(crate) fn tell_window<R: Files + Input, W: WriteDevice>(
+    input: &ExtractInput<'_, R>,
+    errors: &mut Sink<W>,
+) {
+    if let Some(header) = input.header() {
+        let first = header.first.to_yymmdd();
+        let last = header.last.to_yymmdd();
+        tell(
+            errors,
+            &[
+                input.side(),
+                input.name(),
+                " has the window ",
+                as_text(&first),
+                " to ",
+                as_text(&last),
+            ],
+        );
+    }
+}
+
+// ---- a clash
+
+/// Says which records of the input clash, if it can be read again; the answer is whether there are any.
+fn tell_clash<R: Files + Input, W: WriteDevice>(
+    alloc: Global,
+    clash: &Clash,
+    input: &ExtractInput<'_, R>,
+    errors: &mut Sink<W>,
+) -> bool {
+    let Some(extract) = extract_again(alloc, input) else {
+        return false;
+    };
+    let mut lines = ClashLines::new(errors, input.side(), input.name());
+    let _ = explain_view(
+        alloc,
+        &extract,
+        uid_of(clash),
+        day_of(clash),
+        &mut Sink::new(&mut lines),
+    );
+    lines.found()
+}
+
+/// Says how to list the records that clash.
+fn tell_explain<W: WriteDevice>(clash: &Clash, errors: &mut Sink<W>) {
+    let uid = uid_of(clash).write();
+    let date = day_of(clash).to_yymmdd();
+    tell(
+        errors,
+        &[
+            "to list the records that clash: cif explain '",
+            as_text(&uid),
+            "' ",
+            as_text(&date),
+        ],
+    );
+}
+
+/// The train whose explanation shows the clash.
+fn uid_of(clash: &Clash) -> &Uid {
+    match clash {
+        Clash::Association(key, _) => &key.base,
+        Clash::Train(uid, _) => uid,
+    }
+}
+
+fn day_of(clash: &Clash) -> Day {
+    match clash {
+        Clash::Association(_, day) | Clash::Train(_, day) => *day,
+    }
+}
+
+/// The extract, read again from a file.
+fn extract_again<R: Files + Input>(alloc: Global, input: &ExtractInput<'_, R>) -> Option<Extract> {
+    let again = AgainInput {
+        file: input.again()?,
+    };
+    read_extract(alloc, &mut Source::new(again), MAX_LINES).ok()
+}
+
+/// Says which date of the words is mistaken.
+pub(crate) fn advise_on_date<W: WriteDevice>(
+    alloc: Global,
+    words: &[String],
+    errors: &mut Sink<W>,
+) {
+    if let Some(word) = mistaken_date(alloc, words) {
+        tell(
+            errors,
+            &[
+                "'",
+                shown(word.as_bytes()).as_str(),
+                "': a date is six digits, YYMMDD",
+            ],
+        );
+    }
+}
+
+/// Says which UID of the words is mistaken.
+pub(crate) fn advise_on_uid<W: WriteDevice>(alloc: Global, words: &[String], errors: &mut Sink<W>) {
+    if let Some(word) = mistaken_uid(alloc, words) {
+        tell(
+            errors,
+            &[
+                "'",
+                shown(word.as_bytes()).as_str(),
+                "': a UID is six characters",
+            ],
+        );
+    }
+}
+
+// ---- a refused line
+
+const BLANKS: &str =
+    "                                                                                ";
+
+const CARETS: &str =
+    "^^^^^^^^^^^^^^^^^^^^^^^^^^^^^^^^^^^^^^^^^^^^^^^^^^^^^^^^^^^^^^^^^^^^^^^^^^^^^^^^";
+
+/// Says what is wrong with the line of this number.
+fn tell_refusal<R: Files + Input, W: WriteDevice>(
+    input: &ExtractInput<'_, R>,
+    number: u64,
+    why: Refusal,
+    errors: &mut Sink<W>,
+) {
+    tell_input(errors, input.side(), input.name());
+    if number == 1 {
+        if let Some(format) = format_of(input.start()) {
+            tell(errors, &["the input looks like ", format]);
+            return;
+        }
+    }
+    match why {
+        Refusal::Truncated => tell(errors, &["the input ends before its trailer, ZZ"]),
+        Refusal::TooManyLines => tell_limit(errors),
+        _ => {
+            if let Some(line) = refused_line(input, number) {
+                tell_line(&line, why, errors);
+            }
+        }
+    }
+}
+
+/// Says how many lines an extract may have.
+fn tell_limit<W: WriteDevice>(errors: &mut Sink<W>) {
+    let mut limit = Buffer::new();
+    tell(
+        errors,
+        &["an extract has at most ", limit.format(MAX_LINES), " lines"],
+    );
+}
+
+/// What an input that begins so looks like, where that is no extract.
+fn format_of(start: &[u8]) -> Option<&'static str> {
+    match start {
+        [0x1F, 0x8B, ..] => Some("gzip: decompress it first"),
+        [b'P', b'K', 3, 4, ..] => Some("a zip archive: extract it first"),
+        [0xEF, 0xBB, 0xBF, ..] => Some("text with a byte order mark: remove its first three bytes"),
+        [0xFF, 0xFE, ..] | [0xFE, 0xFF, ..] => Some("UTF-16: convert it to ASCII first"),
+        [b'{', ..] | [b'[', ..] => Some("JSON: take the feed in the CIF format"),
+        [b'/', b'!', b'!', ..] => Some(
+            "a derived file: remove its comment lines, which begin with /!!",
+        ),
+        _ => None,
+    }
+}
+
+/// The line of this number, if it is still known: of a file, or the first of the standard input.
+fn refused_line<R: Files + Input>(input: &ExtractInput<'_, R>, number: u64) -> Option<LineAgain> {
+    if let Some(mut file) = input.again() {
+        return line_again(&mut file, number);
+    }
+    if number == 1 {
+        line_again(&mut input.start(), number)
+    } else {
+        None
+    }
+}
+
+/// Says the line, which of its columns are refused, and what must stand there.
+fn tell_line<W: WriteDevice>(line: &LineAgain, why: Refusal, errors: &mut Sink<W>) {
+    tell(errors, &[shown(line.bytes.as_slice()).as_str()]);
+    if why == Refusal::BadLength {
+        tell_length(line, errors);
+    } else if let Some(refused) = columns_refused(line.bytes.as_slice(), why) {
+        let before = refused.first.saturating_sub(1);
+        let blanks = BLANKS.get(..before).unwrap_or("");
+        let carets = CARETS.get(before..refused.last).unwrap_or("");
+        tell(errors, &[blanks, carets]);
+        let mut first = Buffer::new();
+        let mut last = Buffer::new();
+        let first = first.format(refused.first);
+        let last = last.format(refused.last);
+        if refused.first == refused.last {
+            tell(errors, &["column ", first, ": ", refused.what]);
+        } else {
+            tell(errors, &["columns ", first, "-", last, ": ", refused.what]);
+        }
+    }
+}
+
+/// Says how long the line is.
+fn tell_length<W: WriteDevice>(line: &LineAgain, errors: &mut Sink<W>) {
+    if line.length == LONGEST {
+        tell(errors, &["the line has thousands of columns, not 80"]);
+    } else {
+        let mut length = Buffer::new();
+        tell(
+            errors,
+            &[
+                "the line has ",
+                length.format(line.length),
+                " columns, not 80",
+            ],
+        );
+    }
+}
+
+/// The bytes as text, with a question mark for each that isn't printable.
+fn shown(bytes: &[u8]) -> ArrayString<LINE_WIDTH> {
+    let mut text = ArrayString::new();
+    for byte in bytes {
+        let shown = if (0x20..=0x7E).contains(byte) {
+            char::from(*byte)
+        } else {
+            '?'
+        };
+        let _ = text.try_push(shown);
+    }
+    text
+}

@@ -1,0 +1,72 @@
+//! Two extracts, in a window that is asked for of both.
+ghost use Rattle.std.specs.Prelude.{◌≡◌, ◌≢◌, IfErr, IfOk, IfSome};
+ghost use Rattle.cif_columns.specs.Source.{reader_of};
+ghost use Rattle.cif_extract.specs.ExtractParts.{extract_parts};
+ghost use Rattle.cif_extract.specs.ReadFault.{LeavesNothing};
+ghost use Rattle.cif_extract.specs.declared.fault.Fault.TheVariants.{Write};
+ghost use Rattle.cif_canon.specs.Asked.{IsNarrowed, IsNarrowingFault};
+ghost use Rattle.cif_tool.specs.Answer.{ReadsBoth};
+ghost use Rattle.cif_tool.specs.Pair.{IsCompareRefusal, ReadAsPair, asked_of_both};
+
+use cif_canon::{Asked, narrow};
+use cif_columns::{MAX_LINES, ReadDevice, Source};
+use cif_extract::{Extract, Fault, read_extract};
+use std::alloc::Global;
+
+/// The extracts of two sources, narrowed to what is asked for of both. The right one isn't touched
+/// before the left one is read to its end and no line of it is refused.
+pub(crate) fn read_pair<R: ReadDevice>(
+    alloc: Global,
+    left: &mut Source<R>,
+    right: &mut Source<R>,
+    asked: &Asked,
+    common: bool,
+) -> Result<(Extract, Extract), Fault>
+    ensures ok { IfOk result (λ pair. ReadAsPair asked.now common
+        (R.remaining (reader_of left.old)) (R.remaining (reader_of right.old))
+        (extract_parts pair.0) (extract_parts pair.1)) }
+    ensures fault { IfErr result (λ fault. IfSome (R.remaining (reader_of left.old)) (λ bytes.
+        IsCompareRefusal asked.now common bytes (R.remaining (reader_of left.new))
+        (right.new ≡ right.old) (R.remaining (reader_of right.old))
+        (R.remaining (reader_of right.new)) fault)) }
+    ensures silent { IfErr result (λ fault. fault ≢ Write) }
+    ensures sources { ReadsBoth R.read_errors left.old left.new right.old right.new result }
+    ensures left_end { LeavesNothing R.remaining left.old left.new result }
+    ensures right_end { LeavesNothing R.remaining right.old right.new result }
+{
+    let left = read_extract(alloc, left, MAX_LINES)?;
+    let right = read_extract(alloc, right, MAX_LINES)?;
+    let asked = asked_of_both(asked, common, &left, &right);
+    let left = narrowed(left, &asked)?;
+    let right = narrowed(right, &asked)?;
+    Ok((left, right))
+}
+
+/// What is asked for of two extracts.
+fn asked_of_both(asked: &Asked, common: bool, left: &Extract, right: &Extract) -> Asked
+    ensures { result ≡ asked_of_both common asked.now
+        (extract_parts left.now) (extract_parts right.now) }
+{
+    if common {
+        Asked {
+            from: Some(
+                asked
+                    .from
+                    .unwrap_or(left.header.first.max(right.header.first)),
+            ),
+            to: Some(asked.to.unwrap_or(left.header.last.min(right.header.last))),
+        }
+    } else {
+        *asked
+    }
+}
+
+/// The extract, narrowed to the window that is asked for.
+pub(crate) fn narrowed(mut extract: Extract, asked: &Asked) -> Result<Extract, Fault>
+    ensures ok { IfOk result (λ narrowed.
+        IsNarrowed asked.now (extract_parts extract) (extract_parts narrowed)) }
+    ensures fault { IfErr result (IsNarrowingFault asked.now extract.header) }
+{
+    narrow(&mut extract, asked)?;
+    Ok(extract)
+}
