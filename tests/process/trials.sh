@@ -309,13 +309,13 @@ each_end() {
     done
 }
 
-# bytewise ROW: each read and each write of the row moves one byte; if its inputs are accepted, the library says so for
-# each call
+# bytewise ROW: each read and each write of the row moves one byte; if its inputs are accepted, and nothing goes to the
+# standard error, the library says so for each call
 bytewise() {
     choose "$1"
     hostile HOSTILE_MOST=1
     owes "each call moves one byte" gives_answer '*[rwz]'
-    if [ "$wanted" -gt 1 ] || [ ! -e "$row/stdout" ]; then
+    if [ "$wanted" -gt 1 ] || [ ! -e "$row/stdout" ] || [ -s "$row/stderr" ]; then
         return
     fi
     count=0
