@@ -1,15 +1,14 @@
-//! Laws for proofs: what a calendar says of a key, and when lists of entries say the same.
+//! A law: what a calendar says of a key.
 ghost use Rattle.std.specs.Prelude.{◌≡◌, ◌↔◌, ◌≤◌, ℕ};
 ghost use Rattle.std.specs.Prelude.{List, Option, Some, IsSome, map, slice_get};
-ghost use Rattle.cif_calendar.specs.Terms.{Terms, AreLawful};
+ghost use Rattle.cif_calendar.specs.Terms.{Terms};
 ghost use Rattle.cif_calendar.specs.Wins.{Wins};
 ghost use Rattle.cif_calendar.specs.Clash.{IsClearFrom};
-ghost use Rattle.cif_calendar.specs.Runs.{Runs, BodyRuns, NothingRuns};
+ghost use Rattle.cif_calendar.specs.Runs.{Runs};
 ghost use Rattle.cif_calendar.specs.Source.{IsChosen};
 ghost use Rattle.cif_calendar.specs.Pieces.{source_at};
 ghost use Rattle.cif_calendar.specs.Calendar.{CalendarParts, IsCalendar, IsFault, body_on};
 ghost use Rattle.cif_calendar.specs.Keys.{keyed, of_key, ArePositionsOf};
-ghost use Rattle.cif_calendar.specs.Meaning.{SameMeaning};
 ghost use Rattle.cif_calendar.specs.declared.calendar_fault.CalendarFault.{CalendarFault};
 
 use crate::entry::Entry;
@@ -43,27 +42,4 @@ pub fn calendar_of_a_key<E: Entry>()
         → ArePositionsOf (keyed E.key E.terms entries) k members
         → IsFault (IsChosen (map E.terms entries) members) first last fault
         → IsFault (of_key (keyed E.key E.terms entries) k) first last fault }
-{}
-
-/// Of a key without entries nothing runs.
-pub fn key_without_entries<K, B>()
-    ensures idle { (entries : List (K × Terms B)) (k : K) (d : ℕ)
-        → ((r : Terms B) → ¬ of_key entries k r) → NothingRuns (of_key entries k) d }
-    // So none of its dates has a clash.
-    ensures clear { (entries : List (K × Terms B)) (k : K) (first last : ℕ)
-        → ((r : Terms B) → ¬ of_key entries k r) → IsClearFrom (of_key entries k) first last }
-{}
-
-/// The cancellations of entries, and they alone, have no body.
-pub fn entries_are_lawful<E: Entry>()
-    ensures { (entries : List E) (k : E.Key) → AreLawful (of_key (keyed E.key E.terms entries) k) }
-{}
-
-/// Lists of lawful records say the same where the same bodies run for each key on each date.
-pub fn bodies_determine_the_meaning<K, B>()
-    ensures { (xs ys : List (K × Terms B)) (first last : ℕ)
-        → ((k : K) → AreLawful (of_key xs k)) → ((k : K) → AreLawful (of_key ys k))
-        → ((k : K) (d : ℕ) (b : B) → first ≤ d → d ≤ last
-        → BodyRuns (of_key xs k) d b ↔ BodyRuns (of_key ys k) d b)
-        → SameMeaning xs ys first last }
 {}

@@ -1,22 +1,13 @@
-//! Laws for proofs: how values are ordered, what lines stand in a text of lines, and how many lines
-//! may be asked for.
-ghost use Rattle.std.specs.Prelude.{◌≡◌, ◌↔◌, ◌≤◌, ℕ, All, Bool, IsTrue, List, length};
+//! Laws: how values are ordered, and how many lines may be asked for.
+ghost use Rattle.std.specs.Prelude.{◌≡◌, ◌↔◌, ◌≤◌, ℕ, IsTrue, List, length};
 ghost use Rattle.std.specs.Cmp.Lexicographic.{slice_cmp};
 ghost use Rattle.std.specs.Ordering.{nat_cmp};
-ghost use Rattle.cif_columns.specs.Contents.{contents_of, lines_text};
-ghost use Rattle.cif_columns.specs.Line.{IsLine};
 ghost use Rattle.cif_columns.specs.Text.{IsText, left_justified as justified};
 ghost use Rattle.cif_columns.specs.declared.line_reader.TheConstants.{MAX_LINES};
 
 use crate::day::Day;
-use crate::days_run::DaysRun;
 use crate::text::Text;
 use crate::uid::Uid;
-
-/// The contents of lines that each end with a line feed are the lines.
-pub fn contents_of_lines()
-    ensures { (lines : List (List ℕ)) → All IsLine lines → contents_of (lines_text lines) ≡ lines }
-{}
 
 /// The most lines that may be asked for.
 pub fn most_lines()
@@ -33,11 +24,6 @@ pub fn order_of_days()
 pub fn order_of_uids()
     ensures equality { (a b : List ℕ) → IsTrue (⟦<Uid as PartialEq>⟧.eq a b) ↔ (a ≡ b) }
     ensures order { (a b : List ℕ) → ⟦<Uid as Ord>⟧.cmp a b ≡ slice_cmp nat_cmp a b }
-{}
-
-/// Masks are equal where their weekdays are.
-pub fn equality_of_days_runs()
-    ensures { (a b : List Bool) → IsTrue (⟦<DaysRun as PartialEq>⟧.eq a b) ↔ (a ≡ b) }
 {}
 
 /// Texts compare as their columns do, whatever the width.

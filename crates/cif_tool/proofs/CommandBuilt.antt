@@ -1,12 +1,12 @@
 -- A command that is built call by call is the one that the definition says.
-use Rattle.std.proofs.Common.{◌≡◌, ◌∙◌, Some, true, false, refl, ap, ap₂, ◌||◌}
+use Rattle.std.proofs.Common.{◌≡◌, ◌∙◌, Some, codes, true, false, refl, ap, ap₂, ◌||◌}
 use Rattle.std.specs.Borrow.{Bor}
 use Rattle.clap.specs.Words.{AddsArg, AddsSubcommand, App, Rule, Text, app_of, is_simple, is_simple_and_free, new_app, rule_of, with_rule, with_subcommand}
 use Rattle.clap.specs.Simple.{app_of_fields}
 use Rattle.clap.specs.declared.Command.{Command}
 use Rattle.clap.specs.declared.builder.arg.Arg.{Arg}
 use Rattle.clap.specs.declared.Command.TheViews.{out-Command}
-use Rattle.cif_tool.specs.CommandLine.{Forms, IsCommand, cif, program, with_dates}
+use Rattle.cif_tool.specs.CommandLine.{Forms, IsCommand, cif, program, with_dates, with_extract_commands, with_train_commands}
 
 -- `clap` says exactly what it makes of the command's words
 pub is_simple_cif : (forms : Forms) → is_simple (cif forms) ≡ true
@@ -39,6 +39,10 @@ program_made name version about after new named versioned told more requires mad
       ∙ ap (λ f. f.has_globals) n ∙ none;
 }
 
+-- a command is built as itself
+pub itself_made : (c : Command) → (out-Command c).has_globals ≡ false → IsCommand (app_of c) c
+itself_made c none = record { app = refl; local = none }
+
 -- one more subcommand
 pub subcommand_added : (a s : App) (old sub new : Command) → IsCommand a old → IsCommand s sub → AddsSubcommand old sub new
     → IsCommand (with_subcommand a s.top) new
@@ -53,6 +57,16 @@ pub argument_added : (a : App) (r : Rule) (old : Command) (x : Arg) (new : Comma
 argument_added a r old x new is_old rule local added = record {
   app = added.shape local ∙ ap₂ with_rule is_old.app rule;
   local = added.globals ∙ ap₂ (λ x y. x || y) is_old.local local;
+}
+
+-- the program with its subcommands
+pub commands_added : (forms : Forms) (made more all : Command) → IsCommand (program (codes "cif")) made
+    → IsCommand (with_extract_commands forms (app_of made)) more → IsCommand (with_train_commands forms (app_of more)) all
+    → IsCommand (cif forms) all
+unfolding cif
+commands_added forms made more all is_made is_more is_all = record {
+  app = is_all.app ∙ ap (with_train_commands forms) (is_more.app ∙ ap (with_extract_commands forms) is_made.app);
+  local = is_all.local;
 }
 
 -- the options for a narrower window

@@ -82,14 +82,22 @@ clashes = with_dates (with_rule (subcommand (codes "clashes")) (optional (codes 
 abbrev pub program : Text → App
 program name = let made = new_app name in record made { top = record made.top { has_version = true; subcommand_required = true } }
 
--- the program `cif` with its eight subcommands
-unfoldable pub cif : Forms → App
-cif forms = with_subcommand (with_subcommand (with_subcommand (with_subcommand (with_subcommand (with_subcommand (with_subcommand
-    (with_subcommand (program (codes "cif"))
+-- with the subcommands about whole extracts
+abbrev pub with_extract_commands : Forms → App → App
+with_extract_commands forms a = with_subcommand (with_subcommand (with_subcommand (with_subcommand a
     (canonical (codes "normalise") forms).top)
     (canonical (codes "check") forms).top)
     (of_two_files (codes "compare")).top)
-    (of_two_files (codes "diff")).top) day.top) (train forms).top) explain.top) clashes.top
+    (of_two_files (codes "diff")).top
+
+-- with the subcommands about trains, dates and clashes
+abbrev pub with_train_commands : Forms → App → App
+with_train_commands forms a =
+    with_subcommand (with_subcommand (with_subcommand (with_subcommand a day.top) (train forms).top) explain.top) clashes.top
+
+-- the program `cif` with its eight subcommands
+unfoldable pub cif : Forms → App
+cif forms = with_train_commands forms (with_extract_commands forms (program (codes "cif")))
 
 -- the command is built as `a` says, and no argument is global
 pub record IsCommand (a : App) (c : Command) : Type 0 where

@@ -1,11 +1,12 @@
 //! The command line of `cif`.
-ghost use Rattle.std.specs.Prelude.{◌≡◌, IfOk, false, map, string_bytes};
+ghost use Rattle.std.specs.Prelude.{◌≡◌, IfOk, codes, false, map, string_bytes};
 ghost use Rattle.clap.specs.Words.{FailsBy, app_of, rule_of, subcommand_rows_of};
 ghost use Rattle.clap.specs.declared.Command.TheViews.{out-Command};
 ghost use Rattle.cif_tool.specs.CommandLine.{IsCommand, canonical, chosen, cif, clashes, day};
 ghost use Rattle.cif_tool.specs.CommandLine.{explain, faults_of, flag, form_option, of_two_files};
-ghost use Rattle.cif_tool.specs.CommandLine.{option, optional, required, subcommand, train};
-ghost use Rattle.cif_tool.specs.CommandLine.{with_dates};
+ghost use Rattle.cif_tool.specs.CommandLine.{option, optional, program, required, subcommand};
+ghost use Rattle.cif_tool.specs.CommandLine.{train, with_dates, with_extract_commands};
+ghost use Rattle.cif_tool.specs.CommandLine.{with_train_commands};
 
 use crate::help;
 use clap::{Arg, ArgAction, ArgMatches, Command};
@@ -155,16 +156,30 @@ fn clashes<'a>(alloc: Global) -> Result<Command<'a>, AllocError>
     with_dates(alloc, command)
 }
 
-/// The command line of `cif`, with the words that name a form.
-fn cif_command<'a>(alloc: Global, forms: &'a [&'a str]) -> Result<Command<'a>, AllocError>
-    ensures { IfOk result (IsCommand (cif forms.entry)) }
+/// The program without its subcommands.
+fn program<'a>(alloc: Global) -> Result<Command<'a>, AllocError>
+    ensures { IfOk result (IsCommand (program (codes "cif"))) }
 {
-    Command::new(alloc, "cif")
-        .bin_name("cif")?
-        .version("0.1.0")
-        .about(help::CIF)
-        .after_help(help::CIF_MORE)
-        .subcommand_required(true)
+    Ok(
+        Command::new(alloc, "cif")
+            .bin_name("cif")?
+            .version("0.1.0")
+            .about(help::CIF)
+            .after_help(help::CIF_MORE)
+            .subcommand_required(true),
+    )
+}
+
+/// The command, with the subcommands about whole extracts.
+fn with_extract_commands<'a>(
+    alloc: Global,
+    command: Command<'a>,
+    forms: &'a [&'a str],
+) -> Result<Command<'a>, AllocError>
+    requires { (out-Command command).has_globals ≡ false }
+    ensures { IfOk result (IsCommand (with_extract_commands forms.entry (app_of command.entry))) }
+{
+    command
         .subcommand(canonical(
             alloc,
             "normalise",
@@ -174,11 +189,31 @@ fn cif_command<'a>(alloc: Global, forms: &'a [&'a str]) -> Result<Command<'a>, A
         )?)?
         .subcommand(canonical(alloc, "check", help::CHECK, help::CHECK_MORE, forms)?)?
         .subcommand(of_two_files(alloc, "compare", help::COMPARE, help::COMPARE_MORE)?)?
-        .subcommand(of_two_files(alloc, "diff", help::DIFF, help::DIFF_MORE)?)?
+        .subcommand(of_two_files(alloc, "diff", help::DIFF, help::DIFF_MORE)?)
+}
+
+/// The command, with the subcommands about trains, dates and clashes.
+fn with_train_commands<'a>(
+    alloc: Global,
+    command: Command<'a>,
+    forms: &'a [&'a str],
+) -> Result<Command<'a>, AllocError>
+    requires { (out-Command command).has_globals ≡ false }
+    ensures { IfOk result (IsCommand (with_train_commands forms.entry (app_of command.entry))) }
+{
+    command
         .subcommand(day(alloc)?)?
         .subcommand(train(alloc, forms)?)?
         .subcommand(explain(alloc)?)?
         .subcommand(clashes(alloc)?)
+}
+
+/// The command line of `cif`, with the words that name a form.
+fn cif_command<'a>(alloc: Global, forms: &'a [&'a str]) -> Result<Command<'a>, AllocError>
+    ensures { IfOk result (IsCommand (cif forms.entry)) }
+{
+    let command = with_extract_commands(alloc, program(alloc)?, forms)?;
+    with_train_commands(alloc, command, forms)
 }
 
 /// The matches that `clap` gives for the words, of which the first is the program's name.
