@@ -1,10 +1,13 @@
 //! The records of a train that apply on a day, with their marks.
-ghost use Rattle.std.specs.Prelude.{◌≡◌, ◌↔◌, AllPairs, Contains, IfOk, IsTrue, map};
-ghost use Rattle.std.specs.declared.cmp.Ordering.TheVariants.{Less};
+ghost use Rattle.std.specs.Prelude.{◌≡◌, ◌↔◌, ◌+◌, ◌++◌, ◌∷◌, [], ℕ, List, IfOk, IsTrue, OnOk, Some};
+ghost use Rattle.std.specs.Prelude.{length, map, slice_get};
 ghost use Rattle.cif_calendar.specs.Applies.{Applies};
-ghost use Rattle.cif_calendar.specs.Keys.{keyed, of_key};
-ghost use Rattle.cif_canon.specs.Explanation.{AreExplained, IsMarked};
-ghost use Rattle.cif_canon.specs.Steps.Explanation.{ArePlaced, placed_cmp, with_mark};
+ghost use Rattle.cif_calendar.specs.Keys.{keyed};
+ghost use Rattle.cif_calendar.specs.Terms.{Terms};
+ghost use Rattle.cif_canon.specs.Explanation.{AreExplained};
+ghost use Rattle.cif_canon.specs.Steps.Explanation.{ArePlacedBelow, ArePlacedInOrder};
+ghost use Rattle.cif_canon.specs.Steps.Explanation.{IsMarkAmong, Placed, explained_of};
+ghost use Rattle.cif_canon.specs.Steps.Explanation.{opposed, placed_at, placed_cmp, placed_of};
 
 use crate::explained_line::{explained_association, explained_train};
 use crate::mark::Mark;
@@ -74,35 +77,86 @@ impl ExplainedEntry for Schedule {
     }
 }
 
-/// A record that applies on the day.
+/// A record of the train that applies on the day.
 #[derive(Drop)]
-struct Applying<'a, E: Entry> {
+struct Applying<'a, E> {
     entry: &'a E,
-    /// Its position in the entries.
+    /// Its position among the entries.
     place: usize,
 }
 
-/// A record that applies on the day, with its mark.
+/// A record of the train that applies on the day, with its mark.
 #[derive(Drop)]
-pub(crate) struct Marked<'a, E: Entry> {
+pub(crate) struct Marked<'a, E> {
     pub(crate) entry: &'a E,
+    /// Its position among the entries.
+    pub(crate) place: usize,
     pub(crate) mark: Mark,
 }
 
-/// Whether the record applies on the day.
-fn applies_on<E: Entry>(entry: &E, day: Day) -> bool
-    ensures { IsTrue result ↔ Applies (E.terms entry.now) day }
+/// Whether it is a record of the train that applies on the day.
+fn is_applying<E: ExplainedEntry>(entry: &E, uid: &Uid, day: Day) -> bool
+    ensures { IsTrue result ↔
+        ((E.train_of (E.key entry.now) ≡ uid.now) × Applies (E.terms entry.now) day) }
 {
-    entry.first() <= day && day <= entry.last() && entry.days().has(day.weekday())
+    entry.train() == uid
+        && entry.first() <= day
+        && day <= entry.last()
+        && entry.days().has(day.weekday())
 }
 
 /// By key, then by letter, then by place.
-fn order<E: Entry>(one: &Applying<'_, E>, other: &Applying<'_, E>) -> Ordering {
+fn order<E: Entry>(one: &Applying<'_, E>, other: &Applying<'_, E>) -> Ordering
+    ensures { result ≡ placed_cmp E.Key.cmp
+        (placed_of E.key E.terms one.now) (placed_of E.key E.terms other.now) }
+{
+    let by_letter = one
+        .entry
+        .letter()
+        .write()
+        .cmp(&other.entry.letter().write());
     one.entry
         .key()
         .cmp(other.entry.key())
-        .then(one.entry.letter().cmp(&other.entry.letter()))
-        .then(one.place.cmp(&other.place))
+        .then(by_letter.then(one.place.cmp(&other.place)))
+}
+
+/// Appends the entry at `place` if it is a record of the train that applies on the day.
+fn push_applying<'a, E: ExplainedEntry>(
+    applying: &mut Vec<Applying<'a, E>>,
+    entry: &'a E,
+    place: usize,
+    uid: &Uid,
+    day: Day,
+) -> Result<(), AllocError>
+    ensures { OnOk result ((entries : List (E.Key × Terms E.Body)) →
+        slice_get entries place ≡ Some (E.key entry.now, E.terms entry.now) →
+        ArePlacedBelow E.train_of entries uid.now day place
+        (map (placed_of E.key E.terms) applying.old.items) →
+        ArePlacedBelow E.train_of entries uid.now day (place + 1)
+        (map (placed_of E.key E.terms) applying.new.items)) }
+{
+    if is_applying(entry, uid, day) {
+        applying.push(Applying { entry, place })?;
+    }
+    Ok(())
+}
+
+/// The records of the train that apply on the day, in the order of the entries.
+fn applying_records<'a, E: ExplainedEntry>(
+    alloc: Global,
+    entries: &'a [E],
+    uid: &Uid,
+    day: Day,
+) -> Result<Vec<Applying<'a, E>>, AllocError>
+    ensures { IfOk result (λ applying. ArePlacedBelow E.train_of (keyed E.key E.terms entries.now)
+        uid.now day (length entries.now) (map (placed_of E.key E.terms) applying.items)) }
+{
+    let mut applying = Vec::new(alloc);
+    for (place, entry) in entries.iter().enumerate() {
+        push_applying(&mut applying, entry, place, uid, day)?;
+    }
+    Ok(applying)
 }
 
 /// The records of the train that apply on the day, by key, letter and place.
@@ -111,29 +165,57 @@ fn records_on<'a, E: ExplainedEntry>(
     entries: &'a [E],
     uid: &Uid,
     day: Day,
-) -> Result<Vec<Applying<'a, E>>, AllocError> {
-    let mut applying = Vec::new(alloc);
-    for (place, entry) in entries.iter().enumerate() {
-        if entry.train() == uid && applies_on(entry, day) {
-            applying.push(Applying { entry, place })?;
-        }
-    }
+) -> Result<Vec<Applying<'a, E>>, AllocError>
+    ensures { IfOk result (λ applying. ArePlacedInOrder E.Key.cmp E.train_of
+        (keyed E.key E.terms entries.now) uid.now day
+        (map (placed_of E.key E.terms) applying.items)) }
+{
+    let mut applying = applying_records(alloc, entries, uid, day)?;
     applying.sort_by(|one, other| order(one, other))?;
     Ok(applying)
 }
 
-/// The mark of one of the records that apply on the day.
-fn mark_of<E: Entry>(applying: &[Applying<'_, E>], one: &E) -> Mark {
+/// The mark beside another winner with another body.
+fn opposed(mark: Mark) -> Mark
+    ensures { result ≡ opposed mark }
+{
+    match mark {
+        Mark::Wins => Mark::Clash,
+        _ => mark,
+    }
+}
+
+/// The mark of a record once one more of those that apply is looked at.
+fn mark_beside<E: Entry>(mark: Mark, one: &E, other: &E) -> Mark
+    ensures { (place at : ℕ) (seen : List (Placed E.Key E.Body)) →
+        IsMarkAmong seen (placed_at place (E.key one.now) (E.terms one.now)) mark →
+        IsMarkAmong (seen ++ (placed_at at (E.key other.now) (E.terms other.now) ∷ []))
+        (placed_at place (E.key one.now) (E.terms one.now)) result }
+{
+    if other.key() != one.key() {
+        return mark;
+    }
+    let (letter, other_letter) = (one.letter().write(), other.letter().write());
+    if other_letter < letter {
+        return Mark::Hidden;
+    }
+    if other_letter != letter {
+        return mark;
+    }
+    if same_body(other, one) {
+        return mark;
+    }
+    opposed(mark)
+}
+
+/// The mark of a record among those that apply.
+fn mark_of<E: Entry>(applying: &[Applying<'_, E>], one: &E) -> Mark
+    ensures { (place : ℕ) → IsMarkAmong (map (placed_of E.key E.terms) applying.now)
+        (placed_at place (E.key one.now) (E.terms one.now)) result }
+{
     let mut mark = Mark::Wins;
     for other in applying {
-        if other.entry.key() == one.key() {
-            if other.entry.letter() < one.letter() {
-                return Mark::Hidden;
-            }
-            if other.entry.letter() == one.letter() && !same_body(other.entry, one) {
-                mark = Mark::Clash;
-            }
-        }
+        mark = mark_beside(mark, one, other.entry);
     }
     mark
 }
@@ -145,12 +227,17 @@ pub(crate) fn marked_records<'a, E: ExplainedEntry>(
     entries: &'a [E],
     uid: &Uid,
     day: Day,
-) -> Result<Vec<Marked<'a, E>>, AllocError> {
+) -> Result<Vec<Marked<'a, E>>, AllocError>
+    ensures { IfOk result (λ marked. AreExplained E.Key.cmp E.train_of
+        (keyed E.key E.terms entries.now) uid.now day
+        (map (explained_of E.key E.terms) marked.items)) }
+{
     let applying = records_on(alloc, entries, uid, day)?;
     let mut marked = Vec::with_capacity(alloc, applying.len())?;
     for one in applying.as_slice() {
         marked.push(Marked {
             entry: one.entry,
+            place: one.place,
             mark: mark_of(applying.as_slice(), one.entry),
         })?;
     }
