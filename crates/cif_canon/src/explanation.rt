@@ -1,11 +1,11 @@
 //! Why a train does or doesn't run on a day.
 ghost use Rattle.std.specs.Prelude.{ℕ, List, IfErr};
+ghost use Rattle.std.specs.List.{flat_map};
 ghost use Rattle.cif_columns.specs.Sink.{Writes};
 ghost use Rattle.cif_extract.specs.ExtractParts.{extract_parts};
-ghost use Rattle.cif_weeks.specs.Window.{IsWithin};
-ghost use Rattle.cif_canon.specs.Asked.{header_window};
-ghost use Rattle.cif_canon.specs.Explanation.{IsExplanationFault};
+ghost use Rattle.cif_canon.specs.Explanation.{IsExplanation, IsExplanationFault};
 ghost use Rattle.cif_canon.specs.Normalised.{FaultWrites, IfWritten};
+ghost use Rattle.cif_canon.specs.Steps.Explanation.{explained_of};
 
 use crate::asked::check_within;
 use crate::explained::{ExplainedEntry, Marked, marked_records};
@@ -29,7 +29,7 @@ pub fn explain_view<W: WriteDevice>(
 ) -> Result<(), Fault>
     ensures view { (text : List ℕ)
         × FaultWrites W.contents W.write_errors text sink.old sink.new result
-        × IfWritten result (IsWithin (header_window extract.now.header) day) }
+        × IfWritten result (IsExplanation (extract_parts extract.now) uid.now day text) }
     ensures fault { IfErr result (IsExplanationFault (extract_parts extract.now) day) }
 {
     check_within(&extract.header, day)?;
@@ -49,7 +49,9 @@ fn write_marked<E: ExplainedEntry, W: WriteDevice>(
     marked: &[Marked<'_, E>],
     sink: &mut Sink<W>,
 ) -> Result<(), WriteFault>
-    ensures { (text : List ℕ) × Writes W.contents W.write_errors text sink.old sink.new result }
+    ensures { Writes W.contents W.write_errors
+        (flat_map (λ one. E.line (explained_of E.key E.terms one)) marked.now)
+        sink.old sink.new result }
 {
     // Where no record applies, no write would tell it.
     if sink.failed() {

@@ -1,19 +1,31 @@
--- One more line goes behind what is written, and a failure leaves a prefix of it.
-use Rattle.std.proofs.Common.{◌∙◌, ◌++◌, [], sym}
-use Rattle.cif_columns.proofs.WrittenTexts.{failed_second, writes_err, written_both, written_nothing}
+-- The text is a fold over the records: one more line goes behind it (`item_written`), and a failure leaves a prefix.
+use Rattle.std.proofs.Common.{◌≡◌, ◌∙◌, sym, subst}
+use Rattle.cif_columns.specs.Sink.{HasFailed, HasWritten}
+use Rattle.cif_columns.proofs.WrittenTexts.{item_failed, item_written, writes_err, written_nothing}
+use Rattle.cif_canon.specs.Steps.Explanation.{explained_of}
+use Rattle.cif_canon.proofs.explanation.write_marked.Given.{Over}
 use Rattle.cif_canon.proofs.explanation.write_marked.Goals as goal
+use Rattle.cif_canon.proofs.explanation.write_marked.Goals.{After-as_bytes}
+
+-- the bytes are the record's line
+line-bytes : (g : Over) (c : After-as_bytes g)
+    → c.as_bytes.result.now ≡ g.E.ExplainedEntry.line (explained_of g.E.Entry.key g.E.Entry.terms c.one-item.result)
+line-bytes g c = c.as_bytes.ensures.value ∙ c.as_str.ensures.value ∙ c.line.ensures c.one-item.result.place
 
 pub loop-one-init : goal.loop-one-init
-loop-one-init g c = ([], written_nothing _ _ _ (sym c.failed.ensures ∙ c.if-failed.false))
+loop-one-init g c = written_nothing _ _ _ (sym c.failed.ensures ∙ c.if-failed.false)
 
 pub loop-one-preserved : goal.loop-one-preserved
 loop-one-preserved g c =
-    (c.loop-one.invariant.0 ++ _, written_both _ _ c.loop-one.invariant.0 _ _ _ _ c.loop-one.invariant.1 c.in_ok-write_all.ensures)
+    item_written (λ one. g.E.ExplainedEntry.line (explained_of g.E.Entry.key g.E.Entry.terms one)) c.args.marked.now
+    c.loop-one.one-index c.one-item.result c.loop-one-test.true c.one-item.is _ _ _ _ _ c.loop-one.invariant
+    (subst (λ t. HasWritten g.W.Write.contents g.W.WriteDevice.write_errors t c.loop-one.sink c.write_all.new.self)
+    (line-bytes g (goal.at.loop-one-preserved g c).After-as_bytes) c.in_ok-write_all.ensures)
 
 pub returns-in_err-write_all : goal.returns-in_err-write_all
 returns-in_err-write_all g c =
-    let written = c.loop-one.invariant in (
-      written.0 ++ _,
-      writes_err _ _ _ _ _ c.from_residual.result c.from_residual.ensures.0
-          (failed_second _ _ written.0 _ _ _ _ written.1 c.in_err-write_all.ensures),
-    )
+    writes_err _ _ _ _ _ c.from_residual.result c.from_residual.ensures.0
+    (item_failed (λ one. g.E.ExplainedEntry.line (explained_of g.E.Entry.key g.E.Entry.terms one)) c.args.marked.now
+    c.loop-one.one-index c.one-item.result c.loop-one-test.true c.one-item.is _ _ _ _ _ c.loop-one.invariant
+    (subst (λ t. HasFailed g.W.Write.contents g.W.WriteDevice.write_errors t c.loop-one.sink c.write_all.new.self)
+    (line-bytes g (goal.at.returns-in_err-write_all g c).After-as_bytes) c.in_err-write_all.ensures))

@@ -1,8 +1,12 @@
--- Some text is written.
-use Rattle.std.proofs.Common.{List, ℕ}
+-- What is written is the lines of the records so far.
+use Rattle.std.proofs.Common.{take}
+use Rattle.std.specs.List.{flat_map}
 use Rattle.cif_columns.specs.Sink.{HasWritten}
+use Rattle.cif_canon.specs.Steps.Explanation.{explained_of}
 use Rattle.cif_canon.proofs.explanation.write_marked.Given as goal
 
 abbrev pub invariant-loop-one : goal.invariant-loop-one
 invariant-loop-one g l =
-    (text : List ℕ) × HasWritten g.W.Write.contents g.W.WriteDevice.write_errors text l.initial.sink l.sink
+    HasWritten g.W.Write.contents g.W.WriteDevice.write_errors
+    (flat_map (λ one. g.E.ExplainedEntry.line (explained_of g.E.Entry.key g.E.Entry.terms one)) (take l.one-index l.marked))
+    l.initial.sink l.sink
