@@ -10,7 +10,7 @@ use Rattle.std.proofs.lemmas.Option.{same_Some}
 use Rattle.cif_calendar.specs.Entries.{association_entries, association_entry, schedule_entries, schedule_entry}
 use Rattle.cif_calendar.specs.Keys.{AreClear, IsFirstClashOf, of_key}
 use Rattle.cif_calendar.specs.Terms.{Terms}
-use Rattle.cif_calendar.proofs.Elements.{Contains-first, Contains-cases}
+use Rattle.cif_calendar.proofs.Elements.{Contains-first}
 use Rattle.cif_calendar.proofs.FirstClash.{IsFirstClashOf-clear, IsFirstClashOf-day, IsFirstClashOf-key, first_clash-clear}
 use Rattle.cif_extract.specs.ExtractParts.{ExtractParts}
 use Rattle.cif_extract.specs.declared.clash.Clash.{Clash}

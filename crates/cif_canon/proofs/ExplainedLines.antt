@@ -1,6 +1,5 @@
 -- A mark, the name of a kind and the fields of a record make a line.
 use Rattle.std.proofs.Common.{◌≡◌, ℕ, List, [], ◌∷◌, ◌++◌, Option, None, Some, refl, sym, ap, ◌∙◌, append_assoc}
-use Rattle.std.specs.Prelude.{codes}
 use Rattle.std.specs.List.{join_with_byte}
 use Rattle.cif_columns.specs.Text.{left_justified}
 use Rattle.cif_extract.specs.BodyParts.{BodyParts}

@@ -1,9 +1,8 @@
 -- The records of a train that apply on a day are found, put in order and marked one by one.
-use Rattle.std.proofs.Common.{◌≡◌, ◌≢◌, ℕ, ◌+◌, ◌<◌, ◌≤◌, List, [], ◌∷◌, ◌++◌, Option, Some, Bool, true, false, map, take, length, get_or, zero, suc, ◌⊎◌, ◌==◌}
-use Rattle.std.proofs.Common.{refl, sym, ◌∙◌, ap, ap₂, subst, arith, inl, inr, rules}
-use Rattle.std.specs.Prelude.{All, AllPairs, Contains, slice_get, ◌↔◌}
+use Rattle.std.proofs.Common.{◌≡◌, ◌≢◌, ℕ, ◌+◌, ◌<◌, ◌≤◌, List, [], ◌∷◌, ◌++◌, Some, false, map, take, length, get_or, zero, suc, ◌⊎◌, ◌==◌}
+use Rattle.std.proofs.Common.{refl, sym, ◌∙◌, ap, ap₂, subst, arith, inl, inr}
+use Rattle.std.specs.Prelude.{All, AllPairs, Contains, slice_get}
 use Rattle.std.specs.Cmp.{IsTotalOrder}
-use Rattle.std.specs.List.{IsDistinct}
 use Rattle.std.specs.List.Sorted.{IsPermutation, IsSortedBy}
 use Rattle.std.specs.Ordering.{is_lt, nat_cmp, ordering_then, ordering_reverse}
 use Rattle.std.specs.declared.cmp.Ordering.{Ordering}
@@ -15,17 +14,16 @@ use Rattle.std.proofs.lemmas.List.{get_or-map, length-map, map-append, take_more
 use Rattle.std.proofs.lemmas.Map.Keys.{IsDistinct-IsPermutation}
 use Rattle.std.proofs.lemmas.Map.Made.{AllPairs-from_IsDistinct, IsDistinct-from_AllPairs}
 use Rattle.std.proofs.lemmas.Option.{slice_get_within, some_pair_parts}
-use Rattle.std.proofs.lemmas.List.Elements.{All-append, All-cons, All-contains, All-nil, All-weaker, Contains-append_left, Contains-append_right, Contains-append_cases}
+use Rattle.std.proofs.lemmas.List.Elements.{All-append, All-cons, All-contains, All-nil, All-weaker, Contains-append_left, Contains-append_right}
 use Rattle.std.proofs.lemmas.List.Sorted.{All-permutation, Contains-permutation, IsPermutation-map, ranks_by, sorted_far}
 use Rattle.cif_calendar.specs.Applies.{Applies}
-use Rattle.cif_calendar.specs.Clash.{IsClash, IsClear}
 use Rattle.cif_calendar.specs.Keys.{of_key}
 use Rattle.cif_calendar.specs.Terms.{Terms}
 use Rattle.cif_calendar.specs.Wins.{Wins}
 use Rattle.cif_columns.specs.Stp.{letter}
 use Rattle.cif_calendar.proofs.Positions.{at-contains, contains-at}
 use Rattle.cif_weeks.proofs.JoinedLists.{AllPairs-append, AllPairs-map, Contains-from_map, Contains-map}
-use Rattle.cif_canon.specs.Explanation.{AreExplained, Explained, IsExplained, IsMarked}
+use Rattle.cif_canon.specs.Explanation.{AreExplained, Explained, IsMarked}
 use Rattle.cif_canon.specs.Steps.Explanation.{ArePlacedBelow, ArePlacedInOrder, IsAlike, IsBefore, IsLeast, IsMarkAmong, IsOpposed, IsPlaced}
 use Rattle.cif_canon.specs.Steps.Explanation.{Placed, opposed, placed_at, placed_cmp}
 use Rattle.cif_canon.specs.declared.mark.Mark.{Mark}

@@ -8,6 +8,7 @@ pub mod DifferentDays
 pub mod DifferentTiplocs
 pub mod DistinctTiplocs
 pub mod ExplainedLines
+mod ExplainedMarks
 mod ExplainedTexts
 mod Explaining
 pub mod FirstEntries

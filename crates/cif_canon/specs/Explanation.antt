@@ -1,5 +1,5 @@
 -- Why a train does or doesn't run on a day, and why its associations hold or don't: the records that apply, each with a mark.
-use Rattle.std.specs.Prelude.{◌≡◌, ⊤, ℕ, List, ◌∷◌, [], ◌++◌, Option, Some, None, AllPairs, Contains, codes, slice_get}
+use Rattle.std.specs.Prelude.{◌≡◌, ℕ, List, ◌∷◌, [], ◌++◌, Option, Some, None, AllPairs, Contains, codes, slice_get}
 use Rattle.std.specs.List.{flat_map}
 use Rattle.std.specs.Ordering.{nat_cmp, ordering_then}
 use Rattle.std.specs.Cmp.Lexicographic.{slice_cmp}
@@ -63,6 +63,19 @@ pub record AreExplained {K B : Type 0} (cmp : K → K → Ordering) (train_of : 
   pub found : (e : Explained K B) → Contains explained e → IsExplained train_of entries u d e
   pub all : (i : ℕ) (k : K) (r : Terms B) → slice_get entries i ≡ Some (k, r) → train_of k ≡ u → Applies r d →
       (m : Mark) × Contains explained (record { place = i; key = k; terms = r; mark = m })
+
+-- a record of key k is marked as the winner
+pub record HasWinningMark {K B : Type 0} (explained : List (Explained K B)) (k : K) : Type 0 where
+  pub one : Explained K B
+  pub member : Contains explained one
+  pub key : one.key ≡ k
+  pub wins : one.mark ≡ mark.Wins
+
+-- one of these records applies on day d
+pub record SomeApplies {B : Type 0} (records : Records B) (d : ℕ) : Type 0 where
+  pub one : Terms B
+  pub listed : records one
+  pub applies : Applies one d
 
 -- the six columns of a mark
 abbrev pub mark_columns : Mark → List ℕ

@@ -7,13 +7,13 @@ use Rattle.cif_extract.specs.SpellsExtract.{BytesSpellWithin}
 use Rattle.cif_extract.specs.declared.clash.Clash.{Clash}
 use Rattle.cif_extract.specs.declared.fault.Fault.{Fault}
 use Rattle.cif_extract.specs.declared.fault.Fault.TheVariants as fault
-use Rattle.cif_weeks.specs.Window.{IsWithin}
 use Rattle.cif_weeks.specs.declared.form.Form.{Form}
-use Rattle.cif_canon.specs.Asked.{IsNarrowed, header_window}
+use Rattle.cif_canon.specs.Asked.{IsNarrowed}
 use Rattle.cif_canon.specs.Comparison.{AreCompared, IsCompareFault, comparison_line}
 use Rattle.cif_canon.specs.Clashes.{AreAllClashes, clashes_text}
 use Rattle.cif_canon.specs.Counts.{counts_line}
 use Rattle.cif_canon.specs.Differences.{AreDifferences, AreNone, DifferencesParts, differences_text}
+use Rattle.cif_canon.specs.Explanation.{IsExplanation}
 use Rattle.cif_canon.specs.Normalised.{IfWritten, IsNormalised, Normalises}
 use Rattle.cif_canon.specs.Views.{IsDayView, IsTrainView}
 use Rattle.cif_canon.specs.declared.asked.Asked.{Asked}
@@ -66,11 +66,11 @@ module _ (start : Option (List ℕ)) where
         known_so start (λ bytes. BytesSpellWithin MAX_LINES bytes x) (λ bytes. IsDayAnswer day bytes text 0)
         (λ bytes s. record { extract = x; spelled = s; view = view; status_is = refl }) spelled
 
-    pub explain-answer : (uid : List ℕ) (day : ℕ) (text : List ℕ) → IsWithin (header_window x.header) day →
+    pub explain-answer : (uid : List ℕ) (day : ℕ) (text : List ℕ) → IsExplanation x uid day text →
         IfSome start (λ bytes. IsExplainAnswer uid day bytes text 0)
-    explain-answer uid day text within =
+    explain-answer uid day text is =
         known_so start (λ bytes. BytesSpellWithin MAX_LINES bytes x) (λ bytes. IsExplainAnswer uid day bytes text 0)
-        (λ bytes s. record { extract = x; spelled = s; within = within; status_is = refl }) spelled
+        (λ bytes s. record { extract = x; spelled = s; explanation = is; status_is = refl }) spelled
 
     pub clashes-answer : (asked : Asked) (y : ExtractParts) (clashes : List Clash) (none : Bool) → IsNarrowed asked x y →
         AreAllClashes y clashes → IsTrue none ↔ (clashes ≡ []) →

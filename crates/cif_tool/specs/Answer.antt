@@ -10,16 +10,15 @@ use Rattle.cif_extract.specs.ReadFault.{FaultReads, IsReadFault, LeavesNothing}
 use Rattle.cif_extract.specs.SpellsExtract.{BytesSpellWithin}
 use Rattle.cif_extract.specs.declared.fault.Fault.{Fault}
 use Rattle.cif_extract.specs.declared.fault.Fault.TheVariants.{Memory, Write}
-use Rattle.cif_weeks.specs.Window.{IsWithin}
 use Rattle.cif_weeks.specs.declared.form.Form.{Form}
 use Rattle.cif_canon.specs.Accepted.{SpellsNarrowed}
 use Rattle.cif_extract.specs.declared.clash.Clash.{Clash}
-use Rattle.cif_canon.specs.Asked.{IsNarrowingFault, header_window}
+use Rattle.cif_canon.specs.Asked.{IsNarrowingFault}
 use Rattle.cif_canon.specs.Clashes.{AreAllClashes, clashes_text}
 use Rattle.cif_canon.specs.Comparison.{AreCompared, comparison_line}
 use Rattle.cif_canon.specs.Counts.{counts_line}
 use Rattle.cif_canon.specs.Differences.{AreDifferences, AreNone, DifferencesParts, differences_text}
-use Rattle.cif_canon.specs.Explanation.{IsExplanationFault}
+use Rattle.cif_canon.specs.Explanation.{IsExplanation, IsExplanationFault}
 use Rattle.cif_canon.specs.Fault.{IsNormaliseFault}
 use Rattle.cif_canon.specs.Normalised.{FaultWrites, IsNormalised}
 use Rattle.cif_canon.specs.Views.{IsDayFault, IsDayView, IsTrainView}
@@ -97,11 +96,11 @@ pub record IsDiffAnswer (asked : Asked) (common : Bool) (left_bytes right_bytes 
   pub text_is : text ≡ differences_text differences
   pub status_is : IsListedStatus (AreNone differences) status
 
--- `explain` answers an input that is accepted, of which the day is in the window. Which text it answers isn't said here.
+-- `explain` answers these bytes by why the train runs on the day, or doesn't.
 pub record IsExplainAnswer (uid : List ℕ) (day : ℕ) (bytes text : List ℕ) (status : ℕ) : Type 0 where
   pub extract : ExtractParts
   pub spelled : BytesSpellWithin MAX_LINES bytes extract
-  pub within : IsWithin (header_window extract.header) day
+  pub explanation : IsExplanation extract uid day text
   pub status_is : status ≡ 0
 
 -- `clashes` answers an input by all its clashes in the window that is asked for.

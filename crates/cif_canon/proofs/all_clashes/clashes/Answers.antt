@@ -4,7 +4,6 @@ use Rattle.std.specs.Prelude.{◌↔◌, slice_get}
 use Rattle.cif_extract.specs.ExtractParts.{extract_parts}
 use Rattle.cif_extract.specs.declared.clash.Clash.{Clash}
 use Rattle.cif_canon.specs.Accepted.{IsClearExtract}
-use Rattle.cif_canon.specs.Clashes.{AreAllClashes}
 use Rattle.cif_canon.specs.Fault.{IsFirstClashIn}
 use Rattle.cif_canon.proofs.ClashLists.{clashes-clear, clashes-first}
 use Rattle.cif_canon.proofs.all_clashes.clashes.Goals as goal

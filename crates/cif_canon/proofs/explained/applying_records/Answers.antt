@@ -1,7 +1,6 @@
 -- One entry after another is looked at (`push_applying`), at its own place.
 use Rattle.cif_calendar.specs.Keys.{keyed}
 use Rattle.cif_calendar.proofs.Winning.{terms_at}
-use Rattle.cif_canon.proofs.Explaining.{placed-none_below}
 use Rattle.cif_canon.proofs.explained.applying_records.Goals as goal
 
 pub loop-place-preserved : goal.loop-place-preserved

@@ -1,8 +1,8 @@
 -- One record after another gets its mark (`mark_of`), and so all are explained (`explained`).
-use Rattle.std.proofs.Common.{◌≡◌, ap, length, map, sym, subst, refl, ◌∙◌}
+use Rattle.std.proofs.Common.{ap, map, sym, subst, refl, ◌∙◌}
 use Rattle.std.proofs.Math.Seq.{take-length}
 use Rattle.cif_calendar.specs.Keys.{keyed}
-use Rattle.cif_canon.specs.Steps.Explanation.{ArePlacedInOrder, IsMarkAmong, explained_of, placed_at, placed_of}
+use Rattle.cif_canon.specs.Steps.Explanation.{ArePlacedInOrder, IsMarkAmong, explained_of, placed_of}
 use Rattle.cif_canon.proofs.Explaining.{all_marked, explained, none_marked, one_marked}
 use Rattle.cif_canon.proofs.explained.marked_records.Goals as goal
 

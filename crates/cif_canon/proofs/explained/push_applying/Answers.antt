@@ -1,5 +1,5 @@
 -- The record goes behind those before it (`placed-more`), or there is none more (`placed-no_more`).
-use Rattle.std.proofs.Common.{◌+◌, refl, sym, subst, false, true, ◌∙◌, ◌++◌, ◌∷◌, [], ap, map}
+use Rattle.std.proofs.Common.{◌+◌, refl, sym, subst, ◌∙◌, ap, map}
 use Rattle.std.proofs.lemmas.Bool.{false≢true}
 use Rattle.std.proofs.lemmas.List.{map-append}
 use Rattle.std.proofs.lemmas.Option.{some_pair_parts}

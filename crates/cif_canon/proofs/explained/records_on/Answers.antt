@@ -1,5 +1,5 @@
 -- A sort puts them in order, since their order is total and no two have one place (`placed-sorted`).
-use Rattle.std.proofs.Common.{rules, length, map, sym, subst}
+use Rattle.std.proofs.Common.{rules, map, sym, subst}
 use Rattle.std.specs.Ordering.{is_lt}
 use Rattle.std.proofs.lemmas.Fn.{always_returns_same}
 use Rattle.std.proofs.lemmas.List.{length-map}

@@ -38,4 +38,4 @@ returns-clause-fault g c =
     let after = g.R.Read.remaining (reader_of c.read_extract.new.source) in
     known_so _ _ _ (λ bytes spelled.
     only-write (IsExplainRefusal c.args.day bytes after) c.flushed.result c.flushed.ensures.fault
-    (inr (extract_parts c.in_ok-extract.extract, spelled, c.in_ok-explain_view.ensures.view.2))) c.in_ok-extract.ensures.ok
+    (inr (extract_parts c.in_ok-extract.extract, spelled, c.in_ok-explain_view.ensures.view.2.within))) c.in_ok-extract.ensures.ok
