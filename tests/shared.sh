@@ -1,5 +1,5 @@
-# What the runners of tests/ share. A runner sources this file and then calls `begin`.
-# It needs a POSIX shell, cmp, grep and sed.
+# What the runners of tests/ share. A runner sets $here to its folder, sources this file and then calls `begin`.
+# It needs a POSIX shell, cmp, grep, python3 and sed.
 
 # begin PATH_TO_CIF: names the program, and a folder for what it writes
 begin() {
@@ -16,19 +16,24 @@ begin() {
     failed=0
 }
 
-# each_row ROWS FUNCTION: calls the function for each row in the folder ROWS; for a row of both forms, also for a copy
-# in form 1
+# unpack FILE..: makes a folder of each row in the files, and sets $rows to the folder that has them
+unpack() {
+    rows=$work/rows
+    "$here/../row_files.py" "$rows" "$@" || exit 2
+}
+
+# each_row FUNCTION: calls the function for each row; for a row of both forms, also for a copy in form 1
 each_row() {
-    for original in "$1"/*/; do
+    for original in "$rows"/*/; do
         original=${original%/}
-        "$2" "$original"
+        "$1" "$original"
         IFS= read -r command < "$original/args"
         case $command in
         normalise | check | train)
             if ! grep -q '^--form' "$original/args"; then
                 copy=$work/${original##*/}-in-form-1
                 in_form_1 "$original" "$copy"
-                "$2" "$copy"
+                "$1" "$copy"
                 rm -r "$copy"
             fi
             ;;
