@@ -1,7 +1,9 @@
 #!/usr/bin/env python3
-r"""row_files.py FOLDER FILE..
+r"""row_files.py FOLDER FORM_1 FILE..
 
-Makes a folder in FOLDER for each row that the files have, where the runners of tests/ find it. A file has rows like this:
+Makes a folder in FOLDER for each row that the files have, where the runners of tests/ find it. A row of normalise, check or
+train without `--form` is one of both forms: it gets another folder in FORM_1, with `--form 1` among its words. Its answer
+is the same, unless it has a file `stdout-in-form-1`. The files have rows like this:
 
     # A comment. It may stand anywhere, and so may an empty line.
     == nothing-but-header-and-trailer: normalise
@@ -131,14 +133,24 @@ def read_rows(paths):
     return rows
 
 
-def make_folder(folder, row):
-    """Writes the row: its words in `args`, one a line, its status, and its files but for those that may have any text."""
+def make_folder(folder, words, status, files):
+    """Writes a row: its words in `args`, one a line, its status, and its files but for those that may have any text."""
     folder.mkdir(parents=True)
-    (folder / "args").write_text("".join(word + "\n" for word in row.words))
-    (folder / "status").write_text(f"{row.status or 0}\n")
-    for name, whole in row.whole.items():
+    (folder / "args").write_text("".join(word + "\n" for word in words))
+    (folder / "status").write_text(f"{status or 0}\n")
+    for name, whole in files.items():
         if whole is not None:
             (folder / name).write_bytes(whole)
+
+
+def make_folders(rows, form_1, row):
+    """Writes the row, and if it is one of both forms its copy in form 1."""
+    make_folder(rows / row.name, row.words, row.status, row.whole)
+    if row.words and row.words[0] in ("normalise", "check", "train") and "--form" not in row.words:
+        files = dict(row.whole)
+        files["stdout"] = files.pop("stdout-in-form-1", files["stdout"])
+        words = [row.words[0], "--form", "1", *row.words[1:]]
+        make_folder(form_1 / f"{row.name}-in-form-1", words, row.status, files)
 
 
 def escape(byte):
@@ -173,12 +185,13 @@ def text_of(name, words, files, status):
 
 
 def main():
-    if len(sys.argv) < 3:
-        print("usage: row_files.py FOLDER FILE..", file=sys.stderr)
+    if len(sys.argv) < 4:
+        print("usage: row_files.py FOLDER FORM_1 FILE..", file=sys.stderr)
         return 2
+    rows, form_1, *files = map(Path, sys.argv[1:])
     try:
-        for row in read_rows(map(Path, sys.argv[2:])).values():
-            make_folder(Path(sys.argv[1]) / row.name, row)
+        for row in read_rows(files).values():
+            make_folders(rows, form_1, row)
     except (Mistake, OSError) as problem:
         print(problem, file=sys.stderr)
         return 2

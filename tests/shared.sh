@@ -1,5 +1,5 @@
 # What the runners of tests/ share. A runner sets $here to its folder, sources this file and then calls `begin`.
-# It needs a POSIX shell, cmp, grep, python3 and sed.
+# It needs a POSIX shell, cmp, find, grep, python3 and sed.
 
 # begin PATH_TO_CIF: names the program, and a folder for what it writes
 begin() {
@@ -16,40 +16,23 @@ begin() {
     failed=0
 }
 
-# unpack FILE..: makes a folder of each row in the files, and sets $rows to the folder that has them
+# unpack FILE..: makes a folder of each row in the files, and sets $rows to the folder that has them; $form_1 has a copy in
+# form 1 of each row of both forms
 unpack() {
     rows=$work/rows
-    "$here/../row_files.py" "$rows" "$@" || exit 2
-}
-
-# each_row FUNCTION: calls the function for each row; for a row of both forms, also for a copy in form 1
-each_row() {
-    for original in "$rows"/*/; do
-        original=${original%/}
-        "$1" "$original"
-        IFS= read -r command < "$original/args"
-        case $command in
-        normalise | check | train)
-            if ! grep -q '^--form' "$original/args"; then
-                copy=$work/${original##*/}-in-form-1
-                in_form_1 "$original" "$copy"
-                "$1" "$copy"
-                rm -r "$copy"
-            fi
-            ;;
-        esac
-    done
-}
-
-# in_form_1 ROW NEW: copies the row, adds `--form 1` after its command, and takes its output in form 1
-in_form_1() {
-    cp -R "$1" "$2"
-    sed '1a\
---form\
-1' "$1/args" > "$2/args"
-    if [ -e "$2/stdout-in-form-1" ]; then
-        mv "$2/stdout-in-form-1" "$2/stdout"
+    form_1=$work/form-1
+    "$here/../row_files.py" "$rows" "$form_1" "$@" || exit 2
+    if [ "$(cat "$@" | grep -c '^== ')" -ne "$(find "$rows" -name args | wc -l)" ]; then
+        echo "not each row has a folder" >&2
+        exit 2
     fi
+}
+
+# each_row FUNCTION: calls the function for each row; for a row of both forms, also for its copy in form 1
+each_row() {
+    for each in "$rows"/*/ "$form_1"/*/; do
+        "$1" "${each%/}"
+    done
 }
 
 # in_row FOLDER COMMAND..: runs the command in the folder of a row, with the row's arguments added;
