@@ -31,7 +31,9 @@ unpack() {
 # each_row FUNCTION: calls the function for each row; for a row of both forms, also for its copy in form 1
 each_row() {
     for each in "$rows"/*/ "$form_1"/*/; do
-        "$1" "${each%/}"
+        if [ -d "$each" ]; then
+            "$1" "${each%/}"
+        fi
     done
 }
 
