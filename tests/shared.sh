@@ -1,5 +1,5 @@
-# What the runners of tests/ share. A runner sources this file and then calls `begin`.
-# It needs a POSIX shell, cmp, grep and sed.
+# What the runners of tests/ share. A runner sets $here to its folder, sources this file and then calls `begin`.
+# It needs a POSIX shell, cmp, find, grep, python3 and sed.
 
 # begin PATH_TO_CIF: names the program, and a folder for what it writes
 begin() {
@@ -16,35 +16,25 @@ begin() {
     failed=0
 }
 
-# each_row ROWS FUNCTION: calls the function for each row in the folder ROWS; for a row of both forms, also for a copy
-# in form 1
-each_row() {
-    for original in "$1"/*/; do
-        original=${original%/}
-        "$2" "$original"
-        IFS= read -r command < "$original/args"
-        case $command in
-        normalise | check | train)
-            if ! grep -q '^--form' "$original/args"; then
-                copy=$work/${original##*/}-in-form-1
-                in_form_1 "$original" "$copy"
-                "$2" "$copy"
-                rm -r "$copy"
-            fi
-            ;;
-        esac
-    done
+# unpack FILE..: makes a folder of each row in the files, and sets $rows to the folder that has them; $form_1 has a copy in
+# form 1 of each row of both forms
+unpack() {
+    rows=$work/rows
+    form_1=$work/form-1
+    "$here/../row_files.py" "$rows" "$form_1" "$@" || exit 2
+    if [ "$(cat "$@" | grep -c '^== ')" -ne "$(find "$rows" -name args | wc -l)" ]; then
+        echo "not each row has a folder" >&2
+        exit 2
+    fi
 }
 
-# in_form_1 ROW NEW: copies the row, adds `--form 1` after its command, and takes its output in form 1
-in_form_1() {
-    cp -R "$1" "$2"
-    sed '1a\
---form\
-1' "$1/args" > "$2/args"
-    if [ -e "$2/stdout-in-form-1" ]; then
-        mv "$2/stdout-in-form-1" "$2/stdout"
-    fi
+# each_row FUNCTION: calls the function for each row; for a row of both forms, also for its copy in form 1
+each_row() {
+    for each in "$rows"/*/ "$form_1"/*/; do
+        if [ -d "$each" ]; then
+            "$1" "${each%/}"
+        fi
+    done
 }
 
 # in_row FOLDER COMMAND..: runs the command in the folder of a row, with the row's arguments added;
