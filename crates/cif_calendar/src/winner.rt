@@ -48,7 +48,8 @@ pub fn same_body<E: Entry>(one: &E, other: &E) -> bool
     }
 }
 
-/// Those of the weekdays that a date from `first` to `last` has.
+/// Those of the weekdays that a date from `first` to `last` has. Inlined, its loop would cost each piece.
+#[inline(never)]
 fn with_dates(days: DaysRun, first: Day, last: Day) -> DaysRun
     requires in_order { first ≤ last }
     ensures { (w : ℕ) → w < 7 → RunsOn result w ↔

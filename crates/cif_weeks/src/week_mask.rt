@@ -19,7 +19,7 @@ pub(crate) fn have_one_body<E: Entry>(entries: &[E], one: usize, other: usize) -
     ensures { IsTrue result ↔ (body_at (map E.terms entries.now) (Some one)
         ≡ body_at (map E.terms entries.now) (Some other)) }
 {
-    same_body(&entries[one], &entries[other])
+    one == other || same_body(&entries[one], &entries[other])
 }
 
 /// The first weekday that has the source of this one.
