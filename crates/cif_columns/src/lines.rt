@@ -59,7 +59,7 @@ impl Lines {
     {
         // With room for it the text is made in its place.
         self.texts.reserve(1)?;
-        self.texts.push(line.text())?;
+        self.texts.push_reserved(line.text());
         Ok(())
     }
 
