@@ -4,7 +4,7 @@ use Rattle.cif_calendar.specs.declared.calendar_fault.CalendarFault.{CalendarFau
 use Rattle.cif_calendar.specs.declared.calendar_fault.CalendarFault.TheVariants.{Ambiguous, Memory}
 use Rattle.cif_columns.specs.DayDigits.{yymmdd_of}
 
--- the date of the clash, as `Ambiguous on 260106`, or that memory was refused
+-- the date of the clash, as `Ambiguous on 260106`, or that memory ran out
 abbrev pub text_of : CalendarFault → List ℕ
 text_of (Ambiguous day) = codes "Ambiguous on " ++ yymmdd_of day
 text_of Memory = codes "Memory"

@@ -116,7 +116,7 @@ module _ (max : ℕ) (asked : Asked) (bytes : List ℕ) where
   normalises-front form x s c is result f failed write =
       subst (Normalises form asked max bytes c.text) (sym (failed ∙ ap Err write)) (c.counts, is-normalised form x s c is)
 
--- a front of the text went out
+-- a prefix of the text went out
 pub fault-writes : {W A : Type 0} (contents : W → Option (List ℕ)) (errors : W → Option ℕ) (text : List ℕ) (old new : Sink W)
     (result : Result A Fault) (f : Fault) → result ≡ Err f → f ≡ fault.Write → HasFailed contents errors text old new →
     FaultWrites contents errors text old new result

@@ -30,7 +30,7 @@ use Rattle.cif_canon.proofs.CanonTexts.{have-records, texts-of_runs}
 use Rattle.cif_canon.proofs.ChosenRecords.{chosen-text}
 use Rattle.cif_canon.proofs.RunningRecords.{applying, bodied, own, own-are, own-rising, running}
 
--- an answer that a text was written, or a front of it
+-- an answer that a text was written, or a prefix of it
 pub written-so : {A : Type 0} (result : Result A Fault) (p : Type 0) → p → IfWritten result p
 written-so (Ok done) p h = h
 written-so (Err Write) p h = h
@@ -51,7 +51,7 @@ have-lines cmp form window entry xs ys runs own same is a =
     (subst (λ rs. All (HasRecord (map entry ys)) rs) (sym is)
     (have-records (map entry ys) own a.records a.runs_of (canonical-dated cmp form window a.records a.canonical)))
 
--- a front of a text went out
+-- a prefix of a text went out
 pub fails : {W A : Type 0} (contents : W → Option (List ℕ)) (errors : W → Option ℕ) (text : List ℕ) (s t : Sink W)
     (result : Result A Fault) → result ≡ Err Write → HasFailed contents errors text s t → FaultWrites contents errors text s t result
 fails contents errors text s t result failed h = subst (FaultWrites contents errors text s t) (sym failed) h

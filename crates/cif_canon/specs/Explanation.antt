@@ -129,7 +129,7 @@ pub record IsExplanation (x : ExtractParts) (u : List ℕ) (d : ℕ) (text : Lis
   pub of_trains : AreExplained (slice_cmp nat_cmp) itself (schedule_entries x.schedules) u d trains
   pub text_is : text ≡ flat_map explained_association_line associations ++ flat_map explained_train_line trains
 
--- why there is no explanation: the day is outside the window; or else memory was refused, or the sink failed
+-- why there is no explanation: the day is outside the window; or else memory ran out, or the sink failed
 abbrev pub IsExplanationFault : ExtractParts → ℕ → Fault → Type 0
 IsExplanationFault x d OutsideWindow = ¬ IsWithin (header_window x.header) d
 IsExplanationFault x d Memory = IsWithin (header_window x.header) d

@@ -26,7 +26,7 @@ IsFirstClashIn x (Train uid day) =
     AreClear (association_entries x.associations) x.header.first x.header.last
     × IsFirstClashOf (slice_cmp nat_cmp) (schedule_entries x.schedules) x.header.first x.header.last uid day
 
--- why an extract has no canonical form: its first clash, or a want of memory, of which no contract tells
+-- why an extract has no canonical form: its first clash, or memory ran out, of which no contract tells
 abbrev pub IsCanonFault : ExtractParts → Fault → Type 0
 IsCanonFault x (Ambiguous clash) = IsFirstClashIn x clash
 IsCanonFault x Memory = ⊤
@@ -54,7 +54,7 @@ IsNormaliseFault max asked bytes after WindowsDiffer = ⊥
 IsNormaliseFault max asked bytes after Write = ⊤
 IsNormaliseFault max asked bytes after fault = IsReadFault max bytes after fault
 
--- the faults of `normalise`, over whatever devices
+-- the faults of `normalise`, for any devices
 abbrev pub IsOfNormalise : ℕ → Fault → Type 0
 IsOfNormalise max (Refused line why) = IsOfReading max (Refused line why)
 IsOfNormalise max WindowsDiffer = ⊥
@@ -65,7 +65,7 @@ abbrev pub IsOfCheck : ℕ → Fault → Type 0
 IsOfCheck max Write = ⊥
 IsOfCheck max fault = IsOfNormalise max fault
 
--- a fault that says nothing of the bytes: a device failed, or memory was refused
+-- a fault that says nothing of the bytes: a device failed, or memory ran out
 abbrev pub IsDeviceOrMemory : Fault → Type 0
 IsDeviceOrMemory Read = ⊤
 IsDeviceOrMemory Write = ⊤

@@ -28,19 +28,19 @@ pub record IsNormalised (form : Form) (asked : Asked) (max : ℕ) (input text : 
   -- the counts are those of its records
   pub counted : counts ≡ counts_of canonical.made
 
--- what a text is to an input, where it was written, or a front of it was
+-- what a text is to an input, where it was written, or a prefix of it was
 abbrev pub Normalises : Form → Asked → ℕ → List ℕ → List ℕ → Result Counts Fault → Type 0
 Normalises form asked max input text (Ok counts) = IsNormalised form asked max input text counts
 Normalises form asked max input text (Err Write) = (counts : Counts) × IsNormalised form asked max input text counts
 Normalises form asked max input text (Err fault) = ⊤
 
--- what a call that may answer a fault owes its sink: the whole text at Ok, a front of it at Write, and nothing at any other fault
+-- what a call that may answer a fault owes its sink: the whole text at Ok, a prefix of it at Write, and nothing at any other fault
 abbrev pub FaultWrites : {W A : Type 0} → (W → Option (List ℕ)) → (W → Option ℕ) → List ℕ → Sink W → Sink W → Result A Fault → Type 0
 FaultWrites contents errors text old new (Ok done) = HasWritten contents errors text old new
 FaultWrites contents errors text old new (Err Write) = HasFailed contents errors text old new
 FaultWrites contents errors text old new (Err fault) = new ≡ old
 
--- p holds where a text was written, or a front of it was
+-- p holds where a text was written, or a prefix of it was
 abbrev pub IfWritten : {A : Type 0} → Result A Fault → Type 0 → Type 0
 IfWritten (Ok done) p = p
 IfWritten (Err Write) p = p

@@ -12,7 +12,7 @@ use cif_weeks::Form;
 use std::alloc::Global;
 
 /// The canonical form of the extract, or why it has none: Ambiguous with its first clash, associations
-/// before trains, by key and then date; Memory where memory was refused.
+/// before trains, by key and then date; Memory where memory ran out.
 pub fn canon<'a>(alloc: Global, extract: &'a Extract, form: Form) -> Result<Canon<'a>, Fault>
     ensures ok { IfOk result (IsCanonOf form (extract_parts extract.now)) }
     ensures fault { IfErr result (IsCanonFault (extract_parts extract.now)) }

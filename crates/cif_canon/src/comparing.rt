@@ -17,7 +17,7 @@ use std::alloc::{AllocError, Global};
 /// their trains, by key and then date. The other columns of their headers don't count.
 ///
 /// WindowsDiffer comes where their windows do, then Ambiguous with the left extract's first clash,
-/// then with the right one's; Memory where memory was refused.
+/// then with the right one's; Memory where memory ran out.
 pub fn compare(alloc: Global, left: &Extract, right: &Extract) -> Result<Comparison, Fault>
     ensures ok { IfOk result
         (AreCompared (extract_parts left.now) (extract_parts right.now)) }

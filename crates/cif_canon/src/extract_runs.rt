@@ -24,7 +24,7 @@ pub(crate) struct ExtractRuns {
 }
 
 /// The runs of the extract's canonical records, or why it has none: Ambiguous with its first clash,
-/// associations before trains, by key and then date; Memory where memory was refused.
+/// associations before trains, by key and then date; Memory where memory ran out.
 pub(crate) fn extract_runs(
     alloc: Global,
     extract: &Extract,

@@ -19,7 +19,7 @@ use std::alloc::Global;
 /// this form, for the window that is asked for. The answer is how many records that text has.
 ///
 /// The faults come in this order: Refused and Read, OutsideWindow, WindowReversed, Ambiguous with the
-/// first clash, and then Write; Memory where memory was refused. Nothing is written before the
+/// first clash, and then Write; Memory where memory ran out. Nothing is written before the
 /// whole input is accepted.
 pub fn normalise<R: ReadDevice, W: WriteDevice>(
     alloc: Global,

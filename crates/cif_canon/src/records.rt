@@ -16,7 +16,7 @@ use std::alloc::{AllocError, Global};
 pub(crate) enum RecordsFault {
     /// Two winners of the day have different bodies. Their key is that of the entry at `member`.
     Clash { member: usize, day: Day },
-    /// Memory was refused.
+    /// Memory ran out.
     Memory,
 }
 
@@ -86,7 +86,7 @@ fn runs_of_key<E: Entry>(
 /// position of an entry with the record's key and body.
 ///
 /// `Clash` comes only where on some date two winners of a key have different bodies, and names the
-/// first such key and its first such date; `Memory` where memory was refused.
+/// first such key and its first such date; `Memory` where memory ran out.
 pub(crate) fn canonical_records<E: CopiedKey>(
     alloc: Global,
     entries: &[E],

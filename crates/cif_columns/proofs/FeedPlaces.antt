@@ -1,4 +1,4 @@
--- Where the first line feed of bytes stands, in a front of them and in more of them.
+-- Where the first line feed of bytes stands, in a prefix of them and in more of them.
 use Rattle.std.proofs.Common.{◌≡◌, ℕ, zero, suc, ◌+◌, ◌<◌, ◌≤◌, min, Bool, true, false, not, cond, nat_lt, List, [], ◌∷◌, ◌++◌, length}
 use Rattle.std.proofs.Common.{take, refl, sym, ap, ◌∙◌, arith, get_or, Option, Some, None, IsSome, IfSome, IfNone, ◌&&◌, eq-eqb}
 use Rattle.std.proofs.Common.{length-take, ltb-false}
@@ -16,7 +16,7 @@ place xs = position_or_len is_line_feed xs
 pub place-le : (xs : List ℕ) → place xs ≤ length xs
 place-le xs = prefix_len-le-length (λ x. not (is_line_feed x)) xs
 
--- a front has the same place, or none
+-- a prefix has the same place, or none
 pub place-front : (xs : List ℕ) (n : ℕ) → place (take n xs) ≡ min n (place xs)
 place-front [] n = grind (arith, common_steps)
 place-front (x ∷ xs) zero = grind (arith, common_steps)
@@ -60,7 +60,7 @@ place-printable (suc n) (x ∷ xs) h p e =
     ap (λ b. cond b (1 + place xs) 0) (printable_no_feed x both.0) ∙ ap (λ m. 1 + m) (place-printable n xs (omega arith) both.1 e)
     ∙ omega arith
 
--- what a search of a front finds, and what it tells where it finds none
+-- what a search of a prefix finds, and what it tells where it finds none
 module _ (xs : List ℕ) (m : ℕ) (within : m ≤ length xs) where
   front : (place (take m xs) ≡ min m (place xs)) × (length (take m xs) ≡ m)
   front = (place-front xs m, simp length-take (omega arith))

@@ -46,7 +46,7 @@ one_more max count bytes ls rest line rest' so_far next =
       are_lines = All-push IsLine ls line so_far.are_lines next.is_line;
     }
 
--- the bytes that are held are a front of those that are left, and the others are those that the reader has
+-- the bytes that are held are a prefix of those that are left, and the others are those that the reader has
 held_front : (hold rest : List ℕ) (remaining : Option (List ℕ)) → prepend_known hold remaining ≡ Some rest
     → (unread : List ℕ) × (remaining ≡ Some unread) × (rest ≡ hold ++ unread)
 held_front hold rest None e = absurd (cc)

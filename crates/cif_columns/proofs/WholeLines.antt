@@ -76,7 +76,7 @@ ends_after whole piece rest = ⊎_elim
     (λ fed. inl (whole ++ fed.0, ap (λ l. whole ++ l) fed.1 ∙ sym (append_assoc whole fed.0 (10 ∷ []))))
     (λ none. inr none)
 
--- whole lines before some bytes are whole before a front of them, which isn't empty or all
+-- whole lines before some bytes are whole before a prefix of them, which isn't empty or all
 pub ends_before : (whole front more : List ℕ) → (whole ≡ []) ⊎ EndsLine whole (front ++ more) → (whole ≡ []) ⊎ EndsLine whole front
 ends_before whole front more = ⊎_elim
     (λ none. inl none)

@@ -74,7 +74,7 @@ LineReads errors old new (Ok done) = HasReadOn errors old new
 LineReads errors old new (Err (Refused number why)) = HasReadOn errors old new
 LineReads errors old new (Err Read) = HasFailedToRead errors old new
 
--- the faults of a call after so many lines, over whatever source: a refusal names the next line, and one of the reasons of lines
+-- the faults of a call after so many lines, for any source: a refusal names the next line, and one of the reasons of lines
 abbrev pub IsNextFault : ℕ → LineFault → Type 0
 IsNextFault count (Refused number why) = (number ≡ count + 1) × IsLineReason why
 IsNextFault count Read = Unit {0}
@@ -89,7 +89,7 @@ pub record IsNext {R : Type 0} (remaining : R → Option (List ℕ)) (errors : R
   pub device : past old ≡ Reading → LineReads errors from to result
   pub undecided : past old ≡ Reading → result ≡ Err Read → DecidesNothing (limit old) (given old) (held new)
   pub endless : past old ≡ Reading → result ≡ Ok None → source_failed from ≡ false
-  -- over whatever source: a refusal names the next line, and one of the reasons of lines
+  -- for any source: a refusal names the next line, and one of the reasons of lines
   pub fault : past old ≡ Reading → IfErr result (IsNextFault (given old))
   -- after the end, and after a fault, it is answered again, and nothing is read
   pub past_now : past new ≡ past_of result

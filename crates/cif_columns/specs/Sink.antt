@@ -12,7 +12,7 @@ writer_of s = s.writer
 abbrev pub sink_failed : {W : Type 0} → Sink W → Bool
 sink_failed s = s.failed
 
--- known bytes grow by a front of these
+-- known bytes grow by a prefix of these
 abbrev pub AppendsFront : Option (List ℕ) → Option (List ℕ) → List ℕ → Type 0
 AppendsFront old new bytes = (front rest : List ℕ) × (bytes ≡ front ++ rest) × Appends old new front
 
@@ -25,7 +25,7 @@ pub record HasWritten {W : Type 0} (contents : W → Option (List ℕ)) (errors 
   pub bytes : Appends (contents (writer_of old)) (contents (writer_of new)) text
   pub no_error : errors (writer_of new) ≡ errors (writer_of old)
 
--- A call has failed to write the text: the sink has failed now, a front of the text went out, and a writer that hadn't failed
+-- A call has failed to write the text: the sink has failed now, a prefix of the text went out, and a writer that hadn't failed
 -- before has erred, once. A sink that had failed before is as it was.
 pub record HasFailed {W : Type 0} (contents : W → Option (List ℕ)) (errors : W → Option ℕ) (text : List ℕ) (old new : Sink W) :
     Type 0 where

@@ -45,7 +45,7 @@ impl<W: WriteDevice> Sink<W> {
         self.failed
     }
 
-    /// Writes all the bytes, or fails after a front of them. The first failure is the last: from
+    /// Writes all the bytes, or fails after a prefix of them. The first failure is the last: from
     /// then on each call fails, and the writer isn't touched.
     pub fn write_all(&mut self, bytes: &[u8]) -> Result<(), WriteFault>
         ensures { Writes W.contents W.write_errors bytes.now self.old self.new result }

@@ -9,7 +9,7 @@ use Rattle.cif_extract.specs.declared.fault.Fault.{Fault}
 use Rattle.cif_extract.specs.declared.fault.Fault.TheVariants.{Refused, Read, Memory}
 
 -- Why these bytes are no extract, or can't be read, where `after` is what the reader has left then: their first refusal, or a
--- failure of the source before a refused line was decided. No contract foretells a want of memory.
+-- failure of the source before a refused line was decided. No contract foretells that memory runs out.
 abbrev pub IsReadFault : ℕ → List ℕ → Option (List ℕ) → Fault → Type 0
 IsReadFault max bytes after (Refused line why) = IsFirstRefusal max bytes line why
 IsReadFault max bytes after Read = IsSomeAnd after (IsCutBeforeRefusal max bytes)
@@ -20,7 +20,7 @@ IsReadFault max bytes after _ = ⊥
 abbrev pub IsLineNumber : ℕ → ℕ → Type 0
 IsLineNumber max number = (1 ≤ number) × (number ≤ max + 1)
 
--- the faults of reading at most max lines, over whatever source
+-- the faults of reading at most max lines, for any source
 abbrev pub IsOfReading : ℕ → Fault → Type 0
 IsOfReading max (Refused line why) = IsLineNumber max line
 IsOfReading max Read = Unit {0}

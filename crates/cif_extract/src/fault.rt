@@ -25,7 +25,7 @@ pub enum Fault {
     Read,
     /// The sink failed.
     Write,
-    /// Memory was refused.
+    /// Memory ran out.
     Memory,
 }
 

@@ -3,7 +3,7 @@ ghost use Rattle.std.specs.Prelude.{◌≡◌, ◌↔◌, IsTrue};
 
 use cif_columns::Text;
 
-/// The body of an association, which a cancellation has not.
+/// The body of an association, absent in cancellations.
 #[derive(Debug, Drop, PartialEq, Eq)]
 pub struct AssocBody {
     /// Columns 35 to 36: the category, as `JJ` for a join.

@@ -277,7 +277,7 @@ fn key_at(line: &Line) -> AssocKey
     }
 }
 
-/// The body in columns 35 to 37 and 47 to 48, which a cancellation has not.
+/// The body in columns 35 to 37 and 47 to 48, absent in cancellations.
 fn body_at(line: &Line, letter: Stp) -> Option<AssocBody>
     ensures bodied { is_some result ≡ has_body letter }
     ensures spells { SpellsBody line.now result }

@@ -186,7 +186,7 @@ fn put_front(uid: &Uid, first: Day, last: Day, days: DaysRun, line: &mut LineBui
     line.put_columns(b" ");
 }
 
-/// The detail in columns 30 to 78, which a cancellation has not.
+/// The detail in columns 30 to 78, absent in cancellations.
 fn detail_at(line: &Line, letter: Stp) -> Option<Detail>
     ensures bodied { is_some result ≡ has_body letter }
     ensures spells { AllStandIn line.now (detail_rows result) }

@@ -30,13 +30,13 @@ use Rattle.cif_tool.specs.Status.{outcome_of}
 use Rattle.cif_tool.specs.declared.job.Job.{Job}
 use Rattle.cif_tool.specs.declared.job.Job.TheVariants.{Check, Clashes, Compare, Day, Diff, Explain, Normalise, Train}
 
--- P holds of the status of an answer, whose text was written or, at Write, a front of it was
+-- P holds of the status of an answer, whose text was written or, at Write, a prefix of it was
 abbrev pub IfAnswered : Result ℕ Fault → (ℕ → Type 0) → Type 0
 IfAnswered (Ok status) P = P status
 IfAnswered (Err Write) P = (status : ℕ) × P status
 IfAnswered (Err fault) P = ⊤
 
--- What a command owes its sink: the text of its answer at a status, and no byte more; a front of it at Write, also where the whole text
+-- What a command owes its sink: the text of its answer at a status, and no byte more; a prefix of it at Write, also where the whole text
 -- couldn't be handed on; nothing at another fault.
 pub record Answers {W : Type 0} (contents : W → Option (List ℕ)) (errors : W → Option ℕ) (IsAnswer : List ℕ → ℕ → Type 0)
     (old new : Sink W) (result : Result ℕ Fault) : Type 0 where
@@ -123,7 +123,7 @@ abbrev pub IsExplainRefusal : ℕ → List ℕ → Option (List ℕ) → Fault �
 IsExplainRefusal day bytes after fault = IsReadFault MAX_LINES bytes after fault
     ⊎ ((extract : ExtractParts) × BytesSpellWithin MAX_LINES bytes extract × IsExplanationFault extract day fault)
 
--- Why `clashes` has no answer: the input's first refusal, or the window that is asked for doesn't fit, or memory was refused, or the sink
+-- Why `clashes` has no answer: the input's first refusal, or the window that is asked for doesn't fit, or memory ran out, or the sink
 -- failed.
 abbrev pub IsClashesRefusal : Asked → List ℕ → Option (List ℕ) → Fault → Type 0
 IsClashesRefusal asked bytes after fault = IsReadFault MAX_LINES bytes after fault

@@ -30,7 +30,7 @@ HasBadDate id rows = IsSomeAnd (first_of id rows) NamesNoDay
 abbrev pub HasBadUid : Text × List Row → Type 0
 HasBadUid met = ((met.0 ≡ codes "train") ⊎ (met.0 ≡ codes "explain")) × IsSomeAnd (first_of (codes "UID") met.1) IsNoUid
 
--- Why words that `clap` takes ask for nothing: a UID is none, or else a date is none. Want of memory may come at any words.
+-- Why words that `clap` takes ask for nothing: a UID is none, or else a date is none. Memory may run out at any words.
 abbrev pub IsWordFault : JobFault → Text × List Row → Type 0
 IsWordFault BadUid met = HasBadUid met
 IsWordFault BadDate met = ¬ HasBadUid met

@@ -10,7 +10,7 @@ use Rattle.cif_canon.specs.Report.{fault_line}
 use Rattle.cif_canon.specs.declared.comparison.Comparison.{Comparison}
 use Rattle.cif_canon.specs.declared.comparison.Comparison.TheVariants.{Same, Tiploc, Association, Train}
 
--- a refusal of the input is 3; a failed device, and want of memory, is 4
+-- a refusal of the input is 3; a failed device, and memory that ran out, is 4
 abbrev pub status_of : Fault → ℕ
 status_of (Refused line why) = 3
 status_of (Ambiguous clash) = 3

@@ -1,4 +1,4 @@
-//! What each command answers, over whatever devices.
+//! What each command answers, for any devices.
 ghost use Rattle.std.specs.Prelude.{◌≡◌, [], IfErr, IfOk, IfSome};
 ghost use Rattle.cif_columns.specs.Sink.{Writes};
 ghost use Rattle.cif_columns.specs.Source.{reader_of};

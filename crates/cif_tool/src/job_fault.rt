@@ -15,13 +15,13 @@ const LONGEST_LINE: usize = 14;
 /// Why a call of `cif` asks for nothing.
 #[derive(Debug, Drop)]
 pub enum JobFault {
-    /// A mistake in the words, or a request for help or for the version. `clap` has its text.
+    /// A usage error, or a request for help or for the version. `clap` has its text.
     Usage(clap::Error),
     /// A word that stands for a date isn't six digits YYMMDD that name one.
     BadDate,
     /// A word that stands for a UID isn't six bytes from 0x20 to 0x7E.
     BadUid,
-    /// Memory was refused.
+    /// Memory ran out.
     Memory,
 }
 

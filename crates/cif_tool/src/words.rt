@@ -26,7 +26,7 @@ static FORMS: [&str; 2] = ["1", "2"];
 ///
 /// `Usage` comes where `clap` refuses the words, or where they ask for help or for the version;
 /// else `BadUid` where a UID is no UID, and else `BadDate` where a date is no date; `Memory` where
-/// memory was refused, to `clap` or to this call itself.
+/// memory ran out, in `clap` or in this call itself.
 // Inlined, it would keep `clap`'s 25 KiB on the stack while the job is done.
 #[inline(never)]
 pub fn job_of(alloc: Global, words: Vec<String>) -> Result<Job, JobFault>

@@ -1,4 +1,4 @@
-//! What a call answers, again where memory was refused to it.
+//! What a call answers, again where memory ran out to it.
 use crate::call::Call;
 use cif_canon::report;
 use cif_columns::{Sink, WriteDevice, WriteFault};

@@ -72,7 +72,7 @@ fn calendar_of(
     calendar(alloc, extract.schedules.as_slice(), members, window)
 }
 
-/// Writes on which date bodies differ. That memory was refused is a fault of the call.
+/// Writes on which date bodies differ. That memory ran out is a fault of the call.
 fn write_fault<W: WriteDevice>(fault: CalendarFault, sink: &mut Sink<W>) -> Result<(), Fault> {
     match fault {
         CalendarFault::Ambiguous(day) => {

@@ -96,7 +96,7 @@ fn push_size<E: Entry>(
     writeln!(out)
 }
 
-/// Appends how many runs there are in this form, or that memory was refused.
+/// Appends how many runs there are in this form, or that memory ran out.
 fn push_count(
     out: &mut String,
     form: &str,

@@ -6,7 +6,7 @@ use cif_records::{
 use std::alloc::{AllocError, Global};
 use std::fmt::Write;
 
-/// The fields of a record so far, each with its columns, or that memory was refused.
+/// The fields of a record so far, each with its columns, or that memory ran out.
 #[derive(Drop)]
 pub(crate) struct Listing {
     text: String,
