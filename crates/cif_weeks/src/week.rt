@@ -134,12 +134,8 @@ impl Week {
         let window = calendar.window();
         if let Some(monday) = Day::in_week(number, 0) {
             if window.first <= monday && monday <= window.last {
-                return Week::from_monday(
-                    calendar,
-                    piece_of(calendar, None, monday),
-                    number,
-                    monday,
-                );
+                let piece = piece_of(calendar, None, monday);
+                return Week::from_monday(calendar, piece, number, monday);
             }
         }
         Week {
