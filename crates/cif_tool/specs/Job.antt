@@ -1,5 +1,5 @@
 -- What the words of a call ask for.
-use Rattle.std.specs.Prelude.{◌≡◌, ◌⊎◌, ⊤, ℕ, Bool, List, [], Option, Some, None, option_map, string_bytes, IsSomeAnd, is_some, true, false, codes}
+use Rattle.std.specs.Prelude.{◌≡◌, ◌⊎◌, ◌&&◌, ⊤, ℕ, Bool, List, [], Option, Some, None, option_map, string_bytes, IsSomeAnd, is_some, true, false, codes}
 use Rattle.std.specs.Prelude.{if◌then◌else◌}
 use Rattle.std.specs.Str.{bytes_eq}
 use Rattle.clap.specs.Words.{Row, Text, first_of}
@@ -19,6 +19,10 @@ HasWord id rows = is_some (first_of id rows) ≡ true
 -- the file's name is the one that the matches have, or neither is there
 abbrev pub HasFile : List Row → Option Text → Type 0
 HasFile rows name = name ≡ first_of (codes "FILE") rows
+
+-- the word stands for standard input
+abbrev pub is_standard : Text → Bool
+is_standard word = bytes_eq word (codes "-")
 
 -- the word names the day, by six digits YYMMDD, or neither is there
 abbrev pub IsDateOf : Option Text → Option ℕ → Type 0
@@ -55,10 +59,11 @@ pub record AreCanonicalWords (rows : List Row) (name : Option Text) (asked : Ask
   pub is_asked : IsAskedBy rows asked
   pub is_form : form ≡ form_of (first_of (codes "form") rows)
 
--- the matches name these two files, this window, and whether it is the common one that is asked for
+-- the matches name these two files, not both of them standard input, this window, and whether it is the common one that is asked for
 pub record AreTwoFilesWords (rows : List Row) (left right : Text) (asked : Asked) (common : Bool) : Type 0 where
   pub left_is : Some left ≡ first_of (codes "LEFT") rows
   pub right_is : Some right ≡ first_of (codes "RIGHT") rows
+  pub two_inputs : (is_standard left && is_standard right) ≡ false
   pub is_asked : IsAskedBy rows asked
   pub is_common : common ≡ has_common rows
 
@@ -101,7 +106,8 @@ pub record Asks (words : List Text) (job : Job) : Type 0 where
   pub taken : faults_of forms words ≡ []
   pub is_chosen : IsSomeAnd (chosen forms words) (IsChosen job)
 
--- the names of the files that a job reads: the first is standard input where it is absent, and only `compare` and `diff` have a second
+-- The names of the inputs that a job reads: the first is standard input where it is absent, and each is where it is `-`. Only `compare`
+-- and `diff` have a second.
 abbrev pub input_names : Job → Option Text × Option Text
 input_names (Normalise file asked form) = (option_map string_bytes file, None)
 input_names (Check file asked form) = (option_map string_bytes file, None)

@@ -166,11 +166,11 @@ Statuses:
   3  the input is refused, or the dates asked for don't fit its window
   4  a fault of reading, of writing or of memory";
 
-pub(crate) const FILE: &str = "The extract to read [default: standard input]";
+pub(crate) const FILE: &str = "The extract to read; - is standard input [default: -]";
 
-pub(crate) const LEFT: &str = "One extract";
+pub(crate) const LEFT: &str = "One extract; - is standard input";
 
-pub(crate) const RIGHT: &str = "The extract that it is compared with";
+pub(crate) const RIGHT: &str = "The extract that it is compared with; - is standard input";
 
 pub(crate) const DATE: &str = "The date, such as 260114 for 14 January 2026";
 

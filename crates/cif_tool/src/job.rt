@@ -5,7 +5,7 @@ use cif_canon::Asked;
 use cif_columns::{Day, Uid};
 use cif_weeks::Form;
 
-/// What a call of `cif` asks for. A file that isn't named is the standard input.
+/// What a call of `cif` asks for. A file that isn't named is the standard input, and so is `-`.
 #[derive(Debug, Drop)]
 pub enum Job {
     /// To write the canonical extract.
@@ -64,7 +64,7 @@ impl Job {
     ghost use Rattle.cif_tool.specs.Job.{input_names};
 
     /// The names of the files that are read: one, or two of `Compare` and `Diff`. `None` is the
-    /// standard input, or no second file.
+    /// standard input, or no second file; `-` is the standard input too.
     pub fn inputs(&self) -> (Option<&str>, Option<&str>)
         ensures { (option_map (λ name. name.now) result.0, option_map (λ name. name.now) result.1)
             ≡ input_names self.now }
