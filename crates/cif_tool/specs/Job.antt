@@ -4,6 +4,8 @@ use Rattle.std.specs.Prelude.{if◌then◌else◌}
 use Rattle.std.specs.Str.{bytes_eq}
 use Rattle.clap.specs.Words.{Row, Text, first_of}
 use Rattle.cif_canon.specs.declared.asked.Asked.{Asked}
+use Rattle.cif_canon.specs.declared.layout.Layout.{Layout}
+use Rattle.cif_canon.specs.declared.layout.Layout.TheVariants.{Lines, LinesAndCalls}
 use Rattle.cif_columns.specs.Day.{StandsInYymmdd}
 use Rattle.cif_columns.specs.Uid.{IsUid}
 use Rattle.cif_weeks.specs.declared.form.Form.{Form}
@@ -49,6 +51,10 @@ is_set None = false
 abbrev pub has_common : List Row → Bool
 has_common rows = is_set (first_of (codes "common") rows)
 
+-- what is listed of each train: its calls too, if `--stops` is among the words
+abbrev pub layout_of : List Row → Layout
+layout_of rows = if is_set (first_of (codes "stops") rows) then LinesAndCalls else Lines
+
 -- the six columns of the word are a UID, and it is this one
 abbrev pub IsUidWord : Text → List ℕ → Type 0
 IsUidWord word uid = IsUid word × (uid ≡ word)
@@ -75,12 +81,14 @@ IsChosen (Compare left right asked common) met = (met.0 ≡ codes "compare")
     × AreTwoFilesWords met.1 (string_bytes left) (string_bytes right) asked common
 IsChosen (Diff left right asked common) met = (met.0 ≡ codes "diff")
     × AreTwoFilesWords met.1 (string_bytes left) (string_bytes right) asked common
-IsChosen (Day day file) met = (met.0 ≡ codes "day")
+IsChosen (Day day file layout) met = (met.0 ≡ codes "day")
     × IsDateOf (first_of (codes "YYMMDD") met.1) (Some day)
     × HasFile met.1 (option_map string_bytes file)
-IsChosen (Train uid file asked form) met = (met.0 ≡ codes "train")
+    × (layout ≡ layout_of met.1)
+IsChosen (Train uid file asked form layout) met = (met.0 ≡ codes "train")
     × IsSomeAnd (first_of (codes "UID") met.1) (λ word. IsUidWord word uid)
     × AreCanonicalWords met.1 (option_map string_bytes file) asked form
+    × (layout ≡ layout_of met.1)
 IsChosen (Explain uid day file) met = (met.0 ≡ codes "explain")
     × IsSomeAnd (first_of (codes "UID") met.1) (λ word. IsUidWord word uid)
     × IsDateOf (first_of (codes "YYMMDD") met.1) (Some day)
@@ -113,7 +121,7 @@ input_names (Normalise file asked form) = (option_map string_bytes file, None)
 input_names (Check file asked form) = (option_map string_bytes file, None)
 input_names (Compare left right asked common) = (Some (string_bytes left), Some (string_bytes right))
 input_names (Diff left right asked common) = (Some (string_bytes left), Some (string_bytes right))
-input_names (Day day file) = (option_map string_bytes file, None)
-input_names (Train uid file asked form) = (option_map string_bytes file, None)
+input_names (Day day file layout) = (option_map string_bytes file, None)
+input_names (Train uid file asked form layout) = (option_map string_bytes file, None)
 input_names (Explain uid day file) = (option_map string_bytes file, None)
 input_names (Clashes file asked) = (option_map string_bytes file, None)

@@ -1,7 +1,7 @@
 //! What a call of `cif` asks for.
 ghost use Rattle.std.specs.Prelude.{◌≡◌, option_map};
 
-use cif_canon::Asked;
+use cif_canon::{Asked, Layout};
 use cif_columns::{Day, Uid};
 use cif_weeks::Form;
 
@@ -35,17 +35,19 @@ pub enum Job {
         asked: Asked,
         common: bool,
     },
-    /// To list what runs on a day.
+    /// To list what runs on a day, in this layout.
     Day {
         day: Day,
         file: Option<String>,
+        layout: Layout,
     },
-    /// To list the canonical schedules of a train.
+    /// To list the canonical schedules of a train, in this layout.
     Train {
         uid: Uid,
         file: Option<String>,
         asked: Asked,
         form: Form,
+        layout: Layout,
     },
     /// To say why a train runs on a day, or doesn't.
     Explain {

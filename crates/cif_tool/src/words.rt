@@ -6,13 +6,14 @@ ghost use Rattle.clap.specs.Words.{subcommand_rows_of};
 ghost use Rattle.cif_columns.specs.Day.{StandsInYymmdd};
 ghost use Rattle.cif_tool.specs.Job.{Asks, HasFile, HasWord, IsAskedBy};
 ghost use Rattle.cif_tool.specs.Job.{IsChosen, IsDateOf, IsTaken, IsUidWord, form_of, has_common, is_standard};
+ghost use Rattle.cif_tool.specs.Job.{layout_of};
 ghost use Rattle.cif_tool.specs.JobFault.{HasBadDate, IsFaultOf, IsWordFault, NamesNoDay};
 ghost use Rattle.cif_tool.specs.JobFault.{IsNoUid};
 
 use crate::command_line::matches_of;
 use crate::job::Job;
 use crate::job_fault::JobFault;
-use cif_canon::Asked;
+use cif_canon::{Asked, Layout};
 use cif_columns::{Day, Uid, are_printable};
 use cif_weeks::Form;
 use clap::ArgMatches;
@@ -174,6 +175,7 @@ fn day_job(alloc: Global, matches: &ArgMatches<'_>) -> Result<Job, JobFault>
     Ok(Job::Day {
         day,
         file: file_of(alloc, matches)?,
+        layout: layout_of(matches),
     })
 }
 
@@ -192,6 +194,7 @@ fn train_job(alloc: Global, matches: &ArgMatches<'_>) -> Result<Job, JobFault>
         asked: asked_of(matches)?,
         form: form_of(matches),
         file: file_of(alloc, matches)?,
+        layout: layout_of(matches),
     })
 }
 
@@ -330,6 +333,16 @@ fn has_common(matches: &ArgMatches<'_>) -> bool
     match word_of(matches, "common") {
         Some(word) => word == "true",
         None => false,
+    }
+}
+
+/// What the words ask to list of each train.
+fn layout_of(matches: &ArgMatches<'_>) -> Layout
+    ensures { result ≡ layout_of (rows_of (found_of matches.now)) }
+{
+    match word_of(matches, "stops") {
+        Some(word) if word == "true" => Layout::LinesAndCalls,
+        _ => Layout::Lines,
     }
 }
 
