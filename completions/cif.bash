@@ -52,10 +52,12 @@ _cif() {
     if [[ -z $ended && $written == -* ]]; then
         case $command in
         '') options='-h --help -V --version' ;;
-        normalise | check | train) options='-v --verbose --from --to --form -h --help' ;;
+        normalise | check) options='-v --verbose --from --to --form -h --help' ;;
+        train) options='-v --verbose --from --to --form --stops -h --help' ;;
         compare | diff) options='-v --verbose --from --to --common -h --help' ;;
         clashes) options='-v --verbose --from --to -h --help' ;;
-        day | explain) options='-v --verbose -h --help' ;;
+        day) options='-v --verbose --stops -h --help' ;;
+        explain) options='-v --verbose -h --help' ;;
         esac
         _cif_offer "$options"
         return

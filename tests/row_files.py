@@ -22,9 +22,10 @@ write, byte for byte. It writes nothing where they aren't given.
     -- stderr any        any text will do; also for stdout
     -- status 3          the status, if it isn't 0
 
-Bytes are written as in the cases of crates/test_cases: in a line `\xNN` is the byte with that number in hexadecimal digits,
-and a backslash at its end takes its line feed away. So an empty line is `\x0a\`. Besides, a line that ends with a space gets
-a `|` behind it; one that ends with a `|`, or begins like a comment or a heading, has `\x7c`, `\x23`, `\x2d` or `\x3d` there.
+Bytes are written as in the cases of crates/test_cases: in a line, or in a quoted word, `\xNN` is the byte with that number in
+hexadecimal digits, and a backslash at the end of a line takes its line feed away. So an empty line is `\x0a\`. Besides, a
+line that ends with a space gets a `|` behind it; one that ends with a `|`, or begins like a comment or a heading, has `\x7c`,
+`\x23`, `\x2d` or `\x3d` there.
 A file that has a space at the end of a line, or a byte that isn't printable ASCII, is refused.
 """
 import re
@@ -64,6 +65,11 @@ class Row:
         self.files[name] = content
 
 
+def unescaped(text):
+    """The text with the bytes that its escapes stand for."""
+    return re.sub(r"\\x(..)", lambda found: chr(int(found[1], 16)), text)
+
+
 def bytes_of(line):
     """The bytes that a line of a file stands for."""
     if "\\" not in line and not line.endswith("|"):
@@ -71,8 +77,7 @@ def bytes_of(line):
     found = LINE.fullmatch(line)
     if not found:
         raise Mistake("an unknown escape, or a | at the end that doesn't follow a space")
-    text = re.sub(r"\\x(..)", lambda found: chr(int(found[1], 16)), found[1])
-    return (text + ("" if found[3] else "\n")).encode("latin-1")
+    return (unescaped(found[1]) + ("" if found[3] else "\n")).encode("latin-1")
 
 
 def add_line(rows, row, section, line):
@@ -83,7 +88,7 @@ def add_line(rows, row, section, line):
     if found := HEADING.fullmatch(line):
         if found[1] in rows:
             raise Mistake(f"a second {found[1]}")
-        rows[found[1]] = Row(found[1], shlex.split(found[2]))
+        rows[found[1]] = Row(found[1], [unescaped(word) for word in shlex.split(found[2])])
         return rows[found[1]], None
     if row is None:
         raise Mistake("no row has this line")
@@ -136,7 +141,7 @@ def read_rows(paths):
 def make_folder(folder, words, status, files):
     """Writes a row: its words in `args`, one a line, its status, and its files but for those that may have any text."""
     folder.mkdir(parents=True)
-    (folder / "args").write_text("".join(word + "\n" for word in words))
+    (folder / "args").write_bytes("".join(word + "\n" for word in words).encode("latin-1"))
     (folder / "status").write_text(f"{status or 0}\n")
     for name, whole in files.items():
         if whole is not None:
@@ -157,9 +162,14 @@ def escape(byte):
     return f"\\x{ord(byte):02x}"
 
 
+def escaped(line):
+    """The bytes with an escape for each that isn't printable ASCII, or is a backslash."""
+    return re.sub(r"[^ -~]|\\", lambda byte: escape(byte[0]), line.decode("latin-1"))
+
+
 def line_of(line, ended):
     """How a file of rows writes a line of a file."""
-    text = re.sub(r"[^ -~]|\\", lambda byte: escape(byte[0]), line.decode("latin-1"))
+    text = escaped(line)
     if text.startswith(("#", "-- ", "== ")):
         text = escape(text[0]) + text[1:]
     if text.endswith("|"):
@@ -171,7 +181,7 @@ def line_of(line, ended):
 
 def text_of(name, words, files, status):
     """How a file of rows writes a row. For each file it is given bytes, or the text that follows the name in its line."""
-    lines = [f"== {name}: {shlex.join(words)}"]
+    lines = [f"== {name}: {escaped(shlex.join(words).encode())}"]
     for file, whole in files.items():
         if isinstance(whole, str):
             lines.append(f"-- {file} {whole}")

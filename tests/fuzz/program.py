@@ -13,6 +13,7 @@ def words_of(job):
     for option, word in ("--from", job.first), ("--to", job.last), ("--form", job.form):
         words += [] if word is None else [option, word]
     words += ["--common"] if job.common else []
+    words += ["--stops"] if job.stops else []
     return words + [word for word in (job.uid, job.day) if word is not None] + list(job.files)
 
 

@@ -1,3 +1,4 @@
+pub mod CallTexts
 pub mod CanonForm
 pub mod CanonTexts
 pub mod ChosenRecords

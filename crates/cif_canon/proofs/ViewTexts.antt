@@ -25,7 +25,8 @@ use Rattle.cif_canon.specs.Normalised.{FaultWrites, IfWritten}
 use Rattle.cif_canon.specs.Steps.Records.{AreCanonicalRecords}
 use Rattle.cif_canon.specs.Steps.Texts.{HasRecord, run_text}
 use Rattle.cif_canon.specs.Steps.Views.{applies_on, association_on, schedule_of, train_on}
-use Rattle.cif_canon.specs.Views.{IsDayView, IsTrainView, association_line, schedule_line, train_line}
+use Rattle.cif_canon.specs.Views.{IsDayView, IsTrainView, association_line, schedule_text, train_text}
+use Rattle.cif_canon.specs.declared.layout.Layout.{Layout}
 use Rattle.cif_canon.proofs.CanonTexts.{have-records, texts-of_runs}
 use Rattle.cif_canon.proofs.ChosenRecords.{chosen-text}
 use Rattle.cif_canon.proofs.RunningRecords.{applying, bodied, own, own-are, own-rising, running}
@@ -68,13 +69,13 @@ module _ {W A : Type 0} (contents : W → Option (List ℕ)) (errors : W → Opt
 abbrev pub associations-text : ExtractParts → ℕ → List Run → List ℕ
 associations-text x d = flat_map (run_text (association_on d) (association_entries x.associations))
 
-abbrev pub trains-text : ExtractParts → ℕ → List Run → List ℕ
-trains-text x d = flat_map (run_text (train_on d) (schedule_entries x.schedules))
+abbrev pub trains-text : Layout → ExtractParts → ℕ → List Run → List ℕ
+trains-text layout x d = flat_map (run_text (train_on layout d) (schedule_entries x.schedules))
 
-module _ (x : ExtractParts) (d : ℕ) (within : IsWithin (header_window x.header) d) (form : Form) (associations schedules : List Run)
+module _ (layout : Layout) (x : ExtractParts) (d : ℕ) (within : IsWithin (header_window x.header) d) (form : Form) (associations schedules : List Run)
     (a : AreCanonicalRecords key_cmp form (header_window x.header) (association_entries x.associations) associations)
     (s : AreCanonicalRecords (slice_cmp nat_cmp) form (header_window x.header) (schedule_entries x.schedules) schedules) where
-  pub day-view : IsDayView x d (associations-text x d associations ++ trains-text x d schedules)
+  pub day-view : IsDayView layout x d (associations-text x d associations ++ trains-text layout x d schedules)
   day-view = record {
     within = within;
     clear = record { associations = a.clear; schedules = s.clear };
@@ -83,18 +84,18 @@ module _ (x : ExtractParts) (d : ℕ) (within : IsWithin (header_window x.header
     trains = map bodied (applying d s.records);
     run = running (slice_cmp nat_cmp) form (header_window x.header) (schedule_entries x.schedules) schedules s d within;
     text_is =
-        ap (λ (l : List ℕ). l ++ trains-text x d schedules)
+        ap (λ (l : List ℕ). l ++ trains-text layout x d schedules)
         (texts-of_runs (association_entries x.associations) (association_on d) associations a.records a.runs_of
         ∙ chosen-text (λ e. applies_on e.1 d) bodied association_line a.records)
         ∙ ap (λ (l : List ℕ). flat_map association_line (map bodied (applying d a.records)) ++ l)
-        (texts-of_runs (schedule_entries x.schedules) (train_on d) schedules s.records s.runs_of
-        ∙ chosen-text (λ e. applies_on e.1 d) bodied train_line s.records);
+        (texts-of_runs (schedule_entries x.schedules) (train_on layout d) schedules s.records s.runs_of
+        ∙ chosen-text (λ e. applies_on e.1 d) bodied (train_text layout) s.records);
   }
 
-module _ (x : ExtractParts) (uid : List ℕ) (form : Form) (associations schedules : List Run)
+module _ (layout : Layout) (x : ExtractParts) (uid : List ℕ) (form : Form) (associations schedules : List Run)
     (a : AreCanonicalRecords key_cmp form (header_window x.header) (association_entries x.associations) associations)
     (s : AreCanonicalRecords (slice_cmp nat_cmp) form (header_window x.header) (schedule_entries x.schedules) schedules) where
-  pub train-view : IsTrainView form x uid (flat_map (run_text (schedule_of uid) (schedule_entries x.schedules)) schedules)
+  pub train-view : IsTrainView layout form x uid (flat_map (run_text (schedule_of layout uid) (schedule_entries x.schedules)) schedules)
   train-view = record {
     clear = record { associations = a.clear; schedules = s.clear };
     records = s.records;
@@ -104,6 +105,6 @@ module _ (x : ExtractParts) (uid : List ℕ) (form : Form) (associations schedul
     rising = own-rising (slice_cmp nat_cmp) nat_list_cmp_total s.records s.canonical.rising uid;
     are = own-are (slice_cmp nat_cmp) nat_list_cmp_total s.records s.canonical.rising uid;
     text_is =
-        texts-of_runs (schedule_entries x.schedules) (schedule_of uid) schedules s.records s.runs_of
-        ∙ chosen-text (λ e. pointwise nat_eq e.0 uid) (λ (e : List ℕ × Permanent BodyParts). e.1) schedule_line s.records;
+        texts-of_runs (schedule_entries x.schedules) (schedule_of layout uid) schedules s.records s.runs_of
+        ∙ chosen-text (λ e. pointwise nat_eq e.0 uid) (λ (e : List ℕ × Permanent BodyParts). e.1) (schedule_text layout) s.records;
   }

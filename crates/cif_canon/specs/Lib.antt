@@ -1,5 +1,6 @@
 pub mod Accepted
 pub mod Asked
+pub mod Calls
 pub mod Canon
 pub mod Canonical
 pub mod Clashes

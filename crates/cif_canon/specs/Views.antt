@@ -26,7 +26,10 @@ use Rattle.cif_weeks.specs.Window.{IsWithin}
 use Rattle.cif_weeks.specs.declared.form.Form.{Form}
 use Rattle.cif_canon.specs.Accepted.{IsClearExtract}
 use Rattle.cif_canon.specs.Asked.{header_window}
+use Rattle.cif_canon.specs.Calls.{calls_text}
 use Rattle.cif_canon.specs.Fault.{IsCanonFault}
+use Rattle.cif_canon.specs.declared.layout.Layout.{Layout}
+use Rattle.cif_canon.specs.declared.layout.Layout.TheVariants.{Lines, LinesAndCalls}
 
 -- fields with a space between them, and a line feed
 abbrev pub line_of : List (List ℕ) → List ℕ
@@ -74,25 +77,38 @@ train_line e = line_of (codes "BS" ∷ train_fields e)
 unfoldable pub schedule_line : Permanent BodyParts → List ℕ
 schedule_line r = line_of (yymmdd_of r.first ∷ yymmdd_of r.last ∷ days_columns r.days ∷ journey_fields r.body)
 
+-- the line of a train, with those of its calls if the layout has them
+abbrev pub with_calls : Layout → List ℕ → BodyParts → List ℕ
+with_calls Lines line b = line
+with_calls LinesAndCalls line b = line ++ calls_text b
+
+-- what is listed of a train that runs, and of a canonical schedule
+abbrev pub train_text : Layout → List ℕ × BodyParts → List ℕ
+train_text layout e = with_calls layout (train_line e) e.1
+
+abbrev pub schedule_text : Layout → Permanent BodyParts → List ℕ
+schedule_text layout r = with_calls layout (schedule_line r) r.body
+
 -- What runs on day d, each key once and rising. `cmp` is the order of the keys.
 pub record AreRunning {K B : Type 0} (cmp : K → K → Ordering) (entries : List (K × Terms B)) (d : ℕ) (running : List (K × B))
     : Type 0 where
   pub rising : AllPairs (λ (x : K × B) (y : K × B). cmp x.0 y.0 ≡ Less) running
   pub runs : (k : K) (b : B) → Contains running (k, b) ↔ BodyRuns (of_key entries k) d b
 
--- The day is in the window of the extract, which is clear, and the text has a line for each association that holds, and then one for
--- each train that runs.
-pub record IsDayView (x : ExtractParts) (d : ℕ) (text : List ℕ) : Type 0 where
+-- The day is in the window of the extract, which is clear, and the text has a line for each association that holds, and then for
+-- each train that runs what the layout lists of it.
+pub record IsDayView (layout : Layout) (x : ExtractParts) (d : ℕ) (text : List ℕ) : Type 0 where
   pub within : IsWithin (header_window x.header) d
   pub clear : IsClearExtract x
   pub associations : List (AssocKey × AssocBody)
   pub hold : AreRunning key_cmp (association_entries x.associations) d associations
   pub trains : List (List ℕ × BodyParts)
   pub run : AreRunning (slice_cmp nat_cmp) (schedule_entries x.schedules) d trains
-  pub text_is : text ≡ flat_map association_line associations ++ flat_map train_line trains
+  pub text_is : text ≡ flat_map association_line associations ++ flat_map (train_text layout) trains
 
--- The extract is clear, and the text has a line for each of the train's records among the canonical records of the form, in order.
-pub record IsTrainView (form : Form) (x : ExtractParts) (uid text : List ℕ) : Type 0 where
+-- The extract is clear, and the text has what the layout lists for each of the train's records among the canonical records of the form, in
+-- order.
+pub record IsTrainView (layout : Layout) (form : Form) (x : ExtractParts) (uid text : List ℕ) : Type 0 where
   pub clear : IsClearExtract x
   pub records : List (List ℕ × Permanent BodyParts)
   pub canonical : AreCanonical (slice_cmp nat_cmp) form (header_window x.header) records
@@ -100,7 +116,7 @@ pub record IsTrainView (form : Form) (x : ExtractParts) (uid text : List ℕ) : 
   pub own : List (Permanent BodyParts)
   pub rising : AllPairs (λ r s. r.first < s.first) own
   pub are : (r : Permanent BodyParts) → Contains own r ↔ Contains records (uid, r)
-  pub text_is : text ≡ flat_map schedule_line own
+  pub text_is : text ≡ flat_map (schedule_text layout) own
 
 -- why there is no view of a day: it is outside the window, or else the extract has no canonical form; a sink may fail too
 abbrev pub IsDayFault : ExtractParts → ℕ → Fault → Type 0

@@ -3,6 +3,7 @@
 
 mod all_clashes;
 mod asked;
+mod call_line;
 mod canonical;
 mod canonical_form;
 mod clash_list;
@@ -20,6 +21,7 @@ mod extract_runs;
 mod fault_line;
 mod key_clashes;
 pub mod laws;
+mod layout;
 mod lines_of_day;
 mod lines_of_train;
 mod listed_differences;
@@ -46,8 +48,9 @@ pub use counts::{Counts, write_counts};
 pub use differing::differences;
 pub use explanation::explain_view;
 pub use fault_line::report;
-pub use lines_of_day::day_view;
-pub use lines_of_train::train_view;
+pub use layout::Layout;
+pub use lines_of_day::{day_listing, day_view};
+pub use lines_of_train::{train_listing, train_view};
 pub use listed_differences::Differences;
 pub use normal_form::{check, normalise};
 pub use side::{Side, Sided};

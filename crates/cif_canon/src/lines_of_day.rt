@@ -5,9 +5,12 @@ ghost use Rattle.cif_weeks.specs.Applies.{Applies};
 ghost use Rattle.cif_weeks.specs.Runs.{record_of};
 ghost use Rattle.cif_canon.specs.Normalised.{FaultWrites, IfWritten};
 ghost use Rattle.cif_canon.specs.Views.{IsDayFault, IsDayView};
+ghost use Rattle.cif_canon.specs.declared.layout.Layout.TheVariants.{Lines};
 
 use crate::asked::check_within;
+use crate::call_line::write_train;
 use crate::extract_runs::extract_runs;
+use crate::layout::Layout;
 use crate::record_lines::{RecordLines, write_runs};
 use crate::view_line::{association_line, train_line};
 use cif_columns::{Day, Sink, Uid, WriteDevice, WriteFault};
@@ -29,12 +32,28 @@ pub fn day_view<W: WriteDevice>(
 ) -> Result<(), Fault>
     ensures view { (text : List ℕ)
         × FaultWrites W.contents W.write_errors text sink.old sink.new result
-        × IfWritten result (IsDayView (extract_parts extract.now) day text) }
+        × IfWritten result (IsDayView Lines (extract_parts extract.now) day text) }
+    ensures fault { IfErr result (IsDayFault (extract_parts extract.now) day) }
+{
+    day_listing(alloc, extract, day, sink, Layout::Lines)
+}
+
+/// Appends what runs on the day, as `day_view` does, with what the layout lists of each train.
+pub fn day_listing<W: WriteDevice>(
+    alloc: Global,
+    extract: &Extract,
+    day: Day,
+    sink: &mut Sink<W>,
+    layout: Layout,
+) -> Result<(), Fault>
+    ensures view { (text : List ℕ)
+        × FaultWrites W.contents W.write_errors text sink.old sink.new result
+        × IfWritten result (IsDayView layout (extract_parts extract.now) day text) }
     ensures fault { IfErr result (IsDayFault (extract_parts extract.now) day) }
 {
     check_within(&extract.header, day)?;
     let runs = extract_runs(alloc, extract, Form::Two)?;
-    let lines = LinesOfDay { day };
+    let lines = LinesOfDay { day, layout };
     write_runs(
         &lines,
         extract.associations.as_slice(),
@@ -61,6 +80,7 @@ fn applies_on(run: &Run, day: Day) -> bool
 #[derive(Clone, Copy)]
 struct LinesOfDay {
     day: Day,
+    layout: Layout,
 }
 
 impl RecordLines<Association> for LinesOfDay {
@@ -86,7 +106,7 @@ impl RecordLines<Association> for LinesOfDay {
 impl RecordLines<Schedule> for LinesOfDay {
     ghost use Rattle.cif_canon.specs.Steps.Views.{train_on};
 
-    ghost text = { λ lines. train_on lines.day };
+    ghost text = { λ lines. train_on lines.layout lines.day };
 
     fn write_record<W: WriteDevice>(
         &self,
@@ -96,7 +116,7 @@ impl RecordLines<Schedule> for LinesOfDay {
         sink: &mut Sink<W>,
     ) -> Result<(), WriteFault> {
         if applies_on(run, self.day) {
-            sink.write_all(train_line(uid, body).as_str().as_bytes())
+            write_train(self.layout, train_line(uid, body).as_str(), body, sink)
         } else {
             Ok(())
         }

@@ -3,8 +3,11 @@ ghost use Rattle.std.specs.Prelude.{ℕ, List, IfErr};
 ghost use Rattle.cif_extract.specs.ExtractParts.{extract_parts};
 ghost use Rattle.cif_canon.specs.Normalised.{FaultWrites, IfWritten};
 ghost use Rattle.cif_canon.specs.Views.{IsTrainFault, IsTrainView};
+ghost use Rattle.cif_canon.specs.declared.layout.Layout.TheVariants.{Lines};
 
+use crate::call_line::write_train;
 use crate::extract_runs::extract_runs;
+use crate::layout::Layout;
 use crate::record_lines::{RecordLines, write_runs};
 use crate::view_line::schedule_line;
 use cif_columns::{Sink, Uid, WriteDevice, WriteFault};
@@ -26,12 +29,29 @@ pub fn train_view<W: WriteDevice>(
 ) -> Result<(), Fault>
     ensures view { (text : List ℕ)
         × FaultWrites W.contents W.write_errors text sink.old sink.new result
-        × IfWritten result (IsTrainView form (extract_parts extract.now) uid.now text) }
+        × IfWritten result (IsTrainView Lines form (extract_parts extract.now) uid.now text) }
+    ensures fault { IfErr result (IsTrainFault (extract_parts extract.now)) }
+{
+    train_listing(alloc, extract, uid, sink, form, Layout::Lines)
+}
+
+/// Appends when the train runs, as `train_view` does, with what the layout lists of each record.
+pub fn train_listing<W: WriteDevice>(
+    alloc: Global,
+    extract: &Extract,
+    uid: &Uid,
+    sink: &mut Sink<W>,
+    form: Form,
+    layout: Layout,
+) -> Result<(), Fault>
+    ensures view { (text : List ℕ)
+        × FaultWrites W.contents W.write_errors text sink.old sink.new result
+        × IfWritten result (IsTrainView layout form (extract_parts extract.now) uid.now text) }
     ensures fault { IfErr result (IsTrainFault (extract_parts extract.now)) }
 {
     let runs = extract_runs(alloc, extract, form)?;
     write_runs(
-        &LinesOfTrain { uid: *uid },
+        &LinesOfTrain { uid: *uid, layout },
         extract.schedules.as_slice(),
         runs.schedules.as_slice(),
         sink,
@@ -43,12 +63,13 @@ pub fn train_view<W: WriteDevice>(
 #[derive(Clone, Copy)]
 struct LinesOfTrain {
     uid: Uid,
+    layout: Layout,
 }
 
 impl RecordLines<Schedule> for LinesOfTrain {
     ghost use Rattle.cif_canon.specs.Steps.Views.{schedule_of};
 
-    ghost text = { λ lines. schedule_of lines.uid };
+    ghost text = { λ lines. schedule_of lines.layout lines.uid };
 
     fn write_record<W: WriteDevice>(
         &self,
@@ -58,7 +79,7 @@ impl RecordLines<Schedule> for LinesOfTrain {
         sink: &mut Sink<W>,
     ) -> Result<(), WriteFault> {
         if *uid == self.uid {
-            sink.write_all(schedule_line(run, body).as_str().as_bytes())
+            write_train(self.layout, schedule_line(run, body).as_str(), body, sink)
         } else {
             Ok(())
         }

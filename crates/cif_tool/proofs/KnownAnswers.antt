@@ -19,6 +19,7 @@ use Rattle.cif_canon.specs.Views.{IsDayView, IsTrainView}
 use Rattle.cif_canon.specs.declared.asked.Asked.{Asked}
 use Rattle.cif_canon.specs.declared.comparison.Comparison.{Comparison}
 use Rattle.cif_canon.specs.declared.counts.Counts.{Counts}
+use Rattle.cif_canon.specs.declared.layout.Layout.{Layout}
 use Rattle.cif_tool.specs.Answer.{IsCheckAnswer, IsClashesAnswer, IsCompareAnswer, IsDayAnswer, IsDiffAnswer}
 use Rattle.cif_tool.specs.Answer.{IsExplainAnswer, IsListedStatus, IsNormaliseAnswer, IsTrainAnswer}
 use Rattle.cif_tool.specs.Pair.{AreNarrowed, IsCompareRefusal, IsPairRefusal, IsRightRefusal, ReadAsPair, SpellPair, asked_of_both}
@@ -61,9 +62,10 @@ module _ (start : Option (List ℕ)) where
   normalise-failed form asked text fault.Memory h = tt
 
   module _ (x : ExtractParts) (spelled : IfSome start (λ bytes. BytesSpellWithin MAX_LINES bytes x)) where
-    pub day-answer : (day : ℕ) (text : List ℕ) → IsDayView x day text → IfSome start (λ bytes. IsDayAnswer day bytes text 0)
-    day-answer day text view =
-        known_so start (λ bytes. BytesSpellWithin MAX_LINES bytes x) (λ bytes. IsDayAnswer day bytes text 0)
+    pub day-answer : (layout : Layout) (day : ℕ) (text : List ℕ) → IsDayView layout x day text →
+        IfSome start (λ bytes. IsDayAnswer layout day bytes text 0)
+    day-answer layout day text view =
+        known_so start (λ bytes. BytesSpellWithin MAX_LINES bytes x) (λ bytes. IsDayAnswer layout day bytes text 0)
         (λ bytes s. record { extract = x; spelled = s; view = view; status_is = refl }) spelled
 
     pub explain-answer : (uid : List ℕ) (day : ℕ) (text : List ℕ) → IsExplanation x uid day text →
@@ -86,10 +88,10 @@ module _ (start : Option (List ℕ)) where
           status_is = listed (clashes ≡ []) none tells;
         }) spelled
 
-    pub train-answer : (form : Form) (asked : Asked) (y : ExtractParts) (uid text : List ℕ) → IsNarrowed asked x y →
-        IsTrainView form y uid text → IfSome start (λ bytes. IsTrainAnswer form asked uid bytes text 0)
-    train-answer form asked y uid text narrowed view =
-        known_so start (λ bytes. BytesSpellWithin MAX_LINES bytes x) (λ bytes. IsTrainAnswer form asked uid bytes text 0)
+    pub train-answer : (layout : Layout) (form : Form) (asked : Asked) (y : ExtractParts) (uid text : List ℕ) → IsNarrowed asked x y →
+        IsTrainView layout form y uid text → IfSome start (λ bytes. IsTrainAnswer layout form asked uid bytes text 0)
+    train-answer layout form asked y uid text narrowed view =
+        known_so start (λ bytes. BytesSpellWithin MAX_LINES bytes x) (λ bytes. IsTrainAnswer layout form asked uid bytes text 0)
         (λ bytes s. record {
           extract = y;
           spelled = record { whole = x; spelled = s; narrowed = narrowed };

@@ -132,11 +132,11 @@ enters_own forms words e =
                 inr (inr (inr (inl (refl, given.1.0 refl, given.1.1.0 refl)))),
             (
               λ name on is ws h.
-                  let given = required_given _ ws (refl, (refl, (refl, (tt, tt)))) h in
+                  let given = required_given _ ws (refl, (refl, (refl, (refl, (tt, tt))))) h in
                   inr (inr (inr (inr (inl (refl, given.1.0 refl))))),
               (
                 λ name on is ws h.
-                    let given = required_given _ ws (refl, (refl, (refl, (refl, (refl, (refl, (tt, tt))))))) h in
+                    let given = required_given _ ws (refl, (refl, (refl, (refl, (refl, (refl, (refl, (tt, tt)))))))) h in
                     inr (inr (inr (inr (inr (inl (refl, given.1.0 refl)))))),
                 (
                   λ name on is ws h.

@@ -25,6 +25,7 @@ use Rattle.cif_canon.specs.Views.{IsDayFault, IsDayView, IsTrainView}
 use Rattle.cif_canon.specs.declared.asked.Asked.{Asked}
 use Rattle.cif_canon.specs.declared.comparison.Comparison.{Comparison}
 use Rattle.cif_canon.specs.declared.counts.Counts.{Counts}
+use Rattle.cif_canon.specs.declared.layout.Layout.{Layout}
 use Rattle.cif_tool.specs.Pair.{IsCompareRefusal, SpellPair}
 use Rattle.cif_tool.specs.Status.{outcome_of}
 use Rattle.cif_tool.specs.declared.job.Job.{Job}
@@ -58,18 +59,18 @@ pub record IsCheckAnswer (form : Form) (asked : Asked) (bytes text : List ℕ) (
   pub text_is : text ≡ counts_line counts
   pub status_is : status ≡ 0
 
--- `day` answers these bytes by what runs on the day.
-pub record IsDayAnswer (day : ℕ) (bytes text : List ℕ) (status : ℕ) : Type 0 where
+-- `day` answers these bytes by what runs on the day, with what the layout lists of each train.
+pub record IsDayAnswer (layout : Layout) (day : ℕ) (bytes text : List ℕ) (status : ℕ) : Type 0 where
   pub extract : ExtractParts
   pub spelled : BytesSpellWithin MAX_LINES bytes extract
-  pub view : IsDayView extract day text
+  pub view : IsDayView layout extract day text
   pub status_is : status ≡ 0
 
--- `train` answers these bytes by when the train runs.
-pub record IsTrainAnswer (form : Form) (asked : Asked) (uid bytes text : List ℕ) (status : ℕ) : Type 0 where
+-- `train` answers these bytes by when the train runs, with what the layout lists of each record.
+pub record IsTrainAnswer (layout : Layout) (form : Form) (asked : Asked) (uid bytes text : List ℕ) (status : ℕ) : Type 0 where
   pub extract : ExtractParts
   pub spelled : SpellsNarrowed MAX_LINES asked extract bytes
-  pub view : IsTrainView form extract uid text
+  pub view : IsTrainView layout form extract uid text
   pub status_is : status ≡ 0
 
 -- `compare` answers two inputs by how they compare in the window that is asked for.
@@ -163,8 +164,9 @@ IsJobAnswer (Compare left_file right_file asked common) start right text status 
     IfSome start (λ left_bytes. IfSome right (λ right_bytes. IsCompareAnswer asked common left_bytes right_bytes text status))
 IsJobAnswer (Diff left_file right_file asked common) start right text status =
     IfSome start (λ left_bytes. IfSome right (λ right_bytes. IsDiffAnswer asked common left_bytes right_bytes text status))
-IsJobAnswer (Day day file) start right text status = IfSome start (λ bytes. IsDayAnswer day bytes text status)
-IsJobAnswer (Train uid file asked form) start right text status = IfSome start (λ bytes. IsTrainAnswer form asked uid bytes text status)
+IsJobAnswer (Day day file layout) start right text status = IfSome start (λ bytes. IsDayAnswer layout day bytes text status)
+IsJobAnswer (Train uid file asked form layout) start right text status =
+    IfSome start (λ bytes. IsTrainAnswer layout form asked uid bytes text status)
 IsJobAnswer (Explain uid day file) start right text status = IfSome start (λ bytes. IsExplainAnswer uid day bytes text status)
 IsJobAnswer (Clashes file asked) start right text status = IfSome start (λ bytes. IsClashesAnswer asked bytes text status)
 
@@ -179,9 +181,9 @@ IsJobRefusal (Compare left_file right_file asked common) start after Untouched r
     IfSome start (λ bytes. IsCompareRefusal asked common bytes after Untouched right right_after fault)
 IsJobRefusal (Diff left_file right_file asked common) start after Untouched right right_after fault =
     IfSome start (λ bytes. IsCompareRefusal asked common bytes after Untouched right right_after fault)
-IsJobRefusal (Day day file) start after Untouched right right_after fault =
+IsJobRefusal (Day day file layout) start after Untouched right right_after fault =
     IfSome start (λ bytes. IsDayRefusal day bytes after fault)
-IsJobRefusal (Train uid file asked form) start after Untouched right right_after fault =
+IsJobRefusal (Train uid file asked form layout) start after Untouched right right_after fault =
     IfSome start (λ bytes. IsNormaliseFault MAX_LINES asked bytes after fault)
 IsJobRefusal (Explain uid day file) start after Untouched right right_after fault =
     IfSome start (λ bytes. IsExplainRefusal day bytes after fault)

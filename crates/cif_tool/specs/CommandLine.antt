@@ -58,15 +58,17 @@ of_two_files name =
     with_rule (with_dates (with_rule (with_rule (subcommand name) (required (codes "LEFT"))) (required (codes "RIGHT"))))
     (flag (codes "common"))
 
--- `cif day [-v] YYMMDD [FILE]`
+-- `cif day [-v] [--stops] YYMMDD [FILE]`
 abbrev pub day : App
-day = with_rule (with_rule (subcommand (codes "day")) (required (codes "YYMMDD"))) (optional (codes "FILE"))
+day =
+    with_rule (with_rule (with_rule (subcommand (codes "day")) (required (codes "YYMMDD"))) (optional (codes "FILE")))
+    (flag (codes "stops"))
 
--- `cif train [-v] [--from YYMMDD] [--to YYMMDD] [--form FORM] UID [FILE]`
+-- `cif train [-v] [--from YYMMDD] [--to YYMMDD] [--form FORM] [--stops] UID [FILE]`
 abbrev pub train : Forms → App
 train forms =
-    with_rule (with_dates (with_rule (with_rule (subcommand (codes "train")) (required (codes "UID"))) (optional (codes "FILE"))))
-    (form_option forms)
+    with_rule (with_rule (with_dates (with_rule (with_rule (subcommand (codes "train")) (required (codes "UID"))) (optional (codes "FILE"))))
+    (form_option forms)) (flag (codes "stops"))
 
 -- `cif explain [-v] UID YYMMDD [FILE]`
 abbrev pub explain : App

@@ -1,9 +1,11 @@
 -- What the words of a call ask for.
-use Rattle.std.specs.Prelude.{◌≡◌, ◌⊎◌, ⊤, ℕ, Bool, List, [], Option, Some, None, option_map, string_bytes, IsSomeAnd, is_some, true, false, codes}
+use Rattle.std.specs.Prelude.{◌≡◌, ◌⊎◌, ◌&&◌, ⊤, ℕ, Bool, List, [], Option, Some, None, option_map, string_bytes, IsSomeAnd, is_some, true, false, codes}
 use Rattle.std.specs.Prelude.{if◌then◌else◌}
 use Rattle.std.specs.Str.{bytes_eq}
 use Rattle.clap.specs.Words.{Row, Text, first_of}
 use Rattle.cif_canon.specs.declared.asked.Asked.{Asked}
+use Rattle.cif_canon.specs.declared.layout.Layout.{Layout}
+use Rattle.cif_canon.specs.declared.layout.Layout.TheVariants.{Lines, LinesAndCalls}
 use Rattle.cif_columns.specs.Day.{StandsInYymmdd}
 use Rattle.cif_columns.specs.Uid.{IsUid}
 use Rattle.cif_weeks.specs.declared.form.Form.{Form}
@@ -19,6 +21,10 @@ HasWord id rows = is_some (first_of id rows) ≡ true
 -- the file's name is the one that the matches have, or neither is there
 abbrev pub HasFile : List Row → Option Text → Type 0
 HasFile rows name = name ≡ first_of (codes "FILE") rows
+
+-- the word stands for standard input
+abbrev pub is_standard : Text → Bool
+is_standard word = bytes_eq word (codes "-")
 
 -- the word names the day, by six digits YYMMDD, or neither is there
 abbrev pub IsDateOf : Option Text → Option ℕ → Type 0
@@ -45,6 +51,10 @@ is_set None = false
 abbrev pub has_common : List Row → Bool
 has_common rows = is_set (first_of (codes "common") rows)
 
+-- what is listed of each train: its calls too, if `--stops` is among the words
+abbrev pub layout_of : List Row → Layout
+layout_of rows = if is_set (first_of (codes "stops") rows) then LinesAndCalls else Lines
+
 -- the six columns of the word are a UID, and it is this one
 abbrev pub IsUidWord : Text → List ℕ → Type 0
 IsUidWord word uid = IsUid word × (uid ≡ word)
@@ -55,10 +65,11 @@ pub record AreCanonicalWords (rows : List Row) (name : Option Text) (asked : Ask
   pub is_asked : IsAskedBy rows asked
   pub is_form : form ≡ form_of (first_of (codes "form") rows)
 
--- the matches name these two files, this window, and whether it is the common one that is asked for
+-- the matches name these two files, not both of them standard input, this window, and whether it is the common one that is asked for
 pub record AreTwoFilesWords (rows : List Row) (left right : Text) (asked : Asked) (common : Bool) : Type 0 where
   pub left_is : Some left ≡ first_of (codes "LEFT") rows
   pub right_is : Some right ≡ first_of (codes "RIGHT") rows
+  pub two_inputs : (is_standard left && is_standard right) ≡ false
   pub is_asked : IsAskedBy rows asked
   pub is_common : common ≡ has_common rows
 
@@ -70,12 +81,14 @@ IsChosen (Compare left right asked common) met = (met.0 ≡ codes "compare")
     × AreTwoFilesWords met.1 (string_bytes left) (string_bytes right) asked common
 IsChosen (Diff left right asked common) met = (met.0 ≡ codes "diff")
     × AreTwoFilesWords met.1 (string_bytes left) (string_bytes right) asked common
-IsChosen (Day day file) met = (met.0 ≡ codes "day")
+IsChosen (Day day file layout) met = (met.0 ≡ codes "day")
     × IsDateOf (first_of (codes "YYMMDD") met.1) (Some day)
     × HasFile met.1 (option_map string_bytes file)
-IsChosen (Train uid file asked form) met = (met.0 ≡ codes "train")
+    × (layout ≡ layout_of met.1)
+IsChosen (Train uid file asked form layout) met = (met.0 ≡ codes "train")
     × IsSomeAnd (first_of (codes "UID") met.1) (λ word. IsUidWord word uid)
     × AreCanonicalWords met.1 (option_map string_bytes file) asked form
+    × (layout ≡ layout_of met.1)
 IsChosen (Explain uid day file) met = (met.0 ≡ codes "explain")
     × IsSomeAnd (first_of (codes "UID") met.1) (λ word. IsUidWord word uid)
     × IsDateOf (first_of (codes "YYMMDD") met.1) (Some day)
@@ -101,13 +114,14 @@ pub record Asks (words : List Text) (job : Job) : Type 0 where
   pub taken : faults_of forms words ≡ []
   pub is_chosen : IsSomeAnd (chosen forms words) (IsChosen job)
 
--- the names of the files that a job reads: the first is standard input where it is absent, and only `compare` and `diff` have a second
+-- The names of the inputs that a job reads: the first is standard input where it is absent, and each is where it is `-`. Only `compare`
+-- and `diff` have a second.
 abbrev pub input_names : Job → Option Text × Option Text
 input_names (Normalise file asked form) = (option_map string_bytes file, None)
 input_names (Check file asked form) = (option_map string_bytes file, None)
 input_names (Compare left right asked common) = (Some (string_bytes left), Some (string_bytes right))
 input_names (Diff left right asked common) = (Some (string_bytes left), Some (string_bytes right))
-input_names (Day day file) = (option_map string_bytes file, None)
-input_names (Train uid file asked form) = (option_map string_bytes file, None)
+input_names (Day day file layout) = (option_map string_bytes file, None)
+input_names (Train uid file asked form layout) = (option_map string_bytes file, None)
 input_names (Explain uid day file) = (option_map string_bytes file, None)
 input_names (Clashes file asked) = (option_map string_bytes file, None)

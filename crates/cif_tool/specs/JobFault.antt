@@ -1,5 +1,5 @@
 -- Why the words of a call ask for nothing.
-use Rattle.std.specs.Prelude.{◌≡◌, ◌≢◌, ◌⊎◌, ℕ, List, [], ◌∷◌, ◌++◌, Option, Some, None, ⊤, IfSome, IsSomeAnd, Result, Ok, Err, codes}
+use Rattle.std.specs.Prelude.{◌≡◌, ◌≢◌, ◌⊎◌, ℕ, List, [], ◌∷◌, ◌++◌, Option, Some, None, ⊤, IfSome, IsSomeAnd, Result, Ok, Err, true, codes}
 use Rattle.clap.specs.Words.{IsAmong, Row, Text, first_of, kind_of}
 use Rattle.clap.specs.declared.error.ErrorKind.{ErrorKind}
 use Rattle.clap.specs.declared.error.ErrorKind.TheVariants.{DisplayHelp, DisplayVersion}
@@ -11,8 +11,9 @@ use Rattle.cif_columns.specs.declared.sink.WriteFault.{WriteFault}
 use Rattle.cif_extract.specs.declared.fault.Fault.{Fault}
 use Rattle.cif_extract.specs.declared.fault.Fault.TheVariants.{Write, Memory as OutOfMemory}
 use Rattle.cif_tool.specs.CommandLine.{AreForms, Forms, chosen, faults_of}
+use Rattle.cif_tool.specs.Job.{is_standard}
 use Rattle.cif_tool.specs.declared.job_fault.JobFault.{JobFault}
-use Rattle.cif_tool.specs.declared.job_fault.JobFault.TheVariants.{Usage, BadDate, BadUid, Memory}
+use Rattle.cif_tool.specs.declared.job_fault.JobFault.TheVariants.{Usage, BadDate, BadUid, OneInput, Memory}
 
 -- six digits YYMMDD that name a day aren't the word
 abbrev pub NamesNoDay : Text → Type 0
@@ -30,15 +31,24 @@ HasBadDate id rows = IsSomeAnd (first_of id rows) NamesNoDay
 abbrev pub HasBadUid : Text × List Row → Type 0
 HasBadUid met = ((met.0 ≡ codes "train") ⊎ (met.0 ≡ codes "explain")) × IsSomeAnd (first_of (codes "UID") met.1) IsNoUid
 
--- Why words that `clap` takes ask for nothing: a UID is none, or else a date is none. Memory may run out at any words.
+-- the subcommand is `compare` or `diff`, and both of its inputs are standard input
+abbrev pub IsOneInput : Text × List Row → Type 0
+IsOneInput met = ((met.0 ≡ codes "compare") ⊎ (met.0 ≡ codes "diff"))
+    × IsSomeAnd (first_of (codes "LEFT") met.1) (λ word. is_standard word ≡ true)
+    × IsSomeAnd (first_of (codes "RIGHT") met.1) (λ word. is_standard word ≡ true)
+
+-- Why words that `clap` takes ask for nothing: a UID is none, or else a date is none, or else both inputs are standard input. Memory
+-- may run out at any words.
 abbrev pub IsWordFault : JobFault → Text × List Row → Type 0
 IsWordFault BadUid met = HasBadUid met
 IsWordFault BadDate met = ¬ HasBadUid met
     × (HasBadDate (codes "YYMMDD") met.1 ⊎ (HasBadDate (codes "from") met.1 ⊎ HasBadDate (codes "to") met.1))
+IsWordFault OneInput met = IsOneInput met
+    × ¬ (HasBadDate (codes "from") met.1 ⊎ HasBadDate (codes "to") met.1)
 IsWordFault Memory met = ⊤
 IsWordFault (Usage error) met = ⊥
 
--- `clap` refuses the words, by the error's kind, or it takes them and one of them is no UID or no date
+-- `clap` refuses the words, by the error's kind, or it takes them and one of them is no UID or no date, or both inputs are standard input
 abbrev pub IsFaultAt : Forms → List Text → JobFault → Type 0
 IsFaultAt forms words (Usage error) = IsAmong (kind_of error) (faults_of forms words)
 IsFaultAt forms words Memory = ⊤
@@ -61,6 +71,7 @@ abbrev pub status_of : JobFault → ℕ
 status_of (Usage error) = kind_status (kind_of error)
 status_of BadDate = 2
 status_of BadUid = 2
+status_of OneInput = 2
 status_of Memory = 4
 
 -- the line that names the fault, without its line feed; none where `clap` has the text
@@ -68,6 +79,7 @@ abbrev pub text_of : JobFault → Option Text
 text_of (Usage error) = None
 text_of BadDate = Some (codes "cif: bad date")
 text_of BadUid = Some (codes "cif: bad UID")
+text_of OneInput = Some (codes "cif: LEFT and RIGHT are both standard input")
 text_of Memory = Some (codes "cif: Memory")
 
 -- A text was shown on the output: it was written whole, and nothing went to the errors.

@@ -1,6 +1,7 @@
 //! What `--verbose` says on standard error beyond the line that names a fault. It is said when the answer is decided
 //! and changes nothing of it.
 use crate::clash_lines::ClashLines;
+use crate::escaped::escape;
 use crate::input::{AgainInput, ExtractInput};
 use crate::line_again::{LONGEST, LineAgain, line_again};
 use crate::refused_columns::columns_refused;
@@ -14,11 +15,14 @@ use std::alloc::Global;
 use std::io;
 use std::rt::Files;
 
-/// Writes the parts as one line, indented by two spaces. That it can't be written changes nothing.
+/// Writes the parts as one line, indented by two spaces. Control characters, which a file's name or an
+/// argument may have, are escaped. That it can't be written changes nothing.
 fn tell<W: WriteDevice>(errors: &mut Sink<W>, parts: &[&str]) {
     let _ = errors.write_all(b"  ");
     for part in parts {
-        let _ = errors.write_all(part.as_bytes());
+        for c in part.chars() {
+            let _ = errors.write_all(escape(c).as_bytes());
+        }
     }
     let _ = errors.write_all(b"\n");
 }
@@ -177,28 +181,14 @@ pub(crate) fn advise_on_date<W: WriteDevice>(
     errors: &mut Sink<W>,
 ) {
     if let Some(word) = mistaken_date(alloc, words) {
-        tell(
-            errors,
-            &[
-                "'",
-                shown(word.as_bytes()).as_str(),
-                "': a date is six digits, YYMMDD",
-            ],
-        );
+        tell(errors, &["'", word, "': a date is six digits, YYMMDD"]);
     }
 }
 
 /// Says which UID of the words is mistaken.
 pub(crate) fn advise_on_uid<W: WriteDevice>(alloc: Global, words: &[String], errors: &mut Sink<W>) {
     if let Some(word) = mistaken_uid(alloc, words) {
-        tell(
-            errors,
-            &[
-                "'",
-                shown(word.as_bytes()).as_str(),
-                "': a UID is six characters",
-            ],
-        );
+        tell(errors, &["'", word, "': a UID is six characters"]);
     }
 }
 

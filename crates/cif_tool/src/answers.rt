@@ -16,8 +16,8 @@ ghost use Rattle.cif_tool.specs.Pair.{IsCompareRefusal};
 use crate::pair::{narrowed, read_pair};
 use crate::status::{DONE, listed, outcome};
 use cif_canon::{
-    Asked, check, clashes, compare, day_view, differences, explain_view, normalise, train_view,
-    write_comparison, write_counts,
+    Asked, Layout, check, clashes, compare, day_listing, differences, explain_view, normalise,
+    train_listing, write_comparison, write_counts,
 };
 use cif_columns::{Day, MAX_LINES, ReadDevice, Sink, Source, Uid, WriteDevice};
 use cif_extract::{Fault, read_extract};
@@ -129,16 +129,17 @@ pub fn answer_diff<R: ReadDevice, W: WriteDevice>(
     flushed(sink, status)
 }
 
-/// Writes what runs on the day, and answers status 0.
+/// Writes what runs on the day, in this layout, and answers status 0.
 pub fn answer_day<R: ReadDevice, W: WriteDevice>(
     alloc: Global,
     source: &mut Source<R>,
     sink: &mut Sink<W>,
     day: Day,
+    layout: Layout,
 ) -> Result<u8, Fault>
     ensures answer { Answers W.contents W.write_errors
         (λ text status. IfSome (R.remaining (reader_of source.old)) (λ bytes.
-        IsDayAnswer day bytes text status)) sink.old sink.new result }
+        IsDayAnswer layout day bytes text status)) sink.old sink.new result }
     ensures fault { IfSome (R.remaining (reader_of source.old)) (λ bytes. IfErr result
         (IsDayRefusal day bytes (R.remaining (reader_of source.new)))) }
     ensures source { FaultReads R.read_errors source.old source.new result }
@@ -146,11 +147,11 @@ pub fn answer_day<R: ReadDevice, W: WriteDevice>(
     ensures handed_on { IsHandedOn W.holds_nothing sink.new result }
 {
     let extract = read_extract(alloc, source, MAX_LINES)?;
-    day_view(alloc, &extract, day, sink)?;
+    day_listing(alloc, &extract, day, sink, layout)?;
     flushed(sink, DONE)
 }
 
-/// Writes when the train runs, and answers status 0.
+/// Writes when the train runs, in this layout, and answers status 0.
 pub fn answer_train<R: ReadDevice, W: WriteDevice>(
     alloc: Global,
     source: &mut Source<R>,
@@ -158,10 +159,11 @@ pub fn answer_train<R: ReadDevice, W: WriteDevice>(
     uid: &Uid,
     asked: &Asked,
     form: Form,
+    layout: Layout,
 ) -> Result<u8, Fault>
     ensures answer { Answers W.contents W.write_errors
         (λ text status. IfSome (R.remaining (reader_of source.old)) (λ bytes.
-        IsTrainAnswer form asked.now uid.now bytes text status)) sink.old sink.new result }
+        IsTrainAnswer layout form asked.now uid.now bytes text status)) sink.old sink.new result }
     ensures fault { IfSome (R.remaining (reader_of source.old)) (λ bytes. IfErr result
         (IsNormaliseFault MAX_LINES asked.now bytes (R.remaining (reader_of source.new)))) }
     ensures source { FaultReads R.read_errors source.old source.new result }
@@ -169,7 +171,7 @@ pub fn answer_train<R: ReadDevice, W: WriteDevice>(
     ensures handed_on { IsHandedOn W.holds_nothing sink.new result }
 {
     let extract = narrowed(read_extract(alloc, source, MAX_LINES)?, asked)?;
-    train_view(alloc, &extract, uid, sink, form)?;
+    train_listing(alloc, &extract, uid, sink, form, layout)?;
     flushed(sink, DONE)
 }
 

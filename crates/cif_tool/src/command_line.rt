@@ -121,7 +121,8 @@ fn day<'a>(alloc: Global) -> Result<Command<'a>, AllocError>
 {
     subcommand(alloc, "day", help::DAY, help::DAY_MORE)?
         .arg(required(alloc, "YYMMDD", help::DATE))?
-        .arg(optional(alloc, "FILE", help::FILE))
+        .arg(optional(alloc, "FILE", help::FILE))?
+        .arg(flag(alloc, "stops", help::STOPS))
 }
 
 /// `train`, which takes a UID.
@@ -131,7 +132,9 @@ fn train<'a>(alloc: Global, forms: &'a [&'a str]) -> Result<Command<'a>, AllocEr
     let command = subcommand(alloc, "train", help::TRAIN, help::TRAIN_MORE)?
         .arg(required(alloc, "UID", help::UID))?
         .arg(optional(alloc, "FILE", help::FILE))?;
-    with_dates(alloc, command)?.arg(form_option(alloc, forms))
+    with_dates(alloc, command)?
+        .arg(form_option(alloc, forms))?
+        .arg(flag(alloc, "stops", help::STOPS))
 }
 
 /// `explain`, which takes a UID and a date.

@@ -98,6 +98,9 @@ pub(crate) const DAY_MORE: &str = "\
 Prints a line for each association that holds, then one for each train:
   AA BASE OTHER CATEGORY INDICATOR LOCATION SUFFIX SUFFIX DIAGRAM KIND
   BS UID IDENTITY ORIGIN DEPARTURE PLATFORM TERMINUS ARRIVAL PLATFORM
+With --stops a line for each call of a train follows its own (LO, LI or LT):
+  LI LOCATION SUFFIX ARRIVAL DEPARTURE PASS, public ARRIVAL DEPARTURE,
+  PLATFORM PATH LINE ACTIVITIES
 One space stands between fields, and a field is as wide as its columns.
 
 Example:
@@ -114,6 +117,7 @@ pub(crate) const TRAIN: &str = "Lists the schedules of one train";
 pub(crate) const TRAIN_MORE: &str = "\
 Prints a line for each schedule that the train has in the canonical extract:
   FIRST LAST DAYS IDENTITY ORIGIN DEPARTURE PLATFORM TERMINUS ARRIVAL PLATFORM
+With --stops a line for each of its calls follows, as of `cif day --stops`.
 One space stands between fields, and a field is as wide as its columns.
 Form 1 joins weeks that have the same days. Form 2 also joins a week that the
 window cuts, where it runs alike on the days that are left of it.
@@ -166,11 +170,11 @@ Statuses:
   3  the input is refused, or the dates asked for don't fit its window
   4  a fault of reading, of writing or of memory";
 
-pub(crate) const FILE: &str = "The extract to read [default: standard input]";
+pub(crate) const FILE: &str = "The extract to read; - is standard input [default: -]";
 
-pub(crate) const LEFT: &str = "One extract";
+pub(crate) const LEFT: &str = "One extract; - is standard input";
 
-pub(crate) const RIGHT: &str = "The extract that it is compared with";
+pub(crate) const RIGHT: &str = "The extract that it is compared with; - is standard input";
 
 pub(crate) const DATE: &str = "The date, such as 260114 for 14 January 2026";
 
@@ -183,5 +187,7 @@ pub(crate) const TO: &str = "Last date of the window [default: the header's]";
 pub(crate) const VERBOSE: &str = "Say more on standard error";
 
 pub(crate) const COMMON: &str = "Take dates that aren't given from the common window";
+
+pub(crate) const STOPS: &str = "List the calls of each train too";
 
 pub(crate) const FORM: &str = "How weeks are joined";

@@ -1,4 +1,5 @@
 //! Where the program reads an extract.
+use crate::words::is_standard;
 use arrayvec::ArrayVec;
 use cif_columns::{LINE_WIDTH, Line, ReadDevice};
 use cif_records::Header;
@@ -30,14 +31,17 @@ enum Device<'a, R: Files + Input> {
 }
 
 impl<'a, R: Files + Input> ExtractInput<'a, R> {
-    /// The file of this name, or the standard input where there is none.
+    /// The file of this name, or the standard input where there is none or it is `-`.
     pub(crate) fn of(rt: &'a R, side: &'static str, file: Option<&'a str>) -> Self {
         ExtractInput {
             side,
-            name: file.unwrap_or("standard input"),
+            name: match file {
+                Some(name) if !is_standard(name) => name,
+                _ => "standard input",
+            },
             device: match file {
-                Some(name) => Device::Named { files: rt, name },
-                None => Device::Unlocked(rt),
+                Some(name) if !is_standard(name) => Device::Named { files: rt, name },
+                _ => Device::Unlocked(rt),
             },
             start: ArrayVec::new(),
             failure: None,

@@ -1,11 +1,11 @@
 //! What a call of `cif` asks for.
 ghost use Rattle.std.specs.Prelude.{◌≡◌, option_map};
 
-use cif_canon::Asked;
+use cif_canon::{Asked, Layout};
 use cif_columns::{Day, Uid};
 use cif_weeks::Form;
 
-/// What a call of `cif` asks for. A file that isn't named is the standard input.
+/// What a call of `cif` asks for. A file that isn't named is the standard input, and so is `-`.
 #[derive(Debug, Drop)]
 pub enum Job {
     /// To write the canonical extract.
@@ -35,17 +35,19 @@ pub enum Job {
         asked: Asked,
         common: bool,
     },
-    /// To list what runs on a day.
+    /// To list what runs on a day, in this layout.
     Day {
         day: Day,
         file: Option<String>,
+        layout: Layout,
     },
-    /// To list the canonical schedules of a train.
+    /// To list the canonical schedules of a train, in this layout.
     Train {
         uid: Uid,
         file: Option<String>,
         asked: Asked,
         form: Form,
+        layout: Layout,
     },
     /// To say why a train runs on a day, or doesn't.
     Explain {
@@ -64,7 +66,7 @@ impl Job {
     ghost use Rattle.cif_tool.specs.Job.{input_names};
 
     /// The names of the files that are read: one, or two of `Compare` and `Diff`. `None` is the
-    /// standard input, or no second file.
+    /// standard input, or no second file; `-` is the standard input too.
     pub fn inputs(&self) -> (Option<&str>, Option<&str>)
         ensures { (option_map (λ name. name.now) result.0, option_map (λ name. name.now) result.1)
             ≡ input_names self.now }

@@ -55,13 +55,18 @@ pub fn answer<R: ReadDevice, W: WriteDevice>(
             asked,
             common,
         } => answer_diff(alloc, source, right, sink, asked, *common),
-        Job::Day { day, file: _ } => answer_day(alloc, source, sink, *day),
+        Job::Day {
+            day,
+            file: _,
+            layout,
+        } => answer_day(alloc, source, sink, *day, *layout),
         Job::Train {
             uid,
             file: _,
             asked,
             form,
-        } => answer_train(alloc, source, sink, uid, asked, *form),
+            layout,
+        } => answer_train(alloc, source, sink, uid, asked, *form, *layout),
         Job::Explain { uid, day, file: _ } => answer_explain(alloc, source, sink, uid, *day),
         Job::Clashes { file: _, asked } => answer_clashes(alloc, source, sink, asked),
     }

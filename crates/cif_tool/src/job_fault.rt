@@ -10,7 +10,7 @@ use clap::error::ErrorKind;
 use std::alloc::{AllocError, Global};
 
 /// The bytes of the longest line that names a fault, with its line feed.
-const LONGEST_LINE: usize = 14;
+const LONGEST_LINE: usize = 44;
 
 /// Why a call of `cif` asks for nothing.
 #[derive(Debug, Drop)]
@@ -21,6 +21,8 @@ pub enum JobFault {
     BadDate,
     /// A word that stands for a UID isn't six bytes from 0x20 to 0x7E.
     BadUid,
+    /// Both inputs of `compare` or `diff` are the standard input.
+    OneInput,
     /// Memory ran out.
     Memory,
 }
@@ -82,7 +84,7 @@ impl JobFault {
                 ErrorKind::DisplayHelp | ErrorKind::DisplayVersion => DONE,
                 _ => MISTAKEN,
             },
-            JobFault::BadDate | JobFault::BadUid => MISTAKEN,
+            JobFault::BadDate | JobFault::BadUid | JobFault::OneInput => MISTAKEN,
             JobFault::Memory => FAILED,
         }
     }
@@ -96,6 +98,7 @@ impl JobFault {
             JobFault::Usage(_) => None,
             JobFault::BadDate => Some("cif: bad date"),
             JobFault::BadUid => Some("cif: bad UID"),
+            JobFault::OneInput => Some("cif: LEFT and RIGHT are both standard input"),
             JobFault::Memory => Some("cif: Memory"),
         }
     }

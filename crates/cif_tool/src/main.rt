@@ -5,6 +5,7 @@ mod advice;
 mod answers;
 mod clash_lines;
 mod command_line;
+mod escaped;
 mod help;
 mod input;
 mod job;

@@ -1,6 +1,7 @@
 //! From the words of the process to its status: what is said here, the rows of `tests/` show over the
 //! built program.
 use crate::advice::{advise, advise_on_date, advise_on_uid, tell_failure, tell_window};
+use crate::escaped::{escaped_words, have_control};
 use crate::input::ExtractInput;
 use crate::job::Job;
 use crate::job_answer::answer;
@@ -37,15 +38,21 @@ pub fn run<R: Env + Files + Input + Print + AllocGlobal, E: Print>(rt: &R, error
         }
     };
     let verbose = is_verbose(words.as_slice());
+    let control = have_control(words.as_slice());
     match job_of(rt.alloc(), words) {
         Ok(job) => done(rt, &job, verbose, &mut errors),
         Err(fault) => {
+            let fault = if control && fault.status() == MISTAKEN {
+                escaped(rt, fault)
+            } else {
+                fault
+            };
             let status = end(&explained(rt, &fault, &mut errors), &mut errors);
             if verbose && let Ok(words) = words_of(rt) {
                 match fault {
                     JobFault::BadDate => advise_on_date(rt.alloc(), words.as_slice(), &mut errors),
                     JobFault::BadUid => advise_on_uid(rt.alloc(), words.as_slice(), &mut errors),
-                    JobFault::Usage(_) | JobFault::Memory => {}
+                    JobFault::Usage(_) | JobFault::OneInput | JobFault::Memory => {}
                 }
             }
             status
@@ -125,6 +132,21 @@ fn explained<R: Print + AllocGlobal, W: WriteDevice>(
     let answer = fault.explain(rt.alloc(), &mut Sink::new(&mut output), errors);
     let _ = output.into_parts();
     answer
+}
+
+/// Why the words are mistaken, with their control characters escaped: `clap`'s text has the words.
+/// Escaped words are mistaken in the same way.
+fn escaped<R: Env + AllocGlobal>(rt: &R, fault: JobFault) -> JobFault {
+    let Ok(words) = words_of(rt) else {
+        return JobFault::Memory;
+    };
+    let Ok(shown) = escaped_words(rt.alloc(), words.as_slice()) else {
+        return JobFault::Memory;
+    };
+    match job_of(rt.alloc(), shown) {
+        Ok(_) => fault,
+        Err(shown) => shown,
+    }
 }
 
 /// The standard output behind a buffer.

@@ -1,18 +1,19 @@
 //! What the words of a call ask for.
-ghost use Rattle.std.specs.Prelude.{◌≡◌, ◌≢◌, ◌⊎◌, IfOk, IfErr, IsSomeAnd, MatchOption, Some};
+ghost use Rattle.std.specs.Prelude.{◌≡◌, ◌≢◌, ◌⊎◌, ◌&&◌, false, true, IfOk, IfErr, IsSomeAnd, MatchOption, Some};
 ghost use Rattle.std.specs.Prelude.{codes, map, option_map, string_bytes};
 ghost use Rattle.clap.specs.Words.{first_of, found_of, kind_of, rows_of};
 ghost use Rattle.clap.specs.Words.{subcommand_rows_of};
 ghost use Rattle.cif_columns.specs.Day.{StandsInYymmdd};
 ghost use Rattle.cif_tool.specs.Job.{Asks, HasFile, HasWord, IsAskedBy};
-ghost use Rattle.cif_tool.specs.Job.{IsChosen, IsDateOf, IsTaken, IsUidWord, form_of, has_common};
+ghost use Rattle.cif_tool.specs.Job.{IsChosen, IsDateOf, IsTaken, IsUidWord, form_of, has_common, is_standard};
+ghost use Rattle.cif_tool.specs.Job.{layout_of};
 ghost use Rattle.cif_tool.specs.JobFault.{HasBadDate, IsFaultOf, IsWordFault, NamesNoDay};
 ghost use Rattle.cif_tool.specs.JobFault.{IsNoUid};
 
 use crate::command_line::matches_of;
 use crate::job::Job;
 use crate::job_fault::JobFault;
-use cif_canon::Asked;
+use cif_canon::{Asked, Layout};
 use cif_columns::{Day, Uid, are_printable};
 use cif_weeks::Form;
 use clap::ArgMatches;
@@ -25,8 +26,9 @@ static FORMS: [&str; 2] = ["1", "2"];
 /// What the words of a call ask for, of which the first is the program's name.
 ///
 /// `Usage` comes where `clap` refuses the words, or where they ask for help or for the version;
-/// else `BadUid` where a UID is no UID, and else `BadDate` where a date is no date; `Memory` where
-/// memory ran out, in `clap` or in this call itself.
+/// else `BadUid` where a UID is no UID, else `BadDate` where a date is no date, and else `OneInput`
+/// where both inputs are the standard input; `Memory` where memory ran out, in `clap` or in this
+/// call itself.
 // Inlined, it would keep `clap`'s 25 KiB on the stack while the job is done.
 #[inline(never)]
 pub fn job_of(alloc: Global, words: Vec<String>) -> Result<Job, JobFault>
@@ -132,11 +134,13 @@ fn compare_job(alloc: Global, matches: &ArgMatches<'_>) -> Result<Job, JobFault>
     ensures err { IfErr result (λ fault. IsWordFault fault
         (codes "compare", rows_of (found_of matches.now))) }
 {
+    let asked = asked_of(matches)?;
+    let (left, right) = two_inputs(matches)?;
     Ok(Job::Compare {
-        asked: asked_of(matches)?,
+        asked,
         common: has_common(matches),
-        left: String::from_str(alloc, required_word(matches, "LEFT"))?,
-        right: String::from_str(alloc, required_word(matches, "RIGHT"))?,
+        left: String::from_str(alloc, left)?,
+        right: String::from_str(alloc, right)?,
     })
 }
 
@@ -148,11 +152,13 @@ fn diff_job(alloc: Global, matches: &ArgMatches<'_>) -> Result<Job, JobFault>
     ensures err { IfErr result (λ fault. IsWordFault fault
         (codes "diff", rows_of (found_of matches.now))) }
 {
+    let asked = asked_of(matches)?;
+    let (left, right) = two_inputs(matches)?;
     Ok(Job::Diff {
-        asked: asked_of(matches)?,
+        asked,
         common: has_common(matches),
-        left: String::from_str(alloc, required_word(matches, "LEFT"))?,
-        right: String::from_str(alloc, required_word(matches, "RIGHT"))?,
+        left: String::from_str(alloc, left)?,
+        right: String::from_str(alloc, right)?,
     })
 }
 
@@ -169,6 +175,7 @@ fn day_job(alloc: Global, matches: &ArgMatches<'_>) -> Result<Job, JobFault>
     Ok(Job::Day {
         day,
         file: file_of(alloc, matches)?,
+        layout: layout_of(matches),
     })
 }
 
@@ -187,6 +194,7 @@ fn train_job(alloc: Global, matches: &ArgMatches<'_>) -> Result<Job, JobFault>
         asked: asked_of(matches)?,
         form: form_of(matches),
         file: file_of(alloc, matches)?,
+        layout: layout_of(matches),
     })
 }
 
@@ -239,6 +247,35 @@ fn required_word<'a>(matches: &ArgMatches<'a>, id: &str) -> &'a str
     ensures { first_of id.now (rows_of (found_of matches.now)) ≡ Some result.now }
 {
     word_of(matches, id).unwrap()
+}
+
+/// Whether the word stands for the standard input.
+pub(crate) fn is_standard(word: &str) -> bool
+    ensures { result ≡ is_standard word.now }
+{
+    word == "-"
+}
+
+/// The words that name the two inputs, which are not both the standard input.
+fn two_inputs<'a>(matches: &ArgMatches<'a>) -> Result<(&'a str, &'a str), JobFault>
+    requires left { HasWord (codes "LEFT") (rows_of (found_of matches.now)) }
+    requires right { HasWord (codes "RIGHT") (rows_of (found_of matches.now)) }
+    ensures ok { IfOk result (λ words.
+        (first_of (codes "LEFT") (rows_of (found_of matches.now)) ≡ Some words.0.now)
+        × (first_of (codes "RIGHT") (rows_of (found_of matches.now)) ≡ Some words.1.now)
+        × ((is_standard words.0.now && is_standard words.1.now) ≡ false)) }
+    ensures err { IfErr result (λ fault. (fault ≡ JobFault.OneInput)
+        × IsSomeAnd (first_of (codes "LEFT") (rows_of (found_of matches.now)))
+        (λ word. is_standard word ≡ true)
+        × IsSomeAnd (first_of (codes "RIGHT") (rows_of (found_of matches.now)))
+        (λ word. is_standard word ≡ true)) }
+{
+    let left = required_word(matches, "LEFT");
+    let right = required_word(matches, "RIGHT");
+    if is_standard(left) && is_standard(right) {
+        return Err(JobFault::OneInput);
+    }
+    Ok((left, right))
 }
 
 /// The file that the words name, if they name one.
@@ -296,6 +333,16 @@ fn has_common(matches: &ArgMatches<'_>) -> bool
     match word_of(matches, "common") {
         Some(word) => word == "true",
         None => false,
+    }
+}
+
+/// What the words ask to list of each train.
+fn layout_of(matches: &ArgMatches<'_>) -> Layout
+    ensures { result ≡ layout_of (rows_of (found_of matches.now)) }
+{
+    match word_of(matches, "stops") {
+        Some(word) if word == "true" => Layout::LinesAndCalls,
+        _ => Layout::Lines,
     }
 }
 

@@ -146,6 +146,8 @@ def with_options(rng, job, timetable, odds):
         job = job._replace(first=first, last=last)
     if "common" in taken:
         job = job._replace(common=rng.random() < 0.5)
+    if "stops" in taken:
+        job = job._replace(stops=rng.random() < 0.5)
     if "form" in taken:
         job = job._replace(form=rng.choice(FORMS if rng.random() > odds["mistake"] else NO_FORMS))
     return job

@@ -12,7 +12,7 @@ from .meaning import Meaning, all_clashes, first_difference
 # What the words of a command ask for. Dates and a UID are words as they were given, or None where there is none; without
 # a form it is 2, and common says whether --common is there. Files are names; where there is none, the command reads standard
 # input.
-Job = namedtuple("Job", "command files day uid first last form common", defaults=((), None, None, None, None, None, False))
+Job = namedtuple("Job", "command files day uid first last form common stops", defaults=((), None, None, None, None, None, False, False))
 
 Answer = namedtuple("Answer", "stdout stderr status")
 
@@ -25,8 +25,8 @@ OPTIONS = {
     "check": {"first", "last", "form"},
     "compare": {"first", "last", "common"},
     "diff": {"first", "last", "common"},
-    "day": set(),
-    "train": {"first", "last", "form"},
+    "day": {"stops"},
+    "train": {"first", "last", "form", "stops"},
     "explain": set(),
     "clashes": {"first", "last"},
 }
@@ -74,9 +74,9 @@ def said(job, day, extracts):
     if job.command == "check":
         return [texts.counted(texts.canonical(meaning, form)[1])], 0
     if job.command == "day":
-        return texts.day_view(meaning, day), 0
+        return texts.day_view(meaning, day, job.stops), 0
     if job.command == "train":
-        return texts.train_view(meaning, job.uid, form), 0
+        return texts.train_view(meaning, job.uid, form, job.stops), 0
     if job.command == "diff":
         return some_or_none(texts.differences(meaning, *others))
     difference = first_difference(meaning, *others)
@@ -96,7 +96,7 @@ def agrees(want, got):
 
 def is_mistake(job):
     """Whether the command doesn't take such options, or not so many files."""
-    given = {name for name in ("first", "last", "form", "common") if getattr(job, name) not in (None, False)}
+    given = {name for name in ("first", "last", "form", "common", "stops") if getattr(job, name) not in (None, False)}
     counts = (2,) if job.command in OF_TWO else (0, 1)
     return not given <= OPTIONS[job.command] or job.form not in (None, "1", "2") or len(job.files) not in counts
 

@@ -80,15 +80,36 @@ def train_fields(key, body):
     return f"{key[0]} {journey(body)}"
 
 
-def day_view(meaning, day):
-    """A line for each association that holds on the date, and for each train that runs."""
+def call_line(line):
+    """The line of a call by its fields, each with its columns in LO, LI and LT; one that a record lacks is spaces."""
+    kinds = {
+        "LO": ((3, 9), (10, 10), 5, (11, 15), 5, 4, (16, 19), (20, 22), 3, (23, 25), (30, 41)),
+        "LI": ((3, 9), (10, 10), (11, 15), (16, 20), (21, 25), (26, 29), (30, 33), (34, 36), (40, 42), (37, 39), (43, 54)),
+        "LT": ((3, 9), (10, 10), (11, 15), 5, 5, (16, 19), 4, (20, 22), (23, 25), 3, (26, 37)),
+    }
+    places = kinds[line[:2]]
+    return " ".join([line[:2], *(" " * place if isinstance(place, int) else line[place[0] - 1 : place[1]] for place in places)])
+
+
+def call_lines(body, stops):
+    """The lines of a train's calls, if they are asked for."""
+    return [call_line(line) for line in body.lines if line[:2] in ("LO", "LI", "LT")] if stops else []
+
+
+def day_view(meaning, day, stops):
+    """A line for each association that holds on the date, and for each train that runs, with its calls if they are asked for."""
     associations = [
         f"AA {association_fields(key, bodies[day])}" for key, bodies in meaning.associations.items() if day in bodies
     ]
-    return associations + [f"BS {train_fields(key, bodies[day])}" for key, bodies in meaning.trains.items() if day in bodies]
+    trains = [(key, bodies[day]) for key, bodies in meaning.trains.items() if day in bodies]
+    return associations + [line for key, body in trains for line in (f"BS {train_fields(key, body)}", *call_lines(body, stops))]
 
 
-def train_view(meaning, uid, form):
-    """A line for each record that the train has in the canonical extract."""
+def train_view(meaning, uid, form, stops):
+    """A line for each record that the train has in the canonical extract, with its calls if they are asked for."""
     records = joined(meaning.trains.get((uid,), {}), meaning.window, form)
-    return [f"{yymmdd(record.first)} {yymmdd(record.last)} {record.days} {journey(record.body)}" for record in records]
+    lines = []
+    for record in records:
+        lines.append(f"{yymmdd(record.first)} {yymmdd(record.last)} {record.days} {journey(record.body)}")
+        lines += call_lines(record.body, stops)
+    return lines

@@ -4,20 +4,20 @@ use Rattle.std.specs.Prelude.{if◌then◌else◌}
 use Rattle.cif_columns.specs.Sink.{HasWritten, Writes}
 use Rattle.cif_columns.proofs.WrittenTexts.{written_nothing}
 use Rattle.cif_canon.proofs.RunningRecords.{tested}
-use Rattle.cif_canon.specs.Views.{train_line}
+use Rattle.cif_canon.specs.Views.{train_text, with_calls}
 use Rattle.cif_canon.proofs.lines_of_day.LinesOfDayRecordLinesSchedule.write_record.Goals as goal
 
 pub returns-then-applies_on : goal.returns-then-applies_on
 returns-then-applies_on g c =
-    subst (λ t. Writes g.W.Write.contents g.W.WriteDevice.write_errors t c.args.sink.now c.write_all.new.self c.write_all.result)
-    ((c.as_bytes.ensures.value ∙ c.as_str.ensures.value ∙ c.train_line.ensures)
-    ∙ ap (λ (b : Bool). if b then train_line (c.args.uid.now, c.args.body.now) else [])
+    subst (λ t. Writes g.W.Write.contents g.W.WriteDevice.write_errors t c.args.sink.now c.write_train.new.sink c.write_train.result)
+    (ap (λ line. with_calls c.args.self.now.layout line c.args.body.now) (c.as_str.ensures.value ∙ c.train_line.ensures)
+    ∙ ap (λ (b : Bool). if b then train_text c.args.self.now.layout (c.args.uid.now, c.args.body.now) else [])
     (sym c.if-applies_on.true ∙ tested c.args.run.now c.args.body.now c.args.self.now.day _ tt (c.applies_on.ensures tt)))
-    c.write_all.ensures
+    c.write_train.ensures
 
 pub returns-else-applies_on : goal.returns-else-applies_on
 returns-else-applies_on g c =
     subst (λ t. HasWritten g.W.Write.contents g.W.WriteDevice.write_errors t c.args.sink.now c.args.sink.now)
-    (ap (λ (b : Bool). if b then train_line (c.args.uid.now, c.args.body.now) else [])
+    (ap (λ (b : Bool). if b then train_text c.args.self.now.layout (c.args.uid.now, c.args.body.now) else [])
     (sym c.if-applies_on.false ∙ tested c.args.run.now c.args.body.now c.args.self.now.day _ tt (c.applies_on.ensures tt)))
     (written_nothing _ _ _ c.requires.going)

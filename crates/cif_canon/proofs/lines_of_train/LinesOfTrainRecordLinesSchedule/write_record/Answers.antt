@@ -4,18 +4,18 @@ use Rattle.std.specs.Prelude.{if◌then◌else◌}
 use Rattle.cif_columns.specs.Sink.{HasWritten, Writes}
 use Rattle.cif_columns.proofs.WrittenTexts.{written_nothing}
 use Rattle.cif_weeks.specs.Runs.{record_of}
-use Rattle.cif_canon.specs.Views.{schedule_line}
+use Rattle.cif_canon.specs.Views.{schedule_text, with_calls}
 use Rattle.cif_canon.proofs.lines_of_train.LinesOfTrainRecordLinesSchedule.write_record.Goals as goal
 
 pub returns-then-eq : goal.returns-then-eq
 returns-then-eq g c =
-    subst (λ t. Writes g.W.Write.contents g.W.WriteDevice.write_errors t c.args.sink.now c.write_all.new.self c.write_all.result)
-    ((c.as_bytes.ensures.value ∙ c.as_str.ensures.value ∙ c.schedule_line.ensures)
-    ∙ ap (λ (b : Bool). if b then schedule_line (record_of c.args.run.now c.args.body.now) else [])
-    (sym c.if-eq.true ∙ c.eq.ensures)) c.write_all.ensures
+    subst (λ t. Writes g.W.Write.contents g.W.WriteDevice.write_errors t c.args.sink.now c.write_train.new.sink c.write_train.result)
+    (ap (λ line. with_calls c.args.self.now.layout line c.args.body.now) (c.as_str.ensures.value ∙ c.schedule_line.ensures)
+    ∙ ap (λ (b : Bool). if b then schedule_text c.args.self.now.layout (record_of c.args.run.now c.args.body.now) else [])
+    (sym c.if-eq.true ∙ c.eq.ensures)) c.write_train.ensures
 
 pub returns-else-eq : goal.returns-else-eq
 returns-else-eq g c =
     subst (λ t. HasWritten g.W.Write.contents g.W.WriteDevice.write_errors t c.args.sink.now c.args.sink.now)
-    (ap (λ (b : Bool). if b then schedule_line (record_of c.args.run.now c.args.body.now) else [])
+    (ap (λ (b : Bool). if b then schedule_text c.args.self.now.layout (record_of c.args.run.now c.args.body.now) else [])
     (sym c.if-eq.false ∙ c.eq.ensures)) (written_nothing _ _ _ c.requires.going)

@@ -6,7 +6,7 @@ use Rattle.cif_columns.proofs.WrittenTexts.{failed_second}
 use Rattle.clap.specs.declared.error.Error.{Error}
 use Rattle.cif_tool.specs.JobFault.{Explains, status_of}
 use Rattle.cif_tool.specs.declared.job_fault.JobFault.{JobFault}
-use Rattle.cif_tool.specs.declared.job_fault.JobFault.TheVariants.{Usage, BadDate, BadUid, Memory}
+use Rattle.cif_tool.specs.declared.job_fault.JobFault.TheVariants.{Usage, BadDate, BadUid, OneInput, Memory}
 use Rattle.cif_tool.proofs.job_fault.JobFault.explain.Goals as goal
 
 -- the text, if there is one, as a line
@@ -20,6 +20,7 @@ own-status : (fault : JobFault) → ((error : Error) → fault ≢ Usage error) 
 own-status (Usage error) other zero = other error refl
 own-status BadDate other zero = absurd (omega (arith, zero))
 own-status BadUid other zero = absurd (omega (arith, zero))
+own-status OneInput other zero = absurd (omega (arith, zero))
 own-status Memory other zero = absurd (omega (arith, zero))
 
 pub returns-in_err-flush-in-Usage : goal.returns-in_err-flush-in-Usage

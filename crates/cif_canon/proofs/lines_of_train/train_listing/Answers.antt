@@ -12,7 +12,7 @@ use Rattle.cif_canon.specs.Steps.Views.{schedule_of}
 use Rattle.cif_canon.specs.Views.{IsTrainView}
 use Rattle.cif_canon.proofs.HandedFaults.{at-fault}
 use Rattle.cif_canon.proofs.ViewTexts.{fails, have-lines, sliced, train-view, written-so}
-use Rattle.cif_canon.proofs.lines_of_train.train_view.Goals as goal
+use Rattle.cif_canon.proofs.lines_of_train.train_listing.Goals as goal
 
 pub write_runs-requires : goal.write_runs-requires
 write_runs-requires g c =
@@ -25,14 +25,14 @@ returns-in_err-write_runs-clause-view g c =
     let x = extract_parts c.args.extract.now in
     let uid = c.args.uid.now in
     let runs = c.in_ok-runs.runs in
-    let text : List ℕ = flat_map (run_text (schedule_of uid) (schedule_entries x.schedules)) runs.schedules.items in (
+    let text : List ℕ = flat_map (run_text (schedule_of c.args.layout uid) (schedule_entries x.schedules)) runs.schedules.items in (
       text,
       fails _ _ text _ c.write_runs.new.sink result (at-fault result _ c.from_residual-in_err-write_runs.ensures.1)
           (subst (λ t. HasFailed g.W.Write.contents g.W.WriteDevice.write_errors t c.args.sink.now c.write_runs.new.sink)
-          (sliced (schedule_of uid) schedule_entry c.as_slice.result.now x.schedules c.as_slice-2.result.now runs.schedules.items
+          (sliced (schedule_of c.args.layout uid) schedule_entry c.as_slice.result.now x.schedules c.as_slice-2.result.now runs.schedules.items
           c.as_slice.ensures.value c.as_slice-2.ensures.value) c.in_err-write_runs.ensures),
-      written-so result (IsTrainView c.args.form x uid text)
-          (train-view x uid c.args.form runs.associations.items runs.schedules.items c.in_ok-runs.ensures.associations
+      written-so result (IsTrainView c.args.layout c.args.form x uid text)
+          (train-view c.args.layout x uid c.args.form runs.associations.items runs.schedules.items c.in_ok-runs.ensures.associations
           c.in_ok-runs.ensures.schedules),
     )
 
@@ -41,11 +41,11 @@ returns-clause-view g c =
     let x = extract_parts c.args.extract.now in
     let uid = c.args.uid.now in
     let runs = c.in_ok-runs.runs in
-    let text : List ℕ = flat_map (run_text (schedule_of uid) (schedule_entries x.schedules)) runs.schedules.items in (
+    let text : List ℕ = flat_map (run_text (schedule_of c.args.layout uid) (schedule_entries x.schedules)) runs.schedules.items in (
       text,
       subst (λ t. HasWritten g.W.Write.contents g.W.WriteDevice.write_errors t c.args.sink.now c.write_runs.new.sink)
-          (sliced (schedule_of uid) schedule_entry c.as_slice.result.now x.schedules c.as_slice-2.result.now runs.schedules.items
+          (sliced (schedule_of c.args.layout uid) schedule_entry c.as_slice.result.now x.schedules c.as_slice-2.result.now runs.schedules.items
           c.as_slice.ensures.value c.as_slice-2.ensures.value) c.in_ok-write_runs.ensures,
-      train-view x uid c.args.form runs.associations.items runs.schedules.items c.in_ok-runs.ensures.associations
+      train-view c.args.layout x uid c.args.form runs.associations.items runs.schedules.items c.in_ok-runs.ensures.associations
           c.in_ok-runs.ensures.schedules,
     )

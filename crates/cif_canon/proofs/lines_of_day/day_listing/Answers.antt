@@ -14,9 +14,9 @@ use Rattle.cif_canon.specs.Views.{IsDayView}
 use Rattle.cif_canon.proofs.HandedFaults.{at-fault}
 use Rattle.cif_canon.proofs.ViewTexts.{associations-text, day-view, fails-first, fails-second, have-lines, sliced, trains-text}
 use Rattle.cif_canon.proofs.ViewTexts.{written-so}
-use Rattle.cif_canon.proofs.lines_of_day.day_view.Given.{Over}
-use Rattle.cif_canon.proofs.lines_of_day.day_view.Goals as goal
-use Rattle.cif_canon.proofs.lines_of_day.day_view.Goals.{In_ok-runs, In_ok-write_runs}
+use Rattle.cif_canon.proofs.lines_of_day.day_listing.Given.{Over}
+use Rattle.cif_canon.proofs.lines_of_day.day_listing.Goals as goal
+use Rattle.cif_canon.proofs.lines_of_day.day_listing.Goals.{In_ok-runs, In_ok-write_runs}
 
 pub write_runs-requires : goal.write_runs-requires
 write_runs-requires g c =
@@ -30,9 +30,9 @@ write_runs-requires-2 g c =
 
 -- the lines of associations and those of trains are the view
 view : (g : Over) (c : In_ok-runs g) → let x = extract_parts c.args.extract.now in
-    IsDayView x c.args.day (associations-text x c.args.day c.in_ok-runs.runs.associations.items
-    ++ trains-text x c.args.day c.in_ok-runs.runs.schedules.items)
-view g c = day-view (extract_parts c.args.extract.now) c.args.day c.in_ok-check_within.ensures.ok Two c.in_ok-runs.runs.associations.items
+    IsDayView c.args.layout x c.args.day (associations-text x c.args.day c.in_ok-runs.runs.associations.items
+    ++ trains-text c.args.layout x c.args.day c.in_ok-runs.runs.schedules.items)
+view g c = day-view c.args.layout (extract_parts c.args.extract.now) c.args.day c.in_ok-check_within.ensures.ok Two c.in_ok-runs.runs.associations.items
     c.in_ok-runs.runs.schedules.items c.in_ok-runs.ensures.associations c.in_ok-runs.ensures.schedules
 
 -- and those of associations were written
@@ -48,7 +48,7 @@ pub returns-in_err-write_runs-clause-view : goal.returns-in_err-write_runs-claus
 returns-in_err-write_runs-clause-view g c =
     let x = extract_parts c.args.extract.now in
     let one = associations-text x c.args.day c.in_ok-runs.runs.associations.items in
-    let other = trains-text x c.args.day c.in_ok-runs.runs.schedules.items in
+    let other = trains-text c.args.layout x c.args.day c.in_ok-runs.runs.schedules.items in
     let result = c.from_residual-in_err-write_runs.result in (
       one ++ other,
       fails-first _ _ one other _ _ c.write_runs.new.sink result (at-fault result _ c.from_residual-in_err-write_runs.ensures.1)
@@ -63,13 +63,13 @@ returns-in_err-write_runs-2-clause-view g c =
     let at = goal.at.returns-in_err-write_runs-2-clause-view g c in
     let x = extract_parts c.args.extract.now in
     let one = associations-text x c.args.day c.in_ok-runs.runs.associations.items in
-    let other = trains-text x c.args.day c.in_ok-runs.runs.schedules.items in
+    let other = trains-text c.args.layout x c.args.day c.in_ok-runs.runs.schedules.items in
     let result = c.from_residual-in_err-write_runs-2.result in (
       one ++ other,
       fails-second _ _ one other _ _ c.write_runs-2.new.sink result (at-fault result _ c.from_residual-in_err-write_runs-2.ensures.1)
           (written g at.In_ok-write_runs)
           (subst (λ t. HasFailed g.W.Write.contents g.W.WriteDevice.write_errors t c.write_runs.new.sink c.write_runs-2.new.sink)
-          (sliced (train_on c.args.day) schedule_entry c.as_slice-3.result.now _ c.as_slice-4.result.now _ c.as_slice-3.ensures.value
+          (sliced (train_on c.args.layout c.args.day) schedule_entry c.as_slice-3.result.now _ c.as_slice-4.result.now _ c.as_slice-3.ensures.value
           c.as_slice-4.ensures.value) c.in_err-write_runs-2.ensures),
       written-so result _ (view g at.In_ok-runs),
     )
@@ -79,11 +79,11 @@ returns-clause-view g c =
     let at = goal.at.returns-clause-view g c in
     let x = extract_parts c.args.extract.now in
     let one = associations-text x c.args.day c.in_ok-runs.runs.associations.items in
-    let other = trains-text x c.args.day c.in_ok-runs.runs.schedules.items in (
+    let other = trains-text c.args.layout x c.args.day c.in_ok-runs.runs.schedules.items in (
       one ++ other,
       written_both _ _ one other _ _ _ (written g at.In_ok-write_runs)
           (subst (λ t. HasWritten g.W.Write.contents g.W.WriteDevice.write_errors t c.write_runs.new.sink c.write_runs-2.new.sink)
-          (sliced (train_on c.args.day) schedule_entry c.as_slice-3.result.now _ c.as_slice-4.result.now _ c.as_slice-3.ensures.value
+          (sliced (train_on c.args.layout c.args.day) schedule_entry c.as_slice-3.result.now _ c.as_slice-4.result.now _ c.as_slice-3.ensures.value
           c.as_slice-4.ensures.value) c.in_ok-write_runs-2.ensures),
       view g at.In_ok-runs,
     )
