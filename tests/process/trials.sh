@@ -309,6 +309,18 @@ each_end() {
     done
 }
 
+# reads_stdin: whether the row reads its standard input: it names it, or names no file
+reads_stdin() {
+    if grep -qx -e - "$row/args"; then
+        return 0
+    fi
+    while IFS= read -r word; do
+        if [ -e "$row/$word" ]; then
+            return 1
+        fi
+    done < "$row/args"
+}
+
 # bytewise ROW: each read and each write of the row moves one byte; if its inputs are accepted, and nothing goes to the
 # standard error, the library says so for each call
 bytewise() {
@@ -325,6 +337,11 @@ bytewise() {
         stdout)
             if [ -s "$file" ]; then
                 count=$((count + $(bytes stdout) - 1))
+            fi
+            ;;
+        stdin)
+            if reads_stdin; then
+                count=$((count + $(bytes stdin)))
             fi
             ;;
         *) count=$((count + $(bytes "${file##*/}"))) ;;
