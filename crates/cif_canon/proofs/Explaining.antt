@@ -14,7 +14,8 @@ use Rattle.std.proofs.lemmas.List.{get_or-map, length-map, map-append, take_more
 use Rattle.std.proofs.lemmas.Map.Keys.{IsDistinct-IsPermutation}
 use Rattle.std.proofs.lemmas.Map.Made.{AllPairs-from_IsDistinct, IsDistinct-from_AllPairs}
 use Rattle.std.proofs.lemmas.Option.{slice_get_within, some_pair_parts}
-use Rattle.std.proofs.lemmas.List.Elements.{All-append, All-cons, All-contains, All-nil, All-weaker, Contains-append_left, Contains-append_right}
+use Rattle.std.proofs.lemmas.List.Elements.{All-append, All-cons, All-contains, All-nil, All-weaker}
+use Rattle.std.proofs.lemmas.List.Elements.{Contains-append_left, Contains-append_right}
 use Rattle.std.proofs.lemmas.List.Sorted.{All-permutation, Contains-permutation, IsPermutation-map, ranks_by, sorted_far}
 use Rattle.cif_calendar.specs.Applies.{Applies}
 use Rattle.cif_calendar.specs.Keys.{of_key}
@@ -24,7 +25,8 @@ use Rattle.cif_columns.specs.Stp.{letter}
 use Rattle.cif_calendar.proofs.Positions.{at-contains, contains-at}
 use Rattle.cif_weeks.proofs.JoinedLists.{AllPairs-append, AllPairs-map, Contains-from_map, Contains-map}
 use Rattle.cif_canon.specs.Explanation.{AreExplained, Explained, IsMarked}
-use Rattle.cif_canon.specs.Steps.Explanation.{ArePlacedBelow, ArePlacedInOrder, IsAlike, IsBefore, IsLeast, IsMarkAmong, IsOpposed, IsPlaced}
+use Rattle.cif_canon.specs.Steps.Explanation.{ArePlacedBelow, ArePlacedInOrder, IsAlike, IsBefore, IsLeast, IsMarkAmong}
+use Rattle.cif_canon.specs.Steps.Explanation.{IsOpposed, IsPlaced}
 use Rattle.cif_canon.specs.Steps.Explanation.{Placed, opposed, placed_at, placed_cmp}
 use Rattle.cif_canon.specs.declared.mark.Mark.{Mark}
 use Rattle.cif_canon.specs.declared.mark.Mark.TheVariants as mark
@@ -140,7 +142,8 @@ module _ {K B : Type 0} (train_of : K → List ℕ) (entries : List (K × Terms 
         → ArePlacedBelow train_of entries u d (n + 1) placed
     placed-no_more none = record {
       found = are.found;
-      below = All-weaker (λ (q : Placed K B). q.place < n) (λ (q : Placed K B). q.place < n + 1) (λ q lt. omega (arith, lt)) placed are.below;
+      below = All-weaker (λ (q : Placed K B). q.place < n) (λ (q : Placed K B). q.place < n + 1) (λ q lt. omega (arith, lt)) placed
+          are.below;
       all = λ q of_q lt. all_of q of_q (eq-or-lt_of_le {n = q.place} {m = n} (omega (arith, lt)));
       rising = are.rising;
     }
@@ -172,7 +175,8 @@ module _ {K B : Type 0} (cmp : K → K → Ordering) (total : IsTotalOrder cmp) 
   pub placed_total : IsTotalOrder {K = Placed K B} (placed_cmp cmp)
   placed_total =
       then_total (on_total (λ (p : Placed K B). p.key) total)
-      (then_total (on_total (λ (p : Placed K B). letter p.terms.letter) nat_cmp_total) (on_total (λ (p : Placed K B). p.place) nat_cmp_total))
+      (then_total (on_total (λ (p : Placed K B). letter p.terms.letter) nat_cmp_total)
+      (on_total (λ (p : Placed K B). p.place) nat_cmp_total))
 
   -- of two records at different places that aren't in the wrong order the first is less
   less-by : (p q : Placed K B) (o : Ordering) → placed_cmp cmp p q ≡ o → is_lt (ordering_reverse o) ≡ false → (p.place ≡ q.place → ⊥)
@@ -200,7 +204,8 @@ module _ {X K B : Type 0} (of : X → Placed K B) (cmp : K → K → Ordering) (
       → IsSortedBy (λ x y. is_lt (placed_cmp cmp (of x) (of y))) ys → ArePlacedInOrder cmp train_of entries u d (map of ys)
   placed-sorted are sorted = record {
     found = All-permutation (IsPlaced train_of entries u d) _ _ (IsPermutation-map of xs ys moved) are.found;
-    all = λ p of_p. Contains-permutation _ _ p (IsPermutation-map of xs ys moved) (are.all p of_p (slice_get_within entries p.place _ of_p.at));
+    all = λ p of_p. Contains-permutation _ _ p (IsPermutation-map of xs ys moved)
+        (are.all p of_p (slice_get_within entries p.place _ of_p.at));
     rising = AllPairs-map of (λ p q. placed_cmp cmp p q ≡ Less) ys (λ i j e lt below.
         let le : i ≤ j = omega (arith, lt) in
         let x = get_or ys i e in
@@ -214,7 +219,8 @@ module _ {X K B : Type 0} (of : X → Placed K B) (cmp : K → K → Ordering) (
         (place-at i e (omega (arith, lt, below)) ∙ same ∙ sym (place-at j e below))));
   }
     where
-      place-at : (i : ℕ) (e : X) → i < length ys → get_or (map (λ (p : Placed K B). p.place) (map of ys)) i (of e).place ≡ (of (get_or ys i e)).place
+      place-at : (i : ℕ) (e : X) → i < length ys
+          → get_or (map (λ (p : Placed K B). p.place) (map of ys)) i (of e).place ≡ (of (get_or ys i e)).place
       place-at i e below =
           get_or-map (λ (p : Placed K B). p.place) (map of ys) i (of e) (of e).place (omega (arith, below, length-map ys of))
           ∙ ap (λ (p : Placed K B). p.place) (get_or-map of ys i e (of e) below)

@@ -28,7 +28,8 @@ returns-then-ne g c place at seen =
 
 pub returns-then-other_letter-letter : goal.returns-then-other_letter-letter
 returns-then-other_letter-letter g c place at seen h =
-    let one : c.write-letter.result ≡ letter (g.E.Entry.terms c.args.one.now).letter = c.write-letter.ensures.columns ∙ ap letter c.letter.ensures in
+    let one : c.write-letter.result ≡ letter (g.E.Entry.terms c.args.one.now).letter =
+    c.write-letter.ensures.columns ∙ ap letter c.letter.ensures in
     let other : c.write-other_letter.result ≡ letter (g.E.Entry.terms c.args.other.now).letter =
     c.write-other_letter.ensures.columns ∙ ap letter c.letter-2.ensures in
     mark-hidden seen _ _ (one-key g (goal.at.returns-then-other_letter-letter g c).After-ne c.if-ne.false)
@@ -36,7 +37,8 @@ returns-then-other_letter-letter g c place at seen h =
 
 pub returns-then-other_letter-letter-2 : goal.returns-then-other_letter-letter-2
 returns-then-other_letter-letter-2 g c place at seen =
-    let one : c.write-letter.result ≡ letter (g.E.Entry.terms c.args.one.now).letter = c.write-letter.ensures.columns ∙ ap letter c.letter.ensures in
+    let one : c.write-letter.result ≡ letter (g.E.Entry.terms c.args.one.now).letter =
+    c.write-letter.ensures.columns ∙ ap letter c.letter.ensures in
     let other : c.write-other_letter.result ≡ letter (g.E.Entry.terms c.args.other.now).letter =
     c.write-other_letter.ensures.columns ∙ ap letter c.letter-2.ensures in
     mark-unchanged seen _ _ (λ e. omega (arith, one, other, c.if-other_letter-letter.false))
@@ -44,7 +46,8 @@ returns-then-other_letter-letter-2 g c place at seen =
 
 pub returns-then-same_body : goal.returns-then-same_body
 returns-then-same_body g c place at seen =
-    let one : c.write-letter.result ≡ letter (g.E.Entry.terms c.args.one.now).letter = c.write-letter.ensures.columns ∙ ap letter c.letter.ensures in
+    let one : c.write-letter.result ≡ letter (g.E.Entry.terms c.args.one.now).letter =
+    c.write-letter.ensures.columns ∙ ap letter c.letter.ensures in
     let other : c.write-other_letter.result ≡ letter (g.E.Entry.terms c.args.other.now).letter =
     c.write-other_letter.ensures.columns ∙ ap letter c.letter-2.ensures in
     mark-unchanged seen _ _ (λ e. omega (arith, one, other, c.if-other_letter-letter.false))
@@ -57,5 +60,6 @@ returns g c place at seen h =
     let other : c.write-other_letter.result ≡ letter (g.E.Entry.terms c.args.other.now).letter =
     c.write-other_letter.ensures.columns ∙ ap letter c.letter-2.ensures in
     subst (IsMarkAmong _ _) (sym c.opposed.ensures)
-    (mark-opposed seen _ _ (one-key g (goal.at.returns g c).After-ne c.if-ne.false) (omega (arith, one, other, c.if-other_letter-letter-2.false))
+    (mark-opposed seen _ _ (one-key g (goal.at.returns g c).After-ne c.if-ne.false)
+    (omega (arith, one, other, c.if-other_letter-letter-2.false))
     (λ e. false≢true (sym c.if-same_body.false ∙ c.same_body.ensures.1 e)) c.args.mark h)

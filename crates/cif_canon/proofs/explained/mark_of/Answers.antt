@@ -13,7 +13,8 @@ pub loop-other-preserved : goal.loop-other-preserved
 loop-other-preserved g c place =
     let one = placed_at place (g.E.Entry.key c.args.one.now) (g.E.Entry.terms c.args.one.now) in
     subst (λ seen. IsMarkAmong seen one c.mark_beside-mark.result)
-    (sym (map-take_more (placed_of g.E.Entry.key g.E.Entry.terms) c.args.applying.now c.loop-other.other-index _ c.loop-other-test.true c.other-item.is))
+    (sym (map-take_more (placed_of g.E.Entry.key g.E.Entry.terms) c.args.applying.now c.loop-other.other-index _
+    c.loop-other-test.true c.other-item.is))
     (c.mark_beside-mark.ensures place _ _ (c.loop-other.invariant place))
 
 pub returns : goal.returns

@@ -16,7 +16,8 @@ loop-one-preserved g c =
     let of = placed_of g.E.Entry.key g.E.Entry.terms in
     one_marked of (explained_of g.E.Entry.key g.E.Entry.terms) c.as_slice-one-items.result.now c.loop-one.one-index
     c.loop-one.marked.items c.push.new.self.items _ _ c.in_ok-push.ensures.items c.loop-one-test.true c.one-item.is refl
-    (subst (λ xs. IsMarkAmong (map of xs) (of c.one-item.result) c.mark_of.result) (c.as_slice.ensures.value ∙ sym c.as_slice-one-items.ensures.value)
+    (subst (λ xs. IsMarkAmong (map of xs) (of c.one-item.result) c.mark_of.result)
+    (c.as_slice.ensures.value ∙ sym c.as_slice-one-items.ensures.value)
     (c.mark_of.ensures c.one-item.result.place))
     c.loop-one.invariant
 
