@@ -58,6 +58,8 @@ impl Reading {
 
     /// Takes one line more. Its kind and its place are judged before its fields, and memory is
     /// asked for after them.
+    // It is called for each line. What few lines need is kept out of the loop that it is inlined into.
+    #[inline(always)]
     pub(crate) fn take(&mut self, alloc: Global, line: &Line) -> Result<(), TakeFault>
         requires { (records : List Record) × HasRead records (progress_of self.old) }
         ensures taken { IsTaken (refusal_here self.old.place (kind_in line.now) line.now)
@@ -119,6 +121,7 @@ impl Reading {
         }
     }
 
+    #[inline(never)]
     fn take_header(&mut self, line: &Line) -> Result<(), TakeFault>
         ensures { IsTaken (header_refusal line.now) line.now (progress_of self.old) result
             (progress_of self.new) }
@@ -128,6 +131,7 @@ impl Reading {
         Ok(())
     }
 
+    #[inline(never)]
     fn take_tiploc(&mut self, line: &Line) -> Result<(), TakeFault>
         ensures { IsTaken (tiploc_refusal line.now) line.now (progress_of self.old) result
             (progress_of self.new) }
@@ -138,6 +142,7 @@ impl Reading {
         Ok(())
     }
 
+    #[inline(never)]
     fn take_association(&mut self, line: &Line) -> Result<(), TakeFault>
         ensures { IsTaken (association_refusal line.now) line.now (progress_of self.old) result
             (progress_of self.new) }
@@ -148,6 +153,7 @@ impl Reading {
         Ok(())
     }
 
+    #[inline(never)]
     fn take_basic(&mut self, line: &Line) -> Result<(), TakeFault>
         ensures { IsTaken (basic_refusal line.now) line.now (progress_of self.old) result
             (progress_of self.new) }
@@ -218,6 +224,7 @@ impl Reading {
     }
 
     /// Ends the schedule whose body's lines are kept.
+    #[inline(never)]
     fn close(&mut self, alloc: Global, opened: Opened) -> Result<(), TakeFault>
         requires { KeepSomeBody self.old.lines }
         ensures { IsClosed (progress_of self.old) opened result (progress_of self.new) }
@@ -256,6 +263,7 @@ impl Reading {
         }
     }
 
+    #[inline(never)]
     fn take_trailer(&mut self, line: &Line) -> Result<(), TakeFault>
         ensures { IsTaken (trailer_refusal line.now) line.now (progress_of self.old) result
             (progress_of self.new) }
