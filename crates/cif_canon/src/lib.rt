@@ -52,5 +52,5 @@ pub use layout::Layout;
 pub use lines_of_day::{day_listing, day_view};
 pub use lines_of_train::{train_listing, train_view};
 pub use listed_differences::Differences;
-pub use normal_form::{check, normalise};
+pub use normal_form::{check, check_keeping, normalise, normalise_keeping};
 pub use side::{Side, Sided};

@@ -42,8 +42,37 @@ pub fn normalise<R: ReadDevice, W: WriteDevice>(
     ensures source { FaultReads R.read_errors source.old source.new result }
     ensures end { LeavesNothing R.remaining source.old source.new result }
 {
+    let mut kept = None;
+    normalise_keeping(alloc, source, sink, max_lines, asked, form, &mut kept)
+}
+
+/// Does what `normalise` does, and leaves the extract that it read in `kept`. To free each of its bodies
+/// takes time, which a program that ends right after this can spare.
+pub fn normalise_keeping<R: ReadDevice, W: WriteDevice>(
+    alloc: Global,
+    source: &mut Source<R>,
+    sink: &mut Sink<W>,
+    max_lines: u64,
+    asked: &Asked,
+    form: Form,
+    kept: &mut Option<Extract>,
+) -> Result<Counts, Fault>
+    requires within { max_lines ≤ MAX_LINES }
+    ensures normal { (text : List ℕ)
+        × FaultWrites W.contents W.write_errors text sink.old sink.new result
+        × IfSome (R.remaining (reader_of source.old)) (λ bytes.
+        Normalises form asked.now max_lines bytes text result) }
+    ensures fault { IfSome (R.remaining (reader_of source.old)) (λ bytes. IfErr result
+        (IsNormaliseFault max_lines asked.now bytes (R.remaining (reader_of source.new)))) }
+    ensures accepted { IfSome (R.remaining (reader_of source.old)) (λ bytes. (x : ExtractParts)
+        → IsAcceptedWithin max_lines asked.now x bytes → IfErr result IsDeviceOrMemory) }
+    ensures answers { IfErr result (IsOfNormalise max_lines) }
+    ensures source { FaultReads R.read_errors source.old source.new result }
+    ensures end { LeavesNothing R.remaining source.old source.new result }
+{
     let extract = read_narrowed(alloc, source, max_lines, asked)?;
-    let canon = canon(alloc, &extract, form)?;
+    let extract = kept.insert(extract);
+    let canon = canon(alloc, extract, form)?;
     canon.write(sink)?;
     Ok(canon.counts())
 }
@@ -68,8 +97,33 @@ pub fn check<R: ReadDevice>(
     ensures source { FaultReads R.read_errors source.old source.new result }
     ensures end { LeavesNothing R.remaining source.old source.new result }
 {
+    let mut kept = None;
+    check_keeping(alloc, source, max_lines, asked, form, &mut kept)
+}
+
+/// Does what `check` does, and leaves the extract that it read in `kept`, as `normalise_keeping` does.
+pub fn check_keeping<R: ReadDevice>(
+    alloc: Global,
+    source: &mut Source<R>,
+    max_lines: u64,
+    asked: &Asked,
+    form: Form,
+    kept: &mut Option<Extract>,
+) -> Result<Counts, Fault>
+    requires within { max_lines ≤ MAX_LINES }
+    ensures ok { IfSome (R.remaining (reader_of source.old)) (λ bytes. IfOk result (λ counts.
+        (text : List ℕ) × IsNormalised form asked.now max_lines bytes text counts)) }
+    ensures fault { IfSome (R.remaining (reader_of source.old)) (λ bytes. IfErr result
+        (IsNormaliseFault max_lines asked.now bytes (R.remaining (reader_of source.new)))) }
+    ensures accepted { IfSome (R.remaining (reader_of source.old)) (λ bytes. (x : ExtractParts)
+        → IsAcceptedWithin max_lines asked.now x bytes → IfErr result IsDeviceOrMemory) }
+    ensures answers { IfErr result (IsOfCheck max_lines) }
+    ensures source { FaultReads R.read_errors source.old source.new result }
+    ensures end { LeavesNothing R.remaining source.old source.new result }
+{
     let extract = read_narrowed(alloc, source, max_lines, asked)?;
-    Ok(canon(alloc, &extract, form)?.counts())
+    let extract = kept.insert(extract);
+    Ok(canon(alloc, extract, form)?.counts())
 }
 
 /// The extract that the source's lines spell, narrowed to the window that is asked for.

@@ -16,13 +16,14 @@ ghost use Rattle.cif_tool.specs.Pair.{IsCompareRefusal};
 use crate::pair::{narrowed, read_pair};
 use crate::status::{DONE, listed, outcome};
 use cif_canon::{
-    Asked, Layout, check, clashes, compare, day_listing, differences, explain_view, normalise,
-    train_listing, write_comparison, write_counts,
+    Asked, Layout, check_keeping, clashes, compare, day_listing, differences, explain_view,
+    normalise_keeping, train_listing, write_comparison, write_counts,
 };
 use cif_columns::{Day, MAX_LINES, ReadDevice, Sink, Source, Uid, WriteDevice};
 use cif_extract::{Fault, read_extract};
 use cif_weeks::Form;
 use std::alloc::Global;
+use std::mem;
 
 /// Writes the canonical extract of what the source gives, and answers status 0.
 pub fn answer_normalise<R: ReadDevice, W: WriteDevice>(
@@ -41,7 +42,10 @@ pub fn answer_normalise<R: ReadDevice, W: WriteDevice>(
     ensures end { LeavesNothing R.remaining source.old source.new result }
     ensures handed_on { IsHandedOn W.holds_nothing sink.new result }
 {
-    normalise(alloc, source, sink, MAX_LINES, asked, form)?;
+    let mut kept = None;
+    normalise_keeping(alloc, source, sink, MAX_LINES, asked, form, &mut kept)?;
+    // The process ends after this: the system takes back the memory of all bodies at once.
+    mem::forget(kept);
     flushed(sink, DONE)
 }
 
@@ -63,7 +67,9 @@ pub fn answer_check<R: ReadDevice, W: WriteDevice>(
     ensures end { LeavesNothing R.remaining source.old source.new result }
     ensures handed_on { IsHandedOn W.holds_nothing sink.new result }
 {
-    let counts = check(alloc, source, MAX_LINES, asked, form)?;
+    let mut kept = None;
+    let counts = check_keeping(alloc, source, MAX_LINES, asked, form, &mut kept)?;
+    mem::forget(kept);
     write_counts(&counts, sink)?;
     flushed(sink, DONE)
 }

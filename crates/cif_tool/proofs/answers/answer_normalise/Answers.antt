@@ -5,17 +5,17 @@ use Rattle.cif_tool.proofs.Answered.{fails, flushed}
 use Rattle.cif_tool.proofs.KnownAnswers.{normalise-answer, normalise-failed}
 use Rattle.cif_tool.proofs.answers.answer_normalise.Goals as goal
 
-pub returns-in_err-normalise-clause-answer : goal.returns-in_err-normalise-clause-answer
-returns-in_err-normalise-clause-answer g c =
-    let f = c.in_err-normalise.field-0.0 in
+pub returns-in_err-normalise_keeping-clause-answer : goal.returns-in_err-normalise_keeping-clause-answer
+returns-in_err-normalise_keeping-clause-answer g c =
+    let f = c.in_err-normalise_keeping.field-0.0 in
     let is = at-fault c.from_residual.result f c.from_residual.ensures.1 in
-    let made = c.in_err-normalise.ensures.normal in
-    fails _ _ _ _ made.0 0 Counts c.normalise.new.sink c.from_residual.result f is made.1
+    let made = c.in_err-normalise_keeping.ensures.normal in
+    fails _ _ _ _ made.0 0 Counts c.normalise_keeping.new.sink c.from_residual.result f is made.1
     (normalise-failed _ c.args.form c.args.asked.now made.0 f made.2)
 
 pub returns-clause-answer : goal.returns-clause-answer
 returns-clause-answer g c =
-    let made = c.in_ok-normalise.ensures.normal in
-    flushed _ _ _ _ made.0 0 c.normalise.new.sink c.flushed.new.sink c.flushed.result made.1 c.flushed.ensures.writes
+    let made = c.in_ok-normalise_keeping.ensures.normal in
+    flushed _ _ _ _ made.0 0 c.normalise_keeping.new.sink c.flushed.new.sink c.flushed.result made.1 c.flushed.ensures.writes
     c.flushed.ensures.ok c.flushed.ensures.fault
-    (normalise-answer _ c.args.form c.args.asked.now c.in_ok-normalise.field-0 made.0 made.2)
+    (normalise-answer _ c.args.form c.args.asked.now c.in_ok-normalise_keeping.field-0 made.0 made.2)

@@ -5,7 +5,7 @@ use Rattle.cif_extract.specs.ExtractParts.{extract_parts}
 use Rattle.cif_canon.proofs.HandedFaults.{at-fault}
 use Rattle.cif_canon.proofs.Normalising.{fault-writes, known-accepted, known-canon_accepted, known-canon_fault, normalises-front}
 use Rattle.cif_canon.proofs.Normalising.{normalises-whole}
-use Rattle.cif_canon.proofs.normal_form.normalise.Goals as goal
+use Rattle.cif_canon.proofs.normal_form.normalise_keeping.Goals as goal
 
 pub returns-in_err-extract-clause-accepted : goal.returns-in_err-extract-clause-accepted
 returns-in_err-extract-clause-accepted g c =
@@ -16,13 +16,13 @@ pub returns-in_err-canon-clause-fault : goal.returns-in_err-canon-clause-fault
 returns-in_err-canon-clause-fault g c =
     known-canon_fault c.args.max_lines c.args.asked.now _ (g.R.Read.remaining (reader_of c.read_narrowed.new.source))
     c.from_residual-in_err-canon.result c.in_err-canon.field-0.0 c.from_residual-in_err-canon.ensures.1
-    (extract_parts c.in_ok-extract.extract) c.in_err-canon.ensures.fault c.in_ok-extract.ensures.ok
+    (extract_parts c.in_ok-extract.extract) (rw c.insert-extract.ensures.value at c.in_err-canon.ensures.fault) c.in_ok-extract.ensures.ok
 
 pub returns-in_err-canon-clause-accepted : goal.returns-in_err-canon-clause-accepted
 returns-in_err-canon-clause-accepted g c =
     known-canon_accepted c.args.max_lines c.args.asked.now _ (g.R.Read.remaining (reader_of c.read_narrowed.new.source))
     c.from_residual-in_err-canon.result c.in_err-canon.field-0.0 c.from_residual-in_err-canon.ensures.1
-    (extract_parts c.in_ok-extract.extract) c.in_err-canon.ensures.fault c.in_ok-extract.ensures.ok
+    (extract_parts c.in_ok-extract.extract) (rw c.insert-extract.ensures.value at c.in_err-canon.ensures.fault) c.in_ok-extract.ensures.ok
 
 pub returns-in_err-write-clause-normal : goal.returns-in_err-write-clause-normal
 returns-in_err-write-clause-normal g c =
@@ -33,7 +33,7 @@ returns-in_err-write-clause-normal g c =
           c.in_err-write.ensures.writes,
       known_so _ _ _ (λ bytes spelled.
           normalises-front c.args.max_lines c.args.asked.now bytes c.args.form (extract_parts c.in_ok-extract.extract) spelled
-          c.in_ok-canon.canon c.in_ok-canon.ensures.ok c.from_residual-in_err-write.result fault failed c.in_err-write.ensures.fault)
+          c.in_ok-canon.canon (rw c.insert-extract.ensures.value at c.in_ok-canon.ensures.ok) c.from_residual-in_err-write.result fault failed c.in_err-write.ensures.fault)
           c.in_ok-extract.ensures.ok,
     )
 
@@ -43,5 +43,5 @@ returns-clause-normal g c = (
   c.in_ok-write.ensures.writes,
   known_so _ _ _ (λ bytes spelled.
       normalises-whole c.args.max_lines c.args.asked.now bytes c.args.form (extract_parts c.in_ok-extract.extract) spelled
-      c.in_ok-canon.canon c.in_ok-canon.ensures.ok c.counts.result c.counts.ensures) c.in_ok-extract.ensures.ok,
+      c.in_ok-canon.canon (rw c.insert-extract.ensures.value at c.in_ok-canon.ensures.ok) c.counts.result c.counts.ensures) c.in_ok-extract.ensures.ok,
 )

@@ -3,7 +3,7 @@ use Rattle.cif_columns.specs.Source.{reader_of}
 use Rattle.cif_columns.proofs.GivenLinesLaws.{known_so}
 use Rattle.cif_extract.specs.ExtractParts.{extract_parts}
 use Rattle.cif_canon.proofs.Normalising.{counted-text, known-accepted, known-canon_accepted, known-canon_fault}
-use Rattle.cif_canon.proofs.normal_form.check.Goals as goal
+use Rattle.cif_canon.proofs.normal_form.check_keeping.Goals as goal
 
 pub returns-in_err-extract-clause-accepted : goal.returns-in_err-extract-clause-accepted
 returns-in_err-extract-clause-accepted g c =
@@ -14,16 +14,16 @@ pub returns-in_err-canon-clause-fault : goal.returns-in_err-canon-clause-fault
 returns-in_err-canon-clause-fault g c =
     known-canon_fault c.args.max_lines c.args.asked.now _ (g.R.Read.remaining (reader_of c.read_narrowed.new.source))
     c.from_residual-in_err-canon.result c.in_err-canon.field-0.0 c.from_residual-in_err-canon.ensures.1
-    (extract_parts c.in_ok-extract.extract) c.in_err-canon.ensures.fault c.in_ok-extract.ensures.ok
+    (extract_parts c.in_ok-extract.extract) (rw c.insert-extract.ensures.value at c.in_err-canon.ensures.fault) c.in_ok-extract.ensures.ok
 
 pub returns-in_err-canon-clause-accepted : goal.returns-in_err-canon-clause-accepted
 returns-in_err-canon-clause-accepted g c =
     known-canon_accepted c.args.max_lines c.args.asked.now _ (g.R.Read.remaining (reader_of c.read_narrowed.new.source))
     c.from_residual-in_err-canon.result c.in_err-canon.field-0.0 c.from_residual-in_err-canon.ensures.1
-    (extract_parts c.in_ok-extract.extract) c.in_err-canon.ensures.fault c.in_ok-extract.ensures.ok
+    (extract_parts c.in_ok-extract.extract) (rw c.insert-extract.ensures.value at c.in_err-canon.ensures.fault) c.in_ok-extract.ensures.ok
 
 pub returns-clause-ok : goal.returns-clause-ok
 returns-clause-ok g c =
     known_so _ _ _ (λ bytes spelled.
     counted-text c.args.max_lines c.args.asked.now bytes c.args.form (extract_parts c.in_ok-extract.extract) spelled c.in_ok-canon.field-0
-    c.in_ok-canon.ensures.ok c.counts-2.result c.counts-2.ensures) c.in_ok-extract.ensures.ok
+    (rw c.insert-extract.ensures.value at c.in_ok-canon.ensures.ok) c.counts-2.result c.counts-2.ensures) c.in_ok-extract.ensures.ok
