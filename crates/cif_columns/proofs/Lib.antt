@@ -20,6 +20,7 @@ pub mod MaskUnion
 pub mod Masks
 pub mod PackedCodes
 pub mod Parts
+pub mod PassedLines
 pub mod PlainColumns
 pub mod PlainLines
 pub mod PrintableBytes
@@ -27,6 +28,7 @@ pub mod ReadSources
 pub mod SameMasks
 pub mod StoodValues
 pub mod TableLaws
+pub mod TestedBytes
 pub mod TestedRows
 pub mod TestedTexts
 pub mod TestedTimes

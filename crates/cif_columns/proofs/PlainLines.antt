@@ -92,7 +92,7 @@ unsplit (x ∷ xs) h =
     (no_feed x (All-head IsPrintable x xs h))
     ∙ ap (onto_first x) (unsplit xs (All-tail IsPrintable x xs h))
 
-unstripped : (xs : List ℕ) → IsLine xs → strip_carriage_return xs ≡ xs
+pub unstripped : (xs : List ℕ) → IsLine xs → strip_carriage_return xs ≡ xs
 unstripped xs h =
     let wide = h.width in
     let last = h.printable (length xs - 1) 0 (let z : length xs - 1 < length xs = omega (arith, wide) in z) in

@@ -1,6 +1,6 @@
 -- What a clause reads of a `LineReader`, and what a `next` answers.
 use Rattle.std.specs.Prelude.{◌≡◌, ℕ, ◌+◌, ◌<◌, Bool, true, false, List, [], ◌∷◌, Option, None, Some, Result, Ok, Err}
-use Rattle.std.specs.Prelude.{◌≢◌, IfErr, IfOk, IfSome, OnErr, OnSome}
+use Rattle.std.specs.Prelude.{◌≢◌, IfErr, IfOk, IfSome, OnErr, OnSome, drop, length, slice_index, take}
 use Rattle.cif_columns.specs.declared.line.Line.{Line}
 use Rattle.cif_columns.specs.declared.line_reader.LineReader.{LineReader}
 use Rattle.cif_columns.specs.declared.line_fault.LineFault.{LineFault}
@@ -100,3 +100,18 @@ pub record IsNext {R : Type 0} (remaining : R → Option (List ℕ)) (errors : R
   pub counted : IfOk result (λ line. OnSome line (given new ≡ given old + 1))
   pub ended : result ≡ Ok None → given new ≡ given old
   pub refused : OnErr result (given new ≡ given old)
+
+-- These columns stand first in what is held, a line feed follows them, and a line may come.
+pub record AreAhead (r : LineReader) (columns : List ℕ) : Type 0 where
+  pub reading : past r ≡ Reading
+  pub room : given r < limit r
+  pub first : columns ≡ take 80 (held r)
+  pub within : 80 < length (held r)
+  pub feed : slice_index (held r) 80 ≡ 10
+
+-- The line that was ahead was given: it and its line feed aren't held any more.
+pub record HasPassed (old new : LineReader) : Type 0 where
+  pub held_now : held new ≡ drop 81 (held old)
+  pub counted : given new ≡ given old + 1
+  pub limit_now : limit new ≡ limit old
+  pub past_now : past new ≡ past old

@@ -1,10 +1,12 @@
 -- A test of a line column by column, and which tables of records it asks for. Columns are counted from 0 in the test's own tables.
 use Rattle.std.specs.Prelude.{◌≡◌, ℕ, ◌+◌, ◌-◌, ◌<◌, ◌≤◌, ◌⊎◌, Bool, true, false, ◌&&◌, ◌||◌, ◌==◌, nat_le}
 use Rattle.std.specs.Prelude.{List, [], ◌∷◌, length, replicate, codes, slice_index, map}
+use Rattle.std.specs.List.{list_all}
 use Rattle.std.specs.Str.{bytes_eq}
 use Rattle.cif_columns.specs.Activities.{codes_in}
 use Rattle.cif_columns.specs.Field.{AllStandIn, FieldValue, Row, columns, is_whole_from, plain_line, row}
 use Rattle.cif_columns.specs.Field.{exactly, text, activity_codes, working_time, public_time, spare}
+use Rattle.cif_columns.specs.FirstLine.{is_printable}
 use Rattle.cif_columns.specs.Text.{text_of}
 use Rattle.cif_columns.specs.declared.plain_test.PlainTest.{PlainTest}
 
@@ -54,6 +56,10 @@ pub record Passes (t : PlainTest) (line : List ℕ) : Type 0 where
   pub followed : (k : ℕ) → k < 79 → IsFollowed t line k
   pub followed_over : (k : ℕ) → k < 64 → IsFollowedOver t line k
   pub timed : (k : ℕ) → k < 32 → IsTimed t line k
+
+-- each byte that it lets through may stand in a line
+abbrev pub asks_printable : PlainTest → Bool
+asks_printable t = list_all is_printable t.least && list_all is_printable t.most && list_all is_printable t.also
 
 -- ---- which tables it asks for
 

@@ -1,7 +1,7 @@
 //! The bytes that are read ahead of the lines.
 ghost use Rattle.std.specs.Prelude.{◌≡◌, ◌+◌, ◌<◌, ◌≤◌, [], length, take, drop};
 ghost use Rattle.std.specs.Prelude.{true, false, Some, Ok, IfOk, OnErr};
-ghost use Rattle.std.specs.Prelude.{IfSome, IfNone, IsSome, IsTrue, ◌≢◌};
+ghost use Rattle.std.specs.Prelude.{IfSome, IfNone, IsSome, IsTrue, ◌≢◌, slice_index};
 ghost use Rattle.std.specs.Io.KnownBytes.{Keeps, Consumes, IsAtEnd};
 ghost use Rattle.cif_columns.specs.FirstLine.{is_decided};
 ghost use Rattle.cif_columns.specs.Source.{Reads, reader_of, source_failed};
@@ -9,9 +9,10 @@ ghost use Rattle.cif_columns.specs.declared.ahead.TheConstants.{AHEAD};
 ghost use Rattle.cif_columns.specs.declared.first_line.TheConstants.{LONGEST_LINE};
 
 use crate::first_line::{
-    FirstLine, LONGEST_LINE, first_line_of, first_line_with_feed, line_of_content,
+    FirstLine, LONGEST_LINE, columns_with_feed, first_line_of, first_line_with_feed,
+    line_of_content,
 };
-use crate::line::{LINE_TEXT_WIDTH, Line};
+use crate::line::{LINE_TEXT_WIDTH, LINE_WIDTH, Line};
 use crate::read_device::ReadDevice;
 use crate::refusal::Refusal;
 use crate::source::{ReadFault, Source};
@@ -103,6 +104,16 @@ impl Ahead {
         ensures not_full { IsTrue result → is_full ≡ false }
     {
         !is_full && first_line_with_feed(self.as_slice(), line)
+    }
+
+    /// The first 80 of the held bytes, if a line feed follows them.
+    #[inline(always)]
+    pub(crate) fn columns_with_feed(&self) -> Option<&[u8; LINE_WIDTH]>
+        ensures columns { IfSome result (λ columns. columns.now ≡ take 80 (held_bytes self.now)) }
+        ensures within { IfSome result (λ _. 80 < length (held_bytes self.now)) }
+        ensures feed { IfSome result (λ _. slice_index (held_bytes self.now) 80 ≡ 10) }
+    {
+        columns_with_feed(self.as_slice())
     }
 
     /// Passes over 80 bytes and a line feed.

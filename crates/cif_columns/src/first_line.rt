@@ -1,7 +1,7 @@
 //! The first line of bytes that may go on.
 ghost use Rattle.std.specs.Prelude.{◌≡◌, ◌↔◌, ◌+◌, ◌<◌, ◌≤◌, length, take, drop, min};
 ghost use Rattle.std.specs.Prelude.{false, true, IsTrue, IsOk, IsSome, IfSome, IfNone, Some, Ok};
-ghost use Rattle.std.specs.List.{list_all, position, position_or_len};
+ghost use Rattle.std.specs.List.{list_all, position, position_or_len, slice_index};
 ghost use Rattle.std.specs.Str.Lines.{strip_carriage_return};
 ghost use Rattle.cif_columns.specs.FirstLine.{is_line_feed, is_printable, has_line_feed, line_of};
 ghost use Rattle.cif_columns.specs.FirstLine.{first_line, is_decided, after_content};
@@ -72,13 +72,23 @@ fn take_line_with_feed(bytes: &[u8], line: &mut Line) -> bool
     ensures length { IsTrue result → 80 < length bytes.now }
     ensures ended { IsTrue result → position_or_len is_line_feed bytes.now ≡ 80 }
 {
-    if bytes.len() <= LINE_WIDTH || bytes[LINE_WIDTH] != b'\n' {
-        return false;
-    }
-    match bytes.first_chunk::<LINE_WIDTH>() {
+    match columns_with_feed(bytes) {
         Some(columns) => line.replace(columns),
         None => false,
     }
+}
+
+/// The first 80 bytes, if a line feed follows them.
+#[inline(always)]
+pub(crate) fn columns_with_feed(bytes: &[u8]) -> Option<&[u8; LINE_WIDTH]>
+    ensures columns { IfSome result (λ columns. columns.now ≡ take 80 bytes.now) }
+    ensures within { IfSome result (λ _. 80 < length bytes.now) }
+    ensures feed { IfSome result (λ _. slice_index bytes.now 80 ≡ 10) }
+{
+    if bytes.len() <= LINE_WIDTH || bytes[LINE_WIDTH] != b'\n' {
+        return None;
+    }
+    bytes.first_chunk::<LINE_WIDTH>()
 }
 
 // Where the first line feed is, if it is among the bytes of a line of the greatest length.

@@ -1,9 +1,9 @@
 //! Lines, one by one, from a source that gives its bytes in any pieces.
-ghost use Rattle.std.specs.Prelude.{◌≡◌, ◌≤◌, []};
+ghost use Rattle.std.specs.Prelude.{◌≡◌, ◌≤◌, [], ℕ, List, IfSome};
 ghost use Rattle.cif_columns.specs.declared.line_reader.TheConstants.{MAX_LINES};
 
 use crate::ahead::{Ahead, Found};
-use crate::line::Line;
+use crate::line::{LINE_WIDTH, Line};
 use crate::line_fault::LineFault;
 use crate::read_device::ReadDevice;
 use crate::source::Source;
@@ -35,6 +35,7 @@ pub struct LineReader {
 
 impl LineReader {
     ghost use Rattle.cif_columns.specs.LineReader.{held, given, limit, line_read, past, IsNext};
+    ghost use Rattle.cif_columns.specs.LineReader.{AreAhead, HasPassed};
     ghost use Rattle.cif_columns.specs.declared.line_reader.Past.TheVariants.{Reading};
 
     /// A reader that will give at most `max_lines` lines.
@@ -100,6 +101,29 @@ impl LineReader {
             return Ok(true);
         }
         self.read_other_line(source, line)
+    }
+
+    /// The columns that stand first in what is held, where a line feed follows them and a line may come.
+    /// If each of them may stand in a line, they are the next line. Nothing is read.
+    // With `pass_line` this spares the copy of a line.
+    #[inline(always)]
+    pub fn columns_ahead(&self) -> Option<&[u8; LINE_WIDTH]>
+        ensures { IfSome result (λ columns. AreAhead self.now columns.now) }
+    {
+        match self.past {
+            Past::Reading if self.given < self.limit => self.ahead.columns_with_feed(),
+            _ => None,
+        }
+    }
+
+    /// Gives the line that the columns ahead are: after it the next ones are ahead.
+    #[inline(always)]
+    pub fn pass_line(&mut self)
+        requires { (line : List ℕ) × AreAhead self.old line }
+        ensures { HasPassed self.old self.new }
+    {
+        self.ahead.pass_line_with_feed();
+        self.given += 1;
     }
 
     /// What `read_line` does where the held bytes don't begin with 80 bytes and a line feed, or the

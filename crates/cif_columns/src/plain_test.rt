@@ -2,7 +2,8 @@
 ghost use Rattle.std.specs.Prelude.{◌≡◌, ◌<◌, ◌≤◌, ◌↔◌, List, IsTrue, true, false};
 ghost use Rattle.cif_columns.specs.Field.{Row};
 ghost use Rattle.cif_columns.specs.PlainTest.{IsFollowed, IsFollowedOver, IsInRange, IsPlainLineOf};
-ghost use Rattle.cif_columns.specs.PlainTest.{IsTimed, Passes, asks_all, read_off};
+ghost use Rattle.cif_columns.specs.PlainTest.{IsTimed, Passes, asks_all, asks_printable, read_off};
+ghost use Rattle.cif_columns.specs.Line.{IsLine};
 
 use crate::line::{FIFTH, LINE_WIDTH, Line};
 
@@ -26,6 +27,19 @@ pub struct PlainTest {
 }
 
 impl PlainTest {
+    /// What `passes` tells of columns that may be no line. Where the tables have bytes of lines alone, columns
+    /// that pass are one.
+    #[inline(always)]
+    pub fn passes_columns(&self, columns: &[u8; LINE_WIDTH]) -> bool
+        ensures exact { IsTrue result ↔ Passes self.now columns.now }
+        ensures line { IsTrue result → asks_printable self.now ≡ true → IsLine columns.now }
+        ensures plain { IsTrue result → asks_printable self.now ≡ true → (rows : List Row)
+            → asks_all self.now rows ≡ true → read_off columns.now rows ≡ rows
+            → IsPlainLineOf rows columns.now }
+    {
+        has_all(columns, self)
+    }
+
     /// Whether the line has all that the tables ask for. Then it spells each table of a record that
     /// the test asks for, with the values that stand in it, and is the plain line of that. A `false`
     /// costs time alone: some plain lines with rare contents get it too.

@@ -1,19 +1,20 @@
 -- What a line that is taken comes to, by its kind.
-use Rattle.std.proofs.Common.{◌≡◌, ℕ, true, List, Some, refl}
+use Rattle.std.proofs.Common.{◌≡◌, ◌∙◌, ℕ, true, List, Ok, Some, ap, refl, subst, sym}
 use Rattle.cif_columns.specs.Field.{AllStandIn, plain_line}
 use Rattle.cif_extract.specs.Steps.Place.{after_extra, may_stand}
-use Rattle.cif_extract.specs.Steps.Reading.{IsKeepable, IsOnTheWay, Progress, kept, refusal_here, step}
+use Rattle.cif_extract.specs.Steps.Reading.{GoesOnPlainly, IsKeepable, IsOnTheWay, IsTaken, Progress, keeping, kept, refusal_here, step}
+use Rattle.cif_extract.specs.Steps.Reading.{with_kept}
 use Rattle.cif_extract.specs.declared.place.Place.{Place}
 use Rattle.cif_extract.specs.declared.place.Place.TheVariants as at
 use Rattle.cif_records.specs.Kind.{kind_in}
 use Rattle.cif_records.specs.Record.{record_refusal, refusal_as}
 use Rattle.cif_records.specs.SpellsRecord.{SpellsRecord, record_table}
 use Rattle.cif_records.specs.declared.kind.Kind.{Kind}
-use Rattle.cif_records.specs.declared.kind.Kind.TheVariants.{Bx, Lt}
+use Rattle.cif_records.specs.declared.kind.Kind.TheVariants.{Bx, Li, Lt}
 use Rattle.cif_records.specs.declared.record.Record.{Record}
 use Rattle.cif_records.specs.declared.record.Record.TheVariants as of
 use Rattle.cif_records.specs.declared.terminus.Terminus.{Terminus}
-use Rattle.cif_records.proofs.Records.{kind_of as record_kind, kind_there as spelled_kind}
+use Rattle.cif_records.proofs.Records.{kind_of as record_kind, kind_there as spelled_kind, no_refusal}
 use Rattle.cif_extract.proofs.FirstRefusals.{or_none}
 
 -- where a kind may stand, a line of it is refused for its fields alone
@@ -57,6 +58,22 @@ module _ (p : Progress) where
   step_extra (of.Change x) h stands = cc
   step_extra (of.Terminus x) h stands = cc
   step_extra of.Trailer h stands = cc
+
+-- a plain line of a location on the way, where one may stand
+pub plain_stop : (p after : Progress) (line : List ℕ) → GoesOnPlainly p.place line → after ≡ keeping p line →
+    IsTaken (refusal_here p.place (kind_in line) line) line p (Ok tt) after
+plain_stop p after line h is = (
+  refusal_of_record p.place line Li (spelled_kind line r h.spelled) (ap (λ q. may_stand q Li) h.here) ∙ no_refusal line r h.spelled,
+  (r, h.spelled, subst (λ l. AllStandIn l (record_table r)) (sym h.plain) h.spelled, is ∙ stepped),
+)
+  where
+    r : Record
+    r = of.Stop h.stop
+
+    stepped : keeping p line ≡ step p r
+    stepped =
+        ap (λ l. record p { lines = with_kept p.opened p.lines l }) (sym h.plain)
+        ∙ ap (λ q. record p { place = q; lines = kept p.opened p.lines r }) h.here
 
 -- a record of this kind is a last location
 pub is_terminus : (r : Record) → record_kind r ≡ Lt → (t : Terminus) × (r ≡ of.Terminus t)

@@ -38,6 +38,15 @@ pub fn read_extract<R: ReadDevice>(
     let mut reading = Reading::new(alloc);
     let mut line = Line::blank();
     loop {
+        if let Some(columns) = lines.columns_ahead()
+            && reading.goes_on_plainly(columns)
+        {
+            if reading.take_plain_stop(columns).is_err() {
+                return Err(Fault::Memory);
+            }
+            lines.pass_line();
+            continue;
+        }
         let is_line = lines.read_line(source, &mut line)?;
         if is_line {
             match reading.take(alloc, &line) {

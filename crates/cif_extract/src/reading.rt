@@ -1,5 +1,5 @@
 //! What the lines of an extract have come to.
-ghost use Rattle.std.specs.Prelude.{◌≡◌, ◌+◌, ◌^◌, ◌<◌, ◌++◌, ◌∷◌, [], List, Some, OnOk, IfOk, IfErr};
+ghost use Rattle.std.specs.Prelude.{◌≡◌, ◌+◌, ◌^◌, ◌<◌, ◌++◌, ◌∷◌, [], List, Some, Ok, OnOk, IfOk, IfErr, IsTrue};
 ghost use Rattle.cif_columns.specs.Line.{IsLine};
 ghost use Rattle.cif_records.specs.Association.{association_refusal};
 ghost use Rattle.cif_records.specs.Basic.{basic_refusal};
@@ -13,9 +13,9 @@ use crate::opened::Opened;
 use crate::place::Place;
 use crate::take_fault::TakeFault;
 use crate::{Body, Extract, Fault, Schedule};
-use cif_columns::{Line, Lines, Refusal};
+use cif_columns::{LINE_WIDTH, Line, Lines, Refusal};
 use cif_records::{
-    Association, BasicTerms, Detail, Header, Kind, Tiploc, Trailer, is_plain_line, kind_of,
+    Association, BasicTerms, Detail, Header, Kind, Stop, Tiploc, Trailer, is_plain_line, kind_of,
     plain_line_of,
 };
 use std::alloc::{AllocError, Global};
@@ -36,7 +36,7 @@ pub(crate) struct Reading {
 impl Reading {
     ghost use Rattle.cif_extract.specs.Body.{KeepSomeBody};
     ghost use Rattle.cif_extract.specs.Steps.Reading.{HasRead, IsClosed, IsKept, IsOnTheWay, IsTaken};
-    ghost use Rattle.cif_extract.specs.Steps.Reading.{IsHeld, IsUnfinished, keeping, no_progress, progress_of};
+    ghost use Rattle.cif_extract.specs.Steps.Reading.{GoesOnPlainly, IsHeld, IsUnfinished, keeping, no_progress, progress_of};
     ghost use Rattle.cif_extract.specs.Steps.Reading.{refusal_here};
     ghost use Rattle.cif_extract.specs.ExtractParts.{extract_parts};
     ghost use Rattle.cif_records.specs.declared.record.Record.{Record};
@@ -83,6 +83,25 @@ impl Reading {
             Kind::Hd => self.take_header(line),
             Kind::Zz => self.take_trailer(line),
         }
+    }
+
+    /// Whether these columns are a plain line of a location on the way, where one may stand.
+    #[inline(always)]
+    pub(crate) fn goes_on_plainly(&self, columns: &[u8; LINE_WIDTH]) -> bool
+        ensures { IsTrue result → GoesOnPlainly self.now.place columns.now }
+    {
+        matches!(self.place, Place::Journey) && Stop::are_plain(columns)
+    }
+
+    /// Takes the line of such columns, as `take` does. Nearly three in four lines are such, and are kept from
+    /// where they were read.
+    #[inline(always)]
+    pub(crate) fn take_plain_stop(&mut self, columns: &[u8; LINE_WIDTH]) -> Result<(), AllocError>
+        requires { GoesOnPlainly self.old.place columns.now }
+        ensures { OnOk result (IsTaken (refusal_here self.old.place (kind_in columns.now) columns.now)
+            columns.now (progress_of self.old) (Ok tt) (progress_of self.new)) }
+    {
+        self.keep_plain(&Line::of_printable(columns))
     }
 
     /// The extract, where these are all lines.

@@ -1,6 +1,7 @@
 //! A location on the way of a journey.
-ghost use Rattle.std.specs.Prelude.{◌≡◌, Ok};
+ghost use Rattle.std.specs.Prelude.{◌≡◌, IsTrue, Ok};
 ghost use Rattle.cif_columns.specs.Field.{plain_line};
+ghost use Rattle.cif_columns.specs.Line.{IsLine};
 ghost use Rattle.cif_records.specs.Checks.{IsJudged};
 ghost use Rattle.cif_records.specs.Stop.{stop_refusal};
 
@@ -8,8 +9,8 @@ use crate::Record;
 use crate::checks::{check_identity, public_time_at, work_time_at};
 use crate::layout::{self, Layout};
 use cif_columns::{
-    Activities, Field, Line, LineBuilder, PlainTest, PublicTime, Refusal, Text, WorkTime,
-    activities_at, text_at,
+    Activities, Field, LINE_WIDTH, Line, LineBuilder, PlainTest, PublicTime, Refusal, Text,
+    WorkTime, activities_at, text_at,
 };
 
 /// A record `LI` (the CIF End User Specification): where a journey stops or passes. Which of its
@@ -167,6 +168,21 @@ impl Stop {
         ensures only { (r : Stop) → SpellsStop line.now r → result ≡ Ok r }
     {
         layout::read(line)
+    }
+
+    /// Whether these columns are the plain line of a location on the way, as far as one pass over them
+    /// tells. A `false` costs time alone.
+    #[inline(always)]
+    pub fn are_plain(columns: &[u8; LINE_WIDTH]) -> bool
+        ensures line { IsTrue result → IsLine columns.now }
+        ensures plain { IsTrue result → (r : Stop) × SpellsStop columns.now r
+            × (plain_line (table_of r) ≡ columns.now) }
+    {
+        // Of other kinds this spares the test.
+        if columns[0] != b'L' || columns[1] != b'I' {
+            return false;
+        }
+        PLAIN.passes_columns(columns)
     }
 
     /// The plain line: spare columns are spaces, texts stand at the left, and activity codes are

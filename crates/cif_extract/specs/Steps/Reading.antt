@@ -1,6 +1,7 @@
 -- What a reading has come to, for the contracts of the reader's own steps. No clause of a public function cites it.
 use Rattle.std.specs.Prelude.{◌≡◌, ◌⊎◌, ℕ, List, [], ◌∷◌, ◌++◌, Option, None, Some, Result, Ok, Err, IfSome, is_some, map, true, false}
 use Rattle.cif_columns.specs.Field.{AllStandIn, plain_line}
+use Rattle.cif_columns.specs.Line.{IsLine}
 use Rattle.cif_columns.specs.declared.refusal.Refusal.{Refusal}
 use Rattle.cif_extract.specs.Body.{KeepAll, kept_tables, parts_in}
 use Rattle.cif_extract.specs.BodyParts.{BodyParts, extra_records}
@@ -22,6 +23,8 @@ use Rattle.cif_records.specs.Checks.{first_of}
 use Rattle.cif_records.specs.Detail.{detail_table}
 use Rattle.cif_records.specs.Record.{refusal_as}
 use Rattle.cif_records.specs.SpellsRecord.{SpellsRecord, record_table}
+use Rattle.cif_records.specs.SpellsStop.{SpellsStop, table_of as stop_table}
+use Rattle.cif_records.specs.declared.stop.Stop.{Stop}
 use Rattle.cif_records.specs.declared.association.Association.{Association}
 use Rattle.cif_records.specs.declared.basic.Basic.{Basic}
 use Rattle.cif_records.specs.declared.detail.Detail.{Detail}
@@ -174,6 +177,14 @@ abbrev pub IsClosed : Progress → Opened → Result Unit TakeFault → Progress
 IsClosed before o (Ok done) after = after ≡ record before { schedules = closed before.schedules (Some o) before.lines }
 IsClosed before o (Err (untaken.Refused why)) after = ⊥
 IsClosed before o (Err untaken.Memory) after = Unit {0}
+
+-- The line is the plain line of a location on the way, and one may stand at this place.
+pub record GoesOnPlainly (place : Place) (line : List ℕ) : Type 0 where
+  pub here : place ≡ at.Journey
+  pub is_line : IsLine line
+  pub stop : Stop
+  pub spelled : SpellsStop line stop
+  pub plain : plain_line (stop_table stop) ≡ line
 
 -- the kinds of a journey, but for its last
 abbrev pub IsOnTheWay : Option Kind → Type 0

@@ -1,5 +1,5 @@
 -- By hand, since the position of the first line feed is a function of all bytes: `place-printable` ties it to the 81st.
-use Rattle.std.proofs.Common.{◌≡◌, take, arith, rules, true}
+use Rattle.std.proofs.Common.{◌≡◌, take, rules, true}
 use Rattle.std.specs.List.{list_all}
 use Rattle.cif_columns.specs.FirstLine.{is_printable}
 use Rattle.cif_columns.proofs.FeedPlaces.{place-printable}
@@ -15,4 +15,4 @@ pub returns-in-Some-clause-ended : goal.returns-in-Some-clause-ended
 returns-in-Some-clause-ended c took =
     let bytes = c.args.bytes.now in
     let printable : list_all is_printable (take 80 bytes) ≡ true = returns-in-Some-clause-printable c took in
-    place-printable 80 bytes (omega arith) printable c.if-bytes-ne10.false
+    place-printable 80 bytes c.in-Some.ensures.within printable c.in-Some.ensures.feed

@@ -7,10 +7,10 @@ use Rattle.cif_extract.specs.Steps.Reading.{progress_of}
 use Rattle.cif_extract.proofs.ReadingRuns.{HasCome}
 use Rattle.cif_extract.proofs.reader.read_extract.Given as goal
 
-abbrev pub invariant-loop-reading : goal.invariant-loop-reading
-invariant-loop-reading g l = (ls : List (List ℕ)) × IsReading g.R.Read.remaining (g.R.Read.remaining l.fn.source.reader) l.max_lines l.lines
+abbrev pub invariant-loop-columns : goal.invariant-loop-columns
+invariant-loop-columns g l = (ls : List (List ℕ)) × IsReading g.R.Read.remaining (g.R.Read.remaining l.fn.source.reader) l.max_lines l.lines
     l.source ls
     × HasCome l.max_lines ls (progress_of l.reading) × HasReadOn g.R.ReadDevice.read_errors l.fn.source l.source
 
-abbrev pub decreases-loop-reading : goal.decreases-loop-reading
-decreases-loop-reading g l = limit l.lines - given l.lines
+abbrev pub decreases-loop-columns : goal.decreases-loop-columns
+decreases-loop-columns g l = limit l.lines - given l.lines
