@@ -33,7 +33,8 @@ returns-in_err-write-clause-normal g c =
           c.in_err-write.ensures.writes,
       known_so _ _ _ (λ bytes spelled.
           normalises-front c.args.max_lines c.args.asked.now bytes c.args.form (extract_parts c.in_ok-extract.extract) spelled
-          c.in_ok-canon.canon (rw c.insert-extract.ensures.value at c.in_ok-canon.ensures.ok) c.from_residual-in_err-write.result fault failed c.in_err-write.ensures.fault)
+          c.in_ok-canon.canon (rw c.insert-extract.ensures.value at c.in_ok-canon.ensures.ok) c.from_residual-in_err-write.result fault
+          failed c.in_err-write.ensures.fault)
           c.in_ok-extract.ensures.ok,
     )
 
@@ -43,5 +44,6 @@ returns-clause-normal g c = (
   c.in_ok-write.ensures.writes,
   known_so _ _ _ (λ bytes spelled.
       normalises-whole c.args.max_lines c.args.asked.now bytes c.args.form (extract_parts c.in_ok-extract.extract) spelled
-      c.in_ok-canon.canon (rw c.insert-extract.ensures.value at c.in_ok-canon.ensures.ok) c.counts.result c.counts.ensures) c.in_ok-extract.ensures.ok,
+      c.in_ok-canon.canon (rw c.insert-extract.ensures.value at c.in_ok-canon.ensures.ok) c.counts.result c.counts.ensures)
+      c.in_ok-extract.ensures.ok,
 )
