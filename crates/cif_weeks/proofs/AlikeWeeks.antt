@@ -1,5 +1,5 @@
 -- Weeks that lie whole in one piece are alike.
-use Rattle.std.proofs.Common.{◌≡◌, ℕ, zero, suc, ◌+◌, ◌-◌, ◌*◌, ◌≤◌, List, None, get_or, sym, ◌∙◌, ap, arith}
+use Rattle.std.proofs.Common.{◌≡◌, ℕ, zero, suc, ◌+◌, ◌-◌, ◌*◌, ◌<◌, ◌≤◌, List, None, get_or, sym, ◌∙◌, ap, arith}
 use Rattle.std.specs.Prelude.{Contains}
 use Rattle.cif_columns.specs.Day.{week_of, weekday_of}
 use Rattle.cif_calendar.specs.Terms.{Terms}
@@ -9,8 +9,7 @@ use Rattle.cif_calendar.specs.Calendar.{CalendarParts}
 use Rattle.cif_calendar.specs.declared.piece.Piece.{Piece}
 use Rattle.cif_calendar.proofs.PieceLists.{tiles-from, tiles-ends, source_at-piece}
 use Rattle.cif_weeks.specs.Steps.WeekMasks.{AreAlike}
-use Rattle.cif_weeks.specs.Steps.WeekRows.{source_in, body_in, AreAlikeUpTo, IsInPiece, IsRowBefore, IsWeek}
-use Rattle.cif_weeks.specs.declared.week.Week.{Week}
+use Rattle.cif_weeks.specs.Steps.WeekBodies.{source_in, body_in, AreAlikeUpTo, AreOfPiece}
 use Rattle.cif_weeks.proofs.SourcesIn.{source_in-within}
 
 module _ (c : CalendarParts) (p : Piece) (tiles : Tiles c.pieces c.first (c.last + 1)) (listed : Contains c.pieces p) where
@@ -21,49 +20,24 @@ module _ (c : CalendarParts) (p : Piece) (tiles : Tiles c.pieces c.first (c.last
       let ends = tiles-ends c.pieces c.first (c.last + 1) p tiles listed in
       source_in-within c n (omega arith) (omega (arith, ends)) ∙ source_at-piece c.pieces c.first (c.last + 1) p n tiles listed from upto
 
-  -- a week that lies whole in the piece, where m is its Monday
-  module _ (week : Week) (m : ℕ) (at : week_of m ≡ week.number) (monday : weekday_of m ≡ 0) (from : p.first ≤ m) (i : IsInPiece p week)
-    where
-      -- its row is the piece's winners
-      row-piece : IsRowBefore c (week.number + 1) week.row
-      row-piece = record {
-        each = λ n next.
-            ap (λ row. get_or row (weekday_of n) None) i.row
-            ∙ sym (source_in-piece n (omega arith) (i.upto n (omega (arith, i.from))));
-        only = λ w k below is. (
-          m + w,
-          (let next : week_of (m + w) + 1 ≡ week.number + 1 = omega arith in next),
-          (let day : weekday_of (m + w) ≡ w = omega arith in day),
-        );
-      }
+  -- and so of all its days
+  pub days-of-piece : AreOfPiece c p (p.first + 4) (p.last + 5)
+  days-of-piece n from before = source_in-piece n (omega arith) (omega arith)
 
-      -- it is a week of the calendar
-      pub week-piece : IsWeek c week
-      week-piece = record {
-        row = row-piece;
-        from = i.from;
-        upto = λ _.
-            let n : ℕ = m + 7 * (week.last_alike - week.number) in
-            let in_piece : n ≤ p.last = i.upto n (omega (arith, i.from)) in
-            let ends = tiles-ends c.pieces c.first (c.last + 1) p tiles listed in omega (arith, ends, i.from);
-        alike = record {
-          whole = λ _. omega arith;
-          same = λ n begun before.
-              source_in-piece (n + 7) (omega arith) (i.upto (n + 7) (omega arith))
-              ∙ ap (λ w. get_or p.winners w None) (let later : weekday_of (n + 7) ≡ weekday_of n = omega arith in later)
-              ∙ sym (source_in-piece n (omega arith) (i.upto n (omega arith)));
-        };
-      }
+-- weeks whose days are all in one piece are alike
+pub piece-alike : (c : CalendarParts) (p : Piece) (week last end : ℕ) → AreOfPiece c p (week * 7) end → (last + 1) * 7 ≤ end →
+    (week < last → 0 < week) → AreAlikeUpTo c week last
+piece-alike c p week last end of_piece upto whole = record {
+  whole = whole;
+  same = λ n from before.
+      of_piece (n + 7) (omega arith) (omega arith)
+      ∙ ap (λ w. get_or p.winners w None) (let later : weekday_of (n + 7) ≡ weekday_of n = omega arith in later)
+      ∙ sym (of_piece n (omega arith) (omega arith));
+}
 
 -- a week by itself
-pub week-alone : (c : CalendarParts) (week : Week) → IsRowBefore c (week.number + 1) week.row → week.last_alike ≡ week.number
-    → IsWeek c week
-week-alone c week row alone = record {
-  row = row;
-  from = omega arith;
-  upto = λ within. omega arith;
-  alike = record { whole = λ some. omega arith; same = λ n begun before. absurd (omega arith) };
-}
+pub alike-alone : (c : CalendarParts) (week : ℕ) → AreAlikeUpTo c week week
+alike-alone c week = record { whole = λ some. omega arith; same = λ n begun before. absurd (omega arith) }
 
 -- in such weeks the same body runs seven days later
 pub alike-bodies : {B : Type 0} (xs : List (Terms B)) (c : CalendarParts) (week last : ℕ) → week ≤ last → AreAlikeUpTo c week last →

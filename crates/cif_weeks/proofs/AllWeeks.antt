@@ -1,10 +1,9 @@
 -- The runs over the weekdays of a week, over the weeks that are like it, and over all weeks of the window.
-use Rattle.std.proofs.Common.{◌≡◌, ◌≢◌, ℕ, zero, suc, ◌+◌, ◌-◌, ◌*◌, ◌<◌, ◌≤◌, Bool, List, [], ◌∷◌, Option, None, Some, length, get_or, set}
-use Rattle.std.proofs.Common.{arith, refl, sym, ◌∙◌, ap, subst, inl, ⊎_elim}
+use Rattle.std.proofs.Common.{◌≡◌, ℕ, zero, suc, ◌+◌, ◌-◌, ◌*◌, ◌<◌, ◌≤◌, List, [], ◌∷◌, ◌++◌, Some, length, get_or}
+use Rattle.std.proofs.Common.{arith, refl, sym, ◌∙◌, ap, subst, inl, length-append, ⊎_elim}
 use Rattle.std.specs.Prelude.{Contains, slice_get}
 use Rattle.std.specs.List.{AllZip}
 use Rattle.std.proofs.lemmas.Bool.{cases_lt}
-use Rattle.std.proofs.lemmas.List.{get_or-set_same, get_or-set_other}
 use Rattle.std.proofs.lemmas.Option.{same_Some, slice_get_within, slice_get-get_or, get_or_from_slice_get}
 use Rattle.cif_columns.specs.Day.{week_of, weekday_of}
 use Rattle.cif_columns.specs.DaysRun.{RunsOn, IsFirstOf}
@@ -18,157 +17,216 @@ use Rattle.cif_weeks.specs.Permanent.{Permanent}
 use Rattle.cif_weeks.specs.Meets.{Meets}
 use Rattle.cif_weeks.specs.Runs.{AreSources, AreCanonicalRuns, IsRunOf, record_of, window_of}
 use Rattle.cif_weeks.specs.Steps.Growing.{Breaks, IsGrown}
-use Rattle.cif_weeks.specs.Steps.WeekRows.{source_in, body_in, AreSeen, IsMaskOf, IsWeek}
+use Rattle.cif_weeks.specs.Steps.WeekBodies.{source_in, body_in, IsWeek}
+use Rattle.cif_weeks.specs.declared.week.WeekBody.{WeekBody}
+use Rattle.std.proofs.lemmas.List.Elements.{Contains-append_left, Contains-append_right, Contains-push_cases}
 use Rattle.cif_weeks.specs.Steps.OpenRuns.{RunsBefore, IsOpenRun, AreOpen, ArePlaces, AreKept, IsAdded, IsBefore, IsKnown}
 use Rattle.cif_weeks.proofs.AlikeWeeks.{alike-source}
 use Rattle.cif_weeks.proofs.Growth.{body-source, inside}
+use Rattle.cif_weeks.proofs.OpenRuns.{open-upto}
+use Rattle.cif_weeks.proofs.WeekBodies.{one-first}
 use Rattle.cif_weeks.proofs.Grown.{grown_aligned, grown_applies, grown_change, grown_runs}
 use Rattle.cif_weeks.proofs.Meeting.{meets}
 use Rattle.cif_weeks.proofs.SourcesIn.{source_in-inside, source_in-within}
 
--- seven places without a run
-pub none-at : (w : ℕ) → get_or {A = Option ℕ} (None ∷ None ∷ None ∷ None ∷ None ∷ None ∷ None ∷ []) w None ≡ None
-none-at zero = refl
-none-at (suc zero) = refl
-none-at (suc (suc zero)) = refl
-none-at (suc (suc (suc zero))) = refl
-none-at (suc (suc (suc (suc zero)))) = refl
-none-at (suc (suc (suc (suc (suc zero))))) = refl
-none-at (suc (suc (suc (suc (suc (suc zero)))))) = refl
-none-at (suc (suc (suc (suc (suc (suc (suc w))))))) = refl
-
 pub places-none : {B : Type 0} (xs : List (Terms B)) (c : CalendarParts) (days : ℕ → Type 0) (next : ℕ) (runs : List Run)
-    (places : List (Option ℕ)) → ((n : ℕ) (b : B) → days n → body_in xs c n ≡ Some b → ⊥) → ((w : ℕ) → get_or places w None ≡ None) →
-    ArePlaces xs c days next runs places
-places-none xs c days next runs places idle none = record {
+    → ((n : ℕ) (b : B) → days n → body_in xs c n ≡ Some b → ⊥) → ArePlaces xs c days next runs []
+places-none xs c days next runs idle = record {
   each = λ n b on runs_n. absurd (idle n b on runs_n);
-  only = λ w k is. absurd (let no : None ≡ Some k = sym (none w) ∙ is in cc);
+  only = λ k listed. absurd (omega (arith, listed.1));
 }
 
 -- the places stay where the runs are kept
 pub places-kept : {B : Type 0} (xs : List (Terms B)) (c : CalendarParts) (days : ℕ → Type 0) (next : ℕ) (old new : List Run)
-    (places : List (Option ℕ)) → AreKept old new → ArePlaces xs c days next old places → ArePlaces xs c days next new places
+    (places : List ℕ) → AreKept old new → ArePlaces xs c days next old places → ArePlaces xs c days next new places
 places-kept xs c days next old new places kept p = record {
   each = λ n b on runs.
       let h = p.each n b on runs in
       let t = kept h.place h.run h.at in
       record {
-        weekday = h.weekday;
-        below = h.below;
         place = h.place;
         run = t.it;
-        is = h.is;
+        listed = h.listed;
         at = t.at;
         has = ap (λ v. body_at xs (Some v)) t.source ∙ h.has;
       };
-  only = λ w k is.
-      let (run, at, from) = p.only w k is in
+  only = λ k listed.
+      let (run, at, from) = p.only k listed in
       let t = kept k run at in (t.it, t.at, (let later : next ≤ week_of t.it.last + 1 = omega (arith, from, t.upto) in later));
 }
 
-module _ {B : Type 0} (form : Form) (xs : List (Terms B)) (c : CalendarParts) (week : Week) (k : IsWeek c week) (w : ℕ) (below : w < 7)
-  where
-    -- what runs on a weekday whose body was seen ran on a day that is known; and so does what runs where nothing runs
-    pub known-seen : (seen : List Bool) → AreSeen xs week.row w seen → RunsOn seen w → (n : ℕ) (b : B) → n + 4 ≡ week.number * 7 + w →
-        body_in xs c n ≡ Some b → RunsBefore xs c week.number (week.number * 7 + w) b
-    known-seen seen s on n b at runs =
-        let (first, less, one) = (s.runs w).0 on in
-        let (day, next, weekday) = k.row.only first one.one (omega arith) one.first in
-        let source : source_in c day ≡ Some one.one = sym (k.row.each day next) ∙ ap (λ v. get_or week.row v None) weekday ∙ one.first in
-        let here : weekday_of n ≡ w = omega arith in
-        let there : source_in c n ≡ Some one.other =
-        sym (k.row.each n (omega arith)) ∙ ap (λ v. get_or week.row v None) here ∙ one.second in
-        record {
-          day = day;
-          in_week = omega (arith, next);
-          before = omega (arith, next, weekday);
-          runs = ap (body_at xs) source ∙ one.same ∙ ap (body_at xs) (sym there) ∙ runs;
-        }
+-- The bodies at places before i are added: they begin before `weekday`, and the others don't. The days before it are known.
+pub record AreAddedUpTo {B : Type 0} (form : Form) (xs : List (Terms B)) (c : CalendarParts) (week : Week) (before : List ℕ) (i : ℕ)
+    (runs : List Run) (places : List ℕ) : Type 0 where
+  pub weekday : ℕ
+  pub below : weekday ≤ 7
+  pub opened : AreOpen form xs c week.number week.last_alike (week.number * 7 + weekday) runs
+  pub kept : ArePlaces xs c (IsBefore week.number) week.number runs before
+  pub have : ArePlaces xs c (IsKnown week.number (week.number * 7 + weekday)) (week.last_alike + 1) runs places
+  pub count : length places ≡ i
+  pub begun : (j u : ℕ) (it : WeekBody) → j < i → slice_get week.bodies.items j ≡ Some it → IsFirstOf it.days u → u < weekday
+  pub rest : (j u : ℕ) (it : WeekBody) → i ≤ j → slice_get week.bodies.items j ≡ Some it → IsFirstOf it.days u → weekday ≤ u
 
-    pub known-idle : get_or week.row w None ≡ None → (n : ℕ) (b : B) → n + 4 ≡ week.number * 7 + w → body_in xs c n ≡ Some b →
-        RunsBefore xs c week.number (week.number * 7 + w) b
-    known-idle none n b at runs =
-        let here : weekday_of n ≡ w = omega arith in
-        let idle : source_in c n ≡ None = sym (k.row.each n (omega arith)) ∙ ap (λ v. get_or week.row v None) here ∙ none in
-        absurd (let no : None ≡ Some b = ap (body_at xs) (sym idle) ∙ runs in cc)
-
-    -- a weekday whose body wasn't seen is the first of its mask
-    pub first-unseen : (seen : List Bool) → AreSeen xs week.row w seen → (RunsOn seen w → ⊥) → (source : ℕ) →
-        get_or week.row w None ≡ Some source → (days : List Bool) → IsMaskOf xs week.row source days → IsFirstOf days w
-    first-unseen seen s unseen source is days m = record {
-      runs = (m.runs w).1 (source, is, refl);
-      none_before = λ earlier less on.
-          let (i, at, same) = (m.runs earlier).0 on in
-          unseen ((s.runs w).1 (earlier, less, record { one = i; other = source; first = at; second = is; same = same }));
-    }
-
-    module _ (old : List Run) (places : List (Option ℕ))
-        (p : ArePlaces xs c (IsKnown week.number (week.number * 7 + w)) (week.last_alike + 1) old places) where
-      -- without a new body the places stay
-      pub places-same : ((n : ℕ) (b : B) → n + 4 ≡ week.number * 7 + w → body_in xs c n ≡ Some b →
-          RunsBefore xs c week.number (week.number * 7 + w) b) →
-          ArePlaces xs c (IsKnown week.number (week.number * 7 + w + 1)) (week.last_alike + 1) old places
-      places-same seen = record {
-        each = λ n b on runs. ⊎_elim
-            (λ known. p.each n b (on.0, known) runs)
-            (λ from. let h = seen n b (omega (arith, on.1)) runs in p.each h.day b (h.in_week, h.before) h.runs)
-            (cases_lt (n + 4) (week.number * 7 + w));
-        only = p.only;
+module _ {B : Type 0} (form : Form) (xs : List (Terms B)) (c : CalendarParts) (week : Week) (k : IsWeek xs c week) where
+  -- what runs on a weekday before v and not before w ran before w, where the bodies that begin before v begin before w
+  pub known-between : (w v : ℕ) → v ≤ 7 → ((j u : ℕ) (it : WeekBody) → slice_get week.bodies.items j ≡ Some it → IsFirstOf it.days u
+      → u < v → u < w) → (n : ℕ) (b : B) → week.number * 7 + w ≤ n + 4 → n + 4 < week.number * 7 + v → body_in xs c n ≡ Some b
+      → RunsBefore xs c week.number (week.number * 7 + w) b
+  known-between w v upto firsts n b from before runs =
+      let in_week : week_of n ≡ week.number = omega arith in
+      let h = k.bodies.complete n b in_week (omega arith) runs in
+      let i = k.bodies.each h.place h.it h.at in
+      let body : i.body ≡ b = same_Some i.body b (sym i.has ∙ h.has) in
+      let on : RunsOn h.it.days (weekday_of n) = i.shows n in_week (omega arith) (runs ∙ ap Some (sym body)) in
+      let first : weekday_of i.day ≤ weekday_of n = ⊎_elim
+      (λ less. absurd (i.first.none_before (weekday_of n) less on))
+      (λ not_less. not_less)
+      (cases_lt (weekday_of n) (weekday_of i.day)) in
+      let less : weekday_of i.day < w = firsts h.place (weekday_of i.day) h.it h.at i.first (omega arith) in
+      record {
+        day = i.day;
+        in_week = i.in_week;
+        before = omega (arith, i.in_week);
+        runs = ap (body_at xs) i.starts ∙ h.has;
       }
 
-      -- with one it has the place of its run
-      pub places-more : (source : ℕ) → get_or week.row w None ≡ Some source → (new : List Run) (place : ℕ) → length places ≡ 7 →
-          get_or places w None ≡ None →
-          IsAdded form xs c week (week.number * 7 + w) source old new place →
-          ArePlaces xs c (IsKnown week.number (week.number * 7 + w + 1)) (week.last_alike + 1) new (set places w (Some place))
-      places-more source is new place seven free a =
-          let q = places-kept xs c (IsKnown week.number (week.number * 7 + w)) (week.last_alike + 1) old new places a.kept p in
-          let here : get_or (set places w (Some place)) w None ≡ Some place = get_or-set_same places w (Some place) None (omega arith) in
-          let others = λ (v : ℕ) (e : v ≢ w). get_or-set_other places w v (Some place) None e in
+  module _ (old : List Run) (places : List ℕ) (w : ℕ)
+      (p : ArePlaces xs c (IsKnown week.number (week.number * 7 + w)) (week.last_alike + 1) old places) where
+    -- without a new body the places stay
+    pub places-upto : (v : ℕ) → ((n : ℕ) (b : B) → week.number * 7 + w ≤ n + 4 → n + 4 < week.number * 7 + v → body_in xs c n ≡ Some b →
+        RunsBefore xs c week.number (week.number * 7 + w) b) →
+        ArePlaces xs c (IsKnown week.number (week.number * 7 + v)) (week.last_alike + 1) old places
+    places-upto v seen = record {
+      each = λ n b on runs. ⊎_elim
+          (λ known. p.each n b (on.0, known) runs)
+          (λ from. let h = seen n b from on.1 runs in p.each h.day b (h.in_week, h.before) h.runs)
+          (cases_lt (n + 4) (week.number * 7 + w));
+      only = p.only;
+    }
+
+    -- with one it has the place of its run
+    pub places-more : (source n : ℕ) → n + 4 ≡ week.number * 7 + w → source_in c n ≡ Some source → (new : List Run) (place : ℕ) →
+        IsAdded form xs c week (week.number * 7 + w) source old new place →
+        ArePlaces xs c (IsKnown week.number (week.number * 7 + (w + 1))) (week.last_alike + 1) new (places ++ place ∷ [])
+    places-more source n now is new place a =
+        let q = places-kept xs c (IsKnown week.number (week.number * 7 + w)) (week.last_alike + 1) old new places a.kept p in
+        record {
+          each = λ m b on runs. ⊎_elim
+              (λ known.
+              let h = q.each m b (on.0, known) runs in
+              record {
+                place = h.place;
+                run = h.run;
+                listed = Contains-append_left places (place ∷ []) h.place h.listed;
+                at = h.at;
+                has = h.has;
+              })
+              (λ from.
+              let same : n ≡ m = omega (arith, on.1) in
+              record {
+                place = place;
+                run = a.run;
+                listed = Contains-append_right places (place ∷ []) place (0, omega arith, refl);
+                at = a.at;
+                has = a.same ∙ ap (body_at xs) (sym is ∙ ap (source_in c) same) ∙ runs;
+              })
+              (cases_lt (m + 4) (week.number * 7 + w));
+          only = λ v listed. ⊎_elim
+              (λ older. q.only v older)
+              (λ here. (
+                a.run,
+                ap (slice_get new) (sym here) ∙ a.at,
+                (let ends : week.last_alike + 1 ≤ week_of a.run.last + 1 = omega (arith, a.upto) in ends),
+              ))
+              (Contains-push_cases places place v listed);
+        }
+
+  -- no body is added
+  pub added-none : (before : List ℕ) (runs : List Run) → AreOpen form xs c week.number week.last_alike (week.number * 7) runs
+      → ArePlaces xs c (IsBefore week.number) week.number runs before → AreAddedUpTo form xs c week before 0 runs []
+  added-none before runs u q = record {
+    weekday = 0;
+    below = omega arith;
+    opened = subst (λ t. AreOpen form xs c week.number week.last_alike t runs) (let start : week.number * 7 ≡ week.number * 7 + 0 = omega arith in start) u;
+    kept = q;
+    have = places-none xs c (IsKnown week.number (week.number * 7 + 0)) (week.last_alike + 1) runs (λ n b on runs_n. omega (arith, on.0, on.1));
+    count = refl;
+    begun = λ j u_j it less at f. absurd (omega arith);
+    rest = λ j u_j it from at f. omega arith;
+  }
+
+  module _ (before : List ℕ) (i : ℕ) (runs : List Run) (places : List ℕ) (a : AreAddedUpTo form xs c week before i runs places) where
+    seen-upto : (v : ℕ) → v ≤ 7 → ((j u : ℕ) (it : WeekBody) → i ≤ j → slice_get week.bodies.items j ≡ Some it → IsFirstOf it.days u → v ≤ u)
+        → (n : ℕ) (b : B) → week.number * 7 + a.weekday ≤ n + 4 → n + 4 < week.number * 7 + v → body_in xs c n ≡ Some b
+        → RunsBefore xs c week.number (week.number * 7 + a.weekday) b
+    seen-upto v upto later = known-between a.weekday v upto (λ j u it at f less. ⊎_elim
+        (λ old. a.begun j u it old at f)
+        (λ new. absurd (let h : v ≤ u = later j u it new at f in omega arith))
+        (cases_lt j i))
+
+    -- up to a weekday before which no body is left, all is known
+    opened-upto : (v : ℕ) → v ≤ 7 → a.weekday ≤ v
+        → ((j u : ℕ) (it : WeekBody) → i ≤ j → slice_get week.bodies.items j ≡ Some it → IsFirstOf it.days u → v ≤ u)
+        → AreOpen form xs c week.number week.last_alike (week.number * 7 + v) runs
+    opened-upto v upto less later = open-upto form xs c week.number week.last_alike (week.number * 7 + a.weekday) (week.number * 7 + v) runs
+        a.opened (omega arith) (λ n from within. omega (arith, a.below)) (seen-upto v upto later)
+
+    placed-upto : (v : ℕ) → v ≤ 7
+        → ((j u : ℕ) (it : WeekBody) → i ≤ j → slice_get week.bodies.items j ≡ Some it → IsFirstOf it.days u → v ≤ u)
+        → ArePlaces xs c (IsKnown week.number (week.number * 7 + v)) (week.last_alike + 1) runs places
+    placed-upto v upto later = places-upto runs places a.weekday a.have v (seen-upto v upto later)
+
+    -- the next body
+    module _ (t : WeekBody) (at : slice_get week.bodies.items i ≡ Some t) (w : ℕ) (f : IsFirstOf t.days w) (below : w < 7) where
+      not-sooner : (j u : ℕ) (it : WeekBody) → i ≤ j → slice_get week.bodies.items j ≡ Some it → IsFirstOf it.days u → w ≤ u
+      not-sooner j u it from at_j g = ⊎_elim
+          (λ more. let h : w < u = k.bodies.rising i j w u t it more at at_j f g in omega arith)
+          (λ upto.
+          let here : i ≡ j = omega arith in
+          let one : t ≡ it = same_Some t it (sym at ∙ ap (slice_get week.bodies.items) here ∙ at_j) in
+          let first : w ≡ u = one-first t.days w u f (subst (λ (v : WeekBody). IsFirstOf v.days u) (sym one) g) in omega arith)
+          (cases_lt i j)
+
+      pub added-opened : AreOpen form xs c week.number week.last_alike (week.number * 7 + w) runs
+      added-opened = opened-upto w (omega arith) (a.rest i w t (omega arith) at f) not-sooner
+
+      pub added-more : (new : List Run) (place : ℕ) → IsAdded form xs c week (week.number * 7 + w) t.source runs new place
+          → AreAddedUpTo form xs c week before (i + 1) new (places ++ place ∷ [])
+      added-more new place added =
+          let i_t = k.bodies.each i t at in
+          let first : weekday_of i_t.day ≡ w = one-first t.days (weekday_of i_t.day) w i_t.first f in
+          let next : week.number * 7 + w + 1 ≡ week.number * 7 + (w + 1) = omega arith in
           record {
-            each = λ n b on runs. ⊎_elim
-                (λ known.
-                let h = q.each n b (on.0, known) runs in
-                let apart : h.weekday ≢ w =
-                λ e. let no : None ≡ Some h.place = sym free ∙ ap (λ v. get_or places v None) (sym e) ∙ h.is in cc in
-                record {
-                  weekday = h.weekday;
-                  below = h.below;
-                  place = h.place;
-                  run = h.run;
-                  is = others h.weekday apart ∙ h.is;
-                  at = h.at;
-                  has = h.has;
-                })
-                (λ from.
-                let day : weekday_of n ≡ w = omega (arith, on.0, on.1) in
-                let source_n : source_in c n ≡ Some source =
-                sym (k.row.each n (omega (arith, on.0))) ∙ ap (λ v. get_or week.row v None) day ∙ is in
-                record {
-                  weekday = w;
-                  below = below;
-                  place = place;
-                  run = a.run;
-                  is = here;
-                  at = a.at;
-                  has = a.same ∙ ap (body_at xs) (sym source_n) ∙ runs;
-                })
-                (cases_lt (n + 4) (week.number * 7 + w));
-            only = λ v i is_v. ⊎_elim
-                (λ less. q.only v i (sym (others v (λ e. omega arith)) ∙ is_v))
-                (λ from. ⊎_elim
-                (λ more. q.only v i (sym (others v (λ e. omega arith)) ∙ is_v))
-                (λ upto.
-                let same : v ≡ w = omega arith in
-                let one : place ≡ i = same_Some place i
-                (sym here ∙ ap (λ u. get_or (set places w (Some place)) u None) (sym same) ∙ is_v) in (
-                  a.run,
-                  ap (slice_get new) (sym one) ∙ a.at,
-                  (let ends : week.last_alike + 1 ≤ week_of a.run.last + 1 = omega (arith, a.upto) in ends),
-                ))
-                (cases_lt w v))
-                (cases_lt v w);
+            weekday = w + 1;
+            below = omega arith;
+            opened = subst (λ v. AreOpen form xs c week.number week.last_alike v new) next added.runs;
+            kept = places-kept xs c (IsBefore week.number) week.number runs new before added.kept a.kept;
+            have = places-more runs places w (placed-upto w (omega arith) not-sooner) t.source i_t.day
+                (omega (arith, i_t.in_week)) i_t.starts new place added;
+            count = omega (arith, length-append places (place ∷ []), a.count);
+            begun = λ j u it less at_j g. ⊎_elim
+                (λ old.
+                let h : u < a.weekday = a.begun j u it old at_j g in
+                let rest : a.weekday ≤ w = a.rest i w t (omega arith) at f in omega arith)
+                (λ new_j.
+                let here : i ≡ j = omega arith in
+                let one : t ≡ it = same_Some t it (sym at ∙ ap (slice_get week.bodies.items) here ∙ at_j) in
+                let same : w ≡ u = one-first t.days w u f (subst (λ (v : WeekBody). IsFirstOf v.days u) (sym one) g) in omega arith)
+                (cases_lt j i);
+            rest = λ j u it from at_j g.
+                let h : w < u = k.bodies.rising i j w u t it (omega arith) at at_j f g in omega arith;
           }
+
+    -- all bodies are added
+    module _ (all : length week.bodies.items ≤ i) where
+      none-left : (j u : ℕ) (it : WeekBody) → i ≤ j → slice_get week.bodies.items j ≡ Some it → IsFirstOf it.days u → 7 ≤ u
+      none-left j u it from at g = absurd (let within : j < length week.bodies.items = slice_get_within week.bodies.items j it at in omega arith)
+
+      pub added-all : AreOpen form xs c week.number week.last_alike (week.number * 7 + 7) runs
+      added-all = opened-upto 7 (omega arith) a.below none-left
+
+      pub places-all : ArePlaces xs c (IsKnown week.number (week.number * 7 + 7)) (week.last_alike + 1) runs places
+      places-all = placed-upto 7 (omega arith) none-left
 
 module _ {B : Type 0} (form : Form) (xs : List (Terms B)) (c : CalendarParts) (sources : AreSources xs c) where
   -- what holds of the days with a source holds of those on which a body runs
@@ -184,8 +242,8 @@ module _ {B : Type 0} (form : Form) (xs : List (Terms B)) (c : CalendarParts) (s
     complete = λ n b before runs. absurd (let h : week ≤ week_of n = from n b runs in omega arith);
   }
 
-  -- after a week and those like it
-  module _ (week : Week) (k : IsWeek c week) (runs : List Run) (places : List (Option ℕ))
+  -- after a week and those like it, and weeks in which nothing runs
+  module _ (week : Week) (k : IsWeek xs c week) (runs : List Run) (places : List ℕ)
       (u : AreOpen form xs c week.number week.last_alike (week.number * 7 + 7) runs)
       (p : ArePlaces xs c (IsKnown week.number (week.number * 7 + 7)) (week.last_alike + 1) runs places) where
     -- the place of what runs on a day of these weeks
@@ -203,28 +261,39 @@ module _ {B : Type 0} (form : Form) (xs : List (Terms B)) (c : CalendarParts) (s
         (λ one. (n, (let in_week : week_of n ≡ week.number = omega arith in in_week), runs_n))
         (cases_lt week.number (week_of n))
 
-    pub open-next : (last : ℕ) → AreOpen form xs c (week.last_alike + 1) last ((week.last_alike + 1) * 7) runs
-    open-next last = record {
+    pub open-next : (next last : ℕ) → week.last_alike < next
+        → ((n : ℕ) (b : B) → week.last_alike < week_of n → week_of n < next → body_in xs c n ≡ Some b → ⊥)
+        → AreOpen form xs c next last (next * 7) runs
+    open-next next last later idle = record {
       each = λ j run at.
           let o = u.each j run at in
           let from = k.from in
+          let ends : week_of run.last ≤ week.last_alike =
+          ⊎_elim (λ sooner. omega arith) (λ there. omega (arith, there.0)) o.reaches in
           record {
             body = o.body;
             has = o.has;
             starts = o.starts;
             grown = o.grown;
             begun = omega (arith, o.begun);
-            reaches = inl (⊎_elim (λ sooner. omega arith) (λ there. omega (arith, there.0)) o.reaches);
-            ended = λ n before next runs_n. o.ended n
-                (⊎_elim (λ sooner. omega arith) (λ there. omega (arith, there.0)) o.reaches) next runs_n;
+            reaches = inl (omega arith);
+            ended = λ n before follows runs_n. ⊎_elim
+                (λ known. o.ended n known follows runs_n)
+                (λ after. absurd (⊎_elim
+                (λ sooner. omega arith)
+                (λ there. idle n o.body (omega (arith, there.0)) (omega arith) runs_n)
+                o.reaches))
+                (cases_lt (n + 4) (week.number * 7 + 7));
           };
       pairs = u.pairs;
       complete = λ n b before runs_n. ⊎_elim
           (λ known. u.complete n b known runs_n)
-          (λ from.
+          (λ from. ⊎_elim
+          (λ over. absurd (idle n b over (omega arith) runs_n))
+          (λ within.
           let (i, in_week, runs_i) = alike-day n b (omega arith) (omega arith) runs_n in
           let h = p.each i b (in_week, omega arith) runs_i in
-          let (run, at, ends) = p.only h.weekday h.place h.is in
+          let (run, at, ends) = p.only h.place h.listed in
           let one : run ≡ h.run = same_Some run h.run (sym at ∙ h.at) in
           let late : week.last_alike + 1 ≤ week_of h.run.last + 1 =
           subst (λ (r : Run). week.last_alike + 1 ≤ week_of r.last + 1) one ends in
@@ -237,15 +306,17 @@ module _ {B : Type 0} (form : Form) (xs : List (Terms B)) (c : CalendarParts) (s
             from = omega arith;
             upto = omega arith;
           })
+          (cases_lt week.last_alike (week_of n)))
           (cases_lt (n + 4) (week.number * 7 + 7));
     }
 
-    pub places-next : ArePlaces xs c (IsBefore (week.last_alike + 1)) (week.last_alike + 1) runs places
-    places-next = record {
-      each = λ n b next runs_n.
+    pub places-next : (next : ℕ) → next ≡ week.last_alike + 1 → ArePlaces xs c (IsBefore next) next runs places
+    places-next next is = record {
+      each = λ n b follows runs_n.
           let (i, in_week, runs_i) = alike-day n b (omega (arith, k.from)) (omega arith) runs_n in
           p.each i b (in_week, omega arith) runs_i;
-      only = p.only;
+      only = λ v listed.
+          let (run, at, ends) = p.only v listed in (run, at, (let later : next ≤ week_of run.last + 1 = omega arith in later));
     }
 
   -- in the window what runs is what the calendar says

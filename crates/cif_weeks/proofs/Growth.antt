@@ -1,5 +1,5 @@
 -- The bodies of sources, and the mask of a body in a week.
-use Rattle.std.proofs.Common.{◌≡◌, ℕ, ◌+◌, ◌<◌, ◌≤◌, Bool, List, length, Option, None, Some, get_or, sym, ◌∙◌, ap}
+use Rattle.std.proofs.Common.{◌≡◌, ℕ, ◌+◌, ◌*◌, ◌<◌, ◌≤◌, Bool, List, length, Option, None, Some, sym, ◌∙◌}
 use Rattle.std.proofs.Common.{arith, refl}
 use Rattle.std.specs.Prelude.{IsSome, slice_get}
 use Rattle.std.specs.Option.{option_and_then}
@@ -12,8 +12,8 @@ use Rattle.cif_calendar.specs.Calendar.{CalendarParts}
 use Rattle.cif_weeks.specs.Window.{IsWithin}
 use Rattle.cif_weeks.specs.Steps.WeekMasks.{IsMask}
 use Rattle.cif_weeks.specs.Runs.{AreSources, window_of}
-use Rattle.cif_weeks.specs.Steps.WeekRows.{source_in, body_in, IsRowBefore, IsMaskOf, ArePositions}
-use Rattle.cif_weeks.proofs.WeekDays.{RunsOn-below}
+use Rattle.cif_weeks.specs.Steps.WeekBodies.{source_in, body_in, IsBodyUpTo}
+use Rattle.cif_weeks.specs.declared.week.WeekBody.{WeekBody}
 use Rattle.cif_weeks.proofs.SourcesIn.{source_in-within, source_in-inside}
 
 some-body : {B : Type 0} (o : Option B) → IsSome o → (b : B) × (o ≡ Some b)
@@ -44,29 +44,18 @@ module _ {B : Type 0} (xs : List (Terms B)) (c : CalendarParts) (sources : AreSo
   pub has-below : (i : ℕ) (b : B) → body_at xs (Some i) ≡ Some b → i < length xs
   has-below i b is = body-below i b (slice_get xs i) refl is
 
-  source-below : (n i : ℕ) → source_in c n ≡ Some i → i < length xs
+  pub source-below : (n i : ℕ) → source_in c n ≡ Some i → i < length xs
   source-below n i is = let b = source-body n i is in has-below i b.0 b.1
 
-  pub row-positions : (next : ℕ) (row : List (Option ℕ)) → IsRowBefore c next row → ArePositions xs row
-  row-positions next row r = record {
-    below = λ w i seven is.
-        let (n, in_week, day) = r.only w i seven is in
-        source-below n i (sym (r.each n in_week) ∙ ap (λ v. get_or row v None) day ∙ is);
-  }
+  -- what is known of a body of a week
+  pub body-position : (week limit : ℕ) (it : WeekBody) → IsBodyUpTo xs c week limit it → it.source < length xs
+  body-position week limit it i = has-below it.source i.body i.has
 
-  -- the mask of a row is that of the body in the row's week
-  pub mask-of_row : (week source : ℕ) (b : B) (row : List (Option ℕ)) (mask : List Bool) → IsRowBefore c (week + 1) row →
-      body_at xs (Some source) ≡ Some b → IsMaskOf xs row source mask → IsMask (body_in xs c) b week mask
-  mask-of_row week source b row mask r is m = record {
-    seven = m.seven;
-    shows = λ n at runs.
-        let (i, source_is) = body-source (source_in c n) b runs in
-        (m.runs (weekday_of n)).1 (i, r.each n (omega arith) ∙ source_is, ap (body_at xs) (sym source_is) ∙ runs ∙ sym is);
-    only = λ w on.
-        let (i, at, same) = (m.runs w).0 on in
-        let (n, in_week, day) = r.only w i (RunsOn-below mask w m.seven on) at in
-        let source_is : source_in c n ≡ Some i = sym (r.each n in_week) ∙ ap (λ v. get_or row v None) day ∙ at in
-        (n, (let week_is : week_of n ≡ week = omega arith in week_is), day, ap (body_at xs) source_is ∙ same ∙ is);
+  pub body-mask : (week : ℕ) (it : WeekBody) → (i : IsBodyUpTo xs c week (week * 7 + 7) it) → IsMask (body_in xs c) i.body week it.days
+  body-mask week it i = record {
+    seven = i.seven;
+    shows = λ n at runs. i.shows n at (omega arith) runs;
+    only = λ w on. let (n, at, day, known, runs) = i.only w on in (n, at, day, runs);
   }
 
   -- a day of a mask is one of the calendar's

@@ -1,11 +1,11 @@
 -- The list of runs as it is built: one day more is known, with a run that goes on or begins, or without; and then a week.
-use Rattle.std.proofs.Common.{◌≡◌, ◌≢◌, ◌⊎◌, inl, inr, ℕ, ◌+◌, ◌-◌, ◌*◌, ◌<◌, ◌≤◌, Bool, List, [], ◌∷◌, ◌++◌, Option, None, Some, length}
-use Rattle.std.proofs.Common.{get_or, set, refl, sym, ◌∙◌, ap, subst, arith, ⊎_elim}
-use Rattle.std.specs.Prelude.{◌↔◌, slice_get}
+use Rattle.std.proofs.Common.{◌≡◌, ◌≢◌, ◌⊎◌, inl, inr, ℕ, ◌+◌, ◌-◌, ◌*◌, ◌<◌, ◌≤◌, Bool, List, [], ◌∷◌, ◌++◌, Some, length}
+use Rattle.std.proofs.Common.{set, refl, sym, ◌∙◌, ap, subst, arith, ⊎_elim}
+use Rattle.std.specs.Prelude.{◌↔◌, slice_get, Contains}
 use Rattle.std.proofs.lemmas.Bool.{cases_lt}
 use Rattle.std.proofs.lemmas.Option.{same_Some, slice_get_within}
 use Rattle.cif_columns.specs.Day.{week_of, weekday_of}
-use Rattle.cif_columns.specs.DaysRun.{RunsOn, IsFirstOf}
+use Rattle.cif_columns.specs.DaysRun.{RunsOn, IsFirstOf, IsLastOf}
 use Rattle.cif_calendar.specs.Terms.{Terms}
 use Rattle.cif_calendar.specs.Source.{body_at}
 use Rattle.cif_calendar.specs.Calendar.{CalendarParts}
@@ -15,22 +15,63 @@ use Rattle.cif_weeks.specs.declared.week.Week.{Week}
 use Rattle.cif_weeks.specs.Runs.{AreSources, record_of, window_of}
 use Rattle.cif_weeks.specs.Steps.Growing.{Breaks, IsGrown}
 use Rattle.cif_weeks.specs.Steps.WeekMasks.{Agree, Differ, IsLastDay, IsMask}
-use Rattle.cif_weeks.specs.Steps.WeekRows.{source_in, body_in, IsMaskOf, IsWeek}
+use Rattle.cif_weeks.specs.Steps.WeekBodies.{source_in, body_in, IsBodyUpTo, IsWeek}
+use Rattle.cif_weeks.specs.declared.week.WeekBody.{WeekBody}
 use Rattle.cif_weeks.specs.Steps.OpenRuns.{RunsBefore, IsOpenRun, ComesBefore, AreOpen, ArePlaces, IsBefore}
 use Rattle.cif_weeks.specs.Steps.OpenRuns.{Joins, JoinNone, IsAdded}
 use Rattle.cif_weeks.proofs.RunsRead.{same_or_other, IsPut, put-set, put-push}
+use Rattle.cif_weeks.proofs.WeekBodies.{one-first}
 use Rattle.cif_weeks.proofs.Growing.{grown_start, grown_more}
 use Rattle.cif_weeks.proofs.Ended.{breaks_differ}
 use Rattle.cif_weeks.proofs.Jump.{grown_jump}
 use Rattle.cif_weeks.proofs.Masks.{last_runs}
 use Rattle.cif_weeks.proofs.SourcesIn.{source_in-inside}
 use Rattle.cif_weeks.proofs.AlikeWeeks.{alike-bodies, alike-source}
-use Rattle.cif_weeks.proofs.Growth.{inside, body-source, source-body, mask-of_row}
+use Rattle.cif_weeks.proofs.Growth.{inside, body-source, body-mask}
 
--- a day more is known
-known-more : {B : Type 0} (xs : List (Terms B)) (c : CalendarParts) (week limit : ℕ) (b : B) → RunsBefore xs c week limit b →
-    RunsBefore xs c week (limit + 1) b
-known-more xs c week limit b h = record { day = h.day; in_week = h.in_week; before = omega (arith, h.before); runs = h.runs }
+-- more days are known
+pub known-later : {B : Type 0} (xs : List (Terms B)) (c : CalendarParts) (week limit upto : ℕ) (b : B) → limit ≤ upto →
+    RunsBefore xs c week limit b → RunsBefore xs c week upto b
+known-later xs c week limit upto b less h = record { day = h.day; in_week = h.in_week; before = omega (arith, h.before); runs = h.runs }
+
+-- what runs on some more days of a week runs on a day of it that is known
+pub open-upto : {B : Type 0} (form : Form) (xs : List (Terms B)) (c : CalendarParts) (week last limit upto : ℕ) (runs : List Run) →
+    AreOpen form xs c week last limit runs → limit ≤ upto → ((n : ℕ) → limit ≤ n + 4 → n + 4 < upto → week_of n ≡ week) →
+    ((n : ℕ) (b : B) → limit ≤ n + 4 → n + 4 < upto → body_in xs c n ≡ Some b → RunsBefore xs c week limit b) →
+    AreOpen form xs c week last upto runs
+open-upto form xs c week last limit upto runs u less in_week seen = record {
+  each = λ k r at.
+      let o = u.each k r at in
+      record {
+        body = o.body;
+        has = o.has;
+        starts = o.starts;
+        grown = o.grown;
+        begun = omega (arith, o.begun);
+        reaches = ⊎_elim (λ sooner. inl sooner) (λ there. inr (there.0, known-later xs c week limit upto o.body less there.1)) o.reaches;
+        ended = λ i known next runs_i. ⊎_elim
+            (λ sooner. o.ended i sooner next runs_i)
+            (λ from.
+            let h = seen i o.body from known runs_i in
+            o.ended h.day h.before (omega (arith, h.in_week, next, in_week i from known)) h.runs)
+            (cases_lt (i + 4) limit);
+      };
+  pairs = u.pairs;
+  complete = λ m b known runs_m. ⊎_elim
+      (λ sooner. u.complete m b sooner runs_m)
+      (λ from.
+      let h = seen m b from known runs_m in
+      let d = u.complete h.day b h.before h.runs in
+      record {
+        place = d.place;
+        run = d.run;
+        at = d.at;
+        has = d.has;
+        from = omega (arith, d.from, h.in_week, in_week m from known);
+        upto = omega (arith, d.upto, h.in_week, in_week m from known);
+      })
+      (cases_lt (m + 4) limit);
+}
 
 module _ {B : Type 0} (form : Form) (xs : List (Terms B)) (c : CalendarParts) (week last limit : ℕ) (old : List Run)
     (u : AreOpen form xs c week last limit old) (in_week : (n : ℕ) → n + 4 ≡ limit → week_of n ≡ week) where
@@ -44,39 +85,13 @@ module _ {B : Type 0} (form : Form) (xs : List (Terms B)) (c : CalendarParts) (w
     starts = o.starts;
     grown = o.grown;
     begun = omega (arith, o.begun);
-    reaches = ⊎_elim (λ sooner. inl sooner) (λ there. inr (there.0, known-more xs c week limit o.body there.1)) o.reaches;
+    reaches = ⊎_elim (λ sooner. inl sooner) (λ there. inr (there.0, known-later xs c week limit (limit + 1) o.body (omega arith) there.1)) o.reaches;
     ended = λ i known next runs. ⊎_elim
         (λ sooner. o.ended i sooner next runs)
         (λ from.
         let now : i + 4 ≡ limit = omega arith in
         breaks i now (omega (arith, next, in_week i now)) runs)
         (cases_lt (i + 4) limit);
-  }
-
-  -- what runs on the day runs on a day of its week that is known
-  pub open-more : ((n : ℕ) (b : B) → n + 4 ≡ limit → body_in xs c n ≡ Some b → RunsBefore xs c week limit b) →
-      AreOpen form xs c week last (limit + 1) old
-  open-more seen = record {
-    each = λ k r at.
-        let o = u.each k r at in
-        later r o (λ n now next runs.
-        let h = seen n o.body now runs in o.ended h.day h.before (omega (arith, h.in_week, next)) h.runs);
-    pairs = u.pairs;
-    complete = λ m b known runs. ⊎_elim
-        (λ sooner. u.complete m b sooner runs)
-        (λ from.
-        let now : m + 4 ≡ limit = omega arith in
-        let h = seen m b now runs in
-        let d = u.complete h.day b h.before h.runs in
-        record {
-          place = d.place;
-          run = d.run;
-          at = d.at;
-          has = d.has;
-          from = omega (arith, d.from, h.in_week, in_week m now);
-          upto = omega (arith, d.upto, h.in_week, in_week m now);
-        })
-        (cases_lt (m + 4) limit);
   }
 
   -- a run with the day is put to a place
@@ -137,55 +152,60 @@ module _ {B : Type 0} (form : Form) (xs : List (Terms B)) (c : CalendarParts) (w
           (cases_lt (m + 4) limit);
     }
 
--- the body of a weekday of the week, the first on which it runs
+-- a body of the week, whose first weekday is w
 module _ {B : Type 0} (form : Form) (xs : List (Terms B)) (c : CalendarParts) (sources : AreSources xs c) (week : Week)
-    (k : IsWeek c week) (w : ℕ) (below : w < 7) (old : List Run)
+    (k : IsWeek xs c week) (w : ℕ) (below : w < 7) (old : List Run)
     (u : AreOpen form xs c week.number week.last_alike (week.number * 7 + w) old)
-    (source : ℕ) (is : get_or week.row w None ≡ Some source)
-    (days : List Bool) (m : IsMaskOf xs week.row source days) (f : IsFirstOf days w) where
-  -- its day and its mask
+    (t : WeekBody) (s : IsBodyUpTo xs c week.number (week.number * 7 + 7) t) (f : IsFirstOf t.days w) where
+  abbrev source : ℕ
+  source = t.source
+
+  abbrev days : List Bool
+  days = t.days
+
+  abbrev body : B
+  body = s.body
+
+  mask : IsMask (body_in xs c) body week.number days
+  mask = body-mask xs c sources week.number t s
+
+  -- the day on which it begins
   pub day-of : (n : ℕ) × (n + 4 ≡ week.number * 7 + w) × (source_in c n ≡ Some source)
   day-of =
-      let (n, next, day) = k.row.only w source below is in
-      (n, (let at : n + 4 ≡ week.number * 7 + w = omega arith in at), sym (k.row.each n next) ∙ ap (λ v. get_or week.row v None) day ∙ is)
+      let first : weekday_of s.day ≡ w = one-first days (weekday_of s.day) w s.first f in
+      (s.day, (let at : s.day + 4 ≡ week.number * 7 + w = omega (arith, s.in_week) in at), s.starts)
 
-  pub body-of : (b : B) × (body_at xs (Some source) ≡ Some b)
-  body-of = source-body xs c sources day-of.0 source day-of.2
-
-  pub mask : IsMask (body_in xs c) body-of.0 week.number days
-  mask = mask-of_row xs c sources week.number source body-of.0 week.row days k.row body-of.1 m
-
-  runs-first : (n : ℕ) → n + 4 ≡ week.number * 7 + w → body_in xs c n ≡ Some body-of.0
+  runs-first : (n : ℕ) → n + 4 ≡ week.number * 7 + w → body_in xs c n ≡ Some body
   runs-first n at =
       let same : day-of.0 ≡ n = omega (arith, day-of.1) in
-      subst (λ v. body_in xs c v ≡ Some body-of.0) same (ap (body_at xs) day-of.2 ∙ body-of.1)
+      subst (λ v. body_in xs c v ≡ Some body) same (ap (body_at xs) day-of.2 ∙ s.has)
 
   -- it runs on no earlier day of the week
-  not-before : (i : ℕ) → week_of i ≡ week.number → i + 4 < week.number * 7 + w → body_in xs c i ≡ Some body-of.0 → ⊥
+  not-before : (i : ℕ) → week_of i ≡ week.number → i + 4 < week.number * 7 + w → body_in xs c i ≡ Some body → ⊥
   not-before i at before runs = f.none_before (weekday_of i) (omega arith) (mask.shows i at runs)
 
-  earliest : (n i : ℕ) → n + 4 ≡ week.number * 7 + w → week_of i ≡ week_of n → body_in xs c i ≡ Some body-of.0 → n ≤ i
+  earliest : (n i : ℕ) → n + 4 ≡ week.number * 7 + w → week_of i ≡ week_of n → body_in xs c i ≡ Some body → n ≤ i
   earliest n i at same runs = ⊎_elim
       (λ before. absurd (not-before i (omega arith) before runs))
       (λ from. omega arith)
       (cases_lt (i + 4) (week.number * 7 + w))
 
   -- a run that has the days up to the week before, with the week and those like it
-  module _ (before : List (Option ℕ)) (q : ArePlaces xs c (IsBefore week.number) week.number old before) where
+  module _ (before : List ℕ) (q : ArePlaces xs c (IsBefore week.number) week.number old before) where
     -- where a run at one of the places has the body, it ends in the week before
-    ends-before : (v place : ℕ) (run : Run) → get_or before v None ≡ Some place → slice_get old place ≡ Some run →
-        body_at xs (Some run.source) ≡ Some body-of.0 → week_of run.last + 1 ≡ week.number
-    ends-before v place run at_v at has =
-        let (other, at_too, from) = q.only v place at_v in
+    ends-before : (place : ℕ) (run : Run) → Contains before place → slice_get old place ≡ Some run →
+        body_at xs (Some run.source) ≡ Some body → week_of run.last + 1 ≡ week.number
+    ends-before place run listed at has =
+        let (other, at_too, from) = q.only place listed in
         let one : other ≡ run = same_Some other run (sym at_too ∙ at) in
         let late : week.number ≤ week_of run.last + 1 = subst (λ (r : Run). week.number ≤ week_of r.last + 1) one from in
         let o = u.each place run at in
         ⊎_elim
         (λ sooner. omega arith)
         (λ there.
-        let t = there.1 in
-        let same : o.body ≡ body-of.0 = same_Some o.body body-of.0 (sym o.has ∙ has) in
-        absurd (not-before t.day t.in_week t.before (subst (λ b. body_in xs c t.day ≡ Some b) same t.runs)))
+        let e = there.1 in
+        let same : o.body ≡ body = same_Some o.body body (sym o.has ∙ has) in
+        absurd (not-before e.day e.in_week e.before (subst (λ b. body_in xs c e.day ≡ Some b) same e.runs)))
         o.reaches
 
     -- two runs with the body that end in the week before are one
@@ -205,14 +225,14 @@ module _ {B : Type 0} (form : Form) (xs : List (Terms B)) (c : CalendarParts) (s
         (set old place (record { first = run.first; last = last; days = both; source = run.source })) place
     extend place j run at last both day l is_last seven union =
         let it : Run = record { first = run.first; last = last; days = both; source = run.source } in
-        let b = body-of.0 in
+        let b = body in
         let o = u.each place run at in
         let one_run : j.run ≡ run = same_Some j.run run (sym j.at ∙ at) in
         let same : body_at xs (Some run.source) ≡ body_at xs (Some source) =
         subst (λ (r : Run). body_at xs (Some r.source) ≡ body_at xs (Some source)) one_run j.same in
-        let has : body_at xs (Some it.source) ≡ Some b = same ∙ body-of.1 in
+        let has : body_at xs (Some it.source) ≡ Some b = same ∙ s.has in
         let body_is : b ≡ o.body = same_Some b o.body (sym has ∙ o.has) in
-        let ends = ends-before j.weekday place run j.is at has in
+        let ends = ends-before place run j.listed at has in
         let old_week = week_of run.last in
         let grown : IsGrown form (window_of c) (body_in xs c) (record_of run b) =
         subst (λ d. IsGrown form (window_of c) (body_in xs c) (record_of run d)) (sym body_is) o.grown in
@@ -259,10 +279,10 @@ module _ {B : Type 0} (form : Form) (xs : List (Terms B)) (c : CalendarParts) (s
               record {
                 rising = h.rising;
                 apart = λ bodies.
-                    let s = u.each i r at_r in
+                    let e = u.each i r at_r in
                     let later_r : week_of run.last < week_of r.first = h.apart bodies in
-                    let begun_r : r.first + 4 < week.number * 7 + w = s.begun in
-                    absurd (not-before r.first (omega arith) begun_r (ap (body_at xs) s.starts ∙ sym bodies ∙ has));
+                    let begun_r : r.first + 4 < week.number * 7 + w = e.begun in
+                    absurd (not-before r.first (omega arith) begun_r (ap (body_at xs) e.starts ∙ sym bodies ∙ has));
               });
           kept = p.kept;
           run = it;
@@ -271,14 +291,14 @@ module _ {B : Type 0} (form : Form) (xs : List (Terms B)) (c : CalendarParts) (s
           upto = upto;
         }
 
-    pub begin : JoinNone form xs c week.number source days old before 7 → (first last day : ℕ) → first + 4 ≡ week.number * 7 + w →
+    pub begin : JoinNone form xs c week.number source days old before → (first last day : ℕ) → first + 4 ≡ week.number * 7 + w →
         IsLastDay week.number days day → last ≡ day + 7 * (week.last_alike - week.number) →
         IsAdded form xs c week (week.number * 7 + w) source old
         (old ++ record { first = first; last = last; days = days; source = source } ∷ []) (length old)
     begin none first last day at_first l is_last =
         let it : Run = record { first = first; last = last; days = days; source = source } in
-        let b = body-of.0 in
-        let has = body-of.1 in
+        let b = body in
+        let has = s.has in
         let in_week : week.number ≡ week_of first = omega arith in
         let runs_first = runs-first first at_first in
         let one : IsGrown form (window_of c) (body_in xs c) (record { first = first; last = day; days = days; body = b }) =
@@ -311,14 +331,14 @@ module _ {B : Type 0} (form : Form) (xs : List (Terms B)) (c : CalendarParts) (s
               let is_b : d ≡ b = same_Some d b (sym runs_d ∙ runs_first) in
               let h = q.each r.last d ends_r grown_r.last_runs in
               let has_h : body_at xs (Some h.run.source) ≡ Some b = h.has ∙ ap Some is_b in
-              let ends_h = ends-before h.weekday h.place h.run h.is h.at has_h in
+              let ends_h = ends-before h.place h.run h.listed h.at has_h in
               let bodies : body_at xs (Some r.source) ≡ body_at xs (Some h.run.source) = has_r ∙ sym h.has in
               ⊎_elim
               (λ same.
               let r_is : h.run ≡ r = same_Some h.run r (sym h.at ∙ ap (slice_get old) (sym same) ∙ at_r) in
               let differ : Differ form (window_of c) (week_of r.last) r.days days =
               subst (λ (v : Run). Differ form (window_of c) (week_of v.last) v.days days) r_is
-              (none.differ h.weekday h.place h.run h.below h.is h.at (has_h ∙ sym has) (week_of h.run.last) ends_h) in
+              (none.differ h.place h.run h.listed h.at (has_h ∙ sym has) (week_of h.run.last) ends_h) in
               breaks_differ (window_of c) (body_in xs c) (inside xs c sources) form (record_of r d) days grown_r
               (subst (λ v. IsMask (body_in xs c) d v days) (sym ends_r)
               (subst (λ v. IsMask (body_in xs c) v week.number days) (sym is_b) mask))
@@ -336,9 +356,9 @@ module _ {B : Type 0} (form : Form) (xs : List (Terms B)) (c : CalendarParts) (s
                 apart = λ bodies. ⊎_elim
                     (λ sooner. omega arith)
                     (λ there.
-                    let t = there.1 in
+                    let e = there.1 in
                     let is_b : o.body ≡ b = same_Some o.body b (sym o.has ∙ bodies ∙ has) in
-                    absurd (not-before t.day t.in_week t.before (subst (λ v. body_in xs c t.day ≡ Some v) is_b t.runs)))
+                    absurd (not-before e.day e.in_week e.before (subst (λ v. body_in xs c e.day ≡ Some v) is_b e.runs)))
                     o.reaches;
               })
               (λ i r more at_r. let within : i < length old = slice_get_within old i r at_r in absurd (omega arith));
@@ -349,11 +369,27 @@ module _ {B : Type 0} (form : Form) (xs : List (Terms B)) (c : CalendarParts) (s
           upto = upto;
         }
 
+  -- the last day of its mask
+  pub last-day : (v : ℕ) → IsLastOf days v → (day : ℕ) × (weekday_of day ≡ v) × IsLastDay week.number days day
+  last-day v l =
+      let (n, at, day, runs) = mask.only v l.runs in (
+        n,
+        day,
+        record {
+          in_week = at;
+          runs = subst (λ u. RunsOn days u) (sym day) l.runs;
+          latest = λ m at_m on. ⊎_elim
+              (λ after. absurd (l.none_after (weekday_of m) (omega arith) on))
+              (λ upto. upto)
+              (cases_lt n m);
+        },
+      )
+
   -- the last day of the mask in the last of the weeks that are like this one is a day of the calendar
   pub last-within : (day : ℕ) → IsLastDay week.number days day → day + 7 * (week.last_alike - week.number) ≤ c.last
   last-within day l =
-      let runs : body_in xs c day ≡ Some body-of.0 = last_runs (body_in xs c) body-of.0 week.number days day mask l in
-      let (i, is) = body-source xs c sources (source_in c day) body-of.0 runs in
+      let runs : body_in xs c day ≡ Some body = last_runs (body_in xs c) body week.number days day mask l in
+      let (i, is) = body-source xs c sources (source_in c day) body runs in
       let there : source_in c (day + 7 * (week.last_alike - week.number)) ≡ Some i =
       alike-source c week.number week.last_alike k.alike (week.last_alike - week.number) day (omega (arith, l.in_week))
       (omega (arith, l.in_week, k.from)) ∙ is in

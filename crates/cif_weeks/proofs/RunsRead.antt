@@ -15,28 +15,28 @@ same_or_other j k = ⊎_elim
     (cases_lt j k)
 
 module _ {X : Type 0} where
-  read-set : (xs : List X) (k : ℕ) (x y : X) → slice_get xs k ≡ Some x → slice_get (set xs k y) k ≡ Some y
+  pub read-set : (xs : List X) (k : ℕ) (x y : X) → slice_get xs k ≡ Some x → slice_get (set xs k y) k ≡ Some y
   read-set [] k x y e = absurd (cc)
   read-set (z ∷ xs) zero x y e = refl
   read-set (z ∷ xs) (suc k) x y e = read-set xs k x y e
 
-  read-other : (xs : List X) (j k : ℕ) (y : X) → j ≢ k → slice_get (set xs k y) j ≡ slice_get xs j
+  pub read-other : (xs : List X) (j k : ℕ) (y : X) → j ≢ k → slice_get (set xs k y) j ≡ slice_get xs j
   read-other [] j k y e = refl
   read-other (z ∷ xs) zero zero y e = absurd (e refl)
   read-other (z ∷ xs) (suc j) zero y e = refl
   read-other (z ∷ xs) zero (suc k) y e = refl
   read-other (z ∷ xs) (suc j) (suc k) y e = read-other xs j k y (λ h. e (ap suc h))
 
-  read-pushed : (xs : List X) (y : X) → slice_get (xs ++ y ∷ []) (length xs) ≡ Some y
+  pub read-pushed : (xs : List X) (y : X) → slice_get (xs ++ y ∷ []) (length xs) ≡ Some y
   read-pushed [] y = refl
   read-pushed (z ∷ xs) y = read-pushed xs y
 
-  read-old : (xs : List X) (j : ℕ) (x y : X) → slice_get xs j ≡ Some x → slice_get (xs ++ y ∷ []) j ≡ Some x
+  pub read-old : (xs : List X) (j : ℕ) (x y : X) → slice_get xs j ≡ Some x → slice_get (xs ++ y ∷ []) j ≡ Some x
   read-old [] j x y e = absurd (cc)
   read-old (z ∷ xs) zero x y e = e
   read-old (z ∷ xs) (suc j) x y e = read-old xs j x y e
 
-  read-before : (xs : List X) (j : ℕ) (x y : X) → j ≢ length xs → slice_get (xs ++ y ∷ []) j ≡ Some x → slice_get xs j ≡ Some x
+  pub read-before : (xs : List X) (j : ℕ) (x y : X) → j ≢ length xs → slice_get (xs ++ y ∷ []) j ≡ Some x → slice_get xs j ≡ Some x
   read-before [] zero x y other e = absurd (other refl)
   read-before [] (suc j) x y other e = absurd (cc)
   read-before (z ∷ xs) zero x y other e = e

@@ -1,27 +1,25 @@
 //! The canonical runs of a calendar.
 
-ghost use Rattle.std.specs.Prelude.{◌≡◌, ◌<◌, ◌+◌, ◌*◌, ℕ, None, Some, length, map};
-ghost use Rattle.std.specs.Prelude.{slice_get, slice_index_or, IfOk, MatchOption};
+ghost use Rattle.std.specs.Prelude.{◌≡◌, ◌<◌, ◌+◌, ◌*◌, ◌/◌, ◌↔◌, ℕ, Any, IsSome, IsTrue, length, map};
+ghost use Rattle.std.specs.Prelude.{slice_get, Contains, IfOk, MatchOption};
 ghost use Rattle.cif_columns.specs.Day.{IsDay};
 ghost use Rattle.cif_columns.specs.DaysRun.{IsFirstOf};
+ghost use Rattle.cif_calendar.specs.Pieces.{Tiles};
 ghost use Rattle.cif_weeks.specs.Runs.{AreCanonicalRuns, AreSources};
+ghost use Rattle.cif_weeks.specs.Steps.Joined.{IsJoinedUpTo};
 ghost use Rattle.cif_weeks.specs.Steps.OpenRuns.{AreOpen, ArePlaces, IsAdded, IsBefore, IsKnown};
 ghost use Rattle.cif_weeks.specs.Steps.OpenRuns.{JoinNone, Joins};
-ghost use Rattle.cif_weeks.specs.Steps.WeekRows.{IsMaskOf, IsWeek};
+ghost use Rattle.cif_weeks.specs.Steps.WeekBodies.{IsBodyUpTo, IsWeek};
+ghost use Rattle.cif_weeks.specs.declared.run.Run.{Run};
 
 use crate::agreed::agree;
-use crate::busy_weeks::busy_weeks;
 use crate::form::Form;
 use crate::run::Run;
-use crate::week::Week;
-use crate::week_mask::{have_one_body, last_day, mask_of};
-use cif_calendar::{Calendar, Entry};
-use cif_columns::{Day, DaysRun};
+use crate::week::{Week, WeekBody, have_one_body};
+use arrayvec::ArrayVec;
+use cif_calendar::{Calendar, Entry, Piece};
+use cif_columns::{DAYS_IN_WEEK, Day, DaysRun};
 use std::alloc::{AllocError, Global};
-
-/// For each weekday of a week on which a body runs that ran on no weekday before it, the place in the
-/// list of its run.
-type Places = [Option<usize>; 7];
 
 /// The place of the run, among those at `places`, that the body at `source` goes on, which runs on
 /// these days of the week; `None` where it goes on none.
@@ -30,62 +28,73 @@ fn goes_on<E: Entry>(
     entries: &[E],
     calendar: &Calendar,
     form: Form,
-    places: &Places,
+    places: &[usize],
     week: u32,
     days: DaysRun,
     source: usize,
 ) -> Option<usize>
     requires position { source < length entries.now }
-    requires positions { (w k : ℕ) → slice_index_or places.now w None ≡ Some k →
+    requires positions { (k : ℕ) → Contains places.now k →
         (run : Run) × (slice_get runs.now k ≡ Some run) × (run.source < length entries.now) }
     ensures { MatchOption result
-        (JoinNone form (map E.terms entries.now) calendar.now week source days runs.now places.now 7)
+        (JoinNone form (map E.terms entries.now) calendar.now week source days runs.now places.now)
         (Joins form (map E.terms entries.now) calendar.now week source days runs.now places.now) }
 {
-    for weekday in 0..7u8 {
-        if let Some(place) = places[usize::from(weekday)] {
-            let run = &runs[place];
-            if have_one_body(entries, run.source, source)
-                && agree(form, calendar, week, run.days, days)
-            {
-                return Some(place);
-            }
+    for place in places {
+        let run = &runs[*place];
+        if have_one_body(entries, run.source, source)
+            && agree(form, calendar, week, run.days, days)
+        {
+            return Some(*place);
         }
     }
     None
 }
 
-/// Adds the days of the body at `source`, which runs on these days of the week, `weekday` the first:
-/// a run of the week before goes on, or one begins. Gives the place of the run.
+/// The day of the week, which a date of the window has.
+fn day_of(week: u32, weekday: u8) -> Day
+    requires weekday { weekday < 7 }
+    requires in_range { (n : ℕ) × (n + 4 ≡ week * 7 + weekday) × IsDay n }
+    ensures { result + 4 ≡ week * 7 + weekday }
+{
+    match Day::in_week(week, weekday) {
+        Some(day) => day,
+        None => unreachable!(),
+    }
+}
+
+/// Adds a body of the week, which begins on this weekday: a run of the week before goes on, or one
+/// begins. Gives the place of the run.
 fn add_body<E: Entry>(
     runs: &mut Vec<Run>,
     entries: &[E],
     calendar: &Calendar,
     form: Form,
-    before: &Places,
+    before: &[usize],
     week: &Week,
     weekday: u8,
-    days: DaysRun,
-    source: usize,
+    body: WeekBody,
 ) -> Result<usize, AllocError>
-    requires weekday { weekday < 7 }
-    requires source { slice_index_or week.now.row weekday None ≡ Some source }
-    requires days { IsMaskOf (map E.terms entries.now) week.now.row source days }
-    requires first { IsFirstOf days weekday }
     requires sources { AreSources (map E.terms entries.now) calendar.now }
     requires in_range { IsDay calendar.now.last }
-    requires week { IsWeek calendar.now week.now }
+    requires week { IsWeek (map E.terms entries.now) calendar.now week.now }
+    requires body { IsBodyUpTo (map E.terms entries.now) calendar.now week.now.number
+        (week.now.number * 7 + 7) body }
+    requires first { IsFirstOf body.days weekday }
+    requires weekday { weekday < 7 }
     requires before { ArePlaces (map E.terms entries.now) calendar.now (IsBefore week.now.number)
         week.now.number runs.now.items before.now }
     requires runs { AreOpen form (map E.terms entries.now) calendar.now week.now.number
         week.now.last_alike (week.now.number * 7 + weekday) runs.now.items }
     ensures { IfOk result (IsAdded form (map E.terms entries.now) calendar.now week.now
-        (week.now.number * 7 + weekday) source runs.old.items runs.new.items) }
+        (week.now.number * 7 + weekday) body.source runs.old.items runs.new.items) }
 {
-    let last = match last_day(week.number, days) {
-        Some(day) => week.last_like(day),
+    let WeekBody { source, days } = body;
+    let last_weekday = match days.last() {
+        Some(last_weekday) => last_weekday,
         None => unreachable!(),
     };
+    let last = day_of(week.last_alike, last_weekday);
     let joined = goes_on(
         runs.as_slice(),
         entries,
@@ -105,10 +114,7 @@ fn add_body<E: Entry>(
         };
         return Ok(place);
     }
-    let first = match Day::in_week(week.number, weekday) {
-        Some(first) => first,
-        None => unreachable!(),
-    };
+    let first = day_of(week.number, weekday);
     let place = runs.len();
     runs.push(Run {
         first,
@@ -125,38 +131,119 @@ fn add_week<E: Entry>(
     entries: &[E],
     calendar: &Calendar,
     form: Form,
-    before: &Places,
+    before: &[usize],
     week: &Week,
-) -> Result<Places, AllocError>
+) -> Result<ArrayVec<usize, 7>, AllocError>
     requires sources { AreSources (map E.terms entries.now) calendar.now }
     requires in_range { IsDay calendar.now.last }
-    requires week { IsWeek calendar.now week.now }
+    requires week { IsWeek (map E.terms entries.now) calendar.now week.now }
     requires before { ArePlaces (map E.terms entries.now) calendar.now (IsBefore week.now.number)
         week.now.number runs.now.items before.now }
     requires runs { AreOpen form (map E.terms entries.now) calendar.now week.now.number
         week.now.last_alike (week.now.number * 7) runs.now.items }
     ensures runs { IfOk result (λ _. AreOpen form (map E.terms entries.now) calendar.now
         week.now.number week.now.last_alike (week.now.number * 7 + 7) runs.new.items) }
-    ensures places { IfOk result (ArePlaces (map E.terms entries.now) calendar.now
+    ensures places { IfOk result (λ places. ArePlaces (map E.terms entries.now) calendar.now
         (IsKnown week.now.number (week.now.number * 7 + 7)) (week.now.last_alike + 1)
-        runs.new.items) }
+        runs.new.items places.items) }
 {
-    let mut places = [None; 7];
-    // The weekdays of the bodies of earlier weekdays.
-    let mut seen = DaysRun::of([false; 7]);
-    for weekday in 0..7u8 {
-        if let Some(source) = week.row[usize::from(weekday)] {
-            if !seen.has(weekday) {
-                let days = mask_of(entries, &week.row, source);
-                let place = add_body(
-                    runs, entries, calendar, form, before, week, weekday, days, source,
-                )?;
-                places[usize::from(weekday)] = Some(place);
-                seen = seen.union(days);
-            }
-        }
+    let mut places = ArrayVec::new();
+    for body in week.bodies.as_slice() {
+        let weekday = match body.days.first() {
+            Some(weekday) => weekday,
+            None => unreachable!(),
+        };
+        let place = add_body(runs, entries, calendar, form, before, week, weekday, *body)?;
+        places.push(place);
     }
     Ok(places)
+}
+
+/// Whether something runs on a date of the piece.
+fn is_busy(piece: &Piece) -> bool
+    ensures { IsTrue result ↔ Any (λ winner. IsSome winner) piece.now.winners }
+{
+    piece.winners.iter().any(|winner| winner.is_some())
+}
+
+/// The runs of the days so far. Those of a week, and of the weeks that are like it, are still to be
+/// joined to the runs before.
+#[derive(Drop)]
+struct Joined {
+    /// The runs of the weeks before it.
+    runs: Vec<Run>,
+    /// The places of those that have the week before it.
+    before: ArrayVec<usize, 7>,
+    /// The week.
+    week: Week,
+}
+
+impl Joined {
+    /// Makes the week that of `day`, which counts from the Monday of week 0 and is the first that
+    /// isn't known. Where it is another than before, that one is joined to the runs before it.
+    fn reach<E: Entry>(
+        &mut self,
+        entries: &[E],
+        calendar: &Calendar,
+        form: Form,
+        day: u32,
+    ) -> Result<(), AllocError>
+        requires sources { AreSources (map E.terms entries.now) calendar.now }
+        requires in_range { IsDay calendar.now.last }
+        requires joined { IsJoinedUpTo form (map E.terms entries.now) calendar.now day self.old }
+        ensures joined { IfOk result (λ _. IsJoinedUpTo form (map E.terms entries.now) calendar.now
+            day self.new) }
+        ensures number { IfOk result (λ _. self.new.week.number ≡ day / 7) }
+    {
+        let number = day / DAYS_IN_WEEK;
+        if number == self.week.number {
+            return Ok(());
+        }
+        let places = add_week(
+            &mut self.runs,
+            entries,
+            calendar,
+            form,
+            self.before.as_slice(),
+            &self.week,
+        )?;
+        self.before = if number == self.week.last_alike + 1 {
+            places
+        } else {
+            ArrayVec::new()
+        };
+        self.week = Week::new(number);
+        Ok(())
+    }
+
+    /// Adds the piece that begins where the days so far end.
+    fn add_piece<E: Entry>(
+        &mut self,
+        entries: &[E],
+        calendar: &Calendar,
+        form: Form,
+        piece: &Piece,
+    ) -> Result<(), AllocError>
+        requires sources { AreSources (map E.terms entries.now) calendar.now }
+        requires tiles { Tiles calendar.now.pieces calendar.now.first (calendar.now.last + 1) }
+        requires listed { Contains calendar.now.pieces piece.now }
+        requires in_range { IsDay calendar.now.last }
+        requires joined { IsJoinedUpTo form (map E.terms entries.now) calendar.now
+            (piece.now.first + 4) self.old }
+        ensures { IfOk result (λ _. IsJoinedUpTo form (map E.terms entries.now) calendar.now
+            (piece.now.last + 5) self.new) }
+    {
+        if !is_busy(piece) {
+            return Ok(());
+        }
+        let end = piece.last.days_since_first_monday() + 1;
+        let mut day = piece.first.days_since_first_monday();
+        while day < end {
+            self.reach(entries, calendar, form, day)?;
+            day = self.week.add_piece(entries, piece, day, end);
+        }
+        Ok(())
+    }
 }
 
 /// The canonical runs of a calendar in a form, rising by first date.
@@ -189,13 +276,16 @@ pub fn runs_in_room<E: Entry>(
 {
     let mut runs = room;
     runs.clear();
-    let weeks = busy_weeks(calendar);
-    let mut before = [None; 7];
-    let mut number = weeks.first;
-    while number <= weeks.last {
-        let week = Week::of(calendar, number);
-        before = add_week(&mut runs, entries, calendar, form, &before, &week)?;
-        number = week.last_alike + 1;
+    let window = calendar.window();
+    let mut joined = Joined {
+        runs,
+        before: ArrayVec::new(),
+        week: Week::new(window.first.week()),
+    };
+    for piece in calendar.pieces() {
+        joined.add_piece(entries, calendar, form, piece)?;
     }
-    Ok(runs)
+    let monday = (window.last.week() + 1) * DAYS_IN_WEEK;
+    joined.reach(entries, calendar, form, monday)?;
+    Ok(joined.runs)
 }

@@ -3,13 +3,11 @@
 #![tactic(auto)]
 
 mod agreed;
-mod busy_weeks;
 mod form;
 mod joined;
 pub mod laws;
 mod run;
 mod week;
-mod week_mask;
 
 pub use form::Form;
 pub use joined::{runs, runs_in_room};

@@ -1,163 +1,179 @@
-//! The weeks of a calendar.
+//! What runs in a week.
 
-ghost use Rattle.std.specs.Prelude.{◌≡◌, ◌≤◌, ◌+◌, ◌-◌, ◌*◌, IfSome};
-ghost use Rattle.cif_columns.specs.Day.{IsDay, week_of, weekday_of};
-ghost use Rattle.cif_weeks.specs.Steps.WeekRows.{HasBegun, IsInPiece, IsRowBefore, IsWeek};
+ghost use Rattle.std.specs.Prelude.{◌≡◌, ◌<◌, ◌≤◌, ◌+◌, ◌*◌, ◌↔◌, ◌⊎◌, ℕ, Bool, List, [], IsTrue, Some};
+ghost use Rattle.std.specs.Prelude.{length, map, slice_get, slice_set, MatchOption};
+ghost use Rattle.arrayvec.specs.ArrayVec.{array_vec_len};
+ghost use Rattle.cif_columns.specs.DaysRun.{RunsOn};
+ghost use Rattle.cif_calendar.specs.Calendar.{CalendarParts};
+ghost use Rattle.cif_calendar.specs.Pieces.{winner_of};
+ghost use Rattle.cif_weeks.specs.Runs.{AreSources};
+ghost use Rattle.cif_weeks.specs.Steps.WeekBodies.{AddsDay, AreOfPiece, ArePositions, HaveOneBody};
+ghost use Rattle.cif_weeks.specs.Steps.WeekBodies.{IsWeekUpTo};
+ghost use Rattle.cif_weeks.specs.declared.week.WeekBody.{WeekBody};
 
-use cif_calendar::{Calendar, Piece};
-use cif_columns::{DAYS_IN_WEEK, Day};
+use arrayvec::ArrayVec;
+use cif_calendar::{Entry, Piece, same_body};
+use cif_columns::{DAYS_IN_WEEK, DaysRun};
 
-/// The sources of the days of a week, Monday first; `None` for a day outside the window too.
-pub(crate) type Row = [Option<usize>; 7];
-
-/// The last week with a day of the window.
-pub(crate) fn last_week(calendar: &Calendar) -> u32
-    ensures week { result ≡ week_of calendar.now.last }
-    ensures in_range { IsDay calendar.now.last }
+/// Whether the entries at two positions have one body.
+pub(crate) fn have_one_body<E: Entry>(entries: &[E], one: usize, other: usize) -> bool
+    requires one { one < length entries.now }
+    requires other { other < length entries.now }
+    ensures { IsTrue result ↔ HaveOneBody (map E.terms entries.now) one other }
 {
-    let last = calendar.window().last;
-    last.week()
+    one == other || same_body(&entries[one], &entries[other])
 }
 
-/// The piece that has a day of the window: the one that has begun, if the day isn't after it.
-fn piece_of<'c>(calendar: &'c Calendar, begun: Option<&'c Piece>, day: Day) -> &'c Piece
-    requires from { calendar.now.first ≤ day }
-    requires upto { day ≤ calendar.now.last }
-    requires begun { IfSome begun (λ piece. HasBegun calendar.now piece.now day) }
-    ensures begun { HasBegun calendar.now result.now day }
-    ensures upto { day ≤ result.now.last }
-{
-    match begun {
-        Some(piece) if day <= piece.last => piece,
-        _ => calendar.piece_on(day),
-    }
-}
-
-/// The sources of the days of a week, by the pieces that have them.
-fn row_by_days(calendar: &Calendar, week: u32) -> Row
-    ensures { IsRowBefore calendar.now (week + 1) result }
-{
-    let window = calendar.window();
-    let mut row = [None; 7];
-    let mut begun = None;
-    for weekday in 0..7u8 {
-        if let Some(day) = Day::in_week(week, weekday) {
-            if window.first <= day && day <= window.last {
-                let piece = piece_of(calendar, begun, day);
-                row[usize::from(weekday)] = piece.winners[usize::from(weekday)];
-                begun = Some(piece);
-            }
-        }
-    }
-    row
-}
-
-/// The sources of the days of a week whose Monday is in the piece.
-fn row_from(calendar: &Calendar, piece: &Piece, week: u32, monday: Day) -> Row
-    requires in_week { week_of monday ≡ week }
-    requires weekday { weekday_of monday ≡ 0 }
-    requires from { calendar.now.first ≤ monday }
-    requires upto { monday ≤ calendar.now.last }
-    requires begun { HasBegun calendar.now piece.now monday }
-    ensures { IsRowBefore calendar.now (week + 1) result }
-{
-    let last = calendar.window().last;
-    let mut row = [None; 7];
-    let mut begun = Some(piece);
-    let mut day = monday;
-    for weekday in 0..7u8 {
-        let piece = piece_of(calendar, begun, day);
-        row[usize::from(weekday)] = piece.winners[usize::from(weekday)];
-        begun = Some(piece);
-        match day.next_up_to(last) {
-            Some(next) => day = next,
-            None => return row,
-        }
-    }
-    row
-}
-
-/// A week of a calendar, and how far the weeks after it are like it.
+/// A body that runs in a week.
 #[derive(Clone, Copy)]
+pub(crate) struct WeekBody {
+    /// The position of an entry with the body: the source of the first day on which it runs.
+    pub source: usize,
+    /// The weekdays on which it runs.
+    pub days: DaysRun,
+}
+
+impl Default for WeekBody {
+    fn default() -> WeekBody {
+        WeekBody {
+            source: 0,
+            days: DaysRun::of([false; 7]),
+        }
+    }
+}
+
+/// The place of the body of the entry at `source`, if it is one of these.
+fn place_of<E: Entry>(entries: &[E], bodies: &[WeekBody], source: usize) -> Option<usize>
+    requires source { source < length entries.now }
+    requires bodies { ArePositions (length entries.now) bodies.now }
+    ensures { MatchOption result
+        ((k : ℕ) (body : WeekBody) → slice_get bodies.now k ≡ Some body →
+        ¬ HaveOneBody (map E.terms entries.now) body.source source)
+        (λ k. (body : WeekBody) × (slice_get bodies.now k ≡ Some body)
+        × HaveOneBody (map E.terms entries.now) body.source source) }
+{
+    // Where a position is equal, no body is looked at.
+    match bodies.iter().position(|body| body.source == source) {
+        Some(place) => Some(place),
+        None => place_by_body(entries, bodies, source),
+    }
+}
+
+/// The same, by a look at the bodies.
+fn place_by_body<E: Entry>(entries: &[E], bodies: &[WeekBody], source: usize) -> Option<usize>
+    requires source { source < length entries.now }
+    requires bodies { ArePositions (length entries.now) bodies.now }
+    ensures { MatchOption result
+        ((k : ℕ) (body : WeekBody) → slice_get bodies.now k ≡ Some body →
+        ¬ HaveOneBody (map E.terms entries.now) body.source source)
+        (λ k. (body : WeekBody) × (slice_get bodies.now k ≡ Some body)
+        × HaveOneBody (map E.terms entries.now) body.source source) }
+{
+    for (place, body) in bodies.iter().enumerate() {
+        if same_body(&entries[body.source], &entries[source]) {
+            return Some(place);
+        }
+    }
+    None
+}
+
+/// Puts the days to those of the body at a place.
+fn put_days(bodies: &mut [WeekBody], place: usize, days: DaysRun)
+    requires { place < length bodies.old }
+    ensures { (body : WeekBody) → slice_get bodies.old place ≡ Some body →
+        (all : List Bool) × (length all ≡ 7)
+        × ((w : ℕ) → RunsOn all w ↔ (RunsOn body.days w ⊎ RunsOn days w))
+        × (bodies.new ≡ slice_set bodies.old place (record { source = body.source; days = all })) }
+{
+    let body = bodies[place];
+    bodies[place] = WeekBody {
+        source: body.source,
+        days: body.days.union(days),
+    };
+}
+
+/// What runs in a week, as far as its days have been added, and in the weeks after it that are like
+/// it.
+#[derive(Drop)]
 pub(crate) struct Week {
     /// Its number, 0 for that of 1960-01-01.
     pub number: u32,
-    /// The sources of its days.
-    pub row: Row,
-    /// The last of the weeks that lie whole in one piece with it; itself where it doesn't.
+    /// The bodies that run in it, by their first days.
+    pub bodies: ArrayVec<WeekBody, 7>,
+    /// The last of the weeks that are like it; itself where the one after it isn't.
     pub last_alike: u32,
 }
 
 impl Week {
-    /// A week whose Monday is in the piece, where its other days are too.
-    fn in_piece(piece: &Piece, number: u32) -> Option<Week>
-        ensures { IfSome result (λ week. (week.number ≡ number) × IsInPiece piece.now week) }
-    {
-        let row = piece.winners;
-        // The first week with a day after the piece.
-        let over = (piece.last.days_since_first_monday() + 1) / DAYS_IN_WEEK;
-        if number < over {
-            Some(Week {
-                number,
-                row,
-                last_alike: over - 1,
-            })
-        } else {
-            None
-        }
-    }
-
-    /// The week of a Monday that is in the piece.
-    fn from_monday(calendar: &Calendar, piece: &Piece, number: u32, monday: Day) -> Week
-        requires number { week_of monday ≡ number }
-        requires weekday { weekday_of monday ≡ 0 }
-        requires from { calendar.now.first ≤ monday }
-        requires upto { monday ≤ calendar.now.last }
-        requires begun { HasBegun calendar.now piece.now monday }
+    /// A week of which no day has been added.
+    pub(crate) fn new(number: u32) -> Week
         ensures number { result.number ≡ number }
-        ensures week { IsWeek calendar.now result }
+        ensures last_alike { result.last_alike ≡ number }
+        ensures bodies { result.bodies.items ≡ [] }
     {
-        match Week::in_piece(piece, number) {
-            Some(week) => week,
-            None => Week {
-                number,
-                row: row_from(calendar, piece, number, monday),
-                last_alike: number,
-            },
-        }
-    }
-
-    pub(crate) fn of(calendar: &Calendar, number: u32) -> Week
-        ensures number { result.number ≡ number }
-        ensures week { IsWeek calendar.now result }
-    {
-        let window = calendar.window();
-        if let Some(monday) = Day::in_week(number, 0) {
-            if window.first <= monday && monday <= window.last {
-                let piece = piece_of(calendar, None, monday);
-                return Week::from_monday(calendar, piece, number, monday);
-            }
-        }
         Week {
             number,
-            row: row_by_days(calendar, number),
+            bodies: ArrayVec::new(),
             last_alike: number,
         }
     }
 
-    /// The date on the weekday of `day`, which is in this week, in the last week that is like it.
-    pub(crate) fn last_like(&self, day: Day) -> Day
-        requires from { self.now.number ≤ self.now.last_alike }
-        requires in_range { IsDay (day + 7 * (self.now.last_alike - self.now.number)) }
-        ensures { result ≡ day + 7 * (self.now.last_alike - self.now.number) }
+    /// Adds the day of a weekday, on which the entry at `source` is what runs.
+    fn add<E: Entry>(&mut self, entries: &[E], weekday: u8, source: usize)
+        requires weekday { weekday < 7 }
+        requires source { source < length entries.now }
+        requires bodies { ArePositions (length entries.now) self.old.bodies.items }
+        requires room { array_vec_len self.old.bodies < 7 }
+        ensures bodies { AddsDay (map E.terms entries.now) weekday source
+            self.old.bodies.items self.new.bodies.items }
+        ensures number { self.new.number ≡ self.old.number }
+        ensures last_alike { self.new.last_alike ≡ self.old.last_alike }
     {
-        let days = DAYS_IN_WEEK * (self.last_alike - self.number);
-        match u16::try_from(u32::from(day.number()) + days) {
-            Ok(number) => match Day::from_number(number) {
-                Some(later) => later,
-                None => unreachable!(),
-            },
-            Err(_) => unreachable!(),
+        let only = DaysRun::only(weekday);
+        match place_of(entries, self.bodies.as_slice(), source) {
+            Some(place) => put_days(self.bodies.as_mut_slice(), place, only),
+            None => self.bodies.push(WeekBody { source, days: only }),
         }
+    }
+
+    /// Adds the days of the piece from `day` on that are in the week, and where these are all its
+    /// days, the weeks that the piece has whole after it. `day` and `end`, which is the day after the
+    /// piece, count from the Monday of week 0. Gives the day after those that were added.
+    pub(crate) fn add_piece<E: Entry>(
+        &mut self,
+        entries: &[E],
+        piece: &Piece,
+        day: u32,
+        end: u32,
+    ) -> u32
+        requires begun { 4 ≤ day }
+        requires from { self.old.number * 7 ≤ day }
+        requires upto { day < self.old.number * 7 + 7 }
+        requires end { day < end }
+        requires in_range { end < 65536 }
+        requires winners { (n i : ℕ) → day ≤ n + 4 → n + 4 < end →
+            winner_of piece.now n ≡ Some i → i < length entries.now }
+        requires bodies { ArePositions (length entries.now) self.old.bodies.items }
+        requires few { array_vec_len self.old.bodies + self.old.number * 7 ≤ day }
+        ensures from { day < result }
+        ensures upto { result ≤ end }
+        ensures number { self.new.number ≡ self.old.number }
+        ensures week { (c : CalendarParts) → AreSources (map E.terms entries.now) c →
+            AreOfPiece c piece.now day end → IsWeekUpTo (map E.terms entries.now) c day self.old →
+            IsWeekUpTo (map E.terms entries.now) c result self.new }
+    {
+        let monday = self.number * DAYS_IN_WEEK;
+        let next_monday = monday + DAYS_IN_WEEK;
+        let stop = end.min(next_monday);
+        for weekday in (day - monday) as u8..(stop - monday) as u8 {
+            if let Some(source) = piece.winners[usize::from(weekday)] {
+                self.add(entries, weekday, source);
+            }
+        }
+        if monday < day || stop < next_monday {
+            return stop;
+        }
+        self.last_alike = end / DAYS_IN_WEEK - 1;
+        end - end % DAYS_IN_WEEK
     }
 }

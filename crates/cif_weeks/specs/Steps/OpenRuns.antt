@@ -1,5 +1,5 @@
 -- Steps to the runs: the list of runs as it is built, one week after another. No public clause cites them.
-use Rattle.std.specs.Prelude.{◌≡◌, ℕ, ◌+◌, ◌<◌, ◌≤◌, ◌⊎◌, Bool, List, Option, None, Some, slice_get, slice_index_or}
+use Rattle.std.specs.Prelude.{◌≡◌, ℕ, ◌+◌, ◌<◌, ◌≤◌, ◌⊎◌, Bool, List, Some, Contains, slice_get}
 use Rattle.cif_columns.specs.Day.{week_of}
 use Rattle.cif_calendar.specs.Terms.{Terms}
 use Rattle.cif_calendar.specs.Source.{body_at}
@@ -13,7 +13,7 @@ use Rattle.cif_weeks.specs.Separate.{Change}
 use Rattle.cif_weeks.specs.Runs.{record_of, window_of}
 use Rattle.cif_weeks.specs.Steps.Growing.{Breaks, IsGrown}
 use Rattle.cif_weeks.specs.Steps.WeekMasks.{Agree, Differ}
-use Rattle.cif_weeks.specs.Steps.WeekRows.{body_in, source_in}
+use Rattle.cif_weeks.specs.Steps.WeekBodies.{body_in, source_in, HaveOneBody}
 
 -- r ends in a week before that in which s begins, and where that is the very next week, there is a change between them
 pub record IsApartFrom {B : Type 0} (form : Form) (window : Window) (r s : Permanent B) : Type 0 where
@@ -63,21 +63,18 @@ pub record AreOpen {B : Type 0} (form : Form) (xs : List (Terms B)) (c : Calenda
   pub complete : (n : ℕ) (b : B) → n + 4 < limit → body_in xs c n ≡ Some b → HasDay xs runs n b
 
 -- one of the places is that of a run with body b
-pub record HasPlace {B : Type 0} (xs : List (Terms B)) (runs : List Run) (places : List (Option ℕ)) (b : B) : Type 0 where
-  pub weekday : ℕ
-  pub below : weekday < 7
+pub record HasPlace {B : Type 0} (xs : List (Terms B)) (runs : List Run) (places : List ℕ) (b : B) : Type 0 where
   pub place : ℕ
   pub run : Run
-  pub is : slice_index_or places weekday None ≡ Some place
+  pub listed : Contains places place
   pub at : slice_get runs place ≡ Some run
   pub has : body_at xs (Some run.source) ≡ Some b
 
 -- The places of runs that end in no week with `week + 1 < next`, among them one for each body that runs on one of the days.
 pub record ArePlaces {B : Type 0} (xs : List (Terms B)) (c : CalendarParts) (days : ℕ → Type 0) (next : ℕ) (runs : List Run)
-    (places : List (Option ℕ)) : Type 0 where
+    (places : List ℕ) : Type 0 where
   pub each : (n : ℕ) (b : B) → days n → body_in xs c n ≡ Some b → HasPlace xs runs places b
-  pub only : (w k : ℕ) → slice_index_or places w None ≡ Some k →
-      (run : Run) × (slice_get runs k ≡ Some run) × (next ≤ week_of run.last + 1)
+  pub only : (k : ℕ) → Contains places k → (run : Run) × (slice_get runs k ≡ Some run) × (next ≤ week_of run.last + 1)
 
 -- the days of the week before
 abbrev pub IsBefore : ℕ → ℕ → Type 0
@@ -87,21 +84,19 @@ IsBefore next n = week_of n + 1 ≡ next
 abbrev pub IsKnown : ℕ → ℕ → ℕ → Type 0
 IsKnown week limit n = (week_of n ≡ week) × (n + 4 < limit)
 
--- The run at this place has the body at `source`, and its mask agrees with the body's in `week`.
+-- The run at this place, one of some places, has the body at `source`, and its mask agrees with the body's in `week`.
 pub record Joins {B : Type 0} (form : Form) (xs : List (Terms B)) (c : CalendarParts) (week source : ℕ) (days : List Bool)
-    (runs : List Run) (places : List (Option ℕ)) (place : ℕ) : Type 0 where
-  pub weekday : ℕ
+    (runs : List Run) (places : List ℕ) (place : ℕ) : Type 0 where
   pub run : Run
-  pub is : slice_index_or places weekday None ≡ Some place
+  pub listed : Contains places place
   pub at : slice_get runs place ≡ Some run
-  pub same : body_at xs (Some run.source) ≡ body_at xs (Some source)
+  pub same : HaveOneBody xs run.source source
   pub agree : (earlier : ℕ) → earlier + 1 ≡ week → Agree form (window_of c) earlier run.days days
 
--- None of the runs at the places before weekday k does.
+-- None of the runs at the places does.
 pub record JoinNone {B : Type 0} (form : Form) (xs : List (Terms B)) (c : CalendarParts) (week source : ℕ) (days : List Bool)
-    (runs : List Run) (places : List (Option ℕ)) (k : ℕ) : Type 0 where
-  pub differ : (w place : ℕ) (run : Run) → w < k → slice_index_or places w None ≡ Some place → slice_get runs place ≡ Some run →
-      body_at xs (Some run.source) ≡ body_at xs (Some source) →
+    (runs : List Run) (places : List ℕ) : Type 0 where
+  pub differ : (place : ℕ) (run : Run) → Contains places place → slice_get runs place ≡ Some run → HaveOneBody xs run.source source →
       (earlier : ℕ) → earlier + 1 ≡ week → Differ form (window_of c) earlier run.days days
 
 -- at its place is still the run that begins on this date, and it ends no earlier
