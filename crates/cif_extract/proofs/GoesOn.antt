@@ -8,7 +8,7 @@ use Rattle.cif_columns.specs.Line.{IsPrintable}
 use Rattle.cif_columns.proofs.Parts.{stands-plain_line}
 use Rattle.cif_columns.proofs.PrintableBytes.{printable_fact}
 use Rattle.cif_extract.specs.Grammar.{AreExtract, BeginExtract}
-use Rattle.cif_extract.specs.Steps.Place.{may_stand}
+use Rattle.cif_extract.specs.OrderOfRecords.{may_stand}
 use Rattle.cif_extract.specs.Steps.Reading.{HasRead, HasReadAt, Progress, parts_with_header, step}
 use Rattle.cif_extract.specs.declared.place.Place.{Place}
 use Rattle.cif_extract.specs.declared.place.Place.TheVariants as at

@@ -5,7 +5,7 @@ use Rattle.cif_columns.specs.Field.{plain_line}
 use Rattle.cif_extract.specs.Body.{KeepBody, KeepSomeBody, parts_in}
 use Rattle.cif_extract.specs.BodyParts.{BodyParts, extra_records, journey_records}
 use Rattle.cif_extract.specs.Grammar.{AreSchedule, AreSchedules, records_before_trailer}
-use Rattle.cif_extract.specs.Steps.Place.{may_stand}
+use Rattle.cif_extract.specs.OrderOfRecords.{may_stand}
 use Rattle.cif_extract.specs.Steps.Reading.{HasRead, HasReadAt, IsCancelled, IsKeepable, IsOpened, IsWithin}
 use Rattle.cif_extract.specs.Steps.Reading.{Progress, begun_journey, kept, opened_by, parts_with_header, schedule_with, step}
 use Rattle.cif_extract.specs.declared.call.Call.{Call}

@@ -12,8 +12,7 @@ use Rattle.cif_columns.proofs.GivenLinesLaws.{known_so}
 use Rattle.cif_extract.specs.ExtractParts.{ExtractParts, extract_parts}
 use Rattle.cif_extract.specs.FirstRefusal.{NoneRefused, IsFirstRefusal, refusal_of}
 use Rattle.cif_extract.specs.Grammar.{AreExtract}
-use Rattle.cif_extract.specs.OrderOfRecords.{record_before}
-use Rattle.cif_extract.specs.Steps.Place.{may_stand}
+use Rattle.cif_extract.specs.OrderOfRecords.{may_stand, place_behind}
 use Rattle.cif_extract.specs.ReadFault.{IsLineNumber, IsOfReading, IsReadFault}
 use Rattle.cif_extract.specs.Steps.Reading.{HasRead, HasReadAt, IsHeld, IsTaken, IsUnfinished, Progress, begun, no_progress}
 use Rattle.cif_extract.specs.Steps.Reading.{parts_with_header, refusal_here, step}
@@ -40,7 +39,7 @@ use Rattle.cif_records.specs.declared.record.Record.{Record}
 use Rattle.cif_records.specs.declared.record.Record.TheVariants as of
 use Rattle.cif_extract.proofs.FirstRefusals.{none_refused-more, none_refused-none}
 use Rattle.cif_extract.proofs.JourneySteps.{has_read_more}
-use Rattle.cif_extract.proofs.Places.{place_after, place_more, place_past, refused_at}
+use Rattle.cif_extract.proofs.Places.{place_more, place_past, refused_at}
 use Rattle.cif_records.proofs.Records.{kind_of as record_kind, kind_there as spelled_kind}
 
 -- no trailer
@@ -53,7 +52,7 @@ pub record HasCome (max : ℕ) (lines : List (List ℕ)) (p : Progress) : Type 0
   pub spelled : SpellAll lines records
   pub read : HasRead records p
   pub fine : NoneRefused max lines
-  pub place : place_after (record_before lines) ≡ p.place
+  pub place : place_behind lines ≡ p.place
   pub no_trailer : (p.place ≡ at.Ended → ⊥) → All IsNoTrailer lines
 
 pub come_none : (max : ℕ) → HasCome max [] no_progress

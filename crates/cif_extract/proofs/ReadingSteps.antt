@@ -4,7 +4,7 @@ use Rattle.std.proofs.Common.{append-nil, inl}
 use Rattle.std.proofs.lemmas.List.{map-append}
 use Rattle.cif_extract.specs.BodyParts.{extra_records}
 use Rattle.cif_extract.specs.Grammar.{AreSchedule, AreSchedules, records_before_trailer}
-use Rattle.cif_extract.specs.Steps.Place.{may_stand}
+use Rattle.cif_extract.specs.OrderOfRecords.{may_stand}
 use Rattle.cif_extract.specs.Steps.Reading.{HasOwn, HasRead, HasReadAt, IsCancelled, IsWithin}
 use Rattle.cif_extract.specs.Steps.Reading.{Progress, parts_with_header, step}
 use Rattle.cif_extract.specs.declared.place.Place.{Place}

@@ -5,7 +5,7 @@ use Rattle.cif_columns.specs.Field.{AllStandIn, plain_line}
 use Rattle.cif_extract.specs.BodyParts.{extra_records}
 use Rattle.cif_extract.specs.Call.{call_record}
 use Rattle.cif_extract.specs.Grammar.{records_before_trailer}
-use Rattle.cif_extract.specs.Steps.Place.{after_extra, may_stand}
+use Rattle.cif_extract.specs.OrderOfRecords.{after_extra, may_stand}
 use Rattle.cif_extract.specs.Steps.Reading.{HasOwn, HasRead, HasReadAt, IsCancelled, IsKeepable, IsOpened, IsWithin}
 use Rattle.cif_extract.specs.Steps.Reading.{Progress, begun, begun_journey, kept, opened_by, parts_with_header, step}
 use Rattle.cif_extract.specs.declared.call.Call.{Call}

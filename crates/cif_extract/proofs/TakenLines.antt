@@ -1,7 +1,7 @@
 -- What a line that is taken comes to, by its kind.
 use Rattle.std.proofs.Common.{◌≡◌, ℕ, true, List, Some, refl}
 use Rattle.cif_columns.specs.Field.{AllStandIn, plain_line}
-use Rattle.cif_extract.specs.Steps.Place.{after_extra, may_stand}
+use Rattle.cif_extract.specs.OrderOfRecords.{after_extra, may_stand}
 use Rattle.cif_extract.specs.Steps.Reading.{IsKeepable, IsOnTheWay, Progress, kept, refusal_here, step}
 use Rattle.cif_extract.specs.declared.place.Place.{Place}
 use Rattle.cif_extract.specs.declared.place.Place.TheVariants as at

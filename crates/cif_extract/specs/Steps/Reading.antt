@@ -8,7 +8,7 @@ use Rattle.cif_extract.specs.Call.{call_record}
 use Rattle.cif_extract.specs.ExtractParts.{ExtractParts}
 use Rattle.cif_extract.specs.FirstRefusal.{order_refusal}
 use Rattle.cif_extract.specs.Grammar.{AreExtract, AreSchedules, HasTerms, records_before_trailer}
-use Rattle.cif_extract.specs.Steps.Place.{after_extra, record_at}
+use Rattle.cif_extract.specs.OrderOfRecords.{after_extra}
 use Rattle.cif_extract.specs.declared.call.Call.{Call}
 use Rattle.cif_extract.specs.declared.opened.Opened.{Opened}
 use Rattle.cif_extract.specs.declared.place.Place.{Place}
@@ -144,7 +144,7 @@ step p of.Trailer = record p { place = at.Ended }
 
 -- the first reason to refuse a line that stands here
 abbrev pub refusal_here : Place → Option Kind → List ℕ → Option Refusal
-refusal_here place kind line = first_of (order_refusal (record_at place) kind ∷ refusal_as kind line ∷ [])
+refusal_here place kind line = first_of (order_refusal place kind ∷ refusal_as kind line ∷ [])
 
 -- the plain line that is kept of a record, or of its detail, spells it again
 abbrev pub IsKeepable : Record → Type 0
