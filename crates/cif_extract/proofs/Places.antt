@@ -16,8 +16,7 @@ use Rattle.cif_records.specs.Basic.{basic_back, basic_front}
 use Rattle.cif_records.specs.Bodies.{has_body}
 use Rattle.cif_records.specs.Detail.{detail_rows}
 use Rattle.cif_records.specs.Kind.{kind_in}
-use Rattle.cif_records.specs.Record.{record_refusal}
-use Rattle.cif_records.specs.SpellsRecord.{SpellsRecord}
+use Rattle.cif_records.specs.Record.{record_refusal, SpellsRecord}
 use Rattle.cif_records.specs.declared.basic.Basic.{Basic}
 use Rattle.cif_records.specs.declared.record.Record.{Record}
 use Rattle.cif_records.specs.declared.record.Record.TheVariants as of

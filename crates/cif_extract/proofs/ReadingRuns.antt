@@ -28,8 +28,7 @@ use Rattle.cif_extract.specs.declared.take_fault.TakeFault.TheVariants as untake
 use Rattle.cif_records.specs.Bodies.{has_body}
 use Rattle.cif_records.specs.Checks.{first_of, unless}
 use Rattle.cif_records.specs.Kind.{kind_in}
-use Rattle.cif_records.specs.Record.{refusal_as}
-use Rattle.cif_records.specs.SpellsRecord.{SpellsRecord}
+use Rattle.cif_records.specs.Record.{refusal_as, SpellsRecord}
 use Rattle.cif_records.specs.declared.basic.Basic.{Basic}
 use Rattle.cif_records.specs.declared.detail.Detail.{Detail}
 use Rattle.cif_records.specs.declared.header.Header.{Header}

@@ -7,16 +7,17 @@ use Rattle.cif_extract.specs.Call.{call_record}
 use Rattle.cif_extract.specs.Grammar.{records_before_trailer}
 use Rattle.cif_extract.specs.OrderOfRecords.{after_extra, may_stand}
 use Rattle.cif_extract.specs.Steps.Reading.{HasOwn, HasRead, HasReadAt, IsCancelled, IsKeepable, IsOpened, IsWithin}
-use Rattle.cif_extract.specs.Steps.Reading.{Progress, begun, begun_journey, kept, opened_by, parts_with_header, step}
+use Rattle.cif_extract.specs.Steps.Reading.{Progress, begun, begun_journey, kept, parts_with_header, step}
 use Rattle.cif_extract.specs.declared.call.Call.{Call}
-use Rattle.cif_extract.specs.declared.opened.Opened.{Opened}
 use Rattle.cif_extract.specs.declared.place.Place.{Place}
 use Rattle.cif_extract.specs.declared.place.Place.TheVariants as at
 use Rattle.cif_extract.specs.declared.schedule.Schedule.{Schedule}
+use Rattle.cif_records.specs.Basic.{terms_of}
 use Rattle.cif_records.specs.Bodies.{has_body}
 use Rattle.cif_records.specs.Detail.{detail_table}
-use Rattle.cif_records.specs.SpellsRecord.{record_table}
+use Rattle.cif_records.specs.Record.{record_table}
 use Rattle.cif_records.specs.declared.basic.Basic.{Basic}
+use Rattle.cif_records.specs.declared.basic.BasicTerms.{BasicTerms}
 use Rattle.cif_records.specs.declared.detail.Detail.{Detail}
 use Rattle.cif_records.specs.declared.extra.Extra.{Extra}
 use Rattle.cif_records.specs.declared.kind.Kind.TheVariants.{Bs, Bx, Lo, Li}
@@ -36,7 +37,7 @@ with_line p place r = record p { place = place; lines = kept p.opened p.lines r 
 
 module _ (records : List Record) (p : Progress) where
   -- a BS, behind whole schedules
-  begun_within : (b : Basic) (place : Place) (schedules : List Schedule) (opened : Option Opened) (lines : List (List ℕ)) →
+  begun_within : (b : Basic) (place : Place) (schedules : List Schedule) (opened : Option BasicTerms) (lines : List (List ℕ)) →
       AreClosed records p → let next = record p { place = place; schedules = schedules; opened = opened; lines = lines } in
       HasOwn place next p.schedules (of.Basic b ∷ []) → IsWithin (records ++ (of.Basic b ∷ [])) next
   begun_within b place schedules opened lines c here = record {
@@ -65,7 +66,7 @@ module _ (records : List Record) (p : Progress) where
       body = refl;
     },
   )
-  begun_here b (Some d) e is again c = begun_within b at.Basic p.schedules (Some (opened_by b e)) (plain_line (detail_table d) ∷ []) c (
+  begun_here b (Some d) e is again c = begun_within b at.Basic p.schedules (Some (terms_of b)) (plain_line (detail_table d) ∷ []) c (
     b,
     refl,
     record {

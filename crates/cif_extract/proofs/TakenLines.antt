@@ -6,8 +6,7 @@ use Rattle.cif_extract.specs.Steps.Reading.{IsKeepable, IsOnTheWay, Progress, ke
 use Rattle.cif_extract.specs.declared.place.Place.{Place}
 use Rattle.cif_extract.specs.declared.place.Place.TheVariants as at
 use Rattle.cif_records.specs.Kind.{kind_in}
-use Rattle.cif_records.specs.Record.{record_refusal, refusal_as}
-use Rattle.cif_records.specs.SpellsRecord.{SpellsRecord, record_table}
+use Rattle.cif_records.specs.Record.{record_refusal, record_table, refusal_as, SpellsRecord}
 use Rattle.cif_records.specs.declared.kind.Kind.{Kind}
 use Rattle.cif_records.specs.declared.kind.Kind.TheVariants.{Bx, Lt}
 use Rattle.cif_records.specs.declared.record.Record.{Record}

@@ -10,7 +10,6 @@ mod extract;
 mod fault;
 mod fits;
 pub mod laws;
-mod opened;
 mod place;
 mod reader;
 mod reading;

@@ -1,15 +1,16 @@
 //! What the lines of an extract have come to.
 ghost use Rattle.std.specs.Prelude.{◌≡◌, ◌+◌, ◌^◌, ◌<◌, ◌++◌, ◌∷◌, [], List, Some, OnOk, IfOk, IfErr};
+ghost use Rattle.std.specs.Prelude.{true};
 ghost use Rattle.cif_columns.specs.Line.{IsLine};
 ghost use Rattle.cif_records.specs.Association.{association_refusal};
 ghost use Rattle.cif_records.specs.Basic.{basic_refusal};
+ghost use Rattle.cif_records.specs.Bodies.{has_body};
 ghost use Rattle.cif_records.specs.Header.{header_refusal};
 ghost use Rattle.cif_records.specs.Kind.{kind_in};
 ghost use Rattle.cif_records.specs.Record.{record_refusal};
 ghost use Rattle.cif_records.specs.Tiploc.{tiploc_refusal};
 ghost use Rattle.cif_records.specs.Trailer.{trailer_refusal};
 
-use crate::opened::Opened;
 use crate::place::Place;
 use crate::take_fault::TakeFault;
 use crate::{Body, Extract, Fault, Schedule};
@@ -28,8 +29,9 @@ pub(crate) struct Reading {
     tiplocs: Vec<Tiploc>,
     associations: Vec<Association>,
     schedules: Vec<Schedule>,
-    // The schedule that is being read, if it has a body, and the plain lines of this body so far.
-    opened: Option<Opened>,
+    // The terms of the schedule that is being read, if it has a body, and the plain lines of this
+    // body so far.
+    opened: Option<BasicTerms>,
     lines: Lines,
 }
 
@@ -162,24 +164,10 @@ impl Reading {
         if terms.has_body() {
             self.lines.clear();
             self.lines.push(&Detail::line_of(line))?;
-            self.opened = Some(Opened {
-                uid: terms.uid,
-                first: terms.first,
-                last: terms.last,
-                days: terms.days,
-                letter: terms.letter,
-            });
+            self.opened = Some(terms);
             self.place = Place::Basic;
         } else {
-            let cancellation = Schedule {
-                uid: terms.uid,
-                first: terms.first,
-                last: terms.last,
-                days: terms.days,
-                letter: terms.letter,
-                body: None,
-            };
-            push(&mut self.schedules, cancellation)?;
+            push(&mut self.schedules, Schedule::of(terms, None))?;
             self.opened = None;
             self.place = Place::Cancelled;
         }
@@ -218,19 +206,20 @@ impl Reading {
         self.keep(Kind::Lt, line)?;
         self.place = Place::Schedules;
         match self.opened.take() {
-            Some(opened) => self.close(alloc, opened),
+            Some(terms) => self.close(alloc, terms),
             None => Ok(()),
         }
     }
 
-    /// Ends the schedule whose body's lines are kept.
+    /// Ends the schedule of these terms, whose body's lines are kept.
     #[inline(never)]
-    fn close(&mut self, alloc: Global, opened: Opened) -> Result<(), TakeFault>
-        requires { KeepSomeBody self.old.lines }
-        ensures { IsClosed (progress_of self.old) opened result (progress_of self.new) }
+    fn close(&mut self, alloc: Global, terms: BasicTerms) -> Result<(), TakeFault>
+        requires lines { KeepSomeBody self.old.lines }
+        requires runs { true ≡ has_body terms.letter }
+        ensures { IsClosed (progress_of self.old) terms result (progress_of self.new) }
     {
         let body = Body::of_lines(alloc, &self.lines)?;
-        push(&mut self.schedules, opened.schedule(body))?;
+        push(&mut self.schedules, Schedule::of(terms, Some(body)))?;
         Ok(())
     }
 
@@ -242,12 +231,11 @@ impl Reading {
         ensures { IsKept (record_refusal line.now) line.now (progress_of self.old) result
             (progress_of self.new) }
     {
-        // `plain_line_of` alone would do. Of most lines this spares the copy, and to find the kind
-        // again.
+        // `plain_line_of` alone would do. Of most lines this spares the copy.
         if is_plain_line(kind, line) {
             self.keep_plain(line)?;
         } else {
-            self.keep_plain(&plain_line_of(line)?)?;
+            self.keep_plain(&plain_line_of(kind, line)?)?;
         }
         Ok(())
     }

@@ -7,13 +7,12 @@ use Rattle.cif_columns.specs.declared.stp.Stp.{Stp}
 use Rattle.cif_columns.proofs.Parts.{stands-plain_line}
 use Rattle.cif_columns.proofs.PlainLines.{line-plain_line}
 use Rattle.cif_columns.proofs.StoodValues as stood
-use Rattle.cif_records.specs.Association.{association_table}
-use Rattle.cif_records.specs.Basic.{basic_table}
+use Rattle.cif_records.specs.Association.{association_rows}
+use Rattle.cif_records.specs.Basic.{basic_rows}
 use Rattle.cif_records.specs.Checks.{IsJudged}
 use Rattle.cif_records.specs.Kind.{identity, kind_in}
 use Rattle.cif_records.specs.Plain.{IsPlainOf}
-use Rattle.cif_records.specs.Record.{record_refusal, refusal_as}
-use Rattle.cif_records.specs.SpellsRecord.{SpellsRecord, record_table}
+use Rattle.cif_records.specs.Record.{record_refusal, record_table, refusal_as, SpellsRecord}
 use Rattle.cif_records.specs.declared.assoc_body.AssocBody.{AssocBody}
 use Rattle.cif_records.specs.declared.assoc_key.AssocKey.{AssocKey}
 use Rattle.cif_records.specs.declared.association.Association.{Association}
@@ -199,12 +198,12 @@ only_plain line (Err why) h r s = absurd (none-some (record_refusal line) why (n
 
 -- a body takes its columns, or they are spare
 with_body : (key : AssocKey) (first last : ℕ) (days : List Bool) (letter : Stp) (o : Option AssocBody)
-    → stood.have_widths (association_table key first last days letter o) ≡ true
+    → stood.have_widths (association_rows key first last days letter o) ≡ true
 with_body key first last days letter None = refl
 with_body key first last days letter (Some b) = refl
 
 with_detail : (uid : List ℕ) (first last : ℕ) (days : List Bool) (letter : Stp) (o : Option Detail)
-    → stood.have_widths (basic_table uid first last days letter o) ≡ true
+    → stood.have_widths (basic_rows uid first last days letter o) ≡ true
 with_detail uid first last days letter None = refl
 with_detail uid first last days letter (Some d) = refl
 
