@@ -100,29 +100,14 @@ module _ (records : List Record) (p : Progress) (t : Terminus) where
 
   terminus_where : (place : Place) → place ≡ p.place → Again (of.Terminus t) → HasReadAt place records p → may_stand place Lt ≡ true →
       HasRead (records ++ (of.Terminus t ∷ [])) (step p (of.Terminus t))
-  terminus_where at.Start e again h may = cc
-  terminus_where at.Tiplocs e again h may = cc
-  terminus_where at.Associations e again h may = cc
-  terminus_where at.Basic e again h may = cc
-  terminus_where at.Extra e again h may = cc
-  terminus_where at.Cancelled e again h may = cc
-  terminus_where at.CancelledExtra e again h may = cc
   terminus_where at.Journey e again h may =
       let (b, x, o, calls, own, or) = own_at records p at.Journey e h in
       ⊎_elim (close_opened h b x o calls own again) (close_cancelled h b x o calls own) or
-  terminus_where at.Schedules e again h may = cc
-  terminus_where at.Ended e again h may = cc
+  terminus_where _ e again h may = cc
 
   -- where a journey has begun, and its schedule has a body
   keeps_journey : (place : Place) → place ≡ p.place → place ≡ at.Journey → HasReadAt place records p → (o : BasicTerms) →
       p.opened ≡ Some o → Again (of.Terminus t) → KeepSomeBody (kept p.opened p.lines (of.Terminus t)) × (true ≡ has_body o.letter)
-  keeps_journey at.Start e is h o some again = cc
-  keeps_journey at.Tiplocs e is h o some again = cc
-  keeps_journey at.Associations e is h o some again = cc
-  keeps_journey at.Basic e is h o some again = cc
-  keeps_journey at.Extra e is h o some again = cc
-  keeps_journey at.Cancelled e is h o some again = cc
-  keeps_journey at.CancelledExtra e is h o some again = cc
   keeps_journey at.Journey e is h o some again =
       let (b, x, origin, calls, own, or) = own_at records p at.Journey e h in
       ⊎_elim (λ (opened : IsOpened p h.earlier b (begun_journey x origin calls)).
@@ -130,8 +115,7 @@ module _ (records : List Record) (p : Progress) (t : Terminus) where
       let same : terms_of b ≡ o = cc in
       (keeps_some h b x origin calls own again opened, opened.runs ∙ ap (λ (u : BasicTerms). has_body u.letter) same))
       (λ (c : IsCancelled p h.earlier b). let none : None ≡ Some o = sym c.opened ∙ some in cc) or
-  keeps_journey at.Schedules e is h o some again = cc
-  keeps_journey at.Ended e is h o some again = cc
+  keeps_journey _ e is h o some again = cc
 
 pub keeps_body : (records : List Record) (p : Progress) (t : Terminus) → p.place ≡ at.Journey → HasRead records p → (o : BasicTerms) →
     p.opened ≡ Some o → Again (of.Terminus t) → KeepSomeBody (kept p.opened p.lines (of.Terminus t)) × (true ≡ has_body o.letter)
@@ -140,15 +124,7 @@ keeps_body records p t is h o some again = keeps_journey records p t p.place ref
 -- a change may stand where a location on the way may
 change_where : (place : Place) → may_stand place Li ≡ may_stand place Cr
 change_where at.Start = refl
-change_where at.Tiplocs = refl
-change_where at.Associations = refl
-change_where at.Basic = refl
-change_where at.Extra = refl
-change_where at.Cancelled = refl
-change_where at.CancelledExtra = refl
-change_where at.Journey = refl
-change_where at.Schedules = refl
-change_where at.Ended = refl
+change_where _ = refl
 
 -- any record more, where it may stand
 pub has_read_more : (records : List Record) (p : Progress) (r : Record) → IsKeepable r → HasRead records p →

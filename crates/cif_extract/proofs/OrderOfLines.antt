@@ -73,42 +73,24 @@ keepable-detail b (Some d) fits is =
     (stands-plain_line (detail_table d) refl (tt, fits-append (detail_rows (Some d)) (row 79 80 spare ∷ []) rows (tt, tt)))
 
 keepable : (r : Record) → AllFit (record_table r) → IsKeepable r
-keepable (of.Header h) fits = tt
-keepable (of.Tiploc h) fits = tt
-keepable (of.Association h) fits = tt
 keepable (of.Basic h) fits = keepable-detail h h.detail fits refl
 keepable (of.Extra h) fits = records.spells (of.Extra h) fits
 keepable (of.Origin h) fits = records.spells (of.Origin h) fits
 keepable (of.Stop h) fits = records.spells (of.Stop h) fits
 keepable (of.Change h) fits = records.spells (of.Change h) fits
 keepable (of.Terminus h) fits = records.spells (of.Terminus h) fits
-keepable of.Trailer fits = tt
+keepable _ fits = tt
 
 -- behind a record the place isn't the start
 past_start : (place : Place) (r : Record) → place_past place r ≡ at.Start → ⊥
-past_start place (of.Header x) e = absurd (cc)
-past_start place (of.Tiploc x) e = absurd (cc)
-past_start place (of.Association x) e = absurd (cc)
 past_start place (of.Basic x) e = by_body (has_body x.letter) e
   where
     by_body : (b : Bool) → cond b at.Basic at.Cancelled ≡ at.Start → ⊥
     by_body true f = absurd (cc)
     by_body false f = absurd (cc)
 past_start at.Cancelled (of.Extra x) e = absurd (cc)
-past_start at.Start (of.Extra x) e = absurd (cc)
-past_start at.Tiplocs (of.Extra x) e = absurd (cc)
-past_start at.Associations (of.Extra x) e = absurd (cc)
-past_start at.Basic (of.Extra x) e = absurd (cc)
-past_start at.Extra (of.Extra x) e = absurd (cc)
-past_start at.CancelledExtra (of.Extra x) e = absurd (cc)
-past_start at.Journey (of.Extra x) e = absurd (cc)
-past_start at.Schedules (of.Extra x) e = absurd (cc)
-past_start at.Ended (of.Extra x) e = absurd (cc)
-past_start place (of.Origin x) e = absurd (cc)
-past_start place (of.Stop x) e = absurd (cc)
-past_start place (of.Change x) e = absurd (cc)
-past_start place (of.Terminus x) e = absurd (cc)
-past_start place of.Trailer e = absurd (cc)
+past_start _ (of.Extra x) e = absurd (cc)
+past_start _ _ e = absurd (cc)
 
 -- records that have been read, so that more may follow
 record IsReadSoFar (front : List (List ℕ)) (rs : List Record) : Type 0 where

@@ -59,16 +59,8 @@ past_basic place line b s =
 
 past_record : (place : Place) (line : List ℕ) (r : Record) → SpellsRecord line r →
     place_after place (Some (record_kind r)) line ≡ place_past place r
-past_record place line (of.Header x) s = refl
-past_record place line (of.Tiploc x) s = refl
-past_record place line (of.Association x) s = refl
 past_record place line (of.Basic x) s = past_basic place line x s
-past_record place line (of.Extra x) s = refl
-past_record place line (of.Origin x) s = refl
-past_record place line (of.Stop x) s = refl
-past_record place line (of.Change x) s = refl
-past_record place line (of.Terminus x) s = refl
-past_record place line of.Trailer s = refl
+past_record place line _ s = refl
 
 -- the place behind one line more, which spells this record
 pub place_more : (lines : List (List ℕ)) (line : List ℕ) (r : Record) (place : Place) → place_behind lines ≡ place →

@@ -33,42 +33,20 @@ module _ (p : Progress) where
 
   pub step_on_the_way : (r : Record) → IsOnTheWay (Some (record_kind r)) → AllStandIn (plain_line (record_table r)) (record_table r) →
       IsStep at.Journey r
-  step_on_the_way (of.Header x) h stands = absurd h
-  step_on_the_way (of.Tiploc x) h stands = absurd h
-  step_on_the_way (of.Association x) h stands = absurd h
-  step_on_the_way (of.Basic x) h stands = absurd h
-  step_on_the_way (of.Extra x) h stands = absurd h
   step_on_the_way (of.Origin x) h stands = (stands, refl)
   step_on_the_way (of.Stop x) h stands = (stands, refl)
   step_on_the_way (of.Change x) h stands = (stands, refl)
-  step_on_the_way (of.Terminus x) h stands = absurd h
-  step_on_the_way of.Trailer h stands = absurd h
+  step_on_the_way _ h stands = absurd h
 
   pub step_extra : (r : Record) → record_kind r ≡ Bx → AllStandIn (plain_line (record_table r)) (record_table r) →
       IsStep (after_extra p.place) r
-  step_extra (of.Header x) h stands = cc
-  step_extra (of.Tiploc x) h stands = cc
-  step_extra (of.Association x) h stands = cc
-  step_extra (of.Basic x) h stands = cc
   step_extra (of.Extra x) h stands = (stands, refl)
-  step_extra (of.Origin x) h stands = cc
-  step_extra (of.Stop x) h stands = cc
-  step_extra (of.Change x) h stands = cc
-  step_extra (of.Terminus x) h stands = cc
-  step_extra of.Trailer h stands = cc
+  step_extra _ h stands = cc
 
 -- a record of this kind is a last location
 pub is_terminus : (r : Record) → record_kind r ≡ Lt → (t : Terminus) × (r ≡ of.Terminus t)
-is_terminus (of.Header x) h = cc
-is_terminus (of.Tiploc x) h = cc
-is_terminus (of.Association x) h = cc
-is_terminus (of.Basic x) h = cc
-is_terminus (of.Extra x) h = cc
-is_terminus (of.Origin x) h = cc
-is_terminus (of.Stop x) h = cc
-is_terminus (of.Change x) h = cc
 is_terminus (of.Terminus x) h = (x, refl)
-is_terminus of.Trailer h = cc
+is_terminus _ h = cc
 
 -- the kind of what a line spells, where it is known
 pub kind_here : (line : List ℕ) (r : Record) (kind : Kind) → SpellsRecord line r → kind_in line ≡ Some kind → record_kind r ≡ kind

@@ -205,7 +205,7 @@ impl Body {
 }
 
 impl PartialEq for Body {
-    ghost use Rattle.cif_extract.specs.PartsEq.{parts_eq};
+    ghost use Rattle.cif_extract.specs.BodyParts.{parts_eq};
     ghost use Rattle.cif_extract.specs.Laws.SameBody.{parts_per};
 
     ghost eq = { parts_eq };

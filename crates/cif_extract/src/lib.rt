@@ -14,7 +14,6 @@ mod place;
 mod reader;
 mod reading;
 mod schedule;
-mod take_fault;
 mod writing;
 
 pub use body::Body;

@@ -12,7 +12,6 @@ ghost use Rattle.cif_records.specs.Tiploc.{tiploc_refusal};
 ghost use Rattle.cif_records.specs.Trailer.{trailer_refusal};
 
 use crate::place::Place;
-use crate::take_fault::TakeFault;
 use crate::{Body, Extract, Fault, Schedule};
 use cif_columns::{Line, Lines, Refusal};
 use cif_records::{
@@ -268,4 +267,45 @@ fn push<T: Drop>(items: &mut Vec<T>, item: T) -> Result<(), AllocError>
 {
     items.push(item)?;
     Ok(())
+}
+
+/// Why a line is not taken into what was read.
+#[derive(Drop)]
+pub(crate) enum TakeFault {
+    Refused(Refusal),
+    Memory,
+}
+
+impl From<Refusal> for TakeFault {
+    ghost use Rattle.cif_extract.specs.declared.reading.TakeFault.TheVariants.{Refused};
+
+    ghost from_gives = { λ why fault. fault ≡ Refused why };
+
+    fn from(why: Refusal) -> TakeFault {
+        TakeFault::Refused(why)
+    }
+}
+
+impl From<AllocError> for TakeFault {
+    ghost use Rattle.cif_extract.specs.declared.reading.TakeFault.TheVariants.{Memory};
+
+    ghost from_gives = { λ _ fault. fault ≡ Memory };
+
+    fn from(_error: AllocError) -> TakeFault {
+        TakeFault::Memory
+    }
+}
+
+impl TakeFault {
+    ghost use Rattle.cif_extract.specs.Steps.Reading.{fault_at_line};
+
+    /// The fault, at the line of this number.
+    pub(crate) fn at_line(self, number: u64) -> Fault
+        ensures { result ≡ fault_at_line number self }
+    {
+        match self {
+            TakeFault::Refused(why) => Fault::Refused { line: number, why },
+            TakeFault::Memory => Fault::Memory,
+        }
+    }
 }

@@ -194,9 +194,7 @@ detail_by P line = Some (detail_in line)
 
 bodied_by : (letter : Stp) (line : List ℕ) → is_some (detail_by letter line) ≡ has_body letter
 bodied_by C line = refl
-bodied_by N line = refl
-bodied_by O line = refl
-bodied_by P line = refl
+bodied_by _ line = refl
 
 no_detail : (line : List ℕ) → AllStandIn line (detail_rows None)
 no_detail line = (tt, (tt, (tt, (tt, (tt, (tt, (tt, (tt, (tt, (tt, (tt, (tt, (tt, (tt, (tt, (tt, (tt, tt)))))))))))))))))

@@ -11,8 +11,7 @@ use Rattle.cif_records.specs.Association.{association_rows}
 use Rattle.cif_records.specs.Basic.{basic_rows}
 use Rattle.cif_records.specs.Checks.{IsJudged}
 use Rattle.cif_records.specs.Kind.{identity, kind_in}
-use Rattle.cif_records.specs.Plain.{IsPlainOf}
-use Rattle.cif_records.specs.Record.{record_refusal, record_table, refusal_as, SpellsRecord}
+use Rattle.cif_records.specs.Record.{IsPlainOf, record_refusal, record_table, refusal_as, SpellsRecord}
 use Rattle.cif_records.specs.declared.assoc_body.AssocBody.{AssocBody}
 use Rattle.cif_records.specs.declared.assoc_key.AssocKey.{AssocKey}
 use Rattle.cif_records.specs.declared.association.Association.{Association}
@@ -99,15 +98,7 @@ held a.Trailer = tt
 -- a record is the one with what it holds
 record_with-held : (r : Record) → record_with (kind_of r) (held r) ≡ r
 record_with-held (a.Header h) = refl
-record_with-held (a.Tiploc h) = refl
-record_with-held (a.Association h) = refl
-record_with-held (a.Basic h) = refl
-record_with-held (a.Extra h) = refl
-record_with-held (a.Origin h) = refl
-record_with-held (a.Stop h) = refl
-record_with-held (a.Change h) = refl
-record_with-held (a.Terminus h) = refl
-record_with-held a.Trailer = refl
+record_with-held _ = refl
 
 identity_there : (line : List ℕ) (r : Record) → SpellsRecord line r → columns 1 2 line ≡ identity (kind_of r)
 identity_there line (a.Header h) s = s.0
@@ -225,15 +216,7 @@ fit line is_line a.Trailer s = stood.fit line is_line (record_table a.Trailer) r
 -- a record's table has each column once
 whole : (r : Record) → is_whole_from 1 (record_table r) ≡ true
 whole (a.Header h) = refl
-whole (a.Tiploc h) = refl
-whole (a.Association h) = refl
-whole (a.Basic h) = refl
-whole (a.Extra h) = refl
-whole (a.Origin h) = refl
-whole (a.Stop h) = refl
-whole (a.Change h) = refl
-whole (a.Terminus h) = refl
-whole a.Trailer = refl
+whole _ = refl
 
 -- where a record's values fit, its plain line is a line, and spells it
 pub line : (r : Record) → AllFit (record_table r) → IsLine (plain_line (record_table r))

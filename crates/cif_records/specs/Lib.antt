@@ -10,7 +10,6 @@ pub mod Header
 pub mod HeaderColumns
 pub mod Kind
 pub mod Origin
-pub mod Plain
 pub mod Record
 pub mod Stop
 pub mod Terminus

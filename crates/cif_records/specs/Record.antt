@@ -1,6 +1,6 @@
--- Records of any kind: their columns, when a line spells one, and the first reason to refuse a line as one.
-use Rattle.std.specs.Prelude.{ℕ, List, Option, Some, None}
-use Rattle.cif_columns.specs.Field.{AllStandIn, Row}
+-- Records of any kind: their columns, when a line spells one, its plain line, and the first reason to refuse a line as one.
+use Rattle.std.specs.Prelude.{◌≡◌, ℕ, List, Option, Some, None}
+use Rattle.cif_columns.specs.Field.{AllStandIn, Row, plain_line}
 use Rattle.cif_columns.specs.declared.refusal.Refusal.{Refusal}
 use Rattle.cif_columns.specs.declared.refusal.Refusal.TheVariants.{UnknownRecord, NotFull}
 use Rattle.cif_records.specs.Association.{association_refusal, association_table}
@@ -36,6 +36,13 @@ record_table Trailer = trailer_table
 -- the line spells the record: each row of its table holds of the line
 abbrev pub SpellsRecord : List ℕ → Record → Type 0
 SpellsRecord line r = AllStandIn line (record_table r)
+
+-- The first line spells a value of a kind of record, or of any. The second is the plain line of that value, and spells the same value.
+pub record IsPlainOf (R : Type 0) (table : R → List Row) (line plain : List ℕ) : Type 0 where
+  pub value : R
+  pub stands : AllStandIn line (table value)
+  pub same : plain ≡ plain_line (table value)
+  pub again : AllStandIn plain (table value)
 
 -- the first reason to refuse a line of a kind; amended and deleted locations are of update extracts alone
 abbrev pub refusal_as : Option Kind → List ℕ → Option Refusal

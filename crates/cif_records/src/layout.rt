@@ -4,8 +4,7 @@ ghost use Rattle.cif_columns.specs.Field.{AllFit, AllStandIn, Row, is_whole_from
 ghost use Rattle.cif_columns.specs.declared.refusal.Refusal.{Refusal};
 ghost use Rattle.cif_columns.specs.LineBuilder.{put_all};
 ghost use Rattle.cif_records.specs.Checks.{IsJudged};
-ghost use Rattle.cif_records.specs.Plain.{IsPlainOf};
-ghost use Rattle.cif_records.specs.Record.{record_table, refusal_as};
+ghost use Rattle.cif_records.specs.Record.{IsPlainOf, record_table, refusal_as};
 ghost use Rattle.cif_records.specs.declared.kind.Kind.{Kind};
 ghost use Rattle.cif_records.specs.declared.record.Record.{Record};
 

@@ -3,8 +3,7 @@ ghost use Rattle.std.specs.Prelude.{◌≡◌, IsTrue, Ok, Some};
 ghost use Rattle.cif_columns.specs.Field.{plain_line};
 ghost use Rattle.cif_records.specs.Checks.{IsJudged};
 ghost use Rattle.cif_records.specs.Kind.{kind_in};
-ghost use Rattle.cif_records.specs.Plain.{IsPlainOf};
-ghost use Rattle.cif_records.specs.Record.{SpellsRecord, record_refusal, record_table};
+ghost use Rattle.cif_records.specs.Record.{IsPlainOf, SpellsRecord, record_refusal, record_table};
 ghost use Rattle.cif_records.specs.declared.record.Record.{Record};
 
 use crate::layout::Layout;

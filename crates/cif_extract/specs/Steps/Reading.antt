@@ -10,12 +10,14 @@ use Rattle.cif_extract.specs.FirstRefusal.{order_refusal}
 use Rattle.cif_extract.specs.Grammar.{AreExtract, AreSchedules, HasTerms, records_before_trailer}
 use Rattle.cif_extract.specs.OrderOfRecords.{after_extra}
 use Rattle.cif_extract.specs.declared.call.Call.{Call}
+use Rattle.cif_extract.specs.declared.fault.Fault.{Fault}
+use Rattle.cif_extract.specs.declared.fault.Fault.TheVariants as fault
 use Rattle.cif_extract.specs.declared.place.Place.{Place}
 use Rattle.cif_extract.specs.declared.place.Place.TheVariants as at
 use Rattle.cif_extract.specs.declared.reading.Reading.{Reading}
 use Rattle.cif_extract.specs.declared.schedule.Schedule.{Schedule}
-use Rattle.cif_extract.specs.declared.take_fault.TakeFault.{TakeFault}
-use Rattle.cif_extract.specs.declared.take_fault.TakeFault.TheVariants as untaken
+use Rattle.cif_extract.specs.declared.reading.TakeFault.{TakeFault}
+use Rattle.cif_extract.specs.declared.reading.TakeFault.TheVariants as untaken
 use Rattle.cif_records.specs.Basic.{terms_of}
 use Rattle.cif_records.specs.Bodies.{has_body}
 use Rattle.cif_records.specs.Checks.{first_of}
@@ -260,3 +262,8 @@ IsHeld p x = (p.place ≡ at.Ended) × (p.header ≡ Some x.header) × (x ≡ pa
 -- a reading isn't whole: a trailer is missing, or everything
 abbrev pub IsUnfinished : Progress → Type 0
 IsUnfinished p = (p.place ≡ at.Ended → ⊥) ⊎ (p.header ≡ None)
+
+-- why a line is not taken, as the fault at the line of this number
+abbrev pub fault_at_line : ℕ → TakeFault → Fault
+fault_at_line number (untaken.Refused why) = fault.Refused number why
+fault_at_line number untaken.Memory = fault.Memory
