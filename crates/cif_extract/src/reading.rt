@@ -1,7 +1,13 @@
-//! What the lines of an extract have come to.
-ghost use Rattle.std.specs.Prelude.{◌≡◌, ◌+◌, ◌^◌, ◌<◌, ◌++◌, ◌∷◌, [], List, Some, OnOk, IfOk, IfErr};
-ghost use Rattle.std.specs.Prelude.{true};
+//! Reading a whole extract, line by line.
+ghost use Rattle.std.specs.Prelude.{◌≡◌, ◌≤◌, ◌+◌, ◌^◌, ◌<◌, ◌++◌, ◌∷◌, [], List, Some, true, false};
+ghost use Rattle.std.specs.Prelude.{OnOk, IfOk, IfErr, IfSome};
 ghost use Rattle.cif_columns.specs.Line.{IsLine};
+ghost use Rattle.cif_columns.specs.Source.{reader_of, source_failed};
+ghost use Rattle.cif_columns.specs.declared.line_reader.TheConstants.{MAX_LINES};
+ghost use Rattle.cif_extract.specs.ExtractParts.{ExtractParts, extract_parts};
+ghost use Rattle.cif_extract.specs.ReadFault.{FaultReads, IsOfReading, IsReadAs, IsReadFault};
+ghost use Rattle.cif_extract.specs.ReadFault.{LeavesNothing};
+ghost use Rattle.cif_extract.specs.SpellsExtract.{BytesSpellWithin};
 ghost use Rattle.cif_records.specs.Association.{association_refusal};
 ghost use Rattle.cif_records.specs.Basic.{basic_refusal};
 ghost use Rattle.cif_records.specs.Bodies.{has_body};
@@ -13,12 +19,50 @@ ghost use Rattle.cif_records.specs.Trailer.{trailer_refusal};
 
 use crate::place::Place;
 use crate::{Body, Extract, Fault, Schedule};
-use cif_columns::{Line, Lines, Refusal};
+use cif_columns::{Line, LineReader, Lines, ReadDevice, Refusal, Source};
 use cif_records::{
     Association, BasicTerms, Detail, Header, Kind, Tiploc, Trailer, is_plain_line, kind_of,
     plain_line_of,
 };
 use std::alloc::{AllocError, Global};
+
+/// The extract that the source's lines spell, of which at most `max_lines` may come.
+///
+/// Refused names the first refused line and its first reason; Read comes where the source failed
+/// before a refused line was decided, and Memory where what a line says can't be kept. No other
+/// fault is answered. After an extract nothing is left in the source.
+pub fn read_extract<R: ReadDevice>(
+    alloc: Global,
+    source: &mut Source<R>,
+    max_lines: u64,
+) -> Result<Extract, Fault>
+    requires within { max_lines ≤ MAX_LINES }
+    ensures ok { IfSome (R.remaining (reader_of source.old)) (λ bytes. IfOk result (λ extract.
+        BytesSpellWithin max_lines bytes (extract_parts extract))) }
+    ensures only { IfSome (R.remaining (reader_of source.old)) (λ bytes. (x : ExtractParts)
+        → BytesSpellWithin max_lines bytes x → IsReadAs x result) }
+    ensures fault { IfSome (R.remaining (reader_of source.old)) (λ bytes. IfErr result
+        (IsReadFault max_lines bytes (R.remaining (reader_of source.new)))) }
+    ensures answers { IfErr result (IsOfReading max_lines) }
+    ensures end { LeavesNothing R.remaining source.old source.new result }
+    ensures endless { IfOk result (λ _. source_failed source.old ≡ false) }
+    ensures device { FaultReads R.read_errors source.old source.new result }
+{
+    let mut lines = LineReader::new(max_lines);
+    let mut reading = Reading::new(alloc);
+    let mut line = Line::blank();
+    loop {
+        let is_line = lines.read_line(source, &mut line)?;
+        if is_line {
+            match reading.take(alloc, &line) {
+                Ok(()) => {}
+                Err(fault) => return Err(fault.at_line(lines.line_number())),
+            }
+        } else {
+            return reading.finish(lines.line_number());
+        }
+    }
+}
 
 /// What the lines so far have come to.
 #[derive(Drop)]
@@ -39,7 +83,6 @@ impl Reading {
     ghost use Rattle.cif_extract.specs.Steps.Reading.{HasRead, IsClosed, IsKept, IsOnTheWay, IsTaken};
     ghost use Rattle.cif_extract.specs.Steps.Reading.{IsHeld, IsUnfinished, keeping, no_progress, progress_of};
     ghost use Rattle.cif_extract.specs.Steps.Reading.{refusal_here};
-    ghost use Rattle.cif_extract.specs.ExtractParts.{extract_parts};
     ghost use Rattle.cif_records.specs.declared.record.Record.{Record};
 
     /// The reading of no lines.

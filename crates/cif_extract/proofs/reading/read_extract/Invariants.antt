@@ -5,7 +5,7 @@ use Rattle.cif_columns.specs.LineReader.{given, limit}
 use Rattle.cif_columns.specs.Source.{HasReadOn}
 use Rattle.cif_extract.specs.Steps.Reading.{progress_of}
 use Rattle.cif_extract.proofs.ReadingRuns.{HasCome}
-use Rattle.cif_extract.proofs.reader.read_extract.Given as goal
+use Rattle.cif_extract.proofs.reading.read_extract.Given as goal
 
 abbrev pub invariant-loop-reading : goal.invariant-loop-reading
 invariant-loop-reading g l = (ls : List (List ℕ)) × IsReading g.R.Read.remaining (g.R.Read.remaining l.fn.source.reader) l.max_lines l.lines

@@ -14,7 +14,7 @@ use Rattle.cif_extract.proofs.FirstRefusals.{at_fault, at_line, fault_handed_on,
 use Rattle.cif_extract.proofs.ReadingRuns.{HasCome, come_more, come_none, refused_here, refused_reason, untaken_of_reading, untaken_result}
 use Rattle.cif_extract.proofs.ReadingRuns.{unfinished_of_reading, unfinished_result, whole_result}
 use Rattle.cif_extract.proofs.SpelledBytes.{only_fault, only_read}
-use Rattle.cif_extract.proofs.reader.read_extract.Goals as goal
+use Rattle.cif_extract.proofs.reading.read_extract.Goals as goal
 
 -- nothing is left, whether there is an extract or not
 if_done : {R A E : Type 0} (remaining : R → Option (List ℕ)) (old new : Source R) (r : Result A E) →
