@@ -1,6 +1,6 @@
 -- One record more, where it may stand.
 use Rattle.std.proofs.Common.{◌≡◌, List, [], ◌∷◌, ◌++◌, map, true, Option, None, Some, ap, refl, sym, ◌∙◌, subst, append_assoc}
-use Rattle.std.proofs.Common.{append-nil, inl}
+use Rattle.std.proofs.Common.{append-nil, inl, true≢false}
 use Rattle.std.proofs.lemmas.List.{map-append}
 use Rattle.cif_extract.specs.BodyParts.{extra_records}
 use Rattle.cif_extract.specs.Grammar.{AreSchedule, AreSchedules, records_before_trailer}
@@ -77,7 +77,7 @@ module _ (records : List Record) (p : Progress) where
       let (b, x, own, c) = own_at at.CancelledExtra e h in
       with_one h c.schedule c.schedules (subst (λ rs. AreSchedule rs c.schedule) (sym own) (cancelled_alone h.earlier b c (Some x)))
   closed_where at.Schedules e h may = let (none, all) = own_at at.Schedules e h in with_none h none (sym all)
-  closed_where _ e h may = cc
+  closed_where _ e h may = absurd (true≢false (sym may))
 
   pub closed_here : HasRead records p → may_stand p.place Bs ≡ true → AreClosed records p
   closed_here h may = closed_where p.place refl h may
@@ -109,7 +109,7 @@ module _ (records : List Record) (p : Progress) where
     are = refl;
     here = (refl, refl, n.schedules, n.associations);
   }
-  header_where header _ h may = cc
+  header_where header _ h may = absurd (true≢false (sym may))
 
   -- no schedule yet, and these associations
   front_only : (w : IsWithin records p) → w.own ≡ [] → w.earlier ≡ [] →
@@ -156,7 +156,7 @@ module _ (records : List Record) (p : Progress) where
         are = refl;
         here = (refl, refl, schedules, associations);
       }
-  tiploc_where t _ e h may = cc
+  tiploc_where t _ e h may = absurd (true≢false (sym may))
 
   association_here : (a : Association) (w : IsWithin records p) → w.own ≡ [] → w.earlier ≡ [] → p.schedules ≡ [] →
       IsWithin (records ++ (of.Association a ∷ [])) (step p (of.Association a))
@@ -177,7 +177,7 @@ module _ (records : List Record) (p : Progress) where
       let (none, earlier, schedules, associations) = own_at at.Tiplocs e h in association_here a h none earlier schedules
   association_where a at.Associations e h may =
       let (none, earlier, schedules) = own_at at.Associations e h in association_here a h none earlier schedules
-  association_where a _ e h may = cc
+  association_where a _ e h may = absurd (true≢false (sym may))
 
   pub header_step : (x : Header) → HasRead records p → may_stand p.place Hd ≡ true →
       HasRead (records ++ (of.Header x ∷ [])) (step p (of.Header x))

@@ -1,6 +1,6 @@
 -- One record more of a schedule, where it may stand.
 use Rattle.std.proofs.Common.{◌≡◌, ◌⊎◌, ℕ, List, [], ◌∷◌, ◌++◌, true, Option, None, Some, is_some, ap, refl, ◌∙◌, subst, append_assoc}
-use Rattle.std.proofs.Common.{inl, inr, ⊎_elim, IfSome}
+use Rattle.std.proofs.Common.{inl, inr, ⊎_elim, IfSome, sym, true≢false}
 use Rattle.cif_columns.specs.Field.{AllStandIn, plain_line}
 use Rattle.cif_extract.specs.BodyParts.{extra_records}
 use Rattle.cif_extract.specs.Call.{call_record}
@@ -133,7 +133,7 @@ module _ (records : List Record) (p : Progress) where
       let (b, own, c) = own_at records p at.Cancelled e h in
       within_more at.CancelledExtra (of.Extra x) (of.Basic b ∷ of.Extra x ∷ []) h (ap (λ rs. rs ++ (of.Extra x ∷ [])) own)
       (b, x, refl, cancelled_more h.earlier b at.CancelledExtra (of.Extra x) c)
-  extra_where x _ e again h may = cc
+  extra_where x _ e again h may = absurd (true≢false (sym may))
 
   -- LO, behind a BS and a BX or none
   origin_opened : (o : Origin) (w : IsWithin records p) (b : Basic) (x : Option Extra) → w.own ≡ of.Basic b ∷ extra_records x →
@@ -161,7 +161,7 @@ module _ (records : List Record) (p : Progress) where
       let (b, own, c) = own_at records p at.Cancelled e h in origin_opened o h b None own again (inr c)
   origin_where o at.CancelledExtra e again h may =
       let (b, x, own, c) = own_at records p at.CancelledExtra e h in origin_opened o h b (Some x) own again (inr c)
-  origin_where o _ e again h may = cc
+  origin_where o _ e again h may = absurd (true≢false (sym may))
 
   -- LI and CR
   call_where : (call : Call) (place : Place) → place ≡ p.place → Again (call_record call) → HasReadAt place records p →
@@ -180,7 +180,7 @@ module _ (records : List Record) (p : Progress) where
             (opened_more h.earlier b (begun_journey x o calls) at.Journey (call_record call) again opened)))
             (λ cancelled. inr (cancelled_more h.earlier b at.Journey (call_record call) cancelled)) or,
       )
-  call_where call _ e again h may = cc
+  call_where call _ e again h may = absurd (true≢false (sym may))
 
   pub extra_step : (x : Extra) → Again (of.Extra x) → HasRead records p → may_stand p.place Bx ≡ true →
       HasReadAt (after_extra p.place) (records ++ (of.Extra x ∷ [])) (step p (of.Extra x))
