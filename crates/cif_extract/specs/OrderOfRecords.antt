@@ -1,6 +1,5 @@
--- Which kind of record may stand where: the table of docs/FORMAT.md, "Order of records". Its rows are places, each after the records
--- that the same kinds may follow. That it is the order of the grammar, no less and no more, are laws (proofs/OrderLaws and
--- proofs/GoesOn).
+-- Which kind of record may stand where, as the table of docs/FORMAT.md, "Order of records", says it. Records that the same kinds may
+-- follow have one place. That this is the order of the grammar, no less and no more, are laws (proofs/OrderLaws and proofs/GoesOn).
 use Rattle.std.specs.Prelude.{◌≡◌, ℕ, Bool, true, List, [], ◌∷◌, ◌++◌, Option, Some, codes, if◌then◌else◌}
 use Rattle.std.specs.List.{fold, list_any}
 use Rattle.std.specs.Str.{bytes_eq}
@@ -12,7 +11,7 @@ use Rattle.cif_records.specs.Kind.{identity, is_identity, kind_in}
 use Rattle.cif_records.specs.declared.kind.Kind.{Kind}
 use Rattle.cif_records.specs.declared.kind.Kind.TheVariants.{Hd, Ti, Ta, Td, Aa, Bs, Bx, Lo, Li, Cr, Lt, Zz}
 
--- the table: the kinds that may stand there; TA and TD may where TI may, and are refused for what they are
+-- the kinds that may stand there, place by place; TA and TD may where TI may, and are refused for what they are
 abbrev pub kinds_at : Place → List Kind
 kinds_at Start = Hd ∷ []
 kinds_at Tiplocs = Ti ∷ Ta ∷ Td ∷ Aa ∷ Bs ∷ Zz ∷ []
