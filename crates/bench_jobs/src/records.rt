@@ -4,7 +4,7 @@ use crate::checksum::Checksum;
 use crate::fault::Fault;
 use crate::report::{say, say_time};
 use cif_columns::{Line, LineReader, MAX_LINES, ReadDevice, Refusal, Source};
-use cif_records::{plain_line_of, read_record, write_record};
+use cif_records::{kind_of, plain_line_of, read_record, write_record};
 use std::alloc::Global;
 use std::rt::Clock;
 use std::time::{Duration, Instant};
@@ -25,7 +25,10 @@ struct PlainLine;
 
 impl Work for PlainLine {
     fn made_of(line: &Line) -> Result<Line, Refusal> {
-        plain_line_of(line)
+        match kind_of(line) {
+            Some(kind) => plain_line_of(kind, line),
+            None => Err(Refusal::UnknownRecord),
+        }
     }
 }
 

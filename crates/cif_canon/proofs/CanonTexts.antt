@@ -11,8 +11,8 @@ use Rattle.cif_columns.specs.Field.{Row, plain_line}
 use Rattle.cif_extract.specs.BodyParts.{BodyParts}
 use Rattle.cif_extract.specs.ExtractParts.{ExtractParts}
 use Rattle.cif_extract.specs.Texts.{extract_text, schedule_lines, tables_of}
-use Rattle.cif_records.specs.SpellsAssociation.{table_of as association_table_of}
-use Rattle.cif_records.specs.SpellsHeader.{header_table}
+use Rattle.cif_records.specs.Association.{association_table}
+use Rattle.cif_records.specs.Header.{header_table}
 use Rattle.cif_records.specs.Tiploc.{tiploc_table}
 use Rattle.cif_records.specs.Trailer.{trailer_table}
 use Rattle.cif_records.specs.declared.assoc_body.AssocBody.{AssocBody}
@@ -71,12 +71,12 @@ text-append a b =
     ap lines_text (map-append plain_line a b)
     ∙ flat_map-append (λ (line : List ℕ). line ++ (10 ∷ [])) (map plain_line a) (map plain_line b)
 
-tiplocs-text : (ts : List Tiploc) → flat_map tiploc_text ts ≡ text_of (map (λ t. tiploc_table t.columns) ts)
+tiplocs-text : (ts : List Tiploc) → flat_map tiploc_text ts ≡ text_of (map tiploc_table ts)
 tiplocs-text [] = refl
 tiplocs-text (t ∷ ts) = ap (λ (l : List ℕ). tiploc_text t ++ l) (tiplocs-text ts)
 
 associations-text : (es : List (AssocKey × Permanent AssocBody)) (h : All IsDated es) →
-    flat_map association_text es ≡ text_of (map association_table_of (associations_of es h))
+    flat_map association_text es ≡ text_of (map association_table (associations_of es h))
 associations-text [] h = refl
 associations-text ((k, r) ∷ es) h =
     ap (λ (l : List ℕ). association_text (k, r) ++ l) (associations-text es (All-tail IsDated (k, r) es h))
@@ -121,8 +121,8 @@ module _ (x : ExtractParts) (tiplocs : List Tiploc) (associations : List Run) (a
   written-text =
       let head : List ℕ = plain_line (header_table x.header) ++ (10 ∷ []) in
       let end : List ℕ = plain_line trailer_table ++ (10 ∷ []) in
-      let first = map (λ t. tiploc_table t.columns) tiplocs in
-      let second = map association_table_of (associations_of associated dated_associations) in
+      let first = map tiploc_table tiplocs in
+      let second = map association_table (associations_of associated dated_associations) in
       let third = flat_map tables_of (schedules_of scheduled dated_schedules) in
       let last : List (List Row) = trailer_table ∷ [] in
       let associations_are = texts-of_runs (association_entries x.associations) association_text associations associated zip_associations

@@ -15,9 +15,8 @@ use Rattle.cif_extract.specs.ExtractParts.{ExtractParts}
 use Rattle.cif_extract.specs.Texts.{AllTablesFit, FitsColumns, schedule_tables, tables_of}
 use Rattle.cif_extract.specs.declared.schedule.Schedule.{Schedule}
 use Rattle.cif_extract.proofs.PlainTexts.{fit-append, fit-back, fit-front}
-use Rattle.cif_records.specs.Association.{association_table}
-use Rattle.cif_records.specs.Basic.{basic_table}
-use Rattle.cif_records.specs.SpellsAssociation.{table_of as association_table_of}
+use Rattle.cif_records.specs.Association.{association_rows, association_table}
+use Rattle.cif_records.specs.Basic.{basic_rows}
 use Rattle.cif_records.specs.Tiploc.{tiploc_table}
 use Rattle.cif_records.specs.Trailer.{trailer_table}
 use Rattle.cif_records.specs.declared.assoc_body.AssocBody.{AssocBody}
@@ -45,12 +44,12 @@ pub record AreTerms (first last : ℕ) (days : List Bool) : Type 0 where
   pub week : length days ≡ 7
 
 permanent-association : (key : AssocKey) (first last : ℕ) (days : List Bool) (letter : Stp) (body : AssocBody) (f l : ℕ) (m : List Bool) →
-    AllFit (association_table key first last days letter (Some body)) → AreTerms f l m → AllFit (association_table key f l m P (Some body))
+    AllFit (association_rows key first last days letter (Some body)) → AreTerms f l m → AllFit (association_rows key f l m P (Some body))
 permanent-association key first last days letter body f l m p t =
     (p.0, (p.1.0, (p.1.1.0, (p.1.1.1.0, ((refl, t.first_is), ((refl, t.last_is), ((refl, t.week), p.1.1.1.1.1.1.1)))))))
 
 permanent-basic : (uid : List ℕ) (first last : ℕ) (days : List Bool) (letter : Stp) (detail : Detail) (f l : ℕ) (m : List Bool) →
-    AllFit (basic_table uid first last days letter (Some detail)) → AreTerms f l m → AllFit (basic_table uid f l m P (Some detail))
+    AllFit (basic_rows uid first last days letter (Some detail)) → AreTerms f l m → AllFit (basic_rows uid f l m P (Some detail))
 permanent-basic uid first last days letter detail f l m p t =
     (p.0, (p.1.0, (p.1.1.0, ((refl, t.first_is), ((refl, t.last_is), ((refl, t.week), p.1.1.1.1.1.1))))))
 
@@ -111,18 +110,18 @@ have-terms cmp form window records c last k d below =
 -- ---- what is made
 
 associations-fit : (xs : List Association) (runs : List Run) (es : List (AssocKey × Permanent AssocBody)) (dated : All IsDated es) →
-    All HasTerms es → AllZip (IsRunOf (association_entries xs)) runs es → AllTablesFit (map association_table_of xs) →
-    AllTablesFit (map association_table_of (associations_of es dated))
+    All HasTerms es → AllZip (IsRunOf (association_entries xs)) runs es → AllTablesFit (map association_table xs) →
+    AllTablesFit (map association_table (associations_of es dated))
 associations-fit xs runs [] dated terms zip fits = tt
 associations-fit xs [] (e ∷ es) dated terms zip fits = absurd zip
 associations-fit xs (run ∷ runs) ((k, r) ∷ es) dated terms zip fits =
-    let f = found-at association_entry (λ a. association_table_of a ∷ []) xs run.source (k, zip.0.terms)
-    (single-tables association_table_of xs fits) zip.0.at in
+    let f = found-at association_entry (λ a. association_table a ∷ []) xs run.source (k, zip.0.terms)
+    (single-tables association_table xs fits) zip.0.at in
     let a = f.it in
     let key : a.key ≡ k = ap (λ (e : AssocKey × Terms AssocBody). e.0) f.is in
     let body : a.body ≡ Some r.body = ap (λ (e : AssocKey × Terms AssocBody). e.1.body) f.is ∙ zip.0.body in
-    let own = subst (λ j. AllFit (association_table j a.first a.last a.days a.letter (Some r.body))) key
-    (subst (λ o. AllFit (association_table a.key a.first a.last a.days a.letter o)) body f.fits.0) in (
+    let own = subst (λ j. AllFit (association_rows j a.first a.last a.days a.letter (Some r.body))) key
+    (subst (λ o. AllFit (association_rows a.key a.first a.last a.days a.letter o)) body f.fits.0) in (
       permanent-association k a.first a.last a.days a.letter r.body r.first r.last r.days own
           (All-head HasTerms (k, r) es terms),
       associations-fit xs runs es (All-tail IsDated (k, r) es dated) (All-tail HasTerms (k, r) es terms) zip.1 fits,
@@ -163,20 +162,20 @@ module _ (x : ExtractParts) (fits : FitsColumns x) (tiplocs : List Tiploc) (memb
     schedules = schedules_of scheduled dated_schedules;
   })
   made-fits =
-      let locations = map (λ (t : Tiploc). tiploc_table t.columns) x.tiplocs in
-      let own = map association_table_of x.associations in
+      let locations = map tiploc_table x.tiplocs in
+      let own = map association_table x.associations in
       let trains = flat_map tables_of x.schedules in
       let end : List (List Row) = trailer_table ∷ [] in
       let behind = fit-back locations (own ++ (trains ++ end)) fits.1 in
       let back = fit-back own (trains ++ end) behind in (
         headers.fits x.header,
-        fit-append (map (λ (t : Tiploc). tiploc_table t.columns) tiplocs)
-            (map association_table_of (associations_of associated dated_associations)
+        fit-append (map tiploc_table tiplocs)
+            (map association_table (associations_of associated dated_associations)
             ++ (flat_map tables_of (schedules_of scheduled dated_schedules) ++ end))
-            (fit-members (λ (t : Tiploc). tiploc_table t.columns) tiplocs (λ t h.
-            fits-member (λ (t : Tiploc). tiploc_table t.columns) x.tiplocs t (fit-front locations (own ++ (trains ++ end)) fits.1)
+            (fit-members tiploc_table tiplocs (λ t h.
+            fits-member tiploc_table x.tiplocs t (fit-front locations (own ++ (trains ++ end)) fits.1)
             (members t h)))
-            (fit-append (map association_table_of (associations_of associated dated_associations))
+            (fit-append (map association_table (associations_of associated dated_associations))
             (flat_map tables_of (schedules_of scheduled dated_schedules) ++ end)
             (associations-fit x.associations associations associated dated_associations terms_associations zip_associations
             (fit-front own (trains ++ end) behind))

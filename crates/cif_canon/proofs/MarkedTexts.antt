@@ -7,8 +7,8 @@ use Rattle.cif_extract.specs.Body.{KeepAll}
 use Rattle.cif_extract.specs.BodyParts.{BodyParts, body_records}
 use Rattle.cif_extract.specs.Texts.{schedule_lines}
 use Rattle.cif_extract.proofs.WrittenLines.{kept_plain}
-use Rattle.cif_records.specs.Basic.{basic_table}
-use Rattle.cif_records.specs.SpellsRecord.{record_table}
+use Rattle.cif_records.specs.Basic.{basic_rows}
+use Rattle.cif_records.specs.Record.{record_table}
 use Rattle.cif_canon.specs.Differences.{mark, marked_text}
 use Rattle.cif_canon.specs.declared.side.Side.{Side}
 
@@ -34,13 +34,13 @@ marked-first side line lines =
 
 -- the text of a schedule is that of its first line and of those kept
 module _ (side : Side) (uid : List ℕ) (first last : ℕ) (days : List Bool) (p : BodyParts) (basic : List ℕ)
-    (is : basic ≡ plain_line (basic_table uid first last days P (Some p.detail))) where
+    (is : basic ≡ plain_line (basic_rows uid first last days P (Some p.detail))) where
   schedule-all : (rest : List (List ℕ)) → rest ≡ map plain_line (map record_table (body_records p)) →
       basic ∷ rest ≡ schedule_lines uid first last days P (Some p)
   unfolding schedule_lines
   schedule-all rest are =
       ap (λ (line : List ℕ). line ∷ rest) is
-      ∙ ap (λ (lines : List (List ℕ)). plain_line (basic_table uid first last days P (Some p.detail)) ∷ lines) are
+      ∙ ap (λ (lines : List (List ℕ)). plain_line (basic_rows uid first last days P (Some p.detail)) ∷ lines) are
 
   pub marked-basic : marked_text side (basic ∷ []) ++ marked_text side (map plain_line (map record_table (body_records p)))
       ≡ marked_text side (schedule_lines uid first last days P (Some p))

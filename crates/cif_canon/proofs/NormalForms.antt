@@ -17,9 +17,9 @@ use Rattle.cif_extract.specs.declared.schedule.Schedule.{Schedule}
 use Rattle.cif_extract.proofs.PlainTexts.{text-spells, spelled-fits}
 use Rattle.cif_extract.proofs.SpelledBytes.{one_spelled}
 use Rattle.cif_records.specs.AssocKey.{key_cmp}
-use Rattle.cif_records.specs.Header.{with_window}
-use Rattle.cif_records.specs.SpellsAssociation.{table_of as association_table_of}
-use Rattle.cif_records.specs.SpellsHeader.{header_table}
+use Rattle.cif_records.specs.HeaderColumns.{with_window}
+use Rattle.cif_records.specs.Association.{association_table}
+use Rattle.cif_records.specs.Header.{header_table}
 use Rattle.cif_records.specs.Tiploc.{tiploc_table}
 use Rattle.cif_records.specs.Trailer.{trailer_table}
 use Rattle.cif_records.specs.declared.association.Association.{Association}
@@ -75,8 +75,8 @@ meaning-unique form x y b c p q is =
 -- the lines behind the header's
 abbrev further_lines : List Tiploc → List Association → List Schedule → List (List ℕ)
 further_lines tiplocs associations schedules =
-    map plain_line (map (λ t. tiploc_table t.columns) tiplocs
-    ++ (map association_table_of associations ++ (flat_map tables_of schedules ++ (trailer_table ∷ []))))
+    map plain_line (map tiploc_table tiplocs
+    ++ (map association_table associations ++ (flat_map tables_of schedules ++ (trailer_table ∷ []))))
 
 abbrev further_text : ExtractParts → List ℕ
 further_text x = lines_text (further_lines x.tiplocs x.associations x.schedules)

@@ -3,7 +3,7 @@ use Rattle.std.specs.Prelude.{◌≡◌, ◌≤◌, ◌<◌, IfSome, None, unwra
 use Rattle.cif_extract.specs.ExtractParts.{ExtractParts}
 use Rattle.cif_extract.specs.declared.fault.Fault.{Fault}
 use Rattle.cif_extract.specs.declared.fault.Fault.TheVariants.{OutsideWindow, WindowReversed}
-use Rattle.cif_records.specs.Header.{with_window}
+use Rattle.cif_records.specs.HeaderColumns.{with_window}
 use Rattle.cif_records.specs.declared.header.Header.{Header}
 use Rattle.cif_weeks.specs.Window.{Window, IsWithin}
 use Rattle.cif_canon.specs.declared.asked.Asked.{Asked}

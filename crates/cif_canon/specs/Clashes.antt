@@ -9,7 +9,7 @@ use Rattle.cif_calendar.specs.Clash.{IsClearFrom, IsFirstClash}
 use Rattle.cif_calendar.specs.Entries.{association_entries, schedule_entries}
 use Rattle.cif_calendar.specs.Keys.{of_key}
 use Rattle.cif_calendar.specs.Terms.{Terms}
-use Rattle.cif_extract.specs.Clash.{text_of}
+use Rattle.cif_extract.specs.Clash.{clash_text}
 use Rattle.cif_extract.specs.ExtractParts.{ExtractParts}
 use Rattle.cif_extract.specs.declared.clash.Clash.{Clash}
 use Rattle.cif_extract.specs.declared.clash.Clash.TheVariants.{Association, Train}
@@ -41,7 +41,7 @@ pub record AreAllClashes (x : ExtractParts) (clashes : List Clash) : Type 0 wher
 
 -- the line of a clash: what the fault line of a clash says of it, with its line feed
 unfoldable pub clash_line : Clash → List ℕ
-clash_line clash = text_of clash ++ codes "\n"
+clash_line clash = clash_text clash ++ codes "\n"
 
 -- the text of clashes: a line for each
 abbrev pub clashes_text : List Clash → List ℕ

@@ -9,7 +9,7 @@ use Rattle.cif_calendar.specs.Keys.{of_key}
 use Rattle.cif_calendar.specs.Meaning.{SameMeaning as EntriesSayTheSame}
 use Rattle.cif_calendar.specs.Runs.{Runs}
 use Rattle.cif_calendar.specs.Terms.{Terms}
-use Rattle.cif_extract.specs.Clash.{bracketed, text_of as clash_text}
+use Rattle.cif_extract.specs.Clash.{bracketed, clash_text}
 use Rattle.cif_extract.specs.ExtractParts.{ExtractParts}
 use Rattle.cif_extract.specs.declared.clash.Clash.TheVariants as clash
 use Rattle.cif_extract.specs.declared.fault.Fault.{Fault}

@@ -17,7 +17,7 @@ use Rattle.cif_extract.specs.BodyParts.{BodyParts}
 use Rattle.cif_extract.specs.ExtractParts.{ExtractParts}
 use Rattle.cif_extract.specs.Texts.{schedule_lines}
 use Rattle.cif_records.specs.AssocKey.{key_cmp}
-use Rattle.cif_records.specs.Association.{association_table}
+use Rattle.cif_records.specs.Association.{association_rows}
 use Rattle.cif_records.specs.Tiploc.{tiploc_table}
 use Rattle.cif_records.specs.declared.assoc_body.AssocBody.{AssocBody}
 use Rattle.cif_records.specs.declared.assoc_key.AssocKey.{AssocKey}
@@ -147,12 +147,12 @@ marked_text side lines = lines_text (map (λ line. mark side ++ line) lines)
 
 -- the plain lines of a location, of a permanent association, of a permanent schedule, behind the mark
 abbrev pub marked_tiploc : Sided Tiploc → List ℕ
-marked_tiploc s = marked_text s.side (plain_line (tiploc_table s.it.columns) ∷ [])
+marked_tiploc s = marked_text s.side (plain_line (tiploc_table s.it) ∷ [])
 
 abbrev pub marked_association : Sided (AssocKey × Permanent AssocBody) → List ℕ
 marked_association s =
     marked_text s.side
-    (plain_line (association_table s.it.0 s.it.1.first s.it.1.last s.it.1.days P (Some s.it.1.body)) ∷ [])
+    (plain_line (association_rows s.it.0 s.it.1.first s.it.1.last s.it.1.days P (Some s.it.1.body)) ∷ [])
 
 abbrev pub marked_schedule : Sided (List ℕ × Permanent BodyParts) → List ℕ
 marked_schedule s = marked_text s.side (schedule_lines s.it.0 s.it.1.first s.it.1.last s.it.1.days P (Some s.it.1.body))

@@ -1,8 +1,8 @@
 -- The lines that name faults.
 use Rattle.std.specs.Prelude.{ℕ, List, ◌++◌, codes}
-use Rattle.cif_extract.specs.Fault.{text_of}
+use Rattle.cif_extract.specs.Fault.{fault_text}
 use Rattle.cif_extract.specs.declared.fault.Fault.{Fault}
 
 -- the line that names a fault, with its line feed
 unfoldable pub fault_line : Fault → List ℕ
-fault_line fault = codes "cif: " ++ text_of fault ++ codes "\n"
+fault_line fault = codes "cif: " ++ fault_text fault ++ codes "\n"

@@ -7,10 +7,9 @@ ghost use Rattle.cif_canon.specs.Comparison.{AreCompared, IsCompareFault, IsComp
 
 use crate::Comparison;
 use crate::difference::first_difference;
-use crate::extract_runs::{extract_runs, window_of};
+use crate::extract_runs::{check_clear, window_of};
 use crate::tiplocs::first_different_tiploc;
 use cif_extract::{Extract, Fault};
-use cif_weeks::Form;
 use std::alloc::{AllocError, Global};
 
 /// Compares what two extracts with one window say: their locations, then their associations, then
@@ -44,9 +43,8 @@ pub(crate) fn check_comparable(alloc: Global, left: &Extract, right: &Extract) -
     if left.header.first != right.header.first || left.header.last != right.header.last {
         return Err(Fault::WindowsDiffer);
     }
-    extract_runs(alloc, left, Form::Two)?;
-    extract_runs(alloc, right, Form::Two)?;
-    Ok(())
+    check_clear(alloc, left)?;
+    check_clear(alloc, right)
 }
 
 /// How two clear extracts with one window compare.

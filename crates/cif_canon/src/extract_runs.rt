@@ -1,11 +1,12 @@
 //! The runs of an extract's canonical records.
-ghost use Rattle.std.specs.Prelude.{◌≡◌, IfErr, IfOk};
+ghost use Rattle.std.specs.Prelude.{◌≡◌, IfErr, IfOk, OnOk};
 ghost use Rattle.std.specs.Cmp.Lexicographic.{slice_cmp};
 ghost use Rattle.std.specs.Ordering.{nat_cmp};
 ghost use Rattle.cif_calendar.specs.Entries.{association_entries, schedule_entries};
 ghost use Rattle.cif_calendar.specs.Keys.{AreClear};
 ghost use Rattle.cif_extract.specs.ExtractParts.{extract_parts};
 ghost use Rattle.cif_records.specs.AssocKey.{key_cmp};
+ghost use Rattle.cif_canon.specs.Accepted.{IsClearExtract};
 ghost use Rattle.cif_canon.specs.Asked.{header_window};
 ghost use Rattle.cif_canon.specs.Fault.{IsCanonFault};
 ghost use Rattle.cif_canon.specs.Steps.Records.{AreCanonicalRecords, IsRecordsFault, IsSameKind};
@@ -60,6 +61,16 @@ pub(crate) fn extract_runs(
         associations,
         schedules,
     })
+}
+
+/// Checks that the extract is clear: that it has no clash in its window. Otherwise the fault is that
+/// of `extract_runs`, which finds a clash where it makes the runs.
+pub(crate) fn check_clear(alloc: Global, extract: &Extract) -> Result<(), Fault>
+    ensures ok { OnOk result (IsClearExtract (extract_parts extract.now)) }
+    ensures fault { IfErr result (IsCanonFault (extract_parts extract.now)) }
+{
+    extract_runs(alloc, extract, Form::Two)?;
+    Ok(())
 }
 
 /// The window of the extract.

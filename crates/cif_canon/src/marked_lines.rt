@@ -12,7 +12,7 @@ use cif_calendar::Entry;
 use cif_columns::{Line, LineSlice, Sink, Uid, WriteDevice, WriteFault};
 use cif_extract::{Body, Schedule};
 use cif_records::{
-    AssocBody, AssocKey, Association, Tiploc, permanent_association, permanent_basic,
+    AssocBody, AssocKey, Association, Basic, Tiploc,
 };
 use cif_weeks::Run;
 
@@ -74,7 +74,7 @@ impl RecordLines<Association> for MarkedLines {
         run: &Run,
         sink: &mut Sink<W>,
     ) -> Result<(), WriteFault> {
-        let line = permanent_association(key, body, run.first, run.last, run.days);
+        let line = Association::permanent_line(key, body, run.first, run.last, run.days);
         write_marked(self.side, &line, sink)
     }
 }
@@ -91,7 +91,7 @@ impl RecordLines<Schedule> for MarkedLines {
         run: &Run,
         sink: &mut Sink<W>,
     ) -> Result<(), WriteFault> {
-        let basic = permanent_basic(uid, &body.detail_line(), run.first, run.last, run.days);
+        let basic = Basic::permanent_line(uid, &body.detail_line(), run.first, run.last, run.days);
         write_marked(self.side, &basic, sink)?;
         write_marked_lines(self.side, &body.further_lines(), sink)
     }

@@ -13,10 +13,10 @@ use Rattle.cif_extract.specs.Call.{SpellsSomeCall, call_in, call_record}
 use Rattle.cif_extract.specs.Laws.SameBody.{same_values}
 use Rattle.cif_extract.specs.declared.call.Call.{Call}
 use Rattle.cif_records.specs.Detail.{detail_table}
-use Rattle.cif_records.specs.SpellsExtra.{SpellsExtra, extra_in}
-use Rattle.cif_records.specs.SpellsRecord.{SpellsRecord, record_table}
-use Rattle.cif_records.specs.SpellsOrigin.{SpellsOrigin}
-use Rattle.cif_records.specs.SpellsTerminus.{SpellsTerminus}
+use Rattle.cif_records.specs.Extra.{SpellsExtra, extra_in}
+use Rattle.cif_records.specs.Record.{SpellsRecord, record_table}
+use Rattle.cif_records.specs.Origin.{SpellsOrigin}
+use Rattle.cif_records.specs.Terminus.{SpellsTerminus}
 use Rattle.cif_records.specs.declared.detail.Detail.{Detail}
 use Rattle.cif_records.specs.declared.extra.Extra.{Extra}
 use Rattle.cif_records.specs.declared.origin.Origin.{Origin}

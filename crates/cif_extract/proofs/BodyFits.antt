@@ -11,8 +11,8 @@ use Rattle.cif_extract.specs.BodyParts.{BodyParts, body_records}
 use Rattle.cif_extract.specs.ExtractParts.{ExtractParts}
 use Rattle.cif_extract.specs.Texts.{AllTablesFit, FitsColumns, tables_of}
 use Rattle.cif_records.specs.Detail.{detail_rows}
-use Rattle.cif_records.specs.SpellsAssociation.{table_of as association_table_of}
-use Rattle.cif_records.specs.SpellsRecord.{record_table}
+use Rattle.cif_records.specs.Association.{association_table}
+use Rattle.cif_records.specs.Record.{record_table}
 use Rattle.cif_records.specs.Tiploc.{tiploc_table}
 use Rattle.cif_records.specs.Trailer.{trailer_table}
 use Rattle.cif_records.specs.declared.record.Record.{Record}
@@ -45,19 +45,19 @@ further_fits [] p k are_lines = absurd k
 further_fits (line ∷ lines) p k are_lines = records_fit lines (body_records p) (All-tail IsLine line lines are_lines) k.2
 
 -- the locations of an extract
-tiplocs_fit : (ts : List Tiploc) → AllTablesFit (map (λ t. tiploc_table t.columns) ts)
+tiplocs_fit : (ts : List Tiploc) → AllTablesFit (map tiploc_table ts)
 tiplocs_fit [] = tt
 tiplocs_fit (t ∷ ts) = (tiplocs.fits t, tiplocs_fit ts)
 
 -- an extract fits where its associations and its schedules do
-pub extract_fits : (x : ExtractParts) → AllTablesFit (map association_table_of x.associations)
+pub extract_fits : (x : ExtractParts) → AllTablesFit (map association_table x.associations)
     → AllTablesFit (flat_map tables_of x.schedules) → FitsColumns x
 extract_fits x associations schedules =
     let end : List (List Row) = trailer_table ∷ [] in
     let trains = flat_map tables_of x.schedules in
-    let own = map association_table_of x.associations in (
+    let own = map association_table x.associations in (
       headers.fits x.header,
-      fit-append (map (λ t. tiploc_table t.columns) x.tiplocs) (own ++ (trains ++ end)) (tiplocs_fit x.tiplocs)
+      fit-append (map tiploc_table x.tiplocs) (own ++ (trains ++ end)) (tiplocs_fit x.tiplocs)
           (fit-append own (trains ++ end) associations (fit-append trains end schedules (trailers.fits, tt))),
     )
 

@@ -7,9 +7,9 @@ use Rattle.cif_columns.specs.Field.{columns}
 use Rattle.cif_extract.specs.Call.{SpellsSomeCall, call_in, call_record}
 use Rattle.cif_extract.specs.declared.call.Call.{Call}
 use Rattle.cif_extract.specs.declared.call.Call.TheVariants.{At, Turn}
-use Rattle.cif_records.specs.SpellsChange.{SpellsChange, change_in}
-use Rattle.cif_records.specs.SpellsRecord.{SpellsRecord}
-use Rattle.cif_records.specs.SpellsStop.{SpellsStop, stop_in}
+use Rattle.cif_records.specs.Change.{SpellsChange, change_in}
+use Rattle.cif_records.specs.Record.{SpellsRecord}
+use Rattle.cif_records.specs.Stop.{SpellsStop, stop_in}
 use Rattle.cif_records.proofs.Changes.{change_in-spells}
 use Rattle.cif_records.proofs.Stops.{stop_in-spells}
 

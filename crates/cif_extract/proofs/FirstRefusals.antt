@@ -27,7 +27,7 @@ use Rattle.cif_columns.proofs.PrintableBytes.{printable_fact, printable_true}
 use Rattle.cif_extract.specs.Fault.{of_line_fault}
 use Rattle.cif_extract.specs.FirstRefusal.{NoneRefused, IsCutBeforeRefusal, IsFirstRefusal, IsRefusedLine, order_refusal}
 use Rattle.cif_extract.specs.FirstRefusal.{refusal_of}
-use Rattle.cif_extract.specs.OrderOfRecords.{record_before}
+use Rattle.cif_extract.specs.OrderOfRecords.{place_behind}
 use Rattle.cif_extract.specs.ReadFault.{FaultReads, IsOfReading, IsReadFault}
 use Rattle.cif_extract.specs.declared.fault.Fault.{Fault}
 use Rattle.cif_records.specs.Checks.{first_of}
@@ -47,7 +47,7 @@ not_true false h = refl
 module _ (max : ℕ) where
   -- a line that isn't one too many is refused for the order or its fields alone
   pub line_refusal : (before : List (List ℕ)) (line : List ℕ) → IsLine line → length before < max →
-      refusal_of max before line ≡ first_of (order_refusal (record_before before) (kind_in line) ∷ record_refusal line ∷ [])
+      refusal_of max before line ≡ first_of (order_refusal (place_behind before) (kind_in line) ∷ record_refusal line ∷ [])
   unfolding refusal_of
   line_refusal before line h room =
       let few : nat_lt (length before) max ≡ true = grind (arith, nat_tests) in

@@ -8,12 +8,12 @@ use Rattle.cif_columns.specs.Line.{IsPrintable}
 use Rattle.cif_columns.proofs.Parts.{stands-plain_line}
 use Rattle.cif_columns.proofs.PrintableBytes.{printable_fact}
 use Rattle.cif_extract.specs.Grammar.{AreExtract, BeginExtract}
-use Rattle.cif_extract.specs.Steps.Place.{may_stand}
+use Rattle.cif_extract.specs.OrderOfRecords.{may_stand}
 use Rattle.cif_extract.specs.Steps.Reading.{HasRead, HasReadAt, Progress, parts_with_header, step}
 use Rattle.cif_extract.specs.declared.place.Place.{Place}
 use Rattle.cif_extract.specs.declared.place.Place.TheVariants as at
-use Rattle.cif_records.specs.SpellsOrigin.{table_of as origin_table}
-use Rattle.cif_records.specs.SpellsTerminus.{table_of as terminus_table}
+use Rattle.cif_records.specs.Origin.{origin_table}
+use Rattle.cif_records.specs.Terminus.{terminus_table}
 use Rattle.cif_records.specs.declared.kind.Kind.TheVariants.{Bs, Lo, Lt}
 use Rattle.cif_records.specs.declared.origin.Origin.{Origin}
 use Rattle.cif_records.specs.declared.record.Record.{Record}

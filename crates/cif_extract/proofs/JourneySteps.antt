@@ -1,21 +1,23 @@
 -- The last record of a schedule, and with it any record more, where it may stand.
 use Rattle.std.proofs.Common.{◌≡◌, List, [], ◌∷◌, ◌++◌, true, Option, None, Some, ap, refl, sym, ◌∙◌, subst, append_assoc}
-use Rattle.std.proofs.Common.{append-nil, inr, ⊎_elim}
+use Rattle.std.proofs.Common.{append-nil, inr, ⊎_elim, true≢false}
 use Rattle.cif_columns.specs.Field.{plain_line}
 use Rattle.cif_extract.specs.Body.{KeepBody, KeepSomeBody, parts_in}
 use Rattle.cif_extract.specs.BodyParts.{BodyParts, extra_records, journey_records}
 use Rattle.cif_extract.specs.Grammar.{AreSchedule, AreSchedules, records_before_trailer}
-use Rattle.cif_extract.specs.Steps.Place.{may_stand}
+use Rattle.cif_extract.specs.OrderOfRecords.{may_stand}
 use Rattle.cif_extract.specs.Steps.Reading.{HasRead, HasReadAt, IsCancelled, IsKeepable, IsOpened, IsWithin}
-use Rattle.cif_extract.specs.Steps.Reading.{Progress, begun_journey, kept, opened_by, parts_with_header, schedule_with, step}
+use Rattle.cif_extract.specs.Steps.Reading.{Progress, begun_journey, kept, parts_with_header, schedule_of, step}
 use Rattle.cif_extract.specs.declared.call.Call.{Call}
 use Rattle.cif_extract.specs.declared.call.Call.TheVariants.{At, Turn}
-use Rattle.cif_extract.specs.declared.opened.Opened.{Opened}
 use Rattle.cif_extract.specs.declared.place.Place.{Place}
 use Rattle.cif_extract.specs.declared.place.Place.TheVariants as at
 use Rattle.cif_extract.specs.declared.schedule.Schedule.{Schedule}
-use Rattle.cif_records.specs.SpellsRecord.{record_table}
+use Rattle.cif_records.specs.Basic.{terms_of}
+use Rattle.cif_records.specs.Bodies.{has_body}
+use Rattle.cif_records.specs.Record.{record_table}
 use Rattle.cif_records.specs.declared.basic.Basic.{Basic}
+use Rattle.cif_records.specs.declared.basic.BasicTerms.{BasicTerms}
 use Rattle.cif_records.specs.declared.extra.Extra.{Extra}
 use Rattle.cif_records.specs.declared.kind.Kind.TheVariants.{Cr, Li, Lt}
 use Rattle.cif_records.specs.declared.origin.Origin.{Origin}
@@ -27,6 +29,7 @@ use Rattle.cif_extract.proofs.GrammarLists.{behind_schedules, schedules_more}
 use Rattle.cif_extract.proofs.KeptLines.{journey-whole, keep_body}
 use Rattle.cif_extract.proofs.ReadingSteps.{association_step, header_step, own_at, tiploc_step, trailer_step}
 use Rattle.cif_records.proofs.Records.{kind_of as record_kind}
+use Rattle.cif_extract.proofs.Schedules.{closed_some}
 use Rattle.cif_extract.proofs.ScheduleSteps.{Again, basic_step, call_step, extra_step, origin_step}
 
 module _ (records : List Record) (p : Progress) (t : Terminus) where
@@ -61,9 +64,9 @@ module _ (records : List Record) (p : Progress) (t : Terminus) where
         let lines = p.lines ++ (plain_line (record_table (of.Terminus t)) ∷ []) in
         let keeps : KeepBody lines body = keep_body p.lines opened.detail x o calls t opened.lines again in
         let same : parts_in lines ≡ body = parts_in-keeps lines body keeps in
-        closes w (schedule_with (opened_by b opened.runs) body)
-        (rw opened.opened (rw same (ap (λ (ss : List Schedule). ss ++ (schedule_with
-        (opened_by b opened.runs) body ∷ [])) opened.schedules)))
+        closes w (schedule_of (terms_of b) (Some body) opened.runs)
+        (rw opened.opened (closed_some p.schedules (terms_of b) lines opened.runs
+        ∙ rw same (ap (λ (ss : List Schedule). ss ++ (schedule_of (terms_of b) (Some body) opened.runs ∷ [])) opened.schedules)))
         (record {
           basic = b;
           extra = x;
@@ -97,52 +100,31 @@ module _ (records : List Record) (p : Progress) (t : Terminus) where
 
   terminus_where : (place : Place) → place ≡ p.place → Again (of.Terminus t) → HasReadAt place records p → may_stand place Lt ≡ true →
       HasRead (records ++ (of.Terminus t ∷ [])) (step p (of.Terminus t))
-  terminus_where at.Start e again h may = cc
-  terminus_where at.Tiplocs e again h may = cc
-  terminus_where at.Associations e again h may = cc
-  terminus_where at.Basic e again h may = cc
-  terminus_where at.Extra e again h may = cc
-  terminus_where at.Cancelled e again h may = cc
-  terminus_where at.CancelledExtra e again h may = cc
   terminus_where at.Journey e again h may =
       let (b, x, o, calls, own, or) = own_at records p at.Journey e h in
       ⊎_elim (close_opened h b x o calls own again) (close_cancelled h b x o calls own) or
-  terminus_where at.Schedules e again h may = cc
-  terminus_where at.Ended e again h may = cc
+  terminus_where _ e again h may = absurd (true≢false (sym may))
 
   -- where a journey has begun, and its schedule has a body
-  keeps_journey : (place : Place) → place ≡ p.place → place ≡ at.Journey → HasReadAt place records p → (o : Opened) → p.opened ≡ Some o →
-      Again (of.Terminus t) → KeepSomeBody (kept p.opened p.lines (of.Terminus t))
-  keeps_journey at.Start e is h o some again = cc
-  keeps_journey at.Tiplocs e is h o some again = cc
-  keeps_journey at.Associations e is h o some again = cc
-  keeps_journey at.Basic e is h o some again = cc
-  keeps_journey at.Extra e is h o some again = cc
-  keeps_journey at.Cancelled e is h o some again = cc
-  keeps_journey at.CancelledExtra e is h o some again = cc
+  keeps_journey : (place : Place) → place ≡ p.place → place ≡ at.Journey → HasReadAt place records p → (o : BasicTerms) →
+      p.opened ≡ Some o → Again (of.Terminus t) → KeepSomeBody (kept p.opened p.lines (of.Terminus t)) × (true ≡ has_body o.letter)
   keeps_journey at.Journey e is h o some again =
       let (b, x, origin, calls, own, or) = own_at records p at.Journey e h in
-      ⊎_elim (keeps_some h b x origin calls own again)
+      ⊎_elim (λ (opened : IsOpened p h.earlier b (begun_journey x origin calls)).
+      let options : ◌≡◌ {A = Option BasicTerms} (Some (terms_of b)) (Some o) = sym opened.opened ∙ some in
+      let same : terms_of b ≡ o = cc in
+      (keeps_some h b x origin calls own again opened, opened.runs ∙ ap (λ (u : BasicTerms). has_body u.letter) same))
       (λ (c : IsCancelled p h.earlier b). let none : None ≡ Some o = sym c.opened ∙ some in cc) or
-  keeps_journey at.Schedules e is h o some again = cc
-  keeps_journey at.Ended e is h o some again = cc
+  keeps_journey _ e is h o some again = cc
 
-pub keeps_body : (records : List Record) (p : Progress) (t : Terminus) → p.place ≡ at.Journey → HasRead records p → (o : Opened) →
-    p.opened ≡ Some o → Again (of.Terminus t) → KeepSomeBody (kept p.opened p.lines (of.Terminus t))
+pub keeps_body : (records : List Record) (p : Progress) (t : Terminus) → p.place ≡ at.Journey → HasRead records p → (o : BasicTerms) →
+    p.opened ≡ Some o → Again (of.Terminus t) → KeepSomeBody (kept p.opened p.lines (of.Terminus t)) × (true ≡ has_body o.letter)
 keeps_body records p t is h o some again = keeps_journey records p t p.place refl is h o some again
 
 -- a change may stand where a location on the way may
 change_where : (place : Place) → may_stand place Li ≡ may_stand place Cr
 change_where at.Start = refl
-change_where at.Tiplocs = refl
-change_where at.Associations = refl
-change_where at.Basic = refl
-change_where at.Extra = refl
-change_where at.Cancelled = refl
-change_where at.CancelledExtra = refl
-change_where at.Journey = refl
-change_where at.Schedules = refl
-change_where at.Ended = refl
+change_where _ = refl
 
 -- any record more, where it may stand
 pub has_read_more : (records : List Record) (p : Progress) (r : Record) → IsKeepable r → HasRead records p →

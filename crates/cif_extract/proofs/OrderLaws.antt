@@ -10,8 +10,7 @@ use Rattle.cif_extract.specs.Call.{call_record}
 use Rattle.cif_extract.specs.ExtractParts.{ExtractParts}
 use Rattle.cif_extract.specs.FirstRefusal.{NoneRefused}
 use Rattle.cif_extract.specs.Grammar.{AreExtract, AreJourney, AreSchedule, AreSchedules, HaveBody}
-use Rattle.cif_extract.specs.OrderOfRecords.{record_before}
-use Rattle.cif_extract.specs.Steps.Place.{may_stand}
+use Rattle.cif_extract.specs.OrderOfRecords.{may_stand, place_behind}
 use Rattle.cif_extract.specs.SpellsExtract.{SpellAll, SpellExtract}
 use Rattle.cif_extract.specs.declared.call.Call.{Call}
 use Rattle.cif_extract.specs.declared.call.Call.TheVariants.{At, Turn}
@@ -19,7 +18,7 @@ use Rattle.cif_extract.specs.declared.place.Place.{Place}
 use Rattle.cif_extract.specs.declared.place.Place.TheVariants as at
 use Rattle.cif_extract.specs.declared.schedule.Schedule.{Schedule}
 use Rattle.cif_records.specs.Bodies.{has_body}
-use Rattle.cif_records.specs.SpellsRecord.{SpellsRecord}
+use Rattle.cif_records.specs.Record.{SpellsRecord}
 use Rattle.cif_records.specs.declared.association.Association.{Association}
 use Rattle.cif_records.specs.declared.basic.Basic.{Basic}
 use Rattle.cif_records.specs.declared.detail.Detail.{Detail}
@@ -32,7 +31,7 @@ use Rattle.cif_records.specs.declared.terminus.Terminus.{Terminus}
 use Rattle.cif_records.specs.declared.tiploc.Tiploc.{Tiploc}
 use Rattle.cif_records.proofs.Records.{kind_of as record_kind, kind_there as spelled_kind, no_refusal_as}
 use Rattle.cif_extract.proofs.FirstRefusals.{none_refused-more, none_refused-none}
-use Rattle.cif_extract.proofs.Places.{place_after, place_more, place_past, refused_at}
+use Rattle.cif_extract.proofs.Places.{place_more, place_past, refused_at}
 use Rattle.cif_extract.proofs.TakenLines.{refusal_of_fields}
 
 -- from one place to another these records may stand, one after another
@@ -159,7 +158,7 @@ stand_extract records x are =
 -- lines of which none is refused, and the place behind them
 record AreFine (max : ℕ) (lines : List (List ℕ)) (place : Place) : Type 0 where
   fine : NoneRefused max lines
-  behind : place_after (record_before lines) ≡ place
+  behind : place_behind lines ≡ place
 
 fine_more : (max : ℕ) (lines : List (List ℕ)) (place : Place) (line : List ℕ) (r : Record) → AreFine max lines place → IsLine line →
     length lines < max → SpellsRecord line r → may_stand place (record_kind r) ≡ true → AreFine max (lines ++ (line ∷ []))

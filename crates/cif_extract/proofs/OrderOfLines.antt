@@ -3,23 +3,21 @@ use Rattle.std.proofs.Common.{◌≡◌, ℕ, Bool, true, false, List, [], ◌�
 use Rattle.std.proofs.Common.{subst}
 use Rattle.std.proofs.Common.{append_assoc, append-nil}
 use Rattle.std.proofs.lemmas.List.Elements.{All-head, All-tail}
-use Rattle.std.specs.List.{list_any}
 use Rattle.cif_columns.specs.Field.{AllFit, AllStandIn, Row, plain_line, row, spare}
 use Rattle.cif_columns.specs.Line.{IsLine}
 use Rattle.cif_columns.proofs.Parts.{fits-append, stands-plain_line}
 use Rattle.cif_extract.specs.ExtractParts.{ExtractParts}
 use Rattle.cif_extract.specs.Grammar.{BeginExtract}
-use Rattle.cif_extract.specs.OrderOfRecords.{RecordBefore, AreInOrder, MayComeAfter, may_follow, record_before}
+use Rattle.cif_extract.specs.OrderOfRecords.{AreInOrder, MayComeAfter, may_stand, place_behind}
 use Rattle.cif_extract.specs.SpellsExtract.{SpellAll, SpellExtract}
-use Rattle.cif_extract.specs.Steps.Place.{may_stand}
 use Rattle.cif_extract.specs.Steps.Reading.{HasRead, IsKeepable, Progress, no_progress, step}
 use Rattle.cif_extract.specs.declared.place.Place.{Place}
 use Rattle.cif_extract.specs.declared.place.Place.TheVariants as at
 use Rattle.cif_records.specs.Basic.{basic_back, basic_front}
 use Rattle.cif_records.specs.Bodies.{has_body}
 use Rattle.cif_records.specs.Detail.{detail_rows, detail_table}
-use Rattle.cif_records.specs.Kind.{identity, is_identity, kind_in}
-use Rattle.cif_records.specs.SpellsRecord.{record_table}
+use Rattle.cif_records.specs.Kind.{kind_in}
+use Rattle.cif_records.specs.Record.{record_table}
 use Rattle.cif_records.specs.declared.basic.Basic.{Basic}
 use Rattle.cif_records.specs.declared.detail.Detail.{Detail}
 use Rattle.cif_records.specs.declared.kind.Kind.{Kind}
@@ -29,12 +27,8 @@ use Rattle.cif_records.proofs.Records as records
 use Rattle.cif_extract.proofs.GoesOn.{read_begins}
 use Rattle.cif_extract.proofs.JourneySteps.{has_read_more}
 use Rattle.cif_extract.proofs.OrderLaws.{MayStand, stand_extract}
-use Rattle.cif_extract.proofs.Places.{place_after, place_more, place_past, same_followers}
+use Rattle.cif_extract.proofs.Places.{place_more, place_past}
 use Rattle.cif_extract.proofs.ReadingRuns.{place_step}
-
--- what may stand at a place is what may follow the record before it
-same_may : (before : RecordBefore) (kind : Kind) → may_stand (place_after before) kind ≡ may_follow before kind
-same_may before kind = ap (list_any (is_identity (identity kind))) (same_followers before)
 
 one_kind : (line : List ℕ) (j k : Kind) → kind_in line ≡ Some j → kind_in line ≡ Some k → j ≡ k
 one_kind line j k p q = let same : ◌≡◌ {A = Option Kind} (Some j) (Some k) = sym p ∙ q in cc
@@ -42,14 +36,13 @@ one_kind line j k p q = let same : ◌≡◌ {A = Option Kind} (Some j) (Some k)
 -- ---- from the grammar to the table
 
 in-order : (front : List (List ℕ)) (place : Place) (lines : List (List ℕ)) (rs : List Record) (to : Place) →
-    place_after (record_before front) ≡ place → SpellAll lines rs → MayStand place rs to → AreInOrder front lines
+    place_behind front ≡ place → SpellAll lines rs → MayStand place rs to → AreInOrder front lines
 in-order front place [] [] to behind spell stand = tt
 in-order front place [] (r ∷ rs) to behind spell stand = absurd spell
 in-order front place (line ∷ lines) [] to behind spell stand = absurd spell
 in-order front place (line ∷ lines) (r ∷ rs) to behind spell stand = (
   λ kind named.
-      sym (same_may (record_before front) kind)
-      ∙ ap (λ p. may_stand p kind) behind
+      ap (λ p. may_stand p kind) behind
       ∙ ap (λ k. may_stand place k) (one_kind line kind (records.kind_of r) named (records.kind_there line r spell.0))
       ∙ stand.0,
   in-order (front ++ (line ∷ [])) (place_past place r) lines rs to (place_more front line r place behind spell.0) spell.1 stand.1,
@@ -80,48 +73,30 @@ keepable-detail b (Some d) fits is =
     (stands-plain_line (detail_table d) refl (tt, fits-append (detail_rows (Some d)) (row 79 80 spare ∷ []) rows (tt, tt)))
 
 keepable : (r : Record) → AllFit (record_table r) → IsKeepable r
-keepable (of.Header h) fits = tt
-keepable (of.Tiploc h) fits = tt
-keepable (of.Association h) fits = tt
 keepable (of.Basic h) fits = keepable-detail h h.detail fits refl
 keepable (of.Extra h) fits = records.spells (of.Extra h) fits
 keepable (of.Origin h) fits = records.spells (of.Origin h) fits
 keepable (of.Stop h) fits = records.spells (of.Stop h) fits
 keepable (of.Change h) fits = records.spells (of.Change h) fits
 keepable (of.Terminus h) fits = records.spells (of.Terminus h) fits
-keepable of.Trailer fits = tt
+keepable _ fits = tt
 
 -- behind a record the place isn't the start
 past_start : (place : Place) (r : Record) → place_past place r ≡ at.Start → ⊥
-past_start place (of.Header x) e = absurd (cc)
-past_start place (of.Tiploc x) e = absurd (cc)
-past_start place (of.Association x) e = absurd (cc)
 past_start place (of.Basic x) e = by_body (has_body x.letter) e
   where
     by_body : (b : Bool) → cond b at.Basic at.Cancelled ≡ at.Start → ⊥
     by_body true f = absurd (cc)
     by_body false f = absurd (cc)
 past_start at.Cancelled (of.Extra x) e = absurd (cc)
-past_start at.Start (of.Extra x) e = absurd (cc)
-past_start at.Tiplocs (of.Extra x) e = absurd (cc)
-past_start at.Associations (of.Extra x) e = absurd (cc)
-past_start at.Basic (of.Extra x) e = absurd (cc)
-past_start at.Extra (of.Extra x) e = absurd (cc)
-past_start at.CancelledExtra (of.Extra x) e = absurd (cc)
-past_start at.Journey (of.Extra x) e = absurd (cc)
-past_start at.Schedules (of.Extra x) e = absurd (cc)
-past_start at.Ended (of.Extra x) e = absurd (cc)
-past_start place (of.Origin x) e = absurd (cc)
-past_start place (of.Stop x) e = absurd (cc)
-past_start place (of.Change x) e = absurd (cc)
-past_start place (of.Terminus x) e = absurd (cc)
-past_start place of.Trailer e = absurd (cc)
+past_start _ (of.Extra x) e = absurd (cc)
+past_start _ _ e = absurd (cc)
 
 -- records that have been read, so that more may follow
 record IsReadSoFar (front : List (List ℕ)) (rs : List Record) : Type 0 where
   progress : Progress
   read : HasRead rs progress
-  behind : place_after (record_before front) ≡ progress.place
+  behind : place_behind front ≡ progress.place
 
 module _ (front : List (List ℕ)) (rs : List Record) (so_far : IsReadSoFar front rs) (line : List ℕ) (is_line : IsLine line) (r : Record)
     (spells : AllStandIn line (record_table r)) (may : MayComeAfter front line) where
@@ -130,8 +105,7 @@ module _ (front : List (List ℕ)) (rs : List Record) (so_far : IsReadSoFar fron
       let p = so_far.progress in
       let named = records.kind_there line r spells in
       let stands : may_stand p.place (records.kind_of r) ≡ true =
-      ap (λ place. may_stand place (records.kind_of r)) (sym so_far.behind) ∙ same_may (record_before front) (records.kind_of r)
-      ∙ may (records.kind_of r) named in record {
+      ap (λ place. may_stand place (records.kind_of r)) (sym so_far.behind) ∙ may (records.kind_of r) named in record {
         progress = step p r;
         read = has_read_more rs p r (keepable r (records.fit line is_line r spells)) so_far.read stands;
         behind = place_more front line r p.place so_far.behind spells ∙ place_step p r;

@@ -8,9 +8,9 @@ use Rattle.cif_extract.specs.ExtractParts.{ExtractParts}
 use Rattle.cif_extract.specs.Grammar.{AreExtract, AreSchedule, AreSchedules, HaveBody, records_before_trailer}
 use Rattle.cif_extract.specs.Texts.{body_tables, extract_tables, tables_of}
 use Rattle.cif_extract.specs.declared.schedule.Schedule.{Schedule}
-use Rattle.cif_records.specs.SpellsAssociation.{table_of as association_table_of}
-use Rattle.cif_records.specs.SpellsHeader.{header_table}
-use Rattle.cif_records.specs.SpellsRecord.{record_table}
+use Rattle.cif_records.specs.Association.{association_table}
+use Rattle.cif_records.specs.Header.{header_table}
+use Rattle.cif_records.specs.Record.{record_table}
 use Rattle.cif_records.specs.Tiploc.{tiploc_table}
 use Rattle.cif_records.specs.Trailer.{trailer_table}
 use Rattle.cif_records.specs.declared.association.Association.{Association}
@@ -90,14 +90,14 @@ pub tables-append : (a b : List Record) → map record_table (a ++ b) ≡ map re
 tables-append [] b = refl
 tables-append (r ∷ a) b = ap (λ ts. record_table r ∷ ts) (tables-append a b)
 
-tables-tiplocs : (tiplocs : List Tiploc) → map record_table (map of.Tiploc tiplocs) ≡ map (λ t. tiploc_table t.columns) tiplocs
+tables-tiplocs : (tiplocs : List Tiploc) → map record_table (map of.Tiploc tiplocs) ≡ map tiploc_table tiplocs
 tables-tiplocs [] = refl
-tables-tiplocs (t ∷ tiplocs) = ap (λ ts. tiploc_table t.columns ∷ ts) (tables-tiplocs tiplocs)
+tables-tiplocs (t ∷ tiplocs) = ap (λ ts. tiploc_table t ∷ ts) (tables-tiplocs tiplocs)
 
 tables-associations : (associations : List Association) →
-    map record_table (map of.Association associations) ≡ map association_table_of associations
+    map record_table (map of.Association associations) ≡ map association_table associations
 tables-associations [] = refl
-tables-associations (r ∷ associations) = ap (λ ts. association_table_of r ∷ ts) (tables-associations associations)
+tables-associations (r ∷ associations) = ap (λ ts. association_table r ∷ ts) (tables-associations associations)
 
 tables-schedules : (schedules : List Schedule) → map record_table (flat_map records_of schedules) ≡ flat_map tables_of schedules
 tables-schedules [] = refl
@@ -110,8 +110,8 @@ tables-schedules (s ∷ schedules) =
 -- the tables of an extract's records, whatever those of its schedules
 pub tables-extract : (x : ExtractParts) (schedules : List Record) →
     map record_table (records_before_trailer x schedules ++ (of.Trailer ∷ []))
-    ≡ header_table x.header ∷ (map (λ t. tiploc_table t.columns) x.tiplocs
-    ++ (map association_table_of x.associations ++ (map record_table schedules ++ (trailer_table ∷ []))))
+    ≡ header_table x.header ∷ (map tiploc_table x.tiplocs
+    ++ (map association_table x.associations ++ (map record_table schedules ++ (trailer_table ∷ []))))
 tables-extract x schedules =
     let locations = map of.Tiploc x.tiplocs in
     let associations = map of.Association x.associations in
@@ -122,14 +122,14 @@ tables-extract x schedules =
     ∙ ap (λ (ts : List (List Row)). header_table x.header ∷ ts)
     (tables-append locations (associations ++ (schedules ++ end))
     ∙ ap (λ (ts : List (List Row)). ts ++ map record_table (associations ++ (schedules ++ end))) (tables-tiplocs x.tiplocs)
-    ∙ ap (λ (ts : List (List Row)). map (λ t. tiploc_table t.columns) x.tiplocs ++ ts)
+    ∙ ap (λ (ts : List (List Row)). map tiploc_table x.tiplocs ++ ts)
     (tables-append associations (schedules ++ end)
     ∙ ap (λ (ts : List (List Row)). ts ++ map record_table (schedules ++ end)) (tables-associations x.associations)
-    ∙ ap (λ (ts : List (List Row)). map association_table_of x.associations ++ ts) (tables-append schedules end)))
+    ∙ ap (λ (ts : List (List Row)). map association_table x.associations ++ ts) (tables-append schedules end)))
 
 -- the tables of its plain records are its tables
 pub tables-plain : (x : ExtractParts) → map record_table (plain_records x) ≡ extract_tables x
 tables-plain x =
     tables-extract x (flat_map records_of x.schedules)
-    ∙ ap (λ (ts : List (List Row)). header_table x.header ∷ (map (λ t. tiploc_table t.columns) x.tiplocs
-    ++ (map association_table_of x.associations ++ (ts ++ (trailer_table ∷ []))))) (tables-schedules x.schedules)
+    ∙ ap (λ (ts : List (List Row)). header_table x.header ∷ (map tiploc_table x.tiplocs
+    ++ (map association_table x.associations ++ (ts ++ (trailer_table ∷ []))))) (tables-schedules x.schedules)

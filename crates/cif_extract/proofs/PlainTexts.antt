@@ -14,9 +14,9 @@ use Rattle.cif_extract.specs.Grammar.{AreExtract, AreSchedule, AreSchedules, Hav
 use Rattle.cif_extract.specs.SpellsExtract.{BytesSpell, SpellAll, SpellExtract}
 use Rattle.cif_extract.specs.Texts.{AllTablesFit, FitsColumns, body_tables, extract_lines, extract_text, tables_of}
 use Rattle.cif_extract.specs.declared.schedule.Schedule.{Schedule}
-use Rattle.cif_records.specs.Basic.{basic_table}
-use Rattle.cif_records.specs.SpellsAssociation.{table_of as association_table_of}
-use Rattle.cif_records.specs.SpellsRecord.{record_table}
+use Rattle.cif_records.specs.Basic.{basic_rows}
+use Rattle.cif_records.specs.Association.{association_table}
+use Rattle.cif_records.specs.Record.{record_table}
 use Rattle.cif_records.specs.Tiploc.{tiploc_table}
 use Rattle.cif_records.specs.Trailer.{trailer_table}
 use Rattle.cif_records.specs.declared.detail.Detail.{Detail}
@@ -64,10 +64,10 @@ fit-body None extra journey (Some b) h fits = absurd h
 
 same-basic : (u v : List ℕ) (f g l m : ℕ) (d e : List Bool) (s t : Stp) (b c : Option Detail) → u ≡ v → f ≡ g → l ≡ m → d ≡ e → s ≡ t →
     b ≡ c
-    → basic_table u f l d s b ≡ basic_table v g m e t c
+    → basic_rows u f l d s b ≡ basic_rows v g m e t c
 same-basic u v f g l m d e s t b c hu hf hl hd hs hb =
-    ap (λ x. basic_table x f l d s b) hu ∙ ap (λ x. basic_table v x l d s b) hf ∙ ap (λ x. basic_table v g x d s b) hl
-    ∙ ap (λ x. basic_table v g m x s b) hd ∙ ap (λ x. basic_table v g m e x b) hs ∙ ap (λ x. basic_table v g m e t x) hb
+    ap (λ x. basic_rows x f l d s b) hu ∙ ap (λ x. basic_rows v x l d s b) hf ∙ ap (λ x. basic_rows v g x d s b) hl
+    ∙ ap (λ x. basic_rows v g m x s b) hd ∙ ap (λ x. basic_rows v g m e x b) hs ∙ ap (λ x. basic_rows v g m e t x) hb
 
 fit-schedule : (own : List Record) (s : Schedule) → AreSchedule own s → AllTablesFit (map record_table own) → AllTablesFit (tables_of s)
 fit-schedule own s a fits =
@@ -89,8 +89,8 @@ fit-schedules rs (s ∷ schedules) are fits =
 
 fit-extract : (rs : List Record) (x : ExtractParts) → AreExtract rs x → AllTablesFit (map record_table rs) → FitsColumns x
 fit-extract rs x are fits =
-    let locations = map (λ t. tiploc_table t.columns) x.tiplocs in
-    let associations = map association_table_of x.associations in
+    let locations = map tiploc_table x.tiplocs in
+    let associations = map association_table x.associations in
     let own = map record_table are.schedules in
     let end = trailer_table ∷ [] in
     let all = subst AllTablesFit (ap (map record_table) are.parts ∙ tables-extract x are.schedules) fits in

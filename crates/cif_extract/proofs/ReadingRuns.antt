@@ -12,25 +12,22 @@ use Rattle.cif_columns.proofs.GivenLinesLaws.{known_so}
 use Rattle.cif_extract.specs.ExtractParts.{ExtractParts, extract_parts}
 use Rattle.cif_extract.specs.FirstRefusal.{NoneRefused, IsFirstRefusal, refusal_of}
 use Rattle.cif_extract.specs.Grammar.{AreExtract}
-use Rattle.cif_extract.specs.OrderOfRecords.{record_before}
-use Rattle.cif_extract.specs.Steps.Place.{may_stand}
+use Rattle.cif_extract.specs.OrderOfRecords.{may_stand, place_behind}
 use Rattle.cif_extract.specs.ReadFault.{IsLineNumber, IsOfReading, IsReadFault}
 use Rattle.cif_extract.specs.Steps.Reading.{HasRead, HasReadAt, IsHeld, IsTaken, IsUnfinished, Progress, begun, no_progress}
-use Rattle.cif_extract.specs.Steps.Reading.{parts_with_header, refusal_here, step}
+use Rattle.cif_extract.specs.Steps.Reading.{fault_at_line, parts_with_header, refusal_here, step}
 use Rattle.cif_extract.specs.SpellsExtract.{BytesSpellWithin, SpellAll, SpellExtract}
-use Rattle.cif_extract.specs.Steps.TakeFault.{fault_at_line}
 use Rattle.cif_extract.specs.declared.extract.Extract.{Extract}
 use Rattle.cif_extract.specs.declared.fault.Fault.{Fault}
 use Rattle.cif_extract.specs.declared.fault.Fault.TheVariants as fault
 use Rattle.cif_extract.specs.declared.place.Place.{Place}
 use Rattle.cif_extract.specs.declared.place.Place.TheVariants as at
-use Rattle.cif_extract.specs.declared.take_fault.TakeFault.{TakeFault}
-use Rattle.cif_extract.specs.declared.take_fault.TakeFault.TheVariants as untaken
+use Rattle.cif_extract.specs.declared.reading.TakeFault.{TakeFault}
+use Rattle.cif_extract.specs.declared.reading.TakeFault.TheVariants as untaken
 use Rattle.cif_records.specs.Bodies.{has_body}
 use Rattle.cif_records.specs.Checks.{first_of, unless}
 use Rattle.cif_records.specs.Kind.{kind_in}
-use Rattle.cif_records.specs.Record.{refusal_as}
-use Rattle.cif_records.specs.SpellsRecord.{SpellsRecord}
+use Rattle.cif_records.specs.Record.{refusal_as, SpellsRecord}
 use Rattle.cif_records.specs.declared.basic.Basic.{Basic}
 use Rattle.cif_records.specs.declared.detail.Detail.{Detail}
 use Rattle.cif_records.specs.declared.header.Header.{Header}
@@ -40,7 +37,7 @@ use Rattle.cif_records.specs.declared.record.Record.{Record}
 use Rattle.cif_records.specs.declared.record.Record.TheVariants as of
 use Rattle.cif_extract.proofs.FirstRefusals.{none_refused-more, none_refused-none}
 use Rattle.cif_extract.proofs.JourneySteps.{has_read_more}
-use Rattle.cif_extract.proofs.Places.{place_after, place_more, place_past, refused_at}
+use Rattle.cif_extract.proofs.Places.{place_more, place_past, refused_at}
 use Rattle.cif_records.proofs.Records.{kind_of as record_kind, kind_there as spelled_kind}
 
 -- no trailer
@@ -53,7 +50,7 @@ pub record HasCome (max : ℕ) (lines : List (List ℕ)) (p : Progress) : Type 0
   pub spelled : SpellAll lines records
   pub read : HasRead records p
   pub fine : NoneRefused max lines
-  pub place : place_after (record_before lines) ≡ p.place
+  pub place : place_behind lines ≡ p.place
   pub no_trailer : (p.place ≡ at.Ended → ⊥) → All IsNoTrailer lines
 
 pub come_none : (max : ℕ) → HasCome max [] no_progress
@@ -81,16 +78,8 @@ place_begun p b (Some d) e = ap (λ runs. cond runs at.Basic at.Cancelled) (sym 
 
 -- the place after a record is the step's
 pub place_step : (p : Progress) (r : Record) → place_past p.place r ≡ (step p r).place
-place_step p (of.Header x) = refl
-place_step p (of.Tiploc x) = refl
-place_step p (of.Association x) = refl
 place_step p (of.Basic x) = place_begun p x x.detail x.bodied
-place_step p (of.Extra x) = refl
-place_step p (of.Origin x) = refl
-place_step p (of.Stop x) = refl
-place_step p (of.Change x) = refl
-place_step p (of.Terminus x) = refl
-place_step p of.Trailer = refl
+place_step p _ = refl
 
 -- what isn't refused for its place may stand there
 allowed : (place : Place) (kind : Kind) (line : List ℕ) → refusal_here place (Some kind) line ≡ None → may_stand place kind ≡ true
@@ -105,16 +94,8 @@ not_ended : (p : Progress) (r : Record) → (record_kind r ≡ Zz → ⊥) → m
 not_ended p r h may e = let no : false ≡ true = ap (λ place. may_stand place (record_kind r)) (sym e) ∙ may in cc
 
 ends_by_trailer : (p : Progress) (r : Record) → ((step p r).place ≡ at.Ended → ⊥) → record_kind r ≡ Zz → ⊥
-ends_by_trailer p (of.Header x) h e = cc
-ends_by_trailer p (of.Tiploc x) h e = cc
-ends_by_trailer p (of.Association x) h e = cc
-ends_by_trailer p (of.Basic x) h e = cc
-ends_by_trailer p (of.Extra x) h e = cc
-ends_by_trailer p (of.Origin x) h e = cc
-ends_by_trailer p (of.Stop x) h e = cc
-ends_by_trailer p (of.Change x) h e = cc
-ends_by_trailer p (of.Terminus x) h e = cc
 ends_by_trailer p of.Trailer h e = h refl
+ends_by_trailer p _ h e = cc
 
 module _ (max : ℕ) (lines : List (List ℕ)) (line : List ℕ) (is_line : IsLine line) (room : length lines < max) (before : Progress)
     (so_far : HasCome max lines before) where

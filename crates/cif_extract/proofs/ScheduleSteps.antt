@@ -1,22 +1,23 @@
 -- One record more of a schedule, where it may stand.
 use Rattle.std.proofs.Common.{◌≡◌, ◌⊎◌, ℕ, List, [], ◌∷◌, ◌++◌, true, Option, None, Some, is_some, ap, refl, ◌∙◌, subst, append_assoc}
-use Rattle.std.proofs.Common.{inl, inr, ⊎_elim, IfSome}
+use Rattle.std.proofs.Common.{inl, inr, ⊎_elim, IfSome, sym, true≢false}
 use Rattle.cif_columns.specs.Field.{AllStandIn, plain_line}
 use Rattle.cif_extract.specs.BodyParts.{extra_records}
 use Rattle.cif_extract.specs.Call.{call_record}
 use Rattle.cif_extract.specs.Grammar.{records_before_trailer}
-use Rattle.cif_extract.specs.Steps.Place.{after_extra, may_stand}
+use Rattle.cif_extract.specs.OrderOfRecords.{after_extra, may_stand}
 use Rattle.cif_extract.specs.Steps.Reading.{HasOwn, HasRead, HasReadAt, IsCancelled, IsKeepable, IsOpened, IsWithin}
-use Rattle.cif_extract.specs.Steps.Reading.{Progress, begun, begun_journey, kept, opened_by, parts_with_header, step}
+use Rattle.cif_extract.specs.Steps.Reading.{Progress, begun, begun_journey, kept, parts_with_header, step}
 use Rattle.cif_extract.specs.declared.call.Call.{Call}
-use Rattle.cif_extract.specs.declared.opened.Opened.{Opened}
 use Rattle.cif_extract.specs.declared.place.Place.{Place}
 use Rattle.cif_extract.specs.declared.place.Place.TheVariants as at
 use Rattle.cif_extract.specs.declared.schedule.Schedule.{Schedule}
+use Rattle.cif_records.specs.Basic.{terms_of}
 use Rattle.cif_records.specs.Bodies.{has_body}
 use Rattle.cif_records.specs.Detail.{detail_table}
-use Rattle.cif_records.specs.SpellsRecord.{record_table}
+use Rattle.cif_records.specs.Record.{record_table}
 use Rattle.cif_records.specs.declared.basic.Basic.{Basic}
+use Rattle.cif_records.specs.declared.basic.BasicTerms.{BasicTerms}
 use Rattle.cif_records.specs.declared.detail.Detail.{Detail}
 use Rattle.cif_records.specs.declared.extra.Extra.{Extra}
 use Rattle.cif_records.specs.declared.kind.Kind.TheVariants.{Bs, Bx, Lo, Li}
@@ -36,7 +37,7 @@ with_line p place r = record p { place = place; lines = kept p.opened p.lines r 
 
 module _ (records : List Record) (p : Progress) where
   -- a BS, behind whole schedules
-  begun_within : (b : Basic) (place : Place) (schedules : List Schedule) (opened : Option Opened) (lines : List (List ℕ)) →
+  begun_within : (b : Basic) (place : Place) (schedules : List Schedule) (opened : Option BasicTerms) (lines : List (List ℕ)) →
       AreClosed records p → let next = record p { place = place; schedules = schedules; opened = opened; lines = lines } in
       HasOwn place next p.schedules (of.Basic b ∷ []) → IsWithin (records ++ (of.Basic b ∷ [])) next
   begun_within b place schedules opened lines c here = record {
@@ -65,7 +66,7 @@ module _ (records : List Record) (p : Progress) where
       body = refl;
     },
   )
-  begun_here b (Some d) e is again c = begun_within b at.Basic p.schedules (Some (opened_by b e)) (plain_line (detail_table d) ∷ []) c (
+  begun_here b (Some d) e is again c = begun_within b at.Basic p.schedules (Some (terms_of b)) (plain_line (detail_table d) ∷ []) c (
     b,
     refl,
     record {
@@ -124,22 +125,15 @@ module _ (records : List Record) (p : Progress) where
 
   extra_where : (x : Extra) (place : Place) → place ≡ p.place → Again (of.Extra x) → HasReadAt place records p → may_stand place Bx ≡ true →
       HasReadAt (after_extra place) (records ++ (of.Extra x ∷ [])) (with_line p (after_extra place) (of.Extra x))
-  extra_where x at.Start e again h may = cc
-  extra_where x at.Tiplocs e again h may = cc
-  extra_where x at.Associations e again h may = cc
   extra_where x at.Basic e again h may =
       let (b, own, o) = own_at records p at.Basic e h in
       within_more at.Extra (of.Extra x) (of.Basic b ∷ of.Extra x ∷ []) h (ap (λ rs. rs ++ (of.Extra x ∷ [])) own)
       (b, x, refl, opened_more h.earlier b [] at.Extra (of.Extra x) again o)
-  extra_where x at.Extra e again h may = cc
   extra_where x at.Cancelled e again h may =
       let (b, own, c) = own_at records p at.Cancelled e h in
       within_more at.CancelledExtra (of.Extra x) (of.Basic b ∷ of.Extra x ∷ []) h (ap (λ rs. rs ++ (of.Extra x ∷ [])) own)
       (b, x, refl, cancelled_more h.earlier b at.CancelledExtra (of.Extra x) c)
-  extra_where x at.CancelledExtra e again h may = cc
-  extra_where x at.Journey e again h may = cc
-  extra_where x at.Schedules e again h may = cc
-  extra_where x at.Ended e again h may = cc
+  extra_where x _ e again h may = absurd (true≢false (sym may))
 
   -- LO, behind a BS and a BX or none
   origin_opened : (o : Origin) (w : IsWithin records p) (b : Basic) (x : Option Extra) → w.own ≡ of.Basic b ∷ extra_records x →
@@ -159,9 +153,6 @@ module _ (records : List Record) (p : Progress) where
 
   origin_where : (o : Origin) (place : Place) → place ≡ p.place → Again (of.Origin o) → HasReadAt place records p →
       may_stand place Lo ≡ true → HasRead (records ++ (of.Origin o ∷ [])) (step p (of.Origin o))
-  origin_where o at.Start e again h may = cc
-  origin_where o at.Tiplocs e again h may = cc
-  origin_where o at.Associations e again h may = cc
   origin_where o at.Basic e again h may =
       let (b, own, opened) = own_at records p at.Basic e h in origin_opened o h b None own again (inl opened)
   origin_where o at.Extra e again h may =
@@ -170,20 +161,11 @@ module _ (records : List Record) (p : Progress) where
       let (b, own, c) = own_at records p at.Cancelled e h in origin_opened o h b None own again (inr c)
   origin_where o at.CancelledExtra e again h may =
       let (b, x, own, c) = own_at records p at.CancelledExtra e h in origin_opened o h b (Some x) own again (inr c)
-  origin_where o at.Journey e again h may = cc
-  origin_where o at.Schedules e again h may = cc
-  origin_where o at.Ended e again h may = cc
+  origin_where o _ e again h may = absurd (true≢false (sym may))
 
   -- LI and CR
   call_where : (call : Call) (place : Place) → place ≡ p.place → Again (call_record call) → HasReadAt place records p →
       may_stand place Li ≡ true → IsWithin (records ++ (call_record call ∷ [])) (with_line p at.Journey (call_record call))
-  call_where call at.Start e again h may = cc
-  call_where call at.Tiplocs e again h may = cc
-  call_where call at.Associations e again h may = cc
-  call_where call at.Basic e again h may = cc
-  call_where call at.Extra e again h may = cc
-  call_where call at.Cancelled e again h may = cc
-  call_where call at.CancelledExtra e again h may = cc
   call_where call at.Journey e again h may =
       let (b, x, o, calls, own, or) = own_at records p at.Journey e h in
       within_more at.Journey (call_record call) (of.Basic b ∷ begun_journey x o (calls ++ (call ∷ []))) h
@@ -198,8 +180,7 @@ module _ (records : List Record) (p : Progress) where
             (opened_more h.earlier b (begun_journey x o calls) at.Journey (call_record call) again opened)))
             (λ cancelled. inr (cancelled_more h.earlier b at.Journey (call_record call) cancelled)) or,
       )
-  call_where call at.Schedules e again h may = cc
-  call_where call at.Ended e again h may = cc
+  call_where call _ e again h may = absurd (true≢false (sym may))
 
   pub extra_step : (x : Extra) → Again (of.Extra x) → HasRead records p → may_stand p.place Bx ≡ true →
       HasReadAt (after_extra p.place) (records ++ (of.Extra x ∷ [])) (step p (of.Extra x))

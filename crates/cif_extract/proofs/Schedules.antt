@@ -1,12 +1,14 @@
--- Schedules with the same fields are the same, and so are opened ones.
-use Rattle.std.proofs.Common.{◌≡◌, ◌≤◌, ℕ, Bool, true, List, Option, is_some, ap}
+-- Schedules with the same fields are the same; and the one that is closed.
+use Rattle.std.proofs.Common.{◌≡◌, ◌≤◌, ℕ, Bool, true, false, List, [], ◌∷◌, ◌++◌, Option, Some, is_some, refl, ap}
 use Rattle.std.proofs.Props.{props}
 use mathlib.Core.HLevel.{Σ_prop_path}
 use Rattle.cif_columns.specs.declared.stp.Stp.{Stp}
+use Rattle.cif_extract.specs.Body.{parts_in}
 use Rattle.cif_extract.specs.BodyParts.{BodyParts}
-use Rattle.cif_extract.specs.declared.opened.Opened.{Opened}
+use Rattle.cif_extract.specs.Steps.Reading.{closed, schedule_of, with_schedule}
 use Rattle.cif_extract.specs.declared.schedule.Schedule.{Schedule}
 use Rattle.cif_records.specs.Bodies.{has_body}
+use Rattle.cif_records.specs.declared.basic.BasicTerms.{BasicTerms}
 
 -- what the type keeps of its fields
 abbrev Facts : List ℕ × ℕ × ℕ × List Bool × Stp × Option BodyParts → Type 0
@@ -29,21 +31,12 @@ same_schedule r q a b c d e f =
       bodied = v.1.1;
     }) parts
 
--- what the type keeps of the fields of an opened schedule
-abbrev OpenedFacts : List ℕ × ℕ × ℕ × List Bool × Stp → Type 0
-OpenedFacts v = (v.1 ≤ v.2) × (true ≡ has_body v.4)
-
-pub same_opened : (r q : Opened) → r.uid ≡ q.uid → r.first ≡ q.first → r.last ≡ q.last → r.days ≡ q.days → r.letter ≡ q.letter → r ≡ q
-same_opened r q a b c d e =
-    let parts : ◌≡◌ {A = (v : List ℕ × ℕ × ℕ × List Bool × Stp) × OpenedFacts v}
-    ((r.uid, r.first, r.last, r.days, r.letter), (r.in_order, r.runs))
-    ((q.uid, q.first, q.last, q.days, q.letter), (q.in_order, q.runs)) = Σ_prop_path (λ v. hlevel props) (cc) in
-    ap (λ v. record {
-      uid = v.0.0;
-      first = v.0.1;
-      last = v.0.2;
-      days = v.0.3;
-      letter = v.0.4;
-      in_order = v.1.0;
-      runs = v.1.1;
-    }) parts
+-- the schedule that is opened is one more, where its letter has a body
+pub closed_some : (schedules : List Schedule) (t : BasicTerms) (lines : List (List ℕ)) (runs : true ≡ has_body t.letter)
+    → closed schedules (Some t) lines ≡ schedules ++ (schedule_of t (Some (parts_in lines)) runs ∷ [])
+closed_some schedules t lines runs = by_letter (has_body t.letter) refl
+  where
+    by_letter : (b : Bool) (e : b ≡ has_body t.letter)
+        → with_schedule schedules t (parts_in lines) b e ≡ schedules ++ (schedule_of t (Some (parts_in lines)) runs ∷ [])
+    by_letter true e = ap (λ (s : Schedule). schedules ++ (s ∷ [])) (same_schedule _ _ refl refl refl refl refl refl)
+    by_letter false e = cc

@@ -1,14 +1,13 @@
 -- What a line that is taken comes to, by its kind.
 use Rattle.std.proofs.Common.{◌≡◌, ◌∙◌, ℕ, true, List, Ok, Some, ap, refl, subst, sym}
 use Rattle.cif_columns.specs.Field.{AllStandIn, plain_line}
-use Rattle.cif_extract.specs.Steps.Place.{after_extra, may_stand}
+use Rattle.cif_extract.specs.OrderOfRecords.{after_extra, may_stand}
 use Rattle.cif_extract.specs.Steps.Reading.{GoesOnPlainly, IsKeepable, IsOnTheWay, IsTaken, Progress, keeping, kept, refusal_here, step}
 use Rattle.cif_extract.specs.Steps.Reading.{with_kept}
 use Rattle.cif_extract.specs.declared.place.Place.{Place}
 use Rattle.cif_extract.specs.declared.place.Place.TheVariants as at
 use Rattle.cif_records.specs.Kind.{kind_in}
-use Rattle.cif_records.specs.Record.{record_refusal, refusal_as}
-use Rattle.cif_records.specs.SpellsRecord.{SpellsRecord, record_table}
+use Rattle.cif_records.specs.Record.{record_refusal, record_table, refusal_as, SpellsRecord}
 use Rattle.cif_records.specs.declared.kind.Kind.{Kind}
 use Rattle.cif_records.specs.declared.kind.Kind.TheVariants.{Bx, Li, Lt}
 use Rattle.cif_records.specs.declared.record.Record.{Record}
@@ -35,29 +34,15 @@ module _ (p : Progress) where
 
   pub step_on_the_way : (r : Record) → IsOnTheWay (Some (record_kind r)) → AllStandIn (plain_line (record_table r)) (record_table r) →
       IsStep at.Journey r
-  step_on_the_way (of.Header x) h stands = absurd h
-  step_on_the_way (of.Tiploc x) h stands = absurd h
-  step_on_the_way (of.Association x) h stands = absurd h
-  step_on_the_way (of.Basic x) h stands = absurd h
-  step_on_the_way (of.Extra x) h stands = absurd h
   step_on_the_way (of.Origin x) h stands = (stands, refl)
   step_on_the_way (of.Stop x) h stands = (stands, refl)
   step_on_the_way (of.Change x) h stands = (stands, refl)
-  step_on_the_way (of.Terminus x) h stands = absurd h
-  step_on_the_way of.Trailer h stands = absurd h
+  step_on_the_way _ h stands = absurd h
 
   pub step_extra : (r : Record) → record_kind r ≡ Bx → AllStandIn (plain_line (record_table r)) (record_table r) →
       IsStep (after_extra p.place) r
-  step_extra (of.Header x) h stands = cc
-  step_extra (of.Tiploc x) h stands = cc
-  step_extra (of.Association x) h stands = cc
-  step_extra (of.Basic x) h stands = cc
   step_extra (of.Extra x) h stands = (stands, refl)
-  step_extra (of.Origin x) h stands = cc
-  step_extra (of.Stop x) h stands = cc
-  step_extra (of.Change x) h stands = cc
-  step_extra (of.Terminus x) h stands = cc
-  step_extra of.Trailer h stands = cc
+  step_extra _ h stands = cc
 
 -- a plain line of a location on the way, where one may stand
 pub plain_stop : (p after : Progress) (line : List ℕ) → GoesOnPlainly p.place line → after ≡ keeping p line →
@@ -77,16 +62,8 @@ plain_stop p after line h is = (
 
 -- a record of this kind is a last location
 pub is_terminus : (r : Record) → record_kind r ≡ Lt → (t : Terminus) × (r ≡ of.Terminus t)
-is_terminus (of.Header x) h = cc
-is_terminus (of.Tiploc x) h = cc
-is_terminus (of.Association x) h = cc
-is_terminus (of.Basic x) h = cc
-is_terminus (of.Extra x) h = cc
-is_terminus (of.Origin x) h = cc
-is_terminus (of.Stop x) h = cc
-is_terminus (of.Change x) h = cc
 is_terminus (of.Terminus x) h = (x, refl)
-is_terminus of.Trailer h = cc
+is_terminus _ h = cc
 
 -- the kind of what a line spells, where it is known
 pub kind_here : (line : List ℕ) (r : Record) (kind : Kind) → SpellsRecord line r → kind_in line ≡ Some kind → record_kind r ≡ kind

@@ -9,8 +9,8 @@ use Rattle.cif_extract.specs.Body.{KeepAll}
 use Rattle.cif_extract.specs.BodyParts.{BodyParts, body_records}
 use Rattle.cif_columns.specs.Contents.{lines_text}
 use Rattle.cif_extract.specs.Texts.{schedule_lines}
-use Rattle.cif_records.specs.Basic.{basic_table}
-use Rattle.cif_records.specs.SpellsRecord.{record_table}
+use Rattle.cif_records.specs.Basic.{basic_rows}
+use Rattle.cif_records.specs.Record.{record_table}
 
 -- lines that are kept are the plain lines of their tables
 pub kept_plain : (lines : List (List ℕ)) (tables : List (List Row)) → KeepAll lines tables → lines ≡ map plain_line tables
@@ -24,14 +24,14 @@ kept_plain (line ∷ lines) (t ∷ tables) kept =
 module _ (uid : List ℕ) (first last : ℕ) (days : List Bool) (p : BodyParts) (rest : List (List ℕ))
     (is : rest ≡ map plain_line (map record_table (body_records p))) where
   pub schedule_text : lines_text (schedule_lines uid first last days P (Some p))
-      ≡ (plain_line (basic_table uid first last days P (Some p.detail)) ++ (10 ∷ [])) ++ lines_text rest
+      ≡ (plain_line (basic_rows uid first last days P (Some p.detail)) ++ (10 ∷ [])) ++ lines_text rest
   unfolding schedule_lines
   schedule_text = ap (λ (ls : List (List ℕ)).
-      (plain_line (basic_table uid first last days P (Some p.detail)) ++ (10 ∷ [])) ++ lines_text ls) (sym is)
+      (plain_line (basic_rows uid first last days P (Some p.detail)) ++ (10 ∷ [])) ++ lines_text ls) (sym is)
 
 -- the writing of a schedule whose first line is this one
 module _ {W : Type 0} (contents : W → Option (List ℕ)) (errors : W → Option ℕ) (uid : List ℕ) (first last : ℕ) (days : List Bool)
-    (p : BodyParts) (basic : List ℕ) (is : basic ≡ plain_line (basic_table uid first last days P (Some p.detail))) (s t : Sink W) where
+    (p : BodyParts) (basic : List ℕ) (is : basic ≡ plain_line (basic_rows uid first last days P (Some p.detail))) (s t : Sink W) where
   -- it stops at the first line
   pub schedule_failed : HasFailed contents errors (basic ++ (10 ∷ [])) s t
       → HasFailed contents errors (lines_text (schedule_lines uid first last days P (Some p))) s t

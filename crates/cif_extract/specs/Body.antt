@@ -6,10 +6,10 @@ use Rattle.cif_columns.specs.Field.{Row, AllStandIn, columns, plain_line}
 use Rattle.cif_extract.specs.BodyParts.{BodyParts, body_records, journey_records}
 use Rattle.cif_extract.specs.Call.{call_in}
 use Rattle.cif_records.specs.Detail.{detail_in, detail_table}
-use Rattle.cif_records.specs.SpellsExtra.{extra_in}
-use Rattle.cif_records.specs.SpellsOrigin.{origin_in}
-use Rattle.cif_records.specs.SpellsRecord.{record_table}
-use Rattle.cif_records.specs.SpellsTerminus.{terminus_in}
+use Rattle.cif_records.specs.Extra.{extra_in}
+use Rattle.cif_records.specs.Origin.{origin_in}
+use Rattle.cif_records.specs.Record.{record_table}
+use Rattle.cif_records.specs.Terminus.{terminus_in}
 use Rattle.cif_records.specs.declared.detail.Detail.{Detail}
 use Rattle.cif_records.specs.declared.record.Record.{Record}
 

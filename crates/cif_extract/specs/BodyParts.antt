@@ -1,7 +1,14 @@
 -- What a schedule's body is: its five parts, and the records that they are.
-use Rattle.std.specs.Prelude.{List, [], ◌∷◌, ◌++◌, Option, None, Some, map}
+use Rattle.std.specs.Prelude.{Bool, ◌&&◌, List, [], ◌∷◌, ◌++◌, Option, None, Some, map}
+use Rattle.std.specs.Cmp.Lexicographic.{pointwise}
+use Rattle.std.specs.Option.{option_eq}
 use Rattle.cif_extract.specs.Call.{call_record}
+use Rattle.cif_extract.specs.contracts.call.CallPartialEq.TheImpl as call
 use Rattle.cif_extract.specs.declared.call.Call.{Call}
+use Rattle.cif_records.specs.contracts.detail.DetailPartialEq.TheImpl as detail
+use Rattle.cif_records.specs.contracts.extra.ExtraPartialEq.TheImpl as extra
+use Rattle.cif_records.specs.contracts.origin.OriginPartialEq.TheImpl as origin
+use Rattle.cif_records.specs.contracts.terminus.TerminusPartialEq.TheImpl as terminus
 use Rattle.cif_records.specs.declared.detail.Detail.{Detail}
 use Rattle.cif_records.specs.declared.extra.Extra.{Extra}
 use Rattle.cif_records.specs.declared.origin.Origin.{Origin}
@@ -30,3 +37,9 @@ journey_records origin calls terminus = of.Origin origin ∷ (map call_record ca
 -- the records of a body, which follow its BS
 abbrev pub body_records : BodyParts → List Record
 body_records p = extra_records p.extra ++ journey_records p.origin p.calls p.terminus
+
+-- whether two bodies have equal parts, by the equality of each part's type
+abbrev pub parts_eq : BodyParts → BodyParts → Bool
+parts_eq a b =
+    (detail.ghosts).eq a.detail b.detail && option_eq (extra.ghosts).eq a.extra b.extra && (origin.ghosts).eq a.origin b.origin
+    && pointwise (call.ghosts).eq a.calls b.calls && (terminus.ghosts).eq a.terminus b.terminus

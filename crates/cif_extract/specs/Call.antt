@@ -4,9 +4,9 @@ use Rattle.std.specs.Str.{bytes_eq}
 use Rattle.cif_columns.specs.Field.{columns}
 use Rattle.cif_extract.specs.declared.call.Call.{Call}
 use Rattle.cif_extract.specs.declared.call.Call.TheVariants.{At, Turn}
-use Rattle.cif_records.specs.SpellsChange.{change_in}
-use Rattle.cif_records.specs.SpellsRecord.{SpellsRecord}
-use Rattle.cif_records.specs.SpellsStop.{stop_in}
+use Rattle.cif_records.specs.Change.{change_in}
+use Rattle.cif_records.specs.Record.{SpellsRecord}
+use Rattle.cif_records.specs.Stop.{stop_in}
 use Rattle.cif_records.specs.declared.record.Record.{Record}
 use Rattle.cif_records.specs.declared.record.Record.TheVariants.{Change, Stop}
 

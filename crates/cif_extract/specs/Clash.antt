@@ -16,6 +16,6 @@ key_text key = bracketed key.base ++ bracketed key.associated ++ bracketed (left
     ++ bracketed (left_justified 1 key.base_suffix) ++ bracketed (left_justified 1 key.associated_suffix)
 
 -- what clashes, and on which date
-unfoldable pub text_of : Clash → List ℕ
-text_of (Association key day) = codes "association " ++ key_text key ++ codes " on " ++ yymmdd_of day
-text_of (Train uid day) = codes "train " ++ bracketed uid ++ codes " on " ++ yymmdd_of day
+unfoldable pub clash_text : Clash → List ℕ
+clash_text (Association key day) = codes "association " ++ key_text key ++ codes " on " ++ yymmdd_of day
+clash_text (Train uid day) = codes "train " ++ bracketed uid ++ codes " on " ++ yymmdd_of day

@@ -4,7 +4,7 @@ use Rattle.cif_columns.specs.LineFault.{text_of as line_fault_text}
 use Rattle.cif_columns.specs.Refusal.{name_of as refusal_name, number_of as refusal_number}
 use Rattle.cif_columns.specs.declared.line_fault.LineFault.{LineFault}
 use Rattle.cif_columns.specs.declared.line_fault.LineFault.TheVariants as line_fault
-use Rattle.cif_extract.specs.Clash.{text_of as clash_text}
+use Rattle.cif_extract.specs.Clash.{clash_text}
 use Rattle.cif_extract.specs.declared.fault.Fault.{Fault}
 use Rattle.cif_extract.specs.declared.fault.Fault.TheVariants.{Refused, Ambiguous, WindowsDiffer, OutsideWindow, WindowReversed, Read}
 use Rattle.cif_extract.specs.declared.fault.Fault.TheVariants.{Write, Memory}
@@ -32,10 +32,10 @@ name_of Write = codes "WriteFault"
 name_of Memory = codes "Memory"
 
 -- what a fault is: its name, behind the line that is refused, or before what clashes
-unfoldable pub text_of : Fault → List ℕ
-text_of (Refused line why) = line_fault_text (line_fault.Refused line why)
-text_of (Ambiguous clash) = name_of (Ambiguous clash) ++ codes ": " ++ clash_text clash
-text_of fault = name_of fault
+unfoldable pub fault_text : Fault → List ℕ
+fault_text (Refused line why) = line_fault_text (line_fault.Refused line why)
+fault_text (Ambiguous clash) = name_of (Ambiguous clash) ++ codes ": " ++ clash_text clash
+fault_text fault = name_of fault
 
 -- a fault of the line reader as one of the extract
 abbrev pub of_line_fault : LineFault → Fault

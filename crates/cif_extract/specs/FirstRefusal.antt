@@ -7,26 +7,27 @@ use Rattle.cif_columns.specs.GivenLines.{AreLinesToFailure}
 use Rattle.cif_columns.specs.FirstLine.{is_printable}
 use Rattle.cif_columns.specs.declared.refusal.Refusal.{Refusal}
 use Rattle.cif_columns.specs.declared.refusal.Refusal.TheVariants.{BadLength, BadByte, OutOfOrder, Truncated, TooManyLines}
-use Rattle.cif_extract.specs.OrderOfRecords.{RecordBefore, may_follow, record_before}
+use Rattle.cif_extract.specs.OrderOfRecords.{may_stand, place_behind}
+use Rattle.cif_extract.specs.declared.place.Place.{Place}
 use Rattle.cif_records.specs.Checks.{first_of, unless}
 use Rattle.cif_records.specs.Kind.{kind_in}
 use Rattle.cif_records.specs.Record.{record_refusal}
 use Rattle.cif_records.specs.declared.kind.Kind.{Kind}
 use Rattle.cif_records.specs.declared.kind.Kind.TheVariants.{Zz}
 
--- why a line whose columns 1 and 2 name this kind may not come after this record; one that names none is refused as a record
-abbrev pub order_refusal : RecordBefore → Option Kind → Option Refusal
-order_refusal before None = None
-order_refusal before (Some kind) = unless (may_follow before kind) OutOfOrder
+-- why a line whose columns 1 and 2 name this kind may not stand there; one that names none is refused as a record
+abbrev pub order_refusal : Place → Option Kind → Option Refusal
+order_refusal place None = None
+order_refusal place (Some kind) = unless (may_stand place kind) OutOfOrder
 
 -- The first reason to refuse a content that comes after these, where max lines may come: it is one too many, it isn't eighty
--- bytes, one of them may stand in no line, its kind may not follow, or it is refused as a record, for its kind or for a field.
+-- bytes, one of them may stand in no line, its kind may not stand there, or it is refused as a record, for its kind or for a field.
 unfoldable pub refusal_of : ℕ → List (List ℕ) → List ℕ → Option Refusal
 refusal_of max before content = first_of (
     unless (nat_lt (length before) max) TooManyLines
     ∷ unless (length content == 80) BadLength
     ∷ unless (list_all is_printable content) BadByte
-    ∷ order_refusal (record_before before) (kind_in content)
+    ∷ order_refusal (place_behind before) (kind_in content)
     ∷ record_refusal content
     ∷ [])
 

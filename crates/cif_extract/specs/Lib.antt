@@ -8,7 +8,6 @@ pub mod FirstRefusal
 pub mod Grammar
 pub mod Laws
 pub mod OrderOfRecords
-pub mod PartsEq
 pub mod ReadFault
 pub mod SpellsExtract
 pub mod Steps

@@ -1,4 +1,2 @@
 -- What the contracts of the code's own steps speak of. No clause of a public function cites it, so nothing here has to be believed.
-pub mod Place
 pub mod Reading
-pub mod TakeFault

@@ -8,10 +8,10 @@ use Rattle.cif_columns.specs.declared.stp.Stp.{Stp}
 use Rattle.cif_extract.specs.BodyParts.{BodyParts, body_records}
 use Rattle.cif_extract.specs.ExtractParts.{ExtractParts}
 use Rattle.cif_extract.specs.declared.schedule.Schedule.{Schedule}
-use Rattle.cif_records.specs.Basic.{basic_table}
-use Rattle.cif_records.specs.SpellsAssociation.{table_of as association_table_of}
-use Rattle.cif_records.specs.SpellsHeader.{header_table}
-use Rattle.cif_records.specs.SpellsRecord.{record_table}
+use Rattle.cif_records.specs.Basic.{basic_rows}
+use Rattle.cif_records.specs.Association.{association_table}
+use Rattle.cif_records.specs.Header.{header_table}
+use Rattle.cif_records.specs.Record.{record_table}
 use Rattle.cif_records.specs.Tiploc.{tiploc_table}
 use Rattle.cif_records.specs.Trailer.{trailer_table}
 
@@ -23,7 +23,7 @@ body_tables (Some body) = map record_table (body_records body)
 -- the tables of a schedule with these terms: its BS, and those of its body
 abbrev pub schedule_tables : List ℕ → ℕ → ℕ → List Bool → Stp → Option BodyParts → List (List Row)
 schedule_tables uid first last days letter body =
-    basic_table uid first last days letter (option_map (λ (b : BodyParts). b.detail) body) ∷ body_tables body
+    basic_rows uid first last days letter (option_map (λ (b : BodyParts). b.detail) body) ∷ body_tables body
 
 -- the plain lines of a schedule with these terms
 unfoldable pub schedule_lines : List ℕ → ℕ → ℕ → List Bool → Stp → Option BodyParts → List (List ℕ)
@@ -36,8 +36,8 @@ tables_of s = schedule_tables s.uid s.first s.last s.days s.letter s.body
 -- the tables of an extract: header, locations, associations, schedules, trailer
 abbrev pub extract_tables : ExtractParts → List (List Row)
 extract_tables x =
-    header_table x.header ∷ (map (λ t. tiploc_table t.columns) x.tiplocs
-    ++ (map association_table_of x.associations ++ (flat_map tables_of x.schedules ++ (trailer_table ∷ []))))
+    header_table x.header ∷ (map tiploc_table x.tiplocs
+    ++ (map association_table x.associations ++ (flat_map tables_of x.schedules ++ (trailer_table ∷ []))))
 
 -- the plain lines of an extract
 abbrev pub extract_lines : ExtractParts → List (List ℕ)

@@ -6,8 +6,8 @@ ghost use Rattle.cif_columns.specs.Field.{AllFit, AllStandIn, plain_line};
 ghost use Rattle.cif_extract.specs.Call.{call_record};
 ghost use Rattle.cif_extract.specs.Texts.{AllTablesFit};
 ghost use Rattle.cif_records.specs.Detail.{detail_rows, detail_table};
-ghost use Rattle.cif_records.specs.SpellsExtra.{SpellsExtra};
-ghost use Rattle.cif_records.specs.SpellsRecord.{record_table};
+ghost use Rattle.cif_records.specs.Extra.{SpellsExtra};
+ghost use Rattle.cif_records.specs.Record.{record_table};
 
 use crate::{Call, Calls};
 use cif_columns::{Line, LineSlice, Lines, columns_at};
@@ -205,7 +205,7 @@ impl Body {
 }
 
 impl PartialEq for Body {
-    ghost use Rattle.cif_extract.specs.PartsEq.{parts_eq};
+    ghost use Rattle.cif_extract.specs.BodyParts.{parts_eq};
     ghost use Rattle.cif_extract.specs.Laws.SameBody.{parts_per};
 
     ghost eq = { parts_eq };

@@ -1,7 +1,7 @@
 //! What a train does on its way.
 ghost use Rattle.std.specs.Prelude.{◌≡◌};
 ghost use Rattle.cif_columns.specs.Field.{plain_line};
-ghost use Rattle.cif_records.specs.SpellsRecord.{SpellsRecord, record_table};
+ghost use Rattle.cif_records.specs.Record.{SpellsRecord, record_table};
 
 use cif_columns::{Line, columns_at};
 use cif_records::{Change, Stop};

@@ -2,7 +2,7 @@
 ghost use Rattle.std.specs.Prelude.{◌≡◌, ◌+◌, ◌≤◌, ◌++◌, length, Some};
 ghost use Rattle.arrayvec.specs.ArrayString.{array_string_len};
 ghost use Rattle.cif_columns.specs.Line.{ArePrintable};
-ghost use Rattle.cif_extract.specs.Clash.{bracketed, key_text, text_of};
+ghost use Rattle.cif_extract.specs.Clash.{bracketed, clash_text, key_text};
 
 use arrayvec::ArrayString;
 use cif_columns::{Day, Uid, as_text};
@@ -24,9 +24,9 @@ pub(crate) const LONGEST_CLASH: usize = 53;
 
 impl Clash {
     /// What clashes, and on which date, as `train [C00123] on 260106`. It takes no memory.
-    #[tactic(auto, unfolding(crate::specs::Clash::text_of))]
+    #[tactic(auto, unfolding(crate::specs::Clash::clash_text))]
     pub fn text(&self) -> ArrayString<LONGEST_CLASH>
-        ensures { result.bytes ≡ text_of self.now }
+        ensures { result.bytes ≡ clash_text self.now }
     {
         let mut text = ArrayString::new();
         match self {
@@ -75,7 +75,7 @@ fn push_columns(text: &mut ArrayString<LONGEST_CLASH>, columns: &[u8])
 
 /// Its text.
 impl fmt::Display for Clash {
-    ghost output = { λ clash. Some (text_of clash) };
+    ghost output = { λ clash. Some (clash_text clash) };
 
     fn fmt<W: fmt::Write>(&self, f: &mut fmt::Formatter<W>) -> fmt::Result {
         f.write_str(self.text().as_str())

@@ -33,7 +33,7 @@ pub enum Fault {
 const LONGEST: usize = 64;
 
 impl Fault {
-    ghost use Rattle.cif_extract.specs.Fault.{name_of, number_of, text_of};
+    ghost use Rattle.cif_extract.specs.Fault.{fault_text, name_of, number_of};
 
     /// The number of the fault: 1 to 14 for a refusal, and then 15 Ambiguous, 16 WindowsDiffer, 17
     /// OutsideWindow, 18 Read, 19 Write, 20 Memory, 21 WindowReversed.
@@ -71,9 +71,9 @@ impl Fault {
 
     /// What the fault is: its name, behind the line that is refused, as `line 2: BadDays`, or before
     /// what clashes. It takes no memory.
-    #[tactic(auto, unfolding(crate::specs::Fault::text_of))]
+    #[tactic(auto, unfolding(crate::specs::Fault::fault_text))]
     pub fn text(&self) -> ArrayString<LONGEST>
-        ensures { result.bytes ≡ text_of self.now }
+        ensures { result.bytes ≡ fault_text self.now }
     {
         let mut text = ArrayString::new();
         match self {
@@ -95,9 +95,9 @@ impl Fault {
 
 /// Its text.
 impl fmt::Display for Fault {
-    ghost use Rattle.cif_extract.specs.Fault.{text_of};
+    ghost use Rattle.cif_extract.specs.Fault.{fault_text};
 
-    ghost output = { λ fault. Some (text_of fault) };
+    ghost output = { λ fault. Some (fault_text fault) };
 
     fn fmt<W: fmt::Write>(&self, f: &mut fmt::Formatter<W>) -> fmt::Result {
         f.write_str(self.text().as_str())

@@ -9,7 +9,7 @@ ghost use Rattle.cif_extract.specs.BodyParts.{BodyParts};
 ghost use Rattle.cif_extract.specs.ExtractParts.{extract_parts};
 ghost use Rattle.cif_extract.specs.Texts.{AllTablesFit, FitsColumns, body_tables, tables_of};
 ghost use Rattle.cif_records.specs.Detail.{detail_rows};
-ghost use Rattle.cif_records.specs.SpellsAssociation.{table_of};
+ghost use Rattle.cif_records.specs.Association.{association_table};
 
 use crate::{Body, Extract, Schedule};
 use cif_records::Association;
@@ -27,7 +27,7 @@ impl Extract {
 
 #[inline]
 fn associations_fit(associations: &[Association])
-    ensures { AllTablesFit (map table_of associations.now) }
+    ensures { AllTablesFit (map association_table associations.now) }
 {
     for association in associations {
         association.fits();

@@ -1,6 +1,6 @@
 //! Where a record may stand.
 ghost use Rattle.std.specs.Prelude.{◌≡◌};
-ghost use Rattle.cif_extract.specs.Steps.Place.{after_extra, may_stand};
+ghost use Rattle.cif_extract.specs.OrderOfRecords.{after_extra, may_stand};
 
 use cif_records::Kind;
 

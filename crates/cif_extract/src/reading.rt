@@ -1,24 +1,77 @@
-//! What the lines of an extract have come to.
-ghost use Rattle.std.specs.Prelude.{◌≡◌, ◌+◌, ◌^◌, ◌<◌, ◌++◌, ◌∷◌, [], List, Some, Ok, OnOk, IfOk, IfErr, IsTrue};
+//! Reading a whole extract, line by line.
+ghost use Rattle.std.specs.Prelude.{◌≡◌, ◌≤◌, ◌+◌, ◌^◌, ◌<◌, ◌++◌, ◌∷◌, [], List, Some, Ok, true, false};
+ghost use Rattle.std.specs.Prelude.{OnOk, IfOk, IfErr, IfSome, IsTrue};
 ghost use Rattle.cif_columns.specs.Line.{IsLine};
+ghost use Rattle.cif_columns.specs.Source.{reader_of, source_failed};
+ghost use Rattle.cif_columns.specs.declared.line_reader.TheConstants.{MAX_LINES};
+ghost use Rattle.cif_extract.specs.ExtractParts.{ExtractParts, extract_parts};
+ghost use Rattle.cif_extract.specs.ReadFault.{FaultReads, IsOfReading, IsReadAs, IsReadFault};
+ghost use Rattle.cif_extract.specs.ReadFault.{LeavesNothing};
+ghost use Rattle.cif_extract.specs.SpellsExtract.{BytesSpellWithin};
 ghost use Rattle.cif_records.specs.Association.{association_refusal};
 ghost use Rattle.cif_records.specs.Basic.{basic_refusal};
+ghost use Rattle.cif_records.specs.Bodies.{has_body};
 ghost use Rattle.cif_records.specs.Header.{header_refusal};
 ghost use Rattle.cif_records.specs.Kind.{kind_in};
 ghost use Rattle.cif_records.specs.Record.{record_refusal};
 ghost use Rattle.cif_records.specs.Tiploc.{tiploc_refusal};
 ghost use Rattle.cif_records.specs.Trailer.{trailer_refusal};
 
-use crate::opened::Opened;
 use crate::place::Place;
-use crate::take_fault::TakeFault;
 use crate::{Body, Extract, Fault, Schedule};
-use cif_columns::{LINE_WIDTH, Line, Lines, Refusal};
+use cif_columns::{LINE_WIDTH, Line, LineReader, Lines, ReadDevice, Refusal, Source};
 use cif_records::{
     Association, BasicTerms, Detail, Header, Kind, Stop, Tiploc, Trailer, is_plain_line, kind_of,
     plain_line_of,
 };
 use std::alloc::{AllocError, Global};
+
+/// The extract that the source's lines spell, of which at most `max_lines` may come.
+///
+/// Refused names the first refused line and its first reason; Read comes where the source failed
+/// before a refused line was decided, and Memory where what a line says can't be kept. No other
+/// fault is answered. After an extract nothing is left in the source.
+pub fn read_extract<R: ReadDevice>(
+    alloc: Global,
+    source: &mut Source<R>,
+    max_lines: u64,
+) -> Result<Extract, Fault>
+    requires within { max_lines ≤ MAX_LINES }
+    ensures ok { IfSome (R.remaining (reader_of source.old)) (λ bytes. IfOk result (λ extract.
+        BytesSpellWithin max_lines bytes (extract_parts extract))) }
+    ensures only { IfSome (R.remaining (reader_of source.old)) (λ bytes. (x : ExtractParts)
+        → BytesSpellWithin max_lines bytes x → IsReadAs x result) }
+    ensures fault { IfSome (R.remaining (reader_of source.old)) (λ bytes. IfErr result
+        (IsReadFault max_lines bytes (R.remaining (reader_of source.new)))) }
+    ensures answers { IfErr result (IsOfReading max_lines) }
+    ensures end { LeavesNothing R.remaining source.old source.new result }
+    ensures endless { IfOk result (λ _. source_failed source.old ≡ false) }
+    ensures device { FaultReads R.read_errors source.old source.new result }
+{
+    let mut lines = LineReader::new(max_lines);
+    let mut reading = Reading::new(alloc);
+    let mut line = Line::blank();
+    loop {
+        if let Some(columns) = lines.columns_ahead()
+            && reading.goes_on_plainly(columns)
+        {
+            if reading.take_plain_stop(columns).is_err() {
+                return Err(Fault::Memory);
+            }
+            lines.pass_line();
+            continue;
+        }
+        let is_line = lines.read_line(source, &mut line)?;
+        if is_line {
+            match reading.take(alloc, &line) {
+                Ok(()) => {}
+                Err(fault) => return Err(fault.at_line(lines.line_number())),
+            }
+        } else {
+            return reading.finish(lines.line_number());
+        }
+    }
+}
 
 /// What the lines so far have come to.
 #[derive(Drop)]
@@ -28,8 +81,9 @@ pub(crate) struct Reading {
     tiplocs: Vec<Tiploc>,
     associations: Vec<Association>,
     schedules: Vec<Schedule>,
-    // The schedule that is being read, if it has a body, and the plain lines of this body so far.
-    opened: Option<Opened>,
+    // The terms of the schedule that is being read, if it has a body, and the plain lines of this
+    // body so far.
+    opened: Option<BasicTerms>,
     lines: Lines,
 }
 
@@ -38,7 +92,6 @@ impl Reading {
     ghost use Rattle.cif_extract.specs.Steps.Reading.{HasRead, IsClosed, IsKept, IsOnTheWay, IsTaken};
     ghost use Rattle.cif_extract.specs.Steps.Reading.{GoesOnPlainly, IsHeld, IsUnfinished, keeping, no_progress, progress_of};
     ghost use Rattle.cif_extract.specs.Steps.Reading.{refusal_here};
-    ghost use Rattle.cif_extract.specs.ExtractParts.{extract_parts};
     ghost use Rattle.cif_records.specs.declared.record.Record.{Record};
 
     /// The reading of no lines.
@@ -181,24 +234,10 @@ impl Reading {
         if terms.has_body() {
             self.lines.clear();
             self.lines.push(&Detail::line_of(line))?;
-            self.opened = Some(Opened {
-                uid: terms.uid,
-                first: terms.first,
-                last: terms.last,
-                days: terms.days,
-                letter: terms.letter,
-            });
+            self.opened = Some(terms);
             self.place = Place::Basic;
         } else {
-            let cancellation = Schedule {
-                uid: terms.uid,
-                first: terms.first,
-                last: terms.last,
-                days: terms.days,
-                letter: terms.letter,
-                body: None,
-            };
-            push(&mut self.schedules, cancellation)?;
+            push(&mut self.schedules, Schedule::of(terms, None))?;
             self.opened = None;
             self.place = Place::Cancelled;
         }
@@ -237,19 +276,20 @@ impl Reading {
         self.keep(Kind::Lt, line)?;
         self.place = Place::Schedules;
         match self.opened.take() {
-            Some(opened) => self.close(alloc, opened),
+            Some(terms) => self.close(alloc, terms),
             None => Ok(()),
         }
     }
 
-    /// Ends the schedule whose body's lines are kept.
+    /// Ends the schedule of these terms, whose body's lines are kept.
     #[inline(never)]
-    fn close(&mut self, alloc: Global, opened: Opened) -> Result<(), TakeFault>
-        requires { KeepSomeBody self.old.lines }
-        ensures { IsClosed (progress_of self.old) opened result (progress_of self.new) }
+    fn close(&mut self, alloc: Global, terms: BasicTerms) -> Result<(), TakeFault>
+        requires lines { KeepSomeBody self.old.lines }
+        requires runs { true ≡ has_body terms.letter }
+        ensures { IsClosed (progress_of self.old) terms result (progress_of self.new) }
     {
         let body = Body::of_lines(alloc, &self.lines)?;
-        push(&mut self.schedules, opened.schedule(body))?;
+        push(&mut self.schedules, Schedule::of(terms, Some(body)))?;
         Ok(())
     }
 
@@ -261,12 +301,11 @@ impl Reading {
         ensures { IsKept (record_refusal line.now) line.now (progress_of self.old) result
             (progress_of self.new) }
     {
-        // `plain_line_of` alone would do. Of most lines this spares the copy, and to find the kind
-        // again.
+        // `plain_line_of` alone would do. Of most lines this spares the copy.
         if is_plain_line(kind, line) {
             self.keep_plain(line)?;
         } else {
-            self.keep_plain(&plain_line_of(line)?)?;
+            self.keep_plain(&plain_line_of(kind, line)?)?;
         }
         Ok(())
     }
@@ -299,4 +338,45 @@ fn push<T: Drop>(items: &mut Vec<T>, item: T) -> Result<(), AllocError>
 {
     items.push(item)?;
     Ok(())
+}
+
+/// Why a line is not taken into what was read.
+#[derive(Drop)]
+pub(crate) enum TakeFault {
+    Refused(Refusal),
+    Memory,
+}
+
+impl From<Refusal> for TakeFault {
+    ghost use Rattle.cif_extract.specs.declared.reading.TakeFault.TheVariants.{Refused};
+
+    ghost from_gives = { λ why fault. fault ≡ Refused why };
+
+    fn from(why: Refusal) -> TakeFault {
+        TakeFault::Refused(why)
+    }
+}
+
+impl From<AllocError> for TakeFault {
+    ghost use Rattle.cif_extract.specs.declared.reading.TakeFault.TheVariants.{Memory};
+
+    ghost from_gives = { λ _ fault. fault ≡ Memory };
+
+    fn from(_error: AllocError) -> TakeFault {
+        TakeFault::Memory
+    }
+}
+
+impl TakeFault {
+    ghost use Rattle.cif_extract.specs.Steps.Reading.{fault_at_line};
+
+    /// The fault, at the line of this number.
+    pub(crate) fn at_line(self, number: u64) -> Fault
+        ensures { result ≡ fault_at_line number self }
+    {
+        match self {
+            TakeFault::Refused(why) => Fault::Refused { line: number, why },
+            TakeFault::Memory => Fault::Memory,
+        }
+    }
 }

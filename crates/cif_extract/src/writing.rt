@@ -5,16 +5,14 @@ ghost use Rattle.cif_columns.specs.Sink.{Writes};
 ghost use Rattle.cif_columns.specs.declared.stp.Stp.TheVariants.{P};
 ghost use Rattle.cif_columns.specs.Contents.{lines_text};
 ghost use Rattle.cif_extract.specs.Texts.{schedule_lines};
-ghost use Rattle.cif_records.specs.Association.{association_table};
-ghost use Rattle.cif_records.specs.SpellsHeader.{header_table};
+ghost use Rattle.cif_records.specs.Association.{association_rows};
+ghost use Rattle.cif_records.specs.Header.{header_table};
 ghost use Rattle.cif_records.specs.Tiploc.{tiploc_table};
 ghost use Rattle.cif_records.specs.Trailer.{trailer_table};
 
 use crate::Body;
 use cif_columns::{Day, DaysRun, Sink, Uid, WriteDevice, WriteFault};
-use cif_records::{
-    AssocBody, AssocKey, Header, Tiploc, Trailer, permanent_association, permanent_basic,
-};
+use cif_records::{AssocBody, AssocKey, Association, Basic, Header, Tiploc, Trailer};
 
 /// Appends the plain line of the header and a line feed.
 pub fn write_head<W: WriteDevice>(header: &Header, sink: &mut Sink<W>) -> Result<(), WriteFault>
@@ -27,7 +25,7 @@ pub fn write_head<W: WriteDevice>(header: &Header, sink: &mut Sink<W>) -> Result
 /// Appends the plain line of the location and a line feed.
 pub fn write_tiploc<W: WriteDevice>(tiploc: &Tiploc, sink: &mut Sink<W>) -> Result<(), WriteFault>
     ensures { Writes W.contents W.write_errors
-        (plain_line (tiploc_table tiploc.now.columns) ++ 10 ∷ []) sink.old sink.new result }
+        (plain_line (tiploc_table tiploc.now) ++ 10 ∷ []) sink.old sink.new result }
 {
     sink.write_line(&tiploc.write())
 }
@@ -44,9 +42,9 @@ pub fn write_association<W: WriteDevice>(
 ) -> Result<(), WriteFault>
     requires { first ≤ last }
     ensures { Writes W.contents W.write_errors
-        (plain_line (association_table key.now first last days P (Some body.now)) ++ 10 ∷ []) sink.old sink.new result }
+        (plain_line (association_rows key.now first last days P (Some body.now)) ++ 10 ∷ []) sink.old sink.new result }
 {
-    sink.write_line(&permanent_association(key, body, first, last, days))
+    sink.write_line(&Association::permanent_line(key, body, first, last, days))
 }
 
 /// Appends the plain lines of a permanent schedule, each with a line feed: BS (transaction type `N`,
@@ -63,7 +61,7 @@ pub fn write_schedule<W: WriteDevice>(
     ensures { Writes W.contents W.write_errors
         (lines_text (schedule_lines uid.now first last days P (Some body.now))) sink.old sink.new result }
 {
-    let basic = permanent_basic(uid, &body.detail_line(), first, last, days);
+    let basic = Basic::permanent_line(uid, &body.detail_line(), first, last, days);
     sink.write_line(&basic)?;
     sink.write_all(body.further_lines().text())
 }

@@ -6,10 +6,8 @@ use Rattle.cif_columns.specs.Field.{StandsIn, columns, date, indicator, text, we
 use Rattle.cif_columns.specs.declared.stp.Stp.{Stp}
 use Rattle.cif_columns.proofs.FieldLaws.{one_date_value, one_indicator, one_text_value, one_weekdays, stp_in-letter}
 use Rattle.cif_columns.proofs.Masks.{days_of-stands}
-use Rattle.cif_records.specs.Steps.AssocBody.{SpellsBody}
-use Rattle.cif_records.specs.Association.{association_refusal}
+use Rattle.cif_records.specs.Association.{association_refusal, SpellsAssociation, SpellsBody}
 use Rattle.cif_records.specs.Bodies.{has_body}
-use Rattle.cif_records.specs.SpellsAssociation.{SpellsAssociation}
 use Rattle.cif_records.specs.declared.assoc_body.AssocBody.{AssocBody}
 use Rattle.cif_records.specs.declared.assoc_key.AssocKey.{AssocKey}
 use Rattle.cif_records.specs.declared.association.Association.{Association}

@@ -11,10 +11,9 @@ use Rattle.cif_columns.proofs.FieldLaws.{one_date_value, one_exactly, one_indica
 use Rattle.cif_columns.proofs.Masks.{days_of-stands}
 use Rattle.cif_columns.proofs.Parts.{fits-append, stands-back, stands-front}
 use Rattle.cif_columns.proofs.PrintableBytes.{printable_fact}
-use Rattle.cif_records.specs.Basic.{basic_back, basic_front, basic_refusal, basic_table}
+use Rattle.cif_records.specs.Basic.{basic_back, basic_front, basic_refusal, basic_rows, SpellsBasic}
 use Rattle.cif_records.specs.Bodies.{has_body}
 use Rattle.cif_records.specs.Detail.{detail_in, detail_rows}
-use Rattle.cif_records.specs.SpellsBasic.{SpellsBasic}
 use Rattle.cif_records.specs.declared.basic.Basic.{Basic}
 use Rattle.cif_records.specs.declared.detail.Detail.{Detail}
 use Rattle.cif_records.proofs.Details.{detail_stands, one_detail}
@@ -23,7 +22,7 @@ use Rattle.cif_records.proofs.Rows.{◌&◌}
 
 -- a schedule fits its columns where its terms and its detail do
 pub fits : (uid : List ℕ) (first last : ℕ) (days : List Bool) (letter : Stp) (detail : Option Detail) → IsUid uid → IsDay first →
-    IsDay last → length days ≡ 7 → AllFit (detail_rows detail) → AllFit (basic_table uid first last days letter detail)
+    IsDay last → length days ≡ 7 → AllFit (detail_rows detail) → AllFit (basic_rows uid first last days letter detail)
 fits uid first last days letter detail u f l d fit =
     fits-append (basic_front uid first last days) (detail_rows detail ++ basic_back letter)
     ((refl, printable_fact (codes "BS") refl) & (refl, printable_fact (codes "N") refl) & (u.width, u.printable)

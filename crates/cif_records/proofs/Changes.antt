@@ -2,8 +2,7 @@
 use Rattle.std.proofs.Common.{◌≡◌, ℕ, List, Option, None, refl, ap, get_or}
 use Rattle.cif_columns.specs.Field.{FieldValue}
 use Rattle.cif_columns.proofs.TableLaws.{all_read, all_read-stands, one_table, columns_in}
-use Rattle.cif_records.specs.Change.{change_refusal}
-use Rattle.cif_records.specs.SpellsChange.{SpellsChange, table_of, change_in}
+use Rattle.cif_records.specs.Change.{change_in, change_refusal, change_table, SpellsChange}
 use Rattle.cif_records.specs.declared.change.Change.{Change}
 
 -- the record of a table's values
@@ -33,12 +32,12 @@ change_of vs = record {
 }
 
 pub one_change : (line : List ℕ) (r q : Change) → SpellsChange line r → SpellsChange line q → r ≡ q
-one_change line r q p s = ap change_of (one_table line (table_of r) (table_of q) refl p s)
+one_change line r q p s = ap change_of (one_table line (change_table r) (change_table q) refl p s)
 
 -- what a line spells is what stands in it
 pub change_in-spells : (line : List ℕ) (r : Change) → SpellsChange line r → change_in line ≡ r
 unfolding all_read
-change_in-spells line r s = ap change_of (all_read-stands line (table_of r) s)
+change_in-spells line r s = ap change_of (all_read-stands line (change_table r) s)
 
 pub no_refusal : (line : List ℕ) (r : Change) → SpellsChange line r → change_refusal line ≡ None
 unfolding change_refusal

@@ -19,12 +19,10 @@ use Rattle.cif_columns.proofs.Parts.{stands-plain_line}
 use Rattle.cif_columns.proofs.StoodValues as stood
 use Rattle.cif_columns.proofs.TableLaws.{columns_in, one_table}
 use Rattle.cif_columns.proofs.Texts.{is_text_of}
-use Rattle.cif_records.specs.Basic.{basic_back, basic_front}
-use Rattle.cif_records.specs.BasicTerms.{SpellsTerms}
+use Rattle.cif_records.specs.Basic.{basic_back, basic_front, SpellsTerms}
 use Rattle.cif_records.specs.Bodies.{has_body}
-use Rattle.cif_records.specs.Detail.{detail_in, detail_rows, detail_table}
-use Rattle.cif_records.specs.Steps.Detail.{alone_in}
-use Rattle.cif_records.specs.declared.basic_terms.BasicTerms.{BasicTerms}
+use Rattle.cif_records.specs.Detail.{alone_in, detail_in, detail_rows, detail_table}
+use Rattle.cif_records.specs.declared.basic.BasicTerms.{BasicTerms}
 use Rattle.cif_records.specs.declared.detail.Detail.{Detail}
 
 module _ (d : Detail) (line : List ℕ) (built : line ≡ put_all (put_all [] (row 1 29 spare ∷ []) ++ plain_line (detail_rows (Some d)))
@@ -196,9 +194,7 @@ detail_by P line = Some (detail_in line)
 
 bodied_by : (letter : Stp) (line : List ℕ) → is_some (detail_by letter line) ≡ has_body letter
 bodied_by C line = refl
-bodied_by N line = refl
-bodied_by O line = refl
-bodied_by P line = refl
+bodied_by _ line = refl
 
 no_detail : (line : List ℕ) → AllStandIn line (detail_rows None)
 no_detail line = (tt, (tt, (tt, (tt, (tt, (tt, (tt, (tt, (tt, (tt, (tt, (tt, (tt, (tt, (tt, (tt, (tt, tt)))))))))))))))))
@@ -225,5 +221,5 @@ terms_spell line t front back = record {
   };
   spells = stands-append line (basic_front t.uid t.first t.last t.days) (detail_rows (detail_by t.letter line) ++ basic_back t.letter)
       front (stands-append line (detail_rows (detail_by t.letter line)) (basic_back t.letter) (stands_by t.letter line) back);
-  terms = record { uid = refl; first = refl; last = refl; days = refl; letter = refl };
+  terms = refl;
 }

@@ -2,8 +2,7 @@
 use Rattle.std.proofs.Common.{◌≡◌, ℕ, List, Option, None, refl, ap, get_or}
 use Rattle.cif_columns.specs.Field.{FieldValue}
 use Rattle.cif_columns.proofs.TableLaws.{all_read, all_read-stands, one_table, columns_in}
-use Rattle.cif_records.specs.Extra.{extra_refusal}
-use Rattle.cif_records.specs.SpellsExtra.{SpellsExtra, table_of, extra_in}
+use Rattle.cif_records.specs.Extra.{extra_in, extra_refusal, extra_table, SpellsExtra}
 use Rattle.cif_records.specs.declared.extra.Extra.{Extra}
 
 -- the record of a table's values
@@ -18,12 +17,12 @@ extra_of vs = record {
 }
 
 pub one_extra : (line : List ℕ) (r q : Extra) → SpellsExtra line r → SpellsExtra line q → r ≡ q
-one_extra line r q p s = ap extra_of (one_table line (table_of r) (table_of q) refl p s)
+one_extra line r q p s = ap extra_of (one_table line (extra_table r) (extra_table q) refl p s)
 
 -- what a line spells is what stands in it
 pub extra_in-spells : (line : List ℕ) (r : Extra) → SpellsExtra line r → extra_in line ≡ r
 unfolding all_read
-extra_in-spells line r s = ap extra_of (all_read-stands line (table_of r) s)
+extra_in-spells line r s = ap extra_of (all_read-stands line (extra_table r) s)
 
 pub no_refusal : (line : List ℕ) (r : Extra) → SpellsExtra line r → extra_refusal line ≡ None
 unfolding extra_refusal

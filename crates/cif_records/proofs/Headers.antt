@@ -13,8 +13,8 @@ use Rattle.cif_columns.specs.Line.{IsPrintable, ArePrintable}
 use Rattle.cif_columns.proofs.DayColumns.{stands-ddmmyy_in}
 use Rattle.cif_columns.proofs.DayDigits.{ddmmyy_of-stands, is_day-ddmmyy}
 use Rattle.cif_columns.proofs.PrintableBytes.{printable_fact}
-use Rattle.cif_records.specs.Header.{IsFull, header_refusal, kept, with_window}
-use Rattle.cif_records.specs.SpellsHeader.{SpellsHeader, header_table}
+use Rattle.cif_records.specs.HeaderColumns.{IsFull, kept, with_window}
+use Rattle.cif_records.specs.Header.{header_refusal, header_table, SpellsHeader}
 use Rattle.cif_records.specs.declared.header.Header.{Header}
 use Rattle.cif_records.proofs.Rows.{◌&◌}
 

@@ -13,6 +13,12 @@ pub judged_err : {T : Type 0} (P : T → Type 0) (refusal : Option Refusal) (res
     → result ≡ Err why → refusal ≡ Some why → IsJudged refusal P result
 judged_err P refusal result why e h = rw e h
 
+-- what is found says more
+pub judged_so : {T : Type 0} (P Q : T → Type 0) (refusal : Option Refusal) (result : Result T Refusal) → ((x : T) → P x → Q x)
+    → IsJudged refusal P result → IsJudged refusal Q result
+judged_so P Q refusal (Ok x) so h = (h.0, so x h.1)
+judged_so P Q refusal (Err why) so h = h
+
 -- a reason is there or not
 pub none-some : (refusal : Option Refusal) (why : Refusal) → refusal ≡ None → refusal ≡ Some why → ⊥
 none-some refusal why e h = cc

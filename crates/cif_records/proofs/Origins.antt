@@ -3,8 +3,7 @@ use Rattle.std.proofs.Common.{◌≡◌, ℕ, List, Option, None, refl, ap, get_
 use Rattle.cif_columns.specs.Field.{FieldValue}
 use Rattle.cif_columns.proofs.TableLaws.{all_read, all_read-stands, one_table, columns_in, codes_value}
 use Rattle.cif_columns.proofs.Times.{public_time_in-stands, work_time_in-stands}
-use Rattle.cif_records.specs.Origin.{origin_refusal}
-use Rattle.cif_records.specs.SpellsOrigin.{SpellsOrigin, table_of, origin_in}
+use Rattle.cif_records.specs.Origin.{origin_in, origin_refusal, origin_table, SpellsOrigin}
 use Rattle.cif_records.specs.declared.origin.Origin.{Origin}
 
 -- the location of a table's values
@@ -23,12 +22,12 @@ origin_of vs = record {
 }
 
 pub one_origin : (line : List ℕ) (r q : Origin) → SpellsOrigin line r → SpellsOrigin line q → r ≡ q
-one_origin line r q p s = ap origin_of (one_table line (table_of r) (table_of q) refl p s)
+one_origin line r q p s = ap origin_of (one_table line (origin_table r) (origin_table q) refl p s)
 
 -- what a line spells is what stands in it
 pub origin_in-spells : (line : List ℕ) (r : Origin) → SpellsOrigin line r → origin_in line ≡ r
 unfolding all_read
-origin_in-spells line r s = ap origin_of (all_read-stands line (table_of r) s)
+origin_in-spells line r s = ap origin_of (all_read-stands line (origin_table r) s)
 
 pub no_refusal : (line : List ℕ) (r : Origin) → SpellsOrigin line r → origin_refusal line ≡ None
 unfolding origin_refusal

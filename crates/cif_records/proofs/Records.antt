@@ -7,13 +7,11 @@ use Rattle.cif_columns.specs.declared.stp.Stp.{Stp}
 use Rattle.cif_columns.proofs.Parts.{stands-plain_line}
 use Rattle.cif_columns.proofs.PlainLines.{line-plain_line}
 use Rattle.cif_columns.proofs.StoodValues as stood
-use Rattle.cif_records.specs.Association.{association_table}
-use Rattle.cif_records.specs.Basic.{basic_table}
+use Rattle.cif_records.specs.Association.{association_rows}
+use Rattle.cif_records.specs.Basic.{basic_rows}
 use Rattle.cif_records.specs.Checks.{IsJudged}
 use Rattle.cif_records.specs.Kind.{identity, kind_in}
-use Rattle.cif_records.specs.Plain.{IsPlainOf}
-use Rattle.cif_records.specs.Record.{record_refusal, refusal_as}
-use Rattle.cif_records.specs.SpellsRecord.{SpellsRecord, record_table}
+use Rattle.cif_records.specs.Record.{IsPlainOf, record_refusal, record_table, refusal_as, SpellsRecord}
 use Rattle.cif_records.specs.declared.assoc_body.AssocBody.{AssocBody}
 use Rattle.cif_records.specs.declared.assoc_key.AssocKey.{AssocKey}
 use Rattle.cif_records.specs.declared.association.Association.{Association}
@@ -100,15 +98,7 @@ held a.Trailer = tt
 -- a record is the one with what it holds
 record_with-held : (r : Record) → record_with (kind_of r) (held r) ≡ r
 record_with-held (a.Header h) = refl
-record_with-held (a.Tiploc h) = refl
-record_with-held (a.Association h) = refl
-record_with-held (a.Basic h) = refl
-record_with-held (a.Extra h) = refl
-record_with-held (a.Origin h) = refl
-record_with-held (a.Stop h) = refl
-record_with-held (a.Change h) = refl
-record_with-held (a.Terminus h) = refl
-record_with-held a.Trailer = refl
+record_with-held _ = refl
 
 identity_there : (line : List ℕ) (r : Record) → SpellsRecord line r → columns 1 2 line ≡ identity (kind_of r)
 identity_there line (a.Header h) s = s.0
@@ -199,12 +189,12 @@ only_plain line (Err why) h r s = absurd (none-some (record_refusal line) why (n
 
 -- a body takes its columns, or they are spare
 with_body : (key : AssocKey) (first last : ℕ) (days : List Bool) (letter : Stp) (o : Option AssocBody)
-    → stood.have_widths (association_table key first last days letter o) ≡ true
+    → stood.have_widths (association_rows key first last days letter o) ≡ true
 with_body key first last days letter None = refl
 with_body key first last days letter (Some b) = refl
 
 with_detail : (uid : List ℕ) (first last : ℕ) (days : List Bool) (letter : Stp) (o : Option Detail)
-    → stood.have_widths (basic_table uid first last days letter o) ≡ true
+    → stood.have_widths (basic_rows uid first last days letter o) ≡ true
 with_detail uid first last days letter None = refl
 with_detail uid first last days letter (Some d) = refl
 
@@ -226,15 +216,7 @@ fit line is_line a.Trailer s = stood.fit line is_line (record_table a.Trailer) r
 -- a record's table has each column once
 whole : (r : Record) → is_whole_from 1 (record_table r) ≡ true
 whole (a.Header h) = refl
-whole (a.Tiploc h) = refl
-whole (a.Association h) = refl
-whole (a.Basic h) = refl
-whole (a.Extra h) = refl
-whole (a.Origin h) = refl
-whole (a.Stop h) = refl
-whole (a.Change h) = refl
-whole (a.Terminus h) = refl
-whole a.Trailer = refl
+whole _ = refl
 
 -- where a record's values fit, its plain line is a line, and spells it
 pub line : (r : Record) → AllFit (record_table r) → IsLine (plain_line (record_table r))

@@ -3,8 +3,7 @@ use Rattle.std.proofs.Common.{◌≡◌, ℕ, List, Option, None, refl, ap, get_
 use Rattle.cif_columns.specs.Field.{FieldValue}
 use Rattle.cif_columns.proofs.TableLaws.{all_read, all_read-stands, one_table, columns_in, codes_value}
 use Rattle.cif_columns.proofs.Times.{public_time_in-stands, work_time_in-stands}
-use Rattle.cif_records.specs.Stop.{stop_refusal}
-use Rattle.cif_records.specs.SpellsStop.{SpellsStop, table_of, stop_in}
+use Rattle.cif_records.specs.Stop.{SpellsStop, stop_in, stop_refusal, stop_table}
 use Rattle.cif_records.specs.declared.stop.Stop.{Stop}
 
 -- the record of a table's values
@@ -27,12 +26,12 @@ stop_of vs = record {
 }
 
 pub one_stop : (line : List ℕ) (r q : Stop) → SpellsStop line r → SpellsStop line q → r ≡ q
-one_stop line r q p s = ap stop_of (one_table line (table_of r) (table_of q) refl p s)
+one_stop line r q p s = ap stop_of (one_table line (stop_table r) (stop_table q) refl p s)
 
 -- what a line spells is what stands in it
 pub stop_in-spells : (line : List ℕ) (r : Stop) → SpellsStop line r → stop_in line ≡ r
 unfolding all_read
-stop_in-spells line r s = ap stop_of (all_read-stands line (table_of r) s)
+stop_in-spells line r s = ap stop_of (all_read-stands line (stop_table r) s)
 
 pub no_refusal : (line : List ℕ) (r : Stop) → SpellsStop line r → stop_refusal line ≡ None
 unfolding stop_refusal

@@ -3,8 +3,7 @@ use Rattle.std.proofs.Common.{◌≡◌, ℕ, List, Option, None, refl, ap, get_
 use Rattle.cif_columns.specs.Field.{FieldValue}
 use Rattle.cif_columns.proofs.TableLaws.{all_read, all_read-stands, one_table, columns_in, codes_value}
 use Rattle.cif_columns.proofs.Times.{public_time_in-stands, work_time_in-stands}
-use Rattle.cif_records.specs.Terminus.{terminus_refusal}
-use Rattle.cif_records.specs.SpellsTerminus.{SpellsTerminus, table_of, terminus_in}
+use Rattle.cif_records.specs.Terminus.{SpellsTerminus, terminus_in, terminus_refusal, terminus_table}
 use Rattle.cif_records.specs.declared.terminus.Terminus.{Terminus}
 
 -- the record of a table's values
@@ -20,12 +19,12 @@ terminus_of vs = record {
 }
 
 pub one_terminus : (line : List ℕ) (r q : Terminus) → SpellsTerminus line r → SpellsTerminus line q → r ≡ q
-one_terminus line r q p s = ap terminus_of (one_table line (table_of r) (table_of q) refl p s)
+one_terminus line r q p s = ap terminus_of (one_table line (terminus_table r) (terminus_table q) refl p s)
 
 -- what a line spells is what stands in it
 pub terminus_in-spells : (line : List ℕ) (r : Terminus) → SpellsTerminus line r → terminus_in line ≡ r
 unfolding all_read
-terminus_in-spells line r s = ap terminus_of (all_read-stands line (table_of r) s)
+terminus_in-spells line r s = ap terminus_of (all_read-stands line (terminus_table r) s)
 
 pub no_refusal : (line : List ℕ) (r : Terminus) → SpellsTerminus line r → terminus_refusal line ≡ None
 unfolding terminus_refusal

@@ -6,8 +6,7 @@ use Rattle.cif_columns.specs.Field.{AllFit}
 use Rattle.cif_columns.specs.Line.{ArePrintable}
 use Rattle.cif_columns.proofs.PrintableBytes.{printable_fact}
 use Rattle.cif_records.proofs.Rows.{◌&◌}
-use Rattle.cif_records.specs.SpellsTiploc.{SpellsTiploc}
-use Rattle.cif_records.specs.Tiploc.{tiploc_refusal, tiploc_table}
+use Rattle.cif_records.specs.Tiploc.{SpellsTiploc, tiploc_refusal, tiploc_table}
 use Rattle.cif_records.specs.declared.tiploc.Tiploc.{Tiploc}
 
 -- a location is determined by its columns
@@ -19,7 +18,7 @@ same_tiploc t u same =
     ap (λ v. record { columns = v.0; wide = v.1.0; printable = v.1.1 }) parts
 
 -- what it says fits its columns
-pub fits : (t : Tiploc) → AllFit (tiploc_table t.columns)
+pub fits : (t : Tiploc) → AllFit (tiploc_table t)
 fits t = (refl, printable_fact (codes "TI") refl) & (t.wide, t.printable) & tt & tt
 
 pub one_tiploc : (line : List ℕ) (t u : Tiploc) → SpellsTiploc line t → SpellsTiploc line u → t ≡ u

@@ -6,7 +6,7 @@ use Rattle.std.proofs.lemmas.List.Elements.{All-append, All-take}
 use Rattle.std.proofs.lemmas.Slice.{take-put_mid}
 use borrow.Rule.Slice.PartMut.{put_mid}
 use Rattle.cif_columns.specs.Line.{IsPrintable, ArePrintable}
-use Rattle.cif_records.specs.Header.{kept}
+use Rattle.cif_records.specs.HeaderColumns.{kept}
 
 -- columns 3 to 48 are 46
 front_width : (old : List ℕ) → length old ≡ 58 → length (take 46 old) ≡ 46

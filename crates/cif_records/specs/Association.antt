@@ -1,16 +1,17 @@
 -- AA: an association of two trains, its columns, and the reasons to refuse one.
 use Rattle.std.specs.Prelude.{ℕ, Bool, List, [], ◌∷◌, Option, codes}
-use Rattle.cif_columns.specs.Field.{Row, row, columns, exactly, text, date, weekdays, indicator, spare}
+use Rattle.cif_columns.specs.Field.{AllStandIn, Row, StandsIn, row, columns, exactly, text, date, weekdays, indicator, spare}
 use Rattle.cif_columns.specs.declared.refusal.Refusal.{Refusal}
 use Rattle.cif_columns.specs.declared.stp.Stp.{Stp}
 use Rattle.cif_records.specs.Bodies.{of_body}
 use Rattle.cif_records.specs.Checks.{first_of, identity_refusal, transaction_refusal, dates_refusal, days_refusal, letter_refusal}
 use Rattle.cif_records.specs.declared.assoc_body.AssocBody.{AssocBody}
 use Rattle.cif_records.specs.declared.assoc_key.AssocKey.{AssocKey}
+use Rattle.cif_records.specs.declared.association.Association.{Association}
 
--- the columns of an association
-abbrev pub association_table : AssocKey → ℕ → ℕ → List Bool → Stp → Option AssocBody → List Row
-association_table key first last days letter body =
+-- the columns of an association with these fields
+abbrev pub association_rows : AssocKey → ℕ → ℕ → List Bool → Stp → Option AssocBody → List Row
+association_rows key first last days letter body =
     row 1 2 (exactly (codes "AA"))
     ∷ row 3 3 (exactly (codes "N"))
     ∷ row 4 9 (exactly key.base)
@@ -28,6 +29,22 @@ association_table key first last days letter body =
     ∷ row 49 79 spare
     ∷ row 80 80 (indicator letter)
     ∷ []
+
+-- the columns of this association
+abbrev pub association_table : Association → List Row
+association_table r = association_rows r.key r.first r.last r.days r.letter r.body
+
+-- The line spells the association: each of its values stands in its columns. That the first date isn't after the last, and that
+-- there is no body exactly for a cancellation, are invariants of the type `Association`.
+abbrev pub SpellsAssociation : List ℕ → Association → Type 0
+SpellsAssociation line r = AllStandIn line (association_table r)
+
+-- its rows of the body alone, for the reader's own steps: the body, if there is one, stands in its columns
+pub record SpellsBody (line : List ℕ) (body : Option AssocBody) : Type 0 where
+  pub category : StandsIn (columns 35 36 line) (of_body body (λ b. text b.category))
+  pub date_indicator : StandsIn (columns 37 37 line) (of_body body (λ b. text b.date_indicator))
+  pub diagram : StandsIn (columns 47 47 line) (of_body body (λ b. text b.diagram))
+  pub kind : StandsIn (columns 48 48 line) (of_body body (λ b. text b.kind))
 
 -- the first reason to refuse a line as an association
 unfoldable pub association_refusal : List ℕ → Option Refusal

@@ -1,11 +1,13 @@
 -- BS: a basic schedule, its columns, and the reasons to refuse one.
-use Rattle.std.specs.Prelude.{ℕ, Bool, List, [], ◌∷◌, ◌++◌, Option, codes}
-use Rattle.cif_columns.specs.Field.{Row, row, columns, exactly, date, weekdays, indicator, spare}
+use Rattle.std.specs.Prelude.{◌≡◌, ℕ, Bool, List, [], ◌∷◌, ◌++◌, Option, codes}
+use Rattle.cif_columns.specs.Field.{AllStandIn, Row, row, columns, exactly, date, weekdays, indicator, spare}
 use Rattle.cif_columns.specs.declared.refusal.Refusal.{Refusal}
 use Rattle.cif_columns.specs.declared.stp.Stp.{Stp}
 use Rattle.cif_records.specs.Checks.{first_of, identity_refusal, transaction_refusal, dates_refusal, days_refusal}
 use Rattle.cif_records.specs.Checks.{bank_holiday_refusal, letter_refusal}
 use Rattle.cif_records.specs.Detail.{detail_rows}
+use Rattle.cif_records.specs.declared.basic.Basic.{Basic}
+use Rattle.cif_records.specs.declared.basic.BasicTerms.{BasicTerms}
 use Rattle.cif_records.specs.declared.detail.Detail.{Detail}
 
 -- columns 1 to 29
@@ -27,9 +29,28 @@ basic_back letter =
     ∷ row 80 80 (indicator letter)
     ∷ []
 
--- the columns of a basic schedule
-abbrev pub basic_table : List ℕ → ℕ → ℕ → List Bool → Stp → Option Detail → List Row
-basic_table uid first last days letter detail = basic_front uid first last days ++ (detail_rows detail ++ basic_back letter)
+-- the columns of a basic schedule with these fields
+abbrev pub basic_rows : List ℕ → ℕ → ℕ → List Bool → Stp → Option Detail → List Row
+basic_rows uid first last days letter detail = basic_front uid first last days ++ (detail_rows detail ++ basic_back letter)
+
+-- the columns of this basic schedule
+abbrev pub basic_table : Basic → List Row
+basic_table r = basic_rows r.uid r.first r.last r.days r.letter r.detail
+
+-- The line spells the schedule: each of its values stands in its columns. That the first date isn't after the last, and that there
+-- is no detail exactly for a cancellation, are invariants of the type `Basic`.
+abbrev pub SpellsBasic : List ℕ → Basic → Type 0
+SpellsBasic line r = AllStandIn line (basic_table r)
+
+-- what a basic schedule says but for its detail
+abbrev pub terms_of : Basic → BasicTerms
+terms_of r = record { uid = r.uid; first = r.first; last = r.last; days = r.days; letter = r.letter; in_order = r.in_order }
+
+-- the line spells a basic schedule with these terms
+pub record SpellsTerms (line : List ℕ) (t : BasicTerms) : Type 0 where
+  pub basic : Basic
+  pub spells : SpellsBasic line basic
+  pub terms : t ≡ terms_of basic
 
 -- the first reason to refuse a line as a basic schedule
 unfoldable pub basic_refusal : List ℕ → Option Refusal

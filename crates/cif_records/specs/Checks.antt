@@ -3,7 +3,7 @@ use Rattle.std.specs.Prelude.{◌≡◌, ℕ, Bool, true, not, List, [], ◌∷�
 use Rattle.std.specs.Prelude.{slice_index, if◌then◌else◌}
 use Rattle.std.specs.Option.{option_or}
 use Rattle.std.specs.Str.{bytes_eq}
-use Rattle.cif_columns.specs.Day.{yymmdd_in}
+use Rattle.cif_columns.specs.Day.{ddmmyy_in, yymmdd_in}
 use Rattle.cif_columns.specs.DaysRun.{days_of}
 use Rattle.cif_columns.specs.Field.{columns}
 use Rattle.cif_columns.specs.PublicTime.{public_time_in}
@@ -45,6 +45,10 @@ identity_refusal letters line = unless (are (columns 1 2 line) letters) UnknownR
 abbrev pub transaction_refusal : List ℕ → Option Refusal
 transaction_refusal line = unless (are (columns 3 3 line) (codes "N")) NotFull
 
+-- column 47 is the update indicator of a full extract
+abbrev pub full_refusal : List ℕ → Option Refusal
+full_refusal line = unless (are (columns 47 47 line) (codes "F")) NotFull
+
 -- these columns are a mask of days
 abbrev pub days_refusal : List ℕ → Option Refusal
 days_refusal days = unless (is_some (days_of days)) BadDays
@@ -68,6 +72,10 @@ public_time_refusal time = unless (is_some (public_time_in time)) BadTime
 -- a date that names no day
 abbrev pub date_refusal : List ℕ → Option Refusal
 date_refusal columns = unless (is_some (yymmdd_in columns)) BadDate
+
+-- a date of the header that names no day
+abbrev pub header_date_refusal : List ℕ → Option Refusal
+header_date_refusal columns = unless (is_some (ddmmyy_in columns)) BadDate
 
 -- the reasons to refuse a last date: an open end, and a date that names no day
 abbrev pub last_date_refusal : List ℕ → Option Refusal

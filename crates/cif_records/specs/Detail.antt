@@ -1,5 +1,5 @@
 -- What a schedule says of its train, in the columns of its line.
-use Rattle.std.specs.Prelude.{ℕ, List, [], ◌∷◌, ◌++◌, Option, Some}
+use Rattle.std.specs.Prelude.{ℕ, List, [], ◌∷◌, ◌++◌, Option, Some, replicate}
 use Rattle.cif_columns.specs.Field.{Row, row, columns, text, spare}
 use Rattle.cif_columns.specs.Text.{text_of}
 use Rattle.cif_records.specs.Bodies.{of_body}
@@ -30,6 +30,10 @@ detail_rows detail =
 -- the columns of a line of its own, which has the detail where a basic schedule has it and spaces elsewhere
 abbrev pub detail_table : Detail → List Row
 detail_table d = row 1 29 spare ∷ (detail_rows (Some d) ++ (row 79 80 spare ∷ []))
+
+-- columns 30 to 78 of a line, and spaces elsewhere
+abbrev pub alone_in : List ℕ → List ℕ
+alone_in line = replicate 29 32 ++ (columns 30 78 line ++ replicate 2 32)
 
 -- the detail that stands in columns 30 to 78 of a line
 abbrev pub detail_in : List ℕ → Detail

@@ -1,31 +1,30 @@
--- HD: the header of an extract, and the reasons to refuse one.
-use Rattle.std.specs.Prelude.{◌≡◌, ℕ, ◌-◌, List, [], ◌∷◌, ◌++◌, Option, is_some, codes}
+-- HD: the header of an extract, its columns, and the reasons to refuse one.
+use Rattle.std.specs.Prelude.{ℕ, List, [], ◌∷◌, Option, codes}
 use Rattle.cif_columns.specs.Day.{ddmmyy_in}
 use Rattle.cif_columns.specs.DayDigits.{ddmmyy_of}
-use Rattle.cif_columns.specs.Field.{columns}
+use Rattle.cif_columns.specs.Field.{AllStandIn, Row, row, columns, exactly, spare}
 use Rattle.cif_columns.specs.declared.refusal.Refusal.{Refusal}
-use Rattle.cif_columns.specs.declared.refusal.Refusal.TheVariants.{NotFull, BadDate, DatesReversed}
-use Rattle.cif_records.specs.Checks.{first_of, unless, are, are_in_order, identity_refusal}
+use Rattle.cif_columns.specs.declared.refusal.Refusal.TheVariants.{DatesReversed}
+use Rattle.cif_records.specs.Checks.{first_of, unless, are_in_order, full_refusal, header_date_refusal, identity_refusal}
+use Rattle.cif_records.specs.HeaderColumns.{kept}
+use Rattle.cif_records.specs.declared.header.Header.{Header}
 
--- of columns 3 to 60, which a header keeps, those from one to another, numbered as in the line
-abbrev pub kept : ℕ → ℕ → List ℕ → List ℕ
-kept from to header_columns = columns (from - 2) (to - 2) header_columns
+-- the columns of this header, which keeps columns 3 to 60 as they stand
+abbrev pub header_table : Header → List Row
+header_table h =
+    row 1 2 (exactly (codes "HD"))
+    ∷ row 3 46 (exactly (kept 3 46 h.columns))
+    ∷ row 47 47 (exactly (codes "F"))
+    ∷ row 48 48 (exactly (kept 48 48 h.columns))
+    ∷ row 49 54 (exactly (ddmmyy_of h.first))
+    ∷ row 55 60 (exactly (ddmmyy_of h.last))
+    ∷ row 61 80 spare
+    ∷ []
 
--- the update indicator says that the extract is full
-abbrev pub IsFull : List ℕ → Type 0
-IsFull header_columns = kept 47 47 header_columns ≡ codes "F"
-
--- columns 3 to 60 with another window: its first and its last day are put into columns 49 to 60
-abbrev pub with_window : ℕ → ℕ → List ℕ → List ℕ
-with_window first last header_columns = kept 3 48 header_columns ++ (ddmmyy_of first ++ ddmmyy_of last)
-
--- column 47 is the update indicator of a full extract
-abbrev pub full_refusal : List ℕ → Option Refusal
-full_refusal line = unless (are (columns 47 47 line) (codes "F")) NotFull
-
--- a date of the header that names no day
-abbrev pub header_date_refusal : List ℕ → Option Refusal
-header_date_refusal columns = unless (is_some (ddmmyy_in columns)) BadDate
+-- The line spells the header: each of its values stands in its columns. That the first date isn't after the last is an invariant of the
+-- type `Header`, and so is that its columns 47, 49 to 54 and 55 to 60 are these.
+abbrev pub SpellsHeader : List ℕ → Header → Type 0
+SpellsHeader line h = AllStandIn line (header_table h)
 
 -- the first reason to refuse a line as a header
 unfoldable pub header_refusal : List ℕ → Option Refusal

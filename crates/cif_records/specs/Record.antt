@@ -1,20 +1,48 @@
--- Records of any kind: the first reason to refuse a line as one.
-use Rattle.std.specs.Prelude.{ℕ, List, Option, Some, None}
+-- Records of any kind: their columns, when a line spells one, its plain line, and the first reason to refuse a line as one.
+use Rattle.std.specs.Prelude.{◌≡◌, ℕ, List, Option, Some, None}
+use Rattle.cif_columns.specs.Field.{AllStandIn, Row, plain_line}
 use Rattle.cif_columns.specs.declared.refusal.Refusal.{Refusal}
 use Rattle.cif_columns.specs.declared.refusal.Refusal.TheVariants.{UnknownRecord, NotFull}
-use Rattle.cif_records.specs.Association.{association_refusal}
-use Rattle.cif_records.specs.Basic.{basic_refusal}
-use Rattle.cif_records.specs.Change.{change_refusal}
-use Rattle.cif_records.specs.Extra.{extra_refusal}
-use Rattle.cif_records.specs.Header.{header_refusal}
+use Rattle.cif_records.specs.Association.{association_refusal, association_table}
+use Rattle.cif_records.specs.Basic.{basic_refusal, basic_table}
+use Rattle.cif_records.specs.Change.{change_refusal, change_table}
+use Rattle.cif_records.specs.Extra.{extra_refusal, extra_table}
+use Rattle.cif_records.specs.Header.{header_refusal, header_table}
 use Rattle.cif_records.specs.Kind.{kind_in}
-use Rattle.cif_records.specs.Origin.{origin_refusal}
-use Rattle.cif_records.specs.Stop.{stop_refusal}
-use Rattle.cif_records.specs.Terminus.{terminus_refusal}
-use Rattle.cif_records.specs.Tiploc.{tiploc_refusal}
-use Rattle.cif_records.specs.Trailer.{trailer_refusal}
+use Rattle.cif_records.specs.Origin.{origin_refusal, origin_table}
+use Rattle.cif_records.specs.Stop.{stop_refusal, stop_table}
+use Rattle.cif_records.specs.Terminus.{terminus_refusal, terminus_table}
+use Rattle.cif_records.specs.Tiploc.{tiploc_refusal, tiploc_table}
+use Rattle.cif_records.specs.Trailer.{trailer_refusal, trailer_table}
 use Rattle.cif_records.specs.declared.kind.Kind.{Kind}
 use Rattle.cif_records.specs.declared.kind.Kind.TheVariants.{Hd, Ti, Ta, Td, Aa, Bs, Bx, Lo, Li, Cr, Lt, Zz}
+use Rattle.cif_records.specs.declared.record.Record.{Record}
+use Rattle.cif_records.specs.declared.record.Record.TheVariants.{Header, Tiploc, Association, Basic, Extra}
+use Rattle.cif_records.specs.declared.record.Record.TheVariants.{Origin, Stop, Change, Terminus, Trailer}
+
+-- the columns of this record
+abbrev pub record_table : Record → List Row
+record_table (Header r) = header_table r
+record_table (Tiploc r) = tiploc_table r
+record_table (Association r) = association_table r
+record_table (Basic r) = basic_table r
+record_table (Extra r) = extra_table r
+record_table (Origin r) = origin_table r
+record_table (Stop r) = stop_table r
+record_table (Change r) = change_table r
+record_table (Terminus r) = terminus_table r
+record_table Trailer = trailer_table
+
+-- the line spells the record: each row of its table holds of the line
+abbrev pub SpellsRecord : List ℕ → Record → Type 0
+SpellsRecord line r = AllStandIn line (record_table r)
+
+-- The first line spells a value of a kind of record, or of any. The second is the plain line of that value, and spells the same value.
+pub record IsPlainOf (R : Type 0) (table : R → List Row) (line plain : List ℕ) : Type 0 where
+  pub value : R
+  pub stands : AllStandIn line (table value)
+  pub same : plain ≡ plain_line (table value)
+  pub again : AllStandIn plain (table value)
 
 -- the first reason to refuse a line of a kind; amended and deleted locations are of update extracts alone
 abbrev pub refusal_as : Option Kind → List ℕ → Option Refusal

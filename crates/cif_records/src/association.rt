@@ -4,13 +4,11 @@ ghost use Rattle.std.specs.Option.{option_copied};
 ghost use Rattle.cif_columns.specs.Field.{StandsIn, AllStandIn, Fits, AllFit, columns, text};
 ghost use Rattle.cif_columns.specs.Field.{plain_columns, plain_line};
 ghost use Rattle.cif_columns.specs.LineBuilder.{put_all};
-ghost use Rattle.cif_records.specs.Steps.AssocBody.{SpellsBody};
-ghost use Rattle.cif_records.specs.Association.{association_table, association_refusal};
 ghost use Rattle.cif_records.specs.Bodies.{has_body, of_body};
 ghost use Rattle.cif_records.specs.Checks.{IsJudged};
 
 use crate::checks::{
-    Applicability, check_identity, check_transaction, dates_at, days_at, has_body, letter_of,
+    Dates, check_identity, check_transaction, dates_at, days_at, has_body, letter_of,
 };
 use crate::layout::{self, Layout};
 use crate::{AssocBody, AssocKey, Record};
@@ -36,9 +34,18 @@ pub struct Association {
     ghost bodied: { is_some body ≡ has_body letter },
 }
 
+/// On which dates an association applies, and its indicator.
+#[derive(Clone, Copy)]
+pub(crate) struct Applicability {
+    dates: Dates,
+    days: DaysRun,
+    letter: Stp,
+}
+
 impl Layout for Association {
     ghost use Rattle.std.specs.Prelude.{refl, ◌≡◌, codes};
     ghost use Rattle.cif_columns.specs.Field.{StandsIn, columns, date, indicator, weekdays};
+    ghost use Rattle.cif_records.specs.Association.{association_refusal, association_table};
     ghost use Rattle.cif_records.specs.declared.kind.Kind.TheVariants.{Aa};
     ghost use Rattle.cif_records.specs.declared.record.Record.TheVariants as of;
 
@@ -48,7 +55,7 @@ impl Layout for Association {
 
     ghost as_record = { of.Association };
 
-    ghost table = { λ r. association_table r.key r.first r.last r.days r.letter r.body };
+    ghost table = { association_table };
 
     ghost refusal = { association_refusal };
 
@@ -80,7 +87,7 @@ impl Layout for Association {
             last: checked.dates.last,
             days: checked.days,
             letter: checked.letter,
-            body: body_at(line, checked.letter),
+            body: Association::body_at(line, checked.letter),
         }
     }
 
@@ -89,7 +96,7 @@ impl Layout for Association {
     }
 
     fn put_rows(&self, line: &mut LineBuilder) {
-        put_association(
+        Association::put_fields(
             &self.key,
             self.first,
             self.last,
@@ -109,7 +116,9 @@ impl Layout for Association {
 
 impl Association {
     ghost use Rattle.cif_records.specs.declared.association.Association.{Association};
-    ghost use Rattle.cif_records.specs.SpellsAssociation.{SpellsAssociation, table_of};
+    ghost use Rattle.cif_records.specs.Association.{SpellsAssociation, SpellsBody};
+    ghost use Rattle.cif_records.specs.Association.{association_refusal, association_rows};
+    ghost use Rattle.cif_records.specs.Association.{association_table};
 
     /// The association that the line spells, or the first reason in column order why it spells
     /// none: UnknownRecord (columns 1 to 2), NotFull (column 3), BadDate, OpenEnd and DatesReversed
@@ -124,7 +133,7 @@ impl Association {
 
     /// The plain line: spare columns are spaces, and texts stand at the left.
     pub fn write(&self) -> Line
-        ensures plain { result ≡ plain_line (table_of self.now) }
+        ensures plain { result ≡ plain_line (association_table self.now) }
         ensures again { SpellsAssociation result self.now }
     {
         layout::write(self)
@@ -133,7 +142,7 @@ impl Association {
     /// A law for proofs: what it says fits its columns.
     #[inline]
     pub fn fits(&self)
-        ensures { AllFit (table_of self.now) }
+        ensures { AllFit (association_table self.now) }
     {
         self.key.base.fits();
         self.key.associated.fits();
@@ -145,57 +154,74 @@ impl Association {
         self.days.fits();
         body_fits(self.body.as_ref());
     }
-}
 
-/// The plain line of a permanent association.
-pub fn permanent_association(
-    key: &AssocKey,
-    body: &AssocBody,
-    first: Day,
-    last: Day,
-    days: DaysRun,
-) -> Line
-    requires { first ≤ last }
-    ensures plain { result
-        ≡ plain_line (association_table key.now first last days Stp.P (Some body.now)) }
-    ensures again { AllStandIn result
-        (association_table key.now first last days Stp.P (Some body.now)) }
-{
-    let mut line = LineBuilder::new();
-    put_association(key, first, last, days, Stp::P, Some(body), &mut line);
-    line.finish()
-}
+    /// The plain line of a permanent association.
+    pub fn permanent_line(
+        key: &AssocKey,
+        body: &AssocBody,
+        first: Day,
+        last: Day,
+        days: DaysRun,
+    ) -> Line
+        requires { first ≤ last }
+        ensures plain { result
+            ≡ plain_line (association_rows key.now first last days Stp.P (Some body.now)) }
+        ensures again { AllStandIn result
+            (association_rows key.now first last days Stp.P (Some body.now)) }
+    {
+        let mut line = LineBuilder::new();
+        Association::put_fields(key, first, last, days, Stp::P, Some(body), &mut line);
+        line.finish()
+    }
 
-/// Puts the plain columns of an association with these fields on an empty line.
-fn put_association(
-    key: &AssocKey,
-    first: Day,
-    last: Day,
-    days: DaysRun,
-    letter: Stp,
-    body: Option<&AssocBody>,
-    line: &mut LineBuilder,
-)
-    requires { line.old ≡ [] }
-    ensures columns { line.new ≡ put_all []
-        (association_table key.now first last days letter (option_copied body.entry)) }
-    ensures fits { AllFit
-        (association_table key.now first last days letter (option_copied body.entry)) }
-{
-    line.put_columns(b"AA");
-    line.put_columns(b"N");
-    key.base.put_on(line);
-    key.associated.put_on(line);
-    first.put_on(line);
-    last.put_on(line);
-    days.put_on(line);
-    put_category(body, line);
-    key.location.put_on(line);
-    key.base_suffix.put_on(line);
-    key.associated_suffix.put_on(line);
-    put_kinds(body, line);
-    line.put_spare::<31>();
-    letter.put_on(line);
+    /// Puts the plain columns of an association with these fields on an empty line.
+    fn put_fields(
+        key: &AssocKey,
+        first: Day,
+        last: Day,
+        days: DaysRun,
+        letter: Stp,
+        body: Option<&AssocBody>,
+        line: &mut LineBuilder,
+    )
+        requires { line.old ≡ [] }
+        ensures columns { line.new ≡ put_all []
+            (association_rows key.now first last days letter (option_copied body.entry)) }
+        ensures fits { AllFit
+            (association_rows key.now first last days letter (option_copied body.entry)) }
+    {
+        line.put_columns(b"AA");
+        line.put_columns(b"N");
+        key.base.put_on(line);
+        key.associated.put_on(line);
+        first.put_on(line);
+        last.put_on(line);
+        days.put_on(line);
+        put_category(body, line);
+        key.location.put_on(line);
+        key.base_suffix.put_on(line);
+        key.associated_suffix.put_on(line);
+        put_kinds(body, line);
+        line.put_spare::<31>();
+        letter.put_on(line);
+    }
+
+    /// The body in columns 35 to 37 and 47 to 48, absent in cancellations.
+    fn body_at(line: &Line, letter: Stp) -> Option<AssocBody>
+        ensures bodied { is_some result ≡ has_body letter }
+        ensures spells { SpellsBody line.now result }
+    {
+        if has_body(letter) {
+            Some(AssocBody {
+                category: text_at(line, 35),
+                date_indicator: text_at(line, 37),
+                diagram: text_at(line, 47),
+                kind: text_at(line, 48),
+            })
+        } else {
+            None
+        }
+    }
 }
 
 /// Columns 35 to 37, which are spare where there is no body.
@@ -274,22 +300,5 @@ fn key_at(line: &Line) -> AssocKey
         location: text_at(line, 38),
         base_suffix: text_at(line, 45),
         associated_suffix: text_at(line, 46),
-    }
-}
-
-/// The body in columns 35 to 37 and 47 to 48, absent in cancellations.
-fn body_at(line: &Line, letter: Stp) -> Option<AssocBody>
-    ensures bodied { is_some result ≡ has_body letter }
-    ensures spells { SpellsBody line.now result }
-{
-    if has_body(letter) {
-        Some(AssocBody {
-            category: text_at(line, 35),
-            date_indicator: text_at(line, 37),
-            diagram: text_at(line, 47),
-            kind: text_at(line, 48),
-        })
-    } else {
-        None
     }
 }

@@ -4,7 +4,6 @@ ghost use Rattle.std.specs.Option.{option_copied};
 ghost use Rattle.cif_columns.specs.Field.{AllFit, AllStandIn, plain_line};
 ghost use Rattle.cif_columns.specs.LineBuilder.{put_all};
 ghost use Rattle.cif_columns.specs.declared.stp.Stp.TheVariants.{P};
-ghost use Rattle.cif_records.specs.Basic.{basic_front, basic_refusal, basic_table};
 ghost use Rattle.cif_records.specs.Bodies.{has_body};
 ghost use Rattle.cif_records.specs.Checks.{IsJudged};
 ghost use Rattle.cif_records.specs.Detail.{detail_rows, detail_table};
@@ -12,8 +11,7 @@ ghost use Rattle.cif_records.specs.declared.detail.Detail.{Detail};
 
 use crate::Record;
 use crate::checks::{
-    Applicability, check_bank_holiday, check_identity, check_transaction, dates_at, days_at,
-    has_body, letter_of,
+    check_bank_holiday, check_identity, check_transaction, dates_at, days_at, has_body, letter_of,
 };
 use crate::detail::{DETAIL_WIDTH, Detail};
 use crate::layout::{self, Layout};
@@ -38,53 +36,68 @@ pub struct Basic {
     ghost bodied: { is_some detail ≡ has_body letter },
 }
 
+/// What a record `BS` says but for its detail: on which dates a train runs, or doesn't.
+#[derive(Clone, Copy, Debug, PartialEq, Eq)]
+pub struct BasicTerms {
+    /// Columns 4 to 9: the train's UID.
+    pub uid: Uid,
+    /// Columns 10 to 15: the first date.
+    pub first: Day,
+    /// Columns 16 to 21: the last date.
+    pub last: Day,
+    /// Columns 22 to 28: the weekdays on which it applies.
+    pub days: DaysRun,
+    /// Column 80: the indicator of short-term planning.
+    pub letter: Stp,
+    ghost in_order: { first ≤ last },
+}
+
 impl Layout for Basic {
-    ghost use Rattle.std.specs.Prelude.{refl, ◌≡◌, codes};
-    ghost use Rattle.cif_columns.specs.Field.{StandsIn, columns, date, indicator, weekdays};
+    ghost use Rattle.std.specs.Prelude.{refl};
+    ghost use Rattle.cif_columns.specs.Field.{AllStandIn};
+    ghost use Rattle.cif_records.specs.Basic.{basic_back, basic_front, basic_refusal, basic_table};
     ghost use Rattle.cif_records.specs.declared.kind.Kind.TheVariants.{Bs};
     ghost use Rattle.cif_records.specs.declared.record.Record.TheVariants as of;
 
-    type Checked = Applicability;
+    type Checked = BasicTerms;
 
     ghost kind = { Bs };
 
     ghost as_record = { of.Basic };
 
-    ghost table = { λ r. basic_table r.uid r.first r.last r.days r.letter r.detail };
+    ghost table = { basic_table };
 
     ghost refusal = { basic_refusal };
 
-    ghost found = { λ line checked. (columns 1 2 line ≡ codes "BS")
-        × (columns 3 3 line ≡ codes "N")
-        × StandsIn (columns 10 15 line) (date checked.dates.first)
-        × StandsIn (columns 16 21 line) (date checked.dates.last)
-        × StandsIn (columns 22 28 line) (weekdays checked.days)
-        × (columns 29 29 line ≡ codes " ")
-        × StandsIn (columns 80 80 line) (indicator checked.letter) };
+    ghost found = { λ line terms.
+        AllStandIn line (basic_front terms.uid terms.first terms.last terms.days)
+        × AllStandIn line (basic_back terms.letter) };
 
     #[tactic(auto, unfolding(crate::specs::Basic::basic_refusal))]
-    fn check(line: &Line) -> Result<Applicability, Refusal> {
+    fn check(line: &Line) -> Result<BasicTerms, Refusal> {
         check_identity(line, b"BS")?;
         check_transaction(line)?;
         let dates = dates_at(line, 10)?;
         let days = days_at(line, 22)?;
         check_bank_holiday(line)?;
         let letter = letter_of(line)?;
-        Ok(Applicability {
-            dates,
+        Ok(BasicTerms {
+            uid: uid_at(line, 4),
+            first: dates.first,
+            last: dates.last,
             days,
             letter,
         })
     }
 
-    fn with(line: &Line, checked: Applicability) -> Basic {
+    fn with(line: &Line, terms: BasicTerms) -> Basic {
         Basic {
-            uid: uid_at(line, 4),
-            first: checked.dates.first,
-            last: checked.dates.last,
-            days: checked.days,
-            letter: checked.letter,
-            detail: detail_at(line, checked.letter),
+            uid: terms.uid,
+            first: terms.first,
+            last: terms.last,
+            days: terms.days,
+            letter: terms.letter,
+            detail: detail_at(line, terms.letter),
         }
     }
 
@@ -93,7 +106,7 @@ impl Layout for Basic {
     }
 
     fn put_rows(&self, line: &mut LineBuilder) {
-        put_basic(
+        Basic::put_fields(
             &self.uid,
             self.first,
             self.last,
@@ -113,7 +126,8 @@ impl Layout for Basic {
 
 impl Basic {
     ghost use Rattle.cif_records.specs.declared.basic.Basic.{Basic};
-    ghost use Rattle.cif_records.specs.SpellsBasic.{SpellsBasic, table_of};
+    ghost use Rattle.cif_records.specs.Basic.{SpellsBasic, basic_front, basic_refusal};
+    ghost use Rattle.cif_records.specs.Basic.{basic_rows, basic_table};
 
     /// The basic schedule that the line spells, or the first reason in column order why it spells
     /// none: UnknownRecord (columns 1 to 2), NotFull (column 3), BadDate, OpenEnd and DatesReversed
@@ -127,63 +141,82 @@ impl Basic {
 
     /// The plain line: spare columns are spaces, and texts stand at the left.
     pub fn write(&self) -> Line
-        ensures plain { result ≡ plain_line (table_of self.now) }
+        ensures plain { result ≡ plain_line (basic_table self.now) }
         ensures again { SpellsBasic result self.now }
     {
         layout::write(self)
     }
+
+    /// The plain line of a permanent schedule: transaction type `N`, letter `P`, and the detail that stands
+    /// in columns 30 to 78 of `detail`, as they are.
+    pub fn permanent_line(uid: &Uid, detail: &Line, first: Day, last: Day, days: DaysRun) -> Line
+        requires { first ≤ last }
+        ensures { (d : Detail) → detail.now ≡ plain_line (detail_table d)
+            → result ≡ plain_line (basic_rows uid.now first last days P (Some d)) }
+    {
+        let mut line = LineBuilder::new();
+        Basic::put_front(uid, first, last, days, &mut line);
+        line.put_columns(&columns_at::<DETAIL_WIDTH>(detail, 30));
+        line.put_spare::<1>();
+        Stp::P.put_on(&mut line);
+        line.finish()
+    }
+
+    /// Puts the plain columns of a basic schedule with these fields on an empty line.
+    fn put_fields(
+        uid: &Uid,
+        first: Day,
+        last: Day,
+        days: DaysRun,
+        letter: Stp,
+        detail: Option<&Detail>,
+        line: &mut LineBuilder,
+    )
+        requires { line.old ≡ [] }
+        ensures columns { line.new ≡ put_all []
+            (basic_rows uid.now first last days letter (option_copied detail.entry)) }
+        ensures fits { AllFit (basic_rows uid.now first last days letter (option_copied detail.entry)) }
+    {
+        Basic::put_front(uid, first, last, days, line);
+        put_detail(detail, line);
+        line.put_spare::<1>();
+        letter.put_on(line);
+    }
+
+    /// Appends columns 1 to 29.
+    fn put_front(uid: &Uid, first: Day, last: Day, days: DaysRun, line: &mut LineBuilder)
+        requires { line.old ≡ [] }
+        ensures columns { line.new ≡ put_all [] (basic_front uid.now first last days) }
+        ensures width { length line.new ≡ 29 }
+        ensures fits { AllFit (basic_front uid.now first last days) }
+    {
+        line.put_columns(b"BS");
+        line.put_columns(b"N");
+        uid.put_on(line);
+        first.put_on(line);
+        last.put_on(line);
+        days.put_on(line);
+        line.put_columns(b" ");
+    }
 }
 
-/// The plain line of a permanent schedule: transaction type `N`, letter `P`, and the detail that stands
-/// in columns 30 to 78 of `detail`, as they are.
-pub fn permanent_basic(uid: &Uid, detail: &Line, first: Day, last: Day, days: DaysRun) -> Line
-    requires { first ≤ last }
-    ensures { (d : Detail) → detail.now ≡ plain_line (detail_table d)
-        → result ≡ plain_line (basic_table uid.now first last days P (Some d)) }
-{
-    let mut line = LineBuilder::new();
-    put_front(uid, first, last, days, &mut line);
-    line.put_columns(&columns_at::<DETAIL_WIDTH>(detail, 30));
-    line.put_spare::<1>();
-    Stp::P.put_on(&mut line);
-    line.finish()
-}
+impl BasicTerms {
+    ghost use Rattle.cif_records.specs.Basic.{SpellsTerms, basic_refusal};
 
-/// Puts the plain columns of a basic schedule with these fields on an empty line.
-fn put_basic(
-    uid: &Uid,
-    first: Day,
-    last: Day,
-    days: DaysRun,
-    letter: Stp,
-    detail: Option<&Detail>,
-    line: &mut LineBuilder,
-)
-    requires { line.old ≡ [] }
-    ensures columns { line.new ≡ put_all []
-        (basic_table uid.now first last days letter (option_copied detail.entry)) }
-    ensures fits { AllFit (basic_table uid.now first last days letter (option_copied detail.entry)) }
-{
-    put_front(uid, first, last, days, line);
-    put_detail(detail, line);
-    line.put_spare::<1>();
-    letter.put_on(line);
-}
+    /// The terms of the basic schedule that the line spells, or the first reason why it spells none,
+    /// as `Basic::read` has it. No detail is built.
+    pub fn read(line: &Line) -> Result<BasicTerms, Refusal>
+        ensures { IsJudged (basic_refusal line.now) (SpellsTerms line.now) result }
+    {
+        <Basic as Layout>::check(line)
+    }
 
-/// Appends columns 1 to 29.
-fn put_front(uid: &Uid, first: Day, last: Day, days: DaysRun, line: &mut LineBuilder)
-    requires { line.old ≡ [] }
-    ensures columns { line.new ≡ put_all [] (basic_front uid.now first last days) }
-    ensures width { length line.new ≡ 29 }
-    ensures fits { AllFit (basic_front uid.now first last days) }
-{
-    line.put_columns(b"BS");
-    line.put_columns(b"N");
-    uid.put_on(line);
-    first.put_on(line);
-    last.put_on(line);
-    days.put_on(line);
-    line.put_columns(b" ");
+    /// Whether the schedule has a body: all but a cancellation have.
+    pub fn has_body(&self) -> bool
+        ensures { result ≡ has_body self.now.letter }
+    {
+        has_body(self.letter)
+    }
 }
 
 /// The detail in columns 30 to 78, absent in cancellations.

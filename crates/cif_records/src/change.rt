@@ -2,7 +2,6 @@
 ghost use Rattle.std.specs.Prelude.{◌≡◌, Ok};
 ghost use Rattle.cif_columns.specs.Field.{plain_line};
 ghost use Rattle.cif_records.specs.Checks.{IsJudged};
-ghost use Rattle.cif_records.specs.Change.{change_refusal};
 
 use crate::Record;
 use crate::checks::check_identity;
@@ -71,7 +70,7 @@ static PLAIN: PlainTest = PlainTest {
 impl Layout for Change {
     ghost use Rattle.std.specs.Prelude.{refl, ◌≡◌, codes};
     ghost use Rattle.cif_columns.specs.Field.{columns};
-    ghost use Rattle.cif_records.specs.SpellsChange.{table_of};
+    ghost use Rattle.cif_records.specs.Change.{change_refusal, change_table};
     ghost use Rattle.cif_records.specs.declared.kind.Kind.TheVariants.{Cr};
     ghost use Rattle.cif_records.specs.declared.record.Record.TheVariants as of;
 
@@ -81,7 +80,7 @@ impl Layout for Change {
 
     ghost as_record = { of.Change };
 
-    ghost table = { table_of };
+    ghost table = { change_table };
 
     ghost refusal = { change_refusal };
 
@@ -161,7 +160,7 @@ impl Layout for Change {
 
 impl Change {
     ghost use Rattle.cif_records.specs.declared.change.Change.{Change};
-    ghost use Rattle.cif_records.specs.SpellsChange.{SpellsChange, table_of};
+    ghost use Rattle.cif_records.specs.Change.{SpellsChange, change_refusal, change_table};
 
     /// The change that the line spells, or the first reason in column order why it spells
     /// none: UnknownRecord (columns 1 to 2).
@@ -174,7 +173,7 @@ impl Change {
 
     /// The plain line: spare columns are spaces, texts stand at the left.
     pub fn write(&self) -> Line
-        ensures plain { result ≡ plain_line (table_of self.now) }
+        ensures plain { result ≡ plain_line (change_table self.now) }
         ensures again { SpellsChange result self.now }
     {
         layout::write(self)

@@ -1,11 +1,12 @@
 //! The checks that record kinds share.
 ghost use Rattle.std.specs.Prelude.{◌≡◌, ◌≤◌, ◌+◌, Some, IfOk, codes};
-ghost use Rattle.cif_columns.specs.Day.{yymmdd_in};
+ghost use Rattle.cif_columns.specs.Day.{ddmmyy_in, yymmdd_in};
 ghost use Rattle.cif_columns.specs.Field.{StandsIn, columns, columns_from, date, indicator};
 ghost use Rattle.cif_columns.specs.Field.{public_time, weekdays, working_time};
 ghost use Rattle.cif_records.specs.Bodies.{has_body};
-ghost use Rattle.cif_records.specs.Checks.{IsJudged, identity_refusal, transaction_refusal};
-ghost use Rattle.cif_records.specs.Checks.{date_refusal, dates_refusal, last_date_refusal};
+ghost use Rattle.cif_records.specs.Checks.{IsJudged, full_refusal, identity_refusal};
+ghost use Rattle.cif_records.specs.Checks.{transaction_refusal, date_refusal, dates_refusal};
+ghost use Rattle.cif_records.specs.Checks.{header_date_refusal, last_date_refusal};
 ghost use Rattle.cif_records.specs.Checks.{bank_holiday_refusal, days_refusal, letter_refusal};
 ghost use Rattle.cif_records.specs.Checks.{public_time_refusal, work_time_refusal};
 
@@ -28,6 +29,17 @@ pub(crate) fn check_transaction(line: &Line) -> Result<(), Refusal>
     ensures { IsJudged (transaction_refusal line.now) (λ _. columns 3 3 line.now ≡ codes "N") result }
 {
     if columns_at(line, 3) == *b"N" {
+        Ok(())
+    } else {
+        Err(Refusal::NotFull)
+    }
+}
+
+/// Refuses a line whose column 47 isn't the update indicator of a full extract, `F`.
+pub(crate) fn check_full(line: &Line) -> Result<(), Refusal>
+    ensures { IsJudged (full_refusal line.now) (λ _. columns 47 47 line.now ≡ codes "F") result }
+{
+    if columns_at(line, 47) == *b"F" {
         Ok(())
     } else {
         Err(Refusal::NotFull)
@@ -97,6 +109,16 @@ fn last_date_at(line: &Line, at: usize) -> Result<Day, Refusal>
     date_at(line, at)
 }
 
+/// The date in the six columns of a line from `at` on, by day, month and year.
+pub(crate) fn window_date_at(line: &Line, at: usize) -> Result<Day, Refusal>
+    requires from_one { 1 ≤ at }
+    requires within { at ≤ 75 }
+    ensures { IsJudged (header_date_refusal (columns_from at 6 line.now))
+        (λ day. ddmmyy_in (columns_from at 6 line.now) ≡ Some day) result }
+{
+    Day::from_ddmmyy(&columns_at(line, at)).ok_or(Refusal::BadDate)
+}
+
 /// The mask in the seven columns of a line from `at` on, counted from 1.
 pub(crate) fn days_at(line: &Line, at: usize) -> Result<DaysRun, Refusal>
     requires from_one { 1 ≤ at }
@@ -132,14 +154,6 @@ pub(crate) fn public_time_at(line: &Line, at: usize) -> Result<PublicTime, Refus
 pub(crate) struct EndTimes {
     pub(crate) working: WorkTime,
     pub(crate) public: PublicTime,
-}
-
-/// On which dates a record applies, and its indicator.
-#[derive(Clone, Copy)]
-pub(crate) struct Applicability {
-    pub(crate) dates: Dates,
-    pub(crate) days: DaysRun,
-    pub(crate) letter: Stp,
 }
 
 /// The indicator in column 80.

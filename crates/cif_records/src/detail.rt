@@ -2,8 +2,7 @@
 ghost use Rattle.std.specs.Prelude.{◌≡◌, ◌+◌, ◌≤◌, ◌++◌, length, Some};
 ghost use Rattle.cif_columns.specs.Field.{AllFit, AllStandIn, plain_line};
 ghost use Rattle.cif_columns.specs.Line.{IsLine};
-ghost use Rattle.cif_records.specs.Detail.{detail_in, detail_rows, detail_table};
-ghost use Rattle.cif_records.specs.Steps.Detail.{alone_in};
+ghost use Rattle.cif_records.specs.Detail.{alone_in, detail_in, detail_rows, detail_table};
 
 use cif_columns::{Field, Line, LineBuilder, PlainTest, Text, columns_at, text_at};
 

@@ -2,7 +2,6 @@
 ghost use Rattle.std.specs.Prelude.{◌≡◌, Ok};
 ghost use Rattle.cif_columns.specs.Field.{plain_line};
 ghost use Rattle.cif_records.specs.Checks.{IsJudged};
-ghost use Rattle.cif_records.specs.Extra.{extra_refusal};
 
 use crate::Record;
 use crate::checks::check_identity;
@@ -40,7 +39,7 @@ static PLAIN: PlainTest = PlainTest {
 impl Layout for Extra {
     ghost use Rattle.std.specs.Prelude.{refl, ◌≡◌, codes};
     ghost use Rattle.cif_columns.specs.Field.{columns};
-    ghost use Rattle.cif_records.specs.SpellsExtra.{table_of};
+    ghost use Rattle.cif_records.specs.Extra.{extra_refusal, extra_table};
     ghost use Rattle.cif_records.specs.declared.kind.Kind.TheVariants.{Bx};
     ghost use Rattle.cif_records.specs.declared.record.Record.TheVariants as of;
 
@@ -50,7 +49,7 @@ impl Layout for Extra {
 
     ghost as_record = { of.Extra };
 
-    ghost table = { table_of };
+    ghost table = { extra_table };
 
     ghost refusal = { extra_refusal };
 
@@ -100,7 +99,7 @@ impl Layout for Extra {
 
 impl Extra {
     ghost use Rattle.cif_records.specs.declared.extra.Extra.{Extra};
-    ghost use Rattle.cif_records.specs.SpellsExtra.{SpellsExtra, table_of};
+    ghost use Rattle.cif_records.specs.Extra.{SpellsExtra, extra_refusal, extra_table};
 
     /// The further details that the line spells, or the first reason in column order why it spells
     /// none: UnknownRecord (columns 1 to 2).
@@ -113,7 +112,7 @@ impl Extra {
 
     /// The plain line: spare columns are spaces, texts stand at the left.
     pub fn write(&self) -> Line
-        ensures plain { result ≡ plain_line (table_of self.now) }
+        ensures plain { result ≡ plain_line (extra_table self.now) }
         ensures again { SpellsExtra result self.now }
     {
         layout::write(self)

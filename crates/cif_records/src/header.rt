@@ -5,11 +5,10 @@ ghost use Rattle.cif_columns.specs.Day.{ddmmyy_in};
 ghost use Rattle.cif_columns.specs.Field.{columns, columns_from, plain_line};
 ghost use Rattle.cif_columns.specs.Line.{ArePrintable};
 ghost use Rattle.cif_records.specs.Checks.{IsJudged};
-ghost use Rattle.cif_records.specs.Header.{IsFull, full_refusal, header_date_refusal};
-ghost use Rattle.cif_records.specs.Header.{header_refusal, kept, with_window as columns_with_window};
+ghost use Rattle.cif_records.specs.HeaderColumns.{IsFull, kept, with_window as columns_with_window};
 
 use crate::Record;
-use crate::checks::{Dates, check_identity};
+use crate::checks::{Dates, check_full, check_identity, window_date_at};
 use crate::layout::{self, Layout};
 use cif_columns::{Day, Line, LineBuilder, Refusal, columns_at};
 
@@ -41,7 +40,7 @@ impl Layout for Header {
     ghost use Rattle.std.specs.Prelude.{refl, ◌≡◌, codes, Some};
     ghost use Rattle.cif_columns.specs.Day.{ddmmyy_in};
     ghost use Rattle.cif_columns.specs.Field.{columns};
-    ghost use Rattle.cif_records.specs.SpellsHeader.{header_table};
+    ghost use Rattle.cif_records.specs.Header.{header_refusal, header_table};
     ghost use Rattle.cif_records.specs.declared.kind.Kind.TheVariants.{Hd};
     ghost use Rattle.cif_records.specs.declared.record.Record.TheVariants as of;
 
@@ -100,7 +99,7 @@ impl Layout for Header {
 
 impl Header {
     ghost use Rattle.cif_records.specs.declared.header.Header.{Header};
-    ghost use Rattle.cif_records.specs.SpellsHeader.{SpellsHeader, header_table};
+    ghost use Rattle.cif_records.specs.Header.{SpellsHeader, header_refusal, header_table};
 
     /// The header that the line spells, or the first reason in column order why it spells none:
     /// UnknownRecord (columns 1 to 2), NotFull (column 47), BadDate and DatesReversed (columns 49
@@ -142,25 +141,4 @@ impl Header {
     pub fn equality_of_headers()
         ensures { (h k : Header) → IsTrue (⟦<Header as PartialEq>⟧.eq h k) ↔ (h ≡ k) }
     {}
-}
-
-/// Whether column 47 is the update indicator of a full extract, `F`.
-fn check_full(line: &Line) -> Result<(), Refusal>
-    ensures { IsJudged (full_refusal line.now) (λ _. columns 47 47 line.now ≡ codes "F") result }
-{
-    if columns_at(line, 47) == *b"F" {
-        Ok(())
-    } else {
-        Err(Refusal::NotFull)
-    }
-}
-
-/// The date in the six columns of a line from `at` on, by day, month and year.
-fn window_date_at(line: &Line, at: usize) -> Result<Day, Refusal>
-    requires from_one { 1 ≤ at }
-    requires within { at ≤ 75 }
-    ensures { IsJudged (header_date_refusal (columns_from at 6 line.now))
-        (λ day. ddmmyy_in (columns_from at 6 line.now) ≡ Some day) result }
-{
-    Day::from_ddmmyy(&columns_at(line, at)).ok_or(Refusal::BadDate)
 }

@@ -2,7 +2,7 @@
 ghost use Rattle.std.specs.Prelude.{◌≡◌, ℕ, List};
 ghost use Rattle.cif_columns.specs.Field.{AllFit, plain_line};
 ghost use Rattle.cif_columns.specs.Line.{IsLine};
-ghost use Rattle.cif_records.specs.SpellsRecord.{SpellsRecord, record_table};
+ghost use Rattle.cif_records.specs.Record.{SpellsRecord, record_table};
 ghost use Rattle.cif_records.specs.declared.record.Record.{Record};
 
 /// A line spells one record at most.

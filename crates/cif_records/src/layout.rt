@@ -1,13 +1,10 @@
 //! What the kinds of record have in common.
 ghost use Rattle.std.specs.Prelude.{◌≡◌, ℕ, List, [], None, Option, Some, true, IsTrue};
 ghost use Rattle.cif_columns.specs.Field.{AllFit, AllStandIn, Row, is_whole_from, plain_line};
-ghost use Rattle.cif_columns.specs.Line.{IsLine};
 ghost use Rattle.cif_columns.specs.declared.refusal.Refusal.{Refusal};
 ghost use Rattle.cif_columns.specs.LineBuilder.{put_all};
 ghost use Rattle.cif_records.specs.Checks.{IsJudged};
-ghost use Rattle.cif_records.specs.Plain.{IsPlainOf};
-ghost use Rattle.cif_records.specs.Record.{refusal_as};
-ghost use Rattle.cif_records.specs.SpellsRecord.{record_table};
+ghost use Rattle.cif_records.specs.Record.{IsPlainOf, record_table, refusal_as};
 ghost use Rattle.cif_records.specs.declared.kind.Kind.{Kind};
 ghost use Rattle.cif_records.specs.declared.record.Record.{Record};
 
@@ -93,7 +90,6 @@ pub(crate) fn write<R: Layout>(value: &R) -> Line
 /// The plain line of the record that the line spells, or the first reason in column order why it
 /// spells none. Of a line that the kind's test knows for a plain one no record is built.
 pub(crate) fn plain_line_of<R: Layout>(line: &Line) -> Result<Line, Refusal>
-    requires { IsLine line.now }
     ensures { IsJudged (R.refusal line.now) (IsPlainOf R R.table line.now) result }
 {
     if R::is_plain(line) {

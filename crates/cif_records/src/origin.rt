@@ -2,7 +2,6 @@
 ghost use Rattle.std.specs.Prelude.{◌≡◌, Ok};
 ghost use Rattle.cif_columns.specs.Field.{plain_line};
 ghost use Rattle.cif_records.specs.Checks.{IsJudged};
-ghost use Rattle.cif_records.specs.Origin.{origin_refusal};
 
 use crate::Record;
 use crate::checks::{EndTimes, check_identity, public_time_at, work_time_at};
@@ -51,7 +50,7 @@ static PLAIN: PlainTest = PlainTest {
 impl Layout for Origin {
     ghost use Rattle.std.specs.Prelude.{refl, ◌≡◌, codes};
     ghost use Rattle.cif_columns.specs.Field.{StandsIn, columns, public_time, working_time};
-    ghost use Rattle.cif_records.specs.SpellsOrigin.{table_of};
+    ghost use Rattle.cif_records.specs.Origin.{origin_refusal, origin_table};
     ghost use Rattle.cif_records.specs.declared.kind.Kind.TheVariants.{Lo};
     ghost use Rattle.cif_records.specs.declared.record.Record.TheVariants as of;
 
@@ -61,7 +60,7 @@ impl Layout for Origin {
 
     ghost as_record = { of.Origin };
 
-    ghost table = { table_of };
+    ghost table = { origin_table };
 
     ghost refusal = { origin_refusal };
 
@@ -125,7 +124,7 @@ impl Layout for Origin {
 
 impl Origin {
     ghost use Rattle.cif_records.specs.declared.origin.Origin.{Origin};
-    ghost use Rattle.cif_records.specs.SpellsOrigin.{SpellsOrigin, table_of};
+    ghost use Rattle.cif_records.specs.Origin.{SpellsOrigin, origin_refusal, origin_table};
 
     /// The first location that the line spells, or the first reason in column order why it spells
     /// none: UnknownRecord (columns 1 to 2), BadTime (columns 11 to 19).
@@ -139,7 +138,7 @@ impl Origin {
     /// The plain line: spare columns are spaces, texts stand at the left, and activity codes are
     /// packed to the left.
     pub fn write(&self) -> Line
-        ensures plain { result ≡ plain_line (table_of self.now) }
+        ensures plain { result ≡ plain_line (origin_table self.now) }
         ensures again { SpellsOrigin result self.now }
     {
         layout::write(self)

@@ -1,6 +1,17 @@
-//! Records of any kind.
+//! Records of any kind, and their lines.
+ghost use Rattle.std.specs.Prelude.{◌≡◌, IsTrue, Ok, Some};
+ghost use Rattle.cif_columns.specs.Field.{plain_line};
+ghost use Rattle.cif_records.specs.Checks.{IsJudged};
+ghost use Rattle.cif_records.specs.Kind.{kind_in};
+ghost use Rattle.cif_records.specs.Record.{IsPlainOf, SpellsRecord, record_refusal, record_table};
+ghost use Rattle.cif_records.specs.declared.record.Record.{Record};
 
-use crate::{Association, Basic, Change, Extra, Header, Origin, Stop, Terminus, Tiploc};
+use crate::layout::Layout;
+use crate::{
+    Association, Basic, Change, Extra, Header, Kind, Origin, Stop, Terminus, Tiploc, Trailer,
+    kind_of, layout,
+};
+use cif_columns::{Line, Refusal};
 
 /// A record of a full extract (the CIF End User Specification).
 #[derive(Debug, Drop, PartialEq, Eq)]
@@ -25,4 +36,140 @@ pub enum Record {
     Terminus(Terminus),
     /// `ZZ`, the trailer.
     Trailer,
+}
+
+/// The record that the line spells, or the first reason why it spells none: UnknownRecord where
+/// columns 1 and 2 name no kind, NotFull for `TA` and `TD`, else the reason of the kind's `read`.
+pub fn read_record(line: &Line) -> Result<Record, Refusal>
+    ensures exact { IsJudged (record_refusal line.now) (SpellsRecord line.now) result }
+    ensures only { (r : Record) → SpellsRecord line.now r → result ≡ Ok r }
+{
+    record_of(line)
+}
+
+/// What `read_record` gives, without the law that no other is spelled.
+#[tactic(auto, unfolding(crate::specs::Record::record_refusal))]
+fn record_of(line: &Line) -> Result<Record, Refusal>
+    ensures { IsJudged (record_refusal line.now) (SpellsRecord line.now) result }
+{
+    match kind_of(line) {
+        Some(Kind::Li) => read_as::<Stop>(line),
+        Some(Kind::Cr) => read_as::<Change>(line),
+        Some(Kind::Lt) => read_as::<Terminus>(line),
+        Some(Kind::Lo) => read_as::<Origin>(line),
+        Some(Kind::Bx) => read_as::<Extra>(line),
+        Some(Kind::Bs) => read_as::<Basic>(line),
+        Some(Kind::Aa) => read_as::<Association>(line),
+        Some(Kind::Ti) => read_as::<Tiploc>(line),
+        Some(Kind::Hd) => read_as::<Header>(line),
+        Some(Kind::Zz) => read_as::<Trailer>(line),
+        Some(Kind::Ta | Kind::Td) => Err(Refusal::NotFull),
+        None => Err(Refusal::UnknownRecord),
+    }
+}
+
+/// What the line, which names the kind of `R`, is read as.
+fn read_as<R: Layout>(line: &Line) -> Result<Record, Refusal>
+    requires { kind_in line.now ≡ Some R.kind }
+    ensures { IsJudged (record_refusal line.now) (SpellsRecord line.now) result }
+{
+    match layout::read::<R>(line) {
+        Ok(value) => Ok(value.into_record()),
+        Err(why) => Err(why),
+    }
+}
+
+/// The plain line of the record.
+pub fn write_record(record: &Record) -> Line
+    ensures plain { result ≡ plain_line (record_table «record».now) }
+    ensures again { SpellsRecord result «record».now }
+{
+    match record {
+        Record::Header(header) => header.write(),
+        Record::Tiploc(tiploc) => tiploc.write(),
+        Record::Association(association) => association.write(),
+        Record::Basic(basic) => basic.write(),
+        Record::Extra(extra) => extra.write(),
+        Record::Origin(origin) => origin.write(),
+        Record::Stop(stop) => stop.write(),
+        Record::Change(change) => change.write(),
+        Record::Terminus(terminus) => terminus.write(),
+        Record::Trailer => Trailer.write(),
+    }
+}
+
+/// The plain line of the record that the line, which names this kind, spells, or the first reason
+/// why it spells none: what `read_record` and then `write_record` give. Of most plain lines of a
+/// journey no record is built.
+pub fn plain_line_of(kind: Kind, line: &Line) -> Result<Line, Refusal>
+    requires { kind_in line.now ≡ Some kind }
+    ensures exact { IsJudged (record_refusal line.now) (IsPlainOf Record record_table line.now)
+        result }
+    ensures only { (r : Record) → SpellsRecord line.now r
+        → result ≡ Ok (plain_line (record_table r)) }
+{
+    plain_line_of_any(kind, line)
+}
+
+/// What `plain_line_of` gives, without the law that no other record is spelled.
+// Few lines come here, so it is kept out of the loops over lines.
+#[inline(never)]
+#[tactic(auto, unfolding(crate::specs::Record::record_refusal))]
+fn plain_line_of_any(kind: Kind, line: &Line) -> Result<Line, Refusal>
+    requires { kind_in line.now ≡ Some kind }
+    ensures { IsJudged (record_refusal line.now) (IsPlainOf Record record_table line.now) result }
+{
+    match kind {
+        Kind::Li => plain_line_as::<Stop>(line),
+        Kind::Cr => plain_line_as::<Change>(line),
+        Kind::Lt => plain_line_as::<Terminus>(line),
+        Kind::Lo => plain_line_as::<Origin>(line),
+        Kind::Bx => plain_line_as::<Extra>(line),
+        Kind::Bs => plain_line_as::<Basic>(line),
+        Kind::Aa => plain_line_as::<Association>(line),
+        Kind::Ti => plain_line_as::<Tiploc>(line),
+        Kind::Hd => plain_line_as::<Header>(line),
+        Kind::Zz => plain_line_as::<Trailer>(line),
+        Kind::Td | Kind::Ta => Err(Refusal::NotFull),
+    }
+}
+
+/// The plain line of what the line, which names the kind of `R`, is read as.
+fn plain_line_as<R: Layout>(line: &Line) -> Result<Line, Refusal>
+    requires { kind_in line.now ≡ Some R.kind }
+    ensures { IsJudged (record_refusal line.now) (IsPlainOf Record record_table line.now) result }
+{
+    layout::plain_line_of::<R>(line)
+}
+
+/// Whether the line is the plain line of a record of this kind, and spells it, as far as one pass
+/// over its columns tells. A `false` costs time alone: `plain_line_of` answers then.
+// Where the kind is known, this leaves the kind's own test alone.
+#[inline]
+pub fn is_plain_line(kind: Kind, line: &Line) -> bool
+    ensures { IsTrue result → IsJudged (record_refusal line.now)
+        (IsPlainOf Record record_table line.now) (Ok line.now) }
+{
+    match kind {
+        Kind::Li => is_plain_as::<Stop>(line),
+        Kind::Cr => is_plain_as::<Change>(line),
+        Kind::Lt => is_plain_as::<Terminus>(line),
+        Kind::Lo => is_plain_as::<Origin>(line),
+        Kind::Bx => is_plain_as::<Extra>(line),
+        Kind::Bs => is_plain_as::<Basic>(line),
+        Kind::Aa => is_plain_as::<Association>(line),
+        Kind::Ti => is_plain_as::<Tiploc>(line),
+        Kind::Hd => is_plain_as::<Header>(line),
+        Kind::Zz => is_plain_as::<Trailer>(line),
+        Kind::Ta | Kind::Td => false,
+    }
+}
+
+/// Whether the line is the plain line of an `R`, and spells it.
+#[inline]
+fn is_plain_as<R: Layout>(line: &Line) -> bool
+    ensures { IsTrue result → IsJudged (record_refusal line.now)
+        (IsPlainOf Record record_table line.now) (Ok line.now) }
+{
+    R::is_plain(line)
 }

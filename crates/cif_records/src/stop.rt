@@ -3,7 +3,6 @@ ghost use Rattle.std.specs.Prelude.{◌≡◌, IsTrue, Ok};
 ghost use Rattle.cif_columns.specs.Field.{plain_line};
 ghost use Rattle.cif_columns.specs.Line.{IsLine};
 ghost use Rattle.cif_records.specs.Checks.{IsJudged};
-ghost use Rattle.cif_records.specs.Stop.{stop_refusal};
 
 use crate::Record;
 use crate::checks::{check_identity, public_time_at, work_time_at};
@@ -71,7 +70,7 @@ static PLAIN: PlainTest = PlainTest {
 impl Layout for Stop {
     ghost use Rattle.std.specs.Prelude.{refl, ◌≡◌, codes};
     ghost use Rattle.cif_columns.specs.Field.{StandsIn, columns, public_time, working_time};
-    ghost use Rattle.cif_records.specs.SpellsStop.{table_of};
+    ghost use Rattle.cif_records.specs.Stop.{stop_refusal, stop_table};
     ghost use Rattle.cif_records.specs.declared.kind.Kind.TheVariants.{Li};
     ghost use Rattle.cif_records.specs.declared.record.Record.TheVariants as of;
 
@@ -81,7 +80,7 @@ impl Layout for Stop {
 
     ghost as_record = { of.Stop };
 
-    ghost table = { table_of };
+    ghost table = { stop_table };
 
     ghost refusal = { stop_refusal };
 
@@ -159,7 +158,7 @@ impl Layout for Stop {
 
 impl Stop {
     ghost use Rattle.cif_records.specs.declared.stop.Stop.{Stop};
-    ghost use Rattle.cif_records.specs.SpellsStop.{SpellsStop, table_of};
+    ghost use Rattle.cif_records.specs.Stop.{SpellsStop, stop_refusal, stop_table};
 
     /// The location on the way that the line spells, or the first reason in column order why it
     /// spells none: UnknownRecord (columns 1 to 2), BadTime (columns 11 to 33).
@@ -176,7 +175,7 @@ impl Stop {
     pub fn are_plain(columns: &[u8; LINE_WIDTH]) -> bool
         ensures line { IsTrue result → IsLine columns.now }
         ensures plain { IsTrue result → (r : Stop) × SpellsStop columns.now r
-            × (plain_line (table_of r) ≡ columns.now) }
+            × (plain_line (stop_table r) ≡ columns.now) }
     {
         // Of other kinds this spares the test.
         if columns[0] != b'L' || columns[1] != b'I' {
@@ -188,7 +187,7 @@ impl Stop {
     /// The plain line: spare columns are spaces, texts stand at the left, and activity codes are
     /// packed to the left.
     pub fn write(&self) -> Line
-        ensures plain { result ≡ plain_line (table_of self.now) }
+        ensures plain { result ≡ plain_line (stop_table self.now) }
         ensures again { SpellsStop result self.now }
     {
         layout::write(self)

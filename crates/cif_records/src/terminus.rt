@@ -2,7 +2,6 @@
 ghost use Rattle.std.specs.Prelude.{◌≡◌, Ok};
 ghost use Rattle.cif_columns.specs.Field.{plain_line};
 ghost use Rattle.cif_records.specs.Checks.{IsJudged};
-ghost use Rattle.cif_records.specs.Terminus.{terminus_refusal};
 
 use crate::Record;
 use crate::checks::{EndTimes, check_identity, public_time_at, work_time_at};
@@ -45,7 +44,7 @@ static PLAIN: PlainTest = PlainTest {
 impl Layout for Terminus {
     ghost use Rattle.std.specs.Prelude.{refl, ◌≡◌, codes};
     ghost use Rattle.cif_columns.specs.Field.{StandsIn, columns, public_time, working_time};
-    ghost use Rattle.cif_records.specs.SpellsTerminus.{table_of};
+    ghost use Rattle.cif_records.specs.Terminus.{terminus_refusal, terminus_table};
     ghost use Rattle.cif_records.specs.declared.kind.Kind.TheVariants.{Lt};
     ghost use Rattle.cif_records.specs.declared.record.Record.TheVariants as of;
 
@@ -55,7 +54,7 @@ impl Layout for Terminus {
 
     ghost as_record = { of.Terminus };
 
-    ghost table = { table_of };
+    ghost table = { terminus_table };
 
     ghost refusal = { terminus_refusal };
 
@@ -113,7 +112,7 @@ impl Layout for Terminus {
 
 impl Terminus {
     ghost use Rattle.cif_records.specs.declared.terminus.Terminus.{Terminus};
-    ghost use Rattle.cif_records.specs.SpellsTerminus.{SpellsTerminus, table_of};
+    ghost use Rattle.cif_records.specs.Terminus.{SpellsTerminus, terminus_refusal, terminus_table};
 
     /// The last location that the line spells, or the first reason in column order why it spells
     /// none: UnknownRecord (columns 1 to 2), BadTime (columns 11 to 19).
@@ -127,7 +126,7 @@ impl Terminus {
     /// The plain line: spare columns are spaces, texts stand at the left, and activity codes are
     /// packed to the left.
     pub fn write(&self) -> Line
-        ensures plain { result ≡ plain_line (table_of self.now) }
+        ensures plain { result ≡ plain_line (terminus_table self.now) }
         ensures again { SpellsTerminus result self.now }
     {
         layout::write(self)

@@ -5,7 +5,6 @@ ghost use Rattle.std.specs.Ordering.{nat_cmp};
 ghost use Rattle.cif_columns.specs.Field.{plain_line};
 ghost use Rattle.cif_columns.specs.Line.{ArePrintable};
 ghost use Rattle.cif_records.specs.Checks.{IsJudged};
-ghost use Rattle.cif_records.specs.Tiploc.{tiploc_refusal, tiploc_table};
 
 use crate::Record;
 use crate::checks::check_identity;
@@ -27,6 +26,7 @@ pub struct Tiploc {
 impl Layout for Tiploc {
     ghost use Rattle.std.specs.Prelude.{refl, ◌≡◌, codes};
     ghost use Rattle.cif_columns.specs.Field.{columns};
+    ghost use Rattle.cif_records.specs.Tiploc.{tiploc_refusal, tiploc_table};
     ghost use Rattle.cif_records.specs.declared.kind.Kind.TheVariants.{Ti};
     ghost use Rattle.cif_records.specs.declared.record.Record.TheVariants as of;
 
@@ -36,7 +36,7 @@ impl Layout for Tiploc {
 
     ghost as_record = { of.Tiploc };
 
-    ghost table = { λ t. tiploc_table t.columns };
+    ghost table = { tiploc_table };
 
     ghost refusal = { tiploc_refusal };
 
@@ -72,7 +72,7 @@ impl Layout for Tiploc {
 
 impl Tiploc {
     ghost use Rattle.cif_records.specs.declared.tiploc.Tiploc.{Tiploc};
-    ghost use Rattle.cif_records.specs.SpellsTiploc.{SpellsTiploc};
+    ghost use Rattle.cif_records.specs.Tiploc.{SpellsTiploc, tiploc_refusal, tiploc_table};
 
     /// The location that the line spells, or UnknownRecord (columns 1 to 2).
     pub fn read(line: &Line) -> Result<Tiploc, Refusal>
@@ -84,7 +84,7 @@ impl Tiploc {
 
     /// The plain line: columns 73 to 80 are spaces.
     pub fn write(&self) -> Line
-        ensures plain { result ≡ plain_line (tiploc_table self.now.columns) }
+        ensures plain { result ≡ plain_line (tiploc_table self.now) }
         ensures again { SpellsTiploc result self.now }
     {
         layout::write(self)

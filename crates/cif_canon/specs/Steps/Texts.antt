@@ -9,8 +9,8 @@ use Rattle.cif_columns.specs.declared.stp.Stp.TheVariants.{P}
 use Rattle.cif_extract.specs.BodyParts.{BodyParts}
 use Rattle.cif_extract.specs.ExtractParts.{ExtractParts}
 use Rattle.cif_extract.specs.Texts.{schedule_lines}
-use Rattle.cif_records.specs.Association.{association_table}
-use Rattle.cif_records.specs.SpellsHeader.{header_table}
+use Rattle.cif_records.specs.Association.{association_rows}
+use Rattle.cif_records.specs.Header.{header_table}
 use Rattle.cif_records.specs.Tiploc.{tiploc_table}
 use Rattle.cif_records.specs.Trailer.{trailer_table}
 use Rattle.cif_records.specs.declared.assoc_body.AssocBody.{AssocBody}
@@ -43,10 +43,10 @@ run_text text entries run = text_if text (record_at entries run)
 
 -- the lines of a location, a permanent association, a permanent schedule
 abbrev pub tiploc_text : Tiploc → List ℕ
-tiploc_text t = plain_line (tiploc_table t.columns) ++ (10 ∷ [])
+tiploc_text t = plain_line (tiploc_table t) ++ (10 ∷ [])
 
 abbrev pub association_text : AssocKey × Permanent AssocBody → List ℕ
-association_text e = plain_line (association_table e.0 e.1.first e.1.last e.1.days P (Some e.1.body)) ++ (10 ∷ [])
+association_text e = plain_line (association_rows e.0 e.1.first e.1.last e.1.days P (Some e.1.body)) ++ (10 ∷ [])
 
 abbrev pub schedule_text : List ℕ × Permanent BodyParts → List ℕ
 schedule_text e = lines_text (schedule_lines e.0 e.1.first e.1.last e.1.days P (Some e.1.body))

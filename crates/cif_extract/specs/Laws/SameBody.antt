@@ -9,7 +9,7 @@ use Rattle.std.specs.Cmp.Lexicographic.{pointwise, pointwise_decides, bytes_deci
 use Rattle.std.specs.Cmp.{IsEquivalence, IsPartialEquivalence, partial_equiv_from_equiv}
 use Rattle.std.specs.Option.{option_eq}
 use Rattle.cif_extract.specs.BodyParts.{BodyParts}
-use Rattle.cif_extract.specs.PartsEq.{parts_eq}
+use Rattle.cif_extract.specs.BodyParts.{parts_eq}
 use Rattle.cif_extract.specs.contracts.call.CallPartialEq.TheImpl as call
 use Rattle.cif_extract.specs.declared.call.Call.{Call}
 use Rattle.cif_extract.specs.declared.call.Call.TheVariants.{At, Turn}

@@ -1,5 +1,5 @@
 -- What a reading has come to, for the contracts of the reader's own steps. No clause of a public function cites it.
-use Rattle.std.specs.Prelude.{◌≡◌, ◌⊎◌, ℕ, List, [], ◌∷◌, ◌++◌, Option, None, Some, Result, Ok, Err, IfSome, is_some, map, true, false}
+use Rattle.std.specs.Prelude.{◌≡◌, refl, ◌⊎◌, ℕ, Bool, List, [], ◌∷◌, ◌++◌, Option, None, Some, Result, Ok, Err, IfSome, is_some, map, true, false}
 use Rattle.cif_columns.specs.Field.{AllStandIn, plain_line}
 use Rattle.cif_columns.specs.Line.{IsLine}
 use Rattle.cif_columns.specs.declared.refusal.Refusal.{Refusal}
@@ -9,24 +9,26 @@ use Rattle.cif_extract.specs.Call.{call_record}
 use Rattle.cif_extract.specs.ExtractParts.{ExtractParts}
 use Rattle.cif_extract.specs.FirstRefusal.{order_refusal}
 use Rattle.cif_extract.specs.Grammar.{AreExtract, AreSchedules, HasTerms, records_before_trailer}
-use Rattle.cif_extract.specs.Steps.Place.{after_extra, record_at}
+use Rattle.cif_extract.specs.OrderOfRecords.{after_extra}
 use Rattle.cif_extract.specs.declared.call.Call.{Call}
-use Rattle.cif_extract.specs.declared.opened.Opened.{Opened}
+use Rattle.cif_extract.specs.declared.fault.Fault.{Fault}
+use Rattle.cif_extract.specs.declared.fault.Fault.TheVariants as fault
 use Rattle.cif_extract.specs.declared.place.Place.{Place}
 use Rattle.cif_extract.specs.declared.place.Place.TheVariants as at
 use Rattle.cif_extract.specs.declared.reading.Reading.{Reading}
 use Rattle.cif_extract.specs.declared.schedule.Schedule.{Schedule}
-use Rattle.cif_extract.specs.declared.take_fault.TakeFault.{TakeFault}
-use Rattle.cif_extract.specs.declared.take_fault.TakeFault.TheVariants as untaken
+use Rattle.cif_extract.specs.declared.reading.TakeFault.{TakeFault}
+use Rattle.cif_extract.specs.declared.reading.TakeFault.TheVariants as untaken
+use Rattle.cif_records.specs.Basic.{terms_of}
 use Rattle.cif_records.specs.Bodies.{has_body}
 use Rattle.cif_records.specs.Checks.{first_of}
 use Rattle.cif_records.specs.Detail.{detail_table}
-use Rattle.cif_records.specs.Record.{refusal_as}
-use Rattle.cif_records.specs.SpellsRecord.{SpellsRecord, record_table}
-use Rattle.cif_records.specs.SpellsStop.{SpellsStop, table_of as stop_table}
+use Rattle.cif_records.specs.Record.{record_table, refusal_as, SpellsRecord}
+use Rattle.cif_records.specs.Stop.{SpellsStop, stop_table}
 use Rattle.cif_records.specs.declared.stop.Stop.{Stop}
 use Rattle.cif_records.specs.declared.association.Association.{Association}
 use Rattle.cif_records.specs.declared.basic.Basic.{Basic}
+use Rattle.cif_records.specs.declared.basic.BasicTerms.{BasicTerms}
 use Rattle.cif_records.specs.declared.detail.Detail.{Detail}
 use Rattle.cif_records.specs.declared.extra.Extra.{Extra}
 use Rattle.cif_records.specs.declared.header.Header.{Header}
@@ -44,7 +46,7 @@ pub record Progress : Type 0 where
   pub tiplocs : List Tiploc
   pub associations : List Association
   pub schedules : List Schedule
-  pub opened : Option Opened
+  pub opened : Option BasicTerms
   pub lines : List (List ℕ)
 
 abbrev pub progress_of : Reading → Progress
@@ -58,74 +60,54 @@ progress_of r = record {
   lines = r.lines;
 }
 
--- a schedule that has been opened by a BS of a letter with a body
-abbrev pub opened_by : (b : Basic) → true ≡ has_body b.letter → Opened
-opened_by b runs = record {
-  uid = b.uid;
-  first = b.first;
-  last = b.last;
-  days = b.days;
-  letter = b.letter;
-  in_order = b.in_order;
-  runs = runs;
-}
-
--- that schedule with its body
-abbrev pub schedule_with : Opened → BodyParts → Schedule
-schedule_with o body = record {
-  uid = o.uid;
-  first = o.first;
-  last = o.last;
-  days = o.days;
-  letter = o.letter;
-  body = Some body;
-  in_order = o.in_order;
-  bodied = o.runs;
-}
-
--- the schedule of a BS of the letter that has no body
-abbrev pub cancellation : (b : Basic) → false ≡ has_body b.letter → Schedule
-cancellation b none = record {
-  uid = b.uid;
-  first = b.first;
-  last = b.last;
-  days = b.days;
-  letter = b.letter;
-  body = None;
-  in_order = b.in_order;
-  bodied = none;
+-- the schedule of these terms, with this body or none
+abbrev pub schedule_of : (t : BasicTerms) → (body : Option BodyParts) → is_some body ≡ has_body t.letter → Schedule
+schedule_of t body bodied = record {
+  uid = t.uid;
+  first = t.first;
+  last = t.last;
+  days = t.days;
+  letter = t.letter;
+  body = body;
+  in_order = t.in_order;
+  bodied = bodied;
 }
 
 -- a BS, by its detail
 abbrev pub begun : Progress → (b : Basic) → (d : Option Detail) → is_some d ≡ has_body b.letter → Progress
 begun p b None none = record p {
   place = at.Cancelled;
-  schedules = p.schedules ++ (cancellation b none ∷ []);
+  schedules = p.schedules ++ (schedule_of (terms_of b) None none ∷ []);
   opened = None;
 }
 begun p b (Some d) runs = record p {
   place = at.Basic;
-  opened = Some (opened_by b runs);
+  opened = Some (terms_of b);
   lines = plain_line (detail_table d) ∷ [];
 }
 
 -- the lines and a plain line more, if the schedule that is being read has a body
-abbrev pub with_kept : Option Opened → List (List ℕ) → List ℕ → List (List ℕ)
+abbrev pub with_kept : Option BasicTerms → List (List ℕ) → List ℕ → List (List ℕ)
 with_kept None lines line = lines
-with_kept (Some o) lines line = lines ++ (line ∷ [])
+with_kept (Some t) lines line = lines ++ (line ∷ [])
 
 -- the plain line of a record, kept if its schedule has a body
-abbrev pub kept : Option Opened → List (List ℕ) → Record → List (List ℕ)
+abbrev pub kept : Option BasicTerms → List (List ℕ) → Record → List (List ℕ)
 kept opened lines r = with_kept opened lines (plain_line (record_table r))
 
 -- a reading that keeps a plain line
 abbrev pub keeping : Progress → List ℕ → Progress
 keeping p line = record p { lines = with_kept p.opened p.lines line }
 
+-- the schedules so far, and one of these terms with this body, if their letter has one
+abbrev pub with_schedule : List Schedule → (t : BasicTerms) → BodyParts → (runs : Bool) → runs ≡ has_body t.letter → List Schedule
+with_schedule schedules t body true runs = schedules ++ (schedule_of t (Some body) runs ∷ [])
+with_schedule schedules t body false runs = schedules
+
 -- the schedules so far, and the one that has been opened with these lines
-abbrev pub closed : List Schedule → Option Opened → List (List ℕ) → List Schedule
+abbrev pub closed : List Schedule → Option BasicTerms → List (List ℕ) → List Schedule
 closed schedules None lines = schedules
-closed schedules (Some o) lines = schedules ++ (schedule_with o (parts_in lines) ∷ [])
+closed schedules (Some t) lines = with_schedule schedules t (parts_in lines) (has_body t.letter) refl
 
 -- what one record more comes to
 abbrev pub step : Progress → Record → Progress
@@ -147,7 +129,7 @@ step p of.Trailer = record p { place = at.Ended }
 
 -- the first reason to refuse a line that stands here
 abbrev pub refusal_here : Place → Option Kind → List ℕ → Option Refusal
-refusal_here place kind line = first_of (order_refusal (record_at place) kind ∷ refusal_as kind line ∷ [])
+refusal_here place kind line = first_of (order_refusal place kind ∷ refusal_as kind line ∷ [])
 
 -- the plain line that is kept of a record, or of its detail, spells it again
 abbrev pub IsKeepable : Record → Type 0
@@ -173,10 +155,10 @@ IsKept refusal line before (Err (untaken.Refused why)) after = refusal ≡ Some 
 IsKept refusal line before (Err untaken.Memory) after = Unit {0}
 
 -- what closing a schedule gives: one schedule more, with the body that the lines keep
-abbrev pub IsClosed : Progress → Opened → Result Unit TakeFault → Progress → Type 0
-IsClosed before o (Ok done) after = after ≡ record before { schedules = closed before.schedules (Some o) before.lines }
-IsClosed before o (Err (untaken.Refused why)) after = ⊥
-IsClosed before o (Err untaken.Memory) after = Unit {0}
+abbrev pub IsClosed : Progress → BasicTerms → Result Unit TakeFault → Progress → Type 0
+IsClosed before t (Ok done) after = after ≡ record before { schedules = closed before.schedules (Some t) before.lines }
+IsClosed before t (Err (untaken.Refused why)) after = ⊥
+IsClosed before t (Err untaken.Memory) after = Unit {0}
 
 -- The line is the plain line of a location on the way, and one may stand at this place.
 pub record GoesOnPlainly (place : Place) (line : List ℕ) : Type 0 where
@@ -198,7 +180,7 @@ pub record IsOpened (p : Progress) (earlier : List Schedule) (b : Basic) (furthe
   pub detail : Detail
   pub has : b.detail ≡ Some detail
   pub runs : true ≡ has_body b.letter
-  pub opened : p.opened ≡ Some (opened_by b runs)
+  pub opened : p.opened ≡ Some (terms_of b)
   pub schedules : p.schedules ≡ earlier
   pub lines : KeepAll p.lines (kept_tables detail further)
 
@@ -291,3 +273,8 @@ IsHeld p x = (p.place ≡ at.Ended) × (p.header ≡ Some x.header) × (x ≡ pa
 -- a reading isn't whole: a trailer is missing, or everything
 abbrev pub IsUnfinished : Progress → Type 0
 IsUnfinished p = (p.place ≡ at.Ended → ⊥) ⊎ (p.header ≡ None)
+
+-- why a line is not taken, as the fault at the line of this number
+abbrev pub fault_at_line : ℕ → TakeFault → Fault
+fault_at_line number (untaken.Refused why) = fault.Refused number why
+fault_at_line number untaken.Memory = fault.Memory

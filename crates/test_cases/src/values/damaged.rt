@@ -1,7 +1,8 @@
 //! Lines that are damaged in each way, and the two ways to their plain lines.
 use crate::case::text_of;
+use crate::values::records::plain_line;
 use cif_columns::Line;
-use cif_records::{is_plain_line, kind_of, plain_line_of, read_record, write_record};
+use cif_records::{is_plain_line, kind_of, read_record, write_record};
 use std::alloc::AllocError;
 use std::fmt::Write;
 
@@ -39,5 +40,5 @@ fn is_known(line: &Line) -> bool {
 
 /// Whether the line's plain line is that of the record that it is read as, or both are refused alike.
 fn has_one_plain_line(line: &Line) -> bool {
-    plain_line_of(line) == read_record(line).map(|record| write_record(&record))
+    plain_line(line) == read_record(line).map(|record| write_record(&record))
 }

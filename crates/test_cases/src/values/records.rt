@@ -22,10 +22,18 @@ pub(crate) fn push_kind(out: &mut String, line: &Line) -> Result<(), AllocError>
     }
 }
 
+/// The plain line of the record that the line spells, or why it spells none.
+pub(crate) fn plain_line(line: &Line) -> Result<Line, Refusal> {
+    match kind_of(line) {
+        Some(kind) => plain_line_of(kind, line),
+        None => Err(Refusal::UnknownRecord),
+    }
+}
+
 /// Appends the plain line of the record that the line spells.
 pub(crate) fn push_plain(out: &mut String, line: &Line) -> Result<(), AllocError> {
     let written = read_record(line).map(|record| write_record(&record));
-    let plain = plain_line_of(line);
+    let plain = plain_line(line);
     if written != plain {
         writeln!(out, "the record's line and the plain line differ:")?;
         push_judged(out, written)?;

@@ -1,6 +1,6 @@
 -- One call more: its line stands behind those so far (`more_by`), and its table behind those of the calls so far (`calls_more`).
 use Rattle.std.proofs.Common.{[], ◌∷◌, subst, map, take}
-use Rattle.cif_records.specs.SpellsRecord.{record_table}
+use Rattle.cif_records.specs.Record.{record_table}
 use Rattle.cif_extract.specs.Body.{KeepMore}
 use Rattle.cif_extract.specs.Call.{call_record}
 use Rattle.cif_extract.proofs.BodyLines.{calls_more, more_and_more, more_by}

@@ -1,6 +1,6 @@
 -- Whatever tables the lines kept before, they keep these and then those of the calls so far.
 use Rattle.std.proofs.Common.{map, take}
-use Rattle.cif_records.specs.SpellsRecord.{record_table}
+use Rattle.cif_records.specs.Record.{record_table}
 use Rattle.cif_extract.specs.Body.{KeepMore}
 use Rattle.cif_extract.specs.Call.{call_record}
 use Rattle.cif_extract.proofs.body.push_calls.Given as goal

@@ -2,7 +2,7 @@
 use Rattle.std.proofs.Common.{ap, drop, length, map, subst, sym, ◌∙◌, arith}
 use Rattle.cif_extract.specs.Body.{KeepAll}
 use Rattle.cif_extract.specs.BodyParts.{body_records}
-use Rattle.cif_records.specs.SpellsRecord.{record_table}
+use Rattle.cif_records.specs.Record.{record_table}
 use Rattle.cif_extract.proofs.Bodies.{keeps_further, keeps_view, kept_view}
 use Rattle.cif_extract.proofs.body.Body.further_lines.Goals as goal
 

@@ -4,7 +4,7 @@ use Rattle.std.proofs.Common.{[], ◌∷◌, ap, ◌∙◌}
 use Rattle.std.specs.Prelude.{◌++◌}
 use Rattle.std.specs.Option.{option_copied}
 use Rattle.cif_records.specs.Detail.{detail_table}
-use Rattle.cif_records.specs.SpellsRecord.{record_table}
+use Rattle.cif_records.specs.Record.{record_table}
 use Rattle.cif_records.specs.declared.record.Record.TheVariants.{Origin, Terminus}
 use Rattle.cif_extract.specs.BodyParts.{BodyParts}
 use Rattle.cif_extract.proofs.Bodies.{parts_in-keeps}

@@ -3,7 +3,7 @@ use Rattle.std.proofs.Common.{[], ap, get_or, length, subst, sym, ◌∙◌, ari
 use Rattle.std.specs.Prelude.{IfSome}
 use Rattle.cif_extract.specs.Body.{is_extra}
 use Rattle.cif_extract.proofs.Bodies.{kept_view}
-use Rattle.cif_records.specs.SpellsExtra.{SpellsExtra}
+use Rattle.cif_records.specs.Extra.{SpellsExtra}
 use Rattle.cif_extract.proofs.body.Body.second_line.Goals as goal
 
 pub line-requires : goal.line-requires

@@ -1,8 +1,10 @@
 -- A failed push is want of memory; else the schedule is put together from the steps, with the parts in the lines.
-use Rattle.std.proofs.Common.{◌∙◌, ◌++◌, ◌∷◌, [], List, ap}
+use Rattle.std.proofs.Common.{◌∙◌, ◌++◌, ◌∷◌, [], List, Some, ap, sym}
 use Rattle.std.proofs.lemmas.Result.{err_from_is_err_and}
-use Rattle.cif_extract.specs.Steps.Reading.{progress_of, schedule_with, Progress}
+use Rattle.cif_extract.specs.BodyParts.{BodyParts}
+use Rattle.cif_extract.specs.Steps.Reading.{Progress, progress_of, schedule_of}
 use Rattle.cif_extract.specs.declared.schedule.Schedule.{Schedule}
+use Rattle.cif_extract.proofs.Schedules.{closed_some}
 use Rattle.cif_extract.proofs.reading.Reading.close.Goals as goal
 
 pub returns-in_err-push : goal.returns-in_err-push
@@ -13,6 +15,8 @@ returns-in_err-push c =
 pub returns : goal.returns
 returns c =
     let before : Progress = progress_of c.args.self.now in
+    let runs = c.requires.runs in
     ap (λ (schedules : List Schedule). record before { schedules = schedules })
     (c.in_ok-push.ensures ∙ ap (λ (s : Schedule). before.schedules ++ (s ∷ []))
-    (c.schedule.ensures ∙ ap (schedule_with c.args.opened) c.in_ok-body.ensures))
+    (c.of.ensures runs ∙ ap (λ (b : BodyParts). schedule_of c.args.terms (Some b) runs) c.in_ok-body.ensures)
+    ∙ sym (closed_some before.schedules c.args.terms before.lines runs))

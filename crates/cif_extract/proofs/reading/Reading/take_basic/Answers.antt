@@ -3,6 +3,7 @@ use Rattle.std.proofs.Common.{refl, sym, ◌≡◌, ◌∙◌, ap, List, [], ◌
 use Rattle.cif_extract.specs.Steps.Reading.{progress_of}
 use Rattle.cif_records.specs.Bodies.{has_body}
 use Rattle.cif_records.specs.Detail.{detail_in}
+use Rattle.cif_records.specs.declared.basic.BasicTerms.{BasicTerms}
 use Rattle.cif_records.specs.declared.record.Record.TheVariants as of
 use Rattle.cif_records.proofs.Basics.{detail_there, no_detail_there}
 use Rattle.cif_extract.proofs.BasicSteps.{begun_none, begun_some, keepable_none, keepable_some}
@@ -12,7 +13,8 @@ pub returns-in_ok-push : goal.returns-in_ok-push
 returns-in_ok-push c =
     let (fine, there) = c.in_ok-terms.ensures in
     let b = there.basic in
-    let has : has_body b.letter ≡ true = ap has_body (sym there.terms.letter) ∙ sym c.has_body.ensures ∙ c.if-has_body.true in
+    let has : has_body b.letter ≡ true =
+    ap (λ (t : BasicTerms). has_body t.letter) (sym there.terms) ∙ sym c.has_body.ensures ∙ c.if-has_body.true in
     let some = detail_there c.args.line.now b there.spells has in
     let put : ◌≡◌ {A = List (List ℕ)} c.push.new.self (c.line_of.result ∷ []) = rw (c.in_ok-push.ensures, c.clear.ensures) refl in (
       fine,
@@ -21,8 +23,7 @@ returns-in_ok-push c =
         there.spells,
         keepable_some b (detail_in c.args.line.now) c.line_of.result some c.line_of.ensures.plain c.line_of.ensures.again,
         rw (put, c.line_of.ensures.plain)
-            (begun_some (progress_of c.args.self.now) b b.detail b.bodied (detail_in c.args.line.now) some _ there.terms.uid
-            there.terms.first there.terms.last there.terms.days there.terms.letter),
+            (begun_some (progress_of c.args.self.now) b _ there.terms b.detail b.bodied (detail_in c.args.line.now) some),
       ),
     )
 
@@ -30,7 +31,8 @@ pub returns-in_ok-push-2 : goal.returns-in_ok-push-2
 returns-in_ok-push-2 c =
     let (fine, there) = c.in_ok-terms.ensures in
     let b = there.basic in
-    let lacks : has_body b.letter ≡ false = ap has_body (sym there.terms.letter) ∙ sym c.has_body.ensures ∙ c.if-has_body.false in
+    let lacks : has_body b.letter ≡ false =
+    ap (λ (t : BasicTerms). has_body t.letter) (sym there.terms) ∙ sym c.has_body.ensures ∙ c.if-has_body.false in
     let none = no_detail_there b lacks in (
       fine,
       (
@@ -38,13 +40,6 @@ returns-in_ok-push-2 c =
         there.spells,
         keepable_none b none,
         rw c.in_ok-push-2.ensures
-            (begun_none (progress_of c.args.self.now) b b.detail b.bodied none _
-            (record {
-              uid = sym there.terms.uid;
-              first = sym there.terms.first;
-              last = sym there.terms.last;
-              days = sym there.terms.days;
-              letter = sym there.terms.letter;
-            }) refl),
+            (begun_none (progress_of c.args.self.now) b _ there.terms b.detail b.bodied none c.of.result c.of.ensures),
       ),
     )

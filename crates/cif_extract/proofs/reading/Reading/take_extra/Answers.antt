@@ -1,6 +1,6 @@
 -- `keep` names the record; by its kind it is a BX (`kind_here`), so it and the place after one are the step (`step_extra`).
 use Rattle.std.proofs.Common.{ap, ◌∙◌}
-use Rattle.cif_extract.specs.Steps.Place.{after_extra}
+use Rattle.cif_extract.specs.OrderOfRecords.{after_extra}
 use Rattle.cif_extract.specs.Steps.Reading.{Progress, progress_of}
 use Rattle.cif_extract.proofs.TakenLines.{kind_here, step_extra}
 use Rattle.cif_records.specs.declared.kind.Kind.TheVariants.{Bx}

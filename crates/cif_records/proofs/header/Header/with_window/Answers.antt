@@ -2,7 +2,7 @@
 use Rattle.std.proofs.Common.{ℕ, List, ◌++◌, ap, ◌∙◌}
 use Rattle.cif_columns.specs.Day.{ddmmyy_in}
 use Rattle.cif_columns.specs.DayDigits.{ddmmyy_of}
-use Rattle.cif_records.specs.Header.{kept}
+use Rattle.cif_records.specs.HeaderColumns.{kept}
 use Rattle.cif_records.proofs.Windows.{within, written, still_wide, kept-front, kept-first, kept-last, kept-indicator, are_printable}
 use Rattle.cif_records.proofs.header.Header.with_window.Goals as goal
 

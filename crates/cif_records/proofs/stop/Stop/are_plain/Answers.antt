@@ -1,6 +1,6 @@
 -- The test asks for bytes of lines alone, and for the table of the location on the way in the line: both by `refl`.
 use Rattle.std.proofs.Common.{refl}
-use Rattle.cif_records.specs.SpellsStop.{stop_in, table_of}
+use Rattle.cif_records.specs.Stop.{stop_in, stop_table}
 use Rattle.cif_records.proofs.stop.Stop.are_plain.Goals as goal
 
 pub returns-clause-line : goal.returns-clause-line
@@ -9,5 +9,5 @@ returns-clause-line c = λ yes. c.passes_columns.ensures.line yes refl
 pub returns-clause-plain : goal.returns-clause-plain
 returns-clause-plain c = λ yes.
     let columns = c.args.columns.now in
-    let plain = c.passes_columns.ensures.plain yes refl (table_of (stop_in columns)) refl refl in
+    let plain = c.passes_columns.ensures.plain yes refl (stop_table (stop_in columns)) refl refl in
     (stop_in columns, plain.0, plain.1)
