@@ -1,6 +1,6 @@
 -- The last record of a schedule, and with it any record more, where it may stand.
 use Rattle.std.proofs.Common.{◌≡◌, List, [], ◌∷◌, ◌++◌, true, Option, None, Some, ap, refl, sym, ◌∙◌, subst, append_assoc}
-use Rattle.std.proofs.Common.{append-nil, inr, ⊎_elim}
+use Rattle.std.proofs.Common.{append-nil, inr, ⊎_elim, true≢false}
 use Rattle.cif_columns.specs.Field.{plain_line}
 use Rattle.cif_extract.specs.Body.{KeepBody, KeepSomeBody, parts_in}
 use Rattle.cif_extract.specs.BodyParts.{BodyParts, extra_records, journey_records}
@@ -97,18 +97,18 @@ module _ (records : List Record) (p : Progress) (t : Terminus) where
 
   terminus_where : (place : Place) → place ≡ p.place → Again (of.Terminus t) → HasReadAt place records p → may_stand place Lt ≡ true →
       HasRead (records ++ (of.Terminus t ∷ [])) (step p (of.Terminus t))
-  terminus_where at.Start e again h may = cc
-  terminus_where at.Tiplocs e again h may = cc
-  terminus_where at.Associations e again h may = cc
-  terminus_where at.Basic e again h may = cc
-  terminus_where at.Extra e again h may = cc
-  terminus_where at.Cancelled e again h may = cc
-  terminus_where at.CancelledExtra e again h may = cc
+  terminus_where at.Start e again h may = absurd (true≢false (sym may))
+  terminus_where at.Tiplocs e again h may = absurd (true≢false (sym may))
+  terminus_where at.Associations e again h may = absurd (true≢false (sym may))
+  terminus_where at.Basic e again h may = absurd (true≢false (sym may))
+  terminus_where at.Extra e again h may = absurd (true≢false (sym may))
+  terminus_where at.Cancelled e again h may = absurd (true≢false (sym may))
+  terminus_where at.CancelledExtra e again h may = absurd (true≢false (sym may))
   terminus_where at.Journey e again h may =
       let (b, x, o, calls, own, or) = own_at records p at.Journey e h in
       ⊎_elim (close_opened h b x o calls own again) (close_cancelled h b x o calls own) or
-  terminus_where at.Schedules e again h may = cc
-  terminus_where at.Ended e again h may = cc
+  terminus_where at.Schedules e again h may = absurd (true≢false (sym may))
+  terminus_where at.Ended e again h may = absurd (true≢false (sym may))
 
   -- where a journey has begun, and its schedule has a body
   keeps_journey : (place : Place) → place ≡ p.place → place ≡ at.Journey → HasReadAt place records p → (o : Opened) → p.opened ≡ Some o →

@@ -1,6 +1,6 @@
 -- One record more, where it may stand.
 use Rattle.std.proofs.Common.{◌≡◌, List, [], ◌∷◌, ◌++◌, map, true, Option, None, Some, ap, refl, sym, ◌∙◌, subst, append_assoc}
-use Rattle.std.proofs.Common.{append-nil, inl}
+use Rattle.std.proofs.Common.{append-nil, inl, true≢false}
 use Rattle.std.proofs.lemmas.List.{map-append}
 use Rattle.cif_extract.specs.BodyParts.{extra_records}
 use Rattle.cif_extract.specs.Grammar.{AreSchedule, AreSchedules, records_before_trailer}
@@ -66,22 +66,22 @@ module _ (records : List Record) (p : Progress) where
   own_at place e w = subst (λ here. HasOwn here p w.earlier w.own) (sym e) w.here
 
   pub closed_where : (place : Place) → place ≡ p.place → HasReadAt place records p → may_stand place Bs ≡ true → AreClosed records p
-  closed_where at.Start e h may = cc
+  closed_where at.Start e h may = absurd (true≢false (sym may))
   closed_where at.Tiplocs e h may =
       let (none, earlier, schedules, associations) = own_at at.Tiplocs e h in with_none h none (earlier ∙ sym schedules)
   closed_where at.Associations e h may =
       let (none, earlier, schedules) = own_at at.Associations e h in with_none h none (earlier ∙ sym schedules)
-  closed_where at.Basic e h may = cc
-  closed_where at.Extra e h may = cc
+  closed_where at.Basic e h may = absurd (true≢false (sym may))
+  closed_where at.Extra e h may = absurd (true≢false (sym may))
   closed_where at.Cancelled e h may =
       let (b, own, c) = own_at at.Cancelled e h in
       with_one h c.schedule c.schedules (subst (λ rs. AreSchedule rs c.schedule) (sym own) (cancelled_alone h.earlier b c None))
   closed_where at.CancelledExtra e h may =
       let (b, x, own, c) = own_at at.CancelledExtra e h in
       with_one h c.schedule c.schedules (subst (λ rs. AreSchedule rs c.schedule) (sym own) (cancelled_alone h.earlier b c (Some x)))
-  closed_where at.Journey e h may = cc
+  closed_where at.Journey e h may = absurd (true≢false (sym may))
   closed_where at.Schedules e h may = let (none, all) = own_at at.Schedules e h in with_none h none (sym all)
-  closed_where at.Ended e h may = cc
+  closed_where at.Ended e h may = absurd (true≢false (sym may))
 
   pub closed_here : HasRead records p → may_stand p.place Bs ≡ true → AreClosed records p
   closed_here h may = closed_where p.place refl h may
@@ -121,15 +121,15 @@ module _ (records : List Record) (p : Progress) where
     are = refl;
     here = (refl, refl, n.schedules, n.associations);
   }
-  header_where header at.Tiplocs h may = cc
-  header_where header at.Associations h may = cc
-  header_where header at.Basic h may = cc
-  header_where header at.Extra h may = cc
-  header_where header at.Cancelled h may = cc
-  header_where header at.CancelledExtra h may = cc
-  header_where header at.Journey h may = cc
-  header_where header at.Schedules h may = cc
-  header_where header at.Ended h may = cc
+  header_where header at.Tiplocs h may = absurd (true≢false (sym may))
+  header_where header at.Associations h may = absurd (true≢false (sym may))
+  header_where header at.Basic h may = absurd (true≢false (sym may))
+  header_where header at.Extra h may = absurd (true≢false (sym may))
+  header_where header at.Cancelled h may = absurd (true≢false (sym may))
+  header_where header at.CancelledExtra h may = absurd (true≢false (sym may))
+  header_where header at.Journey h may = absurd (true≢false (sym may))
+  header_where header at.Schedules h may = absurd (true≢false (sym may))
+  header_where header at.Ended h may = absurd (true≢false (sym may))
 
   -- no schedule yet, and these associations
   front_only : (w : IsWithin records p) → w.own ≡ [] → w.earlier ≡ [] →
@@ -164,7 +164,7 @@ module _ (records : List Record) (p : Progress) where
 
   tiploc_where : (t : Tiploc) (place : Place) → place ≡ p.place → HasReadAt place records p → may_stand place Ti ≡ true →
       HasRead (records ++ (of.Tiploc t ∷ [])) (step p (of.Tiploc t))
-  tiploc_where t at.Start e h may = cc
+  tiploc_where t at.Start e h may = absurd (true≢false (sym may))
   tiploc_where t at.Tiplocs e h may =
       let (none, earlier, schedules, associations) = own_at at.Tiplocs e h in
       record {
@@ -177,14 +177,14 @@ module _ (records : List Record) (p : Progress) where
         are = refl;
         here = (refl, refl, schedules, associations);
       }
-  tiploc_where t at.Associations e h may = cc
-  tiploc_where t at.Basic e h may = cc
-  tiploc_where t at.Extra e h may = cc
-  tiploc_where t at.Cancelled e h may = cc
-  tiploc_where t at.CancelledExtra e h may = cc
-  tiploc_where t at.Journey e h may = cc
-  tiploc_where t at.Schedules e h may = cc
-  tiploc_where t at.Ended e h may = cc
+  tiploc_where t at.Associations e h may = absurd (true≢false (sym may))
+  tiploc_where t at.Basic e h may = absurd (true≢false (sym may))
+  tiploc_where t at.Extra e h may = absurd (true≢false (sym may))
+  tiploc_where t at.Cancelled e h may = absurd (true≢false (sym may))
+  tiploc_where t at.CancelledExtra e h may = absurd (true≢false (sym may))
+  tiploc_where t at.Journey e h may = absurd (true≢false (sym may))
+  tiploc_where t at.Schedules e h may = absurd (true≢false (sym may))
+  tiploc_where t at.Ended e h may = absurd (true≢false (sym may))
 
   association_here : (a : Association) (w : IsWithin records p) → w.own ≡ [] → w.earlier ≡ [] → p.schedules ≡ [] →
       IsWithin (records ++ (of.Association a ∷ [])) (step p (of.Association a))
@@ -201,18 +201,18 @@ module _ (records : List Record) (p : Progress) where
 
   association_where : (a : Association) (place : Place) → place ≡ p.place → HasReadAt place records p → may_stand place Aa ≡ true →
       HasRead (records ++ (of.Association a ∷ [])) (step p (of.Association a))
-  association_where a at.Start e h may = cc
+  association_where a at.Start e h may = absurd (true≢false (sym may))
   association_where a at.Tiplocs e h may =
       let (none, earlier, schedules, associations) = own_at at.Tiplocs e h in association_here a h none earlier schedules
   association_where a at.Associations e h may =
       let (none, earlier, schedules) = own_at at.Associations e h in association_here a h none earlier schedules
-  association_where a at.Basic e h may = cc
-  association_where a at.Extra e h may = cc
-  association_where a at.Cancelled e h may = cc
-  association_where a at.CancelledExtra e h may = cc
-  association_where a at.Journey e h may = cc
-  association_where a at.Schedules e h may = cc
-  association_where a at.Ended e h may = cc
+  association_where a at.Basic e h may = absurd (true≢false (sym may))
+  association_where a at.Extra e h may = absurd (true≢false (sym may))
+  association_where a at.Cancelled e h may = absurd (true≢false (sym may))
+  association_where a at.CancelledExtra e h may = absurd (true≢false (sym may))
+  association_where a at.Journey e h may = absurd (true≢false (sym may))
+  association_where a at.Schedules e h may = absurd (true≢false (sym may))
+  association_where a at.Ended e h may = absurd (true≢false (sym may))
 
   pub header_step : (x : Header) → HasRead records p → may_stand p.place Hd ≡ true →
       HasRead (records ++ (of.Header x ∷ [])) (step p (of.Header x))

@@ -1,6 +1,6 @@
 -- One record more of a schedule, where it may stand.
 use Rattle.std.proofs.Common.{◌≡◌, ◌⊎◌, ℕ, List, [], ◌∷◌, ◌++◌, true, Option, None, Some, is_some, ap, refl, ◌∙◌, subst, append_assoc}
-use Rattle.std.proofs.Common.{inl, inr, ⊎_elim, IfSome}
+use Rattle.std.proofs.Common.{inl, inr, ⊎_elim, IfSome, sym, true≢false}
 use Rattle.cif_columns.specs.Field.{AllStandIn, plain_line}
 use Rattle.cif_extract.specs.BodyParts.{extra_records}
 use Rattle.cif_extract.specs.Call.{call_record}
@@ -124,22 +124,22 @@ module _ (records : List Record) (p : Progress) where
 
   extra_where : (x : Extra) (place : Place) → place ≡ p.place → Again (of.Extra x) → HasReadAt place records p → may_stand place Bx ≡ true →
       HasReadAt (after_extra place) (records ++ (of.Extra x ∷ [])) (with_line p (after_extra place) (of.Extra x))
-  extra_where x at.Start e again h may = cc
-  extra_where x at.Tiplocs e again h may = cc
-  extra_where x at.Associations e again h may = cc
+  extra_where x at.Start e again h may = absurd (true≢false (sym may))
+  extra_where x at.Tiplocs e again h may = absurd (true≢false (sym may))
+  extra_where x at.Associations e again h may = absurd (true≢false (sym may))
   extra_where x at.Basic e again h may =
       let (b, own, o) = own_at records p at.Basic e h in
       within_more at.Extra (of.Extra x) (of.Basic b ∷ of.Extra x ∷ []) h (ap (λ rs. rs ++ (of.Extra x ∷ [])) own)
       (b, x, refl, opened_more h.earlier b [] at.Extra (of.Extra x) again o)
-  extra_where x at.Extra e again h may = cc
+  extra_where x at.Extra e again h may = absurd (true≢false (sym may))
   extra_where x at.Cancelled e again h may =
       let (b, own, c) = own_at records p at.Cancelled e h in
       within_more at.CancelledExtra (of.Extra x) (of.Basic b ∷ of.Extra x ∷ []) h (ap (λ rs. rs ++ (of.Extra x ∷ [])) own)
       (b, x, refl, cancelled_more h.earlier b at.CancelledExtra (of.Extra x) c)
-  extra_where x at.CancelledExtra e again h may = cc
-  extra_where x at.Journey e again h may = cc
-  extra_where x at.Schedules e again h may = cc
-  extra_where x at.Ended e again h may = cc
+  extra_where x at.CancelledExtra e again h may = absurd (true≢false (sym may))
+  extra_where x at.Journey e again h may = absurd (true≢false (sym may))
+  extra_where x at.Schedules e again h may = absurd (true≢false (sym may))
+  extra_where x at.Ended e again h may = absurd (true≢false (sym may))
 
   -- LO, behind a BS and a BX or none
   origin_opened : (o : Origin) (w : IsWithin records p) (b : Basic) (x : Option Extra) → w.own ≡ of.Basic b ∷ extra_records x →
@@ -159,9 +159,9 @@ module _ (records : List Record) (p : Progress) where
 
   origin_where : (o : Origin) (place : Place) → place ≡ p.place → Again (of.Origin o) → HasReadAt place records p →
       may_stand place Lo ≡ true → HasRead (records ++ (of.Origin o ∷ [])) (step p (of.Origin o))
-  origin_where o at.Start e again h may = cc
-  origin_where o at.Tiplocs e again h may = cc
-  origin_where o at.Associations e again h may = cc
+  origin_where o at.Start e again h may = absurd (true≢false (sym may))
+  origin_where o at.Tiplocs e again h may = absurd (true≢false (sym may))
+  origin_where o at.Associations e again h may = absurd (true≢false (sym may))
   origin_where o at.Basic e again h may =
       let (b, own, opened) = own_at records p at.Basic e h in origin_opened o h b None own again (inl opened)
   origin_where o at.Extra e again h may =
@@ -170,20 +170,20 @@ module _ (records : List Record) (p : Progress) where
       let (b, own, c) = own_at records p at.Cancelled e h in origin_opened o h b None own again (inr c)
   origin_where o at.CancelledExtra e again h may =
       let (b, x, own, c) = own_at records p at.CancelledExtra e h in origin_opened o h b (Some x) own again (inr c)
-  origin_where o at.Journey e again h may = cc
-  origin_where o at.Schedules e again h may = cc
-  origin_where o at.Ended e again h may = cc
+  origin_where o at.Journey e again h may = absurd (true≢false (sym may))
+  origin_where o at.Schedules e again h may = absurd (true≢false (sym may))
+  origin_where o at.Ended e again h may = absurd (true≢false (sym may))
 
   -- LI and CR
   call_where : (call : Call) (place : Place) → place ≡ p.place → Again (call_record call) → HasReadAt place records p →
       may_stand place Li ≡ true → IsWithin (records ++ (call_record call ∷ [])) (with_line p at.Journey (call_record call))
-  call_where call at.Start e again h may = cc
-  call_where call at.Tiplocs e again h may = cc
-  call_where call at.Associations e again h may = cc
-  call_where call at.Basic e again h may = cc
-  call_where call at.Extra e again h may = cc
-  call_where call at.Cancelled e again h may = cc
-  call_where call at.CancelledExtra e again h may = cc
+  call_where call at.Start e again h may = absurd (true≢false (sym may))
+  call_where call at.Tiplocs e again h may = absurd (true≢false (sym may))
+  call_where call at.Associations e again h may = absurd (true≢false (sym may))
+  call_where call at.Basic e again h may = absurd (true≢false (sym may))
+  call_where call at.Extra e again h may = absurd (true≢false (sym may))
+  call_where call at.Cancelled e again h may = absurd (true≢false (sym may))
+  call_where call at.CancelledExtra e again h may = absurd (true≢false (sym may))
   call_where call at.Journey e again h may =
       let (b, x, o, calls, own, or) = own_at records p at.Journey e h in
       within_more at.Journey (call_record call) (of.Basic b ∷ begun_journey x o (calls ++ (call ∷ []))) h
@@ -198,8 +198,8 @@ module _ (records : List Record) (p : Progress) where
             (opened_more h.earlier b (begun_journey x o calls) at.Journey (call_record call) again opened)))
             (λ cancelled. inr (cancelled_more h.earlier b at.Journey (call_record call) cancelled)) or,
       )
-  call_where call at.Schedules e again h may = cc
-  call_where call at.Ended e again h may = cc
+  call_where call at.Schedules e again h may = absurd (true≢false (sym may))
+  call_where call at.Ended e again h may = absurd (true≢false (sym may))
 
   pub extra_step : (x : Extra) → Again (of.Extra x) → HasRead records p → may_stand p.place Bx ≡ true →
       HasReadAt (after_extra p.place) (records ++ (of.Extra x ∷ [])) (step p (of.Extra x))
