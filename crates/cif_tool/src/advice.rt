@@ -4,7 +4,7 @@ use crate::clash_lines::ClashLines;
 use crate::escaped::escape;
 use crate::input::{AgainInput, ExtractInput};
 use crate::line_again::{LONGEST, LineAgain, line_again};
-use crate::refused_columns::columns_refused;
+use crate::refused_columns::{RefusedColumns, columns_refused};
 use crate::words::{mistaken_date, mistaken_uid};
 use arrayvec::ArrayString;
 use cif_canon::explain_view;
@@ -41,19 +41,10 @@ pub(crate) fn advise<R: Files + Input, W: WriteDevice>(
     errors: &mut Sink<W>,
 ) {
     match fault {
-        Fault::Refused { line, why } => {
-            if right.is_touched() {
-                tell_refusal(right, *line, *why, errors);
-            } else {
-                tell_refusal(left, *line, *why, errors);
-            }
-        }
+        Fault::Refused { line, why } => tell_refusal(last_read(left, right), *line, *why, errors),
         Fault::Read => {
-            if right.is_touched() {
-                tell_failure(alloc, right.side(), right.name(), right.failure(), errors);
-            } else {
-                tell_failure(alloc, left.side(), left.name(), left.failure(), errors);
-            }
+            let input = last_read(left, right);
+            tell_failure(alloc, input.side(), input.name(), input.failure(), errors);
         }
         Fault::OutsideWindow => {
             tell_window(left, errors);
@@ -72,6 +63,14 @@ pub(crate) fn advise<R: Files + Input, W: WriteDevice>(
         }
         Fault::Write | Fault::Memory => {}
     }
+}
+
+/// The input that was read last: the right one only if it was read at all.
+fn last_read<'a, 'b, R: Files + Input>(
+    left: &'a ExtractInput<'b, R>,
+    right: &'a ExtractInput<'b, R>,
+) -> &'a ExtractInput<'b, R> {
+    if right.is_touched() { right } else { left }
 }
 
 /// Says what wasn't read or written, and why if the system told it.
@@ -267,19 +266,24 @@ fn tell_line<W: WriteDevice>(line: &LineAgain, why: Refusal, errors: &mut Sink<W
     if why == Refusal::BadLength {
         tell_length(line, errors);
     } else if let Some(refused) = columns_refused(line.bytes.as_slice(), why) {
-        let before = refused.first.saturating_sub(1);
-        let blanks = BLANKS.get(..before).unwrap_or("");
-        let carets = CARETS.get(before..refused.last).unwrap_or("");
-        tell(errors, &[blanks, carets]);
-        let mut first = Buffer::new();
-        let mut last = Buffer::new();
-        let first = first.format(refused.first);
-        let last = last.format(refused.last);
-        if refused.first == refused.last {
-            tell(errors, &["column ", first, ": ", refused.what]);
-        } else {
-            tell(errors, &["columns ", first, "-", last, ": ", refused.what]);
-        }
+        tell_columns(&refused, errors);
+    }
+}
+
+/// Says which columns are refused, under the line, and what must stand there.
+fn tell_columns<W: WriteDevice>(refused: &RefusedColumns, errors: &mut Sink<W>) {
+    let before = refused.first.saturating_sub(1);
+    let blanks = BLANKS.get(..before).unwrap_or("");
+    let carets = CARETS.get(before..refused.last).unwrap_or("");
+    tell(errors, &[blanks, carets]);
+    let mut first = Buffer::new();
+    let mut last = Buffer::new();
+    let first = first.format(refused.first);
+    let last = last.format(refused.last);
+    if refused.first == refused.last {
+        tell(errors, &["column ", first, ": ", refused.what]);
+    } else {
+        tell(errors, &["columns ", first, "-", last, ": ", refused.what]);
     }
 }
 

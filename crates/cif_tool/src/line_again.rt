@@ -34,20 +34,28 @@ pub(crate) fn line_again<F: Read>(file: &mut F, number: u64) -> Option<LineAgain
                 if *byte == b'\n' {
                     before -= 1;
                 }
-            } else if *byte == b'\n' {
-                if last == b'\r' {
-                    line.length = line.length.saturating_sub(1);
-                    line.bytes.truncate(line.length);
-                }
+            } else if ends_with(&mut line, &mut last, *byte) {
                 return Some(line);
-            } else if line.length == LONGEST {
-                return Some(line);
-            } else {
-                let _ = line.bytes.try_push(*byte);
-                line.length = line.length.saturating_add(1);
-                last = *byte;
             }
         }
     }
     None
+}
+
+/// Whether the line ends with this byte. If not, it goes on with it.
+fn ends_with(line: &mut LineAgain, last: &mut u8, byte: u8) -> bool {
+    if byte == b'\n' {
+        if *last == b'\r' {
+            line.length = line.length.saturating_sub(1);
+            line.bytes.truncate(line.length);
+        }
+        return true;
+    }
+    if line.length == LONGEST {
+        return true;
+    }
+    let _ = line.bytes.try_push(byte);
+    line.length = line.length.saturating_add(1);
+    *last = byte;
+    false
 }

@@ -88,14 +88,27 @@ fn chosen_job(alloc: Global, matches: &ArgMatches<'_>) -> Result<Job, JobFault>
         IsSomeAnd (subcommand_rows_of matches.now) (IsWordFault fault)) }
 {
     match matches.subcommand() {
-        Some(("normalise", inner)) => normalise_job(alloc, inner),
-        Some(("check", inner)) => check_job(alloc, inner),
-        Some(("compare", inner)) => compare_job(alloc, inner),
-        Some(("diff", inner)) => diff_job(alloc, inner),
-        Some(("day", inner)) => day_job(alloc, inner),
-        Some(("train", inner)) => train_job(alloc, inner),
-        Some(("explain", inner)) => explain_job(alloc, inner),
-        Some(("clashes", inner)) => clashes_job(alloc, inner),
+        Some((name, inner)) => named_job(alloc, name, inner),
+        None => unreachable!(),
+    }
+}
+
+/// What the subcommand of this name asks for.
+fn named_job(alloc: Global, name: &str, matches: &ArgMatches<'_>) -> Result<Job, JobFault>
+    requires { IsTaken (name.now, rows_of (found_of matches.now)) }
+    ensures ok { IfOk result (λ job. IsChosen job (name.now, rows_of (found_of matches.now))) }
+    ensures err { IfErr result (λ fault.
+        IsWordFault fault (name.now, rows_of (found_of matches.now))) }
+{
+    match name {
+        "normalise" => normalise_job(alloc, matches),
+        "check" => check_job(alloc, matches),
+        "compare" => compare_job(alloc, matches),
+        "diff" => diff_job(alloc, matches),
+        "day" => day_job(alloc, matches),
+        "train" => train_job(alloc, matches),
+        "explain" => explain_job(alloc, matches),
+        "clashes" => clashes_job(alloc, matches),
         _ => unreachable!(),
     }
 }
