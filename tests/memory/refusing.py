@@ -28,6 +28,11 @@ class Answer(NamedTuple):
         """Whether an allocation was refused."""
         return len(self.told) > 0
 
+    def said(self):
+        """What is printed of a run that isn't right."""
+        was = "refused" if self.refused else "not reached"
+        return f"{was}: status {self.status}, {len(self.stdout)} bytes of output, {self.stderr!r}"
+
 
 def library(work):
     """Builds the library that refuses, with the compiler of the kit that proves the program."""

@@ -79,9 +79,13 @@ impl<'a> Case<'a> {
 pub(crate) fn cases_of<'a>(alloc: Global, text: &'a str) -> Result<Vec<Case<'a>>, AllocError> {
     let mut cases = Vec::new(alloc);
     for (at, part) in text.split("\n== ").enumerate() {
-        if at > 0 {
-            cases.push(case_of(alloc, part)?)?;
-        } else if let Some(part) = part.strip_prefix("== ") {
+        // Only the first part begins with its mark, or has no case.
+        let headed = if at > 0 {
+            Some(part)
+        } else {
+            part.strip_prefix("== ")
+        };
+        if let Some(part) = headed {
             cases.push(case_of(alloc, part)?)?;
         }
     }

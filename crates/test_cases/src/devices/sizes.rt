@@ -4,9 +4,10 @@ use crate::case::{Case, LINE_BYTES, SIZES};
 use crate::devices::reading::push_counts;
 use cif_columns::{Sink, Source, WriteFault};
 use cif_extract::{
-    Extract, read_extract, write_association, write_head, write_schedule, write_tiploc,
+    Extract, Schedule, read_extract, write_association, write_head, write_schedule, write_tiploc,
     write_trailer,
 };
+use cif_records::Association;
 use std::alloc::{AllocError, Global};
 use std::fmt::Write;
 
@@ -65,29 +66,43 @@ fn write_records(
         write_tiploc(tiploc, sink)?;
     }
     for record in &extract.associations {
-        if let Some(body) = &record.body {
-            write_association(
-                &record.key,
-                body,
-                record.first,
-                record.last,
-                record.days,
-                sink,
-            )?;
-        }
+        write_with_body(record, sink)?;
     }
     for record in &extract.schedules {
-        if let Some(body) = &record.body {
-            let body = made_again(alloc, body).map_err(|_| WriteFault)?;
-            write_schedule(
-                &record.uid,
-                &body,
-                record.first,
-                record.last,
-                record.days,
-                sink,
-            )?;
-        }
+        write_made_again(alloc, record, sink)?;
     }
     write_trailer(sink)
+}
+
+fn write_with_body(record: &Association, sink: &mut Sink<Vec<u8>>) -> Result<(), WriteFault> {
+    match &record.body {
+        Some(body) => write_association(
+            &record.key,
+            body,
+            record.first,
+            record.last,
+            record.days,
+            sink,
+        ),
+        None => Ok(()),
+    }
+}
+
+fn write_made_again(
+    alloc: Global,
+    record: &Schedule,
+    sink: &mut Sink<Vec<u8>>,
+) -> Result<(), WriteFault> {
+    let Some(body) = &record.body else {
+        return Ok(());
+    };
+    let body = made_again(alloc, body).map_err(|_| WriteFault)?;
+    write_schedule(
+        &record.uid,
+        &body,
+        record.first,
+        record.last,
+        record.days,
+        sink,
+    )
 }

@@ -100,6 +100,11 @@ fn list_detail(listing: &mut Listing, detail: &Detail) {
     listing.put("detail.service_code", &detail.service_code.write());
     listing.put("detail.sector", &detail.sector.write());
     listing.put("detail.power", &detail.power.write());
+    list_later_detail(listing, detail);
+}
+
+/// Lists the fields of the detail from the timing load on.
+fn list_later_detail(listing: &mut Listing, detail: &Detail) {
     listing.put("detail.timing_load", &detail.timing_load.write());
     listing.put("detail.speed", &detail.speed.write());
     listing.put("detail.characteristics", &detail.characteristics.write());
@@ -160,6 +165,11 @@ fn list_change(listing: &mut Listing, change: &Change) {
     listing.put("service_code", &change.service_code.write());
     listing.put("sector", &change.sector.write());
     listing.put("power", &change.power.write());
+    list_later_change(listing, change);
+}
+
+/// Lists the fields of the change from the timing load on.
+fn list_later_change(listing: &mut Listing, change: &Change) {
     listing.put("timing_load", &change.timing_load.write());
     listing.put("speed", &change.speed.write());
     listing.put("characteristics", &change.characteristics.write());
