@@ -21,3 +21,4 @@ pub mod Leading
 pub mod LayerWinners
 pub mod FilledLayers
 pub mod ChangedDays
+pub mod Covering

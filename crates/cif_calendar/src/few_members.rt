@@ -14,7 +14,10 @@ use crate::entry::Entry;
 use crate::key_calendar::Calendar;
 use crate::piece::{Piece, add_piece};
 use crate::window::Window;
-use crate::winner::{BodiesDiffer, Standings, standings_from, winner_by, winners_by};
+use crate::winner::{
+    BodiesDiffer, Covering, Standings, standings_from, who_covers, winner_by, winners_by,
+    winners_of_one,
+};
 use cif_columns::Day;
 
 /// The first day from `first` on after which the record has ended or begins; `end` where there is
@@ -111,6 +114,37 @@ fn piece_from<E: Entry>(
         (IsFault (IsChosen (map E.terms entries.now) members.now) first last) }
 {
     let end = end_of_piece(entries, members, first, last);
+    match who_covers(entries, members, first) {
+        Covering::Nobody => Ok(Piece {
+            first,
+            last: end,
+            winners: [None; 7],
+        }),
+        Covering::Only(position) => Ok(Piece {
+            first,
+            last: end,
+            winners: winners_of_one(&entries[position], position, first, end),
+        }),
+        Covering::Several => judged_piece(entries, members, first, end),
+    }
+}
+
+/// The same, where several members lie over its dates, which end on `end`.
+fn judged_piece<E: Entry>(
+    entries: &[E],
+    members: &[usize],
+    first: Day,
+    end: Day,
+) -> Result<Piece, CalendarFault>
+    requires positions { All (λ i. i < length entries.now) members.now }
+    requires in_order { first ≤ end }
+    requires unbroken { IsUnbroken (IsChosen (map E.terms entries.now) members.now) first end }
+    ensures begins { IfOk result (λ p. p.first ≡ first) }
+    ensures ends { IfOk result (λ p. p.last ≡ end) }
+    ensures piece { IfOk result (IsPiece (map E.terms entries.now) members.now) }
+    ensures fault { IfErr result
+        (IsFault (IsChosen (map E.terms entries.now) members.now) first end) }
+{
     let standings = standings_from(entries, members, first, end);
     if let Some(winners) = winners_by(entries, &standings) {
         return Ok(Piece {

@@ -8,6 +8,7 @@ ghost use Rattle.cif_columns.specs.Stp.{letter};
 ghost use Rattle.cif_calendar.specs.Clash.{IsClash};
 ghost use Rattle.cif_calendar.specs.Pieces.{IsUnbroken};
 ghost use Rattle.cif_calendar.specs.Source.{IsChosen};
+ghost use Rattle.cif_calendar.specs.Steps.Covering.{AreWinnersOfOne, IsCovering};
 ghost use Rattle.cif_calendar.specs.Steps.Standing.{AreBelow, AreJudgedUpTo, AreStandings};
 ghost use Rattle.cif_calendar.specs.Steps.Standing.{Considers, IsBelow, Judges, LooksAt, Stands};
 
@@ -66,6 +67,58 @@ fn with_dates(days: DaysRun, first: Day, last: Day) -> DaysRun
         kept[usize::from(weekday)] = u16::from(later) <= more && days.has(weekday);
     }
     DaysRun::of(kept)
+}
+
+/// Which of some members lie over a day.
+#[derive(Clone, Copy)]
+pub(crate) enum Covering {
+    /// None of them.
+    Nobody,
+    /// One alone: its position in the entries.
+    Only(usize),
+    /// Several.
+    Several,
+}
+
+/// Which of the members lie over the day, whatever its weekday.
+pub(crate) fn who_covers<E: Entry>(entries: &[E], members: &[usize], day: Day) -> Covering
+    requires positions { All (λ i. i < length entries.now) members.now }
+    ensures { IsCovering (map E.terms entries.now) members.now day result }
+{
+    let mut covering = Covering::Nobody;
+    for i in members {
+        if covers(&entries[*i], day) {
+            match covering {
+                Covering::Nobody => covering = Covering::Only(*i),
+                _ => return Covering::Several,
+            }
+        }
+    }
+    covering
+}
+
+/// The winners of the dates from `first` to `last` where one entry alone lies over them, weekday by
+/// weekday.
+pub(crate) fn winners_of_one<E: Entry>(
+    entry: &E,
+    position: usize,
+    first: Day,
+    last: Day,
+) -> [Option<usize>; 7]
+    requires in_order { first ≤ last }
+    ensures { AreWinnersOfOne (E.terms entry.now) position first last result }
+{
+    let mut winners = [None; 7];
+    if entry.body().is_none() {
+        return winners;
+    }
+    let days = with_dates(entry.days(), first, last);
+    for weekday in 0..7u8 {
+        if days.has(weekday) {
+            winners[usize::from(weekday)] = Some(position);
+        }
+    }
+    winners
 }
 
 /// Who leads on each weekday, Monday first.

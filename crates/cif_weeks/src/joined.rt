@@ -212,7 +212,7 @@ impl Joined {
         } else {
             ArrayVec::new()
         };
-        self.week = Week::new(number);
+        self.week.restart(number);
         Ok(())
     }
 

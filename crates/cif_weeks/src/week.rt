@@ -118,6 +118,17 @@ impl Week {
         }
     }
 
+    /// Makes it another week, of which no day has been added.
+    pub(crate) fn restart(&mut self, number: u32)
+        ensures number { self.new.number ≡ number }
+        ensures last_alike { self.new.last_alike ≡ number }
+        ensures bodies { self.new.bodies.items ≡ [] }
+    {
+        self.number = number;
+        self.last_alike = number;
+        self.bodies.clear();
+    }
+
     /// Adds the day of a weekday, on which the entry at `source` is what runs.
     fn add<E: Entry>(&mut self, entries: &[E], weekday: u8, source: usize)
         requires weekday { weekday < 7 }

@@ -24,7 +24,7 @@ returns-clause-joined g c =
     let u = c.in_ok-places.ensures.runs in
     let p = c.in_ok-places.ensures.places in
     let later : c.args.self.now.week.number < c.args.day / 7 = omega (arith, c.if-number-self.false, j.week.begun) in
-    let next = c.new-self-2.ensures in
+    let next = c.restart.ensures in
     record {
       runs = λ last. subst (λ v. AreOpen c.args.form xs calendar v last (v * 7) runs) (sym next.number)
           (reached-runs c.args.form xs calendar c.requires.sources day it j later runs places u p last);
@@ -35,5 +35,5 @@ returns-clause-joined g c =
             | else-number-self-2 w ↦ rw (w.self-is, w.new-self.ensures) (reached-none c.args.form xs calendar c.requires.sources day it j later
                 runs places u p w.if-number-self-2.false)
           ]);
-      week = week-begins xs calendar c.requires.sources day it.week j.week later c.new-self-2.result next.number next.last_alike next.bodies;
+      week = week-begins xs calendar c.requires.sources day it.week j.week later c.restart.new.self next.number next.last_alike next.bodies;
     }
