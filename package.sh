@@ -4,7 +4,8 @@
 # Writes the packages of the built program into FOLDER:
 #
 #   cif-VERSION-x86_64-linux.tar.gz  the program, install.sh and what it installs, the documents and the examples
-#   cif_VERSION_amd64.deb            for Debian: what install.sh installs, below /usr, with the licence and the examples
+#   cif_VERSION_amd64.deb            for Debian: what install.sh installs, below /usr, with the licence, README.md,
+#                                    docs/FORMAT.md and the examples
 #   cif-VERSION.sha256               the SHA-256 of both, for `sha256sum -c`
 #
 # PATH_TO_CIF is the built program. Without it, that is crates/cif_tool/out/cif_tool. VERSION is what the program
@@ -62,6 +63,8 @@ put 644 "$root/usr/share/zsh/vendor-completions" "$root/usr/share/zsh/site-funct
 rm -r "$root/usr/share/zsh/site-functions"
 gzip -9n "$root/usr/share/man/man1/cif.1"
 put 644 "$root/usr/share/doc/cif/examples" "$top"/examples/*.cif
+put 644 "$root/usr/share/doc/cif" "$top/README.md"
+put 644 "$root/usr/share/doc/cif/docs" "$top/docs/FORMAT.md"
 install -m 644 "$top/LICENSE" "$root/usr/share/doc/cif/copyright"
 dependencies > "$work/dependencies"
 size=$(du -sk "$root/usr" | cut -f 1)
@@ -79,8 +82,8 @@ Priority: optional
 Description: work out what runs on each date of a CIF timetable extract
  cif reads full extracts of the CIF timetable format, works out what runs on
  each date of the extract's window, and writes that down as an extract that
- needs no further rules. It also compares two extracts, and lists a day or a
- train.
+ needs no further rules. It also lists how two extracts differ, what runs on
+ a day, and why a train runs or doesn't.
 END
 deb=cif_${version}_amd64.deb
 SOURCE_DATE_EPOCH=$time dpkg-deb --root-owner-group -Zxz --build "$root" "$work/$deb" > /dev/null

@@ -27,7 +27,7 @@ _cif() {
         elif [[ -z $ended && $word == -?* ]]; then
             given+="${word%%=*} "
             case $word in
-            --from | --to | --form) awaited=$word ;;
+            --from | --to | --form | --format) awaited=$word ;;
             esac
         elif [[ -z $command ]]; then
             command=$word
@@ -46,6 +46,7 @@ _cif() {
     if [[ -n $awaited ]]; then
         case $awaited in
         --form) _cif_offer '1 2' ;;
+        --format) _cif_offer 'text tsv' ;;
         esac
         return
     fi
@@ -53,11 +54,11 @@ _cif() {
         case $command in
         '') options='-h --help -V --version' ;;
         normalise | check) options='-v --verbose --from --to --form -h --help' ;;
-        train) options='-v --verbose --from --to --form --stops -h --help' ;;
+        train) options='-v --verbose --from --to --form --stops --format -h --help' ;;
         compare | diff) options='-v --verbose --from --to --common -h --help' ;;
         clashes) options='-v --verbose --from --to -h --help' ;;
-        day) options='-v --verbose --stops -h --help' ;;
-        explain) options='-v --verbose -h --help' ;;
+        day) options='-v --verbose --stops --format -h --help' ;;
+        explain) options='-v --verbose --format -h --help' ;;
         esac
         _cif_offer "$options"
         return

@@ -11,7 +11,7 @@ function __cif_places
             set awaited no
         else if test $ended = no; and test "$word" = --
             set ended yes
-        else if test $ended = no; and contains -- $word --from --to --form
+        else if test $ended = no; and contains -- $word --from --to --form --format
             set awaited yes
         else if test $ended = yes; or not string match -q -- '-?*' $word
             printf '%s\n' $word
@@ -39,8 +39,8 @@ end
 complete -c cif -f
 complete -c cif -n __cif_without_command -a normalise -d 'Write the canonical extract'
 complete -c cif -n __cif_without_command -a check -d 'Count the records of the canonical extract'
-complete -c cif -n __cif_without_command -a compare -d 'Say where two extracts first differ'
-complete -c cif -n __cif_without_command -a diff -d 'List everything in which two extracts differ'
+complete -c cif -n __cif_without_command -a compare -d 'Say whether two extracts differ, and where first'
+complete -c cif -n __cif_without_command -a diff -d 'List all differences of two extracts'
 complete -c cif -n __cif_without_command -a day -d 'List the associations and the trains of one date'
 complete -c cif -n __cif_without_command -a train -d 'List the schedules of one train'
 complete -c cif -n __cif_without_command -a explain -d 'Say why a train runs on a date'
@@ -51,8 +51,9 @@ complete -c cif -n __cif_without_command -s V -l version -d 'Print the version'
 
 complete -c cif -n '__cif_in normalise check compare diff train clashes' -l from -x -d 'First date of the window, YYMMDD'
 complete -c cif -n '__cif_in normalise check compare diff train clashes' -l to -x -d 'Last date of the window, YYMMDD'
-complete -c cif -n '__cif_in compare diff' -l common -d 'Take the common window'
+complete -c cif -n '__cif_in compare diff' -l common -d 'Use the common window'
 complete -c cif -n '__cif_in day train' -l stops -d 'List the calls of each train too'
+complete -c cif -n '__cif_in day train explain' -l format -x -a 'text tsv' -d 'How fields are laid out'
 complete -c cif -n '__cif_in normalise check train' -l form -x -a '1 2' -d 'How weeks are joined'
 complete -c cif -n '__cif_in normalise check compare diff day train explain clashes' -s v -l verbose -d 'Say more on standard error'
 complete -c cif -n '__cif_in normalise check compare diff day train explain clashes' -s h -l help -d 'Print help'

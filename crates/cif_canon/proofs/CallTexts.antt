@@ -1,10 +1,22 @@
--- The text of calls that are written one after another.
-use Rattle.std.proofs.Common.{◌≡◌, ℕ, List, [], ◌∷◌, ◌++◌, Option, Result, sym, ap, ◌∙◌, subst, append-nil, append_assoc}
+-- The text of calls that are written one after another, and of the rows of a table that has them.
+use Rattle.std.proofs.Common.{◌≡◌, ℕ, List, [], ◌∷◌, ◌++◌, Option, codes, refl, sym, ap, ap₂, ◌∙◌, subst, append-nil, append_assoc}
+use Rattle.std.proofs.Common.{if◌then◌else◌}
 use Rattle.std.specs.List.{flat_map}
 use Rattle.std.proofs.lemmas.Grind.{flat_map-append}
 use Rattle.cif_columns.specs.Sink.{HasFailed, HasWritten}
 use Rattle.cif_columns.specs.declared.sink.Sink.{Sink}
 use Rattle.cif_columns.proofs.WrittenTexts.{failed_first, failed_second, written_both}
+use Rattle.cif_extract.specs.BodyParts.{BodyParts}
+use Rattle.cif_extract.specs.declared.call.Call.{Call}
+use Rattle.cif_extract.specs.declared.call.Call.TheVariants.{At, Turn}
+use Rattle.cif_canon.specs.Calls.{call_text, calls_text}
+use Rattle.cif_canon.specs.Fields.{fields_text, line_of}
+use Rattle.cif_canon.specs.Steps.Fields.{row_and_calls, row_lines}
+use Rattle.cif_canon.specs.Views.{lines_of_row, with_calls}
+use Rattle.cif_canon.specs.declared.layout.Format.{Format}
+use Rattle.cif_canon.specs.declared.layout.Format.TheVariants.{Text, Tsv}
+use Rattle.cif_canon.specs.declared.layout.Layout.{Layout}
+use Rattle.cif_canon.proofs.ViewLines.{joined-rows}
 
 module _ {W X : Type 0} (contents : W → Option (List ℕ)) (errors : W → Option ℕ) (text : X → List ℕ) (all done left : List X)
     (s t : Sink W) (so_far : HasWritten contents errors (flat_map text done) s t) (split : done ++ left ≡ all) where
@@ -31,3 +43,38 @@ module _ {W X : Type 0} (contents : W → Option (List ℕ)) (errors : W → Opt
         ∙ ap (flat_map text) (ap (λ (xs : List X). done ++ xs) (sym first) ∙ split))
         (failed_second contents errors (flat_map text done) (text x ++ flat_map text later) s t u so_far
         (failed_first contents errors (text x) (flat_map text later) t u h))
+
+-- a call's line behind the row of its train
+line-behind : (first : List ℕ) (row : List (List ℕ)) (field : List ℕ) (fields : List (List ℕ)) →
+    (fields_text Tsv (first ∷ row) ++ codes "\t") ++ line_of Tsv (field ∷ fields) ≡ line_of Tsv ((first ∷ row) ++ (field ∷ fields))
+line-behind first row field fields =
+    append_assoc (fields_text Tsv (first ∷ row)) (codes "\t") (line_of Tsv (field ∷ fields))
+    ∙ sym (append_assoc (fields_text Tsv (first ∷ row)) (9 ∷ fields_text Tsv (field ∷ fields)) (codes "\n"))
+    ∙ ap (λ (l : List ℕ). l ++ codes "\n") (joined-rows Tsv first row field fields)
+
+-- what is written of calls is the same where it is of each call's fields
+module _ (one other : List (List ℕ) → List ℕ) (same : (f : List ℕ) (fs : List (List ℕ)) → one (f ∷ fs) ≡ other (f ∷ fs)) where
+  same-call : (call : Call) → call_text one call ≡ call_text other call
+  same-call (At stop) = same _ _
+  same-call (Turn change) = refl
+
+  same-between : (calls : List Call) → flat_map (call_text one) calls ≡ flat_map (call_text other) calls
+  same-between [] = refl
+  same-between (call ∷ calls) = ap₂ (λ (a b : List ℕ). a ++ b) (same-call call) (same-between calls)
+
+  same-calls : (b : BodyParts) → calls_text one b ≡ calls_text other b
+  same-calls b =
+      ap₂ (λ (a b : List ℕ). a ++ b) (same _ _) (ap₂ (λ (a b : List ℕ). a ++ b) (same-between b.calls) (same _ _))
+
+row-calls : (format : Format) (first : List ℕ) (row : List (List ℕ)) (b : BodyParts) →
+    row_and_calls format (fields_text format (first ∷ row)) b ≡ with_calls format (first ∷ row) b
+row-calls Text first row b = refl
+row-calls Tsv first row b =
+    same-calls (λ call. (fields_text Tsv (first ∷ row) ++ codes "\t") ++ line_of Tsv call) (λ call. line_of Tsv ((first ∷ row) ++ call))
+    (line-behind first row) b
+
+-- the lines of a train, by the text of its row
+pub row-lines : (layout : Layout) (first : List ℕ) (row : List (List ℕ)) (b : BodyParts) →
+    row_lines layout (fields_text layout.format (first ∷ row)) b ≡ lines_of_row layout (first ∷ row) b
+row-lines layout first row b =
+    ap (λ (l : List ℕ). if layout.calls then l else line_of layout.format (first ∷ row)) (row-calls layout.format first row b)

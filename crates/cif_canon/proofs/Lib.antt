@@ -8,7 +8,6 @@ pub mod ComparedKeys
 pub mod DifferentDays
 pub mod DifferentTiplocs
 pub mod DistinctTiplocs
-pub mod ExplainedLines
 mod ExplainedMarks
 mod ExplainedTexts
 mod Explaining

@@ -1,17 +1,112 @@
--- Fields that are appended one by one make a line.
-use Rattle.std.proofs.Common.{◌≡◌, ℕ, List, [], ◌∷◌, ◌++◌, refl, ◌∙◌, append_assoc}
-use Rattle.std.specs.List.{join_with_byte}
+-- Fields that are appended one by one, or group by group, make a line.
+use Rattle.std.proofs.Common.{◌≡◌, ℕ, zero, suc, List, [], ◌∷◌, ◌++◌, codes, refl, sym, ap, ◌∙◌, append-nil, append_assoc}
+use Rattle.std.specs.Prelude.{replicate}
+use Rattle.std.proofs.lemmas.Grind.{flat_map-append}
+use Rattle.cif_columns.specs.Text.{text_of}
+use Rattle.cif_canon.specs.Fields.{fields_text, line_of, separator, shown}
+use Rattle.cif_canon.specs.Steps.Fields.{after}
+use Rattle.cif_canon.specs.declared.layout.Format.{Format}
+use Rattle.cif_canon.specs.declared.layout.Format.TheVariants.{Tsv}
 
--- a space and a field after others
-abbrev pub pushed : List ℕ → List (List ℕ) → List ℕ
-pushed start [] = start
-pushed start (field ∷ fields) = pushed (start ++ (32 ∷ field)) fields
+module _ (format : Format) where
+  -- a field after others
+  abbrev pub pushed : List ℕ → List (List ℕ) → List ℕ
+  pushed start [] = start
+  pushed start (field ∷ fields) = pushed (start ++ (separator format ∷ shown format field)) fields
 
-joined-first : (start field : List ℕ) (fields : List (List ℕ)) →
-    join_with_byte 32 ((start ++ (32 ∷ field)) ∷ fields) ≡ start ++ (32 ∷ join_with_byte 32 (field ∷ fields))
-joined-first start field [] = refl
-joined-first start field (other ∷ fields) = append_assoc start (32 ∷ field) (32 ∷ join_with_byte 32 (other ∷ fields))
+  pub pushed-after : (start : List ℕ) (fields : List (List ℕ)) → pushed start fields ≡ start ++ after format fields
+  pushed-after start [] = sym (append-nil start)
+  pushed-after start (field ∷ fields) =
+      pushed-after (start ++ (separator format ∷ shown format field)) fields
+      ∙ append_assoc start (separator format ∷ shown format field) (after format fields)
 
-pub pushed-joined : (start : List ℕ) (fields : List (List ℕ)) → pushed start fields ≡ join_with_byte 32 (start ∷ fields)
-pushed-joined start [] = refl
-pushed-joined start (field ∷ fields) = pushed-joined (start ++ (32 ∷ field)) fields ∙ joined-first start field fields
+  -- fields behind fields
+  pub both-after : (start : List ℕ) (some more : List (List ℕ)) →
+      (start ++ after format some) ++ after format more ≡ start ++ after format (some ++ more)
+  both-after start some more =
+      append_assoc start (after format some) (after format more)
+      ∙ ap (λ (l : List ℕ). start ++ l) (sym (flat_map-append (λ field. separator format ∷ shown format field) some more))
+
+  -- the first field of a line, and those behind it
+  pub joined : (first : List ℕ) (fields : List (List ℕ)) → shown format first ++ after format fields ≡ fields_text format (first ∷ fields)
+  joined first [] = append-nil (shown format first)
+  joined first (field ∷ fields) = ap (λ (l : List ℕ). shown format first ++ (separator format ∷ l)) (joined field fields)
+
+  -- fields one by one behind a first one
+  pub pushed-line : (first : List ℕ) (fields : List (List ℕ)) →
+      pushed (shown format first) fields ++ codes "\n" ≡ line_of format (first ∷ fields)
+  pushed-line first fields =
+      ap (λ (l : List ℕ). l ++ codes "\n") (pushed-after (shown format first) fields ∙ joined first fields)
+
+  -- two groups of fields behind a first one, and three
+  pub two-groups : (first : List ℕ) (a b : List (List ℕ)) →
+      (shown format first ++ after format a) ++ after format b ≡ fields_text format (first ∷ (a ++ b))
+  two-groups first a b = both-after (shown format first) a b ∙ joined first (a ++ b)
+
+  pub three-groups : (first : List ℕ) (a b c : List (List ℕ)) →
+      (((shown format first ++ after format a) ++ after format b) ++ after format c) ++ codes "\n"
+      ≡ line_of format (first ∷ (a ++ (b ++ c)))
+  three-groups first a b c =
+      ap (λ (l : List ℕ). l ++ codes "\n") (both-after (shown format first ++ after format a) b c ∙ two-groups first a (b ++ c))
+
+  -- two fields, and three groups
+  pub explained-groups : (first second : List ℕ) (a b c : List (List ℕ)) →
+      ((((shown format first ++ (separator format ∷ shown format second)) ++ after format a) ++ after format b) ++ after format c)
+      ++ codes "\n"
+      ≡ line_of format (first ∷ second ∷ (a ++ (b ++ c)))
+  explained-groups first second a b c =
+      let two = shown format first ++ (separator format ∷ shown format second) in
+      ap (λ (l : List ℕ). l ++ codes "\n")
+      (both-after (two ++ after format a) b c
+      ∙ both-after two a (b ++ c)
+      ∙ append_assoc (shown format first) (separator format ∷ shown format second) (after format (a ++ (b ++ c)))
+      ∙ joined first (second ∷ (a ++ (b ++ c))))
+
+  -- three fields and a group
+  pub dated-row : (first last days : List ℕ) (a : List (List ℕ)) →
+      pushed (shown format first) (last ∷ days ∷ []) ++ after format a ≡ fields_text format (first ∷ last ∷ days ∷ a)
+  dated-row first last days a =
+      ap (λ (l : List ℕ). l ++ after format a) (pushed-after (shown format first) (last ∷ days ∷ []))
+      ∙ two-groups first (last ∷ days ∷ []) a
+
+  -- a field and two groups
+  pub field-and-groups : (start field : List ℕ) (a b : List (List ℕ)) →
+      ((start ++ (separator format ∷ shown format field)) ++ after format a) ++ after format b
+      ≡ start ++ after format (field ∷ (a ++ b))
+  field-and-groups start field a b =
+      both-after (start ++ (separator format ∷ shown format field)) a b
+      ∙ append_assoc start (separator format ∷ shown format field) (after format (a ++ b))
+
+  -- a group and fields
+  pub group-and-fields : (start : List ℕ) (a b : List (List ℕ)) → pushed (start ++ after format a) b ≡ start ++ after format (a ++ b)
+  group-and-fields start a b = pushed-after (start ++ after format a) b ∙ both-after start a b
+
+  -- fields, and the same group behind them and behind more fields
+  pub fields-and-group : (start one other : List ℕ) (a : List (List ℕ)) (b c d : List ℕ) →
+      pushed (pushed start (one ∷ other ∷ []) ++ after format a) (b ∷ c ∷ d ∷ []) ++ after format a
+      ≡ start ++ after format (one ∷ other ∷ (a ++ (b ∷ c ∷ d ∷ a)))
+  fields-and-group start one other a b c d =
+      ap (λ (l : List ℕ). l ++ after format a) (group-and-fields (pushed start (one ∷ other ∷ [])) a (b ∷ c ∷ d ∷ []))
+      ∙ both-after (pushed start (one ∷ other ∷ [])) (a ++ (b ∷ c ∷ d ∷ [])) a
+      ∙ ap (λ (fs : List (List ℕ)). pushed start (one ∷ other ∷ []) ++ after format fs) (append_assoc a (b ∷ c ∷ d ∷ []) a)
+      ∙ ap (λ (l : List ℕ). l ++ after format (a ++ (b ∷ c ∷ d ∷ a))) (pushed-after start (one ∷ other ∷ []))
+      ∙ both-after start (one ∷ other ∷ []) (a ++ (b ∷ c ∷ d ∷ a))
+
+  -- a row behind a row
+  pub joined-rows : (first : List ℕ) (fields : List (List ℕ)) (next : List ℕ) (more : List (List ℕ)) →
+      fields_text format (first ∷ fields) ++ (separator format ∷ fields_text format (next ∷ more))
+      ≡ fields_text format ((first ∷ fields) ++ (next ∷ more))
+  joined-rows first [] next more = refl
+  joined-rows first (field ∷ fields) next more =
+      append_assoc (shown format first) (separator format ∷ fields_text format (field ∷ fields))
+      (separator format ∷ fields_text format (next ∷ more))
+      ∙ ap (λ (l : List ℕ). shown format first ++ (separator format ∷ l)) (joined-rows field fields next more)
+
+-- so many empty fields are so many tabs
+nothing-shown : text_of [] ≡ []
+unfolding text_of
+nothing-shown = refl
+
+pub tabs-after : (count : ℕ) → after Tsv (replicate count []) ≡ replicate count 9
+tabs-after zero = refl
+tabs-after (suc count) = ap (λ (l : List ℕ). 9 ∷ (l ++ after Tsv (replicate count []))) nothing-shown ∙ ap (λ (l : List ℕ). 9 ∷ l) (tabs-after count)

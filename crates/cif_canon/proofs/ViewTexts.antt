@@ -25,7 +25,7 @@ use Rattle.cif_canon.specs.Normalised.{FaultWrites, IfWritten}
 use Rattle.cif_canon.specs.Steps.Records.{AreCanonicalRecords}
 use Rattle.cif_canon.specs.Steps.Texts.{HasRecord, run_text}
 use Rattle.cif_canon.specs.Steps.Views.{applies_on, association_on, schedule_of, train_on}
-use Rattle.cif_canon.specs.Views.{IsDayView, IsTrainView, association_line, schedule_text, train_text}
+use Rattle.cif_canon.specs.Views.{IsDayView, IsTrainView, association_line, day_heading, schedule_text, train_heading, train_text}
 use Rattle.cif_canon.specs.declared.layout.Layout.{Layout}
 use Rattle.cif_canon.proofs.CanonTexts.{have-records, texts-of_runs}
 use Rattle.cif_canon.proofs.ChosenRecords.{chosen-text}
@@ -66,8 +66,8 @@ module _ {W A : Type 0} (contents : W → Option (List ℕ)) (errors : W → Opt
   fails-second w h = fails contents errors (a ++ b) s u result failed (failed_second contents errors a b s t u w h)
 
 -- the lines of the associations' runs on a day, and of the trains'
-abbrev pub associations-text : ExtractParts → ℕ → List Run → List ℕ
-associations-text x d = flat_map (run_text (association_on d) (association_entries x.associations))
+abbrev pub associations-text : Layout → ExtractParts → ℕ → List Run → List ℕ
+associations-text layout x d = flat_map (run_text (association_on layout d) (association_entries x.associations))
 
 abbrev pub trains-text : Layout → ExtractParts → ℕ → List Run → List ℕ
 trains-text layout x d = flat_map (run_text (train_on layout d) (schedule_entries x.schedules))
@@ -75,7 +75,7 @@ trains-text layout x d = flat_map (run_text (train_on layout d) (schedule_entrie
 module _ (layout : Layout) (x : ExtractParts) (d : ℕ) (within : IsWithin (header_window x.header) d) (form : Form) (associations schedules : List Run)
     (a : AreCanonicalRecords key_cmp form (header_window x.header) (association_entries x.associations) associations)
     (s : AreCanonicalRecords (slice_cmp nat_cmp) form (header_window x.header) (schedule_entries x.schedules) schedules) where
-  pub day-view : IsDayView layout x d (associations-text x d associations ++ trains-text layout x d schedules)
+  pub day-view : IsDayView layout x d (day_heading layout ++ (associations-text layout x d associations ++ trains-text layout x d schedules))
   day-view = record {
     within = within;
     clear = record { associations = a.clear; schedules = s.clear };
@@ -83,19 +83,20 @@ module _ (layout : Layout) (x : ExtractParts) (d : ℕ) (within : IsWithin (head
     hold = running key_cmp form (header_window x.header) (association_entries x.associations) associations a d within;
     trains = map bodied (applying d s.records);
     run = running (slice_cmp nat_cmp) form (header_window x.header) (schedule_entries x.schedules) schedules s d within;
-    text_is =
-        ap (λ (l : List ℕ). l ++ trains-text layout x d schedules)
-        (texts-of_runs (association_entries x.associations) (association_on d) associations a.records a.runs_of
-        ∙ chosen-text (λ e. applies_on e.1 d) bodied association_line a.records)
-        ∙ ap (λ (l : List ℕ). flat_map association_line (map bodied (applying d a.records)) ++ l)
+    text_is = ap (λ (l : List ℕ). day_heading layout ++ l)
+        (ap (λ (l : List ℕ). l ++ trains-text layout x d schedules)
+        (texts-of_runs (association_entries x.associations) (association_on layout d) associations a.records a.runs_of
+        ∙ chosen-text (λ e. applies_on e.1 d) bodied (association_line layout) a.records)
+        ∙ ap (λ (l : List ℕ). flat_map (association_line layout) (map bodied (applying d a.records)) ++ l)
         (texts-of_runs (schedule_entries x.schedules) (train_on layout d) schedules s.records s.runs_of
-        ∙ chosen-text (λ e. applies_on e.1 d) bodied (train_text layout) s.records);
+        ∙ chosen-text (λ e. applies_on e.1 d) bodied (train_text layout) s.records));
   }
 
 module _ (layout : Layout) (x : ExtractParts) (uid : List ℕ) (form : Form) (associations schedules : List Run)
     (a : AreCanonicalRecords key_cmp form (header_window x.header) (association_entries x.associations) associations)
     (s : AreCanonicalRecords (slice_cmp nat_cmp) form (header_window x.header) (schedule_entries x.schedules) schedules) where
-  pub train-view : IsTrainView layout form x uid (flat_map (run_text (schedule_of layout uid) (schedule_entries x.schedules)) schedules)
+  pub train-view : IsTrainView layout form x uid
+      (train_heading layout ++ flat_map (run_text (schedule_of layout uid) (schedule_entries x.schedules)) schedules)
   train-view = record {
     clear = record { associations = a.clear; schedules = s.clear };
     records = s.records;
@@ -104,7 +105,7 @@ module _ (layout : Layout) (x : ExtractParts) (uid : List ℕ) (form : Form) (as
     own = own (slice_cmp nat_cmp) nat_list_cmp_total s.records s.canonical.rising uid;
     rising = own-rising (slice_cmp nat_cmp) nat_list_cmp_total s.records s.canonical.rising uid;
     are = own-are (slice_cmp nat_cmp) nat_list_cmp_total s.records s.canonical.rising uid;
-    text_is =
-        texts-of_runs (schedule_entries x.schedules) (schedule_of layout uid) schedules s.records s.runs_of
-        ∙ chosen-text (λ e. pointwise nat_eq e.0 uid) (λ (e : List ℕ × Permanent BodyParts). e.1) (schedule_text layout) s.records;
+    text_is = ap (λ (l : List ℕ). train_heading layout ++ l)
+        (texts-of_runs (schedule_entries x.schedules) (schedule_of layout uid) schedules s.records s.runs_of
+        ∙ chosen-text (λ e. pointwise nat_eq e.0 uid) (λ (e : List ℕ × Permanent BodyParts). e.1) (schedule_text layout) s.records);
   }

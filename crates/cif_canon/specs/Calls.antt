@@ -1,6 +1,6 @@
--- The calls of a train as lines of text: one for its origin, one for each location on its way, and one for its terminus.
+-- The calls of a train: one for its origin, one for each location on its way, and one for its terminus.
 use Rattle.std.specs.Prelude.{ℕ, List, ◌∷◌, [], ◌++◌, codes}
-use Rattle.std.specs.List.{flat_map, join_with_byte}
+use Rattle.std.specs.List.{flat_map}
 use Rattle.cif_columns.specs.Activities.{codes_columns}
 use Rattle.cif_columns.specs.Text.{left_justified}
 use Rattle.cif_extract.specs.BodyParts.{BodyParts}
@@ -52,21 +52,18 @@ terminus_fields t =
     ∷ codes_columns t.activities
     ∷ []
 
--- Their lines: the fields with a space between them, and a line feed.
-unfoldable pub origin_line : Origin → List ℕ
-origin_line o = join_with_byte 32 (origin_fields o) ++ codes "\n"
+-- what is written of a call on the way, where `text` is what is written of its fields: a change of the train's particulars is no call
+abbrev pub call_text : (List (List ℕ) → List ℕ) → Call → List ℕ
+call_text text (At stop) = text (stop_fields stop)
+call_text text (Turn change) = []
 
-unfoldable pub stop_line : Stop → List ℕ
-stop_line s = join_with_byte 32 (stop_fields s) ++ codes "\n"
+-- what is written of all calls of a train
+abbrev pub calls_text : (List (List ℕ) → List ℕ) → BodyParts → List ℕ
+calls_text text b =
+    text (origin_fields b.origin) ++ (flat_map (call_text text) b.calls ++ text (terminus_fields b.terminus))
 
-unfoldable pub terminus_line : Terminus → List ℕ
-terminus_line t = join_with_byte 32 (terminus_fields t) ++ codes "\n"
-
--- the line of what is on the way: a change of the train's particulars is no call
-abbrev pub call_text : Call → List ℕ
-call_text (At stop) = stop_line stop
-call_text (Turn change) = []
-
--- the lines of a train's calls
-abbrev pub calls_text : BodyParts → List ℕ
-calls_text b = origin_line b.origin ++ (flat_map call_text b.calls ++ terminus_line b.terminus)
+-- the names of a call's fields
+abbrev pub call_names : List ℕ
+call_names =
+    codes "\tcall\tcall_location\tcall_suffix\tcall_arrival\tcall_departure\tcall_pass\tcall_public_arrival\tcall_public_departure"
+    ++ codes "\tcall_platform\tcall_path\tcall_line\tcall_activities"

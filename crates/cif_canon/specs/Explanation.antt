@@ -1,5 +1,5 @@
 -- Why a train does or doesn't run on a day, and why its associations hold or don't: the records that apply, each with a mark.
-use Rattle.std.specs.Prelude.{◌≡◌, ℕ, List, ◌∷◌, [], ◌++◌, Option, Some, None, AllPairs, Contains, codes, slice_get}
+use Rattle.std.specs.Prelude.{◌≡◌, ℕ, List, ◌∷◌, [], ◌++◌, Option, Some, None, AllPairs, Contains, codes, false, slice_get}
 use Rattle.std.specs.List.{flat_map}
 use Rattle.std.specs.Ordering.{nat_cmp, ordering_then}
 use Rattle.std.specs.Cmp.Lexicographic.{slice_cmp}
@@ -24,7 +24,9 @@ use Rattle.cif_records.specs.declared.assoc_body.AssocBody.{AssocBody}
 use Rattle.cif_records.specs.declared.assoc_key.AssocKey.{AssocKey}
 use Rattle.cif_weeks.specs.Window.{IsWithin}
 use Rattle.cif_canon.specs.Asked.{header_window}
-use Rattle.cif_canon.specs.Views.{association_fields, line_of, train_fields}
+use Rattle.cif_canon.specs.Fields.{left_out, line_of}
+use Rattle.cif_canon.specs.Views.{association_fields, association_names, heading, no_association, no_train, train_fields}
+use Rattle.cif_canon.specs.declared.layout.Format.{Format}
 use Rattle.cif_canon.specs.declared.mark.Mark.{Mark}
 use Rattle.cif_canon.specs.declared.mark.Mark.TheVariants as mark
 
@@ -88,29 +90,39 @@ abbrev pub terms_fields : {B : Type 0} → Terms B → List (List ℕ)
 terms_fields r = (letter r.letter ∷ []) ∷ yymmdd_of r.first ∷ yymmdd_of r.last ∷ days_columns r.days ∷ []
 
 -- what an association says: the fields of the day view, and of a cancellation those of its key alone
-abbrev pub said_of_association : AssocKey → Option AssocBody → List (List ℕ)
-said_of_association key (Some body) = association_fields (key, body)
-said_of_association key None =
+abbrev pub said_of_association : Format → AssocKey → Option AssocBody → List (List ℕ)
+said_of_association format key (Some body) = association_fields (key, body)
+said_of_association format key None =
     key.base
     ∷ key.associated
-    ∷ left_justified 7 key.location
+    ∷ (left_out format 2
+    ++ (left_justified 7 key.location
     ∷ left_justified 1 key.base_suffix
     ∷ left_justified 1 key.associated_suffix
-    ∷ []
+    ∷ left_out format 2))
 
 -- what a schedule says: the fields of the day view, and of a cancellation its train alone
-abbrev pub said_of_train : List ℕ → Option BodyParts → List (List ℕ)
-said_of_train uid (Some body) = train_fields (uid, body)
-said_of_train uid None = uid ∷ []
+abbrev pub said_of_train : Format → List ℕ → Option BodyParts → List (List ℕ)
+said_of_train format uid (Some body) = train_fields format (uid, body)
+said_of_train format uid None = uid ∷ left_out format 9
 
 -- the line of an association
-unfoldable pub explained_association_line : Explained AssocKey AssocBody → List ℕ
-explained_association_line e =
-    line_of (mark_columns e.mark ∷ codes "AA" ∷ terms_fields e.terms ++ said_of_association e.key e.terms.body)
+unfoldable pub explained_association_line : Format → Explained AssocKey AssocBody → List ℕ
+explained_association_line format e =
+    line_of format (mark_columns e.mark ∷ codes "AA"
+    ∷ (terms_fields e.terms ++ (no_train format ++ said_of_association format e.key e.terms.body)))
 
 -- the line of a schedule
-unfoldable pub explained_train_line : Explained (List ℕ) BodyParts → List ℕ
-explained_train_line e = line_of (mark_columns e.mark ∷ codes "BS" ∷ terms_fields e.terms ++ said_of_train e.key e.terms.body)
+unfoldable pub explained_train_line : Format → Explained (List ℕ) BodyParts → List ℕ
+explained_train_line format e =
+    line_of format (mark_columns e.mark ∷ codes "BS"
+    ∷ (terms_fields e.terms ++ (said_of_train format e.key e.terms.body ++ no_association format)))
+
+-- the first line of a table
+abbrev pub explanation_heading : Format → List ℕ
+explanation_heading format =
+    heading (record { format = format; calls = false }) (codes "mark\tkind\tstp_indicator\tfirst_date\tlast_date\tdays_run\tuid")
+    association_names
 
 -- the train that an association's key is about, and that a train's own is
 abbrev pub base_of : AssocKey → List ℕ
@@ -119,15 +131,17 @@ base_of key = key.base
 abbrev pub itself : List ℕ → List ℕ
 itself uid = uid
 
--- The day is in the window of the extract, and the text has a line for each record of the associations whose base is train u, and then
--- one for each of its schedules, of those that apply on the day.
-pub record IsExplanation (x : ExtractParts) (u : List ℕ) (d : ℕ) (text : List ℕ) : Type 0 where
+-- The day is in the window of the extract, and the text has the heading, a line for each record of the associations whose base is train u,
+-- and then one for each of its schedules, of those that apply on the day.
+pub record IsExplanation (format : Format) (x : ExtractParts) (u : List ℕ) (d : ℕ) (text : List ℕ) : Type 0 where
   pub within : IsWithin (header_window x.header) d
   pub associations : List (Explained AssocKey AssocBody)
   pub of_associations : AreExplained key_cmp base_of (association_entries x.associations) u d associations
   pub trains : List (Explained (List ℕ) BodyParts)
   pub of_trains : AreExplained (slice_cmp nat_cmp) itself (schedule_entries x.schedules) u d trains
-  pub text_is : text ≡ flat_map explained_association_line associations ++ flat_map explained_train_line trains
+  pub text_is :
+      text ≡ explanation_heading format
+      ++ (flat_map (explained_association_line format) associations ++ flat_map (explained_train_line format) trains)
 
 -- why there is no explanation: the day is outside the window; or else memory ran out, or the sink failed
 abbrev pub IsExplanationFault : ExtractParts → ℕ → Fault → Type 0

@@ -9,6 +9,7 @@ pub mod Counts
 pub mod Differences
 pub mod Explanation
 pub mod Fault
+pub mod Fields
 pub mod Meaning
 pub mod NormalForm
 pub mod Normalised

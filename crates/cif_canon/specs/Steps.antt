@@ -3,6 +3,7 @@ pub mod Clashes
 pub mod Differences
 pub mod OnlySides
 pub mod Explanation
+pub mod Fields
 pub mod Records
 pub mod Sides
 pub mod Texts

@@ -1,137 +1,180 @@
-//! The lines of a train's calls: fields with a space between them.
-ghost use Rattle.std.specs.Prelude.{◌≡◌, false};
+//! The lines of a train's calls.
+ghost use Rattle.std.specs.Prelude.{◌≡◌, ◌+◌, ◌≤◌, ◌++◌, false};
 ghost use Rattle.std.specs.List.{flat_map};
+ghost use Rattle.arrayvec.specs.ArrayString.{array_string_len};
 ghost use Rattle.cif_columns.specs.Sink.{Writes, sink_failed};
-ghost use Rattle.cif_canon.specs.Calls.{call_text, calls_text, origin_line, stop_line};
-ghost use Rattle.cif_canon.specs.Calls.{terminus_line};
-ghost use Rattle.cif_canon.specs.Views.{with_calls};
+ghost use Rattle.cif_canon.specs.Calls.{call_text, calls_text, origin_fields, stop_fields};
+ghost use Rattle.cif_canon.specs.Calls.{terminus_fields};
+ghost use Rattle.cif_canon.specs.Fields.{line_of};
+ghost use Rattle.cif_canon.specs.Steps.Fields.{row_lines};
 
-use crate::layout::Layout;
-use crate::view_line::{LONGEST, push_field};
+use crate::layout::{Format, Layout};
+use crate::view_line::{LONGEST, push_field, started};
 use arrayvec::ArrayString;
 use cif_columns::{Sink, WriteDevice, WriteFault};
 use cif_extract::{Body, Call, Calls};
 use cif_records::{Origin, Stop, Terminus};
 
+/// The columns of a time, a public time, a platform, a path or a line that a record doesn't have.
+const NO_WORK_TIME: &[u8] = b"     ";
+
+const NO_PUBLIC_TIME: &[u8] = b"    ";
+
+const NO_TRACK: &[u8] = b"   ";
+
 /// The line of an origin.
-#[tactic(auto, unfolding(crate::specs::Calls::origin_line))]
-fn origin_line(origin: &Origin) -> ArrayString<LONGEST>
-    ensures { result.bytes ≡ origin_line origin.now }
+fn origin_line(format: Format, origin: &Origin) -> ArrayString<LONGEST>
+    ensures { result.bytes ≡ line_of format (origin_fields origin.now) }
 {
-    let mut line = ArrayString::new();
-    line.push_str("LO");
-    push_field(&mut line, &origin.location.write());
-    push_field(&mut line, &origin.suffix.write());
-    line.push_str("      ");
-    push_field(&mut line, &origin.departure.write());
-    line.push_str("      ");
-    line.push_str("     ");
-    push_field(&mut line, &origin.public_departure.write());
-    push_field(&mut line, &origin.platform.write());
-    line.push_str("    ");
-    push_field(&mut line, &origin.line.write());
-    push_field(&mut line, &origin.activities.write());
+    let mut line = started(format, b"LO");
+    push_field(&mut line, format, &origin.location.write());
+    push_field(&mut line, format, &origin.suffix.write());
+    push_field(&mut line, format, NO_WORK_TIME);
+    push_field(&mut line, format, &origin.departure.write());
+    push_field(&mut line, format, NO_WORK_TIME);
+    push_field(&mut line, format, NO_PUBLIC_TIME);
+    push_field(&mut line, format, &origin.public_departure.write());
+    push_field(&mut line, format, &origin.platform.write());
+    push_field(&mut line, format, NO_TRACK);
+    push_field(&mut line, format, &origin.line.write());
+    push_field(&mut line, format, &origin.activities.write());
     line.push_str("\n");
     line
 }
 
 /// The line of a location on the way.
-#[tactic(auto, unfolding(crate::specs::Calls::stop_line))]
-fn stop_line(stop: &Stop) -> ArrayString<LONGEST>
-    ensures { result.bytes ≡ stop_line stop.now }
+fn stop_line(format: Format, stop: &Stop) -> ArrayString<LONGEST>
+    ensures { result.bytes ≡ line_of format (stop_fields stop.now) }
 {
-    let mut line = ArrayString::new();
-    line.push_str("LI");
-    push_field(&mut line, &stop.location.write());
-    push_field(&mut line, &stop.suffix.write());
-    push_field(&mut line, &stop.arrival.write());
-    push_field(&mut line, &stop.departure.write());
-    push_field(&mut line, &stop.pass.write());
-    push_field(&mut line, &stop.public_arrival.write());
-    push_field(&mut line, &stop.public_departure.write());
-    push_field(&mut line, &stop.platform.write());
-    push_field(&mut line, &stop.path.write());
-    push_field(&mut line, &stop.line.write());
-    push_field(&mut line, &stop.activities.write());
+    let mut line = started(format, b"LI");
+    push_field(&mut line, format, &stop.location.write());
+    push_field(&mut line, format, &stop.suffix.write());
+    push_field(&mut line, format, &stop.arrival.write());
+    push_field(&mut line, format, &stop.departure.write());
+    push_field(&mut line, format, &stop.pass.write());
+    push_field(&mut line, format, &stop.public_arrival.write());
+    push_field(&mut line, format, &stop.public_departure.write());
+    push_field(&mut line, format, &stop.platform.write());
+    push_field(&mut line, format, &stop.path.write());
+    push_field(&mut line, format, &stop.line.write());
+    push_field(&mut line, format, &stop.activities.write());
     line.push_str("\n");
     line
 }
 
 /// The line of a terminus.
-#[tactic(auto, unfolding(crate::specs::Calls::terminus_line))]
-fn terminus_line(terminus: &Terminus) -> ArrayString<LONGEST>
-    ensures { result.bytes ≡ terminus_line terminus.now }
+fn terminus_line(format: Format, terminus: &Terminus) -> ArrayString<LONGEST>
+    ensures { result.bytes ≡ line_of format (terminus_fields terminus.now) }
 {
-    let mut line = ArrayString::new();
-    line.push_str("LT");
-    push_field(&mut line, &terminus.location.write());
-    push_field(&mut line, &terminus.suffix.write());
-    push_field(&mut line, &terminus.arrival.write());
-    line.push_str("      ");
-    line.push_str("      ");
-    push_field(&mut line, &terminus.public_arrival.write());
-    line.push_str("     ");
-    push_field(&mut line, &terminus.platform.write());
-    push_field(&mut line, &terminus.path.write());
-    line.push_str("    ");
-    push_field(&mut line, &terminus.activities.write());
+    let mut line = started(format, b"LT");
+    push_field(&mut line, format, &terminus.location.write());
+    push_field(&mut line, format, &terminus.suffix.write());
+    push_field(&mut line, format, &terminus.arrival.write());
+    push_field(&mut line, format, NO_WORK_TIME);
+    push_field(&mut line, format, NO_WORK_TIME);
+    push_field(&mut line, format, &terminus.public_arrival.write());
+    push_field(&mut line, format, NO_PUBLIC_TIME);
+    push_field(&mut line, format, &terminus.platform.write());
+    push_field(&mut line, format, &terminus.path.write());
+    push_field(&mut line, format, NO_TRACK);
+    push_field(&mut line, format, &terminus.activities.write());
     line.push_str("\n");
     line
 }
 
+/// Appends what stands before a call's line, and the line.
+fn write_both<W: WriteDevice>(
+    before: &str,
+    line: &ArrayString<LONGEST>,
+    sink: &mut Sink<W>,
+) -> Result<(), WriteFault>
+    ensures { Writes W.contents W.write_errors (before.now ++ line.now.bytes) sink.old sink.new result }
+{
+    sink.write_all(before.as_bytes())?;
+    sink.write_all(line.as_str().as_bytes())
+}
+
 /// Appends the line of what is on the way; a change has none.
-fn write_call<W: WriteDevice>(call: &Call, sink: &mut Sink<W>) -> Result<(), WriteFault>
+fn write_call<W: WriteDevice>(
+    format: Format,
+    before: &str,
+    call: &Call,
+    sink: &mut Sink<W>,
+) -> Result<(), WriteFault>
     requires { sink_failed sink.old ≡ false }
-    ensures { Writes W.contents W.write_errors (call_text call.now) sink.old sink.new result }
+    ensures { Writes W.contents W.write_errors
+        (call_text (λ fields. before.now ++ line_of format fields) call.now)
+        sink.old sink.new result }
 {
     match call {
-        Call::At(stop) => sink.write_all(stop_line(stop).as_str().as_bytes()),
+        Call::At(stop) => write_both(before, &stop_line(format, stop), sink),
         Call::Turn(_) => Ok(()),
     }
 }
 
 /// Appends the lines of what is on the way.
 fn write_calls_between<W: WriteDevice>(
+    format: Format,
+    before: &str,
     calls: Calls<'_>,
     sink: &mut Sink<W>,
 ) -> Result<(), WriteFault>
     requires { sink_failed sink.old ≡ false }
-    ensures { Writes W.contents W.write_errors (flat_map call_text calls.entry)
+    ensures { Writes W.contents W.write_errors
+        (flat_map (call_text (λ fields. before.now ++ line_of format fields)) calls.entry)
         sink.old sink.new result }
 {
     let mut calls = calls;
     while let Some(call) = calls.next() {
-        write_call(&call, sink)?;
+        write_call(format, before, &call, sink)?;
     }
     Ok(())
 }
 
-/// Appends the lines of the body's calls.
-pub(crate) fn write_calls<W: WriteDevice>(body: &Body, sink: &mut Sink<W>) -> Result<(), WriteFault>
-    requires { sink_failed sink.old ≡ false }
-    ensures { Writes W.contents W.write_errors (calls_text body.now) sink.old sink.new result }
-{
-    sink.write_all(origin_line(&body.origin()).as_str().as_bytes())?;
-    write_calls_between(body.calls(), sink)?;
-    sink.write_all(terminus_line(&body.terminus()).as_str().as_bytes())
-}
-
-/// Appends the line of a train, and those of its calls if the layout has them.
-pub(crate) fn write_train<W: WriteDevice>(
-    layout: Layout,
-    line: &str,
+/// Appends the lines of the body's calls, each with what stands before it.
+fn write_calls<W: WriteDevice>(
+    format: Format,
+    before: &str,
     body: &Body,
     sink: &mut Sink<W>,
 ) -> Result<(), WriteFault>
     requires { sink_failed sink.old ≡ false }
-    ensures { Writes W.contents W.write_errors (with_calls layout line.now body.now)
+    ensures { Writes W.contents W.write_errors
+        (calls_text (λ fields. before.now ++ line_of format fields) body.now)
         sink.old sink.new result }
 {
-    match layout {
-        Layout::Lines => sink.write_all(line.as_bytes()),
-        Layout::LinesAndCalls => {
-            sink.write_all(line.as_bytes())?;
-            write_calls(body, sink)
+    write_both(before, &origin_line(format, &body.origin()), sink)?;
+    write_calls_between(format, before, body.calls(), sink)?;
+    write_both(before, &terminus_line(format, &body.terminus()), sink)
+}
+
+/// Appends the lines of a train with this row, and those of its calls if they are listed.
+pub(crate) fn write_train<W: WriteDevice>(
+    layout: Layout,
+    row: ArrayString<LONGEST>,
+    body: &Body,
+    sink: &mut Sink<W>,
+) -> Result<(), WriteFault>
+    requires going { sink_failed sink.old ≡ false }
+    requires room { array_string_len row + 1 ≤ LONGEST }
+    ensures { Writes W.contents W.write_errors (row_lines layout row.bytes body.now)
+        sink.old sink.new result }
+{
+    let mut row = row;
+    if layout.calls {
+        match layout.format {
+            Format::Text => {
+                row.push_str("\n");
+                sink.write_all(row.as_str().as_bytes())?;
+                write_calls(Format::Text, "", body, sink)
+            }
+            Format::Tsv => {
+                row.push_str("\t");
+                write_calls(Format::Tsv, row.as_str(), body, sink)
+            }
         }
+    } else {
+        row.push_str("\n");
+        sink.write_all(row.as_str().as_bytes())
     }
 }

@@ -10,6 +10,7 @@ ghost use Rattle.cif_canon.specs.Steps.Explanation.{IsMarkAmong, Placed, explain
 ghost use Rattle.cif_canon.specs.Steps.Explanation.{opposed, placed_at, placed_cmp, placed_of};
 
 use crate::explained_line::{explained_association, explained_train};
+use crate::layout::Format;
 use crate::mark::Mark;
 use crate::view_line::LONGEST;
 use arrayvec::ArrayString;
@@ -24,20 +25,21 @@ use std::cmp::Ordering;
 pub(crate) trait ExplainedEntry: Entry {
     ghost use Rattle.std.specs.Prelude.{ℕ, List};
     ghost use Rattle.cif_canon.specs.Explanation.{Explained};
+    ghost use Rattle.cif_canon.specs.declared.layout.Format.{Format};
 
     // The train that a key is about.
     ghost train_of: { Self.Key → List ℕ };
 
     // The line of a record with its mark.
-    ghost line: { Explained Self.Key Self.Body → List ℕ };
+    ghost line: { Format → Explained Self.Key Self.Body → List ℕ };
 
     /// The train that it is about.
     fn train(&self) -> &Uid
         ensures { result.now ≡ train_of (Self.key self.now) };
 
     /// Its line with a mark.
-    fn line(&self, mark: Mark) -> ArrayString<LONGEST>
-        ensures { (place : ℕ) → result.bytes ≡ line (record {
+    fn line(&self, format: Format, mark: Mark) -> ArrayString<LONGEST>
+        ensures { (place : ℕ) → result.bytes ≡ line format (record {
           place = place;
           key = Self.key self.now;
           terms = Self.terms self.now;
@@ -56,8 +58,8 @@ impl ExplainedEntry for Association {
         &self.key.base
     }
 
-    fn line(&self, mark: Mark) -> ArrayString<LONGEST> {
-        explained_association(self, mark)
+    fn line(&self, format: Format, mark: Mark) -> ArrayString<LONGEST> {
+        explained_association(format, self, mark)
     }
 }
 
@@ -72,8 +74,8 @@ impl ExplainedEntry for Schedule {
         &self.uid
     }
 
-    fn line(&self, mark: Mark) -> ArrayString<LONGEST> {
-        explained_train(self, mark)
+    fn line(&self, format: Format, mark: Mark) -> ArrayString<LONGEST> {
+        explained_train(format, self, mark)
     }
 }
 

@@ -6,9 +6,12 @@ ghost use Rattle.cif_extract.specs.ExtractParts.{extract_parts};
 ghost use Rattle.cif_canon.specs.Explanation.{IsExplanation, IsExplanationFault};
 ghost use Rattle.cif_canon.specs.Normalised.{FaultWrites, IfWritten};
 ghost use Rattle.cif_canon.specs.Steps.Explanation.{explained_of};
+ghost use Rattle.cif_canon.specs.declared.layout.Format.TheVariants.{Text};
 
 use crate::asked::check_within;
 use crate::explained::{ExplainedEntry, Marked, marked_records};
+use crate::heading::{ASSOCIATION, heading};
+use crate::layout::{Format, Layout};
 use cif_columns::{Day, Sink, Uid, WriteDevice, WriteFault};
 use cif_extract::{Extract, Fault};
 use std::alloc::Global;
@@ -29,7 +32,25 @@ pub fn explain_view<W: WriteDevice>(
 ) -> Result<(), Fault>
     ensures view { (text : List ℕ)
         × FaultWrites W.contents W.write_errors text sink.old sink.new result
-        × IfWritten result (IsExplanation (extract_parts extract.now) uid.now day text) }
+        × IfWritten result (IsExplanation Text (extract_parts extract.now) uid.now day text) }
+    ensures fault { IfErr result (IsExplanationFault (extract_parts extract.now) day) }
+{
+    explain_listing(alloc, extract, uid, day, sink, Format::Text)
+}
+
+/// Appends why the train runs on the day, or doesn't, as `explain_view` does, in this format. A table
+/// begins with the names of its fields.
+pub fn explain_listing<W: WriteDevice>(
+    alloc: Global,
+    extract: &Extract,
+    uid: &Uid,
+    day: Day,
+    sink: &mut Sink<W>,
+    format: Format,
+) -> Result<(), Fault>
+    ensures view { (text : List ℕ)
+        × FaultWrites W.contents W.write_errors text sink.old sink.new result
+        × IfWritten result (IsExplanation format (extract_parts extract.now) uid.now day text) }
     ensures fault { IfErr result (IsExplanationFault (extract_parts extract.now) day) }
 {
     check_within(&extract.header, day)?;
@@ -39,18 +60,29 @@ pub fn explain_view<W: WriteDevice>(
     let Ok(trains) = marked_records(alloc, extract.schedules.as_slice(), uid, day) else {
         return Err(Fault::Memory);
     };
-    write_marked(associations.as_slice(), sink)?;
-    write_marked(trains.as_slice(), sink)?;
+    let layout = Layout {
+        format,
+        calls: false,
+    };
+    let names = heading(
+        layout,
+        "mark\tkind\tstp_indicator\tfirst_date\tlast_date\tdays_run\tuid",
+        ASSOCIATION,
+    );
+    sink.write_all(names.as_str().as_bytes())?;
+    write_marked(format, associations.as_slice(), sink)?;
+    write_marked(format, trains.as_slice(), sink)?;
     Ok(())
 }
 
 /// Appends the lines of the records.
 fn write_marked<E: ExplainedEntry, W: WriteDevice>(
+    format: Format,
     marked: &[Marked<'_, E>],
     sink: &mut Sink<W>,
 ) -> Result<(), WriteFault>
     ensures { Writes W.contents W.write_errors
-        (flat_map (λ one. E.line (explained_of E.key E.terms one)) marked.now)
+        (flat_map (λ one. E.line format (explained_of E.key E.terms one)) marked.now)
         sink.old sink.new result }
 {
     // Where no record applies, no write would tell it.
@@ -58,7 +90,7 @@ fn write_marked<E: ExplainedEntry, W: WriteDevice>(
         return Err(WriteFault);
     }
     for one in marked {
-        sink.write_all(one.entry.line(one.mark).as_str().as_bytes())?;
+        sink.write_all(one.entry.line(format, one.mark).as_str().as_bytes())?;
     }
     Ok(())
 }

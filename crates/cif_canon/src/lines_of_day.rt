@@ -1,18 +1,19 @@
 //! What runs on a day.
-ghost use Rattle.std.specs.Prelude.{◌↔◌, ℕ, List, IfErr, IsTrue};
+ghost use Rattle.std.specs.Prelude.{◌↔◌, ℕ, List, IfErr, IsTrue, false};
 ghost use Rattle.cif_extract.specs.ExtractParts.{extract_parts};
 ghost use Rattle.cif_weeks.specs.Applies.{Applies};
 ghost use Rattle.cif_weeks.specs.Runs.{record_of};
 ghost use Rattle.cif_canon.specs.Normalised.{FaultWrites, IfWritten};
 ghost use Rattle.cif_canon.specs.Views.{IsDayFault, IsDayView};
-ghost use Rattle.cif_canon.specs.declared.layout.Layout.TheVariants.{Lines};
+ghost use Rattle.cif_canon.specs.declared.layout.Format.TheVariants.{Text};
 
 use crate::asked::check_within;
 use crate::call_line::write_train;
 use crate::extract_runs::extract_runs;
-use crate::layout::Layout;
+use crate::heading::{ASSOCIATION, heading};
+use crate::layout::{Format, Layout};
 use crate::record_lines::{RecordLines, write_runs};
-use crate::view_line::{association_line, train_line};
+use crate::view_line::{association_line, train_row};
 use cif_columns::{Day, Sink, Uid, WriteDevice, WriteFault};
 use cif_extract::{Body, Extract, Fault, Schedule};
 use cif_records::{AssocBody, AssocKey, Association};
@@ -32,13 +33,18 @@ pub fn day_view<W: WriteDevice>(
 ) -> Result<(), Fault>
     ensures view { (text : List ℕ)
         × FaultWrites W.contents W.write_errors text sink.old sink.new result
-        × IfWritten result (IsDayView Lines (extract_parts extract.now) day text) }
+        × IfWritten result (IsDayView (record { format = Text; calls = false }) (extract_parts extract.now) day text) }
     ensures fault { IfErr result (IsDayFault (extract_parts extract.now) day) }
 {
-    day_listing(alloc, extract, day, sink, Layout::Lines)
+    let layout = Layout {
+        format: Format::Text,
+        calls: false,
+    };
+    day_listing(alloc, extract, day, sink, layout)
 }
 
-/// Appends what runs on the day, as `day_view` does, with what the layout lists of each train.
+/// Appends what runs on the day, as `day_view` does, in this layout. A table begins with the names of its
+/// fields.
 pub fn day_listing<W: WriteDevice>(
     alloc: Global,
     extract: &Extract,
@@ -53,6 +59,8 @@ pub fn day_listing<W: WriteDevice>(
 {
     check_within(&extract.header, day)?;
     let runs = extract_runs(alloc, extract, Form::Two)?;
+    let names = heading(layout, "kind\tuid", ASSOCIATION);
+    sink.write_all(names.as_str().as_bytes())?;
     let lines = LinesOfDay { day, layout };
     write_runs(
         &lines,
@@ -86,7 +94,7 @@ struct LinesOfDay {
 impl RecordLines<Association> for LinesOfDay {
     ghost use Rattle.cif_canon.specs.Steps.Views.{association_on};
 
-    ghost text = { λ lines. association_on lines.day };
+    ghost text = { λ lines. association_on lines.layout lines.day };
 
     fn write_record<W: WriteDevice>(
         &self,
@@ -96,7 +104,7 @@ impl RecordLines<Association> for LinesOfDay {
         sink: &mut Sink<W>,
     ) -> Result<(), WriteFault> {
         if applies_on(run, self.day) {
-            sink.write_all(association_line(key, body).as_str().as_bytes())
+            sink.write_all(association_line(self.layout, key, body).as_str().as_bytes())
         } else {
             Ok(())
         }
@@ -116,7 +124,12 @@ impl RecordLines<Schedule> for LinesOfDay {
         sink: &mut Sink<W>,
     ) -> Result<(), WriteFault> {
         if applies_on(run, self.day) {
-            write_train(self.layout, train_line(uid, body).as_str(), body, sink)
+            write_train(
+                self.layout,
+                train_row(self.layout.format, uid, body),
+                body,
+                sink,
+            )
         } else {
             Ok(())
         }

@@ -1,15 +1,16 @@
 //! When a train runs.
-ghost use Rattle.std.specs.Prelude.{ℕ, List, IfErr};
+ghost use Rattle.std.specs.Prelude.{ℕ, List, IfErr, false};
 ghost use Rattle.cif_extract.specs.ExtractParts.{extract_parts};
 ghost use Rattle.cif_canon.specs.Normalised.{FaultWrites, IfWritten};
 ghost use Rattle.cif_canon.specs.Views.{IsTrainFault, IsTrainView};
-ghost use Rattle.cif_canon.specs.declared.layout.Layout.TheVariants.{Lines};
+ghost use Rattle.cif_canon.specs.declared.layout.Format.TheVariants.{Text};
 
 use crate::call_line::write_train;
 use crate::extract_runs::extract_runs;
-use crate::layout::Layout;
+use crate::heading::heading;
+use crate::layout::{Format, Layout};
 use crate::record_lines::{RecordLines, write_runs};
-use crate::view_line::schedule_line;
+use crate::view_line::schedule_row;
 use cif_columns::{Sink, Uid, WriteDevice, WriteFault};
 use cif_extract::{Body, Extract, Fault, Schedule};
 use cif_weeks::{Form, Run};
@@ -29,13 +30,19 @@ pub fn train_view<W: WriteDevice>(
 ) -> Result<(), Fault>
     ensures view { (text : List ℕ)
         × FaultWrites W.contents W.write_errors text sink.old sink.new result
-        × IfWritten result (IsTrainView Lines form (extract_parts extract.now) uid.now text) }
+        × IfWritten result (IsTrainView (record { format = Text; calls = false }) form
+        (extract_parts extract.now) uid.now text) }
     ensures fault { IfErr result (IsTrainFault (extract_parts extract.now)) }
 {
-    train_listing(alloc, extract, uid, sink, form, Layout::Lines)
+    let layout = Layout {
+        format: Format::Text,
+        calls: false,
+    };
+    train_listing(alloc, extract, uid, sink, form, layout)
 }
 
-/// Appends when the train runs, as `train_view` does, with what the layout lists of each record.
+/// Appends when the train runs, as `train_view` does, in this layout. A table begins with the names of its
+/// fields.
 pub fn train_listing<W: WriteDevice>(
     alloc: Global,
     extract: &Extract,
@@ -50,6 +57,8 @@ pub fn train_listing<W: WriteDevice>(
     ensures fault { IfErr result (IsTrainFault (extract_parts extract.now)) }
 {
     let runs = extract_runs(alloc, extract, form)?;
+    let names = heading(layout, "first_date\tlast_date\tdays_run", "");
+    sink.write_all(names.as_str().as_bytes())?;
     write_runs(
         &LinesOfTrain { uid: *uid, layout },
         extract.schedules.as_slice(),
@@ -79,7 +88,12 @@ impl RecordLines<Schedule> for LinesOfTrain {
         sink: &mut Sink<W>,
     ) -> Result<(), WriteFault> {
         if *uid == self.uid {
-            write_train(self.layout, schedule_line(run, body).as_str(), body, sink)
+            write_train(
+                self.layout,
+                schedule_row(self.layout.format, run, body),
+                body,
+                sink,
+            )
         } else {
             Ok(())
         }

@@ -1,99 +1,108 @@
-//! The lines of the views: fields with a space between them.
-ghost use Rattle.std.specs.Prelude.{◌≡◌, ◌+◌, ◌≤◌, ◌++◌, ◌∷◌, length};
-ghost use Rattle.std.specs.List.{join_with_byte};
+//! The lines of the views: fields, laid out as text or as the row of a table.
+ghost use Rattle.std.specs.Prelude.{◌≡◌, ◌+◌, ◌≤◌, ◌++◌, ◌∷◌, [], length, replicate};
 ghost use Rattle.arrayvec.specs.ArrayString.{array_string_len};
 ghost use Rattle.cif_columns.specs.Line.{ArePrintable};
 ghost use Rattle.cif_weeks.specs.Runs.{record_of};
+ghost use Rattle.cif_canon.specs.Fields.{fields_text, left_out, separator, shown};
+ghost use Rattle.cif_canon.specs.Steps.Fields.{after};
 ghost use Rattle.cif_canon.specs.Views.{association_fields, association_line, journey_fields};
-ghost use Rattle.cif_canon.specs.Views.{place_fields, schedule_line, train_fields, train_line};
+ghost use Rattle.cif_canon.specs.Views.{location_fields, no_association, no_call, no_train};
+ghost use Rattle.cif_canon.specs.Views.{place_fields, schedule_row, train_fields, train_row};
 
+use crate::layout::{Format, Layout};
 use arrayvec::ArrayString;
 use cif_columns::{Text, Uid, WorkTime, as_text};
 use cif_extract::Body;
 use cif_records::{AssocBody, AssocKey};
 use cif_weeks::Run;
 
-/// The bytes of the longest line: that of a schedule in an explanation.
-pub(crate) const LONGEST: usize = 84;
+/// The bytes of the longest line: that of a schedule in the table of an explanation.
+pub(crate) const LONGEST: usize = 95;
 
 /// The line of an association that holds.
 #[tactic(auto, unfolding(crate::specs::Views::association_line))]
-pub(crate) fn association_line(key: &AssocKey, body: &AssocBody) -> ArrayString<LONGEST>
-    ensures { result.bytes ≡ association_line (key.now, body.now) }
+pub(crate) fn association_line(
+    layout: Layout,
+    key: &AssocKey,
+    body: &AssocBody,
+) -> ArrayString<LONGEST>
+    ensures { result.bytes ≡ association_line layout (key.now, body.now) }
 {
-    let mut line = ArrayString::new();
-    line.push_str("AA");
-    push_association(&mut line, key, body);
+    let format = layout.format;
+    let mut line = started(format, b"AA");
+    push_no_train(&mut line, format);
+    push_association(&mut line, format, key, body);
+    push_no_call(&mut line, layout);
     line.push_str("\n");
     line
 }
 
-/// The line of a train that runs.
-#[tactic(auto, unfolding(crate::specs::Views::train_line))]
-pub(crate) fn train_line(uid: &Uid, body: &Body) -> ArrayString<LONGEST>
-    ensures { result.bytes ≡ train_line (uid.now, body.now) }
+/// The row of a train that runs.
+pub(crate) fn train_row(format: Format, uid: &Uid, body: &Body) -> ArrayString<LONGEST>
+    ensures text { result.bytes ≡ fields_text format (train_row format (uid.now, body.now)) }
+    ensures len { array_string_len result + 1 ≤ LONGEST }
 {
-    let mut line = ArrayString::new();
-    line.push_str("BS");
-    push_train(&mut line, uid, body);
-    line.push_str("\n");
-    line
+    let mut row = started(format, b"BS");
+    push_train(&mut row, format, uid, body);
+    push_no_association(&mut row, format);
+    row
 }
 
-/// The line of a schedule with the dates and the mask of the run.
-#[tactic(auto, unfolding(crate::specs::Views::schedule_line))]
-pub(crate) fn schedule_line(run: &Run, body: &Body) -> ArrayString<LONGEST>
-    ensures { result.bytes ≡ schedule_line (record_of run.now body.now) }
+/// The row of a schedule with the dates and the mask of the run.
+pub(crate) fn schedule_row(format: Format, run: &Run, body: &Body) -> ArrayString<LONGEST>
+    ensures text { result.bytes ≡ fields_text format (schedule_row format (record_of run.now body.now)) }
+    ensures len { array_string_len result + 1 ≤ LONGEST }
 {
-    let mut line = ArrayString::new();
-    line.push_str(as_text(&run.first.to_yymmdd()));
-    push_field(&mut line, &run.last.to_yymmdd());
-    push_field(&mut line, &run.days.write());
-    push_journey(&mut line, body);
-    line.push_str("\n");
-    line
+    let mut row = started(format, &run.first.to_yymmdd());
+    push_field(&mut row, format, &run.last.to_yymmdd());
+    push_field(&mut row, format, &run.days.write());
+    push_journey(&mut row, format, body);
+    row
 }
 
 /// Appends the fields of an association that holds.
-pub(crate) fn push_association(line: &mut ArrayString<LONGEST>, key: &AssocKey, body: &AssocBody)
+pub(crate) fn push_association(
+    line: &mut ArrayString<LONGEST>,
+    format: Format,
+    key: &AssocKey,
+    body: &AssocBody,
+)
     requires { array_string_len line.old + 35 ≤ LONGEST }
-    ensures text { line.new.bytes ≡ line.old.bytes
-        ++ (32 ∷ join_with_byte 32 (association_fields (key.now, body.now))) }
-    ensures len { array_string_len line.new ≡ array_string_len line.old + 35 }
+    ensures text { line.new.bytes ≡ line.old.bytes ++ after format (association_fields (key.now, body.now)) }
+    ensures len { array_string_len line.new ≤ array_string_len line.old + 35 }
 {
-    push_field(line, &key.base.write());
-    push_field(line, &key.associated.write());
-    push_field(line, &body.category.write());
-    push_field(line, &body.date_indicator.write());
-    push_field(line, &key.location.write());
-    push_field(line, &key.base_suffix.write());
-    push_field(line, &key.associated_suffix.write());
-    push_field(line, &body.diagram.write());
-    push_field(line, &body.kind.write());
+    push_field(line, format, &key.base.write());
+    push_field(line, format, &key.associated.write());
+    push_field(line, format, &body.category.write());
+    push_field(line, format, &body.date_indicator.write());
+    push_field(line, format, &key.location.write());
+    push_field(line, format, &key.base_suffix.write());
+    push_field(line, format, &key.associated_suffix.write());
+    push_field(line, format, &body.diagram.write());
+    push_field(line, format, &body.kind.write());
 }
 
 /// Appends the fields of a train that runs.
-pub(crate) fn push_train(line: &mut ArrayString<LONGEST>, uid: &Uid, body: &Body)
-    requires { array_string_len line.old + 50 ≤ LONGEST }
-    ensures text { line.new.bytes ≡ line.old.bytes
-        ++ (32 ∷ join_with_byte 32 (train_fields (uid.now, body.now))) }
-    ensures len { array_string_len line.new ≡ array_string_len line.old + 50 }
+pub(crate) fn push_train(line: &mut ArrayString<LONGEST>, format: Format, uid: &Uid, body: &Body)
+    requires { array_string_len line.old + 52 ≤ LONGEST }
+    ensures text { line.new.bytes ≡ line.old.bytes ++ after format (train_fields format (uid.now, body.now)) }
+    ensures len { array_string_len line.new ≤ array_string_len line.old + 52 }
 {
-    push_field(line, &uid.write());
-    push_journey(line, body);
+    push_field(line, format, &uid.write());
+    push_journey(line, format, body);
 }
 
 /// Appends the fields of the body's journey.
-fn push_journey(line: &mut ArrayString<LONGEST>, body: &Body)
-    requires { array_string_len line.old + 43 ≤ LONGEST }
-    ensures text { line.new.bytes ≡
-        line.old.bytes ++ (32 ∷ join_with_byte 32 (journey_fields body.now)) }
-    ensures len { array_string_len line.new ≡ array_string_len line.old + 43 }
+fn push_journey(line: &mut ArrayString<LONGEST>, format: Format, body: &Body)
+    requires { array_string_len line.old + 45 ≤ LONGEST }
+    ensures text { line.new.bytes ≡ line.old.bytes ++ after format (journey_fields format body.now) }
+    ensures len { array_string_len line.new ≤ array_string_len line.old + 45 }
 {
     let (origin, terminus) = (body.origin(), body.terminus());
-    push_field(line, &body.detail().identity.write());
+    push_field(line, format, &body.detail().identity.write());
     push_place(
         line,
+        format,
         &origin.location,
         &origin.suffix,
         &origin.departure,
@@ -101,6 +110,7 @@ fn push_journey(line: &mut ArrayString<LONGEST>, body: &Body)
     );
     push_place(
         line,
+        format,
         &terminus.location,
         &terminus.suffix,
         &terminus.arrival,
@@ -111,29 +121,124 @@ fn push_journey(line: &mut ArrayString<LONGEST>, body: &Body)
 /// Appends the fields of a place of a journey.
 fn push_place(
     line: &mut ArrayString<LONGEST>,
+    format: Format,
     location: &Text<7>,
     suffix: &Text<1>,
     time: &WorkTime,
     platform: &Text<3>,
 )
-    requires { array_string_len line.old + 19 ≤ LONGEST }
+    requires { array_string_len line.old + 20 ≤ LONGEST }
     ensures text { line.new.bytes ≡ line.old.bytes
-        ++ (32 ∷ join_with_byte 32 (place_fields location.now suffix.now time.now platform.now)) }
-    ensures len { array_string_len line.new ≡ array_string_len line.old + 19 }
+        ++ after format (place_fields format location.now suffix.now time.now platform.now) }
+    ensures len { array_string_len line.new ≤ array_string_len line.old + 20 }
 {
-    push_field(line, &location.write());
-    line.push_str(as_text(&suffix.write()));
-    push_field(line, &time.write());
-    push_field(line, &platform.write());
+    push_location(line, format, location, suffix);
+    push_field(line, format, &time.write());
+    push_field(line, format, &platform.write());
 }
 
-/// Appends a space and the columns of a field.
-pub(crate) fn push_field(line: &mut ArrayString<LONGEST>, columns: &[u8])
+/// Appends a location with its suffix: one field of text, two of a table.
+fn push_location(
+    line: &mut ArrayString<LONGEST>,
+    format: Format,
+    location: &Text<7>,
+    suffix: &Text<1>,
+)
+    requires { array_string_len line.old + 10 ≤ LONGEST }
+    ensures text { line.new.bytes ≡ line.old.bytes
+        ++ after format (location_fields format location.now suffix.now) }
+    ensures len { array_string_len line.new ≤ array_string_len line.old + 10 }
+{
+    push_field(line, format, &location.write());
+    match format {
+        Format::Text => line.push_str(as_text(&suffix.write())),
+        Format::Tsv => push_field(line, format, &suffix.write()),
+    }
+}
+
+/// Appends the fields of a train, empty, if the line is a row.
+pub(crate) fn push_no_train(line: &mut ArrayString<LONGEST>, format: Format)
+    requires { array_string_len line.old + 10 ≤ LONGEST }
+    ensures text { line.new.bytes ≡ line.old.bytes ++ after format (no_train format) }
+    ensures len { array_string_len line.new ≤ array_string_len line.old + 10 }
+{
+    push_left_out(line, format, "\t\t\t\t\t\t\t\t\t\t");
+}
+
+/// Appends the fields of an association, empty, if the line is a row.
+pub(crate) fn push_no_association(line: &mut ArrayString<LONGEST>, format: Format)
+    requires { array_string_len line.old + 9 ≤ LONGEST }
+    ensures text { line.new.bytes ≡ line.old.bytes ++ after format (no_association format) }
+    ensures len { array_string_len line.new ≤ array_string_len line.old + 9 }
+{
+    push_left_out(line, format, "\t\t\t\t\t\t\t\t\t");
+}
+
+/// Appends the fields of a call, empty, if the line is a row of a table of calls.
+fn push_no_call(line: &mut ArrayString<LONGEST>, layout: Layout)
+    requires { array_string_len line.old + 12 ≤ LONGEST }
+    ensures text { line.new.bytes ≡ line.old.bytes ++ after layout.format (no_call layout) }
+    ensures len { array_string_len line.new ≤ array_string_len line.old + 12 }
+{
+    if layout.calls {
+        push_left_out(line, layout.format, "\t\t\t\t\t\t\t\t\t\t\t\t");
+    }
+}
+
+/// Appends as many empty fields as there are tabs, if the line is a row.
+pub(crate) fn push_left_out(line: &mut ArrayString<LONGEST>, format: Format, tabs: &str)
+    requires room { array_string_len line.old + length tabs.now ≤ LONGEST }
+    requires tabs { tabs.now ≡ replicate (length tabs.now) 9 }
+    ensures text { line.new.bytes ≡ line.old.bytes ++ after format (left_out format (length tabs.now)) }
+    ensures len { array_string_len line.new ≤ array_string_len line.old + length tabs.now }
+{
+    match format {
+        Format::Text => {}
+        Format::Tsv => line.push_str(tabs),
+    }
+}
+
+/// A line that begins with this field.
+pub(crate) fn started(format: Format, columns: &[u8]) -> ArrayString<LONGEST>
+    requires room { length columns.now ≤ LONGEST }
+    requires printable { ArePrintable columns.now }
+    ensures text { result.bytes ≡ shown format columns.now }
+    ensures len { array_string_len result ≤ length columns.now }
+{
+    let mut line = ArrayString::new();
+    line.push_str(shown(format, columns));
+    line
+}
+
+/// Appends a space or a tab, and a field.
+pub(crate) fn push_field(line: &mut ArrayString<LONGEST>, format: Format, columns: &[u8])
     requires room { array_string_len line.old + length columns.now + 1 ≤ LONGEST }
     requires printable { ArePrintable columns.now }
-    ensures text { line.new.bytes ≡ line.old.bytes ++ (32 ∷ columns.now) }
-    ensures len { array_string_len line.new ≡ array_string_len line.old + length columns.now + 1 }
+    ensures text { line.new.bytes ≡ line.old.bytes ++ (separator format ∷ shown format columns.now) }
+    ensures len { array_string_len line.new ≤ array_string_len line.old + length columns.now + 1 }
 {
-    line.push_str(" ");
-    line.push_str(as_text(columns));
+    line.push_str(separator(format));
+    line.push_str(shown(format, columns));
+}
+
+/// What stands between fields.
+fn separator(format: Format) -> &'static str
+    ensures { result.now ≡ separator format ∷ [] }
+{
+    match format {
+        Format::Text => " ",
+        Format::Tsv => "\t",
+    }
+}
+
+/// The field as it is shown.
+fn shown<'a>(format: Format, columns: &'a [u8]) -> &'a str
+    requires { ArePrintable columns.now }
+    ensures text { result.now ≡ shown format columns.now }
+    ensures len { length result.now ≤ length columns.now }
+{
+    match format {
+        Format::Text => as_text(columns),
+        Format::Tsv => as_text(columns.trim_ascii()),
+    }
 }

@@ -6,17 +6,17 @@ use Rattle.clap.specs.Simple.{app_of_fields}
 use Rattle.clap.specs.declared.Command.{Command}
 use Rattle.clap.specs.declared.builder.arg.Arg.{Arg}
 use Rattle.clap.specs.declared.Command.TheViews.{out-Command}
-use Rattle.cif_tool.specs.CommandLine.{Forms, IsCommand, cif, program, with_dates, with_extract_commands, with_train_commands}
+use Rattle.cif_tool.specs.CommandLine.{Choice, IsCommand, cif, program, with_dates, with_extract_commands, with_train_commands}
 
 -- `clap` says exactly what it makes of the command's words
-pub is_simple_cif : (forms : Forms) → is_simple (cif forms) ≡ true
+pub is_simple_cif : (forms formats : Choice) → is_simple (cif forms formats) ≡ true
 unfolding cif
-is_simple_cif forms = refl
+is_simple_cif forms formats = refl
 
 -- and which kinds of error they have
-pub is_free_cif : (forms : Forms) → is_simple_and_free (cif forms) ≡ true
+pub is_free_cif : (forms formats : Choice) → is_simple_and_free (cif forms formats) ≡ true
 unfolding cif
-is_free_cif forms = refl
+is_free_cif forms formats = refl
 
 abbrev telling : App → App
 telling a = record a { top = record a.top { has_version = true } }
@@ -60,12 +60,12 @@ argument_added a r old x new is_old rule local added = record {
 }
 
 -- the program with its subcommands
-pub commands_added : (forms : Forms) (made more all : Command) → IsCommand (program (codes "cif")) made
-    → IsCommand (with_extract_commands forms (app_of made)) more → IsCommand (with_train_commands forms (app_of more)) all
-    → IsCommand (cif forms) all
+pub commands_added : (forms formats : Choice) (made more all : Command) → IsCommand (program (codes "cif")) made
+    → IsCommand (with_extract_commands forms (app_of made)) more → IsCommand (with_train_commands forms formats (app_of more)) all
+    → IsCommand (cif forms formats) all
 unfolding cif
-commands_added forms made more all is_made is_more is_all = record {
-  app = is_all.app ∙ ap (with_train_commands forms) (is_more.app ∙ ap (with_extract_commands forms) is_made.app);
+commands_added forms formats made more all is_made is_more is_all = record {
+  app = is_all.app ∙ ap (with_train_commands forms formats) (is_more.app ∙ ap (with_extract_commands forms) is_made.app);
   local = is_all.local;
 }
 

@@ -1,5 +1,5 @@
 -- Where `clap` takes the words of a command, each argument that it finds has a value.
-use Rattle.std.proofs.Common.{◌≡◌, ◌⊎◌, inl, inr, Bool, true, false, ℕ, zero, suc, refl, sym, subst, List, [], ◌∷◌, ◌++◌, ◌||◌}
+use Rattle.std.proofs.Common.{◌≡◌, Bool, true, false, ℕ, zero, suc, refl, sym, subst, List, [], ◌∷◌, ◌++◌, ◌||◌}
 use Rattle.std.proofs.Common.{◌&&◌, not, length, drop, Option, Some, None, is_some, if◌then◌else◌, true≢false}
 use Rattle.std.specs.Prelude.{⊤, IfSome, find, slice_get, encode_utf8}
 use Rattle.std.specs.List.{fold, list_any}
@@ -8,7 +8,7 @@ use Rattle.std.specs.Str.{bytes_eq, chars}
 use Rattle.clap.specs.Lexer.{long_of, short_of}
 use Rattle.clap.specs.Words.{Row, Rule, Shape, Text, first_of}
 use Rattle.clap.specs.Facts.{explicit_source, unwrap_or_range}
-use Rattle.clap.specs.Kinds.{Kinds, check_kinds, or_else, range_kinds, request_kinds}
+use Rattle.clap.specs.Kinds.{Kinds, check_kinds, or_else, range_kinds}
 use Rattle.clap.specs.Walk.{Held, Names, Outcome, Step, Waiting, Walk, action_of, after_flag, after_step, arg_by_id, arg_by_index}
 use Rattle.clap.specs.Walk.{arg_by_long, arg_by_short, at_row, attached_value, bundle, bundle_met, bundle_step, default_rows, done}
 use Rattle.clap.specs.Walk.{finished, flag_met, has_row, idle, is_pending, long_met, long_or_other, more_values, most_values, next}
@@ -19,7 +19,7 @@ use Rattle.clap.specs.Walk.{value, values_or_missing, waits, walk, walk_from, wa
 use Rattle.clap.specs.Walk.{without, word_met}
 use Rattle.clap.specs.Takes.{is_given}
 use Rattle.clap.specs.Simple.{rows_at}
-use Rattle.clap.specs.Faults.{action_fault, bundle_fault, bundle_step_fault, check_fault, defaults_fault, flag_word_fault}
+use Rattle.clap.specs.Faults.{bundle_fault, bundle_step_fault, check_fault, defaults_fault, flag_word_fault}
 use Rattle.clap.specs.Faults.{flags_fault, level_fault, long_fault, option_fault, other_fault, positional_fault, react_fault}
 use Rattle.clap.specs.Faults.{settle_fault, short_fault, step_fault, stray_fault, turn_fault, use_fault, walk_fault, word_fault}
 use Rattle.clap.specs.declared.error.ErrorKind.TheVariants.{TooManyValues}

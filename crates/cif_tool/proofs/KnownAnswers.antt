@@ -19,6 +19,7 @@ use Rattle.cif_canon.specs.Views.{IsDayView, IsTrainView}
 use Rattle.cif_canon.specs.declared.asked.Asked.{Asked}
 use Rattle.cif_canon.specs.declared.comparison.Comparison.{Comparison}
 use Rattle.cif_canon.specs.declared.counts.Counts.{Counts}
+use Rattle.cif_canon.specs.declared.layout.Format.{Format}
 use Rattle.cif_canon.specs.declared.layout.Layout.{Layout}
 use Rattle.cif_tool.specs.Answer.{IsCheckAnswer, IsClashesAnswer, IsCompareAnswer, IsDayAnswer, IsDiffAnswer}
 use Rattle.cif_tool.specs.Answer.{IsExplainAnswer, IsListedStatus, IsNormaliseAnswer, IsTrainAnswer}
@@ -68,10 +69,10 @@ module _ (start : Option (List ℕ)) where
         known_so start (λ bytes. BytesSpellWithin MAX_LINES bytes x) (λ bytes. IsDayAnswer layout day bytes text 0)
         (λ bytes s. record { extract = x; spelled = s; view = view; status_is = refl }) spelled
 
-    pub explain-answer : (uid : List ℕ) (day : ℕ) (text : List ℕ) → IsExplanation x uid day text →
-        IfSome start (λ bytes. IsExplainAnswer uid day bytes text 0)
-    explain-answer uid day text is =
-        known_so start (λ bytes. BytesSpellWithin MAX_LINES bytes x) (λ bytes. IsExplainAnswer uid day bytes text 0)
+    pub explain-answer : (format : Format) (uid : List ℕ) (day : ℕ) (text : List ℕ) → IsExplanation format x uid day text →
+        IfSome start (λ bytes. IsExplainAnswer format uid day bytes text 0)
+    explain-answer format uid day text is =
+        known_so start (λ bytes. BytesSpellWithin MAX_LINES bytes x) (λ bytes. IsExplainAnswer format uid day bytes text 0)
         (λ bytes s. record { extract = x; spelled = s; explanation = is; status_is = refl }) spelled
 
     pub clashes-answer : (asked : Asked) (y : ExtractParts) (clashes : List Clash) (none : Bool) → IsNarrowed asked x y →

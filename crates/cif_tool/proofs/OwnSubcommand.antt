@@ -17,7 +17,7 @@ use Rattle.cif_tool.proofs.Each.{Each}
 use Rattle.cif_tool.proofs.FirstFault.{first_passes, later_passes}
 use Rattle.cif_tool.proofs.GivenWords.{required_given}
 use Rattle.cif_tool.proofs.HelpNotEntered.{IsNotHelp, IsOn, walk_on}
-use Rattle.cif_tool.specs.CommandLine.{Forms, chosen, cif, faults_of}
+use Rattle.cif_tool.specs.CommandLine.{Choice, chosen, cif, faults_of}
 use Rattle.cif_tool.specs.Job.{IsTaken}
 
 -- where the subcommand is named, by another name than `help`, and takes its words, Q holds of its name and its matches
@@ -115,10 +115,11 @@ not_help name on is =
     true≢false (sym ((bytes_eq-Decides name (codes "help")).1 (sym same)) ∙ on)
 
 -- where `clap` takes the words, it enters a subcommand of the program's own, with the words that it wants
-pub enters_own : (forms : Forms) (words : List Text) → faults_of forms words ≡ [] → IsSomeAnd (chosen forms words) IsTaken
+pub enters_own : (forms formats : Choice) (words : List Text) → faults_of forms formats words ≡ []
+    → IsSomeAnd (chosen forms formats words) IsTaken
 unfolding cif chosen faults_of
-enters_own forms words e =
-    takes_own IsTaken (cif forms) words refl refl (
+enters_own forms formats words e =
+    takes_own IsTaken (cif forms formats) words refl refl (
       λ name on is ws h. inl refl,
       (
         λ name on is ws h. inr (inl refl),
@@ -132,15 +133,15 @@ enters_own forms words e =
                 inr (inr (inr (inl (refl, given.1.0 refl, given.1.1.0 refl)))),
             (
               λ name on is ws h.
-                  let given = required_given _ ws (refl, (refl, (refl, (refl, (tt, tt))))) h in
+                  let given = required_given _ ws (refl, (refl, (refl, (refl, (refl, (tt, tt)))))) h in
                   inr (inr (inr (inr (inl (refl, given.1.0 refl))))),
               (
                 λ name on is ws h.
-                    let given = required_given _ ws (refl, (refl, (refl, (refl, (refl, (refl, (refl, (tt, tt)))))))) h in
+                    let given = required_given _ ws (refl, (refl, (refl, (refl, (refl, (refl, (refl, (refl, (tt, tt))))))))) h in
                     inr (inr (inr (inr (inr (inl (refl, given.1.0 refl)))))),
                 (
                   λ name on is ws h.
-                      let given = required_given _ ws (refl, (refl, (refl, (refl, (tt, tt))))) h in
+                      let given = required_given _ ws (refl, (refl, (refl, (refl, (refl, (tt, tt)))))) h in
                       inr (inr (inr (inr (inr (inr (inl (refl, given.1.0 refl, given.1.1.0 refl))))))),
                   (
                     λ name on is ws h. inr (inr (inr (inr (inr (inr (inr refl)))))),

@@ -25,6 +25,7 @@ use Rattle.cif_canon.specs.Views.{IsDayFault, IsDayView, IsTrainView}
 use Rattle.cif_canon.specs.declared.asked.Asked.{Asked}
 use Rattle.cif_canon.specs.declared.comparison.Comparison.{Comparison}
 use Rattle.cif_canon.specs.declared.counts.Counts.{Counts}
+use Rattle.cif_canon.specs.declared.layout.Format.{Format}
 use Rattle.cif_canon.specs.declared.layout.Layout.{Layout}
 use Rattle.cif_tool.specs.Pair.{IsCompareRefusal, SpellPair}
 use Rattle.cif_tool.specs.Status.{outcome_of}
@@ -59,14 +60,14 @@ pub record IsCheckAnswer (form : Form) (asked : Asked) (bytes text : List ℕ) (
   pub text_is : text ≡ counts_line counts
   pub status_is : status ≡ 0
 
--- `day` answers these bytes by what runs on the day, with what the layout lists of each train.
+-- `day` answers these bytes by what runs on the day, in this layout.
 pub record IsDayAnswer (layout : Layout) (day : ℕ) (bytes text : List ℕ) (status : ℕ) : Type 0 where
   pub extract : ExtractParts
   pub spelled : BytesSpellWithin MAX_LINES bytes extract
   pub view : IsDayView layout extract day text
   pub status_is : status ≡ 0
 
--- `train` answers these bytes by when the train runs, with what the layout lists of each record.
+-- `train` answers these bytes by when the train runs, in this layout.
 pub record IsTrainAnswer (layout : Layout) (form : Form) (asked : Asked) (uid bytes text : List ℕ) (status : ℕ) : Type 0 where
   pub extract : ExtractParts
   pub spelled : SpellsNarrowed MAX_LINES asked extract bytes
@@ -97,11 +98,11 @@ pub record IsDiffAnswer (asked : Asked) (common : Bool) (left_bytes right_bytes 
   pub text_is : text ≡ differences_text differences
   pub status_is : IsListedStatus (AreNone differences) status
 
--- `explain` answers these bytes by why the train runs on the day, or doesn't.
-pub record IsExplainAnswer (uid : List ℕ) (day : ℕ) (bytes text : List ℕ) (status : ℕ) : Type 0 where
+-- `explain` answers these bytes by why the train runs on the day, or doesn't, in this format.
+pub record IsExplainAnswer (format : Format) (uid : List ℕ) (day : ℕ) (bytes text : List ℕ) (status : ℕ) : Type 0 where
   pub extract : ExtractParts
   pub spelled : BytesSpellWithin MAX_LINES bytes extract
-  pub explanation : IsExplanation extract uid day text
+  pub explanation : IsExplanation format extract uid day text
   pub status_is : status ≡ 0
 
 -- `clashes` answers an input by all its clashes in the window that is asked for.
@@ -167,7 +168,8 @@ IsJobAnswer (Diff left_file right_file asked common) start right text status =
 IsJobAnswer (Day day file layout) start right text status = IfSome start (λ bytes. IsDayAnswer layout day bytes text status)
 IsJobAnswer (Train uid file asked form layout) start right text status =
     IfSome start (λ bytes. IsTrainAnswer layout form asked uid bytes text status)
-IsJobAnswer (Explain uid day file) start right text status = IfSome start (λ bytes. IsExplainAnswer uid day bytes text status)
+IsJobAnswer (Explain uid day file format) start right text status =
+    IfSome start (λ bytes. IsExplainAnswer format uid day bytes text status)
 IsJobAnswer (Clashes file asked) start right text status = IfSome start (λ bytes. IsClashesAnswer asked bytes text status)
 
 -- Why it has no answer, where `after` and `right_after` are what the readers have left then, and Untouched says that the second wasn't
@@ -185,7 +187,7 @@ IsJobRefusal (Day day file layout) start after Untouched right right_after fault
     IfSome start (λ bytes. IsDayRefusal day bytes after fault)
 IsJobRefusal (Train uid file asked form layout) start after Untouched right right_after fault =
     IfSome start (λ bytes. IsNormaliseFault MAX_LINES asked bytes after fault)
-IsJobRefusal (Explain uid day file) start after Untouched right right_after fault =
+IsJobRefusal (Explain uid day file format) start after Untouched right right_after fault =
     IfSome start (λ bytes. IsExplainRefusal day bytes after fault)
 IsJobRefusal (Clashes file asked) start after Untouched right right_after fault =
     IfSome start (λ bytes. IsClashesRefusal asked bytes after fault)

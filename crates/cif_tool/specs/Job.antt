@@ -4,13 +4,14 @@ use Rattle.std.specs.Prelude.{if◌then◌else◌}
 use Rattle.std.specs.Str.{bytes_eq}
 use Rattle.clap.specs.Words.{Row, Text, first_of}
 use Rattle.cif_canon.specs.declared.asked.Asked.{Asked}
+use Rattle.cif_canon.specs.declared.layout.Format.{Format}
+use Rattle.cif_canon.specs.declared.layout.Format.TheVariants as format
 use Rattle.cif_canon.specs.declared.layout.Layout.{Layout}
-use Rattle.cif_canon.specs.declared.layout.Layout.TheVariants.{Lines, LinesAndCalls}
 use Rattle.cif_columns.specs.Day.{StandsInYymmdd}
 use Rattle.cif_columns.specs.Uid.{IsUid}
 use Rattle.cif_weeks.specs.declared.form.Form.{Form}
 use Rattle.cif_weeks.specs.declared.form.Form.TheVariants.{One, Two}
-use Rattle.cif_tool.specs.CommandLine.{AreForms, Forms, chosen, faults_of}
+use Rattle.cif_tool.specs.CommandLine.{AreFormats, AreForms, Choice, chosen, faults_of}
 use Rattle.cif_tool.specs.declared.job.Job.{Job}
 use Rattle.cif_tool.specs.declared.job.Job.TheVariants.{Check, Clashes, Compare, Day, Diff, Explain, Normalise, Train}
 
@@ -51,9 +52,14 @@ is_set None = false
 abbrev pub has_common : List Row → Bool
 has_common rows = is_set (first_of (codes "common") rows)
 
--- what is listed of each train: its calls too, if `--stops` is among the words
+-- the format that the word of `--format` names
+abbrev pub format_of : Option Text → Format
+format_of (Some word) = if bytes_eq word (codes "tsv") then format.Tsv else format.Text
+format_of None = format.Text
+
+-- the layout has this format, and the calls of each train if `--stops` is among the words
 abbrev pub layout_of : List Row → Layout
-layout_of rows = if is_set (first_of (codes "stops") rows) then LinesAndCalls else Lines
+layout_of rows = record { format = format_of (first_of (codes "format") rows); calls = is_set (first_of (codes "stops") rows) }
 
 -- the six columns of the word are a UID, and it is this one
 abbrev pub IsUidWord : Text → List ℕ → Type 0
@@ -89,10 +95,11 @@ IsChosen (Train uid file asked form layout) met = (met.0 ≡ codes "train")
     × IsSomeAnd (first_of (codes "UID") met.1) (λ word. IsUidWord word uid)
     × AreCanonicalWords met.1 (option_map string_bytes file) asked form
     × (layout ≡ layout_of met.1)
-IsChosen (Explain uid day file) met = (met.0 ≡ codes "explain")
+IsChosen (Explain uid day file shape) met = (met.0 ≡ codes "explain")
     × IsSomeAnd (first_of (codes "UID") met.1) (λ word. IsUidWord word uid)
     × IsDateOf (first_of (codes "YYMMDD") met.1) (Some day)
     × HasFile met.1 (option_map string_bytes file)
+    × (shape ≡ format_of (first_of (codes "format") met.1))
 IsChosen (Clashes file asked) met = (met.0 ≡ codes "clashes")
     × IsAskedBy met.1 asked
     × HasFile met.1 (option_map string_bytes file)
@@ -109,10 +116,12 @@ IsTaken met = (met.0 ≡ codes "normalise") ⊎ ((met.0 ≡ codes "check")
 
 -- `clap` takes the words, enters the job's subcommand and finds what the job holds
 pub record Asks (words : List Text) (job : Job) : Type 0 where
-  pub forms : Forms
+  pub forms : Choice
   pub are_forms : AreForms forms
-  pub taken : faults_of forms words ≡ []
-  pub is_chosen : IsSomeAnd (chosen forms words) (IsChosen job)
+  pub formats : Choice
+  pub are_formats : AreFormats formats
+  pub taken : faults_of forms formats words ≡ []
+  pub is_chosen : IsSomeAnd (chosen forms formats words) (IsChosen job)
 
 -- The names of the inputs that a job reads: the first is standard input where it is absent, and each is where it is `-`. Only `compare`
 -- and `diff` have a second.
@@ -123,5 +132,5 @@ input_names (Compare left right asked common) = (Some (string_bytes left), Some 
 input_names (Diff left right asked common) = (Some (string_bytes left), Some (string_bytes right))
 input_names (Day day file layout) = (option_map string_bytes file, None)
 input_names (Train uid file asked form layout) = (option_map string_bytes file, None)
-input_names (Explain uid day file) = (option_map string_bytes file, None)
+input_names (Explain uid day file shape) = (option_map string_bytes file, None)
 input_names (Clashes file asked) = (option_map string_bytes file, None)

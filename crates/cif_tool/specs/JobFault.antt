@@ -10,7 +10,7 @@ use Rattle.cif_columns.specs.declared.sink.Sink.{Sink}
 use Rattle.cif_columns.specs.declared.sink.WriteFault.{WriteFault}
 use Rattle.cif_extract.specs.declared.fault.Fault.{Fault}
 use Rattle.cif_extract.specs.declared.fault.Fault.TheVariants.{Write, Memory as OutOfMemory}
-use Rattle.cif_tool.specs.CommandLine.{AreForms, Forms, chosen, faults_of}
+use Rattle.cif_tool.specs.CommandLine.{AreFormats, AreForms, Choice, chosen, faults_of}
 use Rattle.cif_tool.specs.Job.{is_standard}
 use Rattle.cif_tool.specs.declared.job_fault.JobFault.{JobFault}
 use Rattle.cif_tool.specs.declared.job_fault.JobFault.TheVariants.{Usage, BadDate, BadUid, OneInput, Memory}
@@ -49,16 +49,19 @@ IsWordFault Memory met = ⊤
 IsWordFault (Usage error) met = ⊥
 
 -- `clap` refuses the words, by the error's kind, or it takes them and one of them is no UID or no date, or both inputs are standard input
-abbrev pub IsFaultAt : Forms → List Text → JobFault → Type 0
-IsFaultAt forms words (Usage error) = IsAmong (kind_of error) (faults_of forms words)
-IsFaultAt forms words Memory = ⊤
-IsFaultAt forms words fault = (faults_of forms words ≡ []) × IsSomeAnd (chosen forms words) (IsWordFault fault)
+abbrev pub IsFaultAt : Choice → Choice → List Text → JobFault → Type 0
+IsFaultAt forms formats words (Usage error) = IsAmong (kind_of error) (faults_of forms formats words)
+IsFaultAt forms formats words Memory = ⊤
+IsFaultAt forms formats words fault =
+    (faults_of forms formats words ≡ []) × IsSomeAnd (chosen forms formats words) (IsWordFault fault)
 
 -- why these words ask for nothing
 pub record IsFaultOf (words : List Text) (fault : JobFault) : Type 0 where
-  pub forms : Forms
+  pub forms : Choice
   pub are_forms : AreForms forms
-  pub fault_is : IsFaultAt forms words fault
+  pub formats : Choice
+  pub are_formats : AreFormats formats
+  pub fault_is : IsFaultAt forms formats words fault
 
 -- help and the version, where they are asked for, are no mistake
 abbrev pub kind_status : ErrorKind → ℕ

@@ -180,14 +180,20 @@ pub(crate) fn advise_on_date<W: WriteDevice>(
     errors: &mut Sink<W>,
 ) {
     if let Some(word) = mistaken_date(alloc, words) {
-        tell(errors, &["'", word, "': a date is six digits, YYMMDD"]);
+        tell(
+            errors,
+            &["'", word, "': must be a valid date as six digits, YYMMDD"],
+        );
     }
 }
 
 /// Says which UID of the words is mistaken.
 pub(crate) fn advise_on_uid<W: WriteDevice>(alloc: Global, words: &[String], errors: &mut Sink<W>) {
     if let Some(word) = mistaken_uid(alloc, words) {
-        tell(errors, &["'", word, "': a UID is six characters"]);
+        tell(
+            errors,
+            &["'", word, "': must be six printable ASCII characters"],
+        );
     }
 }
 

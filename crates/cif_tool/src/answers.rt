@@ -16,8 +16,8 @@ ghost use Rattle.cif_tool.specs.Pair.{IsCompareRefusal};
 use crate::pair::{narrowed, read_pair};
 use crate::status::{DONE, listed, outcome};
 use cif_canon::{
-    Asked, Layout, check_keeping, clashes, compare, day_listing, differences, explain_view,
-    normalise_keeping, train_listing, write_comparison, write_counts,
+    Asked, Format, Layout, check_keeping, clashes, compare, day_listing, differences,
+    explain_listing, normalise_keeping, train_listing, write_comparison, write_counts,
 };
 use cif_columns::{Day, MAX_LINES, ReadDevice, Sink, Source, Uid, WriteDevice};
 use cif_extract::{Fault, read_extract};
@@ -181,17 +181,18 @@ pub fn answer_train<R: ReadDevice, W: WriteDevice>(
     flushed(sink, DONE)
 }
 
-/// Writes why the train runs on the day, or doesn't, and answers status 0.
+/// Writes why the train runs on the day, or doesn't, in this format, and answers status 0.
 pub fn answer_explain<R: ReadDevice, W: WriteDevice>(
     alloc: Global,
     source: &mut Source<R>,
     sink: &mut Sink<W>,
     uid: &Uid,
     day: Day,
+    format: Format,
 ) -> Result<u8, Fault>
     ensures answer { Answers W.contents W.write_errors
         (λ text status. IfSome (R.remaining (reader_of source.old)) (λ bytes.
-        IsExplainAnswer uid.now day bytes text status)) sink.old sink.new result }
+        IsExplainAnswer format uid.now day bytes text status)) sink.old sink.new result }
     ensures fault { IfSome (R.remaining (reader_of source.old)) (λ bytes. IfErr result
         (IsExplainRefusal day bytes (R.remaining (reader_of source.new)))) }
     ensures source { FaultReads R.read_errors source.old source.new result }
@@ -199,7 +200,7 @@ pub fn answer_explain<R: ReadDevice, W: WriteDevice>(
     ensures handed_on { IsHandedOn W.holds_nothing sink.new result }
 {
     let extract = read_extract(alloc, source, MAX_LINES)?;
-    explain_view(alloc, &extract, uid, day, sink)?;
+    explain_listing(alloc, &extract, uid, day, sink, format)?;
     flushed(sink, DONE)
 }
 

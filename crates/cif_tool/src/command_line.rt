@@ -3,9 +3,9 @@ ghost use Rattle.std.specs.Prelude.{◌≡◌, IfOk, codes, false, map, string_b
 ghost use Rattle.clap.specs.Words.{FailsBy, app_of, rule_of, subcommand_rows_of};
 ghost use Rattle.clap.specs.declared.Command.TheViews.{out-Command};
 ghost use Rattle.cif_tool.specs.CommandLine.{IsCommand, canonical, chosen, cif, clashes, day};
-ghost use Rattle.cif_tool.specs.CommandLine.{explain, faults_of, flag, form_option, of_two_files};
-ghost use Rattle.cif_tool.specs.CommandLine.{option, optional, program, required, subcommand};
-ghost use Rattle.cif_tool.specs.CommandLine.{train, with_dates, with_extract_commands};
+ghost use Rattle.cif_tool.specs.CommandLine.{explain, faults_of, flag, form_option, format_option};
+ghost use Rattle.cif_tool.specs.CommandLine.{of_two_files, option, optional, program, required};
+ghost use Rattle.cif_tool.specs.CommandLine.{subcommand, train, with_dates, with_extract_commands};
 ghost use Rattle.cif_tool.specs.CommandLine.{with_train_commands};
 
 use crate::help;
@@ -76,6 +76,19 @@ fn form_option<'a>(alloc: Global, forms: &'a [&'a str]) -> Arg<'a>
         .help(help::FORM)
 }
 
+/// `--format FORMAT`, which is one of the two words.
+fn format_option<'a>(alloc: Global, formats: &'a [&'a str]) -> Arg<'a>
+    ensures rule { rule_of result ≡ format_option formats.entry }
+    ensures local { result.global ≡ false }
+{
+    Arg::new(alloc, "format")
+        .long("format")
+        .value_name("FORMAT")
+        .value_parser(formats)
+        .default_value("text")
+        .help(help::FORMAT)
+}
+
 /// The command, with the options for a narrower window.
 fn with_dates<'a>(alloc: Global, command: Command<'a>) -> Result<Command<'a>, AllocError>
     requires { (out-Command command).has_globals ≡ false }
@@ -116,35 +129,42 @@ fn of_two_files<'a>(
 }
 
 /// `day`, which takes a date.
-fn day<'a>(alloc: Global) -> Result<Command<'a>, AllocError>
-    ensures { IfOk result (IsCommand day) }
+fn day<'a>(alloc: Global, formats: &'a [&'a str]) -> Result<Command<'a>, AllocError>
+    ensures { IfOk result (IsCommand (day formats.entry)) }
 {
     subcommand(alloc, "day", help::DAY, help::DAY_MORE)?
         .arg(required(alloc, "YYMMDD", help::DATE))?
         .arg(optional(alloc, "FILE", help::FILE))?
-        .arg(flag(alloc, "stops", help::STOPS))
+        .arg(flag(alloc, "stops", help::STOPS))?
+        .arg(format_option(alloc, formats))
 }
 
 /// `train`, which takes a UID.
-fn train<'a>(alloc: Global, forms: &'a [&'a str]) -> Result<Command<'a>, AllocError>
-    ensures { IfOk result (IsCommand (train forms.entry)) }
+fn train<'a>(
+    alloc: Global,
+    forms: &'a [&'a str],
+    formats: &'a [&'a str],
+) -> Result<Command<'a>, AllocError>
+    ensures { IfOk result (IsCommand (train forms.entry formats.entry)) }
 {
     let command = subcommand(alloc, "train", help::TRAIN, help::TRAIN_MORE)?
         .arg(required(alloc, "UID", help::UID))?
         .arg(optional(alloc, "FILE", help::FILE))?;
     with_dates(alloc, command)?
         .arg(form_option(alloc, forms))?
-        .arg(flag(alloc, "stops", help::STOPS))
+        .arg(flag(alloc, "stops", help::STOPS))?
+        .arg(format_option(alloc, formats))
 }
 
 /// `explain`, which takes a UID and a date.
-fn explain<'a>(alloc: Global) -> Result<Command<'a>, AllocError>
-    ensures { IfOk result (IsCommand explain) }
+fn explain<'a>(alloc: Global, formats: &'a [&'a str]) -> Result<Command<'a>, AllocError>
+    ensures { IfOk result (IsCommand (explain formats.entry)) }
 {
     subcommand(alloc, "explain", help::EXPLAIN, help::EXPLAIN_MORE)?
         .arg(required(alloc, "UID", help::UID))?
         .arg(required(alloc, "YYMMDD", help::DATE))?
-        .arg(optional(alloc, "FILE", help::FILE))
+        .arg(optional(alloc, "FILE", help::FILE))?
+        .arg(format_option(alloc, formats))
 }
 
 /// `clashes`, which lists all clashes of a file.
@@ -200,34 +220,42 @@ fn with_train_commands<'a>(
     alloc: Global,
     command: Command<'a>,
     forms: &'a [&'a str],
+    formats: &'a [&'a str],
 ) -> Result<Command<'a>, AllocError>
     requires { (out-Command command).has_globals ≡ false }
-    ensures { IfOk result (IsCommand (with_train_commands forms.entry (app_of command.entry))) }
+    ensures { IfOk result (IsCommand
+        (with_train_commands forms.entry formats.entry (app_of command.entry))) }
 {
     command
-        .subcommand(day(alloc)?)?
-        .subcommand(train(alloc, forms)?)?
-        .subcommand(explain(alloc)?)?
+        .subcommand(day(alloc, formats)?)?
+        .subcommand(train(alloc, forms, formats)?)?
+        .subcommand(explain(alloc, formats)?)?
         .subcommand(clashes(alloc)?)
 }
 
-/// The command line of `cif`, with the words that name a form.
-fn cif_command<'a>(alloc: Global, forms: &'a [&'a str]) -> Result<Command<'a>, AllocError>
-    ensures { IfOk result (IsCommand (cif forms.entry)) }
+/// The command line of `cif`, with the words that name a form, and a format.
+fn cif_command<'a>(
+    alloc: Global,
+    forms: &'a [&'a str],
+    formats: &'a [&'a str],
+) -> Result<Command<'a>, AllocError>
+    ensures { IfOk result (IsCommand (cif forms.entry formats.entry)) }
 {
     let command = with_extract_commands(alloc, program(alloc)?, forms)?;
-    with_train_commands(alloc, command, forms)
+    with_train_commands(alloc, command, forms, formats)
 }
 
 /// The matches that `clap` gives for the words, of which the first is the program's name.
 pub(crate) fn matches_of<'a>(
     alloc: Global,
     forms: &'a [&'a str],
+    formats: &'a [&'a str],
     words: &'a [String],
 ) -> Result<ArgMatches<'a>, clap::Error>
     ensures ok { IfOk result (λ matches. subcommand_rows_of matches
-        ≡ chosen forms.entry (map string_bytes words.entry.now)) }
-    ensures kinds { FailsBy (faults_of forms.entry (map string_bytes words.entry.now)) result }
+        ≡ chosen forms.entry formats.entry (map string_bytes words.entry.now)) }
+    ensures kinds { FailsBy
+        (faults_of forms.entry formats.entry (map string_bytes words.entry.now)) result }
 {
-    cif_command(alloc, forms)?.try_get_matches_from(words)
+    cif_command(alloc, forms, formats)?.try_get_matches_from(words)
 }

@@ -4,43 +4,43 @@ pub(crate) const CIF: &str = "Works out what runs on each date of a CIF timetabl
 
 pub(crate) const CIF_MORE: &str = "\
 Each command reads full extracts: lines of 80 columns, from HD to ZZ. A date
-is six digits, YYMMDD. A fault is told on standard error. `cif help COMMAND`
-says what a command prints.
+is six digits, YYMMDD. Faults go to standard error; --verbose says more about
+them. `cif help COMMAND` says what a command prints.
 
 Example:
   cif normalise extract.cif > canonical.cif
 
 Statuses:
-  0  done; of compare and diff: no difference; of clashes: no clash
-  1  of compare and diff: a difference; of clashes: a clash
+  0  success; for compare and diff: no difference; for clashes: no clash
+  1  for compare and diff: a difference; for clashes: a clash
   2  a usage error
   3  an extract is refused, or its window doesn't fit what was asked for
-  4  a fault of reading, of writing or of memory";
+  4  reading or writing failed, or memory ran out";
 
 pub(crate) const NORMALISE: &str = "Writes the canonical extract of what the input says";
 
 pub(crate) const NORMALISE_MORE: &str = "\
-Prints an extract of permanent records alone, of which at most one of a train
-or an association applies on a date. If the input is refused, prints nothing.
+Prints an extract of permanent records only. On each date at most one record of
+a train or an association applies. If the input is refused, prints nothing.
 Form 1 joins weeks that have the same days. Form 2 also joins a week that the
-window cuts, where it runs alike on the days that are left of it.
+window cuts, if the days that are left of it are alike.
 
 Example:
   cif normalise --from 260105 --to 260118 extract.cif > canonical.cif
 
 Statuses:
-  0  done
+  0  success
   2  a usage error
   3  the input is refused, or the dates asked for don't fit its window
-  4  a fault of reading, of writing or of memory";
+  4  reading or writing failed, or memory ran out";
 
 pub(crate) const CHECK: &str = "Says whether an extract is accepted, and counts its records";
 
 pub(crate) const CHECK_MORE: &str = "\
-Prints one line with the numbers of the canonical extract's records:
+Prints one line, with the numbers of records in the canonical extract:
   accepted: T tiplocs, A associations, S schedules
 Form 1 joins weeks that have the same days. Form 2 also joins a week that the
-window cuts, where it runs alike on the days that are left of it.
+window cuts, if the days that are left of it are alike.
 
 Example:
   cif check extract.cif
@@ -49,15 +49,15 @@ Statuses:
   0  accepted
   2  a usage error
   3  the input is refused, or the dates asked for don't fit its window
-  4  a fault of reading, of writing or of memory";
+  4  reading or writing failed, or memory ran out";
 
-pub(crate) const COMPARE: &str = "Says where two extracts first differ, or that they don't";
+pub(crate) const COMPARE: &str = "Says whether two extracts differ, and where first";
 
 pub(crate) const COMPARE_MORE: &str = "\
 Prints one line: `same`, or the first difference. Tiplocs come first, then
 associations, then trains. Of the headers only the windows are compared.
 With --common, the common window goes from the later of the two first dates
-to the earlier of the two last dates: extracts of two days have two windows.
+to the earlier of the two last dates. Extracts of different days need it.
 
   differs: tiploc [COLUMNS 3-72]
   differs: association [BASE][OTHER][LOCATION][SUFFIX][SUFFIX] on YYMMDD
@@ -71,16 +71,16 @@ Statuses:
   1  a difference
   2  a usage error
   3  one is refused, or their windows differ or don't fit the dates asked for
-  4  a fault of reading, of writing or of memory";
+  4  reading or writing failed, or memory ran out";
 
-pub(crate) const DIFF: &str = "Lists everything in which two extracts differ";
+pub(crate) const DIFF: &str = "Lists all differences of two extracts";
 
 pub(crate) const DIFF_MORE: &str = "\
-Prints the records of what only one of the two says: `< ` stands before each
-line of LEFT, and `> ` before each line of RIGHT. Locations come first, then
+Prints the records of what only one of the two says: its lines begin with `< `
+if that is LEFT, and with `> ` if it is RIGHT. Locations come first, then
 associations, then schedules. If there is no difference, prints nothing.
 With --common, the common window goes from the later of the two first dates
-to the earlier of the two last dates: extracts of two days have two windows.
+to the earlier of the two last dates. Extracts of different days need it.
 
 Example:
   cif diff --common yesterday.cif today.cif
@@ -90,7 +90,7 @@ Statuses:
   1  a difference
   2  a usage error
   3  one is refused, or their windows differ or don't fit the dates asked for
-  4  a fault of reading, of writing or of memory";
+  4  reading or writing failed, or memory ran out";
 
 pub(crate) const DAY: &str = "Lists the associations and the trains of one date";
 
@@ -101,35 +101,37 @@ Prints a line for each association that holds, then one for each train:
 With --stops a line for each call of a train follows its own (LO, LI or LT):
   LI LOCATION SUFFIX ARRIVAL DEPARTURE PASS, public ARRIVAL DEPARTURE,
   PLATFORM PATH LINE ACTIVITIES
-One space stands between fields, and a field is as wide as its columns.
+Fields have their full width, with one space between them. --format tsv prints
+a table instead: field names in the first line, tabs between fields, no padding.
+Each call is then a row that begins with its train's fields.
 
-Example:
+Examples:
   cif day 260114 extract.cif
+  cif day --stops --format tsv 260114 extract.cif > calls.tsv
 
 Statuses:
-  0  done
+  0  success
   2  a usage error
   3  the input is refused, or the date isn't in its window
-  4  a fault of reading, of writing or of memory";
+  4  reading or writing failed, or memory ran out";
 
 pub(crate) const TRAIN: &str = "Lists the schedules of one train";
 
 pub(crate) const TRAIN_MORE: &str = "\
 Prints a line for each schedule that the train has in the canonical extract:
   FIRST LAST DAYS IDENTITY ORIGIN DEPARTURE PLATFORM TERMINUS ARRIVAL PLATFORM
-With --stops a line for each of its calls follows, as of `cif day --stops`.
-One space stands between fields, and a field is as wide as its columns.
+--stops and --format tsv are as of `cif day`.
 Form 1 joins weeks that have the same days. Form 2 also joins a week that the
-window cuts, where it runs alike on the days that are left of it.
+window cuts, if the days that are left of it are alike.
 
 Example:
   cif train C00123 extract.cif
 
 Statuses:
-  0  done, also where the train doesn't run
+  0  success, even if the train doesn't run
   2  a usage error
   3  the input is refused, or the dates asked for don't fit its window
-  4  a fault of reading, of writing or of memory";
+  4  reading or writing failed, or memory ran out";
 
 pub(crate) const EXPLAIN: &str = "Says why a train runs on a date, or why it doesn't";
 
@@ -139,17 +141,17 @@ its associations first:
   MARK AA LETTER FIRST LAST DAYS and what `cif day` prints after AA
   MARK BS LETTER FIRST LAST DAYS and what `cif day` prints after BS
 MARK is `wins`, `hidden` (a record with an earlier letter wins) or `clash`
-(two winners differ). Of a cancellation (letter C) only the UID is printed,
-and of an association's its key.
+(two winners differ). A cancellation (letter C) has only the UID there, and one
+of an association only its key. --format tsv prints a table, as of `cif day`.
 
 Example:
   cif explain C00123 260114 extract.cif
 
 Statuses:
-  0  done, also where no record applies
+  0  success, even if no record applies
   2  a usage error
   3  the input is refused, or the date isn't in its window
-  4  a fault of reading, of writing or of memory";
+  4  reading or writing failed, or memory ran out";
 
 pub(crate) const CLASHES: &str = "Lists the clashes of an extract";
 
@@ -168,7 +170,7 @@ Statuses:
   1  a clash
   2  a usage error
   3  the input is refused, or the dates asked for don't fit its window
-  4  a fault of reading, of writing or of memory";
+  4  reading or writing failed, or memory ran out";
 
 pub(crate) const FILE: &str = "The extract to read; - is standard input [default: -]";
 
@@ -178,7 +180,7 @@ pub(crate) const RIGHT: &str = "The extract that it is compared with; - is stand
 
 pub(crate) const DATE: &str = "The date, such as 260114 for 14 January 2026";
 
-pub(crate) const UID: &str = "The UID of the train: six characters; quote it where one is a space";
+pub(crate) const UID: &str = "The UID of the train: six characters; quote it if it has a space";
 
 pub(crate) const FROM: &str = "First date of the window [default: the header's]";
 
@@ -186,8 +188,10 @@ pub(crate) const TO: &str = "Last date of the window [default: the header's]";
 
 pub(crate) const VERBOSE: &str = "Say more on standard error";
 
-pub(crate) const COMMON: &str = "Take dates that aren't given from the common window";
+pub(crate) const COMMON: &str = "Use the common window for dates that aren't given";
 
 pub(crate) const STOPS: &str = "List the calls of each train too";
 
 pub(crate) const FORM: &str = "How weeks are joined";
+
+pub(crate) const FORMAT: &str = "How fields are laid out";

@@ -1,7 +1,7 @@
 //! What a call of `cif` asks for.
 ghost use Rattle.std.specs.Prelude.{◌≡◌, option_map};
 
-use cif_canon::{Asked, Layout};
+use cif_canon::{Asked, Format, Layout};
 use cif_columns::{Day, Uid};
 use cif_weeks::Form;
 
@@ -49,11 +49,12 @@ pub enum Job {
         form: Form,
         layout: Layout,
     },
-    /// To say why a train runs on a day, or doesn't.
+    /// To say why a train runs on a day, or doesn't, in this format.
     Explain {
         uid: Uid,
         day: Day,
         file: Option<String>,
+        format: Format,
     },
     /// To list the clashes.
     Clashes {

@@ -67,7 +67,12 @@ pub fn answer<R: ReadDevice, W: WriteDevice>(
             form,
             layout,
         } => answer_train(alloc, source, sink, uid, asked, *form, *layout),
-        Job::Explain { uid, day, file: _ } => answer_explain(alloc, source, sink, uid, *day),
+        Job::Explain {
+            uid,
+            day,
+            file: _,
+            format,
+        } => answer_explain(alloc, source, sink, uid, *day, *format),
         Job::Clashes { file: _, asked } => answer_clashes(alloc, source, sink, asked),
     }
 }

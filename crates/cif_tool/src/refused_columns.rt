@@ -15,9 +15,9 @@ pub(crate) struct RefusedColumns {
     pub(crate) what: &'static str,
 }
 
-const DDMMYY: &str = "a date is six digits DDMMYY";
+const DDMMYY: &str = "must be a valid date as six digits, DDMMYY";
 
-const YYMMDD: &str = "a date is six digits YYMMDD";
+const YYMMDD: &str = "must be a valid date as six digits, YYMMDD";
 
 const OPEN: &str = "999999 is an open end, not a date";
 

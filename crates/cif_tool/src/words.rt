@@ -5,15 +5,15 @@ ghost use Rattle.clap.specs.Words.{first_of, found_of, kind_of, rows_of};
 ghost use Rattle.clap.specs.Words.{subcommand_rows_of};
 ghost use Rattle.cif_columns.specs.Day.{StandsInYymmdd};
 ghost use Rattle.cif_tool.specs.Job.{Asks, HasFile, HasWord, IsAskedBy};
-ghost use Rattle.cif_tool.specs.Job.{IsChosen, IsDateOf, IsTaken, IsUidWord, form_of, has_common, is_standard};
-ghost use Rattle.cif_tool.specs.Job.{layout_of};
+ghost use Rattle.cif_tool.specs.Job.{IsChosen, IsDateOf, IsTaken, IsUidWord, form_of, format_of, is_set};
+ghost use Rattle.cif_tool.specs.Job.{is_standard, layout_of};
 ghost use Rattle.cif_tool.specs.JobFault.{HasBadDate, IsFaultOf, IsWordFault, NamesNoDay};
 ghost use Rattle.cif_tool.specs.JobFault.{IsNoUid};
 
 use crate::command_line::matches_of;
 use crate::job::Job;
 use crate::job_fault::JobFault;
-use cif_canon::{Asked, Layout};
+use cif_canon::{Asked, Format, Layout};
 use cif_columns::{Day, Uid, are_printable};
 use cif_weeks::Form;
 use clap::ArgMatches;
@@ -22,6 +22,9 @@ use std::alloc::{AllocError, Global};
 
 /// The words that name a form.
 static FORMS: [&str; 2] = ["1", "2"];
+
+/// The words that name a format.
+static FORMATS: [&str; 2] = ["text", "tsv"];
 
 /// What the words of a call ask for, of which the first is the program's name.
 ///
@@ -35,7 +38,12 @@ pub fn job_of(alloc: Global, words: Vec<String>) -> Result<Job, JobFault>
     ensures asked { IfOk result (Asks (map string_bytes words.items)) }
     ensures refused { IfErr result (IsFaultOf (map string_bytes words.items)) }
 {
-    match matches_of(alloc, FORMS.as_slice(), words.as_slice()) {
+    match matches_of(
+        alloc,
+        FORMS.as_slice(),
+        FORMATS.as_slice(),
+        words.as_slice(),
+    ) {
         Ok(matches) => chosen_job(alloc, &matches),
         Err(error) => Err(fault_of_error(error)),
     }
@@ -44,7 +52,7 @@ pub fn job_of(alloc: Global, words: Vec<String>) -> Result<Job, JobFault>
 /// The first word that should name a date and doesn't.
 #[inline(never)]
 pub(crate) fn mistaken_date<'a>(alloc: Global, words: &'a [String]) -> Option<&'a str> {
-    let matches = matches_of(alloc, FORMS.as_slice(), words).ok()?;
+    let matches = matches_of(alloc, FORMS.as_slice(), FORMATS.as_slice(), words).ok()?;
     let (_, inner) = matches.subcommand()?;
     for id in ["YYMMDD", "from", "to"] {
         if let Some(word) = word_of(inner, id)
@@ -59,7 +67,7 @@ pub(crate) fn mistaken_date<'a>(alloc: Global, words: &'a [String]) -> Option<&'
 /// The word that should name a UID and doesn't.
 #[inline(never)]
 pub(crate) fn mistaken_uid<'a>(alloc: Global, words: &'a [String]) -> Option<&'a str> {
-    let matches = matches_of(alloc, FORMS.as_slice(), words).ok()?;
+    let matches = matches_of(alloc, FORMS.as_slice(), FORMATS.as_slice(), words).ok()?;
     let (_, inner) = matches.subcommand()?;
     match word_of(inner, "UID") {
         Some(word) if uid_of_word(word).is_none() => Some(word),
@@ -151,7 +159,7 @@ fn compare_job(alloc: Global, matches: &ArgMatches<'_>) -> Result<Job, JobFault>
     let (left, right) = two_inputs(matches)?;
     Ok(Job::Compare {
         asked,
-        common: has_common(matches),
+        common: has_flag(matches, "common"),
         left: String::from_str(alloc, left)?,
         right: String::from_str(alloc, right)?,
     })
@@ -169,7 +177,7 @@ fn diff_job(alloc: Global, matches: &ArgMatches<'_>) -> Result<Job, JobFault>
     let (left, right) = two_inputs(matches)?;
     Ok(Job::Diff {
         asked,
-        common: has_common(matches),
+        common: has_flag(matches, "common"),
         left: String::from_str(alloc, left)?,
         right: String::from_str(alloc, right)?,
     })
@@ -229,6 +237,7 @@ fn explain_job(alloc: Global, matches: &ArgMatches<'_>) -> Result<Job, JobFault>
         uid,
         day,
         file: file_of(alloc, matches)?,
+        format: format_of(matches),
     })
 }
 
@@ -339,23 +348,33 @@ fn form_of(matches: &ArgMatches<'_>) -> Form
     }
 }
 
-/// Whether the words ask for the common window.
-fn has_common(matches: &ArgMatches<'_>) -> bool
-    ensures { result ≡ has_common (rows_of (found_of matches.now)) }
+/// The format that the words name.
+fn format_of(matches: &ArgMatches<'_>) -> Format
+    ensures { result ≡ format_of (first_of (codes "format") (rows_of (found_of matches.now))) }
 {
-    match word_of(matches, "common") {
+    match word_of(matches, "format") {
+        Some(word) if word == "tsv" => Format::Tsv,
+        _ => Format::Text,
+    }
+}
+
+/// Whether the words have this flag.
+fn has_flag(matches: &ArgMatches<'_>, id: &str) -> bool
+    ensures { result ≡ is_set (first_of id.now (rows_of (found_of matches.now))) }
+{
+    match word_of(matches, id) {
         Some(word) => word == "true",
         None => false,
     }
 }
 
-/// What the words ask to list of each train.
+/// The layout that the words name.
 fn layout_of(matches: &ArgMatches<'_>) -> Layout
     ensures { result ≡ layout_of (rows_of (found_of matches.now)) }
 {
-    match word_of(matches, "stops") {
-        Some(word) if word == "true" => Layout::LinesAndCalls,
-        _ => Layout::Lines,
+    Layout {
+        format: format_of(matches),
+        calls: has_flag(matches, "stops"),
     }
 }
 

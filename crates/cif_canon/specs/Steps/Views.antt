@@ -14,8 +14,8 @@ abbrev pub applies_on : {B : Type 0} → Permanent B → ℕ → Bool
 applies_on r d = nat_le r.first d && (nat_le d r.last && slice_index_or r.days (weekday_of d) false)
 
 -- the line of an association, or what is listed of a train, where its record applies on day d
-abbrev pub association_on : ℕ → AssocKey × Permanent AssocBody → List ℕ
-association_on d e = if applies_on e.1 d then association_line (e.0, e.1.body) else []
+abbrev pub association_on : Layout → ℕ → AssocKey × Permanent AssocBody → List ℕ
+association_on layout d e = if applies_on e.1 d then association_line layout (e.0, e.1.body) else []
 
 abbrev pub train_on : Layout → ℕ → List ℕ × Permanent BodyParts → List ℕ
 train_on layout d e = if applies_on e.1 d then train_text layout (e.0, e.1.body) else []

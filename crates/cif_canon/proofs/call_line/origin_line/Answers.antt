@@ -1,26 +1,23 @@
--- Fields are appended one by one, and the line joins them: they are rewritten from the last on, for `pushed-joined`.
-use Rattle.std.proofs.Common.{List, ℕ, ◌++◌, [], ◌∷◌, ap, codes}
-use Rattle.cif_canon.specs.Calls.{origin_line}
-use Rattle.cif_canon.proofs.ViewLines.{pushed-joined}
+-- Fields are appended one by one, and the line joins them: they are rewritten from the last on, for `pushed-line`.
+use Rattle.std.proofs.Common.{[], ◌∷◌, codes}
+use Rattle.cif_canon.proofs.ViewLines.{pushed-line}
 use Rattle.cif_canon.proofs.call_line.origin_line.Goals as goal
 
 pub returns : goal.returns
-unfolding origin_line
 returns c = rw (
-  c.push_str-6.ensures.bytes,
+  c.push_str.ensures.bytes,
+  c.push_field-11.ensures.text,
+  c.push_field-10.ensures.text,
+  c.push_field-9.ensures.text,
+  c.push_field-8.ensures.text,
   c.push_field-7.ensures.text,
   c.push_field-6.ensures.text,
-  c.push_str-5.ensures.bytes,
   c.push_field-5.ensures.text,
   c.push_field-4.ensures.text,
-  c.push_str-4.ensures.bytes,
-  c.push_str-3.ensures.bytes,
   c.push_field-3.ensures.text,
-  c.push_str-2.ensures.bytes,
   c.push_field-2.ensures.text,
   c.push_field.ensures.text,
-  c.push_str.ensures.bytes,
-  c.new-line.ensures,
+  c.started-line.ensures.text,
   c.write.ensures.columns,
   c.write-2.ensures.columns,
   c.write-3.ensures.columns,
@@ -29,4 +26,4 @@ returns c = rw (
   c.write-6.ensures.columns,
   c.write-7.ensures.columns,
 )
-    (ap (λ (l : List ℕ). l ++ codes "\n") (pushed-joined (codes "LO") (_ ∷ _ ∷ _ ∷ _ ∷ _ ∷ _ ∷ _ ∷ _ ∷ _ ∷ _ ∷ _ ∷ [])))
+    (pushed-line c.args.format (codes "LO") (_ ∷ _ ∷ _ ∷ _ ∷ _ ∷ _ ∷ _ ∷ _ ∷ _ ∷ _ ∷ _ ∷ []))

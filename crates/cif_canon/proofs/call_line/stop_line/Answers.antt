@@ -1,13 +1,11 @@
--- Fields are appended one by one, and the line joins them: they are rewritten from the last on, for `pushed-joined`.
-use Rattle.std.proofs.Common.{List, ℕ, ◌++◌, [], ◌∷◌, ap, codes}
-use Rattle.cif_canon.specs.Calls.{stop_line}
-use Rattle.cif_canon.proofs.ViewLines.{pushed-joined}
+-- Fields are appended one by one, and the line joins them: they are rewritten from the last on, for `pushed-line`.
+use Rattle.std.proofs.Common.{[], ◌∷◌, codes}
+use Rattle.cif_canon.proofs.ViewLines.{pushed-line}
 use Rattle.cif_canon.proofs.call_line.stop_line.Goals as goal
 
 pub returns : goal.returns
-unfolding stop_line
 returns c = rw (
-  c.push_str-2.ensures.bytes,
+  c.push_str.ensures.bytes,
   c.push_field-11.ensures.text,
   c.push_field-10.ensures.text,
   c.push_field-9.ensures.text,
@@ -19,8 +17,7 @@ returns c = rw (
   c.push_field-3.ensures.text,
   c.push_field-2.ensures.text,
   c.push_field.ensures.text,
-  c.push_str.ensures.bytes,
-  c.new-line.ensures,
+  c.started-line.ensures.text,
   c.write.ensures.columns,
   c.write-2.ensures.columns,
   c.write-3.ensures.columns,
@@ -33,4 +30,4 @@ returns c = rw (
   c.write-10.ensures.columns,
   c.write-11.ensures.columns,
 )
-    (ap (λ (l : List ℕ). l ++ codes "\n") (pushed-joined (codes "LI") (_ ∷ _ ∷ _ ∷ _ ∷ _ ∷ _ ∷ _ ∷ _ ∷ _ ∷ _ ∷ _ ∷ [])))
+    (pushed-line c.args.format (codes "LI") (_ ∷ _ ∷ _ ∷ _ ∷ _ ∷ _ ∷ _ ∷ _ ∷ _ ∷ _ ∷ _ ∷ []))

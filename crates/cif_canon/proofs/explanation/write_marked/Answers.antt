@@ -9,7 +9,7 @@ use Rattle.cif_canon.proofs.explanation.write_marked.Goals.{After-as_bytes}
 
 -- the bytes are the record's line
 line-bytes : (g : Over) (c : After-as_bytes g)
-    → c.as_bytes.result.now ≡ g.E.ExplainedEntry.line (explained_of g.E.Entry.key g.E.Entry.terms c.one-item.result)
+    → c.as_bytes.result.now ≡ g.E.ExplainedEntry.line c.args.format (explained_of g.E.Entry.key g.E.Entry.terms c.one-item.result)
 line-bytes g c = c.as_bytes.ensures.value ∙ c.as_str.ensures.value ∙ c.line.ensures c.one-item.result.place
 
 pub loop-one-init : goal.loop-one-init
@@ -17,7 +17,7 @@ loop-one-init g c = written_nothing _ _ _ (sym c.failed.ensures ∙ c.if-failed.
 
 pub loop-one-preserved : goal.loop-one-preserved
 loop-one-preserved g c =
-    item_written (λ one. g.E.ExplainedEntry.line (explained_of g.E.Entry.key g.E.Entry.terms one)) c.args.marked.now
+    item_written (λ one. g.E.ExplainedEntry.line c.args.format (explained_of g.E.Entry.key g.E.Entry.terms one)) c.args.marked.now
     c.loop-one.one-index c.one-item.result c.loop-one-test.true c.one-item.is _ _ _ _ _ c.loop-one.invariant
     (subst (λ t. HasWritten g.W.Write.contents g.W.WriteDevice.write_errors t c.loop-one.sink c.write_all.new.self)
     (line-bytes g (goal.at.loop-one-preserved g c).After-as_bytes) c.in_ok-write_all.ensures)
@@ -25,7 +25,7 @@ loop-one-preserved g c =
 pub returns-in_err-write_all : goal.returns-in_err-write_all
 returns-in_err-write_all g c =
     writes_err _ _ _ _ _ c.from_residual.result c.from_residual.ensures.0
-    (item_failed (λ one. g.E.ExplainedEntry.line (explained_of g.E.Entry.key g.E.Entry.terms one)) c.args.marked.now
+    (item_failed (λ one. g.E.ExplainedEntry.line c.args.format (explained_of g.E.Entry.key g.E.Entry.terms one)) c.args.marked.now
     c.loop-one.one-index c.one-item.result c.loop-one-test.true c.one-item.is _ _ _ _ _ c.loop-one.invariant
     (subst (λ t. HasFailed g.W.Write.contents g.W.WriteDevice.write_errors t c.loop-one.sink c.write_all.new.self)
     (line-bytes g (goal.at.returns-in_err-write_all g c).After-as_bytes) c.in_err-write_all.ensures))

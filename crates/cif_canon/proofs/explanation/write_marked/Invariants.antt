@@ -8,5 +8,5 @@ use Rattle.cif_canon.proofs.explanation.write_marked.Given as goal
 abbrev pub invariant-loop-one : goal.invariant-loop-one
 invariant-loop-one g l =
     HasWritten g.W.Write.contents g.W.WriteDevice.write_errors
-    (flat_map (λ one. g.E.ExplainedEntry.line (explained_of g.E.Entry.key g.E.Entry.terms one)) (take l.one-index l.marked))
+    (flat_map (λ one. g.E.ExplainedEntry.line l.format (explained_of g.E.Entry.key g.E.Entry.terms one)) (take l.one-index l.marked))
     l.initial.sink l.sink

@@ -1,6 +1,6 @@
--- Nine fields are appended one by one, and the text joins them: they are rewritten from the last on, for `pushed-joined`.
+-- Fields are appended one by one: they are rewritten from the last on, for `pushed-after`.
 use Rattle.std.proofs.Common.{[], ◌∷◌}
-use Rattle.cif_canon.proofs.ViewLines.{pushed-joined}
+use Rattle.cif_canon.proofs.ViewLines.{pushed-after}
 use Rattle.cif_canon.proofs.view_line.push_association.Goals as goal
 
 pub returns-clause-text : goal.returns-clause-text
@@ -24,4 +24,4 @@ returns-clause-text c = rw (
   c.write-8.ensures.columns,
   c.write-9.ensures.columns,
 )
-    (pushed-joined _ (_ ∷ _ ∷ _ ∷ _ ∷ _ ∷ _ ∷ _ ∷ _ ∷ _ ∷ []))
+    (pushed-after c.args.format _ (_ ∷ _ ∷ _ ∷ _ ∷ _ ∷ _ ∷ _ ∷ _ ∷ _ ∷ []))

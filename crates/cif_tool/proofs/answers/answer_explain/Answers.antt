@@ -9,33 +9,33 @@ use Rattle.cif_tool.proofs.Answered.{fails, flushed, only-write, written-then}
 use Rattle.cif_tool.proofs.KnownAnswers.{explain-answer}
 use Rattle.cif_tool.proofs.answers.answer_explain.Goals as goal
 
-pub returns-in_err-explain_view-clause-answer : goal.returns-in_err-explain_view-clause-answer
-returns-in_err-explain_view-clause-answer g c =
-    let call = c.from_residual-in_err-explain_view in
-    let f = c.in_err-explain_view.field-0.0 in
-    let made = c.in_err-explain_view.ensures.view in
+pub returns-in_err-explain_listing-clause-answer : goal.returns-in_err-explain_listing-clause-answer
+returns-in_err-explain_listing-clause-answer g c =
+    let call = c.from_residual-in_err-explain_listing in
+    let f = c.in_err-explain_listing.field-0.0 in
+    let made = c.in_err-explain_listing.ensures.view in
     let x = extract_parts c.in_ok-extract.extract in
-    fails _ _ _ _ made.0 0 (Unit {0}) c.explain_view.new.sink call.result f (at-fault call.result f call.ensures.1) made.1
-    (written-then (Unit {0}) (Unit {0}) _ _ f (λ view. explain-answer _ x c.in_ok-extract.ensures.ok c.args.uid.now c.args.day made.0 view) made.2)
+    fails _ _ _ _ made.0 0 (Unit {0}) c.explain_listing.new.sink call.result f (at-fault call.result f call.ensures.1) made.1
+    (written-then (Unit {0}) (Unit {0}) _ _ f (λ view. explain-answer _ x c.in_ok-extract.ensures.ok c.args.format c.args.uid.now c.args.day made.0 view) made.2)
 
-pub returns-in_err-explain_view-clause-fault : goal.returns-in_err-explain_view-clause-fault
-returns-in_err-explain_view-clause-fault g c =
+pub returns-in_err-explain_listing-clause-fault : goal.returns-in_err-explain_listing-clause-fault
+returns-in_err-explain_listing-clause-fault g c =
     let after = g.R.Read.remaining (reader_of c.read_extract.new.source) in
-    known-fault c.from_residual-in_err-explain_view.result c.in_err-explain_view.field-0.0 c.from_residual-in_err-explain_view.ensures.1 _ _
+    known-fault c.from_residual-in_err-explain_listing.result c.in_err-explain_listing.field-0.0 c.from_residual-in_err-explain_listing.ensures.1 _ _
     (λ bytes. IsExplainRefusal c.args.day bytes after)
-    (λ bytes spelled. inr (extract_parts c.in_ok-extract.extract, spelled, c.in_err-explain_view.ensures.fault)) c.in_ok-extract.ensures.ok
+    (λ bytes spelled. inr (extract_parts c.in_ok-extract.extract, spelled, c.in_err-explain_listing.ensures.fault)) c.in_ok-extract.ensures.ok
 
 pub returns-clause-answer : goal.returns-clause-answer
 returns-clause-answer g c =
-    let made = c.in_ok-explain_view.ensures.view in
+    let made = c.in_ok-explain_listing.ensures.view in
     let x = extract_parts c.in_ok-extract.extract in
-    flushed _ _ _ _ made.0 0 c.explain_view.new.sink c.flushed.new.sink c.flushed.result made.1 c.flushed.ensures.writes
+    flushed _ _ _ _ made.0 0 c.explain_listing.new.sink c.flushed.new.sink c.flushed.result made.1 c.flushed.ensures.writes
     c.flushed.ensures.ok c.flushed.ensures.fault
-    (explain-answer _ x c.in_ok-extract.ensures.ok c.args.uid.now c.args.day made.0 made.2)
+    (explain-answer _ x c.in_ok-extract.ensures.ok c.args.format c.args.uid.now c.args.day made.0 made.2)
 
 pub returns-clause-fault : goal.returns-clause-fault
 returns-clause-fault g c =
     let after = g.R.Read.remaining (reader_of c.read_extract.new.source) in
     known_so _ _ _ (λ bytes spelled.
     only-write (IsExplainRefusal c.args.day bytes after) c.flushed.result c.flushed.ensures.fault
-    (inr (extract_parts c.in_ok-extract.extract, spelled, c.in_ok-explain_view.ensures.view.2.within))) c.in_ok-extract.ensures.ok
+    (inr (extract_parts c.in_ok-extract.extract, spelled, c.in_ok-explain_listing.ensures.view.2.within))) c.in_ok-extract.ensures.ok

@@ -9,21 +9,24 @@ use Rattle.cif_tool.proofs.words.job_of.Goals as goal
 
 pub chosen_job-requires : goal.chosen_job-requires
 chosen_job-requires c =
-    subst (λ (o : Option (Text × List Row)). IsSomeAnd o IsTaken) (sym c.in-Ok.ensures.ok) (enters_own _ _ c.in-Ok.ensures.kinds)
+    subst (λ (o : Option (Text × List Row)). IsSomeAnd o IsTaken) (sym c.in-Ok.ensures.ok) (enters_own _ _ _ c.in-Ok.ensures.kinds)
 
 pub returns-clause-refused : goal.returns-clause-refused
 returns-clause-refused c =
     let forms = c.as_slice.result in
-    let given = map string_bytes c.as_slice-2.result.now in
-    let fault : IsFaultAt forms given c.fault_of_error.result = elim c.fault_of_error.ensures [
-      | inl memory ↦ subst (IsFaultAt forms given) (sym memory.1) tt
-      | inr usage ↦ subst (IsFaultAt forms given) (sym usage.1)
+    let formats = c.as_slice-2.result in
+    let given = map string_bytes c.as_slice-3.result.now in
+    let fault : IsFaultAt forms formats given c.fault_of_error.result = elim c.fault_of_error.ensures [
+      | inl memory ↦ subst (IsFaultAt forms formats given) (sym memory.1) tt
+      | inr usage ↦ subst (IsFaultAt forms formats given) (sym usage.1)
           (elim c.in-Err.ensures.kinds [ inl none ↦ absurd (usage.0 none) | inr among ↦ among ])
     ] in
     record {
       forms = forms;
       are_forms = search rules;
-      fault_is = subst (λ (words : List Text). IsFaultAt forms words c.fault_of_error.result)
-          (ap (map string_bytes) c.as_slice-2.ensures.value)
+      formats = formats;
+      are_formats = search rules;
+      fault_is = subst (λ (words : List Text). IsFaultAt forms formats words c.fault_of_error.result)
+          (ap (map string_bytes) c.as_slice-3.ensures.value)
           fault;
     }

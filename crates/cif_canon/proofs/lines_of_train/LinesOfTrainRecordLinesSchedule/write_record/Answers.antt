@@ -4,13 +4,16 @@ use Rattle.std.specs.Prelude.{if◌then◌else◌}
 use Rattle.cif_columns.specs.Sink.{HasWritten, Writes}
 use Rattle.cif_columns.proofs.WrittenTexts.{written_nothing}
 use Rattle.cif_weeks.specs.Runs.{record_of}
-use Rattle.cif_canon.specs.Views.{schedule_text, with_calls}
+use Rattle.cif_canon.specs.Steps.Fields.{row_lines}
+use Rattle.cif_canon.specs.Views.{schedule_text}
+use Rattle.cif_canon.proofs.CallTexts.{row-lines}
 use Rattle.cif_canon.proofs.lines_of_train.LinesOfTrainRecordLinesSchedule.write_record.Goals as goal
 
 pub returns-then-eq : goal.returns-then-eq
 returns-then-eq g c =
     subst (λ t. Writes g.W.Write.contents g.W.WriteDevice.write_errors t c.args.sink.now c.write_train.new.sink c.write_train.result)
-    (ap (λ line. with_calls c.args.self.now.layout line c.args.body.now) (c.as_str.ensures.value ∙ c.schedule_line.ensures)
+    (ap (λ row. row_lines c.args.self.now.layout row c.args.body.now) c.schedule_row.ensures.text
+    ∙ row-lines c.args.self.now.layout _ _ c.args.body.now
     ∙ ap (λ (b : Bool). if b then schedule_text c.args.self.now.layout (record_of c.args.run.now c.args.body.now) else [])
     (sym c.if-eq.true ∙ c.eq.ensures)) c.write_train.ensures
 
