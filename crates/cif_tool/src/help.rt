@@ -192,6 +192,6 @@ pub(crate) const COMMON: &str = "Use the common window for dates that aren't giv
 
 pub(crate) const STOPS: &str = "List the calls of each train too";
 
-pub(crate) const FORM: &str = "How weeks are joined";
+pub(crate) const FORM: &str = "How to join weeks";
 
-pub(crate) const FORMAT: &str = "How fields are laid out";
+pub(crate) const FORMAT: &str = "Layout";
