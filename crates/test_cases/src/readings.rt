@@ -9,12 +9,12 @@
 //! - `fails`: reads the input from a reader that fails after it.
 //! - `goes-on from=K`: reads the input from a reader that goes on with its bytes from K, for ever.
 //!   The answer has the number of reads too.
-//! - `cuts`: reads each front of the input, from no byte to all.
+//! - `cuts`: reads each prefix of the input, from no byte to all.
 //! - `failing-cuts`: does what `fails` does with each front.
 //! - `limits`: reads the input with each `max` from 0 to N.
 //! - `replace byte=NN`: reads the input with the byte NN, in hexadecimal digits, in place of each of
 //!   its bytes in turn.
-//! - `kinds others=NAME`: puts each line of the case NAME behind each front of whole lines, as it
+//! - `kinds others=NAME`: puts each line of the case NAME behind each prefix of whole lines, as it
 //!   stands and then with other columns 3 to 80, and tells of those that are not out of order.
 //! - `plain-look`: compares what the input is read as with what a plain look at its whole contents says.
 //! - `damage count=N others=NAME`: does that with N inputs that are made from this one by damages that

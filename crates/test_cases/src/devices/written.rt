@@ -12,7 +12,7 @@ use std::alloc::{AllocError, Global};
 pub(crate) trait Written {
     fn write<W: WriteDevice>(&self, sink: &mut Sink<W>) -> Result<(), WriteFault>;
 
-    /// By how many writes this front of its bytes goes out, to a writer that takes no more.
+    /// By how many writes this prefix of its bytes goes out, to a writer that takes no more.
     fn writes_of(&self, front: &[u8]) -> u64;
 }
 
@@ -30,7 +30,7 @@ impl Written for Bytes<'_> {
     }
 }
 
-/// By how many writes this front of lines goes out: one for each line, but one for all that follow
+/// By how many writes this prefix of lines goes out: one for each line, but one for all that follow
 /// a BS.
 pub(crate) fn writes_of_lines(front: &[u8]) -> u64 {
     let mut writes = 0_u64;

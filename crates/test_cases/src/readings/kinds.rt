@@ -6,7 +6,7 @@ use cif_columns::Refusal;
 use std::alloc::{AllocError, Global};
 use std::fmt::Write;
 
-/// Appends, for each front of whole lines of the bytes, which of the other lines may follow it, and
+/// Appends, for each prefix of whole lines of the bytes, which of the other lines may follow it, and
 /// what the front and that line come to.
 pub(crate) fn push_kinds(
     alloc: Global,

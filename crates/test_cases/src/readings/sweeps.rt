@@ -49,7 +49,7 @@ fn gone_on(
     }))
 }
 
-/// Appends what each front of the bytes comes to.
+/// Appends what each prefix of the bytes comes to.
 pub(crate) fn push_cuts(
     alloc: Global,
     out: &mut String,
@@ -64,7 +64,7 @@ pub(crate) fn push_cuts(
     push_last(out, "cut after", stretch)
 }
 
-/// Appends what each front of the bytes comes to where the reader fails after it.
+/// Appends what each prefix of the bytes comes to where the reader fails after it.
 pub(crate) fn push_failing_cuts(
     alloc: Global,
     out: &mut String,
