@@ -2,7 +2,7 @@
 //! and changes nothing of it.
 use crate::clash_lines::ClashLines;
 use crate::escaped::escape;
-use crate::input::{AgainInput, ExtractInput};
+use crate::input::{AgainInput, ExtractInput, START};
 use crate::line_again::{LONGEST, LineAgain, line_again};
 use crate::refused_columns::{RefusedColumns, columns_refused};
 use crate::words::{mistaken_date, mistaken_uid};
@@ -259,11 +259,12 @@ fn refused_line<R: Files + Input>(input: &ExtractInput<'_, R>, number: u64) -> O
     if let Some(mut file) = input.again() {
         return line_again(&mut file, number);
     }
-    if number == 1 {
-        line_again(&mut input.start(), number)
-    } else {
-        None
+    if number != 1 {
+        return None;
     }
+    let mut line = line_again(&mut input.start(), number)?;
+    line.is_whole = line.length < START;
+    Some(line)
 }
 
 /// Says the line, which of its columns are refused, and what must stand there.
@@ -295,7 +296,9 @@ fn tell_columns<W: WriteDevice>(refused: &RefusedColumns, errors: &mut Sink<W>) 
 
 /// Says how long the line is.
 fn tell_length<W: WriteDevice>(line: &LineAgain, errors: &mut Sink<W>) {
-    if line.length == LONGEST {
+    if !line.is_whole {
+        tell(errors, &["the line has more than 80 columns"]);
+    } else if line.length == LONGEST {
         tell(errors, &["the line has thousands of columns, not 80"]);
     } else {
         let mut length = Buffer::new();

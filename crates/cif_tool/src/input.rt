@@ -8,6 +8,9 @@ use std::io::{Read, Seek, SeekFrom};
 use std::rt::Files;
 use std::{fs, io};
 
+/// How many bytes are kept of what was read first: a line and its ending.
+pub(crate) const START: usize = LINE_WIDTH + 2;
+
 /// The standard input, or a file. Neither is touched before it is read first, and a file that can't
 /// be opened is one that can't be read.
 #[derive(Drop)]
@@ -16,8 +19,8 @@ pub(crate) struct ExtractInput<'a, R: Files + Input> {
     side: &'static str,
     name: &'a str,
     device: Device<'a, R>,
-    /// What was read first, up to the length of a line.
-    start: ArrayVec<u8, LINE_WIDTH>,
+    /// What was read first, up to the length of a line with its ending.
+    start: ArrayVec<u8, START>,
     /// The system's number of the error that a read ended with.
     failure: Option<i32>,
 }
@@ -66,14 +69,14 @@ impl<'a, R: Files + Input> ExtractInput<'a, R> {
         }
     }
 
-    /// What was read first, up to the length of a line.
+    /// What was read first, up to the length of a line with its ending.
     pub(crate) fn start(&self) -> &[u8] {
         self.start.as_slice()
     }
 
     /// The header, if what was read begins with one.
     pub(crate) fn header(&self) -> Option<Header> {
-        let columns = <[u8; LINE_WIDTH]>::try_from(self.start.as_slice()).ok()?;
+        let columns = <[u8; LINE_WIDTH]>::try_from(self.start.as_slice().get(..LINE_WIDTH)?).ok()?;
         Header::read(&Line::of(columns)?).ok()
     }
 

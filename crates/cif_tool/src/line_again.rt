@@ -13,6 +13,8 @@ pub(crate) struct LineAgain {
     pub(crate) bytes: ArrayVec<u8, LINE_WIDTH>,
     /// How many it has, up to `LONGEST`.
     pub(crate) length: usize,
+    /// Whether its end is known.
+    pub(crate) is_whole: bool,
 }
 
 /// The line of this number, counted from 1, without its ending.
@@ -21,6 +23,7 @@ pub(crate) fn line_again<F: Read>(file: &mut F, number: u64) -> Option<LineAgain
     let mut line = LineAgain {
         bytes: ArrayVec::new(),
         length: 0,
+        is_whole: true,
     };
     let mut last = 0;
     let mut chunk = [0; LONGEST];
