@@ -27,7 +27,7 @@ IsOfReading max Read = Unit {0}
 IsOfReading max Memory = Unit {0}
 IsOfReading max _ = ⊥
 
--- what is answered where the bytes spell an extract of these parts: it, but for a failure of the source or a want of memory
+-- what is answered where the bytes spell an extract of these parts: it, unless the source fails or memory runs out
 abbrev pub IsReadAs : ExtractParts → Result Extract Fault → Type 0
 IsReadAs x (Ok extract) = extract_parts extract ≡ x
 IsReadAs x (Err Read) = Unit {0}

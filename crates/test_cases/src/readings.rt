@@ -10,7 +10,7 @@
 //! - `goes-on from=K`: reads the input from a reader that goes on with its bytes from K, for ever.
 //!   The answer has the number of reads too.
 //! - `cuts`: reads each prefix of the input, from no byte to all.
-//! - `failing-cuts`: does what `fails` does with each front.
+//! - `failing-cuts`: does what `fails` does with each prefix.
 //! - `limits`: reads the input with each `max` from 0 to N.
 //! - `replace byte=NN`: reads the input with the byte NN, in hexadecimal digits, in place of each of
 //!   its bytes in turn.

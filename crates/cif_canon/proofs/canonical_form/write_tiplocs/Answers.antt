@@ -1,4 +1,4 @@
--- The text is a fold over locations: one more goes behind it (`item_written`), a failure leaves a front (`item_failed`).
+-- The text is a fold over locations: one more goes behind it (`item_written`), a failure leaves a prefix (`item_failed`).
 use Rattle.cif_columns.proofs.WrittenTexts.{item_failed, item_written, writes_err, written_nothing}
 use Rattle.cif_canon.specs.Steps.Texts.{tiploc_text}
 use Rattle.cif_canon.proofs.canonical_form.write_tiplocs.Goals as goal

@@ -1,4 +1,4 @@
--- The text is a fold over clashes: one more goes behind it (`item_written`), a failure leaves a front (`item_failed`).
+-- The text is a fold over clashes: one more goes behind it (`item_written`), a failure leaves a prefix (`item_failed`).
 use Rattle.std.proofs.Common.{◌∙◌, sym}
 use Rattle.cif_columns.proofs.WrittenTexts.{item_failed, item_written, writes_err, written_nothing}
 use Rattle.cif_canon.specs.Clashes.{clash_line}

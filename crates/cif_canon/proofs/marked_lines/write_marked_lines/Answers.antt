@@ -1,4 +1,4 @@
--- One line more goes behind the text (`item_written`), and a failure leaves a front of it (`item_failed`).
+-- One line more goes behind the text (`item_written`), and a failure leaves a prefix of it (`item_failed`).
 use Rattle.std.proofs.Common.{◌∷◌, [], ◌<◌, ◌≤◌, ℕ, List, arith, length, sym, ap, ◌∙◌, subst}
 use Rattle.std.specs.List.{flat_map}
 use Rattle.std.proofs.lemmas.List.{get_or_default, take_all}

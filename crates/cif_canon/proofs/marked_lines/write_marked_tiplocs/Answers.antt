@@ -1,4 +1,4 @@
--- The text is a fold over locations: one more goes behind it (`item_written`), a failure leaves a front (`item_failed`).
+-- The text is a fold over locations: one more goes behind it (`item_written`), a failure leaves a prefix (`item_failed`).
 use Rattle.std.proofs.Common.{◌∷◌, [], sym, ◌∙◌, subst}
 use Rattle.cif_columns.specs.Sink.{HasFailed, HasWritten}
 use Rattle.cif_columns.proofs.WrittenTexts.{item_failed, item_written, writes_err, written_nothing}

@@ -1,4 +1,4 @@
--- The text is a fold over runs: one more goes behind it (`item_written`), a failure leaves a front; each run has a record.
+-- The text is a fold over runs: one more goes behind it (`item_written`), a failure leaves a prefix; each run has a record.
 use Rattle.std.proofs.Common.{◌∙◌, sym, subst}
 use Rattle.cif_calendar.specs.Keys.{keyed}
 use Rattle.cif_columns.proofs.WrittenTexts.{item_failed, item_written, writes_err, written_nothing}

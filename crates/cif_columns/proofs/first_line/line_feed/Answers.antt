@@ -1,4 +1,4 @@
--- Only a front of the bytes is searched: `found_in_front` and `none_in_front` say what that tells of all of them.
+-- Only a prefix of the bytes is searched: `found_in_front` and `none_in_front` say what that tells of all of them.
 use Rattle.std.proofs.Common.{◌≡◌, min, length, arith}
 use Rattle.cif_columns.proofs.FeedPlaces.{found_in_front, none_in_front}
 use Rattle.cif_columns.proofs.first_line.line_feed.Goals as goal

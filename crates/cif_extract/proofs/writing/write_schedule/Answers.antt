@@ -1,4 +1,4 @@
--- The text is that of the BS and then of the lines kept (`schedule_writes`); a BS that fails leaves a front (`schedule_failed`).
+-- The text is that of the BS and then of the lines kept (`schedule_writes`); a BS that fails leaves a prefix (`schedule_failed`).
 use Rattle.cif_columns.proofs.WrittenTexts.{writes_err}
 use Rattle.cif_extract.proofs.WrittenLines.{schedule_failed, schedule_writes}
 use Rattle.cif_extract.proofs.writing.write_schedule.Goals as goal

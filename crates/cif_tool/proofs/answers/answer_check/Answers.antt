@@ -1,4 +1,4 @@
--- The text has to be named: the line of the counts, flushed or a front; of known bytes `check-answer` says that it answers.
+-- The text has to be named: the line of the counts, flushed or a prefix; of known bytes `check-answer` says that it answers.
 use Rattle.std.proofs.Common.{subst}
 use Rattle.std.proofs.lemmas.Result.{err_from_is_err_and}
 use Rattle.cif_canon.proofs.HandedFaults.{at-fault}

@@ -1,4 +1,4 @@
--- The text has to be named: that of the view, flushed or a front; of known bytes `explain-answer` says that it answers.
+-- The text has to be named: that of the view, flushed or a prefix; of known bytes `explain-answer` says that it answers.
 use Rattle.std.proofs.Common.{inr}
 use Rattle.cif_columns.specs.Source.{reader_of}
 use Rattle.cif_columns.proofs.GivenLinesLaws.{known_so}

@@ -1,4 +1,4 @@
--- The text has to be named: what `normalise` wrote, flushed or a front; of known bytes `normalise-answer` says that it answers.
+-- The text has to be named: what `normalise` wrote, flushed or a prefix; of known bytes `normalise-answer` says that it answers.
 use Rattle.cif_canon.proofs.HandedFaults.{at-fault}
 use Rattle.cif_canon.specs.declared.counts.Counts.{Counts}
 use Rattle.cif_tool.proofs.Answered.{fails, flushed}

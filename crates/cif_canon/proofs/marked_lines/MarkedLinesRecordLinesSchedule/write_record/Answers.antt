@@ -1,4 +1,4 @@
--- The marked text is that of the BS and then of the lines kept (`marked-kept`); a BS that fails leaves a front (`marked-basic`).
+-- The marked text is that of the BS and then of the lines kept (`marked-kept`); a BS that fails leaves a prefix (`marked-basic`).
 use Rattle.std.proofs.Common.{[], ◌∷◌, map, subst}
 use Rattle.cif_columns.specs.Field.{plain_line}
 use Rattle.cif_columns.specs.Sink.{HasFailed, Writes}

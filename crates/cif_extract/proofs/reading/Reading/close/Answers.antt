@@ -1,4 +1,4 @@
--- A failed push is want of memory; else the schedule is put together from the steps, with the parts in the lines.
+-- A failed push means that memory ran out; else the schedule is put together from the steps, with the parts in the lines.
 use Rattle.std.proofs.Common.{◌∙◌, ◌++◌, ◌∷◌, [], List, Some, ap, sym}
 use Rattle.std.proofs.lemmas.Result.{err_from_is_err_and}
 use Rattle.cif_extract.specs.BodyParts.{BodyParts}
