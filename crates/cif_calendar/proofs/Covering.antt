@@ -1,5 +1,6 @@
 -- Which members lie over a day, one member more, and the piece where none or one does.
-use Rattle.std.proofs.Common.{◌≡◌, ◌⊎◌, inl, inr, ℕ, ◌≤◌, ◌++◌, ◌∷◌, [], List, Option, Some, None, get_or, refl, sym, ◌∙◌, ap, subst, arith, ⊎_elim}
+use Rattle.std.proofs.Common.{◌≡◌, ◌⊎◌, inl, inr, ℕ, ◌≤◌, ◌++◌, ◌∷◌, [], List}
+use Rattle.std.proofs.Common.{Option, Some, None, get_or, refl, sym, ◌∙◌, ap, subst, arith, ⊎_elim}
 use Rattle.std.specs.Prelude.{◌↔◌, IsNone, IsSome, slice_get}
 use Rattle.std.proofs.lemmas.List.Elements.{Contains-append_left, Contains-append_right, Contains-push_cases}
 use Rattle.std.proofs.lemmas.Option.{same_Some}
@@ -99,7 +100,8 @@ module _ {B : Type 0} (xs : List (Terms B)) (members : List ℕ) (p : Piece) (in
       applies = on;
       least = λ s h on_s.
           let same = one d from upto s h on_s in
-          subst (λ (v : Terms B). letter o.terms.letter ≤ letter v.letter) same (let level : letter o.terms.letter ≤ letter o.terms.letter = omega arith in level);
+          subst (λ (v : Terms B). letter o.terms.letter ≤ letter v.letter) same (let level : letter o.terms.letter ≤ letter
+          o.terms.letter = omega arith in level);
     }
 
     source-by : (d : ℕ) → p.first ≤ d → d ≤ p.last → (v : Option ℕ) → get_or p.winners (weekday_of d) None ≡ v → IsSource xs members d v
@@ -138,7 +140,8 @@ module _ {B : Type 0} (xs : List (Terms B)) (members : List ℕ) (p : Piece) (in
       unbroken = u;
       clear = record {
         clear = λ d from upto. record {
-          agree = λ r s w v. ap (λ (t : Terms B). t.body) (sym (one d from upto r w.listed w.applies) ∙ one d from upto s v.listed v.applies);
+          agree = λ r s w v. ap (λ (t : Terms B). t.body) (sym (one d from upto r w.listed w.applies) ∙ one d from upto s
+              v.listed v.applies);
         };
       };
       sources = λ d from upto. source-by d from upto (get_or p.winners (weekday_of d) None) refl;

@@ -147,16 +147,19 @@ module _ {B : Type 0} (form : Form) (xs : List (Terms B)) (c : CalendarParts) (w
   added-none before runs u q = record {
     weekday = 0;
     below = omega arith;
-    opened = subst (λ t. AreOpen form xs c week.number week.last_alike t runs) (let start : week.number * 7 ≡ week.number * 7 + 0 = omega arith in start) u;
+    opened = subst (λ t. AreOpen form xs c week.number week.last_alike t runs) (let start : week.number * 7 ≡ week.number * 7
+        + 0 = omega arith in start) u;
     kept = q;
-    have = places-none xs c (IsKnown week.number (week.number * 7 + 0)) (week.last_alike + 1) runs (λ n b on runs_n. omega (arith, on.0, on.1));
+    have = places-none xs c (IsKnown week.number (week.number * 7 + 0)) (week.last_alike + 1) runs (λ n b on runs_n. omega
+        (arith, on.0, on.1));
     count = refl;
     begun = λ j u_j it less at f. absurd (omega arith);
     rest = λ j u_j it from at f. omega arith;
   }
 
   module _ (before : List ℕ) (i : ℕ) (runs : List Run) (places : List ℕ) (a : AreAddedUpTo form xs c week before i runs places) where
-    seen-upto : (v : ℕ) → v ≤ 7 → ((j u : ℕ) (it : WeekBody) → i ≤ j → slice_get week.bodies.items j ≡ Some it → IsFirstOf it.days u → v ≤ u)
+    seen-upto : (v : ℕ) → v ≤ 7 → ((j u : ℕ) (it : WeekBody) → i ≤ j → slice_get week.bodies.items j ≡ Some it → IsFirstOf
+        it.days u → v ≤ u)
         → (n : ℕ) (b : B) → week.number * 7 + a.weekday ≤ n + 4 → n + 4 < week.number * 7 + v → body_in xs c n ≡ Some b
         → RunsBefore xs c week.number (week.number * 7 + a.weekday) b
     seen-upto v upto later = known-between a.weekday v upto (λ j u it at f less. ⊎_elim
@@ -220,7 +223,8 @@ module _ {B : Type 0} (form : Form) (xs : List (Terms B)) (c : CalendarParts) (w
     -- all bodies are added
     module _ (all : length week.bodies.items ≤ i) where
       none-left : (j u : ℕ) (it : WeekBody) → i ≤ j → slice_get week.bodies.items j ≡ Some it → IsFirstOf it.days u → 7 ≤ u
-      none-left j u it from at g = absurd (let within : j < length week.bodies.items = slice_get_within week.bodies.items j it at in omega arith)
+      none-left j u it from at g = absurd (let within : j < length week.bodies.items = slice_get_within week.bodies.items j
+          it at in omega arith)
 
       pub added-all : AreOpen form xs c week.number week.last_alike (week.number * 7 + 7) runs
       added-all = opened-upto 7 (omega arith) a.below none-left

@@ -1,5 +1,6 @@
 -- The runs of the days so far and the week that is still to be joined to them: from no day to all.
-use Rattle.std.proofs.Common.{◌≡◌, ℕ, ◌+◌, ◌*◌, ◌/◌, ◌<◌, ◌≤◌, List, [], Option, Some, None, get_or, length, sym, ◌∙◌, ap, subst, arith, ⊎_elim}
+use Rattle.std.proofs.Common.{◌≡◌, ℕ, ◌+◌, ◌*◌, ◌/◌, ◌<◌, ◌≤◌, List, [], Option}
+use Rattle.std.proofs.Common.{Some, None, get_or, length, sym, ◌∙◌, ap, subst, arith, ⊎_elim}
 use Rattle.std.specs.Prelude.{Any, Contains, IsSome}
 use Rattle.std.specs.Option.{is_some}
 use Rattle.std.proofs.lemmas.Bool.{cases_lt}
@@ -67,7 +68,8 @@ module _ {B : Type 0} (form : Form) (xs : List (Terms B)) (c : CalendarParts) (s
       (λ n i from before is. idle (busy-winner p (weekday_of n) i (sym (days-of-piece c p tiles listed n from before) ∙ is))) j
 
   -- the week is joined to the runs before it
-  module _ (day : ℕ) (it : Joined) (j : IsJoinedUpTo form xs c day it) (later : it.week.number < day / 7) (runs : List Run) (places : List ℕ)
+  module _ (day : ℕ) (it : Joined) (j : IsJoinedUpTo form xs c day it) (later : it.week.number < day / 7) (runs : List Run)
+      (places : List ℕ)
       (u : AreOpen form xs c it.week.number it.week.last_alike (it.week.number * 7 + 7) runs)
       (p : ArePlaces xs c (IsKnown it.week.number (it.week.number * 7 + 7)) (it.week.last_alike + 1) runs places) where
     no-more : (n : ℕ) (b : B) → it.week.last_alike < week_of n → week_of n < day / 7 → body_in xs c n ≡ Some b → ⊥

@@ -85,7 +85,11 @@ module _ {B : Type 0} (form : Form) (xs : List (Terms B)) (c : CalendarParts) (w
     starts = o.starts;
     grown = o.grown;
     begun = omega (arith, o.begun);
-    reaches = ⊎_elim (λ sooner. inl sooner) (λ there. inr (there.0, known-later xs c week limit (limit + 1) o.body (omega arith) there.1)) o.reaches;
+    reaches = ⊎_elim (λ sooner. inl sooner) (λ there. inr (
+      there.0,
+      known-later xs c week limit (limit + 1) o.body (omega
+          arith) there.1,
+    )) o.reaches;
     ended = λ i known next runs. ⊎_elim
         (λ sooner. o.ended i sooner next runs)
         (λ from.

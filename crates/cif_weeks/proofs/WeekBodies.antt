@@ -1,5 +1,6 @@
 -- The bodies of a week: no day is known, days without a source are, or a day is added.
-use Rattle.std.proofs.Common.{◌≡◌, ◌⊎◌, inl, inr, ℕ, ◌+◌, ◌-◌, ◌*◌, ◌/◌, ◌%◌, ◌<◌, ◌≤◌, List, Bool, [], ◌∷◌, Some, length, sym, ◌∙◌, ap, subst}
+use Rattle.std.proofs.Common.{◌≡◌, ◌⊎◌, inl, inr, ℕ, ◌+◌, ◌-◌, ◌*◌, ◌/◌, ◌%◌, ◌<◌}
+use Rattle.std.proofs.Common.{◌≤◌, List, Bool, [], ◌∷◌, Some, length, sym, ◌∙◌, ap, subst}
 use Rattle.std.proofs.Common.{arith, length-append, length-set, ⊎_elim}
 use Rattle.std.specs.Prelude.{slice_get}
 use Rattle.std.proofs.lemmas.Bool.{cases_lt}
@@ -29,7 +30,8 @@ one-first days v w f g = ⊎_elim
     (cases_lt v w)
 
 -- what a day that is added leaves true of the list
-pub adds-positions : {B : Type 0} (xs : List (Terms B)) (weekday source count : ℕ) (old new : List WeekBody) → AddsDay xs weekday source old new
+pub adds-positions : {B : Type 0} (xs : List (Terms B)) (weekday source count : ℕ) (old new : List WeekBody) → AddsDay xs
+    weekday source old new
     → source < count → ArePositions count old → ArePositions count new
 adds-positions xs weekday source count old new adds below positions k it at = ⊎_elim
     (λ put.
@@ -141,7 +143,8 @@ module _ {B : Type 0} (xs : List (Terms B)) (c : CalendarParts) (week : ℕ) whe
       → slice_get bodies j ≡ Some r → slice_get bodies k ≡ Some s → (g : IsBodyUpTo xs c week limit r) (h : IsBodyUpTo xs c week limit s)
       → g.body ≡ h.body → ⊥
   one-place limit bodies a j k r s less at_j at_k g h same =
-      let rises : weekday_of g.day < weekday_of h.day = a.rising j k (weekday_of g.day) (weekday_of h.day) r s less at_j at_k g.first h.first in
+      let rises : weekday_of g.day < weekday_of h.day = a.rising j k (weekday_of g.day) (weekday_of h.day) r s less at_j at_k
+      g.first h.first in
       h.first.none_before (weekday_of g.day) rises
       (h.shows g.day g.in_week g.known (ap (body_at xs) g.starts ∙ g.has ∙ ap Some same))
 
@@ -155,7 +158,8 @@ module _ {B : Type 0} (xs : List (Terms B)) (c : CalendarParts) (week : ℕ) whe
     known-cases m known = ⊎_elim (λ before. inl before) (λ from. inr (omega arith)) (cases_lt (m + 4) (week * 7 + w))
 
     -- a body that isn't the day's
-    other-body : (it : WeekBody) → (i : IsBodyUpTo xs c week (week * 7 + w) it) → (i.body ≡ b → ⊥) → IsBodyUpTo xs c week (week * 7 + w + 1) it
+    other-body : (it : WeekBody) → (i : IsBodyUpTo xs c week (week * 7 + w) it) → (i.body ≡ b → ⊥) → IsBodyUpTo xs c week
+        (week * 7 + w + 1) it
     other-body it i apart = body-later (week * 7 + w) (week * 7 + w + 1) it (omega arith) i
         (λ m at from before runs. absurd (apart (
         let here : m ≡ n = omega arith in same_Some i.body b (sym runs ∙ ap (body_in xs c) here ∙ runs_n))))
@@ -371,7 +375,8 @@ module _ {B : Type 0} (xs : List (Terms B)) (c : CalendarParts) where
         from = omega arith;
         begun = omega (arith, w.begun);
         reached = λ less. absurd (omega arith);
-        alike = subst (λ v. AreAlikeUpTo c new.number v) (let one : new.number ≡ new.last_alike = omega arith in one) (alike-alone c new.number);
+        alike = subst (λ v. AreAlikeUpTo c new.number v) (let one : new.number ≡ new.last_alike = omega arith in one)
+            (alike-alone c new.number);
         idle = λ n i before over is. absurd (omega arith);
       }
 
@@ -438,7 +443,8 @@ module _ {B : Type 0} (xs : List (Terms B)) (c : CalendarParts) where
   pub week-none : AreSources xs c → (week : Week) → week.number ≡ week_of c.first → week.last_alike ≡ week.number → week.bodies.items ≡ []
       → IsWeekUpTo xs c (c.first + 4) week
   week-none sources week number last_alike none = record {
-    bodies = subst (λ v. AreBodiesUpTo xs c week.number (c.first + 4) v) (sym none) (bodies-none xs c week.number (c.first + 4) (omega arith)
+    bodies = subst (λ v. AreBodiesUpTo xs c week.number (c.first + 4) v) (sym none) (bodies-none xs c week.number (c.first +
+        4) (omega arith)
         (λ n b at known runs.
         let (i, is) = body-source xs c sources (source_in c n) b runs in
         let within = source_in-inside c n i is in omega (arith, within.from)));
