@@ -11,9 +11,7 @@ use crate::side::{Side, Sided};
 use cif_calendar::Entry;
 use cif_columns::{Line, LineSlice, Sink, Uid, WriteDevice, WriteFault};
 use cif_extract::{Body, Schedule};
-use cif_records::{
-    AssocBody, AssocKey, Association, Basic, Tiploc,
-};
+use cif_records::{AssocBody, AssocKey, Association, Basic, Tiploc};
 use cif_weeks::Run;
 
 /// What is before each line of a side.
