@@ -1,10 +1,7 @@
 -- Which weekdays of a mask are those of dates in a stretch.
-use Rattle.std.proofs.Common.{◌≡◌, ℕ, ◌+◌, ◌-◌, ◌<◌, ◌≤◌, ◌%◌, Bool, false, true, List, Some, length, length-set, get_or, set}
-use Rattle.std.proofs.Common.{arith, ⊎_elim, sym, ◌∙◌, ap, subst}
-use Rattle.std.specs.Prelude.{◌↔◌, IsTrue}
+use Rattle.std.proofs.Common.{◌≡◌, ℕ, ◌+◌, ◌-◌, ◌<◌, ◌≤◌, ◌%◌, Bool, List, arith, ⊎_elim}
+use Rattle.std.specs.Prelude.{◌↔◌}
 use Rattle.std.proofs.lemmas.Bool.{cases_lt}
-use Rattle.std.proofs.lemmas.List.{get_or-set_same, get_or-set_other}
-use Rattle.std.proofs.lemmas.Option.{slice_get-get_or, get_or_from_slice_get}
 use Rattle.cif_columns.specs.Day.{weekday_of}
 use Rattle.cif_columns.specs.DaysRun.{RunsOn}
 
@@ -27,48 +24,23 @@ pub all-dates : (days : List Bool) (first last : ℕ) → first + 6 ≤ last →
     RunsOn days w ↔ (RunsOn days w × HasDate first last w)
 all-dates days first last long w below = (λ on. (on, date-near first last w below (omega arith) (omega arith)), λ h. h.0)
 
--- the flags before weekday k
-pub record AreKeptUpTo (days : List Bool) (first last k : ℕ) (kept : List Bool) : Type 0 where
-  pub seven : length kept ≡ 7
-  pub each : (w : ℕ) → w < k → IsTrue (get_or kept w false) ↔ (RunsOn days w × HasDate first last w)
-
-module _ (days : List Bool) (first last : ℕ) where
-  kept-more : (k : ℕ) (kept : List Bool) (b : Bool) → k < 7 → AreKeptUpTo days first last k kept →
-      (IsTrue b ↔ (RunsOn days k × HasDate first last k)) → AreKeptUpTo days first last (k + 1) (set kept k b)
-  kept-more k kept b below f h = record {
-    seven = length-set kept k b ∙ f.seven;
-    each = λ w upto. ⊎_elim
-        (λ old. subst (λ v. IsTrue v ↔ (RunsOn days w × HasDate first last w)) (sym (get_or-set_other kept k w b false (λ e. omega arith)))
-        (f.each w old))
-        (λ new.
-        let here : k ≡ w = omega arith in
-        subst (λ n. IsTrue (get_or (set kept k b) n false) ↔ (RunsOn days n × HasDate first last n)) here
-        (subst (λ v. IsTrue v ↔ (RunsOn days k × HasDate first last k)) (sym (get_or-set_same kept k b false (omega (arith, f.seven)))) h))
-        (cases_lt w k);
-  }
-
-  -- the same as a loop says it: i is the weekday too
-  pub kept-at : (k i : ℕ) (kept : List Bool) (b : Bool) → k < 7 → i ≡ k → AreKeptUpTo days first last k kept →
-      (IsTrue b ↔ (RunsOn days k × HasDate first last k)) → AreKeptUpTo days first last (k + 1) (set kept i b)
-  kept-at k i kept b below is f h =
-      subst (λ v. AreKeptUpTo days first last (k + 1) (set kept v b)) (sym is) (kept-more k kept b below f h)
-
-  -- a weekday is near enough, and in the mask
-  pub kept-near : (k : ℕ) (b : Bool) → k < 7 → first ≤ last → (k + 7 - weekday_of first) % 7 ≤ last - first →
-      (IsTrue b ↔ RunsOn days k) → IsTrue b ↔ (RunsOn days k × HasDate first last k)
-  kept-near k b below ordered near h = (λ on. (h.0 on, date-near first last k below near ordered), λ p. h.1 p.0)
-
-  -- a weekday that none of the dates has
-  pub kept-far : (k : ℕ) (b : Bool) → k < 7 → b ≡ false → last - first < (k + 7 - weekday_of first) % 7 →
-      IsTrue b ↔ (RunsOn days k × HasDate first last k)
-  kept-far k b below off far = (
-    λ on. absurd (let no : false ≡ true = sym off ∙ on in cc),
-    λ p. absurd (let near = near-date first last k below p.1 in omega arith),
+-- the weekdays of fewer dates, within one week or over its end
+module _ (first last from to w : ℕ) (below : w < 7) (in_order : first ≤ last) (few : last < first + 6) (begins : from ≡ weekday_of first)
+    (ends : to ≡ from + (last - first) + 1) where
+  pub within-week : to ≤ 7 → ((from ≤ w) × (w < to)) ↔ HasDate first last w
+  within-week one = (
+    λ (begun, upto). date-near first last w below (omega arith) in_order,
+    λ day. let near = near-date first last w below day in (omega arith, omega arith),
   )
 
-  pub kept-all : (kept : List Bool) → AreKeptUpTo days first last 7 kept → (w : ℕ) → w < 7 →
-      RunsOn kept w ↔ (RunsOn days w × HasDate first last w)
-  kept-all kept f w below = (
-    λ on. (f.each w below).0 (get_or_from_slice_get kept w true false on),
-    λ h. slice_get-get_or kept w false (omega (arith, f.seven)) ∙ ap Some ((f.each w below).1 h),
+  pub over-week : 7 < to → (¬ ((to - 7 ≤ w) × (w < from))) ↔ HasDate first last w
+  over-week over = (
+    λ not. ⊎_elim
+        (λ (less : w < from). ⊎_elim
+            (λ (early : w < to - 7). date-near first last w below (omega arith) in_order)
+            (λ late. absurd (not (late, less)))
+            (cases_lt w (to - 7)))
+        (λ begun. date-near first last w below (omega arith) in_order)
+        (cases_lt w from),
+    λ day (late, less). let near = near-date first last w below day in absurd (omega arith),
   )

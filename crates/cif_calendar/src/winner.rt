@@ -49,8 +49,7 @@ pub fn same_body<E: Entry>(one: &E, other: &E) -> bool
     }
 }
 
-/// Those of the weekdays that a date from `first` to `last` has. Inlined, its loop would cost each piece.
-#[inline(never)]
+/// Those of the weekdays that a date from `first` to `last` has.
 fn with_dates(days: DaysRun, first: Day, last: Day) -> DaysRun
     requires in_order { first ≤ last }
     ensures { (w : ℕ) → w < 7 → RunsOn result w ↔
@@ -60,13 +59,13 @@ fn with_dates(days: DaysRun, first: Day, last: Day) -> DaysRun
     if more >= 6 {
         return days;
     }
-    let first_weekday = first.weekday();
-    let mut kept = [false; 7];
-    for weekday in 0..7u8 {
-        let later = (weekday + 7 - first_weekday) % 7;
-        kept[usize::from(weekday)] = u16::from(later) <= more && days.has(weekday);
+    let from = first.weekday();
+    let to = from + more as u8 + 1;
+    if to <= 7 {
+        days.intersection(DaysRun::between(from, to))
+    } else {
+        days.minus(DaysRun::between(to - 7, from))
     }
-    DaysRun::of(kept)
 }
 
 /// Which of some members lie over a day.

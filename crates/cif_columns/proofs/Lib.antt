@@ -8,6 +8,7 @@ pub mod DigitsLemmas
 pub mod EachOfFifths
 pub mod FeedPlaces
 pub mod FieldLaws
+pub mod Flags
 pub mod FoundInHeld
 pub mod GivenLinesLaws
 pub mod HeldBytes
@@ -16,7 +17,6 @@ pub mod LineAnswers
 pub mod LineFifths
 pub mod LineReasons
 pub mod LineTexts
-pub mod MaskUnion
 pub mod Masks
 pub mod PackedCodes
 pub mod Parts
@@ -25,7 +25,6 @@ pub mod PlainColumns
 pub mod PlainLines
 pub mod PrintableBytes
 pub mod ReadSources
-pub mod SameMasks
 pub mod StoodValues
 pub mod TableLaws
 pub mod TestedBytes

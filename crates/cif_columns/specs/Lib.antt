@@ -11,6 +11,7 @@ pub mod End
 pub mod Field
 pub mod FirstLine
 pub mod GivenLines
+pub mod Laws
 pub mod Line
 pub mod LineBuilder
 pub mod LineFault

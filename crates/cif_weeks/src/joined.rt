@@ -1,7 +1,7 @@
 //! The canonical runs of a calendar.
 
 ghost use Rattle.std.specs.Prelude.{◌≡◌, ◌<◌, ◌+◌, ◌*◌, ◌/◌, ◌↔◌, ℕ, Any, IsSome, IsTrue, length, map};
-ghost use Rattle.std.specs.Prelude.{slice_get, Contains, IfOk, MatchOption};
+ghost use Rattle.std.specs.Prelude.{slice_get, Contains, IfOk, MatchOption, OnOk, []};
 ghost use Rattle.cif_columns.specs.Day.{IsDay};
 ghost use Rattle.cif_columns.specs.DaysRun.{IsFirstOf};
 ghost use Rattle.cif_calendar.specs.Pieces.{Tiles};
@@ -125,29 +125,30 @@ fn add_body<E: Entry>(
     Ok(place)
 }
 
-/// Adds the week, and those that are like it. Gives the places of the runs that have it.
+/// Adds the week, and those that are like it, and to `places` the places of the runs that have it.
 fn add_week<E: Entry>(
     runs: &mut Vec<Run>,
+    places: &mut ArrayVec<usize, 7>,
     entries: &[E],
     calendar: &Calendar,
     form: Form,
     before: &[usize],
     week: &Week,
-) -> Result<ArrayVec<usize, 7>, AllocError>
+) -> Result<(), AllocError>
+    requires none { places.old.items ≡ [] }
     requires sources { AreSources (map E.terms entries.now) calendar.now }
     requires in_range { IsDay calendar.now.last }
     requires week { IsWeek (map E.terms entries.now) calendar.now week.now }
     requires before { ArePlaces (map E.terms entries.now) calendar.now (IsBefore week.now.number)
-        week.now.number runs.now.items before.now }
+        week.now.number runs.old.items before.now }
     requires runs { AreOpen form (map E.terms entries.now) calendar.now week.now.number
-        week.now.last_alike (week.now.number * 7) runs.now.items }
-    ensures runs { IfOk result (λ _. AreOpen form (map E.terms entries.now) calendar.now
+        week.now.last_alike (week.now.number * 7) runs.old.items }
+    ensures runs { OnOk result (AreOpen form (map E.terms entries.now) calendar.now
         week.now.number week.now.last_alike (week.now.number * 7 + 7) runs.new.items) }
-    ensures places { IfOk result (λ places. ArePlaces (map E.terms entries.now) calendar.now
+    ensures places { OnOk result (ArePlaces (map E.terms entries.now) calendar.now
         (IsKnown week.now.number (week.now.number * 7 + 7)) (week.now.last_alike + 1)
-        runs.new.items places.items) }
+        runs.new.items places.new.items) }
 {
-    let mut places = ArrayVec::new();
     for body in week.bodies.as_slice() {
         let weekday = match body.days.first() {
             Some(weekday) => weekday,
@@ -156,7 +157,7 @@ fn add_week<E: Entry>(
         let place = add_body(runs, entries, calendar, form, before, week, weekday, *body)?;
         places.push(place);
     }
-    Ok(places)
+    Ok(())
 }
 
 /// Whether something runs on a date of the piece.
@@ -181,6 +182,7 @@ struct Joined {
 impl Joined {
     /// Makes the week that of `day`, which counts from the Monday of week 0 and is the first that
     /// isn't known. Where it is another than before, that one is joined to the runs before it.
+    #[inline]
     fn reach<E: Entry>(
         &mut self,
         entries: &[E],
@@ -195,23 +197,43 @@ impl Joined {
             day self.new) }
         ensures number { IfOk result (λ _. self.new.week.number ≡ day / 7) }
     {
-        let number = day / DAYS_IN_WEEK;
-        if number == self.week.number {
+        if day / DAYS_IN_WEEK == self.week.number {
             return Ok(());
         }
-        let places = add_week(
+        self.join_week(entries, calendar, form, day)
+    }
+
+    /// The same, where it is another week.
+    fn join_week<E: Entry>(
+        &mut self,
+        entries: &[E],
+        calendar: &Calendar,
+        form: Form,
+        day: u32,
+    ) -> Result<(), AllocError>
+        requires sources { AreSources (map E.terms entries.now) calendar.now }
+        requires in_range { IsDay calendar.now.last }
+        requires joined { IsJoinedUpTo form (map E.terms entries.now) calendar.now day self.old }
+        requires later { self.old.week.number < day / 7 }
+        ensures joined { IfOk result (λ _. IsJoinedUpTo form (map E.terms entries.now) calendar.now
+            day self.new) }
+        ensures number { IfOk result (λ _. self.new.week.number ≡ day / 7) }
+    {
+        let number = day / DAYS_IN_WEEK;
+        let mut places = ArrayVec::new();
+        add_week(
             &mut self.runs,
+            &mut places,
             entries,
             calendar,
             form,
             self.before.as_slice(),
             &self.week,
         )?;
-        self.before = if number == self.week.last_alike + 1 {
-            places
-        } else {
-            ArrayVec::new()
-        };
+        if number != self.week.last_alike + 1 {
+            places = ArrayVec::new();
+        }
+        self.before = places;
         self.week.restart(number);
         Ok(())
     }

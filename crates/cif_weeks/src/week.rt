@@ -126,7 +126,7 @@ impl Week {
     {
         self.number = number;
         self.last_alike = number;
-        self.bodies.clear();
+        self.bodies = ArrayVec::new();
     }
 
     /// Adds the day of a weekday, on which the entry at `source` is what runs.

@@ -18,7 +18,7 @@ unreachable-requires g c =
 
 pub loop-body-init : goal.loop-body-init
 loop-body-init g c =
-    rw c.new-places.ensures (added-none c.args.form (map g.E.Entry.terms c.args.entries.now) c.args.calendar.now c.args.week.now
+    rw c.requires.none (added-none c.args.form (map g.E.Entry.terms c.args.entries.now) c.args.calendar.now c.args.week.now
     c.requires.week c.args.before.now c.args.runs.now.items c.requires.runs c.requires.before)
 
 pub add_body-requires-clause-body : goal.add_body-requires-clause-body

@@ -1,7 +1,10 @@
--- For any weekday: `both_of-runs` looks at each of the seven, which both masks have by their invariants.
-use Rattle.std.proofs.Common.{sym}
-use Rattle.cif_columns.proofs.MaskUnion.{both_of-runs}
+use Rattle.std.proofs.Common.{sym, rules}
+use Rattle.std.proofs.lemmas.Nat.{or_lt}
+use Rattle.cif_columns.proofs.Flags.{runs-or}
 use Rattle.cif_columns.proofs.days_run.DaysRun.union.Goals as goal
 
 pub returns-clause-runs : goal.returns-clause-runs
-returns-clause-runs c k = rw (sym c.self.view_is, sym c.other.view_is) (both_of-runs _ _ c.self.invariant c.other.invariant k)
+returns-clause-runs c w = rw (sym c.self.view_is, sym c.other.view_is) (runs-or c.self.inside.bits c.other.inside.bits w)
+
+pub invariant_of-result : goal.invariant_of-result
+invariant_of-result c = or_lt 7 _ _ c.self.invariant c.other.invariant

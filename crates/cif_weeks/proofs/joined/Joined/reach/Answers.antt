@@ -1,39 +1,6 @@
--- The week is joined (`reached-runs`), and another begins (`week-begins`).
-use Rattle.std.proofs.Common.{◌*◌, ◌/◌, ◌<◌, map, sym, subst, arith}
-use Rattle.cif_weeks.specs.Steps.OpenRuns.{AreOpen, ArePlaces, IsBefore}
-use Rattle.cif_weeks.proofs.JoinedWeeks.{reached-runs, reached-places, reached-none}
-use Rattle.cif_weeks.proofs.WeekBodies.{week-known, week-begins}
+-- Another week than that of a day on which it has begun is a later one.
+use Rattle.std.proofs.Common.{arith}
 use Rattle.cif_weeks.proofs.joined.Joined.reach.Goals as goal
-use Rattle.cif_weeks.proofs.joined.Joined.reach.Goals.{then-number-self-2, else-number-self-2}
 
-pub add_week-requires-clause-week : goal.add_week-requires-clause-week
-add_week-requires-clause-week g c =
-    let j = c.requires.joined in
-    let later : c.args.self.now.week.number < c.args.day / 7 = omega (arith, c.if-number-self.false, j.week.begun) in
-    week-known (map g.E.Entry.terms c.args.entries.now) c.args.calendar.now c.args.day c.args.self.now.week j.week later
-
-pub returns-clause-joined : goal.returns-clause-joined
-returns-clause-joined g c =
-    let xs = map g.E.Entry.terms c.args.entries.now in
-    let calendar = c.args.calendar.now in
-    let j = c.requires.joined in
-    let day = c.args.day in
-    let it = c.args.self.now in
-    let runs = c.add_week.new.runs.items in
-    let places = c.in_ok-places.places.items in
-    let u = c.in_ok-places.ensures.runs in
-    let p = c.in_ok-places.ensures.places in
-    let later : c.args.self.now.week.number < c.args.day / 7 = omega (arith, c.if-number-self.false, j.week.begun) in
-    let next = c.restart.ensures in
-    record {
-      runs = λ last. subst (λ v. AreOpen c.args.form xs calendar v last (v * 7) runs) (sym next.number)
-          (reached-runs c.args.form xs calendar c.requires.sources day it j later runs places u p last);
-      before = subst (λ v. ArePlaces xs calendar (IsBefore v) v runs c.if-number-self-2.self.items) (sym next.number)
-          (elim c.if-number-self-2.branch [
-            | then-number-self-2 w ↦ rw w.self-is (reached-places c.args.form xs calendar c.requires.sources day it j later runs places u p
-                w.if-number-self-2.true)
-            | else-number-self-2 w ↦ rw (w.self-is, w.new-self.ensures) (reached-none c.args.form xs calendar c.requires.sources day it j later
-                runs places u p w.if-number-self-2.false)
-          ]);
-      week = week-begins xs calendar c.requires.sources day it.week j.week later c.restart.new.self next.number next.last_alike next.bodies;
-    }
+pub join_week-requires-clause-later : goal.join_week-requires-clause-later
+join_week-requires-clause-later g c = omega (arith, c.if-day-self.false, c.requires.joined.week.begun)

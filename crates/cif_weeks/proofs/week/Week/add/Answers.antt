@@ -1,5 +1,5 @@
 -- The body is the one at the place, whose days the write keeps beside the others', or it is new.
-use Rattle.std.proofs.Common.{◌≡◌, ◌++◌, Some, true, false, length, take, drop, replicate, inl, inr, sym, ◌∙◌, ap, arith, length-set, ⊎_elim}
+use Rattle.std.proofs.Common.{◌≡◌, ◌++◌, Some, length, take, drop, inl, inr, sym, ◌∙◌, ap, arith, length-set, ⊎_elim}
 use Rattle.std.specs.Prelude.{slice_get, slice_set}
 use Rattle.std.proofs.Math.Seq.{take-append_seam}
 use Rattle.std.proofs.lemmas.Option.{slice_get_within}
@@ -50,7 +50,7 @@ pub returns-in-None-clause-bodies : goal.returns-in-None-clause-bodies
 returns-in-None-clause-bodies g c = inr (record {
   days = c.only-only.result;
   none = λ k body at. c.in-None.ensures k body (ap (λ v. slice_get v k) c.as_slice.ensures.value ∙ at);
-  seven = ap length c.only-only.ensures.exact ∙ length-set (replicate 7 false) c.args.weekday true;
+  seven = c.only-only.ensures.width;
   runs = c.only-only.ensures.runs;
   is = c.push.ensures.items;
 })

@@ -1,0 +1,10 @@
+-- The highest bit that is set.
+use Rattle.std.proofs.Common.{arith, sym, rules}
+use Rattle.cif_columns.proofs.Flags.{last-of, some-bit}
+use Rattle.cif_columns.proofs.days_run.DaysRun.last.Goals as goal
+
+pub returns-clause-found : goal.returns-clause-found
+returns-clause-found c = rw (sym c.self.view_is) (last-of _ (some-bit _ c.if-self-eq0.false) c.self.invariant).1
+
+pub returns-clause-in_range : goal.returns-clause-in_range
+returns-clause-in_range c = (last-of _ (some-bit _ c.if-self-eq0.false) c.self.invariant).0
