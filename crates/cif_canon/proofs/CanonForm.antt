@@ -19,7 +19,8 @@ use Rattle.cif_canon.specs.Canonical.{IsCanonicalOf}
 use Rattle.cif_canon.specs.Counts.{counts_of}
 use Rattle.cif_canon.specs.declared.counts.Counts.{Counts}
 use Rattle.cif_calendar.specs.Entries.{association_entries, schedule_entries}
-use Rattle.cif_canon.specs.Steps.Records.{AreCanonicalRecords, window_from}
+use Rattle.cif_canon.specs.Steps.Records.{AreCanonicalRecords}
+use Rattle.cif_weeks.specs.Window.{window_from}
 use Rattle.cif_canon.specs.Steps.Texts.{HasRecord, canon_text}
 use Rattle.cif_canon.specs.Steps.Tiplocs.{AreDistinct}
 use Rattle.cif_extract.specs.Texts.{FitsColumns, extract_text}

@@ -15,7 +15,7 @@ use Rattle.cif_weeks.specs.Window.{IsWithin}
 use Rattle.cif_weeks.specs.declared.form.Form.TheVariants.{Two}
 use Rattle.cif_weeks.specs.declared.run.Run.{Run}
 use Rattle.cif_canon.specs.Steps.OnlySides.{AreOnlyRuns}
-use Rattle.cif_canon.specs.Steps.Records.{window_from}
+use Rattle.cif_weeks.specs.Window.{window_from}
 use Rattle.cif_canon.proofs.FoundRecords.{AreOnlyOfKey, AreRuns}
 use Rattle.cif_canon.proofs.KeyRecords.{key-runs_of, window-is}
 

@@ -17,7 +17,7 @@ use Rattle.cif_weeks.specs.declared.run.Run.{Run}
 use Rattle.cif_weeks.proofs.CalendarSources.{firsts-within}
 use Rattle.cif_weeks.proofs.RisingLists.{Contains-none}
 use Rattle.cif_canon.specs.Steps.OnlySides.{AreOnlyRuns, AreRisingRuns, IsOnlyCalendar}
-use Rattle.cif_canon.specs.Steps.Records.{window_from}
+use Rattle.cif_weeks.specs.Window.{window_from}
 
 -- what holds of the pairs of one list holds of those of another that goes with it one by one
 module _ {X Y : Type 0} (R : X → Y → Type 0) (P : X → X → Type 0) (Q : Y → Y → Type 0)

@@ -7,7 +7,7 @@ ghost use Rattle.cif_canon.specs.Steps.OnlySides.{AreKeyDifferences, AreMerging,
 ghost use Rattle.cif_canon.specs.Steps.OnlySides.{IsFirstSide};
 ghost use Rattle.cif_canon.specs.declared.side.Sided.{Sided};
 ghost use Rattle.cif_weeks.specs.declared.run.Run.{Run};
-ghost use Rattle.cif_canon.specs.Steps.Records.{window_from};
+ghost use Rattle.cif_weeks.specs.Window.{window_from};
 
 use crate::difference::{clear_calendar, first_day};
 use crate::only::only_runs;

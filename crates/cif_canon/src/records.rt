@@ -1,14 +1,16 @@
 //! The canonical records of all keys.
 ghost use Rattle.std.specs.Prelude.{◌≡◌, ◌<◌, All, length};
-ghost use Rattle.std.specs.Prelude.{IfOk, IfErr};
+ghost use Rattle.std.specs.Prelude.{IfOk, IfErr, IfSome, ◌∷◌, []};
 ghost use Rattle.cif_calendar.specs.Keys.{keyed, ArePositionsOf};
 ghost use Rattle.cif_canon.specs.Steps.Records.{AreCanonicalRecords, IsRecordsFault};
-ghost use Rattle.cif_canon.specs.Steps.Records.{AreRunsOfKey, IsKeyFault, records_fault, window_from};
+ghost use Rattle.cif_canon.specs.Steps.Records.{AreRunsOfKey, IsKeyFault, records_fault};
+ghost use Rattle.cif_weeks.specs.Window.{window_from};
+ghost use Rattle.cif_weeks.specs.declared.form.Form.{Form as AForm};
 
 use crate::turns::{CopiedKey, count_of_first_key, positions_by_key};
 use cif_calendar::{CalendarFault, Entry, Piece, SweepLists, Window, calendar_in_room};
 use cif_columns::Day;
-use cif_weeks::{Form, Run, runs_in_room};
+use cif_weeks::{Form, Run, only_run, runs_in_room};
 use std::alloc::{AllocError, Global};
 
 /// Why there are no canonical records.
@@ -49,6 +51,30 @@ struct KeyRoom {
     runs: Vec<Run>,
 }
 
+/// The only run of a key with one record, where `only_run` finds it.
+fn run_of_one_member<E: Entry>(entries: &[E], members: &[usize], window: &Window) -> Option<Run>
+    requires { All (λ i. i < length entries.now) members.now }
+    ensures { IfSome result (λ run. (k : E.Key) (form : AForm) →
+        ArePositionsOf (keyed E.key E.terms entries.now) k members.now →
+        AreRunsOfKey form (window_from window.now.first window.now.last)
+        (keyed E.key E.terms entries.now) k (run ∷ [])) }
+{
+    match members {
+        [only] => only_run(&entries[*only], *only, *window),
+        _ => None,
+    }
+}
+
+/// The run alone, in the room of runs that are needed no more.
+fn alone_in_room(room: Vec<Run>, run: Run) -> Result<Vec<Run>, AllocError>
+    ensures { IfOk result (λ runs. runs.items ≡ run ∷ []) }
+{
+    let mut runs = room;
+    runs.clear();
+    runs.push(run)?;
+    Ok(runs)
+}
+
 /// The runs of one key's canonical records, in the room of another key's. The key's entries are at
 /// `members`.
 fn runs_of_key<E: Entry>(
@@ -70,6 +96,12 @@ fn runs_of_key<E: Entry>(
         IsKeyFault (window_from window.now.first window.now.last)
         (keyed E.key E.terms entries.now) members.now k fault) }
 {
+    if let Some(run) = run_of_one_member(entries, members, window) {
+        return Ok(KeyRoom {
+            pieces: room.pieces,
+            runs: alone_in_room(room.runs, run)?,
+        });
+    }
     let calendar = match calendar_in_room(room.pieces, lists, entries, members, *window) {
         Ok(calendar) => calendar,
         Err(fault) => return Err(fault_of(fault, members[0])),

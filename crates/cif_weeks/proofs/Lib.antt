@@ -7,6 +7,7 @@ pub mod Jump
 pub mod KeyByKey
 pub mod Masks
 pub mod Meeting
+pub mod OnlyRun
 pub mod PermanentEntries
 pub mod RisingLists
 pub mod Separate

@@ -6,6 +6,10 @@ pub record Window : Type 0 where
   pub first : ℕ
   pub last : ℕ
 
+-- the window of these days
+abbrev pub window_from : ℕ → ℕ → Window
+window_from first last = record { first = first; last = last }
+
 -- day n lies in the window; so do its first day and its last
 pub record IsWithin (window : Window) (n : ℕ) : Type 0 where
   pub from : window.first ≤ n

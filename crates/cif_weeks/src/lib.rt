@@ -3,12 +3,15 @@
 #![tactic(auto)]
 
 mod agreed;
+mod alone;
 mod form;
 mod joined;
 pub mod laws;
+
 mod run;
 mod week;
 
 pub use form::Form;
 pub use joined::{runs, runs_in_room};
+pub use alone::only_run;
 pub use run::Run;

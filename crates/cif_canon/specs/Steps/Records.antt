@@ -23,9 +23,6 @@ use Rattle.cif_weeks.specs.declared.run.Run.{Run}
 use Rattle.cif_canon.specs.declared.records.RecordsFault.{RecordsFault}
 use Rattle.cif_canon.specs.declared.records.RecordsFault.TheVariants.{Clash, Memory}
 
-abbrev pub window_from : ℕ → ℕ → Window
-window_from first last = record { first = first; last = last }
-
 -- The run has the dates and the mask of the record of e, and its source is the position of an entry with e's key and the record's
 -- body.
 pub record IsRunOf {K B : Type 0} (entries : List (K × Terms B)) (run : Run) (e : K × Permanent B) : Type 0 where

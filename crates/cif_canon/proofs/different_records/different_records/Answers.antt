@@ -6,7 +6,7 @@ use Rattle.std.proofs.lemmas.List.Elements.{All-drop}
 use Rattle.cif_calendar.specs.Keys.{keyed}
 use Rattle.cif_calendar.proofs.FirstClash.{same_key-cmp}
 use Rattle.cif_weeks.specs.declared.run.Run.{Run}
-use Rattle.cif_canon.specs.Steps.Records.{window_from}
+use Rattle.cif_weeks.specs.Window.{window_from}
 use Rattle.cif_canon.specs.Steps.Turns.{AreFrom, IsFront}
 use Rattle.cif_canon.specs.declared.side.Sided.{Sided}
 use Rattle.cif_canon.proofs.ComparedCalendars.{clear-positions}

@@ -2,7 +2,7 @@
 use Rattle.std.proofs.Common.{◌<◌, ◌+◌, length}
 use Rattle.std.specs.Prelude.{All}
 use Rattle.cif_calendar.specs.Keys.{keyed}
-use Rattle.cif_canon.specs.Steps.Records.{window_from}
+use Rattle.cif_weeks.specs.Window.{window_from}
 use Rattle.cif_canon.proofs.FoundRecords.{AreFound}
 use Rattle.cif_canon.proofs.different_records.different_records.Given as goal
 
