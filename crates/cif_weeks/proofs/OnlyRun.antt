@@ -64,12 +64,15 @@ module _ {B : Type 0} (r : Terms B) (b : B) (window : Window) (position first la
         let after = not_before w on in
         let before = not_after w on in
         let n : ℕ = first + (w - from) in
-        let is : weekday_of (first + (w - from)) ≡ w = omega (arith, begins, after, before, ends) in
-        (n, is, record {
-          begun = omega arith;
-          unfinished = omega (arith, begins, ends, in_order, after, before);
-          on_weekday = subst (RunsOn r.days) (sym is) on;
-        });
+        let is : weekday_of (first + (w - from)) ≡ w = omega (arith, begins, after, before, ends) in (
+          n,
+          is,
+          record {
+            begun = omega arith;
+            unfinished = omega (arith, begins, ends, in_order, after, before);
+            on_weekday = subst (RunsOn r.days) (sym is) on;
+          },
+        );
   }
 
   form-alone : (form : Form) → HaveForm form window (Contains (it ∷ []))

@@ -1,4 +1,12 @@
-//! The two canonical forms.
+//! The two canonical forms, and whether two weeks that follow one another are joined in them.
+
+ghost use Rattle.std.specs.Prelude.{◌≡◌, ◌<◌, ◌≤◌, ◌+◌, ◌↔◌, ℕ, IsTrue, MatchBool};
+ghost use Rattle.cif_columns.specs.Day.{week_of, weekday_of};
+ghost use Rattle.cif_weeks.specs.Runs.{window_of};
+ghost use Rattle.cif_weeks.specs.Steps.WeekMasks.{Agree, Counts, Differ};
+
+use cif_calendar::{Calendar, Window};
+use cif_columns::{DAYS_IN_WEEK, DaysRun};
 
 /// How the dates on which a body runs are written as records.
 ///
@@ -16,4 +24,63 @@ pub enum Form {
     /// of a record has the weekdays of all its weeks. So two weeks that lie wholly in the window
     /// are joined as in form 1.
     Two,
+}
+
+/// Whether the dates of a weekday in the week before `next` and in this one lie in the window.
+fn lie_in_window(window: Window, next: u32, weekday: u8) -> bool
+    requires { weekday < 7 }
+    ensures { IsTrue result ↔ ((n : ℕ) × (week_of n ≡ next) × (weekday_of n ≡ weekday)
+        × (window.first + 7 ≤ n) × (n ≤ window.last)) }
+{
+    let day = u64::from(next) * u64::from(DAYS_IN_WEEK) + u64::from(weekday);
+    let first = window.first.days_since_first_monday() + DAYS_IN_WEEK;
+    u64::from(first) <= day && day <= u64::from(window.last.days_since_first_monday())
+}
+
+/// Whether the week before `next` and this one have to agree on a weekday: in form 1 always, and in
+/// form 2 where its dates in both lie in the window.
+fn counts(form: Form, calendar: &Calendar, next: u32, weekday: u8) -> bool
+    requires { weekday < 7 }
+    ensures { (week : ℕ) → week + 1 ≡ next →
+        IsTrue result ↔ Counts form (window_of calendar.now) week weekday }
+{
+    match form {
+        Form::One => true,
+        Form::Two => lie_in_window(calendar.window(), next, weekday),
+    }
+}
+
+/// Whether the masks of the week before `next` and of this one agree where they have to.
+pub(crate) fn agree(
+    form: Form,
+    calendar: &Calendar,
+    next: u32,
+    before: DaysRun,
+    days: DaysRun,
+) -> bool
+    ensures { (week : ℕ) → week + 1 ≡ next → MatchBool result
+        (Agree form (window_of calendar.now) week before days)
+        (Differ form (window_of calendar.now) week before days) }
+{
+    before.is(days) || agree_by_weekday(form, calendar, next, before, days)
+}
+
+/// The same, weekday by weekday.
+fn agree_by_weekday(
+    form: Form,
+    calendar: &Calendar,
+    next: u32,
+    before: DaysRun,
+    days: DaysRun,
+) -> bool
+    ensures { (week : ℕ) → week + 1 ≡ next → MatchBool result
+        (Agree form (window_of calendar.now) week before days)
+        (Differ form (window_of calendar.now) week before days) }
+{
+    for weekday in 0..7u8 {
+        if before.has(weekday) != days.has(weekday) && counts(form, calendar, next, weekday) {
+            return false;
+        }
+    }
+    true
 }

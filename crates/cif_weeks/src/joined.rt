@@ -12,8 +12,7 @@ ghost use Rattle.cif_weeks.specs.Steps.OpenRuns.{JoinNone, Joins};
 ghost use Rattle.cif_weeks.specs.Steps.WeekBodies.{IsBodyUpTo, IsWeek};
 ghost use Rattle.cif_weeks.specs.declared.run.Run.{Run};
 
-use crate::agreed::agree;
-use crate::form::Form;
+use crate::form::{Form, agree};
 use crate::run::Run;
 use crate::week::{Week, WeekBody, have_one_body};
 use arrayvec::ArrayVec;

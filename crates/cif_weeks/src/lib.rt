@@ -2,16 +2,12 @@
 //! runs on each day determines them.
 #![tactic(auto)]
 
-mod agreed;
-mod alone;
 mod form;
 mod joined;
 pub mod laws;
-
 mod run;
 mod week;
 
 pub use form::Form;
 pub use joined::{runs, runs_in_room};
-pub use alone::only_run;
-pub use run::Run;
+pub use run::{Run, only_run};

@@ -1,7 +1,7 @@
 -- What equal masks come to has to be told week by week (`same-agree`).
 use Rattle.cif_weeks.specs.Runs.{window_of}
 use Rattle.cif_weeks.proofs.AgreedDays.{same-agree}
-use Rattle.cif_weeks.proofs.agreed.agree.Goals as goal
+use Rattle.cif_weeks.proofs.form.agree.Goals as goal
 
 pub returns-then-is : goal.returns-then-is
 returns-then-is c = λ week next.

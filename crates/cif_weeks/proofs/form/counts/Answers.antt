@@ -2,7 +2,7 @@
 use Rattle.std.proofs.Common.{◌≡◌, ◌+◌, ◌≤◌, sym, subst}
 use Rattle.cif_weeks.specs.Runs.{window_of}
 use Rattle.cif_weeks.proofs.AgreedDays.{counts-within, counted-within}
-use Rattle.cif_weeks.proofs.agreed.counts.Goals as goal
+use Rattle.cif_weeks.proofs.form.counts.Goals as goal
 
 pub returns-in-Two : goal.returns-in-Two
 returns-in-Two c week is =

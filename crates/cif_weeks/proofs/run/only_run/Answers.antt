@@ -4,7 +4,7 @@ use Rattle.cif_columns.specs.DaysRun.{IsFirstOf, IsLastOf}
 use Rattle.cif_weeks.specs.OnlyRun.{IsOnlyRun}
 use Rattle.cif_weeks.specs.Window.{window_from}
 use Rattle.cif_weeks.proofs.OnlyRun.{run-alone}
-use Rattle.cif_weeks.proofs.alone.only_run.Goals as goal
+use Rattle.cif_weeks.proofs.run.only_run.Goals as goal
 
 pub returns : goal.returns
 returns g c =

@@ -1,7 +1,7 @@
 -- What is compared are numbers of days from the first Monday: `tested-date` has the date that they are of.
 use Rattle.std.proofs.Common.{◌≡◌, ◌+◌, ◌*◌, ◌≤◌, arith}
 use Rattle.cif_weeks.proofs.AgreedDays.{tested-date}
-use Rattle.cif_weeks.proofs.agreed.lie_in_window.Goals as goal
+use Rattle.cif_weeks.proofs.form.lie_in_window.Goals as goal
 
 pub returns-then-from-day : goal.returns-then-from-day
 returns-then-from-day c =
