@@ -8,7 +8,6 @@ use Rattle.cif_calendar.specs.Terms.{Terms}
 use Rattle.cif_calendar.specs.Clash.{IsClear, IsFirstClash}
 use Rattle.cif_calendar.specs.Source.{IsChosen, IsSource}
 use Rattle.cif_calendar.specs.Pieces.{IsPiece, IsBoundary, ChangesOn, BeginsPiece, Tiles, source_at}
-use Rattle.cif_calendar.specs.Steps.PieceSteps.{BreaksAfter}
 use Rattle.cif_calendar.specs.Calendar.{IsCalendar, IsFault}
 use Rattle.cif_calendar.specs.declared.piece.Piece.{Piece}
 use Rattle.cif_calendar.specs.declared.calendar_fault.CalendarFault.{CalendarFault}
@@ -51,16 +50,12 @@ module _ {B : Type 0} (xs : List (Terms B)) (members : List ℕ) (from : ℕ) wh
         (subst (λ (n : ℕ). (n ≡ from) ⊎ ChangesOn (IsChosen xs members) n) (sym at) l.change);
   }
 
-  -- on the day after a break something changes
-  change-after : (first last : ℕ) → BreaksAfter (IsChosen xs members) first last → ChangesOn (IsChosen xs members) (last + 1)
-  change-after first last b = (b.0, b.1, ⊎_elim (λ h. inl h.1) (λ h. inr (ap (λ n. n + 1) h.1)) b.2)
-
   laid-push : (to : ℕ) (ps : List Piece) (p : Piece) → p.first ≡ to → p.first ≤ p.last → IsPiece xs members p →
-      BreaksAfter (IsChosen xs members) to p.last → AreLaid xs members from to ps →
+      ChangesOn (IsChosen xs members) (p.last + 1) → AreLaid xs members from to ps →
       AreLaid xs members from (p.last + 1) (ps ++ p ∷ [])
   laid-push to ps p at up piece b l = record {
     tiled = tiled-push to ps p at up piece l;
-    change = inr (change-after to p.last b);
+    change = inr b;
     few = let h : left xs members (p.last + 1) + 1 ≤ left xs members to = left-next xs members to p.last (omega arith) b in
         let k : length ps + left xs members to ≤ 2 * length members = l.few in
         omega (arith, length-append ps (p ∷ []));
@@ -127,7 +122,7 @@ module _ {B : Type 0} (xs : List (Terms B)) (members : List ℕ) (from : ℕ) wh
 
   -- the same as a loop says it: qs are the pieces with the new one
   pub laid-more : (to next last : ℕ) (ps qs : List Piece) (p : Piece) → qs ≡ ps ++ p ∷ [] → p.first ≡ to → p.first ≤ p.last →
-      IsPiece xs members p → (p.last ≡ last) ⊎ BreaksAfter (IsChosen xs members) to p.last → p.last < last → next ≡ p.last + 1 →
+      IsPiece xs members p → (p.last ≡ last) ⊎ ChangesOn (IsChosen xs members) (p.last + 1) → p.last < last → next ≡ p.last + 1 →
       AreLaid xs members from to ps → AreLaid xs members from next qs
   laid-more to next last ps qs p e at up piece b less is l = rw (e, is)
       (laid-push to ps p at up piece (⊎_elim (λ same. absurd (omega arith)) (λ breaks. breaks) b) l)

@@ -6,7 +6,7 @@ ghost use Rattle.cif_canon.specs.Steps.Records.{AreCanonicalRecords, IsRecordsFa
 ghost use Rattle.cif_canon.specs.Steps.Records.{AreRunsOfKey, IsKeyFault, records_fault, window_from};
 
 use crate::turns::{CopiedKey, count_of_first_key, positions_by_key};
-use cif_calendar::{CalendarFault, Entry, Piece, SweepLists, Window, calendar_in_room};
+use cif_calendar::{CalendarFault, Entry, Piece, Window, calendar_in_room};
 use cif_columns::Day;
 use cif_weeks::{Form, Run, runs_in_room};
 use std::alloc::{AllocError, Global};
@@ -53,7 +53,6 @@ struct KeyRoom {
 /// `members`.
 fn runs_of_key<E: Entry>(
     room: KeyRoom,
-    lists: &mut SweepLists,
     entries: &[E],
     members: &[usize],
     window: &Window,
@@ -70,7 +69,7 @@ fn runs_of_key<E: Entry>(
         IsKeyFault (window_from window.now.first window.now.last)
         (keyed E.key E.terms entries.now) members.now k fault) }
 {
-    let calendar = match calendar_in_room(room.pieces, lists, entries, members, *window) {
+    let calendar = match calendar_in_room(room.pieces, entries, members, *window) {
         Ok(calendar) => calendar,
         Err(fault) => return Err(fault_of(fault, members[0])),
     };
@@ -107,11 +106,10 @@ where
         pieces: Vec::new(alloc),
         runs: Vec::new(alloc),
     };
-    let mut lists = SweepLists::new(alloc);
     let mut rest = positions.as_slice();
     while !rest.is_empty() {
         let (members, later) = rest.split_at(count_of_first_key(entries, rest));
-        room = runs_of_key(room, &mut lists, entries, members, &window, form)?;
+        room = runs_of_key(room, entries, members, &window, form)?;
         all.extend_from_slice(room.runs.as_slice())?;
         rest = later;
     }
