@@ -12,7 +12,8 @@ module _ {B : Type 0} (xs : List (Terms B)) (members : List ℕ) where
   pub alike-none : (n : ℕ) → AreAlike xs members (replicate n None)
   alike-none n k j is = absurd (⊎_elim
       (λ below. let no : None ≡ Some j = sym (get_or-replicate n k None None below) ∙ is in cc)
-      (λ past. let no : None ≡ Some j = sym (get_or_past (replicate n None) k None (omega (arith, length-replicate {A = Option ℕ} n None))) ∙ is in cc)
+      (λ past. let no : None ≡ Some j = sym (get_or_past (replicate n None) k None
+      (omega (arith, length-replicate {A = Option ℕ} n None))) ∙ is in cc)
       (cases_lt k n))
 
   -- what is noted is known

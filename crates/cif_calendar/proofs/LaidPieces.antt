@@ -127,18 +127,8 @@ module _ {B : Type 0} (xs : List (Terms B)) (members : List ℕ) (from : ℕ) wh
   laid-more to next last ps qs p e at up piece b less is l = rw (e, is)
       (laid-push to ps p at up piece (⊎_elim (λ same. absurd (omega arith)) (λ breaks. breaks) b) l)
 
-  pub tiled-last : (to last : ℕ) (ps qs : List Piece) (p : Piece) → qs ≡ ps ++ p ∷ [] → p.first ≡ to → p.first ≤ p.last →
-      p.last ≤ last → (p.last < last → ⊥) → IsPiece xs members p → AreLaid xs members from to ps →
-      AreTiled xs members from (last + 1) qs
-  tiled-last to last ps qs p e at up upto stop piece l =
-      let same : last ≡ p.last = omega arith in rw (e, same) (tiled-push to ps p at up piece l)
-
-  pub few-last : (to : ℕ) (ps qs : List Piece) (p : Piece) → qs ≡ ps ++ p ∷ [] → AreLaid xs members from to ps →
-      length qs ≤ 2 * length members + 1
-  few-last to ps qs p e l = rw e (few-push to ps p l)
-
   -- the pieces of the whole window are a calendar
-  pub calendar-tiled : (last : ℕ) (ps : List Piece) → AreTiled xs members from (last + 1) ps → length ps ≤ 2 * length members + 1 →
+  calendar-tiled : (last : ℕ) (ps : List Piece) → AreTiled xs members from (last + 1) ps → length ps ≤ 2 * length members + 1 →
       IsCalendar xs members from last (record { first = from; last = last; pieces = ps })
   calendar-tiled last ps t few = record {
     first_is = refl;
@@ -161,3 +151,11 @@ module _ {B : Type 0} (xs : List (Terms B)) (members : List ℕ) (from : ℕ) wh
           change = subst (λ (n : ℕ). (n ≡ from) ⊎ ChangesOn (IsChosen xs members) n) is
               (All-contains (λ p. (p.first ≡ from) ⊎ ChangesOn (IsChosen xs members) p.first) ps b.0 t.begins b.1);
         }
+
+  -- after the last piece
+  pub calendar-last : (to last : ℕ) (ps qs : List Piece) (p : Piece) → qs ≡ ps ++ p ∷ [] → p.first ≡ to → p.first ≤ p.last →
+      p.last ≤ last → (p.last < last → ⊥) → IsPiece xs members p → AreLaid xs members from to ps →
+      IsCalendar xs members from last (record { first = from; last = last; pieces = qs })
+  calendar-last to last ps qs p e at up upto stop piece l =
+      let same : last ≡ p.last = omega arith in
+      calendar-tiled last qs (rw (e, same) (tiled-push to ps p at up piece l)) (rw e (few-push to ps p l))

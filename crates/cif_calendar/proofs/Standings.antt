@@ -104,8 +104,8 @@ module _ {B : Type 0} (xs : List (Terms B)) (members looked : List ℕ) (k i : �
   pub stands-skip : (Applies r d → ⊥) → Stands xs members (IsChosen xs (looked ++ i ∷ [])) d old
   stands-skip off = (nobody-combines xs members old).stands looked (i ∷ []) d h (one-none xs i r at d off)
 
-  pub stands-more : (new : Standing) → r.first ≤ d → d ≤ r.last → LooksAt xs members r.days (replicate 7 (Leader k)) (weekday_of d) old new →
-      Stands xs members (IsChosen xs (looked ++ i ∷ [])) d new
+  pub stands-more : (new : Standing) → r.first ≤ d → d ≤ r.last →
+      LooksAt xs members r.days (replicate 7 (Leader k)) (weekday_of d) old new → Stands xs members (IsChosen xs (looked ++ i ∷ [])) d new
   stands-more new begun unfinished l = ⊎_elim
       (λ on. on.1.stands looked (i ∷ []) d h
       (subst (Stands xs members (IsChosen xs (i ∷ [])) d) (sym (get_or-replicate 7 (weekday_of d) (Leader k) Nobody (omega arith)))

@@ -11,8 +11,8 @@ use Rattle.cif_calendar.specs.Pieces.{ChangesOn, IsUnbroken}
 use Rattle.cif_calendar.specs.Steps.Standing.{AreStandings}
 use Rattle.cif_calendar.specs.Steps.Stretches.{AreAhead, AreBehind, AreStretches, EndsWith, IsJoint, IsPart, IsStretch}
 use Rattle.cif_calendar.specs.declared.stretch.Stretch.{Stretch}
-use Rattle.cif_calendar.proofs.Unbroken.{unbroken-within, unbroken-both, changes-left, changes-right}
-use Rattle.cif_calendar.proofs.Winning.{chosen-union}
+use Rattle.cif_calendar.proofs.Unbroken.{unbroken-within, unbroken-both, changes-kept}
+use Rattle.cif_calendar.proofs.Winning.{chosen-union, union-swap}
 
 -- ---- a part of the members
 
@@ -31,7 +31,8 @@ module _ (members : List ℕ) (k : ℕ) (part : List ℕ) (p : IsPart members k 
   pub part-front : (half : ℕ) → IsPart members k (take half part)
   part-front half = record {
     within = omega (arith, p.within, length-take half part);
-    same = λ j d below. p.same j d (omega (arith, length-take half part)) ∙ sym (get_or-take half part j d (omega (arith, length-take half part)));
+    same = λ j d below. let short = length-take half part in
+        p.same j d (omega (arith, short)) ∙ sym (get_or-take half part j d (omega (arith, short)));
   }
 
   pub part-back : (half : ℕ) → half ≤ length part → IsPart members (k + half) (drop half part)
@@ -50,11 +51,11 @@ module _ {B : Type 0} (xs : List (Terms B)) (members looked : List ℕ) (end : �
   stretches-push from to (t ∷ ts) s h more = (h.0, stretches-push (t.last + 1) to ts s h.1 more)
 
   -- the same as a loop says it: `more` has the new stretch too, and the next one begins on day `to`
-  pub stretches-more : (from first to last : ℕ) (ss more : List Stretch) (s : Stretch) → end ≡ last + 1 → more ≡ ss ++ s ∷ [] →
+  pub stretches_more : (from first to last : ℕ) (ss more : List Stretch) (s : Stretch) → end ≡ last + 1 → more ≡ ss ++ s ∷ [] →
       to ≡ s.last + 1 → first ≤ s.last → s.last ≤ last → IsUnbroken (IsChosen xs looked) first s.last →
       (s.last ≡ last) ⊎ ChangesOn (IsChosen xs looked) (s.last + 1) → AreStandings xs members looked first s.last s.standings →
       AreStretches xs members looked end from first ss → AreStretches xs members looked end from to more
-  stretches-more from first to last ss more s over is next up upto unbroken change standings h = rw (is, next)
+  stretches_more from first to last ss more s over is next up upto unbroken change standings h = rw (is, next)
       (stretches-push from first ss s h (record {
         in_order = up;
         upto = omega arith;
@@ -111,10 +112,8 @@ module _ {B : Type 0} (xs : List (Terms B)) (members ms ns : List ℕ) (end : �
         (unbroken-within (IsChosen xs ms) first s.last first u.last (omega arith) j.upto_one h.unbroken)
         (unbroken-within (IsChosen xs ns) first t.last first u.last (omega arith) j.upto_other k.unbroken);
     change = ⊎_elim
-        (λ e. subst (λ n. (n + 1 ≡ end) ⊎ ChangesOn (IsChosen xs (ms ++ ns)) (n + 1)) (sym e)
-        (⊎_elim (λ a. inl a) (λ c. inr (changes-left _ _ _ (chosen-union xs ms ns) (s.last + 1) c)) h.change))
-        (λ e. subst (λ n. (n + 1 ≡ end) ⊎ ChangesOn (IsChosen xs (ms ++ ns)) (n + 1)) (sym e)
-        (⊎_elim (λ a. inl a) (λ c. inr (changes-right _ _ _ (chosen-union xs ms ns) (t.last + 1) c)) k.change))
+        (λ e. rw e (changes-kept _ _ _ (chosen-union xs ms ns) (s.last + 1 ≡ end) (s.last + 1) h.change))
+        (λ e. rw e (changes-kept _ _ _ (union-swap _ _ _ (chosen-union xs ms ns)) (t.last + 1 ≡ end) (t.last + 1) k.change))
         j.ends;
     standings = record {
       below = j.below;

@@ -1,5 +1,5 @@
 -- How far the days are alike, by fewer days and by more records.
-use Rattle.std.proofs.Common.{◌≡◌, ℕ, ◌+◌, ◌<◌, ◌≤◌, List, [], ◌∷◌, ◌++◌, Some, subst, sym, arith, ⊎_elim, inl, inr}
+use Rattle.std.proofs.Common.{◌≡◌, ℕ, ◌+◌, ◌<◌, ◌≤◌, List, [], ◌∷◌, ◌++◌, Some, subst, arith, ⊎_elim, inl, inr}
 use Rattle.std.specs.Prelude.{slice_get, ◌⊎◌}
 use Rattle.cif_calendar.specs.Terms.{Terms, Records}
 use Rattle.cif_calendar.specs.Source.{IsChosen}
@@ -20,11 +20,8 @@ module _ {B : Type 0} (ys ns zs : Records B) (a : IsUnion ys ns zs) where
     ends = λ s h after. ⊎_elim (λ old. u.ends s old after) (λ new. v.ends s new after) (a.only s h);
   }
 
-  pub changes-left : (d : ℕ) → ChangesOn ys d → ChangesOn zs d
-  changes-left d c = (c.0, a.left c.0 c.1, c.2)
-
-  pub changes-right : (d : ℕ) → ChangesOn ns d → ChangesOn zs d
-  changes-right d c = (c.0, a.right c.0 c.1, c.2)
+  pub changes-kept : (P : Type 0) (d : ℕ) → P ⊎ ChangesOn ys d → P ⊎ ChangesOn zs d
+  changes-kept P d h = ⊎_elim (λ p. inl p) (λ c. inr (c.0, a.left c.0 c.1, c.2)) h
 
 module _ {B : Type 0} (xs : List (Terms B)) (i : ℕ) (r : Terms B) (at : slice_get xs i ≡ Some r) where
   pub unbroken-one : (first last : ℕ) → (first < r.first → last < r.first) → (first ≤ r.last → last ≤ r.last) →
@@ -33,9 +30,6 @@ module _ {B : Type 0} (xs : List (Terms B)) (i : ℕ) (r : Terms B) (at : slice_
     begins = λ s c. subst (λ (q : Terms B). first < q.first → last < q.first) (one-chosen xs i r at s c) begins;
     ends = λ s c. subst (λ (q : Terms B). first ≤ q.last → last ≤ q.last) (one-chosen xs i r at s c) ends;
   }
-
-  pub changes-one : (d : ℕ) → (d ≡ r.first) ⊎ (d ≡ r.last + 1) → ChangesOn (IsChosen xs (i ∷ [])) d
-  changes-one d c = (r, chosen-one xs i r at, c)
 
 -- one member more, in a list of them: nothing breaks off before the new end, which is the old one or the day before a change
 module _ {B : Type 0} (xs : List (Terms B)) (members : List ℕ) (i : ℕ) (r : Terms B) (at : slice_get xs i ≡ Some r) (end nearer : ℕ) where
@@ -48,7 +42,6 @@ module _ {B : Type 0} (xs : List (Terms B)) (members : List ℕ) (i : ℕ) (r : 
       (end ≡ last) ⊎ ChangesOn (IsChosen xs members) (end + 1) →
       (nearer ≡ last) ⊎ ChangesOn (IsChosen xs (members ++ i ∷ [])) (nearer + 1)
   end-breaks last new old = ⊎_elim
-      (λ same. subst (λ n. (n ≡ last) ⊎ ChangesOn (IsChosen xs (members ++ i ∷ [])) (n + 1)) (sym same)
-      (⊎_elim (λ e. inl e) (λ c. inr (changes-left _ _ _ (chosen-union xs members (i ∷ [])) (end + 1) c)) old))
-      (λ c. inr (changes-right _ _ _ (chosen-union xs members (i ∷ [])) (nearer + 1) (changes-one xs i r at (nearer + 1) c)))
+      (λ same. rw same (changes-kept _ _ _ (chosen-union xs members (i ∷ [])) (end ≡ last) (end + 1) old))
+      (λ c. inr ((r, (chosen-union xs members (i ∷ [])).right r (chosen-one xs i r at), c)))
       new

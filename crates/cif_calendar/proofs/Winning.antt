@@ -65,7 +65,7 @@ module _ {B : Type 0} (xs : List (Terms B)) (i : ℕ) (r : Terms B) (at : slice_
   one-wins d on = record {
     listed = chosen-one;
     applies = on;
-    least = λ s c _. subst (λ (q : Terms B). letter r.letter ≤ letter q.letter) (one-chosen s c) (let h : letter r.letter ≤ letter r.letter = omega arith in h);
+    least = λ s c _. let e : letter r.letter ≡ letter s.letter = ap (λ (q : Terms B). letter q.letter) (one-chosen s c) in omega arith;
   }
 
 module _ {B : Type 0} (ys ns zs : Records B) (u : IsUnion ys ns zs) (d : ℕ) where
@@ -172,16 +172,16 @@ module _ {B : Type 0} (xs : List (Terms B)) (members : List ℕ) where
       (t, at, disputed-kept ys ns zs u d t l (λ s h on. let j : letter t.letter < letter s.letter = behind s h on t at in omega arith))
 
   -- Two standings together.
-  pub combines-first : (one other : Standing) (a b : ℕ) → IsRank xs members one a → IsRank xs members other b → a < b →
+  pub combines_first : (one other : Standing) (a b : ℕ) → IsRank xs members one a → IsRank xs members other b → a < b →
       Combines xs members one other one
-  combines-first one other a b is also before = record {
+  combines_first one other a b is also before = record {
     stands = λ ms ns d h k. stands-kept _ _ _ (chosen-union xs ms ns) d one (λ s c on.
         let j = rank-least _ d b other also k s c on in rank-behind a one s is (omega arith)) h;
   }
 
-  pub combines-second : (one other : Standing) (a b : ℕ) → IsRank xs members one a → IsRank xs members other b → b < a →
+  pub combines_second : (one other : Standing) (a b : ℕ) → IsRank xs members one a → IsRank xs members other b → b < a →
       Combines xs members one other other
-  combines-second one other a b is also before = record {
+  combines_second one other a b is also before = record {
     stands = λ ms ns d h k. stands-kept _ _ _ (union-swap _ _ _ (chosen-union xs ms ns)) d other (λ s c on.
         let j = rank-least _ d a one is h s c on in rank-behind b other s also (omega arith)) k;
   }
@@ -199,9 +199,9 @@ module _ {B : Type 0} (xs : List (Terms B)) (members : List ℕ) where
 
   -- where those who lead have one letter
   module _ (n : ℕ) where
-    pub disputed-combines : (k : ℕ) (other : Standing) → IsRank xs members (Disputed k) n → IsRank xs members other n →
+    pub disputed_combines : (k : ℕ) (other : Standing) → IsRank xs members (Disputed k) n → IsRank xs members other n →
         Combines xs members (Disputed k) other (Disputed k)
-    disputed-combines k other is also = record {
+    disputed_combines k other is also = record {
       stands = λ ms ns d (t, at, l) h. (
         t,
         at,
@@ -210,9 +210,9 @@ module _ {B : Type 0} (xs : List (Terms B)) (members : List ℕ) where
       );
     }
 
-    pub combines-disputed : (k j : ℕ) → IsRank xs members (Leader k) n → IsRank xs members (Disputed j) n →
+    pub combines_disputed : (k j : ℕ) → IsRank xs members (Leader k) n → IsRank xs members (Disputed j) n →
         Combines xs members (Leader k) (Disputed j) (Disputed j)
-    combines-disputed k j is also = record {
+    combines_disputed k j is also = record {
       stands = λ ms ns d h (t, at, l). (
         t,
         at,
@@ -222,9 +222,9 @@ module _ {B : Type 0} (xs : List (Terms B)) (members : List ℕ) where
     }
 
     module _ (k j : ℕ) (is : IsRank xs members (Leader k) n) (also : IsRank xs members (Leader j) n) where
-      pub leaders-agree : body_at xs (slice_get members k) ≡ body_at xs (slice_get members j) →
+      pub leaders_agree : body_at xs (slice_get members k) ≡ body_at xs (slice_get members j) →
           Combines xs members (Leader k) (Leader j) (Leader k)
-      leaders-agree same = record {
+      leaders_agree same = record {
         stands = λ ms ns d (t, at, l) (v, at_v, m). (
           t,
           at,
@@ -232,9 +232,9 @@ module _ {B : Type 0} (xs : List (Terms B)) (members : List ℕ) where
         );
       }
 
-      pub leaders-differ : (body_at xs (slice_get members k) ≡ body_at xs (slice_get members j) → ⊥) →
+      pub leaders_differ : (body_at xs (slice_get members k) ≡ body_at xs (slice_get members j) → ⊥) →
           Combines xs members (Leader k) (Leader j) (Disputed k)
-      leaders-differ apart = record {
+      leaders_differ apart = record {
         stands = λ ms ns d (t, at, l) (v, at_v, m). (
           t,
           at,

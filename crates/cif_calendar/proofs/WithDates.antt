@@ -33,9 +33,10 @@ pub record AreKeptUpTo (days : List Bool) (first last k : ℕ) (kept : List Bool
   pub each : (w : ℕ) → w < k → IsTrue (get_or kept w false) ↔ (RunsOn days w × HasDate first last w)
 
 module _ (days : List Bool) (first last : ℕ) where
-  kept-more : (k : ℕ) (kept : List Bool) (b : Bool) → k < 7 → AreKeptUpTo days first last k kept →
-      (IsTrue b ↔ (RunsOn days k × HasDate first last k)) → AreKeptUpTo days first last (k + 1) (set kept k b)
-  kept-more k kept b below f h = record {
+  -- one weekday more, as a loop says it: i is the weekday too
+  pub kept-at : (k i : ℕ) (kept : List Bool) (b : Bool) → k < 7 → i ≡ k → AreKeptUpTo days first last k kept →
+      (IsTrue b ↔ (RunsOn days k × HasDate first last k)) → AreKeptUpTo days first last (k + 1) (set kept i b)
+  kept-at k i kept b below is f h = rw is (record {
     seven = length-set kept k b ∙ f.seven;
     each = λ w upto. ⊎_elim
         (λ old. subst (λ v. IsTrue v ↔ (RunsOn days w × HasDate first last w)) (sym (get_or-set_other kept k w b false (λ e. omega arith)))
@@ -45,13 +46,7 @@ module _ (days : List Bool) (first last : ℕ) where
         subst (λ n. IsTrue (get_or (set kept k b) n false) ↔ (RunsOn days n × HasDate first last n)) here
         (subst (λ v. IsTrue v ↔ (RunsOn days k × HasDate first last k)) (sym (get_or-set_same kept k b false (omega (arith, f.seven)))) h))
         (cases_lt w k);
-  }
-
-  -- the same as a loop says it: i is the weekday too
-  pub kept-at : (k i : ℕ) (kept : List Bool) (b : Bool) → k < 7 → i ≡ k → AreKeptUpTo days first last k kept →
-      (IsTrue b ↔ (RunsOn days k × HasDate first last k)) → AreKeptUpTo days first last (k + 1) (set kept i b)
-  kept-at k i kept b below is f h =
-      subst (λ v. AreKeptUpTo days first last (k + 1) (set kept v b)) (sym is) (kept-more k kept b below f h)
+  })
 
   -- a weekday is near enough, and in the mask
   pub kept-near : (k : ℕ) (b : Bool) → k < 7 → first ≤ last → (k + 7 - weekday_of first) % 7 ≤ last - first →

@@ -11,7 +11,7 @@ ghost use Rattle.cif_calendar.specs.Steps.Stretches.{AreAhead, EndsWith};
 use crate::calendar_fault::CalendarFault;
 use crate::entry::Entry;
 use crate::key_calendar::Calendar;
-use crate::piece::{Piece, add_piece};
+use crate::piece::Piece;
 use crate::standing::{BodiesDiffer, Standings, standings_from, winner_by};
 use crate::stretch::{FEW, Stretch, behind, stretches_of_all};
 use crate::window::Window;
@@ -82,30 +82,24 @@ fn judged_piece<E: Entry>(
     ensures fault { IfErr result
         (IsFault (IsChosen (map E.terms entries.now) members.now) first last) }
 {
-    let mut winners = [None; 7];
+    let mut piece = Piece {
+        first,
+        last,
+        winners: [None; 7],
+    };
     let mut day = first;
     for _ in 0..7u8 {
         let weekday = usize::from(day.weekday());
         match winner_by(entries, members, standings[weekday]) {
-            Ok(source) => winners[weekday] = source,
+            Ok(source) => piece.winners[weekday] = source,
             Err(BodiesDiffer) => return Err(CalendarFault::Ambiguous(day)),
         }
         match day.next_up_to(last) {
             Some(next) => day = next,
-            None => {
-                return Ok(Piece {
-                    first,
-                    last,
-                    winners,
-                });
-            }
+            None => return Ok(piece),
         }
     }
-    Ok(Piece {
-        first,
-        last,
-        winners,
-    })
+    Ok(piece)
 }
 
 /// The piece that begins on `first`, in a window that ends on `last`. Where a stretch is ahead, it
@@ -173,7 +167,9 @@ fn calendar_of<E: Entry>(
     loop {
         let piece = piece_from(entries, members, ahead, first, window.last)?;
         let last = piece.last;
-        add_piece(&mut pieces, piece)?;
+        let Ok(()) = pieces.push(piece) else {
+            return Err(CalendarFault::Memory);
+        };
         ahead = behind(ahead, last);
         match last.next_up_to(window.last) {
             Some(next) => first = next,

@@ -44,15 +44,6 @@ pub(crate) fn member<'a, E: Entry>(entries: &'a [E], members: &[usize], number: 
     &entries[members[number]]
 }
 
-fn letter_of<E: Entry>(entries: &[E], members: &[usize], number: usize) -> u8
-    requires positions { All (λ i. i < length entries.now) members.now }
-    requires number { number < length members.now }
-    ensures { (t : Terms E.Body) → StandsAt (map E.terms entries.now) members.now number t →
-        result ≡ letter t.letter }
-{
-    member(entries, members, number).letter().write()
-}
-
 /// The letter of who leads; a number behind all letters where nobody does.
 fn rank<E: Entry>(entries: &[E], members: &[usize], standing: Standing) -> u8
     requires positions { All (λ i. i < length entries.now) members.now }
@@ -61,13 +52,15 @@ fn rank<E: Entry>(entries: &[E], members: &[usize], standing: Standing) -> u8
 {
     match standing {
         Standing::Nobody => u8::MAX,
-        Standing::Leader(number) => letter_of(entries, members, number),
-        Standing::Disputed(number) => letter_of(entries, members, number),
+        Standing::Leader(number) | Standing::Disputed(number) => {
+            member(entries, members, number).letter().write()
+        }
     }
 }
 
 /// Who leads on a date where two sets of members are looked at together, one or the other of which
 /// each standing tells of. `alike` has what is known of their bodies.
+#[tactic(auto, using(crate::proofs::Winning::combines_first, crate::proofs::Winning::combines_second))]
 pub(crate) fn combine<E: Entry>(
     entries: &[E],
     members: &[usize],
@@ -95,6 +88,7 @@ pub(crate) fn combine<E: Entry>(
 }
 
 /// The same, where those who lead have one letter.
+#[tactic(auto, using(crate::proofs::Winning::disputed_combines))]
 fn level<E: Entry>(
     entries: &[E],
     members: &[usize],

@@ -1,7 +1,7 @@
 //! The stretches of dates on which no member begins or ends, and who leads on them.
 
-ghost use Rattle.std.specs.Prelude.{◌≡◌, ◌<◌, ◌+◌, ◌++◌, ◌∷◌, [], length, map, All};
-ghost use Rattle.std.specs.Prelude.{OnOk, IfOk};
+ghost use Rattle.std.specs.Prelude.{◌≡◌, ◌<◌, ◌+◌, length, map, All};
+ghost use Rattle.std.specs.Prelude.{IfOk};
 ghost use Rattle.cif_calendar.specs.Steps.Standing.{AreAlike, AreBelow};
 ghost use Rattle.cif_calendar.specs.Steps.Stretches.{AreAhead, AreBehind, AreStretches, IsJoint, IsPart};
 
@@ -24,14 +24,6 @@ pub(crate) struct Stretch {
     pub(crate) last: Day,
     /// Who leads on the dates of each weekday.
     pub(crate) standings: Standings,
-}
-
-/// Adds a stretch.
-fn add_stretch(stretches: &mut Vec<Stretch>, stretch: Stretch) -> Result<(), AllocError>
-    ensures { OnOk result (stretches.new.items ≡ stretches.old.items ++ stretch ∷ []) }
-{
-    stretches.push(stretch)?;
-    Ok(())
 }
 
 /// The stretch of two sets of members together, where these are stretches of one or the other that
@@ -73,8 +65,8 @@ pub(crate) fn behind(stretches: &[Stretch], day: Day) -> &[Stretch]
     ensures { AreBehind stretches.now day result.now }
 {
     match stretches {
-        [] => stretches,
-        [one, after @ ..] => if one.last <= day { after } else { stretches },
+        [one, after @ ..] if one.last <= day => after,
+        _ => stretches,
     }
 }
 
@@ -101,7 +93,7 @@ fn stretches_of_few<E: Entry>(
     loop {
         let last = end_of_piece(entries, part, first, window.last);
         let standings = standings_from(entries, members, alike, number, part, first);
-        add_stretch(&mut stretches, Stretch { last, standings })?;
+        stretches.push(Stretch { last, standings })?;
         match last.next_up_to(window.last) {
             Some(next) => first = next,
             None => return Ok(stretches),
@@ -141,7 +133,7 @@ fn stretches_of<E: Entry>(
         let stretch = joint(entries, members, alike, one, other);
         left = behind(left, stretch.last);
         right = behind(right, stretch.last);
-        add_stretch(&mut stretches, stretch)?;
+        stretches.push(stretch)?;
     }
     Ok(stretches)
 }

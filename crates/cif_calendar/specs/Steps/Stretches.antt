@@ -1,7 +1,9 @@
 -- Stretches of days, one after another, and who leads on them. No public clause cites it.
-use Rattle.std.specs.Prelude.{◌≡◌, ℕ, ◌+◌, ◌<◌, ◌≤◌, List, [], ◌∷◌, length, slice_index_or, ◌⊎◌}
+use Rattle.std.specs.Prelude.{◌≡◌, ℕ, ◌+◌, ◌<◌, ◌≤◌, List, [], ◌∷◌, length, Option, None, slice_index_or, ◌⊎◌}
+use Rattle.cif_columns.specs.Day.{weekday_of}
 use Rattle.cif_calendar.specs.Terms.{Terms}
-use Rattle.cif_calendar.specs.Source.{IsChosen}
+use Rattle.cif_calendar.specs.Clash.{IsClear}
+use Rattle.cif_calendar.specs.Source.{IsChosen, IsSource}
 use Rattle.cif_calendar.specs.Pieces.{ChangesOn, IsUnbroken}
 use Rattle.cif_calendar.specs.Steps.Standing.{AreBelow, AreStandings, Combines}
 use Rattle.cif_calendar.specs.declared.standing.Standing.TheVariants.{Nobody}
@@ -50,3 +52,9 @@ AreAhead xs members first last (s ∷ ss) = AreStretches xs members members (las
 abbrev pub EndsWith : List Stretch → ℕ → Type 0
 EndsWith [] day = Unit {0}
 EndsWith (s ∷ ss) day = s.last ≡ day
+
+-- the winners of the days from `first` to the day before `to`, which are clear
+pub record IsWeekFrom {B : Type 0} (xs : List (Terms B)) (members : List ℕ) (first to : ℕ) (winners : List (Option ℕ)) : Type 0 where
+  pub sources : (d : ℕ) → first ≤ d → d < to → IsSource xs members d (slice_index_or winners (weekday_of d) None)
+  pub clear : (d : ℕ) → first ≤ d → d < to → IsClear (IsChosen xs members) d
+  pub idle : (w : ℕ) → ((d : ℕ) → first ≤ d → d < to → weekday_of d ≡ w → ⊥) → slice_index_or winners w None ≡ None

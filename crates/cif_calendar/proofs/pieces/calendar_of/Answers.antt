@@ -1,10 +1,10 @@
--- One piece more is laid (`laid-more`), all are a calendar (`calendar-tiled`), and a clash is the window's first (`fault-tiled`).
-use Rattle.std.proofs.Common.{◌+◌, ◌∙◌, ap, map, sym, subst, arith, List, Err, ⊎_elim, inl, inr}
+-- One piece more is laid (`laid-more`), all are a calendar (`calendar-last`), and a clash is the window's first (`fault-tiled`).
+use Rattle.std.proofs.Common.{◌∙◌, ap, map, sym, subst, arith, List, Err, ⊎_elim, inl, inr}
 use Rattle.std.proofs.lemmas.Result.{err_from_is_err_and}
 use Rattle.cif_calendar.specs.declared.piece.Piece.{Piece}
 use Rattle.cif_calendar.specs.Calendar.{IsAnswer, IsCalendar}
 use Rattle.cif_calendar.proofs.FirstClash.{first_clash-clear}
-use Rattle.cif_calendar.proofs.LaidPieces.{AreLaid, AreTiled, laid-none, laid-more, tiled-last, few-last, calendar-tiled, fault-tiled}
+use Rattle.cif_calendar.proofs.LaidPieces.{AreLaid, laid-none, laid-more, calendar-last, fault-tiled}
 use Rattle.cif_calendar.proofs.LaidPieces.{fault-clash}
 use Rattle.cif_calendar.proofs.Stretches.{ahead-behind}
 use Rattle.cif_calendar.proofs.pieces.calendar_of.Goals as goal
@@ -46,8 +46,8 @@ loop-pieces-preserved g c = let says = c.in_ok-piece.ensures in record {
   from = omega (arith, c.in-Some.ensures, says.from, says.begins);
   upto = omega (arith, c.in-Some.ensures);
   laid = laid-more (map g.E.Entry.terms c.args.entries.now) c.args.members.now c.args.window.first c.loop-pieces.first
-      c.in-Some.next c.args.window.last c.loop-pieces.pieces.items c.add_piece.new.pieces.items c.in_ok-piece.piece
-      c.in_ok-add_piece.ensures.ok
+      c.in-Some.next c.args.window.last c.loop-pieces.pieces.items c.push.new.self.items c.in_ok-piece.piece
+      c.in-Ok.ensures.items
       says.begins says.from says.piece says.breaks c.in-Some.ensures.0 c.in-Some.ensures.1 c.loop-pieces.invariant.laid;
   ahead = ahead-behind (map g.E.Entry.terms c.args.entries.now) c.args.members.now c.args.window.last c.loop-pieces.first
       c.in_ok-piece.piece.last c.in-Some.next c.loop-pieces.ahead.now c.behind-ahead.result.now (omega (arith, says.begins, says.from))
@@ -55,27 +55,16 @@ loop-pieces-preserved g c = let says = c.in_ok-piece.ensures in record {
 }
 
 -- after the last piece
-tiled : (g : Over) (c : In-None g) →
-    AreTiled (map g.E.Entry.terms c.args.entries.now) c.args.members.now c.args.window.first (c.args.window.last + 1)
-    c.add_piece.new.pieces.items
-tiled g c = let says = c.in_ok-piece.ensures in
-    tiled-last (map g.E.Entry.terms c.args.entries.now) c.args.members.now c.args.window.first c.loop-pieces.first c.args.window.last
-    c.loop-pieces.pieces.items c.add_piece.new.pieces.items c.in_ok-piece.piece c.in_ok-add_piece.ensures.ok says.begins says.from says.upto
+told : (g : Over) (c : In-None g) →
+    IsCalendar (map g.E.Entry.terms c.args.entries.now) c.args.members.now c.args.window.first c.args.window.last
+    (record { first = c.args.window.first; last = c.args.window.last; pieces = c.push.new.self.items })
+told g c = let says = c.in_ok-piece.ensures in
+    calendar-last (map g.E.Entry.terms c.args.entries.now) c.args.members.now c.args.window.first c.loop-pieces.first c.args.window.last
+    c.loop-pieces.pieces.items c.push.new.self.items c.in_ok-piece.piece c.in-Ok.ensures.items says.begins says.from says.upto
     c.in-None.ensures says.piece c.loop-pieces.invariant.laid
 
 pub new-requires : goal.new-requires
-new-requires g c = (tiled g c).tiles
-
--- they are a calendar
-told : (g : Over) (c : In-None g) →
-    IsCalendar (map g.E.Entry.terms c.args.entries.now) c.args.members.now c.args.window.first c.args.window.last
-    (record { first = c.args.window.first; last = c.args.window.last; pieces = c.add_piece.new.pieces.items })
-told g c =
-    let xs = map g.E.Entry.terms c.args.entries.now in
-    let members = c.args.members.now in
-    calendar-tiled xs members c.args.window.first c.args.window.last c.add_piece.new.pieces.items (tiled g c)
-    (few-last xs members c.args.window.first c.loop-pieces.first c.loop-pieces.pieces.items c.add_piece.new.pieces.items
-    c.in_ok-piece.piece c.in_ok-add_piece.ensures.ok c.loop-pieces.invariant.laid)
+new-requires g c = (told g c).tiles
 
 pub returns-in-None : goal.returns-in-None
 returns-in-None g c =

@@ -1,4 +1,5 @@
--- The pieces so far cover the days before `first`, begin where something changes, and are few; stretches may be ahead; what is left of the window gets shorter.
+-- The pieces so far cover the days before `first`, begin where something changes, and are few; stretches may be ahead. What is left of
+-- the window gets shorter.
 use Rattle.std.proofs.Common.{◌≤◌, ◌-◌, map}
 use Rattle.cif_calendar.specs.Steps.Stretches.{AreAhead}
 use Rattle.cif_calendar.proofs.LaidPieces.{AreLaid}

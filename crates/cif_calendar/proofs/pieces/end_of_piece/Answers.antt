@@ -21,7 +21,8 @@ loop-i-preserved g c =
       from = says.from;
       upto = omega arith;
       unbroken = rw (take_more c.args.members.now c.loop-i.i-index 0 c.loop-i-test.true)
-          (end-unbroken xs before j r at c.loop-i.end c.end_for-end.result c.args.first says.upto says.begins says.ends c.loop-i.invariant.unbroken);
+          (end-unbroken xs before j r at c.loop-i.end c.end_for-end.result c.args.first says.upto says.begins
+          says.ends c.loop-i.invariant.unbroken);
       breaks = rw (take_more c.args.members.now c.loop-i.i-index 0 c.loop-i-test.true)
           (end-breaks xs before j r at c.loop-i.end c.end_for-end.result c.args.last says.breaks c.loop-i.invariant.breaks);
     }
