@@ -1,6 +1,5 @@
 -- In an unbroken stretch a record applies on all days of a weekday or on none.
-use Rattle.std.proofs.Common.{◌≡◌, ℕ, ◌+◌, ◌-◌, ◌<◌, ◌≤◌, ◌%◌, List, Option, None, Some, subst, sym, arith, min, get_or, ⊎_elim}
-use Rattle.std.proofs.lemmas.Bool.{cases_lt}
+use Rattle.std.proofs.Common.{◌≡◌, ℕ, ◌+◌, ◌-◌, ◌<◌, ◌≤◌, ◌%◌, List, Option, None, Some, subst, sym, arith, min, get_or}
 use Rattle.cif_columns.specs.Day.{weekday_of}
 use Rattle.cif_columns.specs.DaysRun.{RunsOn}
 use Rattle.cif_calendar.specs.Terms.{Terms, Records}
@@ -9,7 +8,9 @@ use Rattle.cif_calendar.specs.Wins.{Wins}
 use Rattle.cif_calendar.specs.Clash.{IsClear}
 use Rattle.cif_calendar.specs.Source.{IsChosen, IsSource}
 use Rattle.cif_calendar.specs.Pieces.{IsUnbroken, IsPiece}
-use Rattle.cif_calendar.specs.Steps.PieceSteps.{IsWeekFrom}
+use Rattle.cif_calendar.specs.Steps.Stretches.{IsWeekFrom}
+use Rattle.cif_calendar.specs.declared.piece.Piece.{Piece}
+use Rattle.cif_calendar.proofs.Standings.{covered-back}
 
 -- d and e are days of one weekday in the stretch
 record AreAlike (first last d e : ℕ) : Type 0 where
@@ -23,21 +24,14 @@ alike-back : {first last d e : ℕ} → AreAlike first last d e → AreAlike fir
 alike-back a = record { d_from = a.e_from; d_upto = a.e_upto; e_from = a.d_from; e_upto = a.d_upto; same = sym a.same }
 
 module _ {B : Type 0} (records : Records B) (first last : ℕ) (u : IsUnbroken records first last) where
-  begun-alike : (d e : ℕ) (r : Terms B) → AreAlike first last d e → records r → r.first ≤ d → r.first ≤ e
-  begun-alike d e r a in' h = ⊎_elim
-      (λ late. let k : last < r.first = u.begins r in' late in absurd (omega arith))
-      (λ early. omega arith)
-      (cases_lt first r.first)
-
-  unfinished-alike : (d e : ℕ) (r : Terms B) → AreAlike first last d e → records r → d ≤ r.last → e ≤ r.last
-  unfinished-alike d e r a in' h = let k : last ≤ r.last = u.ends r in' (omega arith) in omega arith
-
   applies-alike : (d e : ℕ) (r : Terms B) → AreAlike first last d e → records r → Applies r d → Applies r e
-  applies-alike d e r a in' on = record {
-    begun = begun-alike d e r a in' on.begun;
-    unfinished = unfinished-alike d e r a in' on.unfinished;
-    on_weekday = subst (λ (w : ℕ). RunsOn r.days w) a.same on.on_weekday;
-  }
+  applies-alike d e r a in' on =
+      let covered = covered-back records first last u d r in' a.d_from a.d_upto on in
+      let kept : last ≤ r.last = u.ends r in' covered.1 in record {
+        begun = omega (arith, covered.0, a.e_from);
+        unfinished = omega (arith, a.e_upto);
+        on_weekday = subst (λ (w : ℕ). RunsOn r.days w) a.same on.on_weekday;
+      }
 
   wins-alike : (d e : ℕ) (r : Terms B) → AreAlike first last d e → Wins records d r → Wins records e r
   wins-alike d e r a w = record {
@@ -77,22 +71,21 @@ in_week-before : (first last d : ℕ) → first ≤ d → d ≤ last → in_week
 in_week-before first last d from upto = omega arith
 
 -- the winners of the first seven days are those of the whole stretch
-pub piece-from_week : {B : Type 0} (xs : List (Terms B)) (members : List ℕ) (first last : ℕ) (ws : List (Option ℕ)) →
-    IsUnbroken (IsChosen xs members) first last → IsWeekFrom xs members first (min (last + 1) (first + 7)) ws →
-    IsPiece xs members (record { first = first; last = last; winners = ws })
-piece-from_week xs members first last ws u week = record {
+pub piece-from_week : {B : Type 0} (xs : List (Terms B)) (members : List ℕ) (p : Piece) → IsUnbroken (IsChosen xs members) p.first p.last →
+    IsWeekFrom xs members p.first (min (p.last + 1) (p.first + 7)) p.winners → IsPiece xs members p
+piece-from_week xs members p u week = record {
   unbroken = u;
   clear = record {
     clear = λ d from upto.
-        let e = in_week first d in
-        let a = in_week-alike first last d from upto in
-        clear-alike (IsChosen xs members) first last u e d a (week.clear e a.d_from (in_week-before first last d from upto));
+        let e = in_week p.first d in
+        let a = in_week-alike p.first p.last d from upto in
+        clear-alike (IsChosen xs members) p.first p.last u e d a (week.clear e a.d_from (in_week-before p.first p.last d from upto));
   };
   sources = λ d from upto.
-      let e = in_week first d in
-      let a = in_week-alike first last d from upto in
-      subst (λ (w : ℕ). IsSource xs members d (get_or ws w None)) a.same
-      (source-alike xs members first last u e d (get_or ws (weekday_of e) None) a
-      (week.sources e a.d_from (in_week-before first last d from upto)));
+      let e = in_week p.first d in
+      let a = in_week-alike p.first p.last d from upto in
+      subst (λ (w : ℕ). IsSource xs members d (get_or p.winners w None)) a.same
+      (source-alike xs members p.first p.last u e d (get_or p.winners (weekday_of e) None) a
+      (week.sources e a.d_from (in_week-before p.first p.last d from upto)));
   idle = λ w none. week.idle w (λ d from before. none d from (omega arith));
 }

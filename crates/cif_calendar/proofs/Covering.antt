@@ -2,8 +2,7 @@
 use Rattle.std.proofs.Common.{◌≡◌, ◌⊎◌, inl, inr, ℕ, ◌≤◌, ◌++◌, ◌∷◌, [], List}
 use Rattle.std.proofs.Common.{Option, Some, None, get_or, refl, sym, ◌∙◌, ap, subst, arith, ⊎_elim}
 use Rattle.std.specs.Prelude.{◌↔◌, IsNone, IsSome, slice_get}
-use Rattle.std.proofs.lemmas.List.Elements.{Contains-append_left, Contains-append_right, Contains-push_cases}
-use Rattle.std.proofs.lemmas.Option.{same_Some}
+use Rattle.std.proofs.lemmas.List.Elements.{Contains-append_left, Contains-append_right}
 use Rattle.cif_columns.specs.Day.{weekday_of}
 use Rattle.cif_columns.specs.Stp.{letter}
 use Rattle.cif_columns.specs.declared.stp.Stp.TheVariants.{C}
@@ -17,6 +16,7 @@ use Rattle.cif_calendar.specs.Steps.Covering.{LiesOver, NoneLiesOver, IsOnly, Is
 use Rattle.cif_calendar.specs.declared.winner.Covering.{Covering}
 use Rattle.cif_calendar.specs.declared.winner.Covering.TheVariants.{Nobody, Only, Several}
 use Rattle.cif_calendar.proofs.Standings.{covered-back}
+use Rattle.cif_calendar.proofs.Winning.{chosen-union, one-chosen}
 
 -- what is no body is none, and what is no position
 none-or : {B : Type 0} (o : Option B) → (IsSome o → ⊥) → IsNone o
@@ -33,10 +33,7 @@ none-covers xs day = record { none = λ s h over. let (k, below, is) = h.member 
 module _ {B : Type 0} (xs : List (Terms B)) (members : List ℕ) (day i : ℕ) (r : Terms B) (at : slice_get xs i ≡ Some r) where
   -- a record of the members and one more is that one, or was there
   chosen-cases : (s : Terms B) → IsChosen xs (members ++ i ∷ []) s → IsChosen xs members s ⊎ (r ≡ s)
-  chosen-cases s h = ⊎_elim
-      (λ old. inl (record { position = h.position; member = old; at = h.at }))
-      (λ here. inr (same_Some r s (sym at ∙ ap (slice_get xs) here ∙ h.at)))
-      (Contains-push_cases members i h.position h.member)
+  chosen-cases s h = ⊎_elim (λ old. inl old) (λ new. inr (one-chosen xs i r at s new)) ((chosen-union xs members (i ∷ [])).only s h)
 
   -- one member more lies over the day, or doesn't
   pub covers-first : LiesOver r day → NoneLiesOver xs members day → IsOnly xs (members ++ i ∷ []) day i

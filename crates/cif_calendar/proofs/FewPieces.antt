@@ -1,11 +1,11 @@
 -- How many pieces there can be: each begins at an end of a record that the ones before have not used.
 use Rattle.std.proofs.Common.{◌≡◌, ℕ, ◌+◌, ◌*◌, ◌≤◌, List, [], ◌∷◌, length, Option, None, Some, cond, subst, sym, arith, ⊎_elim}
 use Rattle.std.proofs.Common.{ltb, leb, ap, ◌∙◌}
-use Rattle.std.specs.Prelude.{Contains, slice_get}
+use Rattle.std.specs.Prelude.{Contains, slice_get, ◌⊎◌}
 use Rattle.std.proofs.lemmas.Bool.Decides.{nat_tests}
 use Rattle.cif_calendar.specs.Terms.{Terms}
 use Rattle.cif_calendar.specs.Source.{IsChosen}
-use Rattle.cif_calendar.specs.Steps.PieceSteps.{BreaksAfter, BreaksOff}
+use Rattle.cif_calendar.specs.Pieces.{ChangesOn}
 use Rattle.cif_calendar.proofs.Elements.{Contains-cases}
 
 -- how many of a record's two breaks come after a piece that begins on day d has begun
@@ -18,7 +18,7 @@ breaks_from-falls d e first last h = grind (arith, nat_tests)
 breaks_from-two : (d first last : ℕ) → breaks_from d first last ≤ 2
 breaks_from-two d first last = grind (arith, nat_tests)
 
-breaks_from-used : {B : Type 0} (d e : ℕ) (r : Terms B) → d ≤ e → BreaksOff r d e →
+breaks_from-used : {B : Type 0} (d e : ℕ) (r : Terms B) → d ≤ e → (e + 1 ≡ r.first) ⊎ (e + 1 ≡ r.last + 1) →
     breaks_from (e + 1) r.first r.last + 1 ≤ breaks_from d r.first r.last
 breaks_from-used d e r h b = grind (arith, nat_tests)
 
@@ -45,7 +45,7 @@ left-falls xs [] d e h = omega arith
 left-falls xs (i ∷ members) d e h = omega (arith, breaks_at-falls (slice_get xs i) d e h, left-falls xs members d e h)
 
 left-used : {B : Type 0} (xs : List (Terms B)) (members : List ℕ) (d e j : ℕ) (r : Terms B) → d ≤ e → Contains members j →
-    slice_get xs j ≡ Some r → BreaksOff r d e → left xs members (e + 1) + 1 ≤ left xs members d
+    slice_get xs j ≡ Some r → (e + 1 ≡ r.first) ⊎ (e + 1 ≡ r.last + 1) → left xs members (e + 1) + 1 ≤ left xs members d
 left-used xs [] d e j r h (k, below, is) at b = absurd (omega arith)
 left-used {B} xs (i ∷ members) d e j r h in' at b = ⊎_elim
     (λ same.
@@ -61,7 +61,7 @@ left-used {B} xs (i ∷ members) d e j r h in' at b = ⊎_elim
     (Contains-cases i members j in')
 
 -- the next piece begins at a break that was left
-pub left-next : {B : Type 0} (xs : List (Terms B)) (members : List ℕ) (d e : ℕ) → d ≤ e → BreaksAfter (IsChosen xs members) d e →
+pub left-next : {B : Type 0} (xs : List (Terms B)) (members : List ℕ) (d e : ℕ) → d ≤ e → ChangesOn (IsChosen xs members) (e + 1) →
     left xs members (e + 1) + 1 ≤ left xs members d
 left-next xs members d e h b = left-used xs members d e b.1.position b.0 h b.1.member b.1.at b.2
 

@@ -6,7 +6,7 @@ use Rattle.cif_columns.specs.Day.{weekday_of}
 use Rattle.cif_calendar.specs.Terms.{Terms}
 use Rattle.cif_calendar.specs.Clash.{IsClear}
 use Rattle.cif_calendar.specs.Source.{IsChosen, IsSource}
-use Rattle.cif_calendar.specs.Steps.PieceSteps.{IsWeekFrom}
+use Rattle.cif_calendar.specs.Steps.Stretches.{IsWeekFrom}
 
 weekday-below : (d : ℕ) → weekday_of d < 7
 weekday-below d = omega arith
@@ -51,6 +51,4 @@ module _ {B : Type 0} (xs : List (Terms B)) (members : List ℕ) (first : ℕ) w
       first ≤ day → day < first + 7 → IsSource xs members day o → IsClear (IsChosen xs members) day →
       IsWeekFrom xs members first day ws → IsWeekFrom xs members first to (set ws w o)
   week-step day w to ws o is next seven from near source clear week =
-      subst (λ (n : ℕ). IsWeekFrom xs members first n (set ws w o)) (sym next)
-      (subst (λ (v : ℕ). IsWeekFrom xs members first (day + 1) (set ws v o)) (sym is)
-      (week-more day ws o seven from near source clear week))
+      rw (next, is) (week-more day ws o seven from near source clear week)

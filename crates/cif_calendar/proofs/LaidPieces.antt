@@ -8,7 +8,6 @@ use Rattle.cif_calendar.specs.Terms.{Terms}
 use Rattle.cif_calendar.specs.Clash.{IsClear, IsFirstClash}
 use Rattle.cif_calendar.specs.Source.{IsChosen, IsSource}
 use Rattle.cif_calendar.specs.Pieces.{IsPiece, IsBoundary, ChangesOn, BeginsPiece, Tiles, source_at}
-use Rattle.cif_calendar.specs.Steps.PieceSteps.{BreaksAfter}
 use Rattle.cif_calendar.specs.Calendar.{IsCalendar, IsFault}
 use Rattle.cif_calendar.specs.declared.piece.Piece.{Piece}
 use Rattle.cif_calendar.specs.declared.calendar_fault.CalendarFault.{CalendarFault}
@@ -51,16 +50,12 @@ module _ {B : Type 0} (xs : List (Terms B)) (members : List ℕ) (from : ℕ) wh
         (subst (λ (n : ℕ). (n ≡ from) ⊎ ChangesOn (IsChosen xs members) n) (sym at) l.change);
   }
 
-  -- on the day after a break something changes
-  change-after : (first last : ℕ) → BreaksAfter (IsChosen xs members) first last → ChangesOn (IsChosen xs members) (last + 1)
-  change-after first last b = (b.0, b.1, ⊎_elim (λ h. inl h.1) (λ h. inr (ap (λ n. n + 1) h.1)) b.2)
-
   laid-push : (to : ℕ) (ps : List Piece) (p : Piece) → p.first ≡ to → p.first ≤ p.last → IsPiece xs members p →
-      BreaksAfter (IsChosen xs members) to p.last → AreLaid xs members from to ps →
+      ChangesOn (IsChosen xs members) (p.last + 1) → AreLaid xs members from to ps →
       AreLaid xs members from (p.last + 1) (ps ++ p ∷ [])
   laid-push to ps p at up piece b l = record {
     tiled = tiled-push to ps p at up piece l;
-    change = inr (change-after to p.last b);
+    change = inr b;
     few = let h : left xs members (p.last + 1) + 1 ≤ left xs members to = left-next xs members to p.last (omega arith) b in
         let k : length ps + left xs members to ≤ 2 * length members = l.few in
         omega (arith, length-append ps (p ∷ []));
@@ -127,23 +122,13 @@ module _ {B : Type 0} (xs : List (Terms B)) (members : List ℕ) (from : ℕ) wh
 
   -- the same as a loop says it: qs are the pieces with the new one
   pub laid-more : (to next last : ℕ) (ps qs : List Piece) (p : Piece) → qs ≡ ps ++ p ∷ [] → p.first ≡ to → p.first ≤ p.last →
-      IsPiece xs members p → (p.last ≡ last) ⊎ BreaksAfter (IsChosen xs members) to p.last → p.last < last → next ≡ p.last + 1 →
+      IsPiece xs members p → (p.last ≡ last) ⊎ ChangesOn (IsChosen xs members) (p.last + 1) → p.last < last → next ≡ p.last + 1 →
       AreLaid xs members from to ps → AreLaid xs members from next qs
   laid-more to next last ps qs p e at up piece b less is l = rw (e, is)
       (laid-push to ps p at up piece (⊎_elim (λ same. absurd (omega arith)) (λ breaks. breaks) b) l)
 
-  pub tiled-last : (to last : ℕ) (ps qs : List Piece) (p : Piece) → qs ≡ ps ++ p ∷ [] → p.first ≡ to → p.first ≤ p.last →
-      p.last ≤ last → (p.last < last → ⊥) → IsPiece xs members p → AreLaid xs members from to ps →
-      AreTiled xs members from (last + 1) qs
-  tiled-last to last ps qs p e at up upto stop piece l =
-      let same : last ≡ p.last = omega arith in rw (e, same) (tiled-push to ps p at up piece l)
-
-  pub few-last : (to : ℕ) (ps qs : List Piece) (p : Piece) → qs ≡ ps ++ p ∷ [] → AreLaid xs members from to ps →
-      length qs ≤ 2 * length members + 1
-  few-last to ps qs p e l = rw e (few-push to ps p l)
-
   -- the pieces of the whole window are a calendar
-  pub calendar-tiled : (last : ℕ) (ps : List Piece) → AreTiled xs members from (last + 1) ps → length ps ≤ 2 * length members + 1 →
+  calendar-tiled : (last : ℕ) (ps : List Piece) → AreTiled xs members from (last + 1) ps → length ps ≤ 2 * length members + 1 →
       IsCalendar xs members from last (record { first = from; last = last; pieces = ps })
   calendar-tiled last ps t few = record {
     first_is = refl;
@@ -166,3 +151,11 @@ module _ {B : Type 0} (xs : List (Terms B)) (members : List ℕ) (from : ℕ) wh
           change = subst (λ (n : ℕ). (n ≡ from) ⊎ ChangesOn (IsChosen xs members) n) is
               (All-contains (λ p. (p.first ≡ from) ⊎ ChangesOn (IsChosen xs members) p.first) ps b.0 t.begins b.1);
         }
+
+  -- after the last piece
+  pub calendar-last : (to last : ℕ) (ps qs : List Piece) (p : Piece) → qs ≡ ps ++ p ∷ [] → p.first ≡ to → p.first ≤ p.last →
+      p.last ≤ last → (p.last < last → ⊥) → IsPiece xs members p → AreLaid xs members from to ps →
+      IsCalendar xs members from last (record { first = from; last = last; pieces = qs })
+  calendar-last to last ps qs p e at up upto stop piece l =
+      let same : last ≡ p.last = omega arith in
+      calendar-tiled last qs (rw (e, same) (tiled-push to ps p at up piece l)) (rw e (few-push to ps p l))

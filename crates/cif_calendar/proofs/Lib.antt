@@ -17,8 +17,6 @@ pub mod FirstWeek
 pub mod Unbroken
 pub mod FewPieces
 pub mod LaidPieces
-pub mod Leading
-pub mod LayerWinners
-pub mod FilledLayers
-pub mod ChangedDays
 pub mod Covering
+pub mod Stretches
+pub mod Bodies

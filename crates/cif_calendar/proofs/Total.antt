@@ -4,20 +4,18 @@ use Rattle.std.proofs.Common.{⊎_elim, inl, inr}
 use Rattle.std.specs.Prelude.{slice_get, ◌⊎◌}
 use Rattle.std.specs.Option.{is_some}
 use Rattle.std.proofs.lemmas.Bool.{cases_lt}
-use Rattle.std.proofs.lemmas.Option.{same_Some}
 use Rattle.cif_columns.specs.Stp.{letter}
 use Rattle.cif_columns.specs.declared.stp.Stp.{Stp}
 use Rattle.cif_columns.specs.declared.stp.Stp.TheVariants.{P, N, O, C}
-use Rattle.cif_calendar.specs.Terms.{Terms, Records, SameRecords, AreLawful}
+use Rattle.cif_calendar.specs.Terms.{Terms, Records, AreLawful}
 use Rattle.cif_columns.specs.Day.{weekday_of}
 use Rattle.cif_calendar.specs.Applies.{Applies}
 use Rattle.cif_calendar.specs.Wins.{Wins}
 use Rattle.cif_calendar.specs.Runs.{Runs}
 use Rattle.cif_calendar.specs.Source.{IsChosen}
 use Rattle.cif_calendar.specs.Steps.Standing.{NoneApplies}
-use Rattle.cif_calendar.proofs.Elements.{Contains-first, Contains-rest, Contains-cases}
-use Rattle.cif_calendar.proofs.Sets.{Wins-same}
-use Rattle.cif_calendar.proofs.Winning.{IsWith, wins-keeps, wins-new, none-keeps}
+use Rattle.cif_calendar.proofs.Elements.{Contains-cases}
+use Rattle.cif_calendar.proofs.Winning.{IsUnion, union-swap, chosen-union, one-none, one-wins, wins-kept, none-both}
 
 on_or_off : (o : Option Bool) → (o ≡ Some true) ⊎ (o ≡ Some true → ⊥)
 on_or_off None = inr (λ e. cc)
@@ -41,57 +39,47 @@ applies-or-not r d = ⊎_elim
 abbrev HasWinner : {B : Type 0} → Records B → ℕ → Type 0
 HasWinner {B} records d = NoneApplies records d ⊎ ((t : Terms B) × Wins records d t)
 
--- one more record leaves it so
-winner-with : {B : Type 0} (ys zs : Records B) (d : ℕ) (r : Terms B) → IsWith ys r zs → HasWinner ys d → HasWinner zs d
-winner-with ys zs d r a h = ⊎_elim
-    (λ on. ⊎_elim
-    (λ none. inr (r, wins-new ys zs d r a on (λ s in' also. absurd (none.none s in' also))))
+-- records that are added leave it so
+winner-both : {B : Type 0} (ys ns zs : Records B) → IsUnion ys ns zs → (d : ℕ) → HasWinner ys d → HasWinner ns d → HasWinner zs d
+winner-both ys ns zs u d one other = ⊎_elim
+    (λ none. ⊎_elim
+    (λ also. inl (none-both ys ns zs u d none also))
+    (λ w. inr (w.0, wins-kept ns ys zs (union-swap ys ns zs u) d w.0 w.1 (λ s h on. absurd (none.none s h on))))
+    other)
+    (λ v. ⊎_elim
+    (λ none. inr (v.0, wins-kept ys ns zs u d v.0 v.1 (λ s h on. absurd (none.none s h on))))
     (λ w. ⊎_elim
     (λ before. inr (
-      r,
-      wins-new ys zs d r a on (λ s in' also.
-          let k : letter w.0.letter ≤ letter s.letter = w.1.least s in' also in omega arith),
+      w.0,
+      wins-kept ns ys zs (union-swap ys ns zs u) d w.0 w.1 (λ s h on.
+          let k : letter v.0.letter ≤ letter s.letter = v.1.least s h on in omega arith),
     ))
-    (λ after. inr (w.0, wins-keeps ys zs d r a w.0 (λ _. after) w.1))
-    (cases_lt (letter r.letter) (letter w.0.letter)))
-    h)
-    (λ off. ⊎_elim
-    (λ none. inl (none-keeps ys zs d r a off none))
-    (λ w. inr (w.0, wins-keeps ys zs d r a w.0 (λ on. absurd (off on)) w.1))
-    h)
+    (λ after. inr (
+      v.0,
+      wins-kept ys ns zs u d v.0 v.1 (λ s h on.
+          let k : letter w.0.letter ≤ letter s.letter = w.1.least s h on in omega arith),
+    ))
+    (cases_lt (letter w.0.letter) (letter v.0.letter)))
+    other)
+    one
+
+-- a position chooses no record, or the one that stands there
+winner-one : {B : Type 0} (xs : List (Terms B)) (i d : ℕ) (o : Option (Terms B)) → slice_get xs i ≡ o → HasWinner (IsChosen xs (i ∷ [])) d
+winner-one xs i d None at = inl (record {
+  none = λ s c on. ⊎_elim
+      (λ e. absurd (let no : None ≡ Some s = sym at ∙ ap (slice_get xs) e ∙ c.at in cc))
+      (λ rest. absurd (let h : rest.0 < 0 = rest.1 in omega arith))
+      (Contains-cases i [] c.position c.member);
+})
+winner-one xs i d (Some r) at = ⊎_elim
+    (λ on. inr (r, one-wins xs i r at d on))
+    (λ off. inl (one-none xs i r at d off))
     (applies-or-not r d)
-
-winner-same : {B : Type 0} (ys zs : Records B) (d : ℕ) → SameRecords ys zs → HasWinner ys d → HasWinner zs d
-winner-same ys zs d e h = ⊎_elim
-    (λ none. inl (record { none = λ s in' on. none.none s ((e.same s).1 in') on }))
-    (λ w. inr (w.0, Wins-same ys zs e d w.0 w.1))
-    h
-
--- a position more chooses no record more, or the one that stands there
-winner-more : {B : Type 0} (xs : List (Terms B)) (i : ℕ) (members : List ℕ) (d : ℕ) (o : Option (Terms B)) → slice_get xs i ≡ o →
-    HasWinner (IsChosen xs members) d → HasWinner (IsChosen xs (i ∷ members)) d
-winner-more xs i members d None at h =
-    winner-same (IsChosen xs members) (IsChosen xs (i ∷ members)) d (record {
-      same = λ s. (
-        λ c. record { position = c.position; member = Contains-rest i members c.position c.member; at = c.at },
-        λ c. ⊎_elim
-            (λ e. absurd (let no : None ≡ Some s = sym at ∙ ap (slice_get xs) e ∙ c.at in cc))
-            (λ old. record { position = c.position; member = old; at = c.at })
-            (Contains-cases i members c.position c.member),
-      );
-    }) h
-winner-more xs i members d (Some r) at h = winner-with (IsChosen xs members) (IsChosen xs (i ∷ members)) d r (record {
-  kept = λ s c. record { position = c.position; member = Contains-rest i members c.position c.member; at = c.at };
-  added = record { position = i; member = Contains-first i members; at = at };
-  only = λ s c. ⊎_elim
-      (λ e. inr (same_Some r s (sym at ∙ ap (slice_get xs) e ∙ c.at)))
-      (λ old. inl (record { position = c.position; member = old; at = c.at }))
-      (Contains-cases i members c.position c.member);
-}) h
 
 winner-or-none : {B : Type 0} (xs : List (Terms B)) (members : List ℕ) (d : ℕ) → HasWinner (IsChosen xs members) d
 winner-or-none xs [] d = inl (record { none = λ s c on. let h : c.member.0 < 0 = c.member.1 in absurd (omega arith) })
-winner-or-none xs (i ∷ members) d = winner-more xs i members d (slice_get xs i) refl (winner-or-none xs members d)
+winner-or-none xs (i ∷ members) d =
+    winner-both _ _ _ (chosen-union xs (i ∷ []) members) d (winner-one xs i d (slice_get xs i) refl) (winner-or-none xs members d)
 
 -- no letter is before that of a cancellation
 least-letter : (s : Stp) → letter s ≤ letter C → s ≡ C

@@ -1,206 +1,253 @@
--- One more member: who leads afterwards.
-use Rattle.std.proofs.Common.{◌≡◌, ℕ, ◌<◌, ◌≤◌, List, [], ◌∷◌, ◌++◌, Some, Bool, false, refl, length, get_or, map, ap, subst, sym, ◌∙◌}
-use Rattle.std.proofs.Common.{arith, ⊎_elim, inl, inr}
+-- Members that are looked at together: who wins, and who leads.
+use Rattle.std.proofs.Common.{◌≡◌, ℕ, ◌<◌, ◌≤◌, List, [], ◌∷◌, ◌++◌, Option, Some, Bool, false, length, get_or, map, ap, subst, sym, ◌∙◌}
+use Rattle.std.proofs.Common.{arith, refl, ⊎_elim, inl, inr}
 use Rattle.std.proofs.lemmas.Bool.{false≢true}
 use Rattle.std.specs.Prelude.{IsTrue, slice_get, ◌⊎◌}
-use Rattle.std.proofs.lemmas.List.Elements.{Contains-append_left, Contains-push, Contains-push_cases}
-use Rattle.std.specs.Option.{option_map}
+use Rattle.std.proofs.lemmas.List.Elements.{Contains-append_left, Contains-append_right, Contains-append_cases}
+use Rattle.std.specs.Option.{option_map, option_and_then}
 use Rattle.std.proofs.lemmas.Option.{same_Some, slice_get-map, slice_get_read}
 use Rattle.cif_columns.specs.Stp.{letter}
+use Rattle.cif_columns.specs.declared.stp.Stp.{Stp}
+use Rattle.cif_columns.specs.declared.stp.Stp.TheVariants.{P, N, O, C}
 use Rattle.cif_calendar.specs.Terms.{Terms, Records}
 use Rattle.cif_calendar.specs.Applies.{Applies}
 use Rattle.cif_calendar.specs.Wins.{Wins}
-use Rattle.cif_calendar.specs.Source.{IsChosen}
-use Rattle.cif_calendar.specs.Steps.Standing.{Leads, IsDisputed, NoneApplies, StandsAt, Stands}
-use Rattle.cif_calendar.specs.declared.winner.Standing.{Standing}
-use Rattle.cif_calendar.specs.declared.winner.Standing.TheVariants.{Nobody, Leader, Disputed}
+use Rattle.cif_calendar.specs.Source.{IsChosen, body_at}
+use Rattle.cif_calendar.specs.Steps.Standing.{Combines, IsDisputed, IsRank, Leads, NoneApplies, Stands, StandsAt}
+use Rattle.cif_calendar.specs.declared.standing.Standing.{Standing}
+use Rattle.cif_calendar.specs.declared.standing.Standing.TheVariants.{Nobody, Leader, Disputed}
+use Rattle.cif_calendar.proofs.Elements.{Contains-first, Contains-cases}
 
 -- what a test that failed says
 pub refuted : {P : Type 0} (b : Bool) → (IsTrue b → P) × (P → IsTrue b) → b ≡ false → P → ⊥
 refuted b says off h = false≢true (sym off ∙ says.1 h)
-
-pub not_below : (a b : ℕ) → (a < b → ⊥) → b ≤ a
-not_below a b h = omega arith
-
-pub level : (a b : ℕ) → (a < b → ⊥) → (b < a → ⊥) → b ≡ a
-level a b h k = omega arith
 
 -- what an index reads, as a look-up among the terms
 pub terms_at : {X Y : Type 0} (f : X → Y) (xs : List X) (i : ℕ) (x : X) → i < length xs → x ≡ get_or xs i x →
     slice_get (map f xs) i ≡ Some (f x)
 terms_at f xs i x below is = slice_get-map f xs i ∙ ap (λ o. option_map f o) (slice_get_read xs (length xs) i x refl below is)
 
--- what applies at a position is what stands there
-pub applies-at : {B : Type 0} (xs : List (Terms B)) (i : ℕ) (t r : Terms B) (d : ℕ) → slice_get xs i ≡ Some t → slice_get xs i ≡ Some r →
-    Applies r d → Applies t d
-applies-at {B} xs i t r d at_t at_r on = subst (λ (q : Terms B). Applies q d) (same_Some r t (sym at_r ∙ at_t)) on
+-- zs has the records of ys and of ns, and no others
+pub record IsUnion {B : Type 0} (ys ns zs : Records B) : Type 0 where
+  pub left : (s : Terms B) → ys s → zs s
+  pub right : (s : Terms B) → ns s → zs s
+  pub only : (s : Terms B) → zs s → ys s ⊎ ns s
 
--- `more` has the records of `records`, and r
-pub record IsWith {B : Type 0} (records : Records B) (r : Terms B) (more : Records B) : Type 0 where
-  pub kept : (s : Terms B) → records s → more s
-  pub added : more r
-  pub only : (s : Terms B) → more s → records s ⊎ (r ≡ s)
+pub union-swap : {B : Type 0} (ys ns zs : Records B) → IsUnion ys ns zs → IsUnion ns ys zs
+union-swap ys ns zs u = record { left = u.right; right = u.left; only = λ s h. ⊎_elim (λ a. inr a) (λ b. inl b) (u.only s h) }
 
-module _ {B : Type 0} (ys zs : Records B) (d : ℕ) (r : Terms B) (a : IsWith ys r zs) where
-  -- a winner stays one, where the new record does not apply or is not before it
-  pub wins-keeps : (t : Terms B) → (Applies r d → letter t.letter ≤ letter r.letter) → Wins ys d t → Wins zs d t
-  wins-keeps t later w = record {
-    listed = a.kept t w.listed;
-    applies = w.applies;
-    least = λ s in' on. ⊎_elim
-        (λ old. w.least s old on)
-        (λ e. subst (λ (q : Terms B). letter t.letter ≤ letter q.letter) e (later (subst (λ (q : Terms B). Applies q d) (sym e) on)))
-        (a.only s in');
-  }
+-- the records at two lists of positions are those at one after the other
+pub chosen-union : {B : Type 0} (xs : List (Terms B)) (ms ns : List ℕ) → IsUnion (IsChosen xs ms) (IsChosen xs ns) (IsChosen xs (ms ++ ns))
+chosen-union xs ms ns = record {
+  left = λ s c. record { position = c.position; member = Contains-append_left ms ns c.position c.member; at = c.at };
+  right = λ s c. record { position = c.position; member = Contains-append_right ms ns c.position c.member; at = c.at };
+  only = λ s c. ⊎_elim
+      (λ a. inl (record { position = c.position; member = a; at = c.at }))
+      (λ b. inr (record { position = c.position; member = b; at = c.at }))
+      (Contains-append_cases ms ns c.position c.member);
+}
 
-  -- the new record wins, where no record that applies is before it
-  pub wins-new : Applies r d → ((s : Terms B) → ys s → Applies s d → letter r.letter ≤ letter s.letter) → Wins zs d r
-  wins-new on before = record {
-    listed = a.added;
+-- the record at one position
+module _ {B : Type 0} (xs : List (Terms B)) (i : ℕ) (r : Terms B) (at : slice_get xs i ≡ Some r) where
+  pub chosen-one : IsChosen xs (i ∷ []) r
+  chosen-one = record { position = i; member = Contains-first i []; at = at }
+
+  pub one-chosen : (s : Terms B) → IsChosen xs (i ∷ []) s → r ≡ s
+  one-chosen s c = ⊎_elim
+      (λ e. same_Some r s (sym at ∙ ap (slice_get xs) e ∙ c.at))
+      (λ rest. absurd (let h : rest.0 < 0 = rest.1 in omega arith))
+      (Contains-cases i [] c.position c.member)
+
+  pub one-none : (d : ℕ) → (Applies r d → ⊥) → NoneApplies (IsChosen xs (i ∷ [])) d
+  one-none d off = record { none = λ s c on. off (subst (λ (q : Terms B). Applies q d) (sym (one-chosen s c)) on) }
+
+  pub one-wins : (d : ℕ) → Applies r d → Wins (IsChosen xs (i ∷ [])) d r
+  one-wins d on = record {
+    listed = chosen-one;
     applies = on;
-    least = λ s in' also. ⊎_elim
-        (λ old. before s old also)
-        (λ e. subst (λ (q : Terms B). letter r.letter ≤ letter q.letter) e (let z : letter r.letter ≤ letter r.letter = omega arith in z))
-        (a.only s in');
+    least = λ s c _. let e : letter r.letter ≡ letter s.letter = ap (λ (q : Terms B). letter q.letter) (one-chosen s c) in omega arith;
   }
 
-  -- a winner is the new record, or won before
-  wins-back : (s : Terms B) → Wins zs d s → Wins ys d s ⊎ (r ≡ s)
+module _ {B : Type 0} (ys ns zs : Records B) (u : IsUnion ys ns zs) (d : ℕ) where
+  -- a winner stays one, where no record of the others is before it
+  pub wins-kept : (t : Terms B) → Wins ys d t → ((s : Terms B) → ns s → Applies s d → letter t.letter ≤ letter s.letter) → Wins zs d t
+  wins-kept t w least = record {
+    listed = u.left t w.listed;
+    applies = w.applies;
+    least = λ s h on. ⊎_elim (λ old. w.least s old on) (λ new. least s new on) (u.only s h);
+  }
+
+  pub none-both : NoneApplies ys d → NoneApplies ns d → NoneApplies zs d
+  none-both none other = record { none = λ s h on. ⊎_elim (λ old. none.none s old on) (λ new. other.none s new on) (u.only s h) }
+
+  -- a winner won before
+  wins-back : (s : Terms B) → Wins zs d s → Wins ys d s ⊎ Wins ns d s
   wins-back s w = ⊎_elim
-      (λ old. inl (record { listed = old; applies = w.applies; least = λ q in' on. w.least q (a.kept q in') on }))
-      (λ e. inr e)
-      (a.only s w.listed)
+      (λ old. inl (record { listed = old; applies = w.applies; least = λ q h on. w.least q (u.left q h) on }))
+      (λ new. inr (record { listed = new; applies = w.applies; least = λ q h on. w.least q (u.right q h) on }))
+      (u.only s w.listed)
 
-  -- the new record is before the winner t, and so it alone wins
-  leads-takes : (t : Terms B) → Applies r d → letter r.letter < letter t.letter → Wins ys d t → Leads zs d r
-  leads-takes t on before w = record {
-    wins = wins-new on (λ s in' also. let h : letter t.letter ≤ letter s.letter = w.least s in' also in omega arith);
-    undisputed = λ s v. ⊎_elim
-        (λ old. let h : letter t.letter ≤ letter s.letter = w.least s old v.applies in
-        let k : letter s.letter ≤ letter r.letter = v.least r a.added on in absurd (omega arith))
-        (λ e. ap (λ (q : Terms B). q.body) e)
-        (a.only s v.listed);
+  -- who leads, leads on where the others are all behind
+  leads-kept : (t : Terms B) → Leads ys d t → ((s : Terms B) → ns s → Applies s d → letter t.letter < letter s.letter) → Leads zs d t
+  leads-kept t l behind = record {
+    wins = wins-kept t l.wins (λ s h on. let k = behind s h on in omega arith);
+    undisputed = λ s w. ⊎_elim
+        (λ old. l.undisputed s old)
+        (λ new.
+        let k = behind s new.listed new.applies in
+        let j : letter s.letter ≤ letter t.letter = w.least t (u.left t l.wins.listed) l.wins.applies in absurd (omega arith))
+        (wins-back s w);
   }
 
-  -- the first record that applies
-  leads-first : Applies r d → NoneApplies ys d → Leads zs d r
-  leads-first on none = record {
-    wins = wins-new on (λ s in' also. absurd (none.none s in' also));
-    undisputed = λ s v. ⊎_elim (λ old. absurd (none.none s old v.applies)) (λ e. ap (λ (q : Terms B). q.body) e) (a.only s v.listed);
+  -- or have its letter and its body
+  leads-both : (t v : Terms B) → letter t.letter ≡ letter v.letter → t.body ≡ v.body → Leads ys d t → Leads ns d v → Leads zs d t
+  leads-both t v level same l m = record {
+    wins = wins-kept t l.wins (λ s h on. let k : letter v.letter ≤ letter s.letter = m.wins.least s h on in omega arith);
+    undisputed = λ s w. ⊎_elim (λ old. l.undisputed s old) (λ new. same ∙ m.undisputed s new) (wins-back s w);
   }
 
-  pub none-keeps : (Applies r d → ⊥) → NoneApplies ys d → NoneApplies zs d
-  none-keeps off none = record {
-    none = λ s in' on. ⊎_elim
-        (λ old. none.none s old on)
-        (λ e. off (subst (λ (q : Terms B). Applies q d) (sym e) on))
-        (a.only s in');
-  }
-
-  -- the leader stays, where the new record does not apply, or is after it, or has its body
-  leads-keeps : (t : Terms B) → (Applies r d → letter t.letter ≤ letter r.letter) → (Applies r d →
-      (letter t.letter < letter r.letter) ⊎ (r.body ≡ t.body)) → Leads ys d t → Leads zs d t
-  leads-keeps t later like l = record {
-    wins = wins-keeps t later l.wins;
-    undisputed = λ s v. ⊎_elim (λ old. l.undisputed s old)
-        (λ e. let on : Applies r d = subst (λ (q : Terms B). Applies q d) (sym e) v.applies in
-        ⊎_elim
-        (λ after. let k : letter s.letter ≤ letter t.letter = v.least t (a.kept t l.wins.listed) l.wins.applies in
-        let same : letter r.letter ≡ letter s.letter = ap (λ (q : Terms B). letter q.letter) e in absurd (omega arith))
-        (λ body. sym body ∙ ap (λ (q : Terms B). q.body) e)
-        (like on))
-        (wins-back s v);
-  }
-
-  disputed-keeps : (t : Terms B) → (Applies r d → letter t.letter ≤ letter r.letter) → IsDisputed ys d t → IsDisputed zs d t
-  disputed-keeps t later l = record {
-    wins = wins-keeps t later l.wins;
+  disputed-kept : (t : Terms B) → IsDisputed ys d t → ((s : Terms B) → ns s → Applies s d → letter t.letter ≤ letter s.letter) →
+      IsDisputed zs d t
+  disputed-kept t l least = record {
+    wins = wins-kept t l.wins least;
     rival = l.rival;
-    rival_wins = wins-keeps l.rival (λ on.
-        let h : letter l.rival.letter ≤ letter t.letter = l.rival_wins.least t l.wins.listed l.wins.applies in
-        let k : letter t.letter ≤ letter r.letter = later on in omega arith) l.rival_wins;
+    rival_wins = wins-kept l.rival l.rival_wins (λ s h on.
+        let k = least s h on in
+        let j : letter l.rival.letter ≤ letter t.letter = l.rival_wins.least t l.wins.listed l.wins.applies in omega arith);
     apart = l.apart;
   }
 
-  -- the new record has the winner's letter and another body
-  disputed-new : (t : Terms B) → Applies r d → letter t.letter ≡ letter r.letter → (r.body ≡ t.body → ⊥) → Wins ys d t → IsDisputed zs d t
-  disputed-new t on same apart w = record {
-    wins = wins-keeps t (λ _. omega arith) w;
-    rival = r;
-    rival_wins = wins-new on (λ s in' also. let h : letter t.letter ≤ letter s.letter = w.least s in' also in omega arith);
-    apart = λ e. apart (sym e);
+-- two winners of one letter with different bodies
+disputed-both : {B : Type 0} (ys ns zs : Records B) → IsUnion ys ns zs → (d : ℕ) (t v : Terms B) → letter t.letter ≡ letter v.letter →
+    (t.body ≡ v.body → ⊥) → Wins ys d t → Wins ns d v → IsDisputed zs d t
+disputed-both ys ns zs u d t v level apart w x = record {
+  wins = wins-kept ys ns zs u d t w (λ s h on. let k : letter v.letter ≤ letter s.letter = x.least s h on in omega arith);
+  rival = v;
+  rival_wins = wins-kept ns ys zs (union-swap ys ns zs u) d v x (λ s h on.
+      let k : letter t.letter ≤ letter s.letter = w.least s h on in omega arith);
+  apart = apart;
+}
+
+letter-below : (s : Stp) → letter s < 255
+letter-below P = omega arith
+letter-below N = omega arith
+letter-below O = omega arith
+letter-below C = omega arith
+
+module _ {B : Type 0} (xs : List (Terms B)) (members : List ℕ) where
+  -- one record stands at a number
+  pub stands_at-one : (k : ℕ) (t v : Terms B) → StandsAt xs members k t → StandsAt xs members k v → t ≡ v
+  stands_at-one k t v a b = same_Some t v (sym a.at ∙ ap (slice_get xs) (same_Some a.position b.position (sym a.member ∙ b.member)) ∙ b.at)
+
+  -- and has the body there
+  pub body-at : (k : ℕ) (t : Terms B) → StandsAt xs members k t → body_at xs (slice_get members k) ≡ t.body
+  body-at k t a = ap (body_at xs) a.member ∙ ap (λ (o : Option (Terms B)). option_and_then (λ (v : Terms B). v.body) o) a.at
+
+  -- a record that applies is not before the one that leads
+  rank-least : (records : Records B) (d n : ℕ) (st : Standing) → IsRank xs members st n → Stands xs members records d st →
+      (s : Terms B) → records s → Applies s d → n ≤ letter s.letter
+  rank-least records d n Nobody is none s h on = absurd (none.none s h on)
+  rank-least records d n (Leader k) is (t, at, l) s h on =
+      let e = is t at in let j : letter t.letter ≤ letter s.letter = l.wins.least s h on in omega arith
+  rank-least records d n (Disputed k) is (t, at, l) s h on =
+      let e = is t at in let j : letter t.letter ≤ letter s.letter = l.wins.least s h on in omega arith
+
+  -- it is behind the standing
+  abbrev IsBehind : Standing → Terms B → Type 0
+  IsBehind Nobody s = ⊥
+  IsBehind (Leader k) s = (t : Terms B) → StandsAt xs members k t → letter t.letter < letter s.letter
+  IsBehind (Disputed k) s = (t : Terms B) → StandsAt xs members k t → letter t.letter < letter s.letter
+
+  rank-behind : (n : ℕ) (st : Standing) (s : Terms B) → IsRank xs members st n → n < letter s.letter → IsBehind st s
+  rank-behind n Nobody s is h = let top = letter-below s.letter in omega arith
+  rank-behind n (Leader k) s is h = λ t at. let e = is t at in omega arith
+  rank-behind n (Disputed k) s is h = λ t at. let e = is t at in omega arith
+
+  -- a standing stays, where the others that apply are behind it
+  stands-kept : (ys ns zs : Records B) → IsUnion ys ns zs → (d : ℕ) (st : Standing) → ((s : Terms B) → ns s → Applies s d → IsBehind st s) →
+      Stands xs members ys d st → Stands xs members zs d st
+  stands-kept ys ns zs u d Nobody behind none = none-both ys ns zs u d none (record { none = behind })
+  stands-kept ys ns zs u d (Leader k) behind (t, at, l) = (t, at, leads-kept ys ns zs u d t l (λ s h on. behind s h on t at))
+  stands-kept ys ns zs u d (Disputed k) behind (t, at, l) =
+      (t, at, disputed-kept ys ns zs u d t l (λ s h on. let j : letter t.letter < letter s.letter = behind s h on t at in omega arith))
+
+  -- Two standings together.
+  pub combines_first : (one other : Standing) (a b : ℕ) → IsRank xs members one a → IsRank xs members other b → a < b →
+      Combines xs members one other one
+  combines_first one other a b is also before = record {
+    stands = λ ms ns d h k. stands-kept _ _ _ (chosen-union xs ms ns) d one (λ s c on.
+        let j = rank-least _ d b other also k s c on in rank-behind a one s is (omega arith)) h;
   }
 
--- the records at one position more
-module _ {B : Type 0} (xs : List (Terms B)) (i : ℕ) (r : Terms B) (at : slice_get xs i ≡ Some r) (members : List ℕ) where
-  pub chosen-with : IsWith (IsChosen xs members) r (IsChosen xs (members ++ i ∷ []))
-  chosen-with = record {
-    kept = λ s c. record { position = c.position; member = Contains-append_left members (i ∷ []) c.position c.member; at = c.at };
-    added = record { position = i; member = Contains-push members i; at = at };
-    only = λ s c. ⊎_elim
-        (λ old. inl (record { position = c.position; member = old; at = c.at }))
-        (λ e. inr (same_Some r s (sym at ∙ ap (slice_get xs) e ∙ c.at)))
-        (Contains-push_cases members i c.position c.member);
+  pub combines_second : (one other : Standing) (a b : ℕ) → IsRank xs members one a → IsRank xs members other b → b < a →
+      Combines xs members one other other
+  combines_second one other a b is also before = record {
+    stands = λ ms ns d h k. stands-kept _ _ _ (union-swap _ _ _ (chosen-union xs ms ns)) d other (λ s c on.
+        let j = rank-least _ d a one is h s c on in rank-behind b other s also (omega arith)) k;
   }
 
--- The same by position: the record r at i is looked at after those at `members`.
-module _ {B : Type 0} (xs : List (Terms B)) (d i : ℕ) (r : Terms B) (at : slice_get xs i ≡ Some r) (members : List ℕ) where
-  added : IsWith (IsChosen xs members) r (IsChosen xs (members ++ i ∷ []))
-  added = chosen-with xs i r at members
+  pub combines-nobody : (other : Standing) → Combines xs members Nobody other other
+  combines-nobody other = record {
+    stands = λ ms ns d h k.
+        stands-kept _ _ _ (union-swap _ _ _ (chosen-union xs ms ns)) d other (λ s c on. absurd (h.none s c on)) k;
+  }
 
-  stands_at-left : (l : ℕ) (t : Terms B) → StandsAt xs members l t → StandsAt xs (members ++ i ∷ []) l t
-  stands_at-left l t s = record { member = Contains-append_left members (i ∷ []) l s.member; at = s.at }
+  pub nobody-combines : (one : Standing) → Combines xs members one Nobody one
+  nobody-combines one = record {
+    stands = λ ms ns d h k. stands-kept _ _ _ (chosen-union xs ms ns) d one (λ s c on. absurd (k.none s c on)) h;
+  }
 
-  stands_at-new : StandsAt xs (members ++ i ∷ []) i r
-  stands_at-new = record { member = Contains-push members i; at = at }
-
-  pub step-skips : (st : Standing) → (Applies r d → ⊥) → Stands xs members d st → Stands xs (members ++ i ∷ []) d st
-  step-skips Nobody off h = none-keeps _ _ d r added off h
-  step-skips (Leader l) off h =
-      (h.0, stands_at-left l h.0 h.1, leads-keeps _ _ d r added h.0 (λ on. absurd (off on)) (λ on. absurd (off on)) h.2)
-  step-skips (Disputed l) off h = (h.0, stands_at-left l h.0 h.1, disputed-keeps _ _ d r added h.0 (λ on. absurd (off on)) h.2)
-
-  pub step-first : Applies r d → Stands xs members d Nobody → Stands xs (members ++ i ∷ []) d (Leader i)
-  step-first on h = (r, stands_at-new, leads-first _ _ d r added on h)
-
-  -- the winner that a standing names, at l
-  pub step-takes : (l : ℕ) (t : Terms B) → slice_get xs l ≡ Some t → Applies r d → letter r.letter < letter t.letter →
-      Stands xs members d (Leader l) ⊎ Stands xs members d (Disputed l) → Stands xs (members ++ i ∷ []) d (Leader i)
-  step-takes l t at_l on before h =
-      let w : Wins (IsChosen xs members) d t = ⊎_elim
-      (λ (k : Stands xs members d (Leader l)). subst (λ (q : Terms B). Wins (IsChosen xs members) d q)
-      (same_Some k.0 t (sym k.1.at ∙ at_l)) k.2.wins)
-      (λ (k : Stands xs members d (Disputed l)). subst (λ (q : Terms B). Wins (IsChosen xs members) d q)
-      (same_Some k.0 t (sym k.1.at ∙ at_l)) k.2.wins) h in
-      (r, stands_at-new, leads-takes _ _ d r added t on before w)
-
-  pub step-keeps : (l : ℕ) (t : Terms B) → slice_get xs l ≡ Some t → letter t.letter ≤ letter r.letter →
-      (letter t.letter < letter r.letter) ⊎ (r.body ≡ t.body) → Stands xs members d (Leader l) →
-      Stands xs (members ++ i ∷ []) d (Leader l)
-  step-keeps l t at_l later like h =
-      let e : h.0 ≡ t = same_Some h.0 t (sym h.1.at ∙ at_l) in
-      let lead : Leads (IsChosen xs members) d t = subst (λ (q : Terms B). Leads (IsChosen xs members) d q) e h.2 in (
+  -- where those who lead have one letter
+  module _ (n : ℕ) where
+    pub disputed_combines : (k : ℕ) (other : Standing) → IsRank xs members (Disputed k) n → IsRank xs members other n →
+        Combines xs members (Disputed k) other (Disputed k)
+    disputed_combines k other is also = record {
+      stands = λ ms ns d (t, at, l) h. (
         t,
-        stands_at-left l t (subst (λ (q : Terms B). StandsAt xs members l q) e h.1),
-        leads-keeps _ _ d r added t (λ _. later) (λ _. like) lead,
-      )
+        at,
+        disputed-kept _ _ _ (chosen-union xs ms ns) d t l (λ s c on.
+            let e = is t at in let j = rank-least _ d n other also h s c on in omega arith),
+      );
+    }
 
-  pub step-disputes : (l : ℕ) (t : Terms B) → slice_get xs l ≡ Some t → Applies r d → letter t.letter ≡ letter r.letter →
-      (r.body ≡ t.body → ⊥) → Stands xs members d (Leader l) → Stands xs (members ++ i ∷ []) d (Disputed l)
-  step-disputes l t at_l on same apart h =
-      let e : h.0 ≡ t = same_Some h.0 t (sym h.1.at ∙ at_l) in
-      let lead : Leads (IsChosen xs members) d t = subst (λ (q : Terms B). Leads (IsChosen xs members) d q) e h.2 in (
+    pub combines_disputed : (k j : ℕ) → IsRank xs members (Leader k) n → IsRank xs members (Disputed j) n →
+        Combines xs members (Leader k) (Disputed j) (Disputed j)
+    combines_disputed k j is also = record {
+      stands = λ ms ns d h (t, at, l). (
         t,
-        stands_at-left l t (subst (λ (q : Terms B). StandsAt xs members l q) e h.1),
-        disputed-new _ _ d r added t on same apart lead.wins,
-      )
+        at,
+        disputed-kept _ _ _ (union-swap _ _ _ (chosen-union xs ms ns)) d t l (λ s c on.
+            let e = also t at in let i = rank-least _ d n (Leader k) is h s c on in omega arith),
+      );
+    }
 
-  pub step-stays_disputed : (l : ℕ) (t : Terms B) → slice_get xs l ≡ Some t → letter t.letter ≤ letter r.letter →
-      Stands xs members d (Disputed l) → Stands xs (members ++ i ∷ []) d (Disputed l)
-  step-stays_disputed l t at_l later h =
-      let e : h.0 ≡ t = same_Some h.0 t (sym h.1.at ∙ at_l) in
-      let lead : IsDisputed (IsChosen xs members) d t = subst (λ (q : Terms B). IsDisputed (IsChosen xs members) d q) e h.2 in (
-        t,
-        stands_at-left l t (subst (λ (q : Terms B). StandsAt xs members l q) e h.1),
-        disputed-keeps _ _ d r added t (λ _. later) lead,
-      )
+    module _ (k j : ℕ) (is : IsRank xs members (Leader k) n) (also : IsRank xs members (Leader j) n) where
+      pub leaders_agree : body_at xs (slice_get members k) ≡ body_at xs (slice_get members j) →
+          Combines xs members (Leader k) (Leader j) (Leader k)
+      leaders_agree same = record {
+        stands = λ ms ns d (t, at, l) (v, at_v, m). (
+          t,
+          at,
+          leads-both _ _ _ (chosen-union xs ms ns) d t v (sym (is t at) ∙ also v at_v) (sym (body-at k t at) ∙ same ∙ body-at j v at_v) l m,
+        );
+      }
+
+      pub leaders_differ : (body_at xs (slice_get members k) ≡ body_at xs (slice_get members j) → ⊥) →
+          Combines xs members (Leader k) (Leader j) (Disputed k)
+      leaders_differ apart = record {
+        stands = λ ms ns d (t, at, l) (v, at_v, m). (
+          t,
+          at,
+          disputed-both _ _ _ (chosen-union xs ms ns) d t v (sym (is t at) ∙ also v at_v)
+              (λ same. apart (body-at k t at ∙ same ∙ sym (body-at j v at_v))) l.wins m.wins,
+        );
+      }
+
+  -- one member alone leads where it applies
+  pub one-leads : (k i : ℕ) (r : Terms B) (d : ℕ) → slice_get members k ≡ Some i → slice_get xs i ≡ Some r → Applies r d →
+      Stands xs members (IsChosen xs (i ∷ [])) d (Leader k)
+  one-leads k i r d member at on = (
+    r,
+    record { position = i; member = member; at = at },
+    record { wins = one-wins xs i r at d on; undisputed = λ s w. ap (λ (q : Terms B). q.body) (one-chosen xs i r at s w.listed) },
+  )

@@ -1,6 +1,4 @@
 -- What the contracts of the code's own steps speak of. No clause of a public function cites it, so nothing here has to be believed.
 pub mod Covering
-pub mod Layers
-pub mod Leading
-pub mod PieceSteps
 pub mod Standing
+pub mod Stretches

@@ -11,9 +11,7 @@ ghost use Rattle.cif_canon.specs.Comparison.{IsFirstDifference};
 ghost use Rattle.cif_canon.specs.Steps.Differences.{AreAlikeBy, FindsOther, HasBodies, IsBodied};
 
 use crate::turns::{CopiedKey, count_of_key, first_entry, positions_by_key};
-use cif_calendar::{
-    Calendar, CalendarFault, Entry, Piece, SweepLists, Window, calendar_in_room, same_body,
-};
+use cif_calendar::{Calendar, CalendarFault, Entry, Piece, Window, calendar_in_room, same_body};
 use cif_columns::Day;
 use std::alloc::{AllocError, Global};
 
@@ -41,7 +39,6 @@ where
     let mut right_rest = right_positions.as_slice();
     let mut left_room = Vec::new(alloc);
     let mut right_room = Vec::new(alloc);
-    let mut lists = SweepLists::new(alloc);
     while let Some(entry) = first_entry(left, left_rest, right, right_rest) {
         let (left_members, left_later) = left_rest.split_at(count_of_key(
             left,
@@ -53,8 +50,8 @@ where
             right_rest,
             entry.key(),
         ));
-        let one = clear_calendar(left_room, &mut lists, left, left_members, window)?;
-        let other = clear_calendar(right_room, &mut lists, right, right_members, window)?;
+        let one = clear_calendar(left_room, left, left_members, window)?;
+        let other = clear_calendar(right_room, right, right_members, window)?;
         if let Some(day) = first_day(left, &one, right, &other) {
             return Ok(Some((entry, day)));
         }
@@ -69,7 +66,6 @@ where
 /// The calendar of the entries at `members`, which have no clash in the window.
 pub(crate) fn clear_calendar<E: Entry>(
     room: Vec<Piece>,
-    lists: &mut SweepLists,
     entries: &[E],
     members: &[usize],
     window: &Window,
@@ -80,7 +76,7 @@ pub(crate) fn clear_calendar<E: Entry>(
     ensures { IfOk result (IsCalendar (map E.terms entries.now) members.now
         window.now.first window.now.last) }
 {
-    match calendar_in_room(room, lists, entries, members, *window) {
+    match calendar_in_room(room, entries, members, *window) {
         Ok(calendar) => Ok(calendar),
         Err(CalendarFault::Memory) => Err(AllocError),
         Err(CalendarFault::Ambiguous(_)) => unreachable!(),

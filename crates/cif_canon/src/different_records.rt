@@ -13,7 +13,7 @@ use crate::difference::{clear_calendar, first_day};
 use crate::only::only_runs;
 use crate::side::{Side, Sided, push_first};
 use crate::turns::{CopiedKey, count_of_key, first_entry, positions_by_key};
-use cif_calendar::{Calendar, Entry, SweepLists, Window};
+use cif_calendar::{Calendar, Entry, Window};
 use cif_weeks::Run;
 use std::alloc::{AllocError, Global};
 
@@ -148,7 +148,6 @@ where
     let mut right_rest = right_positions.as_slice();
     let mut left_room = Vec::new(alloc);
     let mut right_room = Vec::new(alloc);
-    let mut lists = SweepLists::new(alloc);
     let mut found = Vec::new(alloc);
     while let Some(entry) = first_entry(left, left_rest, right, right_rest) {
         let (left_members, left_later) = left_rest.split_at(count_of_key(
@@ -161,8 +160,8 @@ where
             right_rest,
             entry.key(),
         ));
-        let one = clear_calendar(left_room, &mut lists, left, left_members, window)?;
-        let other = clear_calendar(right_room, &mut lists, right, right_members, window)?;
+        let one = clear_calendar(left_room, left, left_members, window)?;
+        let other = clear_calendar(right_room, right, right_members, window)?;
         push_differences(alloc, &mut found, left, &one, right, &other)?;
         left_room = one.into_room();
         right_room = other.into_room();

@@ -8,7 +8,7 @@ ghost use Rattle.cif_weeks.specs.Window.{window_from};
 ghost use Rattle.cif_weeks.specs.declared.form.Form.{Form as AForm};
 
 use crate::turns::{CopiedKey, count_of_first_key, positions_by_key};
-use cif_calendar::{CalendarFault, Entry, Piece, SweepLists, Window, calendar_in_room};
+use cif_calendar::{CalendarFault, Entry, Piece, Window, calendar_in_room};
 use cif_columns::Day;
 use cif_weeks::{Form, Run, only_run, runs_in_room};
 use std::alloc::{AllocError, Global};
@@ -79,7 +79,6 @@ fn alone_in_room(room: Vec<Run>, run: Run) -> Result<Vec<Run>, AllocError>
 /// `members`.
 fn runs_of_key<E: Entry>(
     room: KeyRoom,
-    lists: &mut SweepLists,
     entries: &[E],
     members: &[usize],
     window: &Window,
@@ -102,7 +101,7 @@ fn runs_of_key<E: Entry>(
             runs: alone_in_room(room.runs, run)?,
         });
     }
-    let calendar = match calendar_in_room(room.pieces, lists, entries, members, *window) {
+    let calendar = match calendar_in_room(room.pieces, entries, members, *window) {
         Ok(calendar) => calendar,
         Err(fault) => return Err(fault_of(fault, members[0])),
     };
@@ -139,11 +138,10 @@ where
         pieces: Vec::new(alloc),
         runs: Vec::new(alloc),
     };
-    let mut lists = SweepLists::new(alloc);
     let mut rest = positions.as_slice();
     while !rest.is_empty() {
         let (members, later) = rest.split_at(count_of_first_key(entries, rest));
-        room = runs_of_key(room, &mut lists, entries, members, &window, form)?;
+        room = runs_of_key(room, entries, members, &window, form)?;
         all.extend_from_slice(room.runs.as_slice())?;
         rest = later;
     }

@@ -1,15 +1,16 @@
--- Who leads on a day among the members that were looked at. No public clause cites it.
-use Rattle.std.specs.Prelude.{◌≡◌, ◌≢◌, ℕ, ◌<◌, ◌≤◌, List, [], ◌∷◌, ◌++◌, length, Bool, Option, Some, None}
-use Rattle.std.specs.Prelude.{Contains, slice_get, slice_index_or, ◌⊎◌}
+-- Who leads on a day among members that are looked at together. No public clause cites it.
+use Rattle.std.specs.Prelude.{◌≡◌, ◌≢◌, ℕ, ◌<◌, ◌≤◌, List, ◌++◌, length, Bool, Option, Some, None}
+use Rattle.std.specs.Prelude.{slice_get, slice_index_or, ◌⊎◌}
 use Rattle.cif_columns.specs.Day.{weekday_of}
 use Rattle.cif_columns.specs.DaysRun.{RunsOn}
+use Rattle.cif_columns.specs.Stp.{letter}
 use Rattle.cif_calendar.specs.Terms.{Terms, Records}
 use Rattle.cif_calendar.specs.Applies.{Applies}
 use Rattle.cif_calendar.specs.Wins.{Wins}
 use Rattle.cif_calendar.specs.Clash.{IsClear}
-use Rattle.cif_calendar.specs.Source.{IsChosen, IsSource}
-use Rattle.cif_calendar.specs.declared.winner.Standing.{Standing}
-use Rattle.cif_calendar.specs.declared.winner.Standing.TheVariants.{Nobody, Leader, Disputed}
+use Rattle.cif_calendar.specs.Source.{IsChosen, IsSource, body_at}
+use Rattle.cif_calendar.specs.declared.standing.Standing.{Standing}
+use Rattle.cif_calendar.specs.declared.standing.Standing.TheVariants.{Nobody, Leader, Disputed}
 
 -- t is a winner, and all winners have its body
 pub record Leads {B : Type 0} (records : Records B) (d : ℕ) (t : Terms B) : Type 0 where
@@ -27,51 +28,61 @@ pub record IsDisputed {B : Type 0} (records : Records B) (d : ℕ) (t : Terms B)
 pub record NoneApplies {B : Type 0} (records : Records B) (d : ℕ) : Type 0 where
   pub none : (s : Terms B) → records s → Applies s d → ⊥
 
--- i is a member's position, and t stands there
-pub record StandsAt {B : Type 0} (xs : List (Terms B)) (members : List ℕ) (i : ℕ) (t : Terms B) : Type 0 where
-  pub member : Contains members i
-  pub at : slice_get xs i ≡ Some t
+-- t stands at the position of the member with number k
+pub record StandsAt {B : Type 0} (xs : List (Terms B)) (members : List ℕ) (k : ℕ) (t : Terms B) : Type 0 where
+  pub position : ℕ
+  pub member : slice_get members k ≡ Some position
+  pub at : slice_get xs position ≡ Some t
 
--- what a standing says of the members that were looked at
-abbrev pub Stands : {B : Type 0} → List (Terms B) → List ℕ → ℕ → Standing → Type 0
-Stands xs members d Nobody = NoneApplies (IsChosen xs members) d
-Stands {B} xs members d (Leader i) = (t : Terms B) × StandsAt xs members i t × Leads (IsChosen xs members) d t
-Stands {B} xs members d (Disputed i) = (t : Terms B) × StandsAt xs members i t × IsDisputed (IsChosen xs members) d t
+-- what a standing says of the records that were looked at; it names a member by its number
+abbrev pub Stands : {B : Type 0} → List (Terms B) → List ℕ → Records B → ℕ → Standing → Type 0
+Stands xs members records d Nobody = NoneApplies records d
+Stands {B} xs members records d (Leader k) = (t : Terms B) × StandsAt xs members k t × Leads records d t
+Stands {B} xs members records d (Disputed k) = (t : Terms B) × StandsAt xs members k t × IsDisputed records d t
 
--- the leader's position is below n
+-- the leader's number is below n
 abbrev pub IsBelow : ℕ → Standing → Type 0
 IsBelow n Nobody = Unit {0}
-IsBelow n (Leader i) = i < n
-IsBelow n (Disputed i) = i < n
+IsBelow n (Leader k) = k < n
+IsBelow n (Disputed k) = k < n
 
--- on each of seven weekdays the leader's position is below n
+-- on each of seven weekdays the leader's number is below n
 pub record AreBelow (n : ℕ) (standings : List Standing) : Type 0 where
   pub seven : length standings ≡ 7
   pub below : (w : ℕ) → IsBelow n (slice_index_or standings w Nobody)
 
--- what the standing s of a day is once the record at position i, which applies on it, is looked at too
-pub record Considers {B : Type 0} (xs : List (Terms B)) (i : ℕ) (s t : Standing) : Type 0 where
-  pub stands : (members : List ℕ) (d : ℕ) (r : Terms B) → slice_get xs i ≡ Some r → Applies r d → Stands xs members d s →
-      Stands xs (members ++ i ∷ []) d t
+-- n is the leader's letter, or what is after all letters
+abbrev pub IsRank : {B : Type 0} → List (Terms B) → List ℕ → Standing → ℕ → Type 0
+IsRank xs members Nobody n = n ≡ 255
+IsRank {B} xs members (Leader k) n = (t : Terms B) → StandsAt xs members k t → n ≡ letter t.letter
+IsRank {B} xs members (Disputed k) n = (t : Terms B) → StandsAt xs members k t → n ≡ letter t.letter
 
--- on weekday w the record at position i is looked at too, if it is one of these weekdays
-abbrev pub LooksAt : {B : Type 0} → List (Terms B) → ℕ → List Bool → List Standing → List Standing → ℕ → Type 0
-LooksAt xs i days old new w =
-    (RunsOn days w × Considers xs i (slice_index_or old w Nobody) (slice_index_or new w Nobody))
-    ⊎ ((¬ RunsOn days w) × (slice_index_or new w Nobody ≡ slice_index_or old w Nobody))
+-- u is the standing of two sets of members together, where s is that of one and t that of the other
+pub record Combines {B : Type 0} (xs : List (Terms B)) (members : List ℕ) (s t u : Standing) : Type 0 where
+  pub stands : (ms ns : List ℕ) (d : ℕ) → Stands xs members (IsChosen xs ms) d s → Stands xs members (IsChosen xs ns) d t →
+      Stands xs members (IsChosen xs (ms ++ ns)) d u
 
--- the standing of each day from `first` to `last`, by its weekday, and nobody on a weekday that none of them has
-pub record AreStandings {B : Type 0} (xs : List (Terms B)) (members : List ℕ) (first last : ℕ) (standings : List Standing) : Type 0 where
-  pub stands : (d : ℕ) → first ≤ d → d ≤ last → Stands xs members d (slice_index_or standings (weekday_of d) Nobody)
-  pub idle : (w : ℕ) → ((d : ℕ) → first ≤ d → d ≤ last → weekday_of d ≡ w → ⊥) → slice_index_or standings w Nobody ≡ Nobody
+-- on weekday w the members of other standings are looked at too, if it is one of these weekdays
+abbrev pub LooksAt : {B : Type 0} → List (Terms B) → List ℕ → List Bool → List Standing → ℕ → Standing → Standing → Type 0
+LooksAt xs members days others w s u =
+    (RunsOn days w × Combines xs members s (slice_index_or others w Nobody) u) ⊎ ((¬ RunsOn days w) × (u ≡ s))
 
--- what the standing s of a day says of it: that it is clear, and that o is its source
-pub record Judges {B : Type 0} (xs : List (Terms B)) (s : Standing) (o : Option ℕ) : Type 0 where
-  pub clear : (members : List ℕ) (d : ℕ) → Stands xs members d s → IsClear (IsChosen xs members) d
-  pub source : (members : List ℕ) (d : ℕ) → Stands xs members d s → IsSource xs members d o
-  pub idle : s ≡ Nobody → o ≡ None
+-- the standing of each day from `first` to `last`, by its weekday, of the members that were looked at
+pub record AreStandings {B : Type 0} (xs : List (Terms B)) (members looked : List ℕ) (first last : ℕ)
+    (standings : List Standing) : Type 0 where
+  pub below : AreBelow (length members) standings
+  pub stands : (d : ℕ) → first ≤ d → d ≤ last →
+      Stands xs members (IsChosen xs looked) d (slice_index_or standings (weekday_of d) Nobody)
 
--- the same of each weekday before k
-pub record AreJudgedUpTo {B : Type 0} (xs : List (Terms B)) (k : ℕ) (standings : List Standing) (winners : List (Option ℕ)) : Type 0 where
-  pub seven : length winners ≡ 7
-  pub each : (w : ℕ) → w < k → Judges xs (slice_index_or standings w Nobody) (slice_index_or winners w None)
+-- what the standing s of a day among all members says of it: that it is clear, and that o is its source
+pub record Judges {B : Type 0} (xs : List (Terms B)) (members : List ℕ) (s : Standing) (o : Option ℕ) : Type 0 where
+  pub clear : (d : ℕ) → Stands xs members (IsChosen xs members) d s → IsClear (IsChosen xs members) d
+  pub source : (d : ℕ) → Stands xs members (IsChosen xs members) d s → IsSource xs members d o
+
+-- the members with two numbers have one body
+abbrev pub HaveOneBody : {B : Type 0} → List (Terms B) → List ℕ → ℕ → ℕ → Type 0
+HaveOneBody xs members k j = body_at xs (slice_get members k) ≡ body_at xs (slice_get members j)
+
+-- where the list names a member for another, the two have one body
+abbrev pub AreAlike : {B : Type 0} → List (Terms B) → List ℕ → List (Option ℕ) → Type 0
+AreAlike xs members alike = (k j : ℕ) → slice_index_or alike k None ≡ Some j → HaveOneBody xs members k j

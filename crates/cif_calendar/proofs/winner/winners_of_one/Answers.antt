@@ -1,5 +1,5 @@
 -- A weekday has the entry where it applies on a date of that weekday.
-use Rattle.std.proofs.Common.{◌<◌, arith, subst, sym, rules}
+use Rattle.std.proofs.Common.{arith, subst, sym, rules}
 use Rattle.cif_columns.specs.DaysRun.{RunsOn}
 use Rattle.cif_calendar.proofs.winner.winners_of_one.Goals as goal
 

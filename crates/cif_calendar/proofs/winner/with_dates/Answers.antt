@@ -1,6 +1,5 @@
 -- Seven dates have each weekday (`all-dates`); fewer have those of a part of the week, or of what is left by one.
-use Rattle.std.proofs.Common.{◌≡◌, ◌+◌, ◌-◌, ◌<◌, ◌≤◌, arith}
-use Rattle.cif_columns.specs.Day.{weekday_of}
+use Rattle.std.proofs.Common.{◌+◌, ◌-◌, arith}
 use Rattle.cif_calendar.proofs.WithDates.{all-dates, within-week, over-week}
 use Rattle.cif_calendar.proofs.winner.with_dates.Goals as goal
 

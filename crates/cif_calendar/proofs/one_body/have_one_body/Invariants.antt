@@ -1,0 +1,12 @@
+-- The members of the pair have one body exactly if the two that are asked about have.
+use Rattle.std.proofs.Common.{map}
+use Rattle.std.specs.Prelude.{◌↔◌}
+use Rattle.cif_calendar.specs.Steps.Standing.{AreAlike, HaveOneBody}
+use Rattle.cif_calendar.proofs.one_body.have_one_body.Given as goal
+
+abbrev pub invariant-loop : goal.invariant-loop
+invariant-loop g l = record {
+  alike : AreAlike (map g.E.Entry.terms l.entries) l.members l.alike;
+  both : HaveOneBody (map g.E.Entry.terms l.entries) l.members l.pair.0 l.pair.1
+      ↔ HaveOneBody (map g.E.Entry.terms l.entries) l.members l.one l.other;
+}

@@ -1,0 +1,15 @@
+-- The winners so far are those of the days before `day`, which are clear; `day` is as many days behind the first as the loop went round.
+use Rattle.std.proofs.Common.{◌≡◌, ◌≤◌, ◌+◌, length}
+use Rattle.std.specs.Prelude.{map}
+use Rattle.cif_calendar.specs.Steps.Stretches.{IsWeekFrom}
+use Rattle.cif_calendar.proofs.pieces.judged_piece.Given as goal
+
+abbrev pub invariant-loop : goal.invariant-loop
+invariant-loop g l = record {
+  begins : l.piece.first ≡ l.fn.first;
+  ends : l.piece.last ≡ l.last;
+  seven : length l.piece.winners ≡ 7;
+  day_is : l.day ≡ l.fn.first + l.counter;
+  upto : l.day ≤ l.last;
+  week : IsWeekFrom (map g.E.Entry.terms l.entries) l.members l.fn.first l.day l.piece.winners;
+}

@@ -1,0 +1,12 @@
+-- The weekdays before `weekday` are looked at; the others are as they were.
+use Rattle.std.proofs.Common.{length, map}
+use Rattle.cif_calendar.specs.Steps.Standing.{AreAlike, LooksAt}
+use Rattle.cif_calendar.proofs.Standings.{AreStepped}
+use Rattle.cif_calendar.proofs.standing.look_at.Given as goal
+
+abbrev pub invariant-loop-weekday : goal.invariant-loop-weekday
+invariant-loop-weekday g l = record {
+  alike : AreAlike (map g.E.Entry.terms l.entries) l.members l.alike;
+  stepped : AreStepped (LooksAt (map g.E.Entry.terms l.entries) l.members l.days l.others) (length l.members) l.initial.standings
+      l.weekday l.standings;
+}

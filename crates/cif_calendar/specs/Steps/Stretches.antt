@@ -1,0 +1,60 @@
+-- Stretches of days, one after another, and who leads on them. No public clause cites it.
+use Rattle.std.specs.Prelude.{◌≡◌, ℕ, ◌+◌, ◌<◌, ◌≤◌, List, [], ◌∷◌, length, Option, None, slice_index_or, ◌⊎◌}
+use Rattle.cif_columns.specs.Day.{weekday_of}
+use Rattle.cif_calendar.specs.Terms.{Terms}
+use Rattle.cif_calendar.specs.Clash.{IsClear}
+use Rattle.cif_calendar.specs.Source.{IsChosen, IsSource}
+use Rattle.cif_calendar.specs.Pieces.{ChangesOn, IsUnbroken}
+use Rattle.cif_calendar.specs.Steps.Standing.{AreBelow, AreStandings, Combines}
+use Rattle.cif_calendar.specs.declared.standing.Standing.TheVariants.{Nobody}
+use Rattle.cif_calendar.specs.declared.stretch.Stretch.{Stretch}
+
+-- The stretch begins on day `first` and has no break by the members that were looked at, and the standings of its days are theirs.
+-- On the day behind it one of them begins or has just ended, or that day is `end`.
+pub record IsStretch {B : Type 0} (xs : List (Terms B)) (members looked : List ℕ) (end first : ℕ) (s : Stretch) : Type 0 where
+  pub in_order : first ≤ s.last
+  pub upto : s.last < end
+  pub unbroken : IsUnbroken (IsChosen xs looked) first s.last
+  pub change : (s.last + 1 ≡ end) ⊎ ChangesOn (IsChosen xs looked) (s.last + 1)
+  pub standings : AreStandings xs members looked first s.last s.standings
+
+-- stretches from day `first` to the day before `to`
+abbrev pub AreStretches : {B : Type 0} → List (Terms B) → List ℕ → List ℕ → ℕ → ℕ → ℕ → List Stretch → Type 0
+AreStretches xs members looked end first to [] = first ≡ to
+AreStretches xs members looked end first to (s ∷ ss) =
+    IsStretch xs members looked end first s × AreStretches xs members looked end (s.last + 1) to ss
+
+-- the stretch of two sets of members together, from a day on that both stretches have, ends with the sooner of them
+pub record IsJoint {B : Type 0} (xs : List (Terms B)) (members : List ℕ) (one other both : Stretch) : Type 0 where
+  pub upto_one : both.last ≤ one.last
+  pub upto_other : both.last ≤ other.last
+  pub ends : (both.last ≡ one.last) ⊎ (both.last ≡ other.last)
+  pub below : AreBelow (length members) both.standings
+  pub each : (w : ℕ) → w < 7 → Combines xs members (slice_index_or one.standings w Nobody) (slice_index_or other.standings w Nobody)
+      (slice_index_or both.standings w Nobody)
+
+-- the part is that of the members from the one with number k on
+pub record IsPart (members : List ℕ) (k : ℕ) (part : List ℕ) : Type 0 where
+  pub within : k + length part ≤ length members
+  pub same : (j d : ℕ) → j < length part → slice_index_or members (k + j) d ≡ slice_index_or part j d
+
+-- the stretches that are left behind a day, where only the first may end by then
+abbrev pub AreBehind : List Stretch → ℕ → List Stretch → Type 0
+AreBehind [] day rest = rest ≡ []
+AreBehind (s ∷ ss) day rest = ((s.last ≤ day) × (rest ≡ ss)) ⊎ ((day < s.last) × (rest ≡ s ∷ ss))
+
+-- stretches that are ahead, in a window that ends on day `last`, or none is known
+abbrev pub AreAhead : {B : Type 0} → List (Terms B) → List ℕ → ℕ → ℕ → List Stretch → Type 0
+AreAhead xs members first last [] = Unit {0}
+AreAhead xs members first last (s ∷ ss) = AreStretches xs members members (last + 1) first (last + 1) (s ∷ ss)
+
+-- the first stretch, if there is one, ends on this day
+abbrev pub EndsWith : List Stretch → ℕ → Type 0
+EndsWith [] day = Unit {0}
+EndsWith (s ∷ ss) day = s.last ≡ day
+
+-- the winners of the days from `first` to the day before `to`, which are clear
+pub record IsWeekFrom {B : Type 0} (xs : List (Terms B)) (members : List ℕ) (first to : ℕ) (winners : List (Option ℕ)) : Type 0 where
+  pub sources : (d : ℕ) → first ≤ d → d < to → IsSource xs members d (slice_index_or winners (weekday_of d) None)
+  pub clear : (d : ℕ) → first ≤ d → d < to → IsClear (IsChosen xs members) d
+  pub idle : (w : ℕ) → ((d : ℕ) → first ≤ d → d < to → weekday_of d ≡ w → ⊥) → slice_index_or winners w None ≡ None

@@ -1,0 +1,214 @@
+//! Who leads on each weekday, where some members are looked at together.
+
+ghost use Rattle.std.specs.Prelude.{◌≡◌, ◌<◌, ◌≤◌, ◌+◌, ℕ, length, map, All};
+ghost use Rattle.std.specs.Prelude.{IfOk, OnErr, slice_index_or};
+ghost use Rattle.cif_columns.specs.Stp.{letter};
+ghost use Rattle.cif_calendar.specs.Terms.{Terms};
+ghost use Rattle.cif_calendar.specs.Clash.{IsClash};
+ghost use Rattle.cif_calendar.specs.Pieces.{IsUnbroken};
+ghost use Rattle.cif_calendar.specs.Source.{IsChosen};
+ghost use Rattle.cif_calendar.specs.Steps.Standing.{AreAlike, AreBelow, AreStandings, Combines};
+ghost use Rattle.cif_calendar.specs.Steps.Standing.{IsBelow, IsRank, Judges, LooksAt, Stands, StandsAt};
+ghost use Rattle.cif_calendar.specs.Steps.Stretches.{IsPart};
+ghost use Rattle.cif_calendar.specs.declared.standing.Standing.TheVariants.{Nobody};
+
+use crate::entry::Entry;
+use crate::one_body::have_one_body;
+use crate::winner::covers;
+use cif_columns::{Day, DaysRun};
+
+/// Two winners of a date have different bodies, so what runs can't be said.
+#[derive(Clone, Copy, Debug, PartialEq, Eq)]
+pub(crate) struct BodiesDiffer;
+
+/// Who leads among the members that were looked at.
+#[derive(Clone, Copy, Debug, PartialEq, Eq)]
+pub(crate) enum Standing {
+    /// None of them applies.
+    Nobody,
+    /// A winner's number among the members, where all winners have its body.
+    Leader(usize),
+    /// A winner's number, where another winner has another body.
+    Disputed(usize),
+}
+
+/// Who leads on each weekday, Monday first.
+pub(crate) type Standings = [Standing; 7];
+
+/// The member with this number, from 0 on.
+pub(crate) fn member<'a, E: Entry>(entries: &'a [E], members: &[usize], number: usize) -> &'a E
+    requires positions { All (λ i. i < length entries.now) members.now }
+    requires number { number < length members.now }
+    ensures { StandsAt (map E.terms entries.now) members.now number (E.terms result.now) }
+{
+    &entries[members[number]]
+}
+
+/// The letter of who leads; a number behind all letters where nobody does.
+fn rank<E: Entry>(entries: &[E], members: &[usize], standing: Standing) -> u8
+    requires positions { All (λ i. i < length entries.now) members.now }
+    requires leader { IsBelow (length members.now) standing }
+    ensures { IsRank (map E.terms entries.now) members.now standing result }
+{
+    match standing {
+        Standing::Nobody => u8::MAX,
+        Standing::Leader(number) | Standing::Disputed(number) => {
+            member(entries, members, number).letter().write()
+        }
+    }
+}
+
+/// Who leads on a date where two sets of members are looked at together, one or the other of which
+/// each standing tells of. `alike` has what is known of their bodies.
+#[tactic(auto, using(crate::proofs::Winning::combines_first, crate::proofs::Winning::combines_second))]
+pub(crate) fn combine<E: Entry>(
+    entries: &[E],
+    members: &[usize],
+    alike: &mut [Option<usize>],
+    one: Standing,
+    other: Standing,
+) -> Standing
+    requires positions { All (λ i. i < length entries.now) members.now }
+    requires alike { AreAlike (map E.terms entries.now) members.now alike.old }
+    requires one { IsBelow (length members.now) one }
+    requires other { IsBelow (length members.now) other }
+    ensures alike { AreAlike (map E.terms entries.now) members.now alike.new }
+    ensures below { IsBelow (length members.now) result }
+    ensures stands { Combines (map E.terms entries.now) members.now one other result }
+{
+    let rank_of_one = rank(entries, members, one);
+    let rank_of_other = rank(entries, members, other);
+    if rank_of_one < rank_of_other {
+        one
+    } else if rank_of_other < rank_of_one {
+        other
+    } else {
+        level(entries, members, alike, one, other)
+    }
+}
+
+/// The same, where those who lead have one letter.
+#[tactic(auto, using(crate::proofs::Winning::disputed_combines))]
+fn level<E: Entry>(
+    entries: &[E],
+    members: &[usize],
+    alike: &mut [Option<usize>],
+    one: Standing,
+    other: Standing,
+) -> Standing
+    requires positions { All (λ i. i < length entries.now) members.now }
+    requires alike { AreAlike (map E.terms entries.now) members.now alike.old }
+    requires one { IsBelow (length members.now) one }
+    requires other { IsBelow (length members.now) other }
+    ensures alike { AreAlike (map E.terms entries.now) members.now alike.new }
+    ensures below { IsBelow (length members.now) result }
+    ensures stands { (n : ℕ) → IsRank (map E.terms entries.now) members.now one n →
+        IsRank (map E.terms entries.now) members.now other n →
+        Combines (map E.terms entries.now) members.now one other result }
+{
+    match one {
+        Standing::Nobody => other,
+        Standing::Disputed(_) => one,
+        Standing::Leader(leader) => match other {
+            Standing::Nobody => one,
+            Standing::Disputed(_) => other,
+            Standing::Leader(rival) => {
+                if have_one_body(entries, members, alike, leader, rival) {
+                    one
+                } else {
+                    Standing::Disputed(leader)
+                }
+            }
+        },
+    }
+}
+
+/// Looks at the members of other standings too, on these weekdays.
+pub(crate) fn look_at<E: Entry>(
+    entries: &[E],
+    members: &[usize],
+    alike: &mut [Option<usize>],
+    standings: &mut Standings,
+    days: DaysRun,
+    others: &Standings,
+)
+    requires positions { All (λ i. i < length entries.now) members.now }
+    requires alike { AreAlike (map E.terms entries.now) members.now alike.old }
+    requires below { AreBelow (length members.now) standings.old }
+    requires others { AreBelow (length members.now) others.now }
+    ensures alike { AreAlike (map E.terms entries.now) members.now alike.new }
+    ensures below { AreBelow (length members.now) standings.new }
+    ensures each { (w : ℕ) → w < 7 → LooksAt (map E.terms entries.now) members.now days others.now
+        w (slice_index_or standings.old w Nobody) (slice_index_or standings.new w Nobody) }
+{
+    for weekday in 0..7u8 {
+        if days.has(weekday) {
+            let place = usize::from(weekday);
+            let (one, other) = (standings[place], others[place]);
+            standings[place] = combine(entries, members, alike, one, other);
+        }
+    }
+}
+
+/// Who leads on each weekday of the dates from `first` to the next break among the members in
+/// `part`, the first of which has this number.
+pub(crate) fn standings_from<E: Entry>(
+    entries: &[E],
+    members: &[usize],
+    alike: &mut [Option<usize>],
+    number: usize,
+    part: &[usize],
+    first: Day,
+) -> Standings
+    requires positions { All (λ i. i < length entries.now) members.now }
+    requires alike { AreAlike (map E.terms entries.now) members.now alike.old }
+    requires part { IsPart members.now number part.now }
+    ensures alike { AreAlike (map E.terms entries.now) members.now alike.new }
+    ensures stands { (last : ℕ) →
+        IsUnbroken (IsChosen (map E.terms entries.now) part.now) first last →
+        AreStandings (map E.terms entries.now) members.now part.now first last result }
+{
+    let mut standings = [Standing::Nobody; 7];
+    for (index, position) in part.iter().enumerate() {
+        let entry = &entries[*position];
+        if covers(entry, first) {
+            let others = [Standing::Leader(number + index); 7];
+            look_at(
+                entries,
+                members,
+                alike,
+                &mut standings,
+                entry.days(),
+                &others,
+            );
+        }
+    }
+    standings
+}
+
+/// The position in `entries` of a winner of a date on which this standing is that of all members;
+/// `None` where nothing runs.
+///
+/// Which of several winners with one body is named is free. `Err` comes exactly where two winners
+/// have different bodies; a clash among records that do not win is no fault.
+pub(crate) fn winner_by<E: Entry>(
+    entries: &[E],
+    members: &[usize],
+    standing: Standing,
+) -> Result<Option<usize>, BodiesDiffer>
+    requires positions { All (λ i. i < length entries.now) members.now }
+    requires leader { IsBelow (length members.now) standing }
+    ensures judged { IfOk result (Judges (map E.terms entries.now) members.now standing) }
+    ensures clash { (d : ℕ) → Stands (map E.terms entries.now) members.now
+        (IsChosen (map E.terms entries.now) members.now) d standing →
+        OnErr result (IsClash (IsChosen (map E.terms entries.now) members.now) d) }
+{
+    match standing {
+        Standing::Nobody => Ok(None),
+        Standing::Leader(number) => match member(entries, members, number).body() {
+            None => Ok(None),
+            Some(_) => Ok(Some(members[number])),
+        },
+        Standing::Disputed(_) => Err(BodiesDiffer),
+    }
+}

@@ -1,0 +1,162 @@
+//! The stretches of dates on which no member begins or ends, and who leads on them.
+
+ghost use Rattle.std.specs.Prelude.{◌≡◌, ◌<◌, ◌+◌, length, map, All};
+ghost use Rattle.std.specs.Prelude.{IfOk};
+ghost use Rattle.cif_calendar.specs.Steps.Standing.{AreAlike, AreBelow};
+ghost use Rattle.cif_calendar.specs.Steps.Stretches.{AreAhead, AreBehind, AreStretches, IsJoint, IsPart};
+
+use crate::entry::Entry;
+use crate::pieces::end_of_piece;
+use crate::standing::{Standings, look_at, standings_from};
+use crate::window::Window;
+use cif_columns::{Day, DaysRun};
+use std::alloc::{AllocError, Global};
+
+/// How many members are few: to look at all of them for each stretch takes less time than to halve
+/// them.
+pub(crate) const FEW: usize = 16;
+
+/// Dates on each of which the same members apply as on the others of its weekday. A stretch begins
+/// on the day after the one before it in a list, and the first with the window.
+#[derive(Clone, Copy, Debug, PartialEq, Eq)]
+pub(crate) struct Stretch {
+    /// The last date.
+    pub(crate) last: Day,
+    /// Who leads on the dates of each weekday.
+    pub(crate) standings: Standings,
+}
+
+/// The stretch of two sets of members together, where these are stretches of one or the other that
+/// have a date in common.
+fn joint<E: Entry>(
+    entries: &[E],
+    members: &[usize],
+    alike: &mut [Option<usize>],
+    one: &Stretch,
+    other: &Stretch,
+) -> Stretch
+    requires positions { All (λ i. i < length entries.now) members.now }
+    requires alike { AreAlike (map E.terms entries.now) members.now alike.old }
+    requires one { AreBelow (length members.now) one.now.standings }
+    requires other { AreBelow (length members.now) other.now.standings }
+    ensures alike { AreAlike (map E.terms entries.now) members.now alike.new }
+    ensures joint { IsJoint (map E.terms entries.now) members.now one.now other.now result }
+{
+    let last = if one.last <= other.last {
+        one.last
+    } else {
+        other.last
+    };
+    let mut standings = one.standings;
+    let days = DaysRun::of([true; 7]);
+    look_at(
+        entries,
+        members,
+        alike,
+        &mut standings,
+        days,
+        &other.standings,
+    );
+    Stretch { last, standings }
+}
+
+/// The stretches that are left behind the day, where only the first may end by then.
+pub(crate) fn behind(stretches: &[Stretch], day: Day) -> &[Stretch]
+    ensures { AreBehind stretches.now day result.now }
+{
+    match stretches {
+        [one, after @ ..] if one.last <= day => after,
+        _ => stretches,
+    }
+}
+
+/// The stretches of few members, which are all looked at for each. They are those in `part`, the
+/// first of which has this number.
+fn stretches_of_few<E: Entry>(
+    alloc: Global,
+    entries: &[E],
+    members: &[usize],
+    alike: &mut [Option<usize>],
+    number: usize,
+    part: &[usize],
+    window: &Window,
+) -> Result<Vec<Stretch>, AllocError>
+    requires positions { All (λ i. i < length entries.now) members.now }
+    requires alike { AreAlike (map E.terms entries.now) members.now alike.old }
+    requires part { IsPart members.now number part.now }
+    ensures alike { AreAlike (map E.terms entries.now) members.now alike.new }
+    ensures stretches { IfOk result (λ stretches. AreStretches (map E.terms entries.now) members.now
+        part.now (window.now.last + 1) window.now.first (window.now.last + 1) stretches.items) }
+{
+    let mut stretches = Vec::new(alloc);
+    let mut first = window.first;
+    loop {
+        let last = end_of_piece(entries, part, first, window.last);
+        let standings = standings_from(entries, members, alike, number, part, first);
+        stretches.push(Stretch { last, standings })?;
+        match last.next_up_to(window.last) {
+            Some(next) => first = next,
+            None => return Ok(stretches),
+        }
+    }
+}
+
+/// The stretches of the members in `part`, the first of which has this number. Those of many are
+/// made of those of both halves.
+fn stretches_of<E: Entry>(
+    alloc: Global,
+    entries: &[E],
+    members: &[usize],
+    alike: &mut [Option<usize>],
+    number: usize,
+    part: &[usize],
+    window: &Window,
+) -> Result<Vec<Stretch>, AllocError>
+    requires positions { All (λ i. i < length entries.now) members.now }
+    requires alike { AreAlike (map E.terms entries.now) members.now alike.old }
+    requires part { IsPart members.now number part.now }
+    ensures alike { AreAlike (map E.terms entries.now) members.now alike.new }
+    ensures stretches { IfOk result (λ stretches. AreStretches (map E.terms entries.now) members.now
+        part.now (window.now.last + 1) window.now.first (window.now.last + 1) stretches.items) }
+{
+    if part.len() <= FEW {
+        return stretches_of_few(alloc, entries, members, alike, number, part, window);
+    }
+    let half = part.len() / 2;
+    let (front, back) = part.split_at(half);
+    let lefts = stretches_of(alloc, entries, members, alike, number, front, window)?;
+    let rights = stretches_of(alloc, entries, members, alike, number + half, back, window)?;
+    let mut left = lefts.as_slice();
+    let mut right = rights.as_slice();
+    let mut stretches = Vec::new(alloc);
+    while let ([one, ..], [other, ..]) = (left, right) {
+        let stretch = joint(entries, members, alike, one, other);
+        left = behind(left, stretch.last);
+        right = behind(right, stretch.last);
+        stretches.push(stretch)?;
+    }
+    Ok(stretches)
+}
+
+/// The stretches of all members, over the dates of the window.
+pub(crate) fn stretches_of_all<E: Entry>(
+    alloc: Global,
+    entries: &[E],
+    members: &[usize],
+    window: &Window,
+) -> Result<Vec<Stretch>, AllocError>
+    requires positions { All (λ i. i < length entries.now) members.now }
+    ensures { IfOk result (λ stretches. AreAhead (map E.terms entries.now) members.now
+        window.now.first window.now.last stretches.items) }
+{
+    let mut alike = vec![in alloc; None; members.len()]?;
+    stretches_of(
+        alloc,
+        entries,
+        members,
+        alike.as_mut_slice(),
+        0,
+        members,
+        window,
+    )
+}
