@@ -14,8 +14,7 @@ use Rattle.cif_calendar.specs.declared.stretch.Stretch.{Stretch}
 use Rattle.cif_calendar.proofs.Unbroken.{unbroken-within, unbroken-both, changes-kept}
 use Rattle.cif_calendar.proofs.Winning.{chosen-union, union-swap}
 
--- ---- a part of the members
-
+-- a part of the members
 pub part-whole : (members : List ℕ) → IsPart members 0 members
 part-whole members = record { within = omega arith; same = λ j d below. ap (λ n. get_or members n d) (omega arith) }
 
@@ -42,8 +41,7 @@ module _ (members : List ℕ) (k : ℕ) (part : List ℕ) (p : IsPart members k 
         ∙ sym (get_or-drop half part j d);
   }
 
--- ---- the same members
-
+-- the same members
 module _ {B : Type 0} (xs : List (Terms B)) (members looked : List ℕ) (end : ℕ) where
   pub stretches-push : (from to : ℕ) (ss : List Stretch) (s : Stretch) → AreStretches xs members looked end from to ss →
       IsStretch xs members looked end to s → AreStretches xs members looked end from (s.last + 1) (ss ++ s ∷ [])
@@ -100,8 +98,7 @@ module _ {B : Type 0} (xs : List (Terms B)) (members : List ℕ) (last : ℕ) wh
       stretches-ahead next rest (subst (λ n. AreStretches xs members members (last + 1) n (last + 1) rest) (sym is)
       (stretches-behind xs members members (last + 1) first (last + 1) day s ss rest from (omega arith) h b))
 
--- ---- two sets of members
-
+-- two sets of members
 module _ {B : Type 0} (xs : List (Terms B)) (members ms ns : List ℕ) (end : ℕ) where
   joint-stretch : (first : ℕ) (s t u : Stretch) → IsStretch xs members ms end first s → IsStretch xs members ns end first t →
       IsJoint xs members s t u → IsStretch xs members (ms ++ ns) end first u

@@ -1,7 +1,6 @@
 //! The stretches of dates on which no member begins or ends, and who leads on them.
 
-ghost use Rattle.std.specs.Prelude.{◌≡◌, ◌<◌, ◌+◌, length, map, All};
-ghost use Rattle.std.specs.Prelude.{IfOk};
+ghost use Rattle.std.specs.Prelude.{◌≡◌, ◌<◌, ◌+◌, length, map, All, IfOk};
 ghost use Rattle.cif_calendar.specs.Steps.Standing.{AreAlike, AreBelow};
 ghost use Rattle.cif_calendar.specs.Steps.Stretches.{AreAhead, AreBehind, AreStretches, IsJoint, IsPart};
 
@@ -42,11 +41,7 @@ fn joint<E: Entry>(
     ensures alike { AreAlike (map E.terms entries.now) members.now alike.new }
     ensures joint { IsJoint (map E.terms entries.now) members.now one.now other.now result }
 {
-    let last = if one.last <= other.last {
-        one.last
-    } else {
-        other.last
-    };
+    let last = one.last.min(other.last);
     let mut standings = one.standings;
     let days = DaysRun::of([true; 7]);
     look_at(
