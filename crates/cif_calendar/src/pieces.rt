@@ -102,6 +102,28 @@ fn judged_piece<E: Entry>(
     Ok(piece)
 }
 
+/// The same piece, where several members lie over its dates. It is seldom needed, and inlined its
+/// lists would cost each piece.
+#[inline(never)]
+fn piece_of_several<E: Entry>(
+    entries: &[E],
+    members: &[usize],
+    first: Day,
+    last: Day,
+) -> Result<Piece, CalendarFault>
+    requires positions { All (λ i. i < length entries.now) members.now }
+    requires in_order { first ≤ last }
+    requires unbroken { IsUnbroken (IsChosen (map E.terms entries.now) members.now) first last }
+    ensures begins { IfOk result (λ p. p.first ≡ first) }
+    ensures ends { IfOk result (λ p. p.last ≡ last) }
+    ensures piece { IfOk result (IsPiece (map E.terms entries.now) members.now) }
+    ensures fault { IfErr result
+        (IsFault (IsChosen (map E.terms entries.now) members.now) first last) }
+{
+    let standings = standings_from(entries, members, &mut [], 0, members, first);
+    judged_piece(entries, members, &standings, first, last)
+}
+
 /// The piece that begins on `first`, in a window that ends on `last`. Where a stretch is ahead, it
 /// is that; else it is looked for.
 fn piece_from<E: Entry>(
@@ -139,10 +161,7 @@ fn piece_from<E: Entry>(
             last: end,
             winners: winners_of_one(&entries[position], position, first, end),
         }),
-        Covering::Several => {
-            let standings = standings_from(entries, members, &mut [], 0, members, first);
-            judged_piece(entries, members, &standings, first, end)
-        }
+        Covering::Several => piece_of_several(entries, members, first, end),
     }
 }
 
