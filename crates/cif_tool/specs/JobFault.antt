@@ -12,8 +12,8 @@ use Rattle.cif_extract.specs.declared.fault.Fault.{Fault}
 use Rattle.cif_extract.specs.declared.fault.Fault.TheVariants.{Write, Memory as OutOfMemory}
 use Rattle.cif_tool.specs.CommandLine.{AreFormats, AreForms, Choice, chosen, faults_of}
 use Rattle.cif_tool.specs.Job.{is_standard}
-use Rattle.cif_tool.specs.declared.job_fault.JobFault.{JobFault}
-use Rattle.cif_tool.specs.declared.job_fault.JobFault.TheVariants.{Usage, BadDate, BadUid, OneInput, Memory}
+use Rattle.cif_tool.specs.declared.job.JobFault.{JobFault}
+use Rattle.cif_tool.specs.declared.job.JobFault.TheVariants.{Usage, BadDate, BadUid, OneInput, Memory}
 
 -- six digits YYMMDD that name a day aren't the word
 abbrev pub NamesNoDay : Text → Type 0

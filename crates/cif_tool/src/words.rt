@@ -11,8 +11,7 @@ ghost use Rattle.cif_tool.specs.JobFault.{HasBadDate, IsFaultOf, IsWordFault, Na
 ghost use Rattle.cif_tool.specs.JobFault.{IsNoUid};
 
 use crate::command_line::matches_of;
-use crate::job::Job;
-use crate::job_fault::JobFault;
+use crate::job::{Job, JobFault};
 use cif_canon::{Asked, Format, Layout};
 use cif_columns::{Day, Uid, are_printable};
 use cif_weeks::Form;
