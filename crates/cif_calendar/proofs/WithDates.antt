@@ -37,9 +37,9 @@ module _ (first last from to w : ℕ) (below : w < 7) (in_order : first ≤ last
   over-week over = (
     λ not. ⊎_elim
         (λ (less : w < from). ⊎_elim
-            (λ (early : w < to - 7). date-near first last w below (omega arith) in_order)
-            (λ late. absurd (not (late, less)))
-            (cases_lt w (to - 7)))
+        (λ (early : w < to - 7). date-near first last w below (omega arith) in_order)
+        (λ late. absurd (not (late, less)))
+        (cases_lt w (to - 7)))
         (λ begun. date-near first last w below (omega arith) in_order)
         (cases_lt w from),
     λ day (late, less). let near = near-date first last w below day in absurd (omega arith),

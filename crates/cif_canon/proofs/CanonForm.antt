@@ -17,7 +17,7 @@ use Rattle.cif_canon.specs.Asked.{header_window}
 use Rattle.cif_canon.specs.Canon.{IsCanonOf}
 use Rattle.cif_canon.specs.Canonical.{IsCanonicalOf}
 use Rattle.cif_canon.specs.Counts.{counts_of}
-use Rattle.cif_canon.specs.declared.counts.Counts.{Counts}
+use Rattle.cif_canon.specs.declared.canonical_form.Counts.{Counts}
 use Rattle.cif_calendar.specs.Entries.{association_entries, schedule_entries}
 use Rattle.cif_canon.specs.Steps.Records.{AreCanonicalRecords}
 use Rattle.cif_weeks.specs.Window.{window_from}

@@ -13,11 +13,11 @@ use Rattle.cif_calendar.specs.Terms.{Terms}
 use Rattle.cif_calendar.proofs.Elements.{Contains-first}
 use Rattle.cif_calendar.proofs.FirstClash.{IsFirstClashOf-clear, IsFirstClashOf-day, IsFirstClashOf-key, first_clash-clear}
 use Rattle.cif_extract.specs.ExtractParts.{ExtractParts}
-use Rattle.cif_extract.specs.declared.clash.Clash.{Clash}
-use Rattle.cif_extract.specs.declared.clash.Clash.TheVariants as named
-use Rattle.cif_extract.specs.declared.schedule.Schedule.{Schedule}
+use Rattle.cif_extract.specs.declared.fault.Clash.{Clash}
+use Rattle.cif_extract.specs.declared.fault.Clash.TheVariants as named
+use Rattle.cif_extract.specs.declared.extract.Schedule.{Schedule}
 use Rattle.cif_records.specs.AssocKey.{key_cmp}
-use Rattle.cif_records.specs.declared.assoc_key.AssocKey.{AssocKey}
+use Rattle.cif_records.specs.declared.association.AssocKey.{AssocKey}
 use Rattle.cif_records.specs.declared.association.Association.{Association}
 use Rattle.cif_records.specs.declared.header.Header.{Header}
 use Rattle.cif_weeks.proofs.RisingLists.{Contains-none, less_one_way, not_less}

@@ -15,8 +15,8 @@ use Rattle.cif_calendar.proofs.Elements.{Contains-cases, Contains-first, Contain
 use Rattle.cif_calendar.proofs.Positions.{at-contains, contains-at}
 use Rattle.cif_columns.specs.Stp.{letter}
 use Rattle.cif_canon.specs.Explanation.{AreExplained, Explained, HasWinningMark, IsMarked, SomeApplies}
-use Rattle.cif_canon.specs.declared.mark.Mark.{Mark}
-use Rattle.cif_canon.specs.declared.mark.Mark.TheVariants as mark
+use Rattle.cif_canon.specs.declared.explained.Mark.{Mark}
+use Rattle.cif_canon.specs.declared.explained.Mark.TheVariants as mark
 
 -- what compares as it does the other way round compares equal
 pub equal-itself : (o : Ordering) → o ≡ ordering_reverse o → o ≡ Equal

@@ -28,8 +28,8 @@ use Rattle.cif_canon.specs.Explanation.{AreExplained, Explained, IsMarked}
 use Rattle.cif_canon.specs.Steps.Explanation.{ArePlacedBelow, ArePlacedInOrder, IsAlike, IsBefore, IsLeast, IsMarkAmong}
 use Rattle.cif_canon.specs.Steps.Explanation.{IsOpposed, IsPlaced}
 use Rattle.cif_canon.specs.Steps.Explanation.{Placed, opposed, placed_at, placed_cmp}
-use Rattle.cif_canon.specs.declared.mark.Mark.{Mark}
-use Rattle.cif_canon.specs.declared.mark.Mark.TheVariants as mark
+use Rattle.cif_canon.specs.declared.explained.Mark.{Mark}
+use Rattle.cif_canon.specs.declared.explained.Mark.TheVariants as mark
 
 All-one : {X : Type 0} (P : X → Type 0) (x : X) → P x → All P (x ∷ [])
 All-one P x h = All-cons P x [] h (All-nil P)

@@ -19,7 +19,7 @@ use Rattle.cif_calendar.specs.declared.calendar_fault.CalendarFault.TheVariants.
 use Rattle.cif_calendar.proofs.NoEntries.{none-clear}
 use Rattle.cif_calendar.proofs.Positions.{at-contains, positions-records}
 use Rattle.cif_calendar.proofs.Sets.{IsFirstClash-same}
-use Rattle.cif_extract.specs.declared.clash.Clash.{Clash}
+use Rattle.cif_extract.specs.declared.fault.Clash.{Clash}
 use Rattle.cif_weeks.proofs.RisingLists.{Contains-none, not_less}
 use Rattle.cif_canon.specs.Clashes.{AreClashes}
 use Rattle.cif_canon.specs.Steps.Clashes.{AreAdded, IsAddedOfKey, IsClashAdded, IsFaultAdded}

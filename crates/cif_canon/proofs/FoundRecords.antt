@@ -28,9 +28,9 @@ use Rattle.cif_canon.specs.Differences.{ComesBefore, OnlySays, RunsApplied, Says
 use Rattle.cif_canon.specs.Steps.OnlySides.{AreDifferentRuns, AreMergedRuns, IsSidedRunOf, RunComesBefore}
 use Rattle.cif_canon.specs.Steps.Records.{IsRunOf}
 use Rattle.cif_canon.specs.Steps.Turns.{IsFirstOfBoth, IsFront, IsRising}
-use Rattle.cif_canon.specs.declared.side.Side.{Side}
-use Rattle.cif_canon.specs.declared.side.Side.TheVariants.{Left, Right}
-use Rattle.cif_canon.specs.declared.side.Sided.{Sided}
+use Rattle.cif_canon.specs.declared.listed_differences.Side.{Side}
+use Rattle.cif_canon.specs.declared.listed_differences.Side.TheVariants.{Left, Right}
+use Rattle.cif_canon.specs.declared.listed_differences.Sided.{Sided}
 use Rattle.cif_canon.proofs.ComparedKeys.{ArePassed, IsLeft, nobody, pass, passed-nothing, turns}
 use Rattle.cif_canon.proofs.MergedSides.{of_side-append, side-member}
 use Rattle.cif_canon.proofs.OnlyRuns.{pairs-zip}

@@ -107,17 +107,24 @@ module _ {K B : Type 0} (entries : List (K × Terms B)) (k : K) (members : List 
   pub key-alone : (form : Form) → AreRunsOfKey form window entries k (run ∷ [])
   key-alone form = record {
     records = record_of run o.body ∷ [];
-    runs_of = (record {
-      dates = refl;
-      terms = t;
-      at = ap (slice_get entries) o.source ∙ at;
-      body = o.has;
-    }, tt);
+    runs_of = (
+      record {
+        dates = refl;
+        terms = t;
+        at = ap (slice_get entries) o.source ∙ at;
+        body = o.has;
+      },
+      tt,
+    );
     rising = λ j l d less below. absurd (omega (arith, less, below));
     have_form = o.have_form form;
     said = record {
-      clear = record { clear = λ d from upto. record { agree = λ r s wins_r wins_s.
-          ap (λ (u : Terms B). u.body) (only-record r wins_r.listed ∙ sym (only-record s wins_s.listed)) } };
+      clear = record {
+        clear = λ d from upto. record {
+          agree = λ r s wins_r wins_s.
+              ap (λ (u : Terms B). u.body) (only-record r wins_r.listed ∙ sym (only-record s wins_s.listed));
+        };
+      };
       say = λ n b within. (
         λ h.
             let is = only-record h.winner h.wins.listed in

@@ -27,9 +27,9 @@ use Rattle.cif_canon.specs.Differences.{TurnInto, TurnLeftIntoRight, of_side}
 use Rattle.cif_canon.specs.Meaning.{Agree}
 use Rattle.cif_canon.specs.Steps.OnlySides.{AreDifferentRuns}
 use Rattle.cif_canon.specs.Steps.Sides.{HasSidedRecord, sided_records}
-use Rattle.cif_canon.specs.declared.side.Side.{Side}
-use Rattle.cif_canon.specs.declared.side.Side.TheVariants.{Left, Right}
-use Rattle.cif_canon.specs.declared.side.Sided.{Sided}
+use Rattle.cif_canon.specs.declared.listed_differences.Side.{Side}
+use Rattle.cif_canon.specs.declared.listed_differences.Side.TheVariants.{Left, Right}
+use Rattle.cif_canon.specs.declared.listed_differences.Sided.{Sided}
 use Rattle.cif_canon.proofs.DifferentTiplocs.{before-greater, equal-tiplocs}
 use Rattle.cif_canon.proofs.FoundRecords.{no-member}
 use Rattle.cif_canon.proofs.MergedSides.{side-member}

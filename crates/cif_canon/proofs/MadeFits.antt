@@ -13,14 +13,14 @@ use Rattle.cif_columns.specs.declared.stp.Stp.TheVariants.{P}
 use Rattle.cif_extract.specs.BodyParts.{BodyParts}
 use Rattle.cif_extract.specs.ExtractParts.{ExtractParts}
 use Rattle.cif_extract.specs.Texts.{AllTablesFit, FitsColumns, schedule_tables, tables_of}
-use Rattle.cif_extract.specs.declared.schedule.Schedule.{Schedule}
+use Rattle.cif_extract.specs.declared.extract.Schedule.{Schedule}
 use Rattle.cif_extract.proofs.PlainTexts.{fit-append, fit-back, fit-front}
 use Rattle.cif_records.specs.Association.{association_rows, association_table}
 use Rattle.cif_records.specs.Basic.{basic_rows}
 use Rattle.cif_records.specs.Tiploc.{tiploc_table}
 use Rattle.cif_records.specs.Trailer.{trailer_table}
-use Rattle.cif_records.specs.declared.assoc_body.AssocBody.{AssocBody}
-use Rattle.cif_records.specs.declared.assoc_key.AssocKey.{AssocKey}
+use Rattle.cif_records.specs.declared.association.AssocBody.{AssocBody}
+use Rattle.cif_records.specs.declared.association.AssocKey.{AssocKey}
 use Rattle.cif_records.specs.declared.association.Association.{Association}
 use Rattle.cif_records.specs.declared.detail.Detail.{Detail}
 use Rattle.cif_records.specs.declared.tiploc.Tiploc.{Tiploc}

@@ -10,7 +10,7 @@ use Rattle.cif_extract.proofs.WrittenLines.{kept_plain}
 use Rattle.cif_records.specs.Basic.{basic_rows}
 use Rattle.cif_records.specs.Record.{record_table}
 use Rattle.cif_canon.specs.Differences.{mark, marked_text}
-use Rattle.cif_canon.specs.declared.side.Side.{Side}
+use Rattle.cif_canon.specs.declared.listed_differences.Side.{Side}
 
 -- the text of one line
 pub marked-line : (side : Side) (line : List ℕ) → mark side ++ (line ++ (10 ∷ [])) ≡ marked_text side (line ∷ [])

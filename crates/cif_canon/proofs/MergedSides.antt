@@ -10,9 +10,9 @@ use Rattle.cif_weeks.proofs.RisingLists.{Contains-none}
 use Rattle.cif_canon.specs.Differences.{is_side, of_side}
 use Rattle.cif_canon.specs.Steps.OnlySides.{AreAppendedRuns, AreMergedRuns, AreMerging, AreRisingRuns, HasMoved}
 use Rattle.cif_canon.specs.Steps.OnlySides.{IsFirstSide, RunComesBefore}
-use Rattle.cif_canon.specs.declared.side.Side.{Side}
-use Rattle.cif_canon.specs.declared.side.Side.TheVariants.{Left, Right}
-use Rattle.cif_canon.specs.declared.side.Sided.{Sided}
+use Rattle.cif_canon.specs.declared.listed_differences.Side.{Side}
+use Rattle.cif_canon.specs.declared.listed_differences.Side.TheVariants.{Left, Right}
+use Rattle.cif_canon.specs.declared.listed_differences.Sided.{Sided}
 
 -- ---- lists with sides
 

@@ -13,7 +13,7 @@ use Rattle.cif_columns.proofs.Parts.{length-plain_line}
 use Rattle.cif_extract.specs.ExtractParts.{ExtractParts}
 use Rattle.cif_extract.specs.SpellsExtract.{BytesSpell}
 use Rattle.cif_extract.specs.Texts.{FitsColumns, extract_text, tables_of}
-use Rattle.cif_extract.specs.declared.schedule.Schedule.{Schedule}
+use Rattle.cif_extract.specs.declared.extract.Schedule.{Schedule}
 use Rattle.cif_extract.proofs.PlainTexts.{text-spells, spelled-fits}
 use Rattle.cif_extract.proofs.SpelledBytes.{one_spelled}
 use Rattle.cif_records.specs.AssocKey.{key_cmp}

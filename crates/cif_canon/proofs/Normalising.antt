@@ -6,8 +6,8 @@ use Rattle.cif_columns.specs.Sink.{HasFailed}
 use Rattle.cif_columns.specs.declared.sink.Sink.{Sink}
 use Rattle.cif_columns.proofs.GivenLinesLaws.{known_so}
 use Rattle.cif_extract.specs.ExtractParts.{ExtractParts}
-use Rattle.cif_extract.specs.declared.clash.Clash.{Clash}
-use Rattle.cif_extract.specs.declared.clash.Clash.TheVariants.{Association, Train}
+use Rattle.cif_extract.specs.declared.fault.Clash.{Clash}
+use Rattle.cif_extract.specs.declared.fault.Clash.TheVariants.{Association, Train}
 use Rattle.cif_extract.specs.declared.fault.Fault.{Fault}
 use Rattle.cif_extract.specs.declared.fault.Fault.TheVariants as fault
 use Rattle.cif_extract.proofs.SpelledBytes.{one_spelled, spelled-refused}
@@ -18,7 +18,7 @@ use Rattle.cif_canon.specs.Canon.{CanonParts, IsCanonOf}
 use Rattle.cif_canon.specs.Fault.{IsCanonFault, IsDeviceOrMemory, IsFirstClashIn, IsNormaliseFault}
 use Rattle.cif_canon.specs.Normalised.{FaultWrites, IsNormalised, Normalises}
 use Rattle.cif_canon.specs.declared.asked.Asked.{Asked}
-use Rattle.cif_canon.specs.declared.counts.Counts.{Counts}
+use Rattle.cif_canon.specs.declared.canonical_form.Counts.{Counts}
 use Rattle.cif_extract.specs.SpellsExtract.{BytesSpellWithin}
 use Rattle.cif_extract.proofs.FirstRefusals.{if_error}
 use Rattle.cif_canon.proofs.HandedFaults.{at-fault, known-fault}

@@ -14,8 +14,8 @@ use Rattle.cif_weeks.proofs.RisingLists.{Contains-none, not_less}
 use Rattle.cif_canon.specs.Differences.{AreDifferentTiplocs, of_side}
 use Rattle.cif_canon.specs.Steps.OnlySides.{AreSifting, HasMoved, IsFirstOrder}
 use Rattle.cif_canon.specs.Steps.Tiplocs.{AreDistinct}
-use Rattle.cif_canon.specs.declared.side.Side.TheVariants.{Left, Right}
-use Rattle.cif_canon.specs.declared.side.Sided.{Sided}
+use Rattle.cif_canon.specs.declared.listed_differences.Side.TheVariants.{Left, Right}
+use Rattle.cif_canon.specs.declared.listed_differences.Sided.{Sided}
 use Rattle.cif_canon.proofs.DifferentTiplocs.{Before, before-greater, equal-tiplocs}
 use Rattle.cif_canon.proofs.MergedSides.{of_side-append, only-one, pairs-head, pairs-one, pairs-tail}
 

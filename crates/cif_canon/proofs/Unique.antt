@@ -10,7 +10,7 @@ use Rattle.cif_calendar.specs.Terms.{Terms}
 use Rattle.cif_calendar.specs.Meaning.{SameMeaning as EntriesSayTheSame}
 use Rattle.cif_extract.specs.ExtractParts.{ExtractParts}
 use Rattle.cif_records.specs.AssocKey.{key_cmp}
-use Rattle.cif_records.specs.declared.assoc_key.AssocKey.{AssocKey}
+use Rattle.cif_records.specs.declared.association.AssocKey.{AssocKey}
 use Rattle.cif_records.specs.declared.tiploc.Tiploc.{Tiploc}
 use Rattle.cif_records.proofs.Headers.{same_header}
 use Rattle.cif_weeks.specs.Permanent.{permanent_entries}

@@ -8,7 +8,7 @@ use Rattle.cif_canon.specs.Canonical.{IsCanonicalOf}
 use Rattle.cif_canon.specs.Counts.{counts_of}
 use Rattle.cif_canon.specs.NormalForm.{IsNormalFormAgain, IsReachedFromForms, IsUnique}
 use Rattle.cif_canon.specs.declared.asked.Asked.{Asked}
-use Rattle.cif_canon.specs.declared.counts.Counts.{Counts}
+use Rattle.cif_canon.specs.declared.canonical_form.Counts.{Counts}
 
 -- what a contract sees of it: its text, and how many records it has
 pub record CanonParts : Type 0 where

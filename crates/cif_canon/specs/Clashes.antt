@@ -11,10 +11,10 @@ use Rattle.cif_calendar.specs.Keys.{of_key}
 use Rattle.cif_calendar.specs.Terms.{Terms}
 use Rattle.cif_extract.specs.Clash.{clash_text}
 use Rattle.cif_extract.specs.ExtractParts.{ExtractParts}
-use Rattle.cif_extract.specs.declared.clash.Clash.{Clash}
-use Rattle.cif_extract.specs.declared.clash.Clash.TheVariants.{Association, Train}
+use Rattle.cif_extract.specs.declared.fault.Clash.{Clash}
+use Rattle.cif_extract.specs.declared.fault.Clash.TheVariants.{Association, Train}
 use Rattle.cif_records.specs.AssocKey.{key_cmp}
-use Rattle.cif_records.specs.declared.assoc_key.AssocKey.{AssocKey}
+use Rattle.cif_records.specs.declared.association.AssocKey.{AssocKey}
 
 -- The clashes from `first` to `last`: the keys of which some day has one, rising, each once and with its first such day. A key that isn't
 -- among them is clear on all these days. `cmp` is the order of the keys.

@@ -11,7 +11,7 @@ use Rattle.cif_calendar.specs.Runs.{Runs}
 use Rattle.cif_calendar.specs.Terms.{Terms}
 use Rattle.cif_extract.specs.Clash.{bracketed, clash_text}
 use Rattle.cif_extract.specs.ExtractParts.{ExtractParts}
-use Rattle.cif_extract.specs.declared.clash.Clash.TheVariants as clash
+use Rattle.cif_extract.specs.declared.fault.Clash.TheVariants as clash
 use Rattle.cif_extract.specs.declared.fault.Fault.{Fault}
 use Rattle.cif_extract.specs.declared.fault.Fault.TheVariants.{Ambiguous, Memory, WindowsDiffer}
 use Rattle.cif_records.specs.AssocKey.{key_cmp}

@@ -1,7 +1,7 @@
 -- How many records an extract has, by kind, and the line that says so.
 use Rattle.std.specs.Prelude.{ℕ, List, ◌++◌, codes, decimal, length}
 use Rattle.cif_extract.specs.ExtractParts.{ExtractParts}
-use Rattle.cif_canon.specs.declared.counts.Counts.{Counts}
+use Rattle.cif_canon.specs.declared.canonical_form.Counts.{Counts}
 
 -- the records of an extract; its header and its trailer aren't counted
 abbrev pub counts_of : ExtractParts → Counts

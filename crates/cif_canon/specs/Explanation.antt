@@ -20,15 +20,15 @@ use Rattle.cif_extract.specs.ExtractParts.{ExtractParts}
 use Rattle.cif_extract.specs.declared.fault.Fault.{Fault}
 use Rattle.cif_extract.specs.declared.fault.Fault.TheVariants.{Memory, OutsideWindow, Write}
 use Rattle.cif_records.specs.AssocKey.{key_cmp}
-use Rattle.cif_records.specs.declared.assoc_body.AssocBody.{AssocBody}
-use Rattle.cif_records.specs.declared.assoc_key.AssocKey.{AssocKey}
+use Rattle.cif_records.specs.declared.association.AssocBody.{AssocBody}
+use Rattle.cif_records.specs.declared.association.AssocKey.{AssocKey}
 use Rattle.cif_weeks.specs.Window.{IsWithin}
 use Rattle.cif_canon.specs.Asked.{header_window}
 use Rattle.cif_canon.specs.Fields.{left_out, line_of}
 use Rattle.cif_canon.specs.Views.{association_fields, association_names, heading, no_association, no_train, train_fields}
 use Rattle.cif_canon.specs.declared.layout.Format.{Format}
-use Rattle.cif_canon.specs.declared.mark.Mark.{Mark}
-use Rattle.cif_canon.specs.declared.mark.Mark.TheVariants as mark
+use Rattle.cif_canon.specs.declared.explained.Mark.{Mark}
+use Rattle.cif_canon.specs.declared.explained.Mark.TheVariants as mark
 
 -- The mark of a record among those of its key: it wins on day d and all winners have its body; or it wins and they haven't; or it
 -- doesn't win.

@@ -6,8 +6,8 @@ use Rattle.cif_calendar.specs.Keys.{AreClear, IsFirstClashOf}
 use Rattle.cif_extract.specs.ExtractParts.{ExtractParts}
 use Rattle.cif_extract.specs.ReadFault.{IsOfReading, IsReadFault}
 use Rattle.cif_extract.specs.SpellsExtract.{BytesSpellWithin}
-use Rattle.cif_extract.specs.declared.clash.Clash.{Clash}
-use Rattle.cif_extract.specs.declared.clash.Clash.TheVariants.{Association, Train}
+use Rattle.cif_extract.specs.declared.fault.Clash.{Clash}
+use Rattle.cif_extract.specs.declared.fault.Clash.TheVariants.{Association, Train}
 use Rattle.cif_extract.specs.declared.fault.Fault.{Fault}
 use Rattle.cif_extract.specs.declared.fault.Fault.TheVariants.{Refused, Ambiguous, WindowsDiffer, OutsideWindow, WindowReversed}
 use Rattle.cif_extract.specs.declared.fault.Fault.TheVariants.{Read, Write, Memory}

@@ -11,7 +11,7 @@ use Rattle.cif_canon.specs.Canonical.{IsCanonicalOf}
 use Rattle.cif_canon.specs.Counts.{counts_of}
 use Rattle.cif_canon.specs.NormalForm.{IsNormalFormAgain, IsReachedFromForms, IsUnique}
 use Rattle.cif_canon.specs.declared.asked.Asked.{Asked}
-use Rattle.cif_canon.specs.declared.counts.Counts.{Counts}
+use Rattle.cif_canon.specs.declared.canonical_form.Counts.{Counts}
 
 -- The input is accepted, in at most max lines and for the window that is asked for, and this is its canonical text and its counts.
 pub record IsNormalised (form : Form) (asked : Asked) (max : ℕ) (input text : List ℕ) (counts : Counts) : Type 0 where

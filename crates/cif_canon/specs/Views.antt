@@ -18,8 +18,8 @@ use Rattle.cif_extract.specs.ExtractParts.{ExtractParts}
 use Rattle.cif_extract.specs.declared.fault.Fault.{Fault}
 use Rattle.cif_extract.specs.declared.fault.Fault.TheVariants.{OutsideWindow, Write}
 use Rattle.cif_records.specs.AssocKey.{key_cmp}
-use Rattle.cif_records.specs.declared.assoc_body.AssocBody.{AssocBody}
-use Rattle.cif_records.specs.declared.assoc_key.AssocKey.{AssocKey}
+use Rattle.cif_records.specs.declared.association.AssocBody.{AssocBody}
+use Rattle.cif_records.specs.declared.association.AssocKey.{AssocKey}
 use Rattle.cif_weeks.specs.Canonical.{AreCanonical}
 use Rattle.cif_weeks.specs.Permanent.{Permanent, permanent_entries}
 use Rattle.cif_weeks.specs.Window.{IsWithin}

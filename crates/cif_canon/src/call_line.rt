@@ -8,8 +8,7 @@ ghost use Rattle.cif_canon.specs.Calls.{terminus_fields};
 ghost use Rattle.cif_canon.specs.Fields.{line_of};
 ghost use Rattle.cif_canon.specs.Steps.Fields.{row_lines};
 
-use crate::layout::{Format, Layout};
-use crate::view_line::{LONGEST, push_field, started};
+use crate::layout::{Format, LONGEST, Layout, push_field, started};
 use arrayvec::ArrayString;
 use cif_columns::{Sink, WriteDevice, WriteFault};
 use cif_extract::{Body, Call, Calls};

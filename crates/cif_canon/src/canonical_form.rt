@@ -1,18 +1,24 @@
-//! The canonical form of an extract.
-ghost use Rattle.std.specs.Prelude.{◌≡◌, false, All, IfErr};
+//! The canonical form of an extract: its counts and its lines.
+ghost use Rattle.std.specs.Prelude.{◌≡◌, ◌≤◌, All, IfErr, false};
 ghost use Rattle.std.specs.List.{flat_map};
+ghost use Rattle.cif_calendar.specs.Entries.{association_entries, schedule_entries};
+ghost use Rattle.cif_calendar.specs.Keys.{keyed};
 ghost use Rattle.cif_columns.specs.Sink.{Writes, sink_failed};
 ghost use Rattle.cif_extract.specs.declared.fault.Fault.TheVariants.{Write};
-ghost use Rattle.cif_calendar.specs.Entries.{association_entries, schedule_entries};
-ghost use Rattle.cif_canon.specs.Steps.Texts.{HasRecord, tiploc_text};
+ghost use Rattle.cif_weeks.specs.Runs.{record_of};
+ghost use Rattle.cif_canon.specs.Counts.{counts_line};
+ghost use Rattle.cif_canon.specs.Steps.Texts.{HasRecord, tiploc_text, run_text};
 
-use crate::Counts;
-use crate::plain_lines::PlainLines;
-use crate::record_lines::write_runs;
-use cif_columns::{Sink, WriteDevice, WriteFault};
-use cif_extract::{Extract, Fault, write_head, write_tiploc, write_trailer};
-use cif_records::Tiploc;
+use arrayvec::ArrayString;
+use cif_calendar::Entry;
+use cif_columns::{Sink, Uid, WriteDevice, WriteFault};
+use cif_extract::{
+    Body, Extract, Fault, Schedule, write_association, write_head, write_schedule, write_tiploc,
+    write_trailer,
+};
+use cif_records::{AssocBody, AssocKey, Association, Tiploc};
 use cif_weeks::Run;
+use itoa::Buffer;
 use std::marker::Model;
 
 /// The canonical form of an extract, from which its bodies are borrowed: a clause sees its text and
@@ -135,4 +141,141 @@ fn write_tiplocs<W: WriteDevice>(tiplocs: &[Tiploc], sink: &mut Sink<W>) -> Resu
         write_tiploc(tiploc, sink)?;
     }
     Ok(())
+}
+
+/// The bytes of the longest line: three numbers of twenty digits each.
+const LONGEST: usize = 106;
+
+/// The numbers of records of an extract, by kind; its header and its trailer aren't counted.
+#[derive(Clone, Copy, Debug, PartialEq, Eq)]
+pub struct Counts {
+    /// The locations, TI.
+    pub tiplocs: u64,
+    /// The associations, AA.
+    pub associations: u64,
+    /// The schedules, each with its BS.
+    pub schedules: u64,
+}
+
+/// Appends the line that says how many records there are, with its line feed.
+pub fn write_counts<W: WriteDevice>(counts: &Counts, sink: &mut Sink<W>) -> Result<(), WriteFault>
+    ensures { Writes W.contents W.write_errors (counts_line counts.now) sink.old sink.new result }
+{
+    sink.write_all(line_of(counts).as_str().as_bytes())
+}
+
+/// The line that says how many records there are.
+#[tactic(auto, unfolding(crate::specs::Counts::counts_line))]
+fn line_of(counts: &Counts) -> ArrayString<LONGEST>
+    ensures { result.bytes ≡ counts_line counts.now }
+{
+    let mut line = ArrayString::new();
+    line.push_str("accepted: ");
+    line.push_str(Buffer::new().format(counts.tiplocs));
+    line.push_str(" tiplocs, ");
+    line.push_str(Buffer::new().format(counts.associations));
+    line.push_str(" associations, ");
+    line.push_str(Buffer::new().format(counts.schedules));
+    line.push_str(" schedules\n");
+    line
+}
+
+/// What is written of canonical records.
+pub(crate) trait RecordLines<E: Entry> {
+    ghost use Rattle.std.specs.Prelude.{ℕ, List};
+    ghost use Rattle.cif_weeks.specs.Permanent.{Permanent};
+
+    // The text of a record with its key.
+    ghost text: { Self → E.Key × Permanent E.Body → List ℕ };
+
+    /// Appends the text of the record with this key and this body, and the dates and the mask of the run.
+    fn write_record<W: WriteDevice>(
+        &self,
+        key: &E::Key,
+        body: &E::Body,
+        run: &Run,
+        sink: &mut Sink<W>,
+    ) -> Result<(), WriteFault>
+        requires going { sink_failed sink.old ≡ false }
+        requires in_order { run.now.first ≤ run.now.last }
+        ensures { Writes W.contents W.write_errors
+            (text self.now (key.now, record_of run.now body.now)) sink.old sink.new result };
+}
+
+/// Appends the lines of the runs' records.
+pub(crate) fn write_runs<E: Entry, L: RecordLines<E>, W: WriteDevice>(
+    lines: &L,
+    entries: &[E],
+    runs: &[Run],
+    sink: &mut Sink<W>,
+) -> Result<(), WriteFault>
+    requires { All (HasRecord (keyed E.key E.terms entries.now)) runs.now }
+    ensures { Writes W.contents W.write_errors
+        (flat_map (run_text (L.text lines.now) (keyed E.key E.terms entries.now)) runs.now)
+        sink.old sink.new result }
+{
+    // Where no line is written, no write would tell it.
+    if sink.failed() {
+        return Err(WriteFault);
+    }
+    for run in runs {
+        write_run(lines, entries, run, sink)?;
+    }
+    Ok(())
+}
+
+/// Appends the lines of the run's record.
+pub(crate) fn write_run<E: Entry, L: RecordLines<E>, W: WriteDevice>(
+    lines: &L,
+    entries: &[E],
+    run: &Run,
+    sink: &mut Sink<W>,
+) -> Result<(), WriteFault>
+    requires going { sink_failed sink.old ≡ false }
+    requires record { HasRecord (keyed E.key E.terms entries.now) run.now }
+    ensures { Writes W.contents W.write_errors
+        (run_text (L.text lines.now) (keyed E.key E.terms entries.now) run.now)
+        sink.old sink.new result }
+{
+    let entry = &entries[run.source];
+    match entry.body() {
+        Some(body) => lines.write_record(entry.key(), body, run, sink),
+        None => unreachable!(),
+    }
+}
+
+/// The plain lines of records, as an extract has them.
+#[derive(Clone, Copy)]
+pub(crate) struct PlainLines;
+
+impl RecordLines<Association> for PlainLines {
+    ghost use Rattle.cif_canon.specs.Steps.Texts.{association_text};
+
+    ghost text = { λ lines. association_text };
+
+    fn write_record<W: WriteDevice>(
+        &self,
+        key: &AssocKey,
+        body: &AssocBody,
+        run: &Run,
+        sink: &mut Sink<W>,
+    ) -> Result<(), WriteFault> {
+        write_association(key, body, run.first, run.last, run.days, sink)
+    }
+}
+
+impl RecordLines<Schedule> for PlainLines {
+    ghost use Rattle.cif_canon.specs.Steps.Texts.{schedule_text};
+
+    ghost text = { λ lines. schedule_text };
+
+    fn write_record<W: WriteDevice>(
+        &self,
+        uid: &Uid,
+        body: &Body,
+        run: &Run,
+        sink: &mut Sink<W>,
+    ) -> Result<(), WriteFault> {
+        write_schedule(uid, body, run.first, run.last, run.days, sink)
+    }
 }

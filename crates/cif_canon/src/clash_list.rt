@@ -21,7 +21,7 @@ pub struct Clashes {
 
 impl Model for Clashes {
     ghost use Rattle.std.specs.Prelude.{List};
-    ghost use Rattle.cif_extract.specs.declared.clash.Clash.{Clash};
+    ghost use Rattle.cif_extract.specs.declared.fault.Clash.{Clash};
 
     ghost Value = { List Clash };
 

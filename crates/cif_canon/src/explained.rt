@@ -1,18 +1,16 @@
 //! The records of a train that apply on a day, with their marks.
-ghost use Rattle.std.specs.Prelude.{◌≡◌, ◌↔◌, ◌+◌, ◌++◌, ◌∷◌, [], ℕ, List, IfOk, IsTrue, OnOk, Some};
-ghost use Rattle.std.specs.Prelude.{length, map, slice_get};
+ghost use Rattle.std.specs.Prelude.{◌≡◌, ◌↔◌, ◌+◌, ◌++◌, ◌∷◌, [], ℕ, List, IfOk, IsTrue, OnOk};
+ghost use Rattle.std.specs.Prelude.{Some, length, map, slice_get};
 ghost use Rattle.cif_calendar.specs.Applies.{Applies};
 ghost use Rattle.cif_calendar.specs.Keys.{keyed};
 ghost use Rattle.cif_calendar.specs.Terms.{Terms};
 ghost use Rattle.cif_canon.specs.Explanation.{AreExplained};
-ghost use Rattle.cif_canon.specs.Steps.Explanation.{ArePlacedBelow, ArePlacedInOrder};
-ghost use Rattle.cif_canon.specs.Steps.Explanation.{IsMarkAmong, Placed, explained_of};
-ghost use Rattle.cif_canon.specs.Steps.Explanation.{opposed, placed_at, placed_cmp, placed_of};
+ghost use Rattle.cif_canon.specs.Steps.Explanation.{ArePlacedBelow, ArePlacedInOrder, IsMarkAmong};
+ghost use Rattle.cif_canon.specs.Steps.Explanation.{Placed, explained_of, opposed, placed_at};
+ghost use Rattle.cif_canon.specs.Steps.Explanation.{placed_cmp, placed_of};
 
-use crate::explained_line::{explained_association, explained_train};
-use crate::layout::Format;
-use crate::mark::Mark;
-use crate::view_line::LONGEST;
+use crate::explanation::{explained_association, explained_train};
+use crate::layout::{Format, LONGEST};
 use arrayvec::ArrayString;
 use cif_calendar::{Entry, same_body};
 use cif_columns::{Day, Uid};
@@ -20,6 +18,17 @@ use cif_extract::Schedule;
 use cif_records::Association;
 use std::alloc::{AllocError, Global};
 use std::cmp::Ordering;
+
+/// What becomes of a record on a day on which it applies.
+#[derive(Clone, Copy, Debug, PartialEq, Eq)]
+pub enum Mark {
+    /// It wins, and so do no records with another body.
+    Wins,
+    /// It wins, and another winner has another body.
+    Clash,
+    /// A record of an earlier letter applies too.
+    Hidden,
+}
 
 /// An entry that can be explained.
 pub(crate) trait ExplainedEntry: Entry {

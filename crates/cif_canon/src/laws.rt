@@ -12,7 +12,7 @@ ghost use Rattle.cif_canon.specs.Explanation.{AreExplained, Explained, HasWinnin
 ghost use Rattle.cif_canon.specs.Explanation.{SomeApplies};
 ghost use Rattle.cif_canon.specs.NormalForm.{IsNormalFormAgain, IsReachedFromForms, IsUnique};
 ghost use Rattle.cif_canon.specs.declared.asked.Asked.{Asked};
-ghost use Rattle.cif_canon.specs.declared.mark.Mark.TheVariants.{Wins};
+ghost use Rattle.cif_canon.specs.declared.explained.Mark.TheVariants.{Wins};
 
 use cif_calendar::Entry;
 

@@ -1,16 +1,22 @@
-//! The canonical form of an input.
-ghost use Rattle.std.specs.Prelude.{◌≤◌, ℕ, List, IfErr, IfOk, IfSome};
+//! The canonical form of an input, or why there is none.
+ghost use Rattle.std.specs.Prelude.{◌≤◌, ◌≡◌, ℕ, List, IfErr, IfOk, IfSome};
+ghost use Rattle.cif_columns.specs.Sink.{Writes};
 ghost use Rattle.cif_columns.specs.Source.{reader_of};
 ghost use Rattle.cif_columns.specs.declared.line_reader.TheConstants.{MAX_LINES};
 ghost use Rattle.cif_extract.specs.ExtractParts.{ExtractParts, extract_parts};
 ghost use Rattle.cif_extract.specs.ReadFault.{FaultReads, LeavesNothing};
 ghost use Rattle.cif_canon.specs.Accepted.{IsAcceptedWithin, SpellsNarrowed};
-ghost use Rattle.cif_canon.specs.Fault.{IsDeviceOrMemory, IsNormaliseFault};
-ghost use Rattle.cif_canon.specs.Fault.{IsOfCheck, IsOfNormalise};
+ghost use Rattle.cif_canon.specs.Canon.{IsCanonOf};
+ghost use Rattle.cif_canon.specs.Fault.{IsDeviceOrMemory, IsNormaliseFault, IsOfCheck};
+ghost use Rattle.cif_canon.specs.Fault.{IsOfNormalise, IsCanonFault};
 ghost use Rattle.cif_canon.specs.Normalised.{FaultWrites, IsNormalised, Normalises};
+ghost use Rattle.cif_canon.specs.Report.{fault_line};
 
-use crate::{Asked, Counts, canon, narrow};
-use cif_columns::{ReadDevice, Sink, Source, WriteDevice};
+use crate::records::extract_runs;
+use crate::tiplocs::distinct_tiplocs;
+use crate::{Asked, Canon, Counts, narrow};
+use arrayvec::ArrayString;
+use cif_columns::{ReadDevice, Sink, Source, WriteDevice, WriteFault};
 use cif_extract::{Extract, Fault, read_extract};
 use cif_weeks::Form;
 use std::alloc::Global;
@@ -145,4 +151,40 @@ fn read_narrowed<R: ReadDevice>(
     let mut extract = read_extract(alloc, source, max_lines)?;
     narrow(&mut extract, asked)?;
     Ok(extract)
+}
+
+/// The canonical form of the extract, or why it has none: Ambiguous with its first clash, associations
+/// before trains, by key and then date; Memory where memory ran out.
+pub fn canon<'a>(alloc: Global, extract: &'a Extract, form: Form) -> Result<Canon<'a>, Fault>
+    ensures ok { IfOk result (IsCanonOf form (extract_parts extract.now)) }
+    ensures fault { IfErr result (IsCanonFault (extract_parts extract.now)) }
+{
+    let Ok(tiplocs) = distinct_tiplocs(alloc, extract.tiplocs.as_slice()) else {
+        return Err(Fault::Memory);
+    };
+    let runs = extract_runs(alloc, extract, form)?;
+    extract.fits();
+    Ok(Canon::of(extract, tiplocs, runs.associations, runs.schedules))
+}
+
+/// The bytes of the longest line: that of associations that clash.
+const LONGEST: usize = 70;
+
+/// Appends the line that names the fault: `cif: `, what it is, and a line feed.
+pub fn report<W: WriteDevice>(fault: &Fault, sink: &mut Sink<W>) -> Result<(), WriteFault>
+    ensures { Writes W.contents W.write_errors (fault_line fault.now) sink.old sink.new result }
+{
+    sink.write_all(line_of(fault).as_str().as_bytes())
+}
+
+/// The line that names the fault.
+#[tactic(auto, unfolding(crate::specs::Report::fault_line))]
+fn line_of(fault: &Fault) -> ArrayString<LONGEST>
+    ensures { result.bytes ≡ fault_line fault.now }
+{
+    let mut line = ArrayString::new();
+    line.push_str("cif: ");
+    line.push_str(fault.text().as_str());
+    line.push_str("\n");
+    line
 }

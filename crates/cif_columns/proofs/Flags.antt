@@ -52,14 +52,14 @@ runs-or a b w = (
       let below : w < 7 = below-runs (bit_or a b) w on in
       let e : bit_at (bit_or a b) w ≡ 1 = bit-runs (bit_or a b) w on in
       ⊎_elim
-          (λ (one : bit_at a w < 1). inr (runs-bit b w below (omega (arith, e, one, bit_at_or a b w, bit_at-lt a w))))
-          (λ one. inl (runs-bit a w below (omega (arith, one, bit_at-lt a w))))
-          (cases_lt (bit_at a w) 1),
+      (λ (one : bit_at a w < 1). inr (runs-bit b w below (omega (arith, e, one, bit_at_or a b w, bit_at-lt a w))))
+      (λ one. inl (runs-bit a w below (omega (arith, one, bit_at-lt a w))))
+      (cases_lt (bit_at a w) 1),
   λ either. ⊎_elim
       (λ on. runs-bit (bit_or a b) w (below-runs a w on)
-          (omega (arith, bit-runs a w on, bit_at_or a b w, bit_at-lt a w, bit_at-lt b w)))
+      (omega (arith, bit-runs a w on, bit_at_or a b w, bit_at-lt a w, bit_at-lt b w)))
       (λ on. runs-bit (bit_or a b) w (below-runs b w on)
-          (omega (arith, bit-runs b w on, bit_at_or a b w, bit_at-lt a w, bit_at-lt b w)))
+      (omega (arith, bit-runs b w on, bit_at_or a b w, bit_at-lt a w, bit_at-lt b w)))
       either,
 )
 
@@ -87,9 +87,9 @@ runs-without a b w within = (
       let below : w < 7 = below-runs a w both.0 in
       let not : bit_at (255 - b) w ≡ 1 - bit_at b w = bit_at_not w8 b w (omega arith) (omega arith) in
       ⊎_elim
-          (λ (none : bit_at b w < 1). (runs-and a (255 - b) w).1 (both.0, runs-bit (255 - b) w below (omega (arith, none, not))))
-          (λ one. absurd (both.1 (runs-bit b w below (omega (arith, one, bit_at-lt b w)))))
-          (cases_lt (bit_at b w) 1),
+      (λ (none : bit_at b w < 1). (runs-and a (255 - b) w).1 (both.0, runs-bit (255 - b) w below (omega (arith, none, not))))
+      (λ one. absurd (both.1 (runs-bit b w below (omega (arith, one, bit_at-lt b w)))))
+      (cases_lt (bit_at b w) 1),
 )
 
 -- the weekdays from one on and before another
@@ -98,12 +98,12 @@ between-runs from to w in_order within = (
   λ on.
       let e : bit_at (2 ^ to - 2 ^ from) w ≡ 1 = bit-runs (2 ^ to - 2 ^ from) w on in
       ⊎_elim
-          (λ (early : w < from). absurd (omega (arith, e, bit_at_mask_below from to w early)))
-          (λ begun. ⊎_elim
-              (λ (early : w < to). (begun, early))
-              (λ late. absurd (omega (arith, e, bit_at_mask_above from to w late)))
-              (cases_lt w to))
-          (cases_lt w from),
+      (λ (early : w < from). absurd (omega (arith, e, bit_at_mask_below from to w early)))
+      (λ begun. ⊎_elim
+      (λ (early : w < to). (begun, early))
+      (λ late. absurd (omega (arith, e, bit_at_mask_above from to w late)))
+      (cases_lt w to))
+      (cases_lt w from),
   λ both. runs-bit (2 ^ to - 2 ^ from) w (omega (arith, both.1)) (bit_at_mask_inside from to w both.0 both.1),
 )
 
@@ -120,7 +120,7 @@ pub runs-between : (from to w : ℕ) → from ≤ to → to ≤ 7
     → RunsOn (flags (1 * 2 ^ to % 256 - 1 * 2 ^ from % 256)) w ↔ ((from ≤ w) × (w < to))
 runs-between from to w in_order within =
     let same : 2 ^ to - 2 ^ from ≡ 1 * 2 ^ to % 256 - 1 * 2 ^ from % 256 =
-        omega (arith, power from (omega (arith, in_order, within)), power to within) in
+    omega (arith, power from (omega (arith, in_order, within)), power to within) in
     subst (λ bits. RunsOn (flags bits) w ↔ ((from ≤ w) × (w < to))) same (between-runs from to w in_order within)
 
 pub has-runs : (bits w : ℕ) → w < 7 → IsTrue (nat_eq (bit_and (bits / 2 ^ w) 1) 1) ↔ RunsOn (flags bits) w
@@ -182,8 +182,11 @@ only-within k within =
 pub runs-only : (k w : ℕ) → k < 7 → RunsOn (flags (1 * 2 ^ k % 256)) w ↔ (w ≡ k)
 runs-only k w within =
     let same : 2 ^ k ≡ 1 * 2 ^ k % 256 = omega (arith, power k (omega arith)) in
-    subst (λ bits. RunsOn (flags bits) w ↔ (w ≡ k)) same (is, λ e. subst (RunsOn (flags (2 ^ k))) (sym e)
-    (runs-bit (2 ^ k) k within (bit_at-pow_same k)))
+    subst (λ bits. RunsOn (flags bits) w ↔ (w ≡ k)) same (
+      is,
+      λ e. subst (RunsOn (flags (2 ^ k))) (sym e)
+          (runs-bit (2 ^ k) k within (bit_at-pow_same k)),
+    )
   where
     no_other : RunsOn (flags (2 ^ k)) w → (w ≢ k) → ⊥
     no_other on other = omega (arith, bit-runs (2 ^ k) w on, bit_at-pow_other k w other)
@@ -201,9 +204,9 @@ runs-zero w on = absurd (omega (arith, bit-runs 0 w on, bit_at-zero w))
 pub zero-runs : (bits : ℕ) → bits < 128 → ((w : ℕ) → ¬ RunsOn (flags bits) w) → bits ≡ 0
 zero-runs bits within none = same_from_bits_below 7 bits 0 within (omega arith) (λ w below.
     ⊎_elim
-        (λ (no : bit_at bits w < 1). omega (arith, no, bit_at-zero w))
-        (λ one. absurd (none w (runs-bit bits w below (omega (arith, one, bit_at-lt bits w)))))
-        (cases_lt (bit_at bits w) 1))
+    (λ (no : bit_at bits w < 1). omega (arith, no, bit_at-zero w))
+    (λ one. absurd (none w (runs-bit bits w below (omega (arith, one, bit_at-lt bits w)))))
+    (cases_lt (bit_at bits w) 1))
 
 pub empty-runs : (bits : ℕ) → bits < 128 → IsTrue (nat_eq bits 0) ↔ ((w : ℕ) → ¬ RunsOn (flags bits) w)
 empty-runs bits within = (
@@ -219,20 +222,22 @@ pub first-of : (bits : ℕ) → 0 < bits → bits < 128 → (trailing_zeros w8 b
 first-of bits some within =
     let (below, set, none) = bit_at-trailing_zeros w8 bits some (omega arith) in
     let seven : trailing_zeros w8 bits < 7 = ⊎_elim
-        (λ h. h)
-        (λ (late : 7 ≤ trailing_zeros w8 bits). absurd (omega (arith, set, bit_at_above bits 7 (trailing_zeros w8 bits) within late)))
-        (cases_lt (trailing_zeros w8 bits) 7) in
-    (seven, record {
-      runs = runs-bit bits (trailing_zeros w8 bits) seven set;
-      none_before = λ other before on. absurd (omega (arith, bit-runs bits other on, none other before));
-    })
+    (λ h. h)
+    (λ (late : 7 ≤ trailing_zeros w8 bits). absurd (omega (arith, set, bit_at_above bits 7 (trailing_zeros w8 bits) within late)))
+    (cases_lt (trailing_zeros w8 bits) 7) in (
+      seven,
+      record {
+        runs = runs-bit bits (trailing_zeros w8 bits) seven set;
+        none_before = λ other before on. absurd (omega (arith, bit-runs bits other on, none other before));
+      },
+    )
 
 -- the highest bit
 top-bit : (bits top p : ℕ) → p ≡ 2 ^ top → p ≤ bits → bits < p + p → bit_at bits top ≡ 1
 top-bit bits top p is low high =
     let split : 1 * 2 ^ top + (bits - p) ≡ bits = omega (arith, is, low) in
     let at : bit_at (1 * 2 ^ top + (bits - p)) top ≡ bit_at 1 (top - top) =
-        bit_at_cat_high 1 top (bits - p) top (omega (arith, is, low, high)) (omega arith) in
+    bit_at_cat_high 1 top (bits - p) top (omega (arith, is, low, high)) (omega arith) in
     let none : top - top ≡ 0 = omega arith in
     subst (λ n. bit_at n top ≡ 1) split (at ∙ subst (λ k. bit_at 1 k ≡ 1) (sym none) refl)
 
@@ -241,14 +246,16 @@ last-from : (bits zeros : ℕ) → bits < 128 → (j : ℕ) × (zeros + suc j �
 last-from bits zeros within (top, sum, low, high) =
     let set : bit_at bits top ≡ 1 = top-bit bits top (2 ^ top) refl low (omega (arith, high)) in
     let below : top < 7 = ⊎_elim
-        (λ (h : top < 7). h)
-        (λ (late : 7 ≤ top). absurd (omega (arith, set, bit_at_above bits 7 top within late)))
-        (cases_lt top 7) in
-    let place : top ≡ 7 - zeros = omega (arith, sum) in
-    (omega (arith, sum, below), subst (IsLastOf (flags bits)) place (record {
-      runs = runs-bit bits top below set;
-      none_after = λ other after on. absurd (omega (arith, bit-runs bits other on, bit_at_above bits (suc top) other high after));
-    }))
+    (λ (h : top < 7). h)
+    (λ (late : 7 ≤ top). absurd (omega (arith, set, bit_at_above bits 7 top within late)))
+    (cases_lt top 7) in
+    let place : top ≡ 7 - zeros = omega (arith, sum) in (
+      omega (arith, sum, below),
+      subst (IsLastOf (flags bits)) place (record {
+        runs = runs-bit bits top below set;
+        none_after = λ other after on. absurd (omega (arith, bit-runs bits other on, bit_at_above bits (suc top) other high after));
+      }),
+    )
 
 pub last-of : (bits : ℕ) → 0 < bits → bits < 128 → (7 - leading_zeros w8 bits < 7) × IsLastOf (flags bits) (7 - leading_zeros w8 bits)
 last-of bits some within = last-from bits (leading_zeros w8 bits) within (leading_top 8 bits some (omega arith))

@@ -4,8 +4,8 @@ use Rattle.std.proofs.Common.{◌∙◌, arith, subst, append_assoc, append-nil,
 use Rattle.std.proofs.lemmas.List.Elements.{All-push}
 use Rattle.std.specs.Io.KnownBytes.{prepend_known}
 use Rattle.std.specs.Str.Lines.{lines}
-use Rattle.cif_columns.specs.declared.line_fault.LineFault.{LineFault}
-use Rattle.cif_columns.specs.declared.line_fault.LineFault.TheVariants.{Refused, Read}
+use Rattle.cif_columns.specs.declared.refusal.LineFault.{LineFault}
+use Rattle.cif_columns.specs.declared.refusal.LineFault.TheVariants.{Refused, Read}
 use Rattle.cif_columns.specs.declared.line_reader.LineReader.{LineReader}
 use Rattle.cif_columns.specs.declared.line_reader.Past.TheVariants.{Reading}
 use Rattle.cif_columns.specs.declared.refusal.Refusal.{Refusal}

@@ -9,7 +9,7 @@ use Rattle.std.proofs.lemmas.List.Sums.{fails_before_first, passes_at_first, spl
 use Rattle.std.specs.List.{slice_index, list_all, before_first, after_first}
 use Rattle.std.specs.Str.Lines.{strip_carriage_return, lines}
 use Rattle.cif_columns.specs.declared.ahead.Found.TheVariants.{Next, Refused}
-use Rattle.cif_columns.specs.declared.line_fault.LineFault.TheVariants as fault
+use Rattle.cif_columns.specs.declared.refusal.LineFault.TheVariants as fault
 use Rattle.cif_columns.specs.declared.refusal.Refusal.{Refusal}
 use Rattle.cif_columns.specs.declared.refusal.Refusal.TheVariants.{BadLength, BadByte, TooManyLines}
 use Rattle.cif_columns.specs.Ahead.{Finds}

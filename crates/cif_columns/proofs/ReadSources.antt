@@ -3,8 +3,8 @@ use Rattle.std.proofs.Common.{ℕ, Option, Err, refl, subst, ◌∙◌}
 use Rattle.cif_columns.specs.Devices.{OneError}
 use Rattle.cif_columns.specs.LineReader.{LineReads}
 use Rattle.cif_columns.specs.Source.{HasFailedToRead, HasReadOn, reader_of}
-use Rattle.cif_columns.specs.declared.line_fault.LineFault.{LineFault}
-use Rattle.cif_columns.specs.declared.line_fault.LineFault.TheVariants.{Refused, Read}
+use Rattle.cif_columns.specs.declared.refusal.LineFault.{LineFault}
+use Rattle.cif_columns.specs.declared.refusal.LineFault.TheVariants.{Refused, Read}
 use Rattle.cif_columns.specs.declared.source.Source.{Source}
 
 module _ {R : Type 0} (errors : R → Option ℕ) where

@@ -3,8 +3,8 @@ use Rattle.std.proofs.Common.{◌≡◌, ℕ, ◌+◌, ◌<◌, List, [], ◌++�
 use Rattle.std.proofs.Common.{drop_of_length-le}
 use Rattle.std.proofs.lemmas.List.{drop-drop}
 use Rattle.std.specs.Io.KnownBytes.{ReadConsumes}
-use Rattle.cif_columns.specs.declared.trial_reader.End.{End}
-use Rattle.cif_columns.specs.declared.trial_reader.End.TheVariants.{Stop, Fail, Again}
+use Rattle.cif_columns.specs.declared.trials.End.{End}
+use Rattle.cif_columns.specs.declared.trials.End.TheVariants.{Stop, Fail, Again}
 use Rattle.cif_columns.specs.End.{bytes_left}
 
 module _ (bytes buf : List ℕ) (at n : ℕ) (given : take n buf ≡ take n (drop at bytes))

@@ -1,7 +1,7 @@
 -- What a trial reader does after its bytes.
 use Rattle.std.specs.Prelude.{ℕ, Bool, true, List, nat_lt, Option, None, Some}
-use Rattle.cif_columns.specs.declared.trial_reader.End.{End}
-use Rattle.cif_columns.specs.declared.trial_reader.End.TheVariants.{Stop, Fail, Again}
+use Rattle.cif_columns.specs.declared.trials.End.{End}
+use Rattle.cif_columns.specs.declared.trials.End.TheVariants.{Stop, Fail, Again}
 
 -- the place to go on from, if there is one, lies below n
 abbrev pub ends_below : End → ℕ → Bool

@@ -1,7 +1,7 @@
 -- The lines that a `LineReader` gives of bytes, one after another, and how that ends.
 use Rattle.std.specs.Prelude.{◌≡◌, ◌⊎◌, ℕ, ◌+◌, ◌≤◌, List, [], ◌∷◌, ◌++◌, length, All, Option, IfSome, IsSomeAnd}
-use Rattle.cif_columns.specs.declared.line_fault.LineFault.{LineFault}
-use Rattle.cif_columns.specs.declared.line_fault.LineFault.TheVariants.{Refused, Read}
+use Rattle.cif_columns.specs.declared.refusal.LineFault.{LineFault}
+use Rattle.cif_columns.specs.declared.refusal.LineFault.TheVariants.{Refused, Read}
 use Rattle.cif_columns.specs.declared.line_reader.LineReader.{LineReader}
 use Rattle.cif_columns.specs.declared.line_reader.Past.TheVariants.{Reading}
 use Rattle.cif_columns.specs.declared.refusal.Refusal.{Refusal}

@@ -3,8 +3,8 @@ use Rattle.std.specs.Prelude.{◌≡◌, ℕ, ◌+◌, ◌<◌, Bool, true, fals
 use Rattle.std.specs.Prelude.{◌≢◌, IfErr, IfOk, IfSome, OnErr, OnSome, drop, length, slice_index, take}
 use Rattle.cif_columns.specs.declared.line.Line.{Line}
 use Rattle.cif_columns.specs.declared.line_reader.LineReader.{LineReader}
-use Rattle.cif_columns.specs.declared.line_fault.LineFault.{LineFault}
-use Rattle.cif_columns.specs.declared.line_fault.LineFault.TheVariants.{Refused, Read}
+use Rattle.cif_columns.specs.declared.refusal.LineFault.{LineFault}
+use Rattle.cif_columns.specs.declared.refusal.LineFault.TheVariants.{Refused, Read}
 use Rattle.cif_columns.specs.declared.line_reader.Past.{Past}
 use Rattle.cif_columns.specs.declared.line_reader.Past.TheVariants.{Reading, Ended, Faulted}
 use Rattle.cif_columns.specs.declared.refusal.Refusal.{Refusal}

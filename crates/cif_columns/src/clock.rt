@@ -1,8 +1,12 @@
-//! What working and public times share: an hour and a minute, or blank columns.
-ghost use Rattle.std.specs.Prelude.{◌≡◌};
+//! Working times and public times: an hour and a minute, or blank columns.
+ghost use Rattle.std.specs.Prelude.{◌≡◌, ℕ, List, Some, IfSome, length};
 ghost use Rattle.cif_columns.specs.Clock.{is_clock, is_blank as all_spaces};
+ghost use Rattle.cif_columns.specs.Line.{ArePrintable};
+ghost use Rattle.cif_columns.specs.PublicTime.{is_public_time as is_public};
+ghost use Rattle.cif_columns.specs.WorkTime.{is_work_time as is_working};
 
-use crate::digits::number_of;
+use crate::day::number_of;
+use std::marker::Model;
 
 /// Whether these are the digits of an hour and a minute, `HHMM`.
 pub(crate) fn is_hhmm(a: u8, b: u8, c: u8, d: u8) -> bool
@@ -19,4 +23,132 @@ pub(crate) fn is_blank(columns: &[u8]) -> bool
     ensures { result ≡ all_spaces columns.now }
 {
     columns.iter().all(|c| *c == b' ')
+}
+
+/// A working time, kept as it stands in its five columns: five spaces, or `HHMM` with an hour
+/// from 00 to 23 and a minute from 00 to 59 and then a space, or `H` for half a minute more
+/// (the CIF End User Specification). A clause sees the columns. Its order is that of the bytes.
+#[derive(Clone, Copy, Debug, PartialEq, Eq, PartialOrd, Ord, Hash)]
+pub struct WorkTime {
+    columns: [u8; 5],
+}
+
+impl Model for WorkTime {
+    ghost use Rattle.std.specs.Prelude.{ℕ, List, IsTrue};
+    ghost use Rattle.cif_columns.specs.WorkTime.{is_work_time};
+
+    ghost Value = { List ℕ };
+
+    ghost view = { λ t. t.columns };
+
+    ghost invariant = { λ t. IsTrue (is_work_time t.columns) };
+
+    ghost inverse = { λ columns. record { columns = columns } };
+}
+
+/// Whether these columns are blank, or an hour, a minute and a space or `H`.
+fn is_work_time(columns: &[u8; 5]) -> bool
+    ensures { result ≡ is_working columns.now }
+{
+    let [a, b, c, d, e] = *columns;
+    is_blank(columns) || (is_hhmm(a, b, c, d) && (e == b' ' || e == b'H'))
+}
+
+impl WorkTime {
+    ghost use Rattle.cif_columns.specs.WorkTime.{StandsIn, work_time_in};
+
+    /// The time in these columns; `None` where they aren't of the form.
+    pub fn read(columns: &[u8; 5]) -> Option<WorkTime>
+        ensures found { IfSome result (StandsIn columns.now) }
+        ensures only { (time : List ℕ) → StandsIn columns.now time → result ≡ Some time }
+        ensures exact { result ≡ work_time_in columns.now }
+    {
+        if is_work_time(columns) {
+            Some(WorkTime { columns: *columns })
+        } else {
+            None
+        }
+    }
+
+    /// The five columns.
+    pub fn write(&self) -> [u8; 5]
+        ensures columns { result ≡ self.now }
+        ensures width { length self.now ≡ 5 }
+        ensures stands { StandsIn result self.now }
+        ensures printable { ArePrintable result }
+        ensures again { work_time_in result ≡ Some self.now }
+    {
+        self.columns
+    }
+
+    /// The same time.
+    pub fn copy(&self) -> WorkTime
+        ensures { result ≡ self.now }
+    {
+        *self
+    }
+}
+
+/// A public time, kept as it stands in its four columns: four spaces, or `HHMM` with an hour
+/// from 00 to 23 and a minute from 00 to 59 (the CIF End User Specification). `0000` and blank
+/// differ. A clause sees the columns. Its order is that of the bytes.
+#[derive(Clone, Copy, Debug, PartialEq, Eq, PartialOrd, Ord, Hash)]
+pub struct PublicTime {
+    columns: [u8; 4],
+}
+
+impl Model for PublicTime {
+    ghost use Rattle.std.specs.Prelude.{ℕ, List, IsTrue};
+    ghost use Rattle.cif_columns.specs.PublicTime.{is_public_time};
+
+    ghost Value = { List ℕ };
+
+    ghost view = { λ t. t.columns };
+
+    ghost invariant = { λ t. IsTrue (is_public_time t.columns) };
+
+    ghost inverse = { λ columns. record { columns = columns } };
+}
+
+/// Whether these columns are blank, or an hour and a minute.
+fn is_public_time(columns: &[u8; 4]) -> bool
+    ensures { result ≡ is_public columns.now }
+{
+    let [a, b, c, d] = *columns;
+    is_blank(columns) || is_hhmm(a, b, c, d)
+}
+
+impl PublicTime {
+    ghost use Rattle.cif_columns.specs.PublicTime.{StandsIn, public_time_in};
+
+    /// The time in these columns; `None` where they aren't of the form.
+    pub fn read(columns: &[u8; 4]) -> Option<PublicTime>
+        ensures found { IfSome result (StandsIn columns.now) }
+        ensures only { (time : List ℕ) → StandsIn columns.now time → result ≡ Some time }
+        ensures exact { result ≡ public_time_in columns.now }
+    {
+        if is_public_time(columns) {
+            Some(PublicTime { columns: *columns })
+        } else {
+            None
+        }
+    }
+
+    /// The four columns.
+    pub fn write(&self) -> [u8; 4]
+        ensures columns { result ≡ self.now }
+        ensures width { length self.now ≡ 4 }
+        ensures stands { StandsIn result self.now }
+        ensures printable { ArePrintable result }
+        ensures again { public_time_in result ≡ Some self.now }
+    {
+        self.columns
+    }
+
+    /// The same time.
+    pub fn copy(&self) -> PublicTime
+        ensures { result ≡ self.now }
+    {
+        *self
+    }
 }

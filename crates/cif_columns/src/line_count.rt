@@ -5,10 +5,9 @@ ghost use Rattle.cif_columns.specs.LineReader.{LineReads};
 ghost use Rattle.cif_columns.specs.Source.{reader_of, source_failed};
 ghost use Rattle.cif_columns.specs.declared.line_reader.TheConstants.{MAX_LINES};
 
-use crate::line_fault::LineFault;
 use crate::line_reader::LineReader;
-use crate::read_device::ReadDevice;
-use crate::source::Source;
+use crate::refusal::LineFault;
+use crate::source::{ReadDevice, Source};
 
 /// How many lines the source has, of which at most `max_lines` may come, or why it has no further
 /// line.

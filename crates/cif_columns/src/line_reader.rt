@@ -4,9 +4,8 @@ ghost use Rattle.cif_columns.specs.declared.line_reader.TheConstants.{MAX_LINES}
 
 use crate::ahead::{Ahead, Found};
 use crate::line::{LINE_WIDTH, Line};
-use crate::line_fault::LineFault;
-use crate::read_device::ReadDevice;
-use crate::source::Source;
+use crate::refusal::LineFault;
+use crate::source::{ReadDevice, Source};
 
 /// The most lines that a reader may be asked to give.
 pub const MAX_LINES: u64 = 100_000_000;

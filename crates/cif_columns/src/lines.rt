@@ -1,9 +1,11 @@
-//! Lines that are kept as they are written.
-ghost use Rattle.std.specs.Prelude.{◌≡◌, ◌++◌, ◌∷◌, [], OnOk, IfOk};
+//! Lines that are kept as they are written, and parts of them.
+ghost use Rattle.std.specs.Prelude.{◌≡◌, ◌++◌, ◌∷◌, [], ◌<◌, ◌≤◌, ◌↔◌, OnOk, IfOk, IsTrue, All};
+ghost use Rattle.std.specs.Prelude.{drop, length, slice_index_or, take};
+ghost use Rattle.cif_columns.specs.Contents.{lines_text};
+ghost use Rattle.cif_columns.specs.Line.{IsLine};
 ghost use Rattle.cif_columns.specs.Lines.{IsLineText, lines_in};
 
-use crate::line::{LINE_TEXT_WIDTH, Line};
-use crate::line_slice::LineSlice;
+use crate::line::{LINE_TEXT_WIDTH, LINE_WIDTH, Line};
 use std::alloc::{AllocError, Global};
 use std::marker::Model;
 
@@ -75,5 +77,114 @@ impl Lines {
         ensures { result ≡ self.now }
     {
         LineSlice::of(self.texts.as_slice())
+    }
+}
+
+/// A part of `Lines`. A clause sees the list of the lines.
+#[derive(Debug, Drop)]
+pub struct LineSlice<'a> {
+    texts: &'a [[u8; LINE_TEXT_WIDTH]],
+}
+
+impl<'a> Model for LineSlice<'a> {
+    ghost use Rattle.std.specs.Prelude.{ℕ, All, List};
+    ghost use Rattle.cif_columns.specs.Lines.{IsLineText, lines_in};
+
+    ghost Value = { List (List ℕ) };
+
+    ghost view = { λ s. lines_in s.texts.now };
+
+    ghost invariant = { λ s. All IsLineText s.texts.now };
+}
+
+impl<'a> LineSlice<'a> {
+    /// The lines of these texts.
+    pub(crate) fn of(texts: &'a [[u8; LINE_TEXT_WIDTH]]) -> LineSlice<'a>
+        requires { All IsLineText texts.now }
+        ensures { result ≡ lines_in texts.now }
+    {
+        LineSlice { texts }
+    }
+
+    /// How many lines there are.
+    pub fn len(&self) -> usize
+        ensures { result ≡ length self.now }
+    {
+        self.texts.len()
+    }
+
+    /// The line at this place, counted from 0.
+    pub fn line(&self, at: usize) -> Line
+        requires { at < length self.now }
+        ensures { result ≡ slice_index_or self.now at [] }
+    {
+        let text = self.text_at(at);
+        match text.first_chunk::<LINE_WIDTH>() {
+            Some(columns) => Line::of_printable(columns),
+            None => unreachable!(),
+        }
+    }
+
+    /// The text of the line at this place.
+    fn text_at(&self, at: usize) -> &'a [u8; LINE_TEXT_WIDTH]
+        requires { at < length self.now }
+        ensures line { take 80 result.now ≡ slice_index_or self.now at [] }
+        ensures text { IsLineText result.now }
+    {
+        match self.texts.get(at) {
+            Some(text) => text,
+            None => unreachable!(),
+        }
+    }
+
+    /// The lines behind the first `count`.
+    pub fn behind(&self, count: usize) -> LineSlice<'a>
+        requires { count ≤ length self.now }
+        ensures { result ≡ drop count self.now }
+    {
+        LineSlice {
+            texts: &self.texts[count..],
+        }
+    }
+
+    /// The first `count` lines.
+    pub fn first(&self, count: usize) -> LineSlice<'a>
+        requires { count ≤ length self.now }
+        ensures { result ≡ take count self.now }
+    {
+        LineSlice {
+            texts: &self.texts[..count],
+        }
+    }
+
+    /// A law for proofs: each of them is a line.
+    #[inline]
+    pub fn are_lines(&self)
+        ensures { All IsLine self.now }
+    {
+        let _ = &self.texts;
+    }
+
+    /// The text of the lines, each with its line feed.
+    pub fn text(&self) -> &'a [u8]
+        ensures { result.now ≡ lines_text self.now }
+    {
+        self.texts.as_flattened()
+    }
+
+    /// The texts of the lines.
+    pub(crate) fn texts(&self) -> &'a [[u8; LINE_TEXT_WIDTH]]
+        ensures lines { lines_in result.now ≡ self.now }
+        ensures texts { All IsLineText result.now }
+    {
+        self.texts
+    }
+
+    /// Whether these are the same lines.
+    pub fn is(&self, other: &LineSlice<'_>) -> bool
+        ensures { IsTrue result ↔ (self.now ≡ other.now) }
+    {
+        // One behind another they are compared by many bytes at a time.
+        self.texts.as_flattened() == other.texts.as_flattened()
     }
 }

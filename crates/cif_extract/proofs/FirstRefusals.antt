@@ -15,8 +15,8 @@ use Rattle.cif_columns.specs.Line.{IsLine}
 use Rattle.cif_columns.specs.LineReader.{IsNextFault, LineReads, left}
 use Rattle.cif_columns.specs.Source.{HasReadOn}
 use Rattle.cif_columns.specs.declared.line.Line.{Line}
-use Rattle.cif_columns.specs.declared.line_fault.LineFault.{LineFault}
-use Rattle.cif_columns.specs.declared.line_fault.LineFault.TheVariants as line_fault
+use Rattle.cif_columns.specs.declared.refusal.LineFault.{LineFault}
+use Rattle.cif_columns.specs.declared.refusal.LineFault.TheVariants as line_fault
 use Rattle.cif_columns.specs.declared.line_reader.LineReader.{LineReader}
 use Rattle.cif_columns.specs.declared.refusal.Refusal.{Refusal}
 use Rattle.cif_columns.specs.declared.refusal.Refusal.TheVariants as refusal

@@ -14,7 +14,7 @@ use Rattle.cif_extract.specs.declared.place.Place.{Place}
 use Rattle.cif_extract.specs.declared.place.Place.TheVariants as at
 use Rattle.cif_records.specs.Origin.{origin_table}
 use Rattle.cif_records.specs.Terminus.{terminus_table}
-use Rattle.cif_records.specs.declared.kind.Kind.TheVariants.{Bs, Lo, Lt}
+use Rattle.cif_records.specs.declared.record.Kind.TheVariants.{Bs, Lo, Lt}
 use Rattle.cif_records.specs.declared.origin.Origin.{Origin}
 use Rattle.cif_records.specs.declared.record.Record.{Record}
 use Rattle.cif_records.specs.declared.record.Record.TheVariants as of

@@ -8,13 +8,13 @@ use Rattle.cif_extract.specs.Grammar.{AreExtract, AreJourney, AreSchedule, AreSc
 use Rattle.cif_extract.specs.SpellsExtract.{SpellAll, SpellExtract}
 use Rattle.cif_extract.specs.declared.call.Call.{Call}
 use Rattle.cif_extract.specs.declared.call.Call.TheVariants.{At, Turn}
-use Rattle.cif_extract.specs.declared.schedule.Schedule.{Schedule}
+use Rattle.cif_extract.specs.declared.extract.Schedule.{Schedule}
 use Rattle.cif_records.specs.declared.association.Association.{Association}
 use Rattle.cif_records.specs.declared.basic.Basic.{Basic}
 use Rattle.cif_records.specs.declared.detail.Detail.{Detail}
 use Rattle.cif_records.specs.declared.extra.Extra.{Extra}
-use Rattle.cif_records.specs.declared.kind.Kind.{Kind}
-use Rattle.cif_records.specs.declared.kind.Kind.TheVariants.{Ti, Aa, Bs, Bx, Lt, Zz}
+use Rattle.cif_records.specs.declared.record.Kind.{Kind}
+use Rattle.cif_records.specs.declared.record.Kind.TheVariants.{Ti, Aa, Bs, Bx, Lt, Zz}
 use Rattle.cif_records.specs.declared.origin.Origin.{Origin}
 use Rattle.cif_records.specs.declared.record.Record.{Record}
 use Rattle.cif_records.specs.declared.record.Record.TheVariants as of

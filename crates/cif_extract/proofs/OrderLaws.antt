@@ -16,14 +16,14 @@ use Rattle.cif_extract.specs.declared.call.Call.{Call}
 use Rattle.cif_extract.specs.declared.call.Call.TheVariants.{At, Turn}
 use Rattle.cif_extract.specs.declared.place.Place.{Place}
 use Rattle.cif_extract.specs.declared.place.Place.TheVariants as at
-use Rattle.cif_extract.specs.declared.schedule.Schedule.{Schedule}
+use Rattle.cif_extract.specs.declared.extract.Schedule.{Schedule}
 use Rattle.cif_records.specs.Bodies.{has_body}
 use Rattle.cif_records.specs.Record.{SpellsRecord}
 use Rattle.cif_records.specs.declared.association.Association.{Association}
 use Rattle.cif_records.specs.declared.basic.Basic.{Basic}
 use Rattle.cif_records.specs.declared.detail.Detail.{Detail}
 use Rattle.cif_records.specs.declared.extra.Extra.{Extra}
-use Rattle.cif_records.specs.declared.kind.Kind.TheVariants.{Aa, Bs, Zz}
+use Rattle.cif_records.specs.declared.record.Kind.TheVariants.{Aa, Bs, Zz}
 use Rattle.cif_records.specs.declared.origin.Origin.{Origin}
 use Rattle.cif_records.specs.declared.record.Record.{Record}
 use Rattle.cif_records.specs.declared.record.Record.TheVariants as of

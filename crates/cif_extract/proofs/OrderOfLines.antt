@@ -20,7 +20,7 @@ use Rattle.cif_records.specs.Kind.{kind_in}
 use Rattle.cif_records.specs.Record.{record_table}
 use Rattle.cif_records.specs.declared.basic.Basic.{Basic}
 use Rattle.cif_records.specs.declared.detail.Detail.{Detail}
-use Rattle.cif_records.specs.declared.kind.Kind.{Kind}
+use Rattle.cif_records.specs.declared.record.Kind.{Kind}
 use Rattle.cif_records.specs.declared.record.Record.{Record}
 use Rattle.cif_records.specs.declared.record.Record.TheVariants as of
 use Rattle.cif_records.proofs.Records as records

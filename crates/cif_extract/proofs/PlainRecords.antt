@@ -7,7 +7,7 @@ use Rattle.cif_extract.specs.BodyParts.{BodyParts, extra_records, journey_record
 use Rattle.cif_extract.specs.ExtractParts.{ExtractParts}
 use Rattle.cif_extract.specs.Grammar.{AreExtract, AreSchedule, AreSchedules, HaveBody, records_before_trailer}
 use Rattle.cif_extract.specs.Texts.{body_tables, extract_tables, tables_of}
-use Rattle.cif_extract.specs.declared.schedule.Schedule.{Schedule}
+use Rattle.cif_extract.specs.declared.extract.Schedule.{Schedule}
 use Rattle.cif_records.specs.Association.{association_table}
 use Rattle.cif_records.specs.Header.{header_table}
 use Rattle.cif_records.specs.Record.{record_table}

@@ -13,7 +13,7 @@ use Rattle.cif_extract.specs.ExtractParts.{ExtractParts}
 use Rattle.cif_extract.specs.Grammar.{AreExtract, AreSchedule, AreSchedules, HaveBody}
 use Rattle.cif_extract.specs.SpellsExtract.{BytesSpell, SpellAll, SpellExtract}
 use Rattle.cif_extract.specs.Texts.{AllTablesFit, FitsColumns, body_tables, extract_lines, extract_text, tables_of}
-use Rattle.cif_extract.specs.declared.schedule.Schedule.{Schedule}
+use Rattle.cif_extract.specs.declared.extract.Schedule.{Schedule}
 use Rattle.cif_records.specs.Basic.{basic_rows}
 use Rattle.cif_records.specs.Association.{association_table}
 use Rattle.cif_records.specs.Record.{record_table}

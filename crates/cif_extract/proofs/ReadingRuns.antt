@@ -31,8 +31,8 @@ use Rattle.cif_records.specs.Record.{refusal_as, SpellsRecord}
 use Rattle.cif_records.specs.declared.basic.Basic.{Basic}
 use Rattle.cif_records.specs.declared.detail.Detail.{Detail}
 use Rattle.cif_records.specs.declared.header.Header.{Header}
-use Rattle.cif_records.specs.declared.kind.Kind.{Kind}
-use Rattle.cif_records.specs.declared.kind.Kind.TheVariants.{Zz}
+use Rattle.cif_records.specs.declared.record.Kind.{Kind}
+use Rattle.cif_records.specs.declared.record.Kind.TheVariants.{Zz}
 use Rattle.cif_records.specs.declared.record.Record.{Record}
 use Rattle.cif_records.specs.declared.record.Record.TheVariants as of
 use Rattle.cif_extract.proofs.FirstRefusals.{none_refused-more, none_refused-none}

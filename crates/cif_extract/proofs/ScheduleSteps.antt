@@ -11,7 +11,7 @@ use Rattle.cif_extract.specs.Steps.Reading.{Progress, begun, begun_journey, kept
 use Rattle.cif_extract.specs.declared.call.Call.{Call}
 use Rattle.cif_extract.specs.declared.place.Place.{Place}
 use Rattle.cif_extract.specs.declared.place.Place.TheVariants as at
-use Rattle.cif_extract.specs.declared.schedule.Schedule.{Schedule}
+use Rattle.cif_extract.specs.declared.extract.Schedule.{Schedule}
 use Rattle.cif_records.specs.Basic.{terms_of}
 use Rattle.cif_records.specs.Bodies.{has_body}
 use Rattle.cif_records.specs.Detail.{detail_table}
@@ -20,7 +20,7 @@ use Rattle.cif_records.specs.declared.basic.Basic.{Basic}
 use Rattle.cif_records.specs.declared.basic.BasicTerms.{BasicTerms}
 use Rattle.cif_records.specs.declared.detail.Detail.{Detail}
 use Rattle.cif_records.specs.declared.extra.Extra.{Extra}
-use Rattle.cif_records.specs.declared.kind.Kind.TheVariants.{Bs, Bx, Lo, Li}
+use Rattle.cif_records.specs.declared.record.Kind.TheVariants.{Bs, Bx, Lo, Li}
 use Rattle.cif_records.specs.declared.origin.Origin.{Origin}
 use Rattle.cif_records.specs.declared.record.Record.{Record}
 use Rattle.cif_records.specs.declared.record.Record.TheVariants as of

@@ -6,7 +6,7 @@ use Rattle.cif_columns.specs.declared.stp.Stp.{Stp}
 use Rattle.cif_extract.specs.Body.{parts_in}
 use Rattle.cif_extract.specs.BodyParts.{BodyParts}
 use Rattle.cif_extract.specs.Steps.Reading.{closed, schedule_of, with_schedule}
-use Rattle.cif_extract.specs.declared.schedule.Schedule.{Schedule}
+use Rattle.cif_extract.specs.declared.extract.Schedule.{Schedule}
 use Rattle.cif_records.specs.Bodies.{has_body}
 use Rattle.cif_records.specs.declared.basic.BasicTerms.{BasicTerms}
 

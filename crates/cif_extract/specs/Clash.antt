@@ -2,9 +2,9 @@
 use Rattle.std.specs.Prelude.{ℕ, List, ◌++◌, codes}
 use Rattle.cif_columns.specs.DayDigits.{yymmdd_of}
 use Rattle.cif_columns.specs.Text.{left_justified}
-use Rattle.cif_extract.specs.declared.clash.Clash.{Clash}
-use Rattle.cif_extract.specs.declared.clash.Clash.TheVariants.{Association, Train}
-use Rattle.cif_records.specs.declared.assoc_key.AssocKey.{AssocKey}
+use Rattle.cif_extract.specs.declared.fault.Clash.{Clash}
+use Rattle.cif_extract.specs.declared.fault.Clash.TheVariants.{Association, Train}
+use Rattle.cif_records.specs.declared.association.AssocKey.{AssocKey}
 
 -- columns between brackets
 abbrev pub bracketed : List ℕ → List ℕ

@@ -12,8 +12,8 @@ use Rattle.cif_extract.specs.declared.place.Place.{Place}
 use Rattle.cif_records.specs.Checks.{first_of, unless}
 use Rattle.cif_records.specs.Kind.{kind_in}
 use Rattle.cif_records.specs.Record.{record_refusal}
-use Rattle.cif_records.specs.declared.kind.Kind.{Kind}
-use Rattle.cif_records.specs.declared.kind.Kind.TheVariants.{Zz}
+use Rattle.cif_records.specs.declared.record.Kind.{Kind}
+use Rattle.cif_records.specs.declared.record.Kind.TheVariants.{Zz}
 
 -- why a line whose columns 1 and 2 name this kind may not stand there; one that names none is refused as a record
 abbrev pub order_refusal : Place → Option Kind → Option Refusal

@@ -4,7 +4,7 @@ use Rattle.std.specs.Prelude.{◌≡◌, ◌⊎◌, List, [], ◌∷◌, ◌++�
 use Rattle.cif_extract.specs.BodyParts.{BodyParts, extra_records, journey_records}
 use Rattle.cif_extract.specs.ExtractParts.{ExtractParts}
 use Rattle.cif_extract.specs.declared.call.Call.{Call}
-use Rattle.cif_extract.specs.declared.schedule.Schedule.{Schedule}
+use Rattle.cif_extract.specs.declared.extract.Schedule.{Schedule}
 use Rattle.cif_records.specs.declared.basic.Basic.{Basic}
 use Rattle.cif_records.specs.declared.detail.Detail.{Detail}
 use Rattle.cif_records.specs.declared.extra.Extra.{Extra}

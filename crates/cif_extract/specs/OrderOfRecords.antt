@@ -8,8 +8,8 @@ use Rattle.cif_extract.specs.declared.place.Place.{Place}
 use Rattle.cif_extract.specs.declared.place.Place.TheVariants.{Start, Tiplocs, Associations, Basic, Extra, Cancelled, CancelledExtra}
 use Rattle.cif_extract.specs.declared.place.Place.TheVariants.{Journey, Schedules, Ended}
 use Rattle.cif_records.specs.Kind.{identity, is_identity, kind_in}
-use Rattle.cif_records.specs.declared.kind.Kind.{Kind}
-use Rattle.cif_records.specs.declared.kind.Kind.TheVariants.{Hd, Ti, Ta, Td, Aa, Bs, Bx, Lo, Li, Cr, Lt, Zz}
+use Rattle.cif_records.specs.declared.record.Kind.{Kind}
+use Rattle.cif_records.specs.declared.record.Kind.TheVariants.{Hd, Ti, Ta, Td, Aa, Bs, Bx, Lo, Li, Cr, Lt, Zz}
 
 -- the kinds that may stand there, place by place; TA and TD may where TI may, and are refused for what they are
 abbrev pub kinds_at : Place → List Kind

@@ -7,7 +7,7 @@ use Rattle.cif_columns.specs.Field.{AllFit, Row, plain_line}
 use Rattle.cif_columns.specs.declared.stp.Stp.{Stp}
 use Rattle.cif_extract.specs.BodyParts.{BodyParts, body_records}
 use Rattle.cif_extract.specs.ExtractParts.{ExtractParts}
-use Rattle.cif_extract.specs.declared.schedule.Schedule.{Schedule}
+use Rattle.cif_extract.specs.declared.extract.Schedule.{Schedule}
 use Rattle.cif_records.specs.Basic.{basic_rows}
 use Rattle.cif_records.specs.Association.{association_table}
 use Rattle.cif_records.specs.Header.{header_table}

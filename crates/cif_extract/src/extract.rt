@@ -1,6 +1,10 @@
-//! A whole extract.
-use crate::Schedule;
-use cif_records::{Association, Header, Tiploc};
+//! A whole extract, and a schedule of a train.
+ghost use Rattle.std.specs.Prelude.{◌≡◌, ◌≤◌, is_some};
+ghost use Rattle.cif_records.specs.Bodies.{has_body};
+
+use crate::Body;
+use cif_columns::{Day, DaysRun, Stp, Uid};
+use cif_records::{Association, BasicTerms, Header, Tiploc};
 
 /// The records of an extract, in file order and with repeats.
 #[derive(Debug, Drop)]
@@ -13,4 +17,109 @@ pub struct Extract {
     pub associations: Vec<Association>,
     /// The schedules.
     pub schedules: Vec<Schedule>,
+}
+
+// What an extract says fits the columns of lines. That is known of each value where it is at hand. So the
+// functions `fits` go through the values and do nothing: the compiler leaves nothing of them.
+impl Extract {
+    ghost use Rattle.std.specs.Prelude.{map};
+    ghost use Rattle.std.specs.List.{flat_map};
+    ghost use Rattle.cif_extract.specs.ExtractParts.{extract_parts};
+    ghost use Rattle.cif_extract.specs.Texts.{AllTablesFit, FitsColumns, tables_of};
+    ghost use Rattle.cif_records.specs.Association.{association_table};
+
+    /// A law for proofs: what an extract says fits the columns of lines. So its text spells it.
+    #[inline]
+    pub fn fits(&self)
+        ensures { FitsColumns (extract_parts self.now) }
+    {
+        Extract::associations_fit(self.associations.as_slice());
+        Extract::schedules_fit(self.schedules.as_slice());
+    }
+
+    #[inline]
+    fn associations_fit(associations: &[Association])
+        ensures { AllTablesFit (map association_table associations.now) }
+    {
+        for association in associations {
+            association.fits();
+        }
+    }
+
+    #[inline]
+    fn schedules_fit(schedules: &[Schedule])
+        ensures { AllTablesFit (flat_map tables_of schedules.now) }
+    {
+        for schedule in schedules {
+            schedule.fits();
+        }
+    }
+}
+
+/// A schedule (the CIF End User Specification): on which dates a body runs, or is cancelled.
+#[derive(Debug, Drop, PartialEq, Eq)]
+pub struct Schedule {
+    /// The train.
+    pub uid: Uid,
+    /// The first date.
+    pub first: Day,
+    /// The last date.
+    pub last: Day,
+    /// The weekdays on which it applies.
+    pub days: DaysRun,
+    /// The indicator of short-term planning.
+    pub letter: Stp,
+    /// What runs; absent exactly for a cancellation.
+    pub body: Option<Body>,
+    ghost in_order: { first ≤ last },
+    ghost bodied: { is_some body ≡ has_body letter },
+}
+
+impl Schedule {
+    ghost use Rattle.std.specs.Prelude.{option_copied};
+    ghost use Rattle.std.specs.Option.{option_map};
+    ghost use Rattle.cif_columns.specs.Field.{AllFit};
+    ghost use Rattle.cif_extract.specs.BodyParts.{BodyParts};
+    ghost use Rattle.cif_extract.specs.Steps.Reading.{schedule_of};
+    ghost use Rattle.cif_extract.specs.Texts.{AllTablesFit, body_tables, tables_of};
+    ghost use Rattle.cif_records.specs.Detail.{detail_rows};
+
+    /// The schedule of these terms, with this body or none.
+    pub(crate) fn of(terms: BasicTerms, body: Option<Body>) -> Schedule
+        requires { is_some body ≡ has_body terms.letter }
+        ensures { (bodied : is_some body ≡ has_body terms.letter)
+            → result ≡ schedule_of terms body bodied }
+    {
+        Schedule {
+            uid: terms.uid,
+            first: terms.first,
+            last: terms.last,
+            days: terms.days,
+            letter: terms.letter,
+            body,
+        }
+    }
+
+    /// A law for proofs: what a schedule says fits its columns.
+    #[inline]
+    pub fn fits(&self)
+        ensures { AllTablesFit (tables_of self.now) }
+    {
+        self.uid.fits();
+        self.first.fits();
+        self.last.fits();
+        self.days.fits();
+        Schedule::body_fits(self.body.as_ref());
+    }
+
+    #[inline]
+    fn body_fits(body: Option<&Body>)
+        ensures detail { AllFit
+            (detail_rows (option_map (λ (b : BodyParts). b.detail) (option_copied body.entry))) }
+        ensures further { AllTablesFit (body_tables (option_copied body.entry)) }
+    {
+        if let Some(body) = body {
+            body.fits();
+        }
+    }
 }

@@ -4,23 +4,16 @@
 
 mod body;
 mod call;
-mod calls;
-mod clash;
 mod extract;
 mod fault;
-mod fits;
 pub mod laws;
 mod place;
 mod reading;
-mod schedule;
 mod writing;
 
 pub use body::Body;
-pub use call::Call;
-pub use calls::Calls;
-pub use clash::Clash;
-pub use extract::Extract;
-pub use fault::Fault;
+pub use call::{Call, Calls};
+pub use extract::{Extract, Schedule};
+pub use fault::{Clash, Fault};
 pub use reading::read_extract;
-pub use schedule::Schedule;
 pub use writing::{write_association, write_head, write_schedule, write_tiploc, write_trailer};

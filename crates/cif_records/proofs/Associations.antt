@@ -8,8 +8,8 @@ use Rattle.cif_columns.proofs.FieldLaws.{one_date_value, one_indicator, one_text
 use Rattle.cif_columns.proofs.Masks.{days_of-stands}
 use Rattle.cif_records.specs.Association.{association_refusal, SpellsAssociation, SpellsBody}
 use Rattle.cif_records.specs.Bodies.{has_body}
-use Rattle.cif_records.specs.declared.assoc_body.AssocBody.{AssocBody}
-use Rattle.cif_records.specs.declared.assoc_key.AssocKey.{AssocKey}
+use Rattle.cif_records.specs.declared.association.AssocBody.{AssocBody}
+use Rattle.cif_records.specs.declared.association.AssocKey.{AssocKey}
 use Rattle.cif_records.specs.declared.association.Association.{Association}
 use Rattle.cif_records.proofs.Judging.{dates_fine}
 

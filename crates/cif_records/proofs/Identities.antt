@@ -3,8 +3,8 @@ use Rattle.std.proofs.Common.{◌≡◌, ℕ, Bool, true, false, cond, List, [],
 use Rattle.cif_columns.specs.Field.{columns}
 use Rattle.std.specs.Cmp.Lexicographic.{bytes_decides}
 use Rattle.cif_records.specs.Kind.{identity, kinds, is_identity, kind_in}
-use Rattle.cif_records.specs.declared.kind.Kind.{Kind}
-use Rattle.cif_records.specs.declared.kind.Kind.TheVariants.{Hd, Ti, Ta, Td, Aa, Bs, Bx, Lo, Li, Cr, Lt, Zz}
+use Rattle.cif_records.specs.declared.record.Kind.{Kind}
+use Rattle.cif_records.specs.declared.record.Kind.TheVariants.{Hd, Ti, Ta, Td, Aa, Bs, Bx, Lo, Li, Cr, Lt, Zz}
 
 -- the kind that is found has these letters
 pub found_kind : (letters : List ℕ) (among : List Kind) → IfSome (find (is_identity letters) among) (λ kind. letters ≡ identity kind)

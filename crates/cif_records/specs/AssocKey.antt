@@ -4,7 +4,7 @@ use Rattle.std.specs.Cmp.Lexicographic.{slice_cmp}
 use Rattle.std.specs.declared.cmp.Ordering.{Ordering}
 use Rattle.cif_columns.specs.Field.{Fits, text}
 use Rattle.cif_columns.specs.Text.{left_justified}
-use Rattle.cif_records.specs.declared.assoc_key.AssocKey.{AssocKey}
+use Rattle.cif_records.specs.declared.association.AssocKey.{AssocKey}
 
 -- Keys are compared by the base UID, then the associated UID, the location, the base suffix and the associated suffix: the first
 -- that differs decides. UIDs and texts are compared by their bytes, which is as their written columns are: the law `order_of_keys`.

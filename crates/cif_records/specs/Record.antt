@@ -14,8 +14,8 @@ use Rattle.cif_records.specs.Stop.{stop_refusal, stop_table}
 use Rattle.cif_records.specs.Terminus.{terminus_refusal, terminus_table}
 use Rattle.cif_records.specs.Tiploc.{tiploc_refusal, tiploc_table}
 use Rattle.cif_records.specs.Trailer.{trailer_refusal, trailer_table}
-use Rattle.cif_records.specs.declared.kind.Kind.{Kind}
-use Rattle.cif_records.specs.declared.kind.Kind.TheVariants.{Hd, Ti, Ta, Td, Aa, Bs, Bx, Lo, Li, Cr, Lt, Zz}
+use Rattle.cif_records.specs.declared.record.Kind.{Kind}
+use Rattle.cif_records.specs.declared.record.Kind.TheVariants.{Hd, Ti, Ta, Td, Aa, Bs, Bx, Lo, Li, Cr, Lt, Zz}
 use Rattle.cif_records.specs.declared.record.Record.{Record}
 use Rattle.cif_records.specs.declared.record.Record.TheVariants.{Header, Tiploc, Association, Basic, Extra}
 use Rattle.cif_records.specs.declared.record.Record.TheVariants.{Origin, Stop, Change, Terminus, Trailer}

@@ -1,5 +1,6 @@
 //! An association of two trains.
-ghost use Rattle.std.specs.Prelude.{◌≡◌, ◌+◌, ◌≤◌, ◌++◌, length, Some, Ok, is_some, []};
+ghost use Rattle.std.specs.Prelude.{◌≡◌, ◌+◌, ◌≤◌, ◌++◌, [], ◌↔◌, Some, Ok, IsTrue, length};
+ghost use Rattle.std.specs.Prelude.{is_some};
 ghost use Rattle.std.specs.Option.{option_copied};
 ghost use Rattle.cif_columns.specs.Field.{StandsIn, AllStandIn, Fits, AllFit, columns, text};
 ghost use Rattle.cif_columns.specs.Field.{plain_columns, plain_line};
@@ -7,12 +8,13 @@ ghost use Rattle.cif_columns.specs.LineBuilder.{put_all};
 ghost use Rattle.cif_records.specs.Bodies.{has_body, of_body};
 ghost use Rattle.cif_records.specs.Checks.{IsJudged};
 
-use crate::checks::{
-    Dates, check_identity, check_transaction, dates_at, days_at, has_body, letter_of,
+use crate::Record;
+use crate::layout::{
+    self, Dates, Layout, check_identity, check_transaction, dates_at, days_at, has_body, letter_of,
 };
-use crate::layout::{self, Layout};
-use crate::{AssocBody, AssocKey, Record};
-use cif_columns::{Day, DaysRun, Field, Line, LineBuilder, Refusal, Stp, text_at, uid_at};
+use cif_columns::{
+    Day, DaysRun, Field, Line, LineBuilder, Refusal, Stp, Text, Uid, text_at, uid_at,
+};
 
 /// A record `AA` (the CIF End User Specification): on which dates an association holds, or is
 /// cancelled.
@@ -46,7 +48,7 @@ impl Layout for Association {
     ghost use Rattle.std.specs.Prelude.{refl, ◌≡◌, codes};
     ghost use Rattle.cif_columns.specs.Field.{StandsIn, columns, date, indicator, weekdays};
     ghost use Rattle.cif_records.specs.Association.{association_refusal, association_table};
-    ghost use Rattle.cif_records.specs.declared.kind.Kind.TheVariants.{Aa};
+    ghost use Rattle.cif_records.specs.declared.record.Kind.TheVariants.{Aa};
     ghost use Rattle.cif_records.specs.declared.record.Record.TheVariants as of;
 
     type Checked = Applicability;
@@ -301,4 +303,81 @@ fn key_at(line: &Line) -> AssocKey
         base_suffix: text_at(line, 45),
         associated_suffix: text_at(line, 46),
     }
+}
+
+/// The key of an association: two trains, where they meet, and which of a train's calls there it
+/// is. Keys are ordered by their fields as they stand here, each by its written columns (this
+/// profile).
+#[derive(Debug, Drop, PartialEq, Eq, PartialOrd, Ord)]
+pub struct AssocKey {
+    /// Columns 4 to 9: the UID of the base train.
+    pub base: Uid,
+    /// Columns 10 to 15: the UID of the associated train.
+    pub associated: Uid,
+    /// Columns 38 to 44: the TIPLOC where they meet.
+    pub location: Text<7>,
+    /// Column 45: the base train's call there, where it calls more than once.
+    pub base_suffix: Text<1>,
+    /// Column 46: the associated train's call there.
+    pub associated_suffix: Text<1>,
+}
+
+impl AssocKey {
+    ghost use Rattle.cif_records.specs.declared.association.AssocKey.{AssocKey};
+    ghost use Rattle.cif_records.specs.AssocKey.{HasTexts, key_cmp, written_key_cmp};
+
+    /// The same key.
+    pub fn copy(&self) -> AssocKey
+        ensures { result ≡ self.now }
+    {
+        AssocKey {
+            base: self.base,
+            associated: self.associated,
+            location: self.location.copy(),
+            base_suffix: self.base_suffix.copy(),
+            associated_suffix: self.associated_suffix.copy(),
+        }
+    }
+
+    /// A law for proofs: keys are equal where their fields are, and ordered by their fields, each by
+    /// its bytes, and so by its written columns.
+    pub fn order_of_keys()
+        ensures equality { (a b : AssocKey) → IsTrue (⟦<AssocKey as PartialEq>⟧.eq a b) ↔ (a ≡ b) }
+        ensures order { (a b : AssocKey) → ⟦<AssocKey as Ord>⟧.cmp a b ≡ key_cmp a b }
+        ensures written { (a b : AssocKey) → HasTexts a → HasTexts b → key_cmp a b ≡ written_key_cmp a b }
+    {}
+}
+
+/// The body of an association, absent in cancellations.
+#[derive(Debug, Drop, PartialEq, Eq)]
+pub struct AssocBody {
+    /// Columns 35 to 36: the category, as `JJ` for a join.
+    pub category: Text<2>,
+    /// Column 37: on which day relative to the base train's the associated train runs.
+    pub date_indicator: Text<1>,
+    /// Column 47: the diagram type.
+    pub diagram: Text<1>,
+    /// Column 48: the association type.
+    pub kind: Text<1>,
+}
+
+impl AssocBody {
+    ghost use Rattle.cif_records.specs.declared.association.AssocBody.{AssocBody};
+
+    /// The same body.
+    pub fn copy(&self) -> AssocBody
+        ensures { result ≡ self.now }
+    {
+        AssocBody {
+            category: self.category.copy(),
+            date_indicator: self.date_indicator.copy(),
+            diagram: self.diagram.copy(),
+            kind: self.kind.copy(),
+        }
+    }
+
+    /// A law for proofs: bodies are equal where their fields are.
+    pub fn equality_of_bodies()
+        ensures { (a b : AssocBody) → IsTrue (⟦<AssocBody as PartialEq>⟧.eq a b) ↔ (a ≡ b) }
+    {}
 }

@@ -10,11 +10,11 @@ ghost use Rattle.cif_records.specs.Detail.{detail_rows, detail_table};
 ghost use Rattle.cif_records.specs.declared.detail.Detail.{Detail};
 
 use crate::Record;
-use crate::checks::{
-    check_bank_holiday, check_identity, check_transaction, dates_at, days_at, has_body, letter_of,
-};
 use crate::detail::{DETAIL_WIDTH, Detail};
-use crate::layout::{self, Layout};
+use crate::layout::{
+    self, Layout, check_bank_holiday, check_identity, check_transaction, dates_at, days_at,
+    has_body, letter_of,
+};
 use cif_columns::{Day, DaysRun, Field, Line, LineBuilder, Refusal, Stp, Uid, columns_at, uid_at};
 
 /// A record `BS` (the CIF End User Specification): on which dates a schedule runs, or is cancelled.
@@ -56,7 +56,7 @@ impl Layout for Basic {
     ghost use Rattle.std.specs.Prelude.{refl};
     ghost use Rattle.cif_columns.specs.Field.{AllStandIn};
     ghost use Rattle.cif_records.specs.Basic.{basic_back, basic_front, basic_refusal, basic_table};
-    ghost use Rattle.cif_records.specs.declared.kind.Kind.TheVariants.{Bs};
+    ghost use Rattle.cif_records.specs.declared.record.Kind.TheVariants.{Bs};
     ghost use Rattle.cif_records.specs.declared.record.Record.TheVariants as of;
 
     type Checked = BasicTerms;

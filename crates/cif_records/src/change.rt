@@ -4,8 +4,7 @@ ghost use Rattle.cif_columns.specs.Field.{plain_line};
 ghost use Rattle.cif_records.specs.Checks.{IsJudged};
 
 use crate::Record;
-use crate::checks::check_identity;
-use crate::layout::{self, Layout};
+use crate::layout::{self, Layout, check_identity};
 use cif_columns::{Field, Line, LineBuilder, PlainTest, Refusal, Text, text_at};
 
 /// A record `CR` (the CIF End User Specification): what is changed at the next location. That its
@@ -71,7 +70,7 @@ impl Layout for Change {
     ghost use Rattle.std.specs.Prelude.{refl, ◌≡◌, codes};
     ghost use Rattle.cif_columns.specs.Field.{columns};
     ghost use Rattle.cif_records.specs.Change.{change_refusal, change_table};
-    ghost use Rattle.cif_records.specs.declared.kind.Kind.TheVariants.{Cr};
+    ghost use Rattle.cif_records.specs.declared.record.Kind.TheVariants.{Cr};
     ghost use Rattle.cif_records.specs.declared.record.Record.TheVariants as of;
 
     type Checked = ();

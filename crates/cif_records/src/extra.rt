@@ -4,8 +4,7 @@ ghost use Rattle.cif_columns.specs.Field.{plain_line};
 ghost use Rattle.cif_records.specs.Checks.{IsJudged};
 
 use crate::Record;
-use crate::checks::check_identity;
-use crate::layout::{self, Layout};
+use crate::layout::{self, Layout, check_identity};
 use cif_columns::{Field, Line, LineBuilder, PlainTest, Refusal, Text, text_at};
 
 /// A record `BX` (the CIF End User Specification): further details of a basic schedule.
@@ -40,7 +39,7 @@ impl Layout for Extra {
     ghost use Rattle.std.specs.Prelude.{refl, ◌≡◌, codes};
     ghost use Rattle.cif_columns.specs.Field.{columns};
     ghost use Rattle.cif_records.specs.Extra.{extra_refusal, extra_table};
-    ghost use Rattle.cif_records.specs.declared.kind.Kind.TheVariants.{Bx};
+    ghost use Rattle.cif_records.specs.declared.record.Kind.TheVariants.{Bx};
     ghost use Rattle.cif_records.specs.declared.record.Record.TheVariants as of;
 
     type Checked = ();

@@ -8,8 +8,7 @@ ghost use Rattle.cif_records.specs.Checks.{IsJudged};
 ghost use Rattle.cif_records.specs.HeaderColumns.{IsFull, kept, with_window as columns_with_window};
 
 use crate::Record;
-use crate::checks::{Dates, check_full, check_identity, window_date_at};
-use crate::layout::{self, Layout};
+use crate::layout::{self, Dates, Layout, check_full, check_identity, window_date_at};
 use cif_columns::{Day, Line, LineBuilder, Refusal, columns_at};
 
 /// Where the first date begins, at column 49 of the line, in what a header keeps, from column 3 on.
@@ -41,7 +40,7 @@ impl Layout for Header {
     ghost use Rattle.cif_columns.specs.Day.{ddmmyy_in};
     ghost use Rattle.cif_columns.specs.Field.{columns};
     ghost use Rattle.cif_records.specs.Header.{header_refusal, header_table};
-    ghost use Rattle.cif_records.specs.declared.kind.Kind.TheVariants.{Hd};
+    ghost use Rattle.cif_records.specs.declared.record.Kind.TheVariants.{Hd};
     ghost use Rattle.cif_records.specs.declared.record.Record.TheVariants as of;
 
     type Checked = Dates;

@@ -4,8 +4,7 @@ ghost use Rattle.cif_columns.specs.Field.{plain_line};
 ghost use Rattle.cif_records.specs.Checks.{IsJudged};
 
 use crate::Record;
-use crate::checks::{EndTimes, check_identity, public_time_at, work_time_at};
-use crate::layout::{self, Layout};
+use crate::layout::{self, EndTimes, Layout, check_identity, public_time_at, work_time_at};
 use cif_columns::{
     Activities, Field, Line, LineBuilder, PlainTest, PublicTime, Refusal, Text, WorkTime,
     activities_at, text_at,
@@ -51,7 +50,7 @@ impl Layout for Origin {
     ghost use Rattle.std.specs.Prelude.{refl, ◌≡◌, codes};
     ghost use Rattle.cif_columns.specs.Field.{StandsIn, columns, public_time, working_time};
     ghost use Rattle.cif_records.specs.Origin.{origin_refusal, origin_table};
-    ghost use Rattle.cif_records.specs.declared.kind.Kind.TheVariants.{Lo};
+    ghost use Rattle.cif_records.specs.declared.record.Kind.TheVariants.{Lo};
     ghost use Rattle.cif_records.specs.declared.record.Record.TheVariants as of;
 
     type Checked = EndTimes;

@@ -5,8 +5,7 @@ ghost use Rattle.cif_columns.specs.Line.{IsLine};
 ghost use Rattle.cif_records.specs.Checks.{IsJudged};
 
 use crate::Record;
-use crate::checks::{check_identity, public_time_at, work_time_at};
-use crate::layout::{self, Layout};
+use crate::layout::{self, Layout, check_identity, public_time_at, work_time_at};
 use cif_columns::{
     Activities, Field, LINE_WIDTH, Line, LineBuilder, PlainTest, PublicTime, Refusal, Text,
     WorkTime, activities_at, text_at,
@@ -71,7 +70,7 @@ impl Layout for Stop {
     ghost use Rattle.std.specs.Prelude.{refl, ◌≡◌, codes};
     ghost use Rattle.cif_columns.specs.Field.{StandsIn, columns, public_time, working_time};
     ghost use Rattle.cif_records.specs.Stop.{stop_refusal, stop_table};
-    ghost use Rattle.cif_records.specs.declared.kind.Kind.TheVariants.{Li};
+    ghost use Rattle.cif_records.specs.declared.record.Kind.TheVariants.{Li};
     ghost use Rattle.cif_records.specs.declared.record.Record.TheVariants as of;
 
     type Checked = StopTimes;

@@ -7,8 +7,7 @@ ghost use Rattle.cif_columns.specs.Line.{ArePrintable};
 ghost use Rattle.cif_records.specs.Checks.{IsJudged};
 
 use crate::Record;
-use crate::checks::check_identity;
-use crate::layout::{self, Layout};
+use crate::layout::{self, Layout, check_identity};
 use cif_columns::{Line, LineBuilder, Refusal, columns_at};
 
 /// A record `TI` (the CIF End User Specification): a location by its TIPLOC, and its other codes.
@@ -27,7 +26,7 @@ impl Layout for Tiploc {
     ghost use Rattle.std.specs.Prelude.{refl, ◌≡◌, codes};
     ghost use Rattle.cif_columns.specs.Field.{columns};
     ghost use Rattle.cif_records.specs.Tiploc.{tiploc_refusal, tiploc_table};
-    ghost use Rattle.cif_records.specs.declared.kind.Kind.TheVariants.{Ti};
+    ghost use Rattle.cif_records.specs.declared.record.Kind.TheVariants.{Ti};
     ghost use Rattle.cif_records.specs.declared.record.Record.TheVariants as of;
 
     type Checked = ();

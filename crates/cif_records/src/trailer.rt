@@ -5,8 +5,7 @@ ghost use Rattle.cif_records.specs.Checks.{IsJudged};
 ghost use Rattle.cif_records.specs.Trailer.{trailer_refusal, trailer_table};
 
 use crate::Record;
-use crate::checks::check_identity;
-use crate::layout::{self, Layout};
+use crate::layout::{self, Layout, check_identity};
 use cif_columns::{Line, LineBuilder, Refusal};
 
 /// A record `ZZ` (the CIF End User Specification): the last record of an extract, which says
@@ -17,7 +16,7 @@ pub struct Trailer;
 impl Layout for Trailer {
     ghost use Rattle.std.specs.Prelude.{refl, ◌≡◌, codes};
     ghost use Rattle.cif_columns.specs.Field.{columns};
-    ghost use Rattle.cif_records.specs.declared.kind.Kind.TheVariants.{Zz};
+    ghost use Rattle.cif_records.specs.declared.record.Kind.TheVariants.{Zz};
     ghost use Rattle.cif_records.specs.declared.record.Record.TheVariants as of;
 
     type Checked = ();

@@ -12,7 +12,7 @@ use Rattle.cif_extract.specs.declared.fault.Fault.{Fault}
 use Rattle.cif_extract.specs.declared.fault.Fault.TheVariants.{Memory, Write}
 use Rattle.cif_weeks.specs.declared.form.Form.{Form}
 use Rattle.cif_canon.specs.Accepted.{SpellsNarrowed}
-use Rattle.cif_extract.specs.declared.clash.Clash.{Clash}
+use Rattle.cif_extract.specs.declared.fault.Clash.{Clash}
 use Rattle.cif_canon.specs.Asked.{IsNarrowingFault}
 use Rattle.cif_canon.specs.Clashes.{AreAllClashes, clashes_text}
 use Rattle.cif_canon.specs.Comparison.{AreCompared, comparison_line}
@@ -24,7 +24,7 @@ use Rattle.cif_canon.specs.Normalised.{FaultWrites, IsNormalised}
 use Rattle.cif_canon.specs.Views.{IsDayFault, IsDayView, IsTrainView}
 use Rattle.cif_canon.specs.declared.asked.Asked.{Asked}
 use Rattle.cif_canon.specs.declared.comparison.Comparison.{Comparison}
-use Rattle.cif_canon.specs.declared.counts.Counts.{Counts}
+use Rattle.cif_canon.specs.declared.canonical_form.Counts.{Counts}
 use Rattle.cif_canon.specs.declared.layout.Format.{Format}
 use Rattle.cif_canon.specs.declared.layout.Layout.{Layout}
 use Rattle.cif_tool.specs.Pair.{IsCompareRefusal, SpellPair}

@@ -1,5 +1,6 @@
 -- Why the words of a call ask for nothing.
-use Rattle.std.specs.Prelude.{◌≡◌, ◌≢◌, ◌⊎◌, ℕ, List, [], ◌∷◌, ◌++◌, Option, Some, None, ⊤, IfSome, IsSomeAnd, Result, Ok, Err, true, codes}
+use Rattle.std.specs.Prelude.{◌≡◌, ◌≢◌, ◌⊎◌, ℕ, List, [], ◌∷◌, ◌++◌, Option, Some, None, ⊤, IfErr, IfOk, IfSome, IsSomeAnd, Result, Ok, Err}
+use Rattle.std.specs.Prelude.{true, codes}
 use Rattle.clap.specs.Words.{IsAmong, Row, Text, first_of, kind_of}
 use Rattle.clap.specs.declared.error.ErrorKind.{ErrorKind}
 use Rattle.clap.specs.declared.error.ErrorKind.TheVariants.{DisplayHelp, DisplayVersion}
@@ -11,9 +12,10 @@ use Rattle.cif_columns.specs.declared.sink.WriteFault.{WriteFault}
 use Rattle.cif_extract.specs.declared.fault.Fault.{Fault}
 use Rattle.cif_extract.specs.declared.fault.Fault.TheVariants.{Write, Memory as OutOfMemory}
 use Rattle.cif_tool.specs.CommandLine.{AreFormats, AreForms, Choice, chosen, faults_of}
-use Rattle.cif_tool.specs.Job.{is_standard}
-use Rattle.cif_tool.specs.declared.job_fault.JobFault.{JobFault}
-use Rattle.cif_tool.specs.declared.job_fault.JobFault.TheVariants.{Usage, BadDate, BadUid, OneInput, Memory}
+use Rattle.cif_tool.specs.Job.{IsChosen, is_standard}
+use Rattle.cif_tool.specs.declared.job.Job.{Job}
+use Rattle.cif_tool.specs.declared.job.JobFault.{JobFault}
+use Rattle.cif_tool.specs.declared.job.JobFault.TheVariants.{Usage, BadDate, BadUid, OneInput, Memory}
 
 -- six digits YYMMDD that name a day aren't the word
 abbrev pub NamesNoDay : Text → Type 0
@@ -47,6 +49,11 @@ IsWordFault OneInput met = IsOneInput met
     × ¬ (HasBadDate (codes "from") met.1 ⊎ HasBadDate (codes "to") met.1)
 IsWordFault Memory met = ⊤
 IsWordFault (Usage error) met = ⊥
+
+-- the matches of a subcommand ask for the job, or for nothing, as the fault says
+pub record IsJobOf (met : Text × List Row) (result : Result Job JobFault) : Type 0 where
+  pub ok : IfOk result (λ job. IsChosen job met)
+  pub err : IfErr result (λ fault. IsWordFault fault met)
 
 -- `clap` refuses the words, by the error's kind, or it takes them and one of them is no UID or no date, or both inputs are standard input
 abbrev pub IsFaultAt : Choice → Choice → List Text → JobFault → Type 0

@@ -1,9 +1,8 @@
 //! What `--verbose` says on standard error beyond the line that names a fault. It is said when the answer is decided
 //! and changes nothing of it.
 use crate::clash_lines::ClashLines;
-use crate::escaped::escape;
-use crate::input::{AgainInput, ExtractInput, START};
-use crate::line_again::{LONGEST, LineAgain, line_again};
+use crate::devices::{AgainInput, ExtractInput, LONGEST, LineAgain, START, line_again};
+use crate::program::escape;
 use crate::refused_columns::{RefusedColumns, columns_refused};
 use crate::words::{mistaken_date, mistaken_uid};
 use arrayvec::ArrayString;

@@ -1,18 +1,19 @@
-//! What each command answers, for any devices.
+//! What each command answers, for any devices, and which of them a job asks for.
 ghost use Rattle.std.specs.Prelude.{◌≡◌, [], IfErr, IfOk, IfSome};
+ghost use Rattle.cif_canon.specs.Fault.{IsNormaliseFault};
 ghost use Rattle.cif_columns.specs.Sink.{Writes};
 ghost use Rattle.cif_columns.specs.Source.{reader_of};
 ghost use Rattle.cif_columns.specs.declared.line_reader.TheConstants.{MAX_LINES};
 ghost use Rattle.cif_extract.specs.ReadFault.{FaultReads, LeavesNothing};
 ghost use Rattle.cif_extract.specs.declared.fault.Fault.TheVariants.{Write};
-ghost use Rattle.cif_canon.specs.Fault.{IsNormaliseFault};
-ghost use Rattle.cif_tool.specs.Answer.{Answers, IsCheckAnswer, IsCompareAnswer};
-ghost use Rattle.cif_tool.specs.Answer.{IsClashesAnswer, IsClashesRefusal, IsDayAnswer};
-ghost use Rattle.cif_tool.specs.Answer.{IsDayRefusal, IsDiffAnswer, IsExplainAnswer};
-ghost use Rattle.cif_tool.specs.Answer.{IsExplainRefusal};
-ghost use Rattle.cif_tool.specs.Answer.{IsHandedOn, IsNormaliseAnswer, IsTrainAnswer, ReadsBoth};
+ghost use Rattle.cif_tool.specs.Answer.{Answers, IsCheckAnswer, IsCompareAnswer, IsClashesAnswer};
+ghost use Rattle.cif_tool.specs.Answer.{IsClashesRefusal, IsDayAnswer, IsDayRefusal, IsDiffAnswer};
+ghost use Rattle.cif_tool.specs.Answer.{IsExplainAnswer, IsExplainRefusal, IsHandedOn};
+ghost use Rattle.cif_tool.specs.Answer.{IsNormaliseAnswer, IsTrainAnswer, ReadsBoth, IsJobAnswer};
+ghost use Rattle.cif_tool.specs.Answer.{IsJobRefusal, ReadsInputs};
 ghost use Rattle.cif_tool.specs.Pair.{IsCompareRefusal};
 
+use crate::job::Job;
 use crate::pair::{narrowed, read_pair};
 use crate::status::{DONE, listed, outcome};
 use cif_canon::{
@@ -237,4 +238,69 @@ fn flushed<W: WriteDevice>(sink: &mut Sink<W>, status: u8) -> Result<u8, Fault>
 {
     sink.flush()?;
     Ok(status)
+}
+
+/// Writes what the job's command answers of its input, and of `compare` and `diff` of the right one too; the
+/// answer is the status.
+pub fn answer<R: ReadDevice, W: WriteDevice>(
+    alloc: Global,
+    job: &Job,
+    source: &mut Source<R>,
+    right: &mut Source<R>,
+    sink: &mut Sink<W>,
+) -> Result<u8, Fault>
+    ensures answer { Answers W.contents W.write_errors
+        (IsJobAnswer job.now (R.remaining (reader_of source.old)) (R.remaining (reader_of right.old)))
+        sink.old sink.new result }
+    ensures fault { IfErr result (IsJobRefusal job.now
+        (R.remaining (reader_of source.old)) (R.remaining (reader_of source.new))
+        (right.new ≡ right.old)
+        (R.remaining (reader_of right.old)) (R.remaining (reader_of right.new))) }
+    ensures sources { ReadsInputs R.remaining R.read_errors job.now
+        source.old source.new right.old right.new result }
+    ensures handed_on { IsHandedOn W.holds_nothing sink.new result }
+{
+    match job {
+        Job::Normalise {
+            file: _,
+            asked,
+            form,
+        } => answer_normalise(alloc, source, sink, asked, *form),
+        Job::Check {
+            file: _,
+            asked,
+            form,
+        } => answer_check(alloc, source, sink, asked, *form),
+        Job::Compare {
+            left: _,
+            right: _,
+            asked,
+            common,
+        } => answer_compare(alloc, source, right, sink, asked, *common),
+        Job::Diff {
+            left: _,
+            right: _,
+            asked,
+            common,
+        } => answer_diff(alloc, source, right, sink, asked, *common),
+        Job::Day {
+            day,
+            file: _,
+            layout,
+        } => answer_day(alloc, source, sink, *day, *layout),
+        Job::Train {
+            uid,
+            file: _,
+            asked,
+            form,
+            layout,
+        } => answer_train(alloc, source, sink, uid, asked, *form, *layout),
+        Job::Explain {
+            uid,
+            day,
+            file: _,
+            format,
+        } => answer_explain(alloc, source, sink, uid, *day, *format),
+        Job::Clashes { file: _, asked } => answer_clashes(alloc, source, sink, asked),
+    }
 }

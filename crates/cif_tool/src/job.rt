@@ -1,9 +1,15 @@
-//! What a call of `cif` asks for.
-ghost use Rattle.std.specs.Prelude.{◌≡◌, option_map};
+//! What a call of `cif` asks for, or why it asks for nothing.
+ghost use Rattle.std.specs.Prelude.{◌≡◌, ◌<◌, ◌++◌, ◌∷◌, [], IfSome, option_map, length};
+ghost use Rattle.cif_tool.specs.declared.job.TheConstants.{LONGEST_LINE};
 
+use crate::status::{DONE, FAILED, MISTAKEN};
+use arrayvec::ArrayString;
 use cif_canon::{Asked, Format, Layout};
-use cif_columns::{Day, Uid};
+use cif_columns::{Day, Sink, Uid, WriteDevice};
+use cif_extract::Fault;
 use cif_weeks::Form;
+use clap::error::ErrorKind;
+use std::alloc::{AllocError, Global};
 
 /// What a call of `cif` asks for. A file that isn't named is the standard input, and so is `-`.
 #[derive(Debug, Drop)]
@@ -84,4 +90,110 @@ impl Job {
             }
         }
     }
+}
+
+/// The bytes of the longest line that names a fault, with its line feed.
+const LONGEST_LINE: usize = 44;
+
+/// Why a call of `cif` asks for nothing.
+#[derive(Debug, Drop)]
+pub enum JobFault {
+    /// A usage error, or a request for help or for the version. `clap` has its text.
+    Usage(clap::Error),
+    /// A word that stands for a date isn't six digits YYMMDD that name one.
+    BadDate,
+    /// A word that stands for a UID isn't six bytes from 0x20 to 0x7E.
+    BadUid,
+    /// Both inputs of `compare` or `diff` are the standard input.
+    OneInput,
+    /// Memory ran out.
+    Memory,
+}
+
+impl From<AllocError> for JobFault {
+    ghost use Rattle.cif_tool.specs.declared.job.JobFault.TheVariants.{Memory};
+
+    ghost from_gives = { λ _ fault. fault ≡ Memory };
+
+    fn from(_error: AllocError) -> JobFault {
+        JobFault::Memory
+    }
+}
+
+impl JobFault {
+    ghost use Rattle.cif_tool.specs.JobFault.{Explains, status_of, text_of};
+
+    /// Says why the arguments ask for nothing, and answers the status. Help and the version go to
+    /// `output`; all else goes to `errors`, and that it can't be written there changes no status.
+    /// Write comes where `output` fails, and Memory where there is none for `clap`'s text.
+    pub fn explain<O: WriteDevice, E: WriteDevice>(
+        &self,
+        alloc: Global,
+        output: &mut Sink<O>,
+        errors: &mut Sink<E>,
+    ) -> Result<u8, Fault>
+        ensures { Explains O.contents O.write_errors E.contents E.write_errors self.now
+            output.old output.new errors.old errors.new result }
+    {
+        let status = self.status();
+        match self {
+            JobFault::Usage(error) => {
+                let Ok(text) = error.to_string(alloc) else {
+                    return Err(Fault::Memory);
+                };
+                if status == DONE {
+                    output.write_all(text.as_bytes())?;
+                    output.flush()?;
+                    Ok(status)
+                } else {
+                    let _ = errors.write_all(text.as_bytes());
+                    Ok(status)
+                }
+            }
+            _ => {
+                let line = line_of(self.text().unwrap_or(""));
+                let _ = errors.write_all(line.as_str().as_bytes());
+                Ok(status)
+            }
+        }
+    }
+
+    /// The status that the program exits with.
+    pub fn status(&self) -> u8
+        ensures { result ≡ status_of self.now }
+    {
+        match self {
+            JobFault::Usage(error) => match error.kind() {
+                ErrorKind::DisplayHelp | ErrorKind::DisplayVersion => DONE,
+                _ => MISTAKEN,
+            },
+            JobFault::BadDate | JobFault::BadUid | JobFault::OneInput => MISTAKEN,
+            JobFault::Memory => FAILED,
+        }
+    }
+
+    /// The line that names the fault, without its line feed; none where `clap` has the text.
+    pub fn text(&self) -> Option<&str>
+        ensures text { option_map (λ line. line.now) result ≡ text_of self.now }
+        ensures short { IfSome result (λ line. length line.now < LONGEST_LINE) }
+    {
+        match self {
+            JobFault::Usage(_) => None,
+            JobFault::BadDate => Some("cif: bad date"),
+            JobFault::BadUid => Some("cif: bad UID"),
+            JobFault::OneInput => Some("cif: LEFT and RIGHT are both standard input"),
+            JobFault::Memory => Some("cif: Memory"),
+        }
+    }
+}
+
+/// The text as a line.
+fn line_of(text: &str) -> ArrayString<LONGEST_LINE>
+    requires { length text.now < LONGEST_LINE }
+    ensures { result.bytes ≡ text.now ++ 10 ∷ [] }
+{
+    let mut line = ArrayString::new();
+    line.push_str(text);
+    line.push_str("\n");
+    line
 }

@@ -7,12 +7,11 @@ ghost use Rattle.cif_columns.specs.Day.{StandsInYymmdd};
 ghost use Rattle.cif_tool.specs.Job.{Asks, HasFile, HasWord, IsAskedBy};
 ghost use Rattle.cif_tool.specs.Job.{IsChosen, IsDateOf, IsTaken, IsUidWord, form_of, format_of, is_set};
 ghost use Rattle.cif_tool.specs.Job.{is_standard, layout_of};
-ghost use Rattle.cif_tool.specs.JobFault.{HasBadDate, IsFaultOf, IsWordFault, NamesNoDay};
+ghost use Rattle.cif_tool.specs.JobFault.{HasBadDate, IsFaultOf, IsJobOf, IsWordFault, NamesNoDay};
 ghost use Rattle.cif_tool.specs.JobFault.{IsNoUid};
 
 use crate::command_line::matches_of;
-use crate::job::Job;
-use crate::job_fault::JobFault;
+use crate::job::{Job, JobFault};
 use cif_canon::{Asked, Format, Layout};
 use cif_columns::{Day, Uid, are_printable};
 use cif_weeks::Form;
@@ -104,9 +103,7 @@ fn chosen_job(alloc: Global, matches: &ArgMatches<'_>) -> Result<Job, JobFault>
 /// What the subcommand of this name asks for.
 fn named_job(alloc: Global, name: &str, matches: &ArgMatches<'_>) -> Result<Job, JobFault>
     requires { IsTaken (name.now, rows_of (found_of matches.now)) }
-    ensures ok { IfOk result (λ job. IsChosen job (name.now, rows_of (found_of matches.now))) }
-    ensures err { IfErr result (λ fault.
-        IsWordFault fault (name.now, rows_of (found_of matches.now))) }
+    ensures { IsJobOf (name.now, rows_of (found_of matches.now)) result }
 {
     match name {
         "normalise" => normalise_job(alloc, matches),
@@ -122,10 +119,7 @@ fn named_job(alloc: Global, name: &str, matches: &ArgMatches<'_>) -> Result<Job,
 }
 
 fn normalise_job(alloc: Global, matches: &ArgMatches<'_>) -> Result<Job, JobFault>
-    ensures ok { IfOk result (λ job. IsChosen job
-        (codes "normalise", rows_of (found_of matches.now))) }
-    ensures err { IfErr result (λ fault. IsWordFault fault
-        (codes "normalise", rows_of (found_of matches.now))) }
+    ensures { IsJobOf (codes "normalise", rows_of (found_of matches.now)) result }
 {
     Ok(Job::Normalise {
         asked: asked_of(matches)?,
@@ -135,10 +129,7 @@ fn normalise_job(alloc: Global, matches: &ArgMatches<'_>) -> Result<Job, JobFaul
 }
 
 fn check_job(alloc: Global, matches: &ArgMatches<'_>) -> Result<Job, JobFault>
-    ensures ok { IfOk result (λ job. IsChosen job
-        (codes "check", rows_of (found_of matches.now))) }
-    ensures err { IfErr result (λ fault. IsWordFault fault
-        (codes "check", rows_of (found_of matches.now))) }
+    ensures { IsJobOf (codes "check", rows_of (found_of matches.now)) result }
 {
     Ok(Job::Check {
         asked: asked_of(matches)?,
@@ -150,10 +141,7 @@ fn check_job(alloc: Global, matches: &ArgMatches<'_>) -> Result<Job, JobFault>
 fn compare_job(alloc: Global, matches: &ArgMatches<'_>) -> Result<Job, JobFault>
     requires left { HasWord (codes "LEFT") (rows_of (found_of matches.now)) }
     requires right { HasWord (codes "RIGHT") (rows_of (found_of matches.now)) }
-    ensures ok { IfOk result (λ job. IsChosen job
-        (codes "compare", rows_of (found_of matches.now))) }
-    ensures err { IfErr result (λ fault. IsWordFault fault
-        (codes "compare", rows_of (found_of matches.now))) }
+    ensures { IsJobOf (codes "compare", rows_of (found_of matches.now)) result }
 {
     let asked = asked_of(matches)?;
     let (left, right) = two_inputs(matches)?;
@@ -168,10 +156,7 @@ fn compare_job(alloc: Global, matches: &ArgMatches<'_>) -> Result<Job, JobFault>
 fn diff_job(alloc: Global, matches: &ArgMatches<'_>) -> Result<Job, JobFault>
     requires left { HasWord (codes "LEFT") (rows_of (found_of matches.now)) }
     requires right { HasWord (codes "RIGHT") (rows_of (found_of matches.now)) }
-    ensures ok { IfOk result (λ job. IsChosen job
-        (codes "diff", rows_of (found_of matches.now))) }
-    ensures err { IfErr result (λ fault. IsWordFault fault
-        (codes "diff", rows_of (found_of matches.now))) }
+    ensures { IsJobOf (codes "diff", rows_of (found_of matches.now)) result }
 {
     let asked = asked_of(matches)?;
     let (left, right) = two_inputs(matches)?;
@@ -185,10 +170,7 @@ fn diff_job(alloc: Global, matches: &ArgMatches<'_>) -> Result<Job, JobFault>
 
 fn day_job(alloc: Global, matches: &ArgMatches<'_>) -> Result<Job, JobFault>
     requires { HasWord (codes "YYMMDD") (rows_of (found_of matches.now)) }
-    ensures ok { IfOk result (λ job. IsChosen job
-        (codes "day", rows_of (found_of matches.now))) }
-    ensures err { IfErr result (λ fault. IsWordFault fault
-        (codes "day", rows_of (found_of matches.now))) }
+    ensures { IsJobOf (codes "day", rows_of (found_of matches.now)) result }
 {
     let Some(day) = day_of_word(required_word(matches, "YYMMDD")) else {
         return Err(JobFault::BadDate);
@@ -202,10 +184,7 @@ fn day_job(alloc: Global, matches: &ArgMatches<'_>) -> Result<Job, JobFault>
 
 fn train_job(alloc: Global, matches: &ArgMatches<'_>) -> Result<Job, JobFault>
     requires { HasWord (codes "UID") (rows_of (found_of matches.now)) }
-    ensures ok { IfOk result (λ job. IsChosen job
-        (codes "train", rows_of (found_of matches.now))) }
-    ensures err { IfErr result (λ fault. IsWordFault fault
-        (codes "train", rows_of (found_of matches.now))) }
+    ensures { IsJobOf (codes "train", rows_of (found_of matches.now)) result }
 {
     let Some(uid) = uid_of_word(required_word(matches, "UID")) else {
         return Err(JobFault::BadUid);
@@ -222,10 +201,7 @@ fn train_job(alloc: Global, matches: &ArgMatches<'_>) -> Result<Job, JobFault>
 fn explain_job(alloc: Global, matches: &ArgMatches<'_>) -> Result<Job, JobFault>
     requires uid { HasWord (codes "UID") (rows_of (found_of matches.now)) }
     requires day { HasWord (codes "YYMMDD") (rows_of (found_of matches.now)) }
-    ensures ok { IfOk result (λ job. IsChosen job
-        (codes "explain", rows_of (found_of matches.now))) }
-    ensures err { IfErr result (λ fault. IsWordFault fault
-        (codes "explain", rows_of (found_of matches.now))) }
+    ensures { IsJobOf (codes "explain", rows_of (found_of matches.now)) result }
 {
     let Some(uid) = uid_of_word(required_word(matches, "UID")) else {
         return Err(JobFault::BadUid);
@@ -242,10 +218,7 @@ fn explain_job(alloc: Global, matches: &ArgMatches<'_>) -> Result<Job, JobFault>
 }
 
 fn clashes_job(alloc: Global, matches: &ArgMatches<'_>) -> Result<Job, JobFault>
-    ensures ok { IfOk result (λ job. IsChosen job
-        (codes "clashes", rows_of (found_of matches.now))) }
-    ensures err { IfErr result (λ fault. IsWordFault fault
-        (codes "clashes", rows_of (found_of matches.now))) }
+    ensures { IsJobOf (codes "clashes", rows_of (found_of matches.now)) result }
 {
     Ok(Job::Clashes {
         asked: asked_of(matches)?,

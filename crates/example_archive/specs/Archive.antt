@@ -8,7 +8,7 @@ use Rattle.cif_canon.specs.Accepted.{IsAccepted}
 use Rattle.cif_canon.specs.Meaning.{Agree}
 use Rattle.cif_canon.specs.Normalised.{IsNormalised}
 use Rattle.cif_canon.specs.declared.asked.Asked.{Asked}
-use Rattle.cif_canon.specs.declared.counts.Counts.{Counts}
+use Rattle.cif_canon.specs.declared.canonical_form.Counts.{Counts}
 
 -- the window from one date to another is asked for
 abbrev pub dates : ℕ → ℕ → Asked

@@ -6,7 +6,7 @@ use Rattle.cif_calendar.specs.Keys.{of_key}
 use Rattle.cif_calendar.specs.Terms.{Terms}
 use Rattle.cif_calendar.specs.declared.calendar_fault.CalendarFault.{CalendarFault}
 use Rattle.cif_calendar.specs.declared.calendar_fault.CalendarFault.TheVariants.{Ambiguous, Memory}
-use Rattle.cif_extract.specs.declared.clash.Clash.{Clash}
+use Rattle.cif_extract.specs.declared.fault.Clash.{Clash}
 use Rattle.cif_canon.specs.Clashes.{AreClashes}
 
 -- key k has its first clash on day d, and this came behind the clashes that were known, by its name

@@ -9,8 +9,8 @@ use Rattle.cif_columns.specs.Stp.{letter}
 use Rattle.cif_canon.specs.Explanation.{Explained}
 use Rattle.cif_canon.specs.declared.explained.Applying.{Applying}
 use Rattle.cif_canon.specs.declared.explained.Marked.{Marked}
-use Rattle.cif_canon.specs.declared.mark.Mark.{Mark}
-use Rattle.cif_canon.specs.declared.mark.Mark.TheVariants as mark
+use Rattle.cif_canon.specs.declared.explained.Mark.{Mark}
+use Rattle.cif_canon.specs.declared.explained.Mark.TheVariants as mark
 
 -- a record with its place among the entries
 pub record Placed (K B : Type 0) : Type 0 where

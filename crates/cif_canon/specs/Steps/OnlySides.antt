@@ -24,9 +24,9 @@ use Rattle.cif_weeks.specs.declared.run.Run.{Run}
 use Rattle.cif_canon.specs.Differences.{AreDifferentRecords, TurnInto, of_side}
 use Rattle.cif_canon.specs.Steps.Records.{IsRunOf}
 use Rattle.cif_canon.specs.Steps.Sides.{at_side}
-use Rattle.cif_canon.specs.declared.side.Side.{Side}
-use Rattle.cif_canon.specs.declared.side.Side.TheVariants.{Left, Right}
-use Rattle.cif_canon.specs.declared.side.Sided.{Sided}
+use Rattle.cif_canon.specs.declared.listed_differences.Side.{Side}
+use Rattle.cif_canon.specs.declared.listed_differences.Side.TheVariants.{Left, Right}
+use Rattle.cif_canon.specs.declared.listed_differences.Sided.{Sided}
 
 -- what is left of a source: none where the other one has the same body, and else itself
 abbrev pub IsOnlySource : {B : Type 0} → List (Terms B) → List (Terms B) → Option ℕ → Option ℕ → Option ℕ → Type 0

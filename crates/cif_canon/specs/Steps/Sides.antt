@@ -4,9 +4,9 @@ use Rattle.cif_calendar.specs.Terms.{Terms}
 use Rattle.cif_weeks.specs.Permanent.{Permanent}
 use Rattle.cif_weeks.specs.declared.run.Run.{Run}
 use Rattle.cif_canon.specs.Steps.Texts.{HasRecord, record_at, run_text}
-use Rattle.cif_canon.specs.declared.side.Side.{Side}
-use Rattle.cif_canon.specs.declared.side.Side.TheVariants.{Left, Right}
-use Rattle.cif_canon.specs.declared.side.Sided.{Sided}
+use Rattle.cif_canon.specs.declared.listed_differences.Side.{Side}
+use Rattle.cif_canon.specs.declared.listed_differences.Side.TheVariants.{Left, Right}
+use Rattle.cif_canon.specs.declared.listed_differences.Sided.{Sided}
 
 -- the list of a side
 abbrev pub at_side : {A : Type 0} → A → A → Side → A

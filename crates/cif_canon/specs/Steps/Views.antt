@@ -3,8 +3,8 @@ use Rattle.std.specs.Prelude.{ℕ, List, [], Bool, false, ◌&&◌, nat_le, nat_
 use Rattle.std.specs.Cmp.Lexicographic.{pointwise}
 use Rattle.cif_columns.specs.Day.{weekday_of}
 use Rattle.cif_extract.specs.BodyParts.{BodyParts}
-use Rattle.cif_records.specs.declared.assoc_body.AssocBody.{AssocBody}
-use Rattle.cif_records.specs.declared.assoc_key.AssocKey.{AssocKey}
+use Rattle.cif_records.specs.declared.association.AssocBody.{AssocBody}
+use Rattle.cif_records.specs.declared.association.AssocKey.{AssocKey}
 use Rattle.cif_weeks.specs.Permanent.{Permanent}
 use Rattle.cif_canon.specs.Views.{association_line, schedule_text, train_text}
 use Rattle.cif_canon.specs.declared.layout.Layout.{Layout}

@@ -16,7 +16,7 @@ use Rattle.cif_extract.specs.declared.fault.Fault.TheVariants as fault
 use Rattle.cif_extract.specs.declared.place.Place.{Place}
 use Rattle.cif_extract.specs.declared.place.Place.TheVariants as at
 use Rattle.cif_extract.specs.declared.reading.Reading.{Reading}
-use Rattle.cif_extract.specs.declared.schedule.Schedule.{Schedule}
+use Rattle.cif_extract.specs.declared.extract.Schedule.{Schedule}
 use Rattle.cif_extract.specs.declared.reading.TakeFault.{TakeFault}
 use Rattle.cif_extract.specs.declared.reading.TakeFault.TheVariants as untaken
 use Rattle.cif_records.specs.Basic.{terms_of}
@@ -32,8 +32,8 @@ use Rattle.cif_records.specs.declared.basic.BasicTerms.{BasicTerms}
 use Rattle.cif_records.specs.declared.detail.Detail.{Detail}
 use Rattle.cif_records.specs.declared.extra.Extra.{Extra}
 use Rattle.cif_records.specs.declared.header.Header.{Header}
-use Rattle.cif_records.specs.declared.kind.Kind.{Kind}
-use Rattle.cif_records.specs.declared.kind.Kind.TheVariants.{Lo, Li, Cr}
+use Rattle.cif_records.specs.declared.record.Kind.{Kind}
+use Rattle.cif_records.specs.declared.record.Kind.TheVariants.{Lo, Li, Cr}
 use Rattle.cif_records.specs.declared.origin.Origin.{Origin}
 use Rattle.cif_records.specs.declared.record.Record.{Record}
 use Rattle.cif_records.specs.declared.record.Record.TheVariants as of

@@ -10,15 +10,17 @@ returns g c =
       each = λ w i e.
           let (is, below, on) = l.each w i e in
           let (runs, there) = (c.with_dates-days.ensures w (omega (arith, below, c.loop-weekday.auto.weekday-end))).0 on in
-          let (day, from, upto, at) = there in
-          (is, record {
-            some = search rules;
-            on = subst (λ days. RunsOn days w) c.days.ensures runs;
-            day = day;
-            from = from;
-            upto = upto;
-            is = at;
-          });
+          let (day, from, upto, at) = there in (
+            is,
+            record {
+              some = search rules;
+              on = subst (λ days. RunsOn days w) c.days.ensures runs;
+              day = day;
+              from = from;
+              upto = upto;
+              is = at;
+            },
+          );
       all = λ w below then.
           l.all w (omega (arith, below, c.loop-weekday-test.false))
           ((c.with_dates-days.ensures w below).1

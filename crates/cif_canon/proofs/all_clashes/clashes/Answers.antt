@@ -2,7 +2,7 @@
 use Rattle.std.proofs.Common.{◌≡◌, List, [], Some, sym, subst}
 use Rattle.std.specs.Prelude.{◌↔◌, slice_get}
 use Rattle.cif_extract.specs.ExtractParts.{extract_parts}
-use Rattle.cif_extract.specs.declared.clash.Clash.{Clash}
+use Rattle.cif_extract.specs.declared.fault.Clash.{Clash}
 use Rattle.cif_canon.specs.Accepted.{IsClearExtract}
 use Rattle.cif_canon.specs.Fault.{IsFirstClashIn}
 use Rattle.cif_canon.proofs.ClashLists.{clashes-clear, clashes-first}

@@ -6,7 +6,7 @@ use Rattle.cif_calendar.specs.Entries.{association_entries, association_terms, s
 use Rattle.cif_columns.specs.Sink.{HasFailed, HasWritten}
 use Rattle.cif_columns.proofs.WrittenTexts.{failed_first, failed_second, written_both}
 use Rattle.cif_extract.specs.ExtractParts.{extract_parts}
-use Rattle.cif_extract.specs.declared.schedule.Schedule.{Schedule}
+use Rattle.cif_extract.specs.declared.extract.Schedule.{Schedule}
 use Rattle.cif_records.specs.AssocKey.{key_cmp}
 use Rattle.cif_records.specs.declared.association.Association.{Association}
 use Rattle.cif_canon.specs.Explanation.{AreExplained, IsExplanation, base_of, explanation_heading, itself}

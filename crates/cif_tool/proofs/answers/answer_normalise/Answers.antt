@@ -1,6 +1,6 @@
 -- The text has to be named: what `normalise` wrote, flushed or a prefix; of known bytes `normalise-answer` says that it answers.
 use Rattle.cif_canon.proofs.HandedFaults.{at-fault}
-use Rattle.cif_canon.specs.declared.counts.Counts.{Counts}
+use Rattle.cif_canon.specs.declared.canonical_form.Counts.{Counts}
 use Rattle.cif_tool.proofs.Answered.{fails, flushed}
 use Rattle.cif_tool.proofs.KnownAnswers.{normalise-answer, normalise-failed}
 use Rattle.cif_tool.proofs.answers.answer_normalise.Goals as goal

@@ -3,7 +3,7 @@ use Rattle.std.proofs.Common.{◌∙◌, ◌++◌, ◌∷◌, [], List, Some, ap
 use Rattle.std.proofs.lemmas.Result.{err_from_is_err_and}
 use Rattle.cif_extract.specs.BodyParts.{BodyParts}
 use Rattle.cif_extract.specs.Steps.Reading.{Progress, progress_of, schedule_of}
-use Rattle.cif_extract.specs.declared.schedule.Schedule.{Schedule}
+use Rattle.cif_extract.specs.declared.extract.Schedule.{Schedule}
 use Rattle.cif_extract.proofs.Schedules.{closed_some}
 use Rattle.cif_extract.proofs.reading.Reading.close.Goals as goal
 

@@ -3,7 +3,7 @@ use Rattle.std.proofs.Common.{ap, ◌∙◌}
 use Rattle.cif_extract.specs.OrderOfRecords.{after_extra}
 use Rattle.cif_extract.specs.Steps.Reading.{Progress, progress_of}
 use Rattle.cif_extract.proofs.TakenLines.{kind_here, step_extra}
-use Rattle.cif_records.specs.declared.kind.Kind.TheVariants.{Bx}
+use Rattle.cif_records.specs.declared.record.Kind.TheVariants.{Bx}
 use Rattle.cif_extract.proofs.reading.Reading.take_extra.Goals as goal
 
 pub returns : goal.returns

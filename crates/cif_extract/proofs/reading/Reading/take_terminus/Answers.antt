@@ -2,7 +2,7 @@
 use Rattle.std.proofs.Common.{◌≡◌, Some, sym, ◌∙◌, subst, ap}
 use Rattle.cif_extract.specs.Body.{KeepSomeBody}
 use Rattle.cif_extract.specs.Steps.Reading.{Progress, kept, progress_of}
-use Rattle.cif_records.specs.declared.kind.Kind.TheVariants.{Lt}
+use Rattle.cif_records.specs.declared.record.Kind.TheVariants.{Lt}
 use Rattle.cif_records.specs.declared.record.Record.TheVariants as of
 use Rattle.cif_extract.proofs.BasicSteps.{closing, terminus_none}
 use Rattle.cif_extract.proofs.JourneySteps.{keeps_body}

@@ -1,0 +1,49 @@
+-- Key by key (`FoundClashes`): the first run of positions is all of a key, whose clash goes behind.
+use Rattle.std.proofs.Common.{◌<◌, List, ℕ, length, sym, subst}
+use Rattle.std.specs.Prelude.{All}
+use Rattle.std.proofs.lemmas.List.{nil_from_length}
+use Rattle.std.proofs.lemmas.Bool.{eqb-true}
+use Rattle.std.proofs.lemmas.List.Elements.{All-drop}
+use Rattle.cif_calendar.specs.Keys.{keyed}
+use Rattle.cif_calendar.proofs.FirstClash.{same_key-cmp}
+use Rattle.cif_canon.proofs.FoundClashes.{AreAddedSoFar, added-all, added-key, added-nothing}
+use Rattle.cif_canon.proofs.KeyPositions.{within-entries}
+use Rattle.cif_canon.proofs.all_clashes.add_clashes.Goals as goal
+
+pub loop-rest-init : goal.loop-rest-init
+loop-rest-init g c =
+    let es = keyed g.E.Entry.key g.E.Entry.terms c.args.entries.now in
+    let window = c.args.window.now in record {
+      within = subst (λ (rest : List ℕ). All (λ i. i < length c.args.entries.now) rest) (sym c.as_slice-rest.ensures.value)
+          c.in_ok-positions.ensures.within;
+      added = subst (λ (rest : List ℕ). AreAddedSoFar g.E.Key.Ord.cmp es window.first window.last g.E.NamedClash.clash_of
+          c.args.known.items c.args.known.items rest)
+          (sym c.as_slice-rest.ensures.value)
+          (added-nothing g.E.Key.Ord.cmp es window.first window.last g.E.NamedClash.clash_of c.args.known.items
+          c.in_ok-positions.positions.items
+          (λ i below. c.in_ok-positions.ensures.whole i (within-entries g.E.Entry.key g.E.Entry.terms c.args.entries.now i below))
+          c.in_ok-positions.ensures.rising);
+    }
+
+pub loop-rest-preserved : goal.loop-rest-preserved
+loop-rest-preserved g c =
+    let es = keyed g.E.Entry.key g.E.Entry.terms c.args.entries.now in
+    let window = c.args.window.now in
+    let same = same_key-cmp g.E.Key.PartialEq.eq g.E.Key.Ord.cmp g.met.E.Key.Ord.matches_eq g.met.E.Entry.same_key in
+    record {
+      within = subst (λ (rest : List ℕ). All (λ i. i < length c.args.entries.now) rest) (sym c.split_at.ensures.back)
+          (All-drop (λ i. i < length c.args.entries.now) c.count_of_first_key.result c.loop-rest.rest.now c.loop-rest.invariant.within);
+      added = rw (c.split_at.ensures.back)
+          (added-key g.E.Key.Ord.cmp es window.first window.last g.E.NamedClash.clash_of c.args.known.items g.met.E.Key.Ord.total same
+          c.loop-rest.all.items _ c.loop-rest.rest.now c.loop-rest.invariant.added c.count_of_first_key.result
+          c.count_of_first_key.ensures (rw c.split_at.ensures.front at c.in_ok-add_clash_of_key.ensures));
+    }
+
+pub returns : goal.returns
+returns g c =
+    let es = keyed g.E.Entry.key g.E.Entry.terms c.args.entries.now in
+    let window = c.args.window.now in
+    added-all g.E.Key.Ord.cmp es window.first window.last g.E.NamedClash.clash_of c.args.known.items c.loop-rest.all.items
+    (subst (λ (rest : List ℕ). AreAddedSoFar g.E.Key.Ord.cmp es window.first window.last g.E.NamedClash.clash_of c.args.known.items
+    c.loop-rest.all.items rest)
+    (nil_from_length c.loop-rest.rest.now (eqb-true _ _ (sym c.loop-rest-test.ensures))) c.loop-rest.invariant.added)

@@ -1,0 +1,121 @@
+-- The fronts of both rests are the positions of one key (`ComparedKeys`), of which its calendars tell (`ComparedCalendars`).
+use Rattle.std.proofs.Common.{◌<◌, ℕ, List, length, sym, subst, arith}
+use Rattle.std.specs.Prelude.{All}
+use Rattle.std.proofs.lemmas.List.Elements.{All-drop}
+use Rattle.cif_calendar.specs.Keys.{keyed}
+use Rattle.cif_calendar.proofs.FirstClash.{same_key-cmp}
+use Rattle.cif_canon.specs.Steps.Turns.{AreFrom, IsFront}
+use Rattle.cif_canon.proofs.ComparedCalendars.{alike-on, clear-positions, differ-on}
+use Rattle.cif_canon.proofs.ComparedKeys.{AreAlikeBefore, AreFronts, alike-nothing, are-fronts}
+use Rattle.cif_canon.proofs.KeyPositions.{within-entries}
+use Rattle.cif_canon.proofs.comparison.first_difference.Given.{Over}
+use Rattle.cif_canon.proofs.comparison.first_difference.Goals as goal
+use Rattle.cif_canon.proofs.comparison.first_difference.Goals.{After-split_at-in-Some}
+
+pub loop-entry-init : goal.loop-entry-init
+loop-entry-init g c =
+    let xs = keyed g.E.Entry.key g.E.Entry.terms c.args.left.now in
+    let ys = keyed g.E.Entry.key g.E.Entry.terms c.args.right.now in
+    let first = c.args.window.now.first in
+    let last = c.args.window.now.last in
+    let same = same_key-cmp g.E.Key.PartialEq.eq g.E.Key.Ord.cmp g.met.E.Key.Ord.matches_eq g.met.E.Entry.same_key in
+    record {
+      left_within = subst (λ (is : List ℕ). All (λ i. i < length c.args.left.now) is) (sym c.as_slice-left_rest.ensures.value)
+          c.in_ok-left_positions.ensures.within;
+      right_within = subst (λ (is : List ℕ). All (λ i. i < length c.args.right.now) is) (sym c.as_slice-right_rest.ensures.value)
+          c.in_ok-right_positions.ensures.within;
+      alike =
+          subst (λ (l : List ℕ). AreAlikeBefore g.E.Key.Ord.cmp xs ys first last l c.as_slice-right_rest.result.now)
+          (sym c.as_slice-left_rest.ensures.value)
+          (subst (λ (r : List ℕ). AreAlikeBefore g.E.Key.Ord.cmp xs ys first last c.in_ok-left_positions.left_positions.items r)
+          (sym c.as_slice-right_rest.ensures.value)
+          (alike-nothing g.E.Key.Ord.cmp g.met.E.Key.Ord.total same xs ys first last c.in_ok-left_positions.left_positions.items
+          c.in_ok-right_positions.right_positions.items c.in_ok-left_positions.ensures.rising c.in_ok-right_positions.ensures.rising
+          (λ i below. c.in_ok-left_positions.ensures.whole i
+          (within-entries g.E.Entry.key g.E.Entry.terms c.args.left.now i below))
+          (λ i below. c.in_ok-right_positions.ensures.whole i
+          (within-entries g.E.Entry.key g.E.Entry.terms c.args.right.now i below))));
+    }
+
+pub count_of_key-requires-clause-from : goal.count_of_key-requires-clause-from
+count_of_key-requires-clause-from g c =
+    subst (AreFrom g.E.Key.Ord.cmp (keyed g.E.Entry.key g.E.Entry.terms c.args.left.now) c.loop-entry.left_rest.now) (sym c.key.ensures)
+    c.in-Some.ensures.some.left_from
+
+pub count_of_key-requires-in-Some-clause-from : goal.count_of_key-requires-in-Some-clause-from
+count_of_key-requires-in-Some-clause-from g c =
+    subst (AreFrom g.E.Key.Ord.cmp (keyed g.E.Entry.key g.E.Entry.terms c.args.right.now) c.loop-entry.right_rest.now)
+    (sym c.key-in-Some.ensures) c.in-Some.ensures.some.right_from
+
+-- the fronts of both rests, as they were counted and split off
+fronts : (g : Over) (c : After-split_at-in-Some g) →
+    AreFronts g.E.Key.Ord.cmp (keyed g.E.Entry.key g.E.Entry.terms c.args.left.now)
+    (keyed g.E.Entry.key g.E.Entry.terms c.args.right.now) c.args.window.now.first c.args.window.now.last c.loop-entry.left_rest.now
+    c.loop-entry.right_rest.now (g.E.Entry.key c.in-Some.entry.now) c.split_at.result.0.now c.split_at.result.1.now
+    c.split_at-in-Some.result.0.now c.split_at-in-Some.result.1.now
+fronts g c =
+    let cmp = g.E.Key.Ord.cmp in
+    let xs = keyed g.E.Entry.key g.E.Entry.terms c.args.left.now in
+    let ys = keyed g.E.Entry.key g.E.Entry.terms c.args.right.now in
+    let l = c.loop-entry.left_rest.now in
+    let r = c.loop-entry.right_rest.now in
+    let left = subst (λ k. IsFront cmp xs l k c.count_of_key.result) c.key.ensures c.count_of_key.ensures in
+    let right = subst (λ k. IsFront cmp ys r k c.count_of_key-in-Some.result) c.key-in-Some.ensures c.count_of_key-in-Some.ensures in
+    rw (c.split_at.ensures.front, c.split_at.ensures.back, c.split_at-in-Some.ensures.front, c.split_at-in-Some.ensures.back)
+    (are-fronts cmp g.met.E.Key.Ord.total
+    (same_key-cmp g.E.Key.PartialEq.eq cmp g.met.E.Key.Ord.matches_eq g.met.E.Entry.same_key) xs ys c.args.window.now.first
+    c.args.window.now.last l r c.loop-entry.invariant.alike (g.E.Entry.key c.in-Some.entry.now) c.in-Some.ensures.some _ _ left right)
+
+pub clear_calendar-requires-clause-clear : goal.clear_calendar-requires-clause-clear
+clear_calendar-requires-clause-clear g c =
+    let here = (goal.at.clear_calendar-requires-clause-clear g c).After-split_at-in-Some in
+    let k = g.E.Entry.key c.in-Some.entry.now in
+    clear-positions g.E.Entry.key g.E.Entry.terms c.args.left.now k c.split_at.result.0.now (fronts g here).left
+    c.args.window.now.first c.args.window.now.last (c.requires.left.key k)
+
+pub clear_calendar-requires-in-Some-clause-clear : goal.clear_calendar-requires-in-Some-clause-clear
+clear_calendar-requires-in-Some-clause-clear g c =
+    let here = (goal.at.clear_calendar-requires-in-Some-clause-clear g c).After-split_at-in-Some in
+    let k = g.E.Entry.key c.in-Some.entry.now in
+    clear-positions g.E.Entry.key g.E.Entry.terms c.args.right.now k c.split_at-in-Some.result.0.now (fronts g here).right
+    c.args.window.now.first c.args.window.now.last (c.requires.right.key k)
+
+pub returns-in-Some-first_day-clause-some : goal.returns-in-Some-first_day-clause-some
+returns-in-Some-first_day-clause-some g c =
+    let both = fronts g (goal.at.returns-in-Some-first_day-clause-some g c).After-split_at-in-Some in
+    let k = g.E.Entry.key c.in-Some.entry.now in
+    let first = c.args.window.now.first in
+    let last = c.args.window.now.last in
+    let found = c.in-Some-first_day.ensures in
+    let is = c.in_ok-one.ensures.first_is in
+    let ends = c.in_ok-one.ensures.last_is in
+    let from = found.from in
+    let upto = found.upto in
+    both.differ c.in-Some-first_day.day (omega (arith, from, is)) (omega (arith, upto, ends))
+    (differ-on g.E.Entry.key g.E.Entry.terms g.met.E.Entry.cancelled c.args.left.now c.args.right.now k
+    c.split_at.result.0.now c.split_at-in-Some.result.0.now both.left both.right first last c.in_ok-one.one c.in_ok-other.other
+    c.in_ok-one.ensures c.in_ok-other.ensures
+    c.in-Some-first_day.day (omega (arith, from, is)) (omega (arith, upto, ends)) found.other)
+    (λ e after before. alike-on g.E.Entry.key g.E.Entry.terms g.met.E.Entry.cancelled c.args.left.now c.args.right.now k
+    c.split_at.result.0.now c.split_at-in-Some.result.0.now both.left both.right first last c.in_ok-one.one c.in_ok-other.other
+    c.in_ok-one.ensures c.in_ok-other.ensures
+    e after (omega (arith, before, upto, ends)) (found.before e (omega (arith, after, is)) before))
+
+pub loop-entry-smaller : goal.loop-entry-smaller
+loop-entry-smaller g c = (fronts g (goal.at.loop-entry-smaller g c).After-split_at-in-Some).smaller
+
+pub loop-entry-preserved : goal.loop-entry-preserved
+loop-entry-preserved g c =
+    let both = fronts g (goal.at.loop-entry-preserved g c).After-split_at-in-Some in
+    let is = c.in_ok-one.ensures.first_is in
+    let ends = c.in_ok-one.ensures.last_is in record {
+      left_within = subst (λ (rest : List ℕ). All (λ i. i < length c.args.left.now) rest) (sym c.split_at.ensures.back)
+          (All-drop (λ i. i < length c.args.left.now) _ _ c.loop-entry.invariant.left_within);
+      right_within = subst (λ (rest : List ℕ). All (λ i. i < length c.args.right.now) rest) (sym c.split_at-in-Some.ensures.back)
+          (All-drop (λ i. i < length c.args.right.now) _ _ c.loop-entry.invariant.right_within);
+      alike =
+          both.alike (λ d from upto. alike-on g.E.Entry.key g.E.Entry.terms g.met.E.Entry.cancelled c.args.left.now c.args.right.now
+          (g.E.Entry.key c.in-Some.entry.now) c.split_at.result.0.now c.split_at-in-Some.result.0.now both.left both.right
+          c.args.window.now.first c.args.window.now.last c.in_ok-one.one c.in_ok-other.other c.in_ok-one.ensures
+          c.in_ok-other.ensures d from upto (c.in_default-first_day.ensures d (omega (arith, from, is)) (omega (arith, upto, ends))));
+    }

@@ -1,0 +1,235 @@
+//! A reader and a writer for tests, which fail where they are told to.
+ghost use Rattle.std.specs.Prelude.{◌≡◌, ◌+◌, ◌-◌, ◌^◌, ◌<◌, ◌≤◌, [], Some, IsTrue, IfOk, IsErr};
+ghost use Rattle.std.specs.Prelude.{min, length, take, drop};
+ghost use Rattle.std.specs.Io.{ReadsAtMost, WritesAtMost};
+ghost use Rattle.std.specs.Io.KnownBytes.{ReadConsumes, Keeps, WriteAppends};
+ghost use Rattle.cif_columns.specs.Devices.{TellsErrors, OneError, told_count};
+ghost use Rattle.cif_columns.specs.End.{ends_below, bytes_left};
+ghost use Rattle.cif_columns.specs.declared.trials.TheConstants.{ROOM};
+
+use crate::sink::WriteDevice;
+use crate::source::ReadDevice;
+use std::io;
+use std::io::{Read, Write};
+
+/// What a `TrialReader` does after its bytes.
+#[derive(Clone, Copy, Debug, PartialEq, Eq)]
+pub enum End {
+    /// It has no more bytes.
+    Stop,
+    /// Each further read fails.
+    Fail,
+    /// It goes on with its bytes from this place, for ever.
+    Again(usize),
+}
+
+/// Gives its bytes in pieces of at most `step`, and then does what `end` says.
+#[derive(Drop)]
+pub struct TrialReader<'a> {
+    bytes: &'a [u8],
+    at: usize,
+    step: usize,
+    end: End,
+    calls: u64,
+    failures: u64,
+    ghost within: { at ≤ length bytes.now },
+    ghost moves: { 0 < step },
+    ghost goes_on: { IsTrue (ends_below end (length bytes.now)) },
+}
+
+impl<'a> TrialReader<'a> {
+    ghost use Rattle.cif_columns.specs.TrialReader.{read_calls};
+
+    /// A reader that hasn't been read.
+    pub fn new(bytes: &'a [u8], step: usize, end: End) -> Self
+        requires moves { 0 < step }
+        requires goes_on { IsTrue (ends_below end (length bytes.now)) }
+        ensures bytes { ⟦<TrialReader<'a> as Read>⟧.remaining result ≡ bytes_left end bytes.now }
+        ensures errors { ⟦<TrialReader<'a> as ReadDevice>⟧.read_errors result ≡ Some 0 }
+        ensures calls { read_calls result ≡ 0 }
+    {
+        TrialReader {
+            bytes,
+            at: 0,
+            step,
+            end,
+            calls: 0,
+            failures: 0,
+        }
+    }
+
+    /// How often it was read, at most `u64::MAX`.
+    pub fn calls(&self) -> u64
+        ensures { result ≡ read_calls self.now }
+    {
+        self.calls
+    }
+}
+
+impl<'a> Read for TrialReader<'a> {
+    ghost use Rattle.cif_columns.specs.TrialReader.{read_calls};
+
+    ghost remaining = { λ r. bytes_left r.end (drop r.at r.bytes.now) };
+
+    fn read(&mut self, buf: &mut [u8]) -> io::Result<usize>
+        ensures bound { ReadsAtMost result buf.new }
+        ensures bytes { ReadConsumes (⟦<TrialReader<'a> as Read>⟧.remaining self.old)
+            (⟦<TrialReader<'a> as Read>⟧.remaining self.new) result buf.new }
+        ensures errors { TellsErrors (told_count self.old.failures) (told_count self.new.failures)
+            result }
+        ensures calls { read_calls self.new ≡ min (read_calls self.old + 1) (2 ^ 64 - 1) }
+    {
+        self.calls = self.calls.saturating_add(1);
+        if buf.is_empty() {
+            return Ok(0);
+        }
+        let at = match self.end {
+            _ if self.at < self.bytes.len() => self.at,
+            End::Stop => return Ok(0),
+            End::Fail => {
+                self.failures = self.failures.saturating_add(1);
+                return Err(io::ErrorKind::Other.into());
+            }
+            End::Again(place) => place,
+        };
+        let n = give(&self.bytes[at..], self.step, buf);
+        self.at = at + n;
+        Ok(n)
+    }
+}
+
+impl<'a> ReadDevice for TrialReader<'a> {
+    ghost use Rattle.cif_columns.specs.TrialReader.{read_calls};
+
+    ghost read_errors = { λ r. told_count r.failures };
+
+    fn read_once(&mut self, buf: &mut [u8]) -> io::Result<usize>
+        ensures bound { ReadsAtMost result buf.new }
+        ensures bytes { ReadConsumes (⟦<TrialReader<'a> as Read>⟧.remaining self.old)
+            (⟦<TrialReader<'a> as Read>⟧.remaining self.new) result buf.new }
+        ensures errors { TellsErrors (⟦<TrialReader<'a> as ReadDevice>⟧.read_errors self.old)
+            (⟦<TrialReader<'a> as ReadDevice>⟧.read_errors self.new) result }
+        ensures calls { read_calls self.new ≡ min (read_calls self.old + 1) (2 ^ 64 - 1) }
+    {
+        self.read(buf)
+    }
+}
+
+// Copies a piece of at most `step` bytes to the front of `buf`, and returns its length.
+fn give(rest: &[u8], step: usize, buf: &mut [u8]) -> usize
+    requires { 0 < step }
+    ensures within { result ≤ length rest.now }
+    ensures bound { result ≤ length buf.new }
+    ensures given { take result buf.new ≡ take result rest.now }
+    ensures none { result ≡ 0 → 0 < length buf.new → length rest.now ≡ 0 }
+{
+    let n = rest.len().min(buf.len()).min(step);
+    buf[..n].copy_from_slice(&rest[..n]);
+    n
+}
+
+/// The most bytes that a `TrialWriter` can keep.
+const ROOM: usize = 2048;
+
+/// Keeps the first `takes` bytes, and then takes none: it answers 0, or fails.
+#[derive(Drop)]
+pub struct TrialWriter {
+    kept: [u8; ROOM],
+    len: usize,
+    takes: usize,
+    zero: bool,
+    calls: u64,
+    failures: u64,
+    ghost within: { len ≤ takes },
+    ghost fits: { takes ≤ ROOM },
+}
+
+impl TrialWriter {
+    ghost use Rattle.cif_columns.specs.TrialWriter.{write_calls};
+
+    /// A writer that hasn't been written to. After its bytes it answers 0 if `zero`, and else
+    /// fails.
+    pub fn new(takes: usize, zero: bool) -> Self
+        requires { takes ≤ 2048 }
+        ensures bytes { ⟦<TrialWriter as Write>⟧.contents result ≡ Some [] }
+        ensures errors { ⟦<TrialWriter as WriteDevice>⟧.write_errors result ≡ Some 0 }
+        ensures calls { write_calls result ≡ 0 }
+    {
+        TrialWriter {
+            kept: [0; ROOM],
+            len: 0,
+            takes,
+            zero,
+            calls: 0,
+            failures: 0,
+        }
+    }
+
+    /// The bytes that it has taken.
+    pub fn bytes(&self) -> &[u8]
+        ensures { ⟦<TrialWriter as Write>⟧.contents self.now ≡ Some result.now }
+    {
+        &self.kept[..self.len]
+    }
+
+    /// How often it was written to or flushed, at most `u64::MAX`.
+    pub fn calls(&self) -> u64
+        ensures { result ≡ write_calls self.now }
+    {
+        self.calls
+    }
+}
+
+impl Write for TrialWriter {
+    ghost use Rattle.cif_columns.specs.TrialWriter.{write_calls};
+
+    ghost contents = { λ w. Some (take w.len w.kept) };
+
+    fn write(&mut self, buf: &[u8]) -> io::Result<usize>
+        ensures bound { WritesAtMost result buf.now }
+        ensures bytes { WriteAppends (⟦<TrialWriter as Write>⟧.contents self.old)
+            (⟦<TrialWriter as Write>⟧.contents self.new) result buf.now }
+        ensures fine { IfOk result (λ n. (n ≡ 0 → length buf.now ≡ 0)
+            → self.new.failures ≡ self.old.failures) }
+        ensures stuck { IfOk result (λ n. n ≡ 0 → 0 < length buf.now
+            → OneError (told_count self.old.failures) (told_count self.new.failures)) }
+        ensures errors { IsErr result
+            → OneError (told_count self.old.failures) (told_count self.new.failures) }
+        ensures calls { write_calls self.new ≡ min (write_calls self.old + 1) (2 ^ 64 - 1) }
+    {
+        self.calls = self.calls.saturating_add(1);
+        let n = buf.len().min(self.takes - self.len);
+        if n == 0 && !buf.is_empty() {
+            self.failures = self.failures.saturating_add(1);
+            if !self.zero {
+                return Err(io::ErrorKind::Other.into());
+            }
+        }
+        self.kept[self.len..self.len + n].copy_from_slice(&buf[..n]);
+        self.len += n;
+        Ok(n)
+    }
+
+    fn flush(&mut self) -> io::Result<()>
+        ensures bytes { Keeps (⟦<TrialWriter as Write>⟧.contents self.old)
+            (⟦<TrialWriter as Write>⟧.contents self.new) }
+        ensures errors { TellsErrors (told_count self.old.failures) (told_count self.new.failures)
+            result }
+        ensures calls { write_calls self.new ≡ min (write_calls self.old + 1) (2 ^ 64 - 1) }
+    {
+        self.calls = self.calls.saturating_add(1);
+        Ok(())
+    }
+}
+
+impl WriteDevice for TrialWriter {
+    ghost write_errors = { λ w. told_count w.failures };
+
+    fn write_once(&mut self, bytes: &[u8]) -> io::Result<usize> {
+        self.write(bytes)
+    }
+
+    fn flush_once(&mut self) -> io::Result<()> {
+        self.flush()
+    }
+}

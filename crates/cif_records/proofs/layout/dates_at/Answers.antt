@@ -1,0 +1,12 @@
+-- No reason is left where both dates are there and in order: `dates_judged`, after the test of the days as numbers.
+use Rattle.std.proofs.Common.{◌≤◌, arith}
+use Rattle.std.proofs.lemmas.Bool.Decides.{nat_tests}
+use Rattle.cif_records.proofs.Judging.{dates_judged}
+use Rattle.cif_records.proofs.layout.dates_at.Goals as goal
+
+pub returns-then-le : goal.returns-then-le
+returns-then-le c =
+    let in_order : c.in_ok-first.first ≤ c.in_ok-last.last = grind (arith, nat_tests) in
+    let first = c.in_ok-first.ensures in
+    let last = c.in_ok-last.ensures in
+    (dates_judged _ _ _ _ first.exact last.judged.0 last.exact in_order, (first.judged.1, last.judged.1))

@@ -1,0 +1,64 @@
+-- The text that went to the errors has to be named: `clap`'s, or the line of the fault.
+use Rattle.std.proofs.Common.{◌≡◌, ◌≢◌, ℕ, List, [], ◌∷◌, ◌++◌, Option, None, Some, IfSome, Err, option_map, refl, ap, arith, subst, sym, ◌∙◌}
+use Rattle.std.specs.Prelude.{unwrap_or}
+use Rattle.std.proofs.lemmas.Result.{err_from_is_err_and}
+use Rattle.cif_columns.proofs.WrittenTexts.{failed_second}
+use Rattle.clap.specs.declared.error.Error.{Error}
+use Rattle.cif_tool.specs.JobFault.{Explains, status_of}
+use Rattle.cif_tool.specs.declared.job.JobFault.{JobFault}
+use Rattle.cif_tool.specs.declared.job.JobFault.TheVariants.{Usage, BadDate, BadUid, OneInput, Memory}
+use Rattle.cif_tool.proofs.job.JobFault.explain.Goals as goal
+
+-- the text, if there is one, as a line
+line-names : {A : Type 0} (now : A → List ℕ) (o : Option A) (other : A) (line : List ℕ) → line ≡ now (unwrap_or o other) ++ (10 ∷ []) →
+    IfSome (option_map now o) (λ words. line ≡ words ++ (10 ∷ []))
+line-names now None other line h = tt
+line-names now (Some text) other line h = h
+
+-- any other fault than a usage error has a status of its own
+own-status : (fault : JobFault) → ((error : Error) → fault ≢ Usage error) → status_of fault ≢ 0
+own-status (Usage error) other zero = other error refl
+own-status BadDate other zero = absurd (omega (arith, zero))
+own-status BadUid other zero = absurd (omega (arith, zero))
+own-status OneInput other zero = absurd (omega (arith, zero))
+own-status Memory other zero = absurd (omega (arith, zero))
+
+pub returns-in_err-flush-in-Usage : goal.returns-in_err-flush-in-Usage
+returns-in_err-flush-in-Usage g c =
+    let call = c.from_residual-in_err-flush-in-Usage in
+    let text = c.as_bytes.result.now in
+    let p = err_from_is_err_and call.result call.ensures.1 in
+    let failed = failed_second g.O.Write.contents g.O.WriteDevice.write_errors text [] c.args.output.now c.write_all.new.self
+    c.flush.new.self c.in_ok-write_all-in-Usage.ensures c.in_err-flush-in-Usage.ensures.writes in
+    subst (Explains g.O.Write.contents g.O.WriteDevice.write_errors g.E.Write.contents g.E.WriteDevice.write_errors c.args.self.now
+    c.args.output.now c.flush.new.self c.args.errors.now c.args.errors.now) (sym (p.1 ∙ ap Err p.2))
+    (sym c.status-status.ensures ∙ c.if-status-eq-DONE.true, refl, (text ++ [], failed))
+
+pub returns-in-Usage : goal.returns-in-Usage
+returns-in-Usage g c = (
+  c.status-status.ensures,
+  λ zero. absurd (c.if-status-eq-DONE.false (c.status-status.ensures ∙ zero)),
+  λ some. record {
+    text = c.as_bytes-else-status-eq-DONE.result.now;
+    names = rw c.in-Usage.is tt;
+    told = c.write_all-else-status-eq-DONE.result;
+    writes = c.write_all-else-status-eq-DONE.ensures;
+    silent = refl;
+  },
+)
+
+pub returns : goal.returns
+returns g c = (
+  c.status-status.ensures,
+  λ zero. absurd (own-status c.args.self.now c.in_default.not-Usage zero),
+  λ some. record {
+    text = c.as_bytes-in_default.result.now;
+    names = subst (λ o. IfSome o (λ words. c.as_bytes-in_default.result.now ≡ words ++ (10 ∷ []))) c.text.ensures.text
+        (line-names (λ line. line.now) c.text.result _ c.as_bytes-in_default.result.now
+        (c.as_bytes-in_default.ensures.value ∙ c.as_str.ensures.value ∙ c.line_of-line.ensures
+        ∙ ap (λ line. line.now ++ (10 ∷ [])) c.unwrap_or.ensures));
+    told = c.write_all-in_default.result;
+    writes = c.write_all-in_default.ensures;
+    silent = refl;
+  },
+)

@@ -1,0 +1,271 @@
+//! What the program reads and writes: its inputs, the output, and a line that is read again.
+use crate::words::is_standard;
+use arrayvec::ArrayVec;
+use cif_columns::{LINE_WIDTH, Line, ReadDevice, WriteDevice};
+use cif_records::Header;
+use std::fs::OpenFile;
+use std::io::{Read, Seek, SeekFrom, Write};
+use std::rt::Files;
+use std::{fs, io};
+
+/// How many bytes are kept of what was read first: a line and its ending.
+pub(crate) const START: usize = LINE_WIDTH + 2;
+
+/// The standard input, or a file. Neither is touched before it is read first, and a file that can't
+/// be opened is one that can't be read.
+#[derive(Drop)]
+pub(crate) struct ExtractInput<'a, R: Files + Input> {
+    /// What the user knows it by: of two inputs the side, and the file's name.
+    side: &'static str,
+    name: &'a str,
+    device: Device<'a, R>,
+    /// What was read first, up to the length of a line with its ending.
+    start: ArrayVec<u8, START>,
+    /// The system's number of the error that a read ended with.
+    failure: Option<i32>,
+}
+
+#[derive(Drop)]
+enum Device<'a, R: Files + Input> {
+    Unlocked(&'a R),
+    Standard(R::Reader),
+    Named { files: &'a R, name: &'a str },
+    Opened(R::File),
+}
+
+impl<'a, R: Files + Input> ExtractInput<'a, R> {
+    /// The file of this name, or the standard input where there is none or it is `-`.
+    pub(crate) fn of(rt: &'a R, side: &'static str, file: Option<&'a str>) -> Self {
+        ExtractInput {
+            side,
+            name: match file {
+                Some(name) if !is_standard(name) => name,
+                _ => "standard input",
+            },
+            device: match file {
+                Some(name) if !is_standard(name) => Device::Named { files: rt, name },
+                _ => Device::Unlocked(rt),
+            },
+            start: ArrayVec::new(),
+            failure: None,
+        }
+    }
+
+    /// Of two inputs the side, with what separates it from the name.
+    pub(crate) fn side(&self) -> &str {
+        self.side
+    }
+
+    /// The file's name.
+    pub(crate) fn name(&self) -> &str {
+        self.name
+    }
+
+    /// Whether it was read.
+    pub(crate) fn is_touched(&self) -> bool {
+        match self.device {
+            Device::Standard(_) | Device::Opened(_) => true,
+            Device::Unlocked(_) | Device::Named { .. } => self.failure.is_some(),
+        }
+    }
+
+    /// What was read first, up to the length of a line with its ending.
+    pub(crate) fn start(&self) -> &[u8] {
+        self.start.as_slice()
+    }
+
+    /// The header, if what was read begins with one.
+    pub(crate) fn header(&self) -> Option<Header> {
+        let columns = <[u8; LINE_WIDTH]>::try_from(self.start.as_slice().get(..LINE_WIDTH)?).ok()?;
+        Header::read(&Line::of(columns)?).ok()
+    }
+
+    /// The error that a read ended with.
+    pub(crate) fn failure(&self) -> Option<io::Error> {
+        Some(io::Error::from_raw_os_error(self.failure?))
+    }
+
+    /// The file, to be read again from its beginning: none where the input isn't a file that allows
+    /// it.
+    pub(crate) fn again(&self) -> Option<R::File> {
+        match &self.device {
+            Device::Opened(file) => {
+                let mut file = file.try_clone().ok()?;
+                file.seek(SeekFrom::Start(0)).ok()?;
+                Some(file)
+            }
+            _ => None,
+        }
+    }
+}
+
+impl<R: Files + Input> Read for Device<'_, R> {
+    fn read(&mut self, buf: &mut [u8]) -> io::Result<usize> {
+        match self {
+            Device::Standard(reader) => reader.read(buf),
+            Device::Opened(file) => file.read(buf),
+            Device::Unlocked(rt) => {
+                let mut reader = rt.reader();
+                let count = reader.read(buf);
+                *self = Device::Standard(reader);
+                count
+            }
+            Device::Named { files, name } => {
+                let mut file = fs::open(*files, *name)?;
+                let count = file.read(buf);
+                *self = Device::Opened(file);
+                count
+            }
+        }
+    }
+}
+
+impl<R: Files + Input> Read for ExtractInput<'_, R> {
+    fn read(&mut self, buf: &mut [u8]) -> io::Result<usize> {
+        match self.device.read(buf) {
+            Ok(count) => {
+                for byte in buf.iter().take(count) {
+                    if self.start.try_push(*byte).is_err() {
+                        break;
+                    }
+                }
+                Ok(count)
+            }
+            Err(error) => {
+                self.failure = error.raw_os_error();
+                Err(error)
+            }
+        }
+    }
+}
+
+impl<R: Files + Input> ReadDevice for ExtractInput<'_, R> {
+    fn read_once(&mut self, buf: &mut [u8]) -> io::Result<usize> {
+        self.read(buf)
+    }
+}
+
+/// A file that is read again.
+#[derive(Drop)]
+pub(crate) struct AgainInput<F: Read + Drop> {
+    pub(crate) file: F,
+}
+
+impl<F: Read + Drop> Read for AgainInput<F> {
+    fn read(&mut self, buf: &mut [u8]) -> io::Result<usize> {
+        self.file.read(buf)
+    }
+}
+
+impl<F: Read + Drop> ReadDevice for AgainInput<F> {
+    fn read_once(&mut self, buf: &mut [u8]) -> io::Result<usize> {
+        self.read(buf)
+    }
+}
+
+/// A writer, and the system's number of the error that a write ended with.
+#[derive(Drop)]
+pub(crate) struct Output<W> {
+    writer: W,
+    failure: Option<i32>,
+}
+
+impl<W: Write> Output<W> {
+    pub(crate) fn new(writer: W) -> Self {
+        Output {
+            writer,
+            failure: None,
+        }
+    }
+
+    /// The error that a write ended with.
+    pub(crate) fn failure(&self) -> Option<io::Error> {
+        Some(io::Error::from_raw_os_error(self.failure?))
+    }
+}
+
+impl<W: Write> Write for Output<W> {
+    fn write(&mut self, bytes: &[u8]) -> io::Result<usize> {
+        match self.writer.write(bytes) {
+            Ok(count) => Ok(count),
+            Err(error) => {
+                self.failure = error.raw_os_error();
+                Err(error)
+            }
+        }
+    }
+
+    fn flush(&mut self) -> io::Result<()> {
+        self.writer.flush()
+    }
+}
+
+impl<W: Write> WriteDevice for Output<W> {
+    fn write_once(&mut self, bytes: &[u8]) -> io::Result<usize> {
+        self.write(bytes)
+    }
+
+    fn flush_once(&mut self) -> io::Result<()> {
+        self.flush()
+    }
+}
+
+/// The bytes of a line that are looked at before it counts as endless.
+pub(crate) const LONGEST: usize = 4096;
+
+/// A line of an input that is read again.
+#[derive(Drop)]
+pub(crate) struct LineAgain {
+    /// Its first bytes.
+    pub(crate) bytes: ArrayVec<u8, LINE_WIDTH>,
+    /// How many it has, up to `LONGEST`.
+    pub(crate) length: usize,
+    /// Whether its end is known.
+    pub(crate) is_whole: bool,
+}
+
+/// The line of this number, counted from 1, without its ending.
+pub(crate) fn line_again<F: Read>(file: &mut F, number: u64) -> Option<LineAgain> {
+    let mut before = number.checked_sub(1)?;
+    let mut line = LineAgain {
+        bytes: ArrayVec::new(),
+        length: 0,
+        is_whole: true,
+    };
+    let mut last = 0;
+    let mut chunk = [0; LONGEST];
+    for _ in 0..u64::MAX {
+        let count = file.read(&mut chunk).ok()?;
+        if count == 0 {
+            return if before == 0 { Some(line) } else { None };
+        }
+        for byte in chunk.iter().take(count) {
+            if before > 0 {
+                if *byte == b'\n' {
+                    before -= 1;
+                }
+            } else if ends_with(&mut line, &mut last, *byte) {
+                return Some(line);
+            }
+        }
+    }
+    None
+}
+
+/// Whether the line ends with this byte. If not, it goes on with it.
+fn ends_with(line: &mut LineAgain, last: &mut u8, byte: u8) -> bool {
+    if byte == b'\n' {
+        if *last == b'\r' {
+            line.length = line.length.saturating_sub(1);
+            line.bytes.truncate(line.length);
+        }
+        return true;
+    }
+    if line.length == LONGEST {
+        return true;
+    }
+    let _ = line.bytes.try_push(byte);
+    line.length = line.length.saturating_add(1);
+    *last = byte;
+    false
+}
