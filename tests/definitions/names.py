@@ -60,7 +60,7 @@ def undeclared_names(document, declared):
 def main():
     files = all_files()
     sources = [file for file in files if re.match(r"(crates|tests)/.*(\.(rt|antt|py|c|sh|rows)|/run|/stdin)$", file)]
-    text = "\n".join((TOP / file).read_text(errors="replace") for file in sources)
+    text = "\n".join((TOP / file).read_text(errors="replace") for file in sources if (TOP / file).is_file())
     words = set(NAME.findall(text)) | {part for file in files for part in file.split("/")}
     declared = {name for pair in DECLARED.findall(text) for name in pair}
     missing = [line for document in sys.argv[1:] for line in missing_names(document, files, words)]

@@ -1,14 +1,16 @@
 -- Which weekdays are in a set that is kept as the bits of a number.
-use Rattle.std.proofs.Common.{◌≡◌, ◌≢◌, ℕ, zero, suc, ◌+◌, ◌-◌, ◌*◌, ◌/◌, ◌%◌, ◌^◌, ◌<◌, ◌≤◌, Bool, true, false, cond, nat_eq, min, max, Some, List, [], ◌∷◌}
+use Rattle.std.proofs.Common.{◌≡◌, ◌≢◌, ℕ, zero, suc, ◌+◌, ◌-◌, ◌*◌, ◌/◌, ◌%◌, ◌^◌, ◌<◌, ◌≤◌, Bool, true, false, cond, nat_eq}
+use Rattle.std.proofs.Common.{Some, List, [], ◌∷◌}
 use Rattle.std.proofs.Common.{length, get_or, refl, sym, subst, ap, ◌∙◌, arith, inl, inr, ⊎_elim}
 use Rattle.std.specs.Prelude.{◌↔◌, ◌⊎◌, slice_get, IsTrue}
-use Rattle.std.specs.Int.{bit_at, bit_not, trailing_zeros, leading_zeros, Width, w8}
+use Rattle.std.specs.Int.{bit_at, trailing_zeros, leading_zeros, w8}
 use Rattle.std.specs.Int.RustNames.{bit_or}
 use Rattle.std.specs.Int.Bits.{bit_and}
 use Rattle.std.proofs.lemmas.Bool.{cases_lt}
 use Rattle.std.proofs.lemmas.Bool.Decides.{nat_tests}
-use Rattle.std.proofs.lemmas.Nat.Bits.{bit_at_and, bit_at_or, bit_at_not, bit_at-lt, bit_at_above, bit_at-trailing_zeros, same_from_bits_below}
-use Rattle.std.proofs.lemmas.Nat.Bits.{bit_at_mask_inside, bit_at_mask_below, bit_at_mask_above, bit_at_cat_high, bit_at-zero, bit_at-pow_same, bit_at-pow_other, shr_and_one}
+use Rattle.std.proofs.lemmas.Nat.Bits.{bit_at_and, bit_at_or, bit_at_not, bit_at-lt, bit_at_above, bit_at-trailing_zeros}
+use Rattle.std.proofs.lemmas.Nat.Bits.{bit_at_mask_inside, bit_at_mask_below, bit_at_mask_above, bit_at_cat_high}
+use Rattle.std.proofs.lemmas.Nat.Bits.{bit_at-pow_same, bit_at-pow_other, shr_and_one}
 use Rattle.std.proofs.lemmas.List.{get_or_default, same_lists}
 use Rattle.std.proofs.lemmas.Nat.{leading_top}
 use Rattle.std.proofs.Math.Nat.{pow-le-pow_right}
@@ -142,15 +144,16 @@ bit-below : (n : ℕ) (runs : Bool) → n ≡ cond runs 1 0 → n < 2
 bit-below n true is = omega (arith, is)
 bit-below n false is = omega (arith, is)
 
-seven_flags : (xs : List Bool) → length xs ≡ 7 → xs ≡ get_or xs 0 false ∷ get_or xs 1 false ∷ get_or xs 2 false ∷ get_or xs 3 false
-    ∷ get_or xs 4 false ∷ get_or xs 5 false ∷ get_or xs 6 false ∷ []
-seven_flags xs h = same_lists xs _ h (λ k d below. each_of_seven (λ i. get_or xs i d ≡ get_or (get_or xs 0 false ∷ get_or xs 1 false
-    ∷ get_or xs 2 false ∷ get_or xs 3 false ∷ get_or xs 4 false ∷ get_or xs 5 false ∷ get_or xs 6 false ∷ []) i d)
-    (at 0 d (omega arith)) (at 1 d (omega arith)) (at 2 d (omega arith)) (at 3 d (omega arith)) (at 4 d (omega arith)) (at 5 d (omega arith))
-    (at 6 d (omega arith)) k (omega arith))
+-- a list of seven, element by element
+pub seven : {X : Type 0} (none : X) (xs : List X) → length xs ≡ 7 → xs ≡ get_or xs 0 none ∷ get_or xs 1 none ∷ get_or xs 2 none
+    ∷ get_or xs 3 none ∷ get_or xs 4 none ∷ get_or xs 5 none ∷ get_or xs 6 none ∷ []
+seven {X} none xs h = same_lists xs _ h (λ k d below. each_of_seven (λ i. get_or xs i d ≡ get_or (get_or xs 0 none ∷ get_or xs 1 none
+    ∷ get_or xs 2 none ∷ get_or xs 3 none ∷ get_or xs 4 none ∷ get_or xs 5 none ∷ get_or xs 6 none ∷ []) i d)
+    (at 0 d (omega arith)) (at 1 d (omega arith)) (at 2 d (omega arith)) (at 3 d (omega arith)) (at 4 d (omega arith))
+    (at 5 d (omega arith)) (at 6 d (omega arith)) k (omega arith))
   where
-    at : (i : ℕ) (d : Bool) → i < 7 → get_or xs i d ≡ get_or xs i false
-    at i d within = get_or_default xs i d false (omega arith)
+    at : (i : ℕ) (d : X) → i < 7 → get_or xs i d ≡ get_or xs i none
+    at i d within = get_or_default xs i d none (omega arith)
 
 module _ (xs : List Bool) (length_is : length xs ≡ 7) (a b c d e f g : ℕ)
     (on_a : a ≡ cond (get_or xs 0 false) 1 0) (on_b : b ≡ cond (get_or xs 1 false) 1 0) (on_c : c ≡ cond (get_or xs 2 false) 1 0)
@@ -160,7 +163,8 @@ module _ (xs : List Bool) (length_is : length xs ≡ 7) (a b c d e f g : ℕ)
   number = 2 * (2 * (2 * (2 * (2 * (2 * g + f) + e) + d) + c) + b) + a
 
   bounds : (a < 2) × (b < 2) × (c < 2) × (d < 2) × (e < 2) × (f < 2) × (g < 2)
-  bounds = (bit-below a _ on_a, bit-below b _ on_b, bit-below c _ on_c, bit-below d _ on_d, bit-below e _ on_e, bit-below f _ on_f, bit-below g _ on_g)
+  bounds = (bit-below a _ on_a, bit-below b _ on_b, bit-below c _ on_c, bit-below d _ on_d, bit-below e _ on_e, bit-below f _ on_f,
+      bit-below g _ on_g)
 
   pub flags-seven : flags number ≡ xs
   flags-seven = cc (
@@ -171,7 +175,7 @@ module _ (xs : List Bool) (length_is : length xs ≡ 7) (a b c d e f g : ℕ)
     flag-bit number 4 e _ on_e (omega (arith, bounds)),
     flag-bit number 5 f _ on_f (omega (arith, bounds)),
     flag-bit number 6 g _ on_g (omega (arith, bounds)),
-    seven_flags xs length_is,
+    seven false xs length_is,
   )
 
 pub only-within : (k : ℕ) → k < 7 → 1 * 2 ^ k % 256 < 128
@@ -197,23 +201,7 @@ runs-only k w within =
         (λ from. ⊎_elim (λ (more : k < w). absurd (no_other on (λ e. omega arith))) (λ upto. omega arith) (cases_lt k w))
         (cases_lt w k)
 
--- a set without a weekday
-pub runs-zero : (w : ℕ) → ¬ RunsOn (flags 0) w
-runs-zero w on = absurd (omega (arith, bit-runs 0 w on, bit_at-zero w))
-
-pub zero-runs : (bits : ℕ) → bits < 128 → ((w : ℕ) → ¬ RunsOn (flags bits) w) → bits ≡ 0
-zero-runs bits within none = same_from_bits_below 7 bits 0 within (omega arith) (λ w below.
-    ⊎_elim
-    (λ (no : bit_at bits w < 1). omega (arith, no, bit_at-zero w))
-    (λ one. absurd (none w (runs-bit bits w below (omega (arith, one, bit_at-lt bits w)))))
-    (cases_lt (bit_at bits w) 1))
-
-pub empty-runs : (bits : ℕ) → bits < 128 → IsTrue (nat_eq bits 0) ↔ ((w : ℕ) → ¬ RunsOn (flags bits) w)
-empty-runs bits within = (
-  λ e. let zero_is : bits ≡ 0 = grind (arith, nat_tests) in subst (λ n. (w : ℕ) → ¬ RunsOn (flags n) w) (sym zero_is) runs-zero,
-  λ none. let zero_is : bits ≡ 0 = zero-runs bits within none in grind (arith, nat_tests),
-)
-
+-- the first and the last weekday
 pub some-bit : (bits : ℕ) → ¬ (bits ≡ 0) → 0 < bits
 some-bit zero some = absurd (some refl)
 some-bit (suc bits) some = omega arith

@@ -65,9 +65,9 @@ fn last_on(day: Day, from: u8, to: u8) -> Option<Day>
     }
 }
 
-/// The run of a record that is alone, in both forms, where its weeks have one mask: it begins on the
-/// first of its weekdays and ends on the last, as most records do. `None` also where it has no body,
-/// or no date in the window.
+/// The run of a record that is alone, in both forms, where its weeks have one mask: in the window it
+/// begins on the first of its weekdays and ends on the last. `None` also where it has no body, or no
+/// date in the window.
 pub fn only_run<E: Entry>(entry: &E, position: usize, window: Window) -> Option<Run>
     ensures { IfSome result
         (IsOnlyRun (E.terms entry.now) position (window_from window.first window.last)) }

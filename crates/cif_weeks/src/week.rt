@@ -53,22 +53,9 @@ fn place_of<E: Entry>(entries: &[E], bodies: &[WeekBody], source: usize) -> Opti
         × HaveOneBody (map E.terms entries.now) body.source source) }
 {
     // Where a position is equal, no body is looked at.
-    match bodies.iter().position(|body| body.source == source) {
-        Some(place) => Some(place),
-        None => place_by_body(entries, bodies, source),
+    if let Some(place) = bodies.iter().position(|body| body.source == source) {
+        return Some(place);
     }
-}
-
-/// The same, by a look at the bodies.
-fn place_by_body<E: Entry>(entries: &[E], bodies: &[WeekBody], source: usize) -> Option<usize>
-    requires source { source < length entries.now }
-    requires bodies { ArePositions (length entries.now) bodies.now }
-    ensures { MatchOption result
-        ((k : ℕ) (body : WeekBody) → slice_get bodies.now k ≡ Some body →
-        ¬ HaveOneBody (map E.terms entries.now) body.source source)
-        (λ k. (body : WeekBody) × (slice_get bodies.now k ≡ Some body)
-        × HaveOneBody (map E.terms entries.now) body.source source) }
-{
     for (place, body) in bodies.iter().enumerate() {
         if same_body(&entries[body.source], &entries[source]) {
             return Some(place);

@@ -20,7 +20,8 @@ returns g c =
       last = c.in_ok-last.last;
       days = d;
       source = c.args.position;
-    })) (sym days) (run-alone r c.in_ok-_body._body.now window c.args.position c.in_ok-first.first c.in_ok-last.last c.in_ok-from.from c.in_ok-to.to has
+    })) (sym days) (run-alone r c.in_ok-_body._body.now window c.args.position c.in_ok-first.first c.in_ok-last.last c.in_ok-from.from
+    c.in_ok-to.to has
     (subst (λ d. length d ≡ 7) days c.fits.ensures) (subst (λ d. IsFirstOf d c.in_ok-from.from) days c.in_ok-from.ensures.found)
     (subst (λ d. IsLastOf d c.in_ok-to.to) days c.in_ok-to.ensures.found)
     f.on l.on in_order (omega (arith, f.upto, c.later.ensures, c.first-2.ensures))

@@ -32,8 +32,8 @@ returns-clause-joined g c =
           (elim c.if-number-self.branch [
             | else-number-self w ↦ rw w.places-is (reached-places c.args.form xs calendar c.requires.sources day it j later runs places u p
                 w.if-number-self.false)
-            | then-number-self w ↦ rw (w.places-is, w.new-places-then-number-self.ensures) (reached-none c.args.form xs calendar c.requires.sources day it j
-                later runs places u p w.if-number-self.true)
+            | then-number-self w ↦ rw (w.places-is, w.new-places-then-number-self.ensures) (reached-none c.args.form xs calendar
+                c.requires.sources day it j later runs places u p w.if-number-self.true)
           ]);
       week = week-begins xs calendar c.requires.sources day it.week j.week later c.restart.new.self next.number next.last_alike next.bodies;
     }
