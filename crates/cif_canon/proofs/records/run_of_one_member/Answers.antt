@@ -1,5 +1,4 @@
 -- The member is the only one (`key-of-one`).
-use Rattle.std.proofs.Common.{arith}
 use Rattle.std.proofs.lemmas.Option.{IfSome_then}
 use Rattle.cif_canon.proofs.KeyRecords.{key-of-one}
 use Rattle.cif_canon.proofs.records.run_of_one_member.Goals as goal
