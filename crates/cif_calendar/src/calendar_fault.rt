@@ -11,7 +11,7 @@ use std::fmt;
 pub enum CalendarFault {
     /// Two winners of this date have different bodies; it is the first such date of the window.
     Ambiguous(Day),
-    /// There is no memory for the pieces.
+    /// Memory ran out: a request for it was refused.
     Memory,
 }
 

@@ -46,7 +46,7 @@ fn falling(one: usize, other: usize) -> (usize, usize)
 /// Whether the members with these numbers have the same body, or both have none.
 ///
 /// It follows the links of both. Where they meet, that is known; else the bodies are compared, and
-/// what was found is noted. Links that were followed are shortened.
+/// what was found is noted. Links that are followed are shortened.
 pub(crate) fn have_one_body<E: Entry>(
     entries: &[E],
     members: &[usize],

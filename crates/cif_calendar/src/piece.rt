@@ -1,4 +1,4 @@
-//! A stretch of dates on which what runs goes by the weekday alone.
+//! A range of dates on which what runs depends only on the weekday.
 
 use cif_columns::Day;
 

@@ -102,8 +102,8 @@ fn judged_piece<E: Entry>(
     Ok(piece)
 }
 
-/// The same piece, where several members lie over its dates. It is seldom needed, and inlined its
-/// lists would cost each piece.
+/// The piece from `first` to `last`, where several members lie over its dates. It is seldom needed;
+/// inlined, each piece would pay for its lists.
 #[inline(never)]
 fn piece_of_several<E: Entry>(
     entries: &[E],
@@ -124,8 +124,9 @@ fn piece_of_several<E: Entry>(
     judged_piece(entries, members, &standings, first, last)
 }
 
-/// The piece that begins on `first`, in a window that ends on `last`. Where a stretch is ahead, it
-/// is that; else it is looked for.
+/// The piece that begins on `first`, in a window that ends on `last`. If a stretch is ahead, the
+/// piece has its dates; if not, its end is looked for. Inlined, a piece would be copied twice more.
+#[inline(never)]
 fn piece_from<E: Entry>(
     entries: &[E],
     members: &[usize],
@@ -202,7 +203,7 @@ fn calendar_of<E: Entry>(
 /// `members` are positions in `entries`. Hand in those of one key's records: all members are judged
 /// together, whatever their keys. `Ambiguous` comes where two winners of a date of the window have
 /// different bodies, and names the first such date; a clash among records that do not win is no
-/// fault. `Memory` comes where a list can't grow.
+/// fault. `Memory` comes where a request for memory was refused.
 pub fn calendar<E: Entry>(
     alloc: Global,
     entries: &[E],
@@ -215,11 +216,11 @@ pub fn calendar<E: Entry>(
     calendar_in_room(Vec::new(alloc), entries, members, window)
 }
 
-/// The same calendar, in the room of pieces that are needed no more: `Calendar::into_room` gives
+/// The same calendar, in the memory of pieces that are no longer needed: `Calendar::into_room` gives
 /// that of an earlier calendar.
 ///
 /// Few members are all looked at for each piece. The stretches of many are made first, from those
-/// of both halves: the time goes with their number times its logarithm.
+/// of both halves: the time is proportional to their number times its logarithm.
 pub fn calendar_in_room<E: Entry>(
     room: Vec<Piece>,
     entries: &[E],

@@ -44,7 +44,7 @@ pub(crate) fn member<'a, E: Entry>(entries: &'a [E], members: &[usize], number: 
     &entries[members[number]]
 }
 
-/// The letter of who leads; a number behind all letters where nobody does.
+/// The letter of who leads; a number after all letters where nobody leads.
 fn rank<E: Entry>(entries: &[E], members: &[usize], standing: Standing) -> u8
     requires positions { All (λ i. i < length entries.now) members.now }
     requires leader { IsBelow (length members.now) standing }
@@ -189,7 +189,7 @@ pub(crate) fn standings_from<E: Entry>(
 /// The position in `entries` of a winner of a date on which this standing is that of all members;
 /// `None` where nothing runs.
 ///
-/// Which of several winners with one body is named is free. `Err` comes exactly where two winners
+/// Any of several winners with one body may be named. `Err` comes exactly where two winners
 /// have different bodies; a clash among records that do not win is no fault.
 pub(crate) fn winner_by<E: Entry>(
     entries: &[E],

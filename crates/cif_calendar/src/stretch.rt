@@ -25,8 +25,8 @@ pub(crate) struct Stretch {
     pub(crate) standings: Standings,
 }
 
-/// The stretch of two sets of members together, where these are stretches of one or the other that
-/// have a date in common.
+/// The stretch of two sets of members together, from a stretch of each; the two have a date in
+/// common.
 fn joint<E: Entry>(
     entries: &[E],
     members: &[usize],
@@ -55,7 +55,7 @@ fn joint<E: Entry>(
     Stretch { last, standings }
 }
 
-/// The stretches that are left behind the day, where only the first may end by then.
+/// The stretches that remain after the day, of which only the first may end by then.
 pub(crate) fn behind(stretches: &[Stretch], day: Day) -> &[Stretch]
     ensures { AreBehind stretches.now day result.now }
 {
@@ -97,7 +97,7 @@ fn stretches_of_few<E: Entry>(
 }
 
 /// The stretches of the members in `part`, the first of which has this number. Those of many are
-/// made of those of both halves.
+/// made from those of both halves.
 fn stretches_of<E: Entry>(
     alloc: Global,
     entries: &[E],

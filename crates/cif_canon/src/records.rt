@@ -174,7 +174,7 @@ fn run_of_one_member<E: Entry>(entries: &[E], members: &[usize], window: &Window
     }
 }
 
-/// The run alone, in the room of runs that are needed no more.
+/// The run alone, in the memory of runs that are no longer needed.
 fn alone_in_room(room: Vec<Run>, run: Run) -> Result<Vec<Run>, AllocError>
     ensures { IfOk result (λ runs. runs.items ≡ run ∷ []) }
 {

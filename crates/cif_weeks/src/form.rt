@@ -10,7 +10,7 @@ use cif_columns::{DAYS_IN_WEEK, DaysRun};
 
 /// How the dates on which a body runs are written as records.
 ///
-/// In both forms a record is a longest row of consecutive weeks, Monday to Sunday, that the form
+/// In both forms a record is a longest sequence of consecutive weeks, Monday to Sunday, that the form
 /// joins. The body runs in each of them, and the record's first and last date are the first and
 /// last on which it runs there.
 #[derive(Clone, Copy, Debug, PartialEq, Eq)]

@@ -20,8 +20,8 @@ use cif_calendar::{Calendar, Entry, Piece};
 use cif_columns::{DAYS_IN_WEEK, Day, DaysRun};
 use std::alloc::{AllocError, Global};
 
-/// The place of the run, among those at `places`, that the body at `source` goes on, which runs on
-/// these days of the week; `None` where it goes on none.
+/// The place of the run, among those at `places`, that the body at `source` continues with these
+/// days of the week; `None` if there is none.
 fn goes_on<E: Entry>(
     runs: &[Run],
     entries: &[E],
@@ -270,7 +270,7 @@ impl Joined {
 /// The canonical runs of a calendar in a form, rising by first date.
 ///
 /// Hand in the entries of which the calendar tells. A run's source is the calendar's on the run's
-/// first date. The cost goes by the runs and the pieces of the calendar, and not by its dates.
+/// first date. The time depends on the runs and pieces of the calendar, not on its dates.
 pub fn runs<E: Entry>(
     alloc: Global,
     entries: &[E],
@@ -284,7 +284,7 @@ pub fn runs<E: Entry>(
     runs_in_room(Vec::new(alloc), entries, calendar, form)
 }
 
-/// The same runs, in the room of runs that are needed no more.
+/// The same runs, in the memory of runs that are no longer needed.
 pub fn runs_in_room<E: Entry>(
     room: Vec<Run>,
     entries: &[E],

@@ -64,7 +64,7 @@ fn place_of<E: Entry>(entries: &[E], bodies: &[WeekBody], source: usize) -> Opti
     None
 }
 
-/// Puts the days to those of the body at a place.
+/// Adds the days to those of the body at this place.
 fn put_days(bodies: &mut [WeekBody], place: usize, days: DaysRun)
     requires { place < length bodies.old }
     ensures { (body : WeekBody) → slice_get bodies.old place ≡ Some body →
@@ -87,7 +87,7 @@ pub(crate) struct Week {
     pub number: u32,
     /// The bodies that run in it, by their first days.
     pub bodies: ArrayVec<WeekBody, 7>,
-    /// The last of the weeks that are like it; itself where the one after it isn't.
+    /// The last of the weeks that are like it; the week itself if the next one isn't like it.
     pub last_alike: u32,
 }
 
@@ -134,8 +134,8 @@ impl Week {
         }
     }
 
-    /// Adds the days of the piece from `day` on that are in the week, and where these are all its
-    /// days, the weeks that the piece has whole after it. `day` and `end`, which is the day after the
+    /// Adds the days of the piece from `day` on that lie in the week and, if these are all seven, the
+    /// weeks after it that lie entirely in the piece. `day` and `end`, which is the day after the
     /// piece, count from the Monday of week 0. Gives the day after those that were added.
     pub(crate) fn add_piece<E: Entry>(
         &mut self,
