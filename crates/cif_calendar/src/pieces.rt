@@ -120,7 +120,7 @@ fn piece_of_several<E: Entry>(
     ensures fault { IfErr result
         (IsFault (IsChosen (map E.terms entries.now) members.now) first last) }
 {
-    let standings = standings_from(entries, members, &mut [], 0, members, first);
+    let standings = standings_from(entries, members, &mut [None; FEW], 0, members, first);
     judged_piece(entries, members, &standings, first, last)
 }
 

@@ -123,7 +123,8 @@ fn level<E: Entry>(
     }
 }
 
-/// Looks at the members of other standings too, on these weekdays.
+/// Looks at the members of other standings too, on these weekdays. Inlined, as it is called most.
+#[inline(always)]
 pub(crate) fn look_at<E: Entry>(
     entries: &[E],
     members: &[usize],
