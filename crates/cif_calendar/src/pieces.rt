@@ -63,7 +63,8 @@ pub(crate) fn end_of_piece<E: Entry>(entries: &[E], members: &[usize], first: Da
 }
 
 /// The piece from `first` to `last`, by who leads on its dates; or its first date with a clash. The
-/// first seven dates tell of the others.
+/// first seven dates tell of the others. Inlined, as a call would copy the piece.
+#[inline(always)]
 fn judged_piece<E: Entry>(
     entries: &[E],
     members: &[usize],
@@ -102,31 +103,8 @@ fn judged_piece<E: Entry>(
     Ok(piece)
 }
 
-/// The piece from `first` to `last`, where several members lie over its dates. It is seldom needed;
-/// inlined, each piece would pay for its lists.
-#[inline(never)]
-fn piece_of_several<E: Entry>(
-    entries: &[E],
-    members: &[usize],
-    first: Day,
-    last: Day,
-) -> Result<Piece, CalendarFault>
-    requires positions { All (λ i. i < length entries.now) members.now }
-    requires in_order { first ≤ last }
-    requires unbroken { IsUnbroken (IsChosen (map E.terms entries.now) members.now) first last }
-    ensures begins { IfOk result (λ p. p.first ≡ first) }
-    ensures ends { IfOk result (λ p. p.last ≡ last) }
-    ensures piece { IfOk result (IsPiece (map E.terms entries.now) members.now) }
-    ensures fault { IfErr result
-        (IsFault (IsChosen (map E.terms entries.now) members.now) first last) }
-{
-    let standings = standings_from(entries, members, &mut [None; FEW], 0, members, first);
-    judged_piece(entries, members, &standings, first, last)
-}
-
 /// The piece that begins on `first`, in a window that ends on `last`. If a stretch is ahead, the
-/// piece has its dates; if not, its end is looked for. Inlined, a piece would be copied twice more.
-#[inline(never)]
+/// piece has its dates; if not, its end is looked for.
 fn piece_from<E: Entry>(
     entries: &[E],
     members: &[usize],
@@ -162,7 +140,10 @@ fn piece_from<E: Entry>(
             last: end,
             winners: winners_of_one(&entries[position], position, first, end),
         }),
-        Covering::Several => piece_of_several(entries, members, first, end),
+        Covering::Several => {
+            let standings = standings_from(entries, members, &mut [None; FEW], 0, members, first);
+            judged_piece(entries, members, &standings, first, end)
+        }
     }
 }
 
