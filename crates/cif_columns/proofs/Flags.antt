@@ -163,8 +163,15 @@ module _ (xs : List Bool) (length_is : length xs ≡ 7) (a b c d e f g : ℕ)
   number = 2 * (2 * (2 * (2 * (2 * (2 * g + f) + e) + d) + c) + b) + a
 
   bounds : (a < 2) × (b < 2) × (c < 2) × (d < 2) × (e < 2) × (f < 2) × (g < 2)
-  bounds = (bit-below a _ on_a, bit-below b _ on_b, bit-below c _ on_c, bit-below d _ on_d, bit-below e _ on_e, bit-below f _ on_f,
-      bit-below g _ on_g)
+  bounds = (
+    bit-below a _ on_a,
+    bit-below b _ on_b,
+    bit-below c _ on_c,
+    bit-below d _ on_d,
+    bit-below e _ on_e,
+    bit-below f _ on_f,
+    bit-below g _ on_g,
+  )
 
   pub flags-seven : flags number ≡ xs
   flags-seven = cc (
