@@ -9,7 +9,7 @@ use Rattle.cif_calendar.specs.Clash.{IsClear}
 use Rattle.cif_calendar.specs.Source.{IsChosen, IsSource}
 use Rattle.cif_calendar.specs.Pieces.{IsUnbroken, IsPiece}
 use Rattle.cif_calendar.specs.Steps.Stretches.{IsWeekFrom}
-use Rattle.cif_calendar.specs.declared.piece.Piece.{Piece}
+use Rattle.cif_calendar.specs.declared.key_calendar.Piece.{Piece}
 use Rattle.cif_calendar.proofs.Standings.{covered-back}
 
 -- d and e are days of one weekday in the stretch

@@ -1,5 +1,5 @@
 -- A clash is what a clear day has not, and the first clash is one.
-use Rattle.std.proofs.Common.{◌≡◌, ℕ, ◌<◌, ◌≤◌, List, arith, refl, sym, ◌∙◌, ap, subst}
+use Rattle.std.proofs.Common.{◌≡◌, ℕ, ◌<◌, List, arith, refl, sym, ◌∙◌, ap, subst}
 use Rattle.std.specs.Cmp.{IsTotalOrder}
 use Rattle.std.specs.Prelude.{Bool, IsTrue, ◌↔◌}
 use Rattle.std.specs.Ordering.{ordering_reverse, is_eq}
@@ -16,16 +16,6 @@ clash-clear records d c clear = c.bodies_differ (clear.agree c.one c.other c.one
 pub first_clash-clear : {B : Type 0} (records : Records B) (first last d : ℕ) → IsFirstClash records first last d →
     IsClearFrom records first last → ⊥
 first_clash-clear records first last d c clear = clash-clear records d c.clash (clear.clear d c.from c.upto)
-
--- the first of some days is the first of more
-pub IsFirstClash-wider : {B : Type 0} (records : Records B) (first last later d : ℕ) → last ≤ later → IsFirstClash records first last d →
-    IsFirstClash records first later d
-IsFirstClash-wider records first last later d up c = record {
-  from = c.from;
-  upto = (let h : d ≤ last = c.upto in omega arith);
-  clash = c.clash;
-  clear_before = c.clear_before;
-}
 
 pub IsFirstClash-unique : {B : Type 0} (records : Records B) (first last d e : ℕ) → IsFirstClash records first last d →
     IsFirstClash records first last e → d ≡ e

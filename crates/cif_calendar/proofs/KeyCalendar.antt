@@ -11,8 +11,8 @@ use Rattle.cif_calendar.specs.Source.{IsChosen, IsSource, IsWinnerAt}
 use Rattle.cif_calendar.specs.Pieces.{source_at}
 use Rattle.cif_calendar.specs.Calendar.{CalendarParts, IsCalendar, IsFault, body_on}
 use Rattle.cif_calendar.specs.Keys.{keyed, of_key, ArePositionsOf}
-use Rattle.cif_calendar.specs.declared.calendar_fault.CalendarFault.{CalendarFault}
-use Rattle.cif_calendar.specs.declared.calendar_fault.CalendarFault.TheVariants.{Ambiguous, Memory}
+use Rattle.cif_calendar.specs.declared.key_calendar.CalendarFault.{CalendarFault}
+use Rattle.cif_calendar.specs.declared.key_calendar.CalendarFault.TheVariants.{Ambiguous, Memory}
 use Rattle.cif_calendar.proofs.Meaning.{Runs-unique}
 use Rattle.cif_calendar.proofs.Positions.{AreLawful-of_key, positions-records, terms_at-keyed}
 use Rattle.cif_calendar.proofs.Sets.{Wins-same, Runs-same, IsClearFrom-same, IsFirstClash-same}

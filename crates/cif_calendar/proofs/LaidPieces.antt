@@ -1,6 +1,7 @@
 -- The pieces of a window so far.
 use Rattle.std.proofs.Common.{◌≡◌, ℕ, ◌+◌, ◌*◌, ◌<◌, ◌≤◌, List, [], ◌∷◌, ◌++◌, length, length-append, All, subst, sym, ap, arith}
-use Rattle.std.proofs.Common.{⊎_elim, inl, inr, refl}
+use Rattle.std.proofs.Common.{⊎_elim, inl, inr, refl, get_or, set, ◌∙◌}
+use Rattle.std.proofs.Math.Seq.{get_or-append_seam, set-append_seam}
 use Rattle.std.specs.Prelude.{◌⊎◌}
 use Rattle.std.proofs.lemmas.Bool.{cases_lt}
 use Rattle.std.proofs.lemmas.List.Elements.{All-nil, All-push, All-contains}
@@ -9,9 +10,9 @@ use Rattle.cif_calendar.specs.Clash.{IsClear, IsFirstClash}
 use Rattle.cif_calendar.specs.Source.{IsChosen, IsSource}
 use Rattle.cif_calendar.specs.Pieces.{IsPiece, IsBoundary, ChangesOn, BeginsPiece, Tiles, source_at}
 use Rattle.cif_calendar.specs.Calendar.{IsCalendar, IsFault}
-use Rattle.cif_calendar.specs.declared.piece.Piece.{Piece}
-use Rattle.cif_calendar.specs.declared.calendar_fault.CalendarFault.{CalendarFault}
-use Rattle.cif_calendar.specs.declared.calendar_fault.CalendarFault.TheVariants.{Ambiguous, Memory}
+use Rattle.cif_calendar.specs.declared.key_calendar.Piece.{Piece}
+use Rattle.cif_calendar.specs.declared.key_calendar.CalendarFault.{CalendarFault}
+use Rattle.cif_calendar.specs.declared.key_calendar.CalendarFault.TheVariants.{Ambiguous, Memory}
 use Rattle.cif_calendar.proofs.FirstClash.{IsFirstClash-unique}
 use Rattle.cif_calendar.proofs.Meaning.{Runs-from_source}
 use Rattle.cif_calendar.proofs.PieceLists.{tiles-push, tiles-find, tiles-from, tiles-ends, source_at-piece}
@@ -28,6 +29,15 @@ pub record AreLaid {B : Type 0} (xs : List (Terms B)) (members : List ℕ) (from
   pub tiled : AreTiled xs members from to ps
   pub change : (to ≡ from) ⊎ ChangesOn (IsChosen xs members) to
   pub few : length ps + left xs members to ≤ 2 * length members
+
+-- a blank piece that was pushed stands at its place, and what is filled in there is the last
+module _ (ps reserved items : List Piece) (place : ℕ) (blank : Piece) (at : place ≡ length ps) (kept : reserved ≡ ps)
+    (is : items ≡ reserved ++ blank ∷ []) where
+  pub blank-at : (p : Piece) → p ≡ get_or items place p → p ≡ blank
+  blank-at p e = e ∙ rw (is, kept, at) (get_or-append_seam ps blank [] p)
+
+  pub filled-at : (p : Piece) → set items place p ≡ ps ++ p ∷ []
+  filled-at p = rw (is, kept, at) (set-append_seam ps blank [] p)
 
 module _ {B : Type 0} (xs : List (Terms B)) (members : List ℕ) (from : ℕ) where
   pub laid-none : AreLaid xs members from from []
@@ -101,18 +111,18 @@ module _ {B : Type 0} (xs : List (Terms B)) (members : List ℕ) (from : ℕ) wh
       change in (f.piece, f.listed, at)
 
   -- a clash in the next piece is the window's first
-  pub fault-tiled : (to last : ℕ) (ps : List Piece) (e : CalendarFault) → from ≤ to → AreTiled xs members from to ps →
-      IsFault (IsChosen xs members) to last e → IsFault (IsChosen xs members) from last e
-  fault-tiled to last ps (Ambiguous d) up t f = record {
+  pub fault-tiled : (to end last : ℕ) (ps : List Piece) (e : CalendarFault) → from ≤ to → end ≤ last → AreTiled xs members from to ps →
+      IsFault (IsChosen xs members) to end e → IsFault (IsChosen xs members) from last e
+  fault-tiled to end last ps (Ambiguous d) up upto t f = record {
     from = omega (arith, f.from);
-    upto = f.upto;
+    upto = omega (arith, f.upto);
     clash = f.clash;
     clear_before = λ e low before. ⊎_elim
         (λ old. clear-tiled to ps e t low old)
         (λ new. f.clear_before e new before)
         (cases_lt e to);
   }
-  fault-tiled to last ps Memory up t f = tt
+  fault-tiled to end last ps Memory up upto t f = tt
 
   -- a fault other than the memory's names the first clash
   pub fault-clash : (last d : ℕ) (e : CalendarFault) → IsFault (IsChosen xs members) from last e →

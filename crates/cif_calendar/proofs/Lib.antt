@@ -3,7 +3,6 @@ pub mod Winning
 pub mod Standings
 pub mod WithDates
 pub mod Meaning
-pub mod Total
 pub mod SayTheSame
 pub mod Positions
 pub mod KeyCalendar
@@ -17,6 +16,6 @@ pub mod FirstWeek
 pub mod Unbroken
 pub mod FewPieces
 pub mod LaidPieces
-pub mod Covering
+pub mod Layers
 pub mod Stretches
 pub mod Bodies

@@ -1,11 +1,10 @@
 -- When two lists of records say the same.
 use Rattle.std.proofs.Common.{ℕ, ◌≤◌, List}
-use Rattle.std.specs.Prelude.{Contains, ◌↔◌}
-use Rattle.cif_calendar.specs.Terms.{Terms, SameRecords, AreLawful}
+use Rattle.std.specs.Prelude.{◌↔◌}
+use Rattle.cif_calendar.specs.Terms.{Terms, AreLawful}
 use Rattle.cif_calendar.specs.Keys.{of_key}
 use Rattle.cif_calendar.specs.Meaning.{SameMeaning}
 use Rattle.cif_calendar.specs.Runs.{BodyRuns}
-use Rattle.cif_calendar.proofs.Sets.{SameRecords-sym, Runs-same}
 use Rattle.cif_calendar.proofs.Meaning.{Runs-from_bodies}
 
 module _ {K B : Type 0} where
@@ -25,22 +24,6 @@ module _ {K B : Type 0} where
       λ h. (e.same k d o from upto).1 ((f.same k d o from upto).1 h),
     );
   }
-
-  -- a list says what another does that has the same records for each key
-  pub SameMeaning-from_records : (xs ys : List (K × Terms B)) (first last : ℕ) → ((k : K) → SameRecords (of_key xs k) (of_key ys k)) →
-      SameMeaning xs ys first last
-  SameMeaning-from_records xs ys first last e = record {
-    same = λ k d o from upto. (
-      Runs-same (of_key xs k) (of_key ys k) (e k) d o,
-      Runs-same (of_key ys k) (of_key xs k) (SameRecords-sym _ _ (e k)) d o,
-    );
-  }
-
-  -- the order of a list, and how often it has a record, say nothing
-  pub SameMeaning-from_members : (xs ys : List (K × Terms B)) (first last : ℕ) → ((x : K × Terms B) → Contains xs x ↔ Contains ys x) →
-      SameMeaning xs ys first last
-  SameMeaning-from_members xs ys first last e =
-      SameMeaning-from_records xs ys first last (λ k. record { same = λ r. e (k, r) })
 
   -- lists of lawful records say the same where the same bodies run
   pub SameMeaning-from_bodies : (xs ys : List (K × Terms B)) (first last : ℕ) → ((k : K) → AreLawful (of_key xs k)) →

@@ -1,18 +1,9 @@
 -- Sets with the same records have the same winners, the same clashes and the same runs.
 use Rattle.std.proofs.Common.{ℕ, Option, None, Some}
-use Rattle.cif_calendar.specs.Terms.{Terms, Records, SameRecords, AreLawful}
+use Rattle.cif_calendar.specs.Terms.{Terms, Records, SameRecords}
 use Rattle.cif_calendar.specs.Wins.{Wins}
 use Rattle.cif_calendar.specs.Clash.{IsClear, IsClash, IsClearFrom, IsFirstClash}
 use Rattle.cif_calendar.specs.Runs.{Runs}
-
-pub SameRecords-refl : {B : Type 0} (xs : Records B) → SameRecords xs xs
-SameRecords-refl xs = record { same = λ r. (λ h. h, λ h. h) }
-
-pub SameRecords-sym : {B : Type 0} (xs ys : Records B) → SameRecords xs ys → SameRecords ys xs
-SameRecords-sym xs ys e = record { same = λ r. ((e.same r).1, (e.same r).0) }
-
-pub SameRecords-trans : {B : Type 0} (xs ys zs : Records B) → SameRecords xs ys → SameRecords ys zs → SameRecords xs zs
-SameRecords-trans xs ys zs e f = record { same = λ r. (λ h. (f.same r).0 ((e.same r).0 h), λ h. (e.same r).1 ((f.same r).1 h)) }
 
 module _ {B : Type 0} (xs ys : Records B) (e : SameRecords xs ys) where
   pub Wins-same : (d : ℕ) (r : Terms B) → Wins xs d r → Wins ys d r
@@ -55,6 +46,3 @@ module _ {B : Type 0} (xs ys : Records B) (e : SameRecords xs ys) where
   pub Runs-same : (d : ℕ) (o : Option B) → Runs xs d o → Runs ys d o
   Runs-same d None n = record { cancelled = λ r w. n.cancelled r (Wins-same_back d r w) }
   Runs-same d (Some b) n = record { winner = n.winner; wins = Wins-same d n.winner n.wins; body = n.body }
-
-  pub AreLawful-same : AreLawful xs → AreLawful ys
-  AreLawful-same l = record { cancelled = λ r in'. l.cancelled r ((e.same r).1 in') }

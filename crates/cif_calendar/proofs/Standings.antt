@@ -22,9 +22,6 @@ module _ (step : ℕ → Standing → Standing → Type 0) (n : ℕ) (old : List
     pub each : (w : ℕ) → w < k → step w (get_or old w Nobody) (get_or new w Nobody)
     pub rest : (w : ℕ) → k ≤ w → get_or new w Nobody ≡ get_or old w Nobody
 
-  pub stepped-none : AreBelow n old → AreStepped 0 old
-  stepped-none b = record { below = b; each = λ w less. absurd (omega arith); rest = λ w _. refl }
-
   -- one weekday more
   module _ (k : ℕ) (new : List Standing) (below : k < 7) (l : AreStepped k new) where
     pub stepped : (j : ℕ) (s : Standing) → j ≡ k → IsBelow n s → step k (get_or new k Nobody) s → AreStepped (k + 1) (set new j s)

@@ -1,22 +1,17 @@
 -- Stretches one after another, and those of two sets of members together.
-use Rattle.std.proofs.Common.{◌≡◌, ℕ, ◌+◌, ◌<◌, ◌≤◌, List, [], ◌∷◌, ◌++◌, Some, length, get_or, take, drop, All}
+use Rattle.std.proofs.Common.{◌≡◌, ℕ, ◌+◌, ◌<◌, ◌≤◌, List, [], ◌∷◌, ◌++◌, Some, length, get_or, All}
 use Rattle.std.proofs.Common.{arith, refl, ⊎_elim, inl, inr, sym, ◌∙◌, ap, subst}
 use Rattle.std.specs.Prelude.{◌⊎◌, slice_get}
-use Rattle.std.proofs.lemmas.List.{get_or-drop, get_or-take, length-drop, length-take}
 use Rattle.std.proofs.lemmas.Option.{slice_get-get_or}
 use Rattle.cif_columns.specs.Day.{weekday_of}
 use Rattle.cif_calendar.specs.Terms.{Terms}
 use Rattle.cif_calendar.specs.Source.{IsChosen}
 use Rattle.cif_calendar.specs.Pieces.{ChangesOn, IsUnbroken}
 use Rattle.cif_calendar.specs.Steps.Standing.{AreStandings}
-use Rattle.cif_calendar.specs.Steps.Stretches.{AreAhead, AreBehind, AreStretches, EndsWith, IsJoint, IsPart, IsStretch}
+use Rattle.cif_calendar.specs.Steps.Stretches.{AreAhead, AreBehind, AreStretches, IsJoint, IsPart, IsStretch, TellsOf}
 use Rattle.cif_calendar.specs.declared.stretch.Stretch.{Stretch}
 use Rattle.cif_calendar.proofs.Unbroken.{unbroken-within, unbroken-both, changes-kept}
 use Rattle.cif_calendar.proofs.Winning.{chosen-union, union-swap}
-
--- a part of the members
-pub part-whole : (members : List ℕ) → IsPart members 0 members
-part-whole members = record { within = omega arith; same = λ j d below. ap (λ n. get_or members n d) (omega arith) }
 
 module _ (members : List ℕ) (k : ℕ) (part : List ℕ) (p : IsPart members k part) where
   -- what stands in it is a member
@@ -25,21 +20,6 @@ module _ (members : List ℕ) (k : ℕ) (part : List ℕ) (p : IsPart members k 
 
   pub part-all : (n : ℕ) → All (λ i. i < n) members → All (λ i. i < n) part
   part-all n h j d below = subst (λ i. i < n) (p.same j d below) (h (k + j) d (omega (arith, p.within)))
-
-  -- and its halves
-  pub part-front : (half : ℕ) → IsPart members k (take half part)
-  part-front half = record {
-    within = omega (arith, p.within, length-take half part);
-    same = λ j d below. let short = length-take half part in
-        p.same j d (omega (arith, short)) ∙ sym (get_or-take half part j d (omega (arith, short)));
-  }
-
-  pub part-back : (half : ℕ) → half ≤ length part → IsPart members (k + half) (drop half part)
-  part-back half upto = record {
-    within = omega (arith, p.within, length-drop half part);
-    same = λ j d below. ap (λ n. get_or members n d) (omega arith) ∙ p.same (half + j) d (omega (arith, length-drop half part))
-        ∙ sym (get_or-drop half part j d);
-  }
 
 -- the same members
 module _ {B : Type 0} (xs : List (Terms B)) (members looked : List ℕ) (end : ℕ) where
@@ -91,12 +71,12 @@ module _ {B : Type 0} (xs : List (Terms B)) (members : List ℕ) (last : ℕ) wh
   stretches-ahead first [] h = tt
   stretches-ahead first (s ∷ ss) h = h
 
-  pub ahead-behind : (first day next : ℕ) (ss rest : List Stretch) → first ≤ day → next ≡ day + 1 → EndsWith ss day →
+  pub ahead-behind : (first day next : ℕ) (ss rest : List Stretch) → first ≤ day → next ≡ day + 1 → TellsOf xs members first day ss →
       AreBehind ss day rest → AreAhead xs members first last ss → AreAhead xs members next last rest
   ahead-behind first day next [] rest from is e b h = subst (AreAhead xs members next last) (sym b) tt
   ahead-behind first day next (s ∷ ss) rest from is e b h =
       stretches-ahead next rest (subst (λ n. AreStretches xs members members (last + 1) n (last + 1) rest) (sym is)
-      (stretches-behind xs members members (last + 1) first (last + 1) day s ss rest from (omega arith) h b))
+      (stretches-behind xs members members (last + 1) first (last + 1) day s ss rest from (let e : s.last ≡ day = e.0 in omega arith) h b))
 
 -- two sets of members
 module _ {B : Type 0} (xs : List (Terms B)) (members ms ns : List ℕ) (end : ℕ) where

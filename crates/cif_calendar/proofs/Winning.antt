@@ -186,12 +186,6 @@ module _ {B : Type 0} (xs : List (Terms B)) (members : List ℕ) where
         let j = rank-least _ d a one is h s c on in rank-behind b other s also (omega arith)) k;
   }
 
-  pub combines-nobody : (other : Standing) → Combines xs members Nobody other other
-  combines-nobody other = record {
-    stands = λ ms ns d h k.
-        stands-kept _ _ _ (union-swap _ _ _ (chosen-union xs ms ns)) d other (λ s c on. absurd (h.none s c on)) k;
-  }
-
   pub nobody-combines : (one : Standing) → Combines xs members one Nobody one
   nobody-combines one = record {
     stands = λ ms ns d h k. stands-kept _ _ _ (chosen-union xs ms ns) d one (λ s c on. absurd (k.none s c on)) h;

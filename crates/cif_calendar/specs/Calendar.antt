@@ -6,9 +6,9 @@ use Rattle.cif_calendar.specs.Clash.{IsClearFrom, IsFirstClash}
 use Rattle.cif_calendar.specs.Runs.{Runs}
 use Rattle.cif_calendar.specs.Source.{IsChosen, IsSource, body_at}
 use Rattle.cif_calendar.specs.Pieces.{IsPiece, IsBoundary, BeginsPiece, Tiles, source_at}
-use Rattle.cif_calendar.specs.declared.calendar_fault.CalendarFault.{CalendarFault}
-use Rattle.cif_calendar.specs.declared.calendar_fault.CalendarFault.TheVariants.{Ambiguous, Memory}
-use Rattle.cif_calendar.specs.declared.piece.Piece.{Piece}
+use Rattle.cif_calendar.specs.declared.key_calendar.CalendarFault.{CalendarFault}
+use Rattle.cif_calendar.specs.declared.key_calendar.CalendarFault.TheVariants.{Ambiguous, Memory}
+use Rattle.cif_calendar.specs.declared.key_calendar.Piece.{Piece}
 
 -- a calendar's window, from its first to its last day, and its pieces
 pub record CalendarParts : Type 0 where

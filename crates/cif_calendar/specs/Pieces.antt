@@ -4,7 +4,7 @@ use Rattle.cif_columns.specs.Day.{weekday_of}
 use Rattle.cif_calendar.specs.Terms.{Terms, Records}
 use Rattle.cif_calendar.specs.Clash.{IsClearFrom}
 use Rattle.cif_calendar.specs.Source.{IsChosen, IsSource}
-use Rattle.cif_calendar.specs.declared.piece.Piece.{Piece}
+use Rattle.cif_calendar.specs.declared.key_calendar.Piece.{Piece}
 
 -- No record begins after day `first` and up to day `last`, or ends from `first` on and before `last`. So on two days between
 -- them that have one weekday the same records apply.

@@ -1,11 +1,13 @@
-//! What a record of a timetable tells the calendar.
+//! What a record of a timetable tells the calendar: associations and schedules as its entries.
 
 ghost use Rattle.std.specs.Prelude.{◌≡◌, ◌≤◌, ◌↔◌, IsTrue, IsNone};
 ghost use Rattle.std.specs.Option.{option_copied};
 ghost use Rattle.cif_columns.specs.declared.stp.Stp.TheVariants.{C};
 ghost use Rattle.cif_calendar.specs.Terms.{Terms};
 
-use cif_columns::{Day, DaysRun, Stp};
+use cif_columns::{Day, DaysRun, Stp, Uid};
+use cif_extract::{Body, Schedule};
+use cif_records::{AssocBody, AssocKey, Association};
 
 /// A record of a timetable: on some dates it says for one train, or one association, what runs.
 ///
@@ -59,4 +61,112 @@ pub trait Entry {
 
     // A cancellation has no body, and every other record has one.
     ghost cancelled: { (e : Self) → IsNone (terms e).body ↔ ((terms e).letter ≡ C) };
+}
+
+impl Entry for Association {
+    type Key = AssocKey;
+
+    type Body = AssocBody;
+
+    ghost use Rattle.std.proofs.Common.{rules};
+    ghost use Rattle.std.proofs.lemmas.Grind.{common_steps};
+    ghost use Rattle.cif_calendar.specs.Entries.{association_terms};
+    ghost use Rattle.cif_calendar.specs.Laws.Bodied.{cancelled-from_bodied};
+    ghost use Rattle.std.specs.Cmp.Lexicographic.{pointwise_decides, bytes_decides};
+
+    ghost key = { λ a. a.key };
+
+    ghost terms = { association_terms };
+
+    fn key(&self) -> &AssocKey {
+        &self.key
+    }
+
+    fn first(&self) -> Day {
+        self.first
+    }
+
+    fn last(&self) -> Day {
+        self.last
+    }
+
+    fn days(&self) -> DaysRun {
+        self.days
+    }
+
+    fn letter(&self) -> Stp {
+        self.letter
+    }
+
+    fn body(&self) -> Option<&AssocBody> {
+        self.body.as_ref()
+    }
+
+    ghost same_key = { Prim.search (rules, common_steps, pointwise_decides, bytes_decides) };
+
+    ghost same_body = { Prim.search (rules, common_steps, pointwise_decides, bytes_decides) };
+
+    ghost dates_ordered = { λ a. a.in_order };
+
+    ghost cancelled = { λ a. cancelled-from_bodied a.letter a.body a.bodied };
+}
+
+impl Entry for Schedule {
+    type Key = Uid;
+
+    type Body = Body;
+
+    ghost use Rattle.std.proofs.Common.{rules};
+    ghost use Rattle.std.proofs.lemmas.Grind.{common_steps};
+    ghost use Rattle.cif_calendar.specs.Entries.{schedule_terms};
+    ghost use Rattle.cif_calendar.specs.Laws.Bodied.{cancelled-from_bodied};
+    ghost use Rattle.cif_extract.specs.Laws.SameBody.{same_body};
+    ghost use Rattle.std.specs.Cmp.Lexicographic.{bytes_decides};
+
+    ghost key = { λ s. s.uid };
+
+    ghost terms = { schedule_terms };
+
+    fn key(&self) -> &Uid {
+        &self.uid
+    }
+
+    fn first(&self) -> Day {
+        self.first
+    }
+
+    fn last(&self) -> Day {
+        self.last
+    }
+
+    fn days(&self) -> DaysRun {
+        self.days
+    }
+
+    fn letter(&self) -> Stp {
+        self.letter
+    }
+
+    fn body(&self) -> Option<&Body> {
+        self.body.as_ref()
+    }
+
+    ghost same_key = { Prim.search (rules, common_steps, bytes_decides) };
+
+    ghost same_body = { same_body };
+
+    ghost dates_ordered = { λ s. s.in_order };
+
+    ghost cancelled = { λ s. cancelled-from_bodied s.letter s.body s.bodied };
+}
+
+/// Whether two entries have the same body, or both have none.
+pub fn same_body<E: Entry>(one: &E, other: &E) -> bool
+    ensures { IsTrue result ↔ ((E.terms one.now).body ≡ (E.terms other.now).body) }
+{
+    match (one.body(), other.body()) {
+        (Some(x), Some(y)) => x == y,
+        (None, None) => true,
+        _ => false,
+    }
 }

@@ -1,11 +1,34 @@
-//! What runs on each date of a window.
-ghost use Rattle.std.specs.Prelude.{◌≡◌, ◌≤◌, ◌+◌, Contains};
+//! What runs on each date of a window: a calendar, its pieces, and why there is none.
+ghost use Rattle.std.specs.Prelude.{◌≡◌, ◌≤◌, ◌+◌, Contains, Some};
 ghost use Rattle.cif_calendar.specs.Pieces.{Tiles, source_at, winner_of};
 
-use crate::piece::Piece;
-use crate::window::Window;
-use cif_columns::Day;
+use cif_columns::{Day, as_text};
+use std::alloc::AllocError;
+use std::error::Error;
+use std::fmt;
 use std::marker::Model;
+
+/// The dates from a first to a last, both included; the first is never after the last.
+#[derive(Clone, Copy, Debug, PartialEq, Eq)]
+pub struct Window {
+    /// The first date.
+    pub first: Day,
+    /// The last date.
+    pub last: Day,
+    ghost in_order: { first ≤ last },
+}
+
+/// Dates on each of which the same records apply as on the others of its weekday.
+#[derive(Clone, Copy, Debug, PartialEq, Eq)]
+pub struct Piece {
+    /// The first date.
+    pub first: Day,
+    /// The last date.
+    pub last: Day,
+    /// For each weekday, Monday first, the position in the entries of a winner; `None` where nothing
+    /// runs, and where the piece has no date of that weekday.
+    pub winners: [Option<usize>; 7],
+}
 
 /// The winner of each date of a window, by pieces of it.
 #[derive(Debug, Drop)]
@@ -91,3 +114,41 @@ impl Calendar {
         self.pieces
     }
 }
+
+/// Why there is no calendar.
+#[derive(Clone, Copy, Debug, PartialEq, Eq)]
+pub enum CalendarFault {
+    /// Two winners of this date have different bodies; it is the first such date of the window.
+    Ambiguous(Day),
+    /// Memory ran out: a request for it was refused.
+    Memory,
+}
+
+impl From<AllocError> for CalendarFault {
+    ghost use Rattle.cif_calendar.specs.declared.key_calendar.CalendarFault.TheVariants.{Memory};
+
+    ghost from_gives = { λ _ fault. fault ≡ Memory };
+
+    fn from(_error: AllocError) -> CalendarFault {
+        CalendarFault::Memory
+    }
+}
+
+/// As `Ambiguous on 260106`, or Memory.
+impl fmt::Display for CalendarFault {
+    ghost use Rattle.cif_calendar.specs.CalendarFault.{text_of};
+
+    ghost output = { λ fault. Some (text_of fault) };
+
+    fn fmt<W: fmt::Write>(&self, f: &mut fmt::Formatter<W>) -> fmt::Result {
+        match self {
+            CalendarFault::Ambiguous(day) => {
+                f.write_str("Ambiguous on ")?;
+                f.write_str(as_text(&day.to_yymmdd()))
+            }
+            CalendarFault::Memory => f.write_str("Memory"),
+        }
+    }
+}
+
+impl Error for CalendarFault {}

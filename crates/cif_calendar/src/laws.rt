@@ -9,7 +9,7 @@ ghost use Rattle.cif_calendar.specs.Source.{IsChosen};
 ghost use Rattle.cif_calendar.specs.Pieces.{source_at};
 ghost use Rattle.cif_calendar.specs.Calendar.{CalendarParts, IsCalendar, IsFault, body_on};
 ghost use Rattle.cif_calendar.specs.Keys.{keyed, of_key, ArePositionsOf};
-ghost use Rattle.cif_calendar.specs.declared.calendar_fault.CalendarFault.{CalendarFault};
+ghost use Rattle.cif_calendar.specs.declared.key_calendar.CalendarFault.{CalendarFault};
 
 use crate::entry::Entry;
 

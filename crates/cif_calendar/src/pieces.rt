@@ -1,150 +1,115 @@
 //! The pieces of a calendar, one after another, and the calendar of a list of members.
 
 ghost use Rattle.std.specs.Prelude.{◌≡◌, ◌<◌, ◌≤◌, ◌+◌, length, map, All};
-ghost use Rattle.std.specs.Prelude.{IfOk, IfErr, ◌⊎◌};
+ghost use Rattle.std.specs.Prelude.{IfErr, OnOk, None, slice_index_or, ◌⊎◌, ℕ};
 ghost use Rattle.cif_calendar.specs.Calendar.{IsAnswer, IsFault};
-ghost use Rattle.cif_calendar.specs.Pieces.{ChangesOn, IsPiece, IsUnbroken};
+ghost use Rattle.cif_calendar.specs.Pieces.{IsPiece, IsUnbroken};
 ghost use Rattle.cif_calendar.specs.Source.{IsChosen};
+ghost use Rattle.cif_calendar.specs.Steps.Covering.{IsCovering};
 ghost use Rattle.cif_calendar.specs.Steps.Standing.{AreStandings};
-ghost use Rattle.cif_calendar.specs.Steps.Stretches.{AreAhead, EndsWith};
+ghost use Rattle.cif_calendar.specs.Steps.Stretches.{AreAhead, TellsOf};
 
-use crate::calendar_fault::CalendarFault;
+use crate::covering::{Covering, end_of_piece, lay};
 use crate::entry::Entry;
-use crate::key_calendar::Calendar;
-use crate::piece::Piece;
+use crate::key_calendar::{Calendar, CalendarFault, Piece, Window};
 use crate::standing::{BodiesDiffer, Standings, standings_from, winner_by};
-use crate::stretch::{FEW, Stretch, behind, stretches_of_all};
-use crate::window::Window;
-use crate::winner::{Covering, who_covers, winners_of_one};
+use crate::stretch::{FEW, Stretch, behind, stretches_of_many};
 use cif_columns::Day;
 use std::alloc::Global;
 
-/// The first day from `first` on after which the record has ended or begins; `end` where there is
-/// none before it.
-fn end_for<E: Entry>(entry: &E, first: Day, end: Day) -> Day
-    requires { first ≤ end }
-    ensures from { first ≤ result }
-    ensures upto { result ≤ end }
-    ensures begins { first < (E.terms entry.now).first → result < (E.terms entry.now).first }
-    ensures ends { first ≤ (E.terms entry.now).last → result ≤ (E.terms entry.now).last }
-    ensures breaks { (result ≡ end) ⊎ ((result + 1 ≡ (E.terms entry.now).first)
-        ⊎ (result + 1 ≡ (E.terms entry.now).last + 1)) }
-{
-    let begin = entry.first();
-    if first < begin {
-        return match begin.previous() {
-            Some(before) if before < end => before,
-            _ => end,
-        };
-    }
-    let last = entry.last();
-    if first <= last && last < end {
-        last
-    } else {
-        end
-    }
-}
-
-/// The last day of the piece that begins on `first`, in a window that ends on `last`.
-pub(crate) fn end_of_piece<E: Entry>(entries: &[E], members: &[usize], first: Day, last: Day) -> Day
+/// Who leads on the dates of the piece from `first` to `last`: as the stretch ahead says, or by a look
+/// at the members.
+fn leaders<E: Entry>(
+    entries: &[E],
+    members: &[usize],
+    ahead: &[Stretch],
+    first: Day,
+    last: Day,
+) -> Standings
     requires positions { All (λ i. i < length entries.now) members.now }
-    requires in_order { first ≤ last }
-    ensures from { first ≤ result }
-    ensures upto { result ≤ last }
-    ensures unbroken { IsUnbroken (IsChosen (map E.terms entries.now) members.now) first result }
-    ensures breaks { (result ≡ last)
-        ⊎ ChangesOn (IsChosen (map E.terms entries.now) members.now) (result + 1) }
+    requires unbroken { IsUnbroken (IsChosen (map E.terms entries.now) members.now) first last }
+    requires ahead { TellsOf (map E.terms entries.now) members.now first last ahead.now }
+    ensures { AreStandings (map E.terms entries.now) members.now members.now first last result }
 {
-    let mut end = last;
-    for i in members {
-        end = end_for(&entries[*i], first, end);
+    match ahead {
+        [stretch, ..] => stretch.standings,
+        [] => standings_from(entries, members, &mut [None; FEW], 0, members, first),
     }
-    end
 }
 
-/// The piece from `first` to `last`, by who leads on its dates; or its first date with a clash. The
-/// first seven dates tell of the others. Inlined, as a call would copy the piece.
-#[inline(always)]
-fn judged_piece<E: Entry>(
+/// Fills in the winners of a piece, by who leads on its dates; or finds its first date with a clash.
+/// The first seven dates tell of the others.
+fn judge<E: Entry>(
+    piece: &mut Piece,
     entries: &[E],
     members: &[usize],
     standings: &Standings,
-    first: Day,
-    last: Day,
-) -> Result<Piece, CalendarFault>
+) -> Result<(), CalendarFault>
     requires positions { All (λ i. i < length entries.now) members.now }
-    requires in_order { first ≤ last }
-    requires unbroken { IsUnbroken (IsChosen (map E.terms entries.now) members.now) first last }
-    requires standings { AreStandings (map E.terms entries.now) members.now members.now first last
-        standings.now }
-    ensures begins { IfOk result (λ p. p.first ≡ first) }
-    ensures ends { IfOk result (λ p. p.last ≡ last) }
-    ensures piece { IfOk result (IsPiece (map E.terms entries.now) members.now) }
-    ensures fault { IfErr result
-        (IsFault (IsChosen (map E.terms entries.now) members.now) first last) }
+    requires in_order { piece.old.first ≤ piece.old.last }
+    requires unbroken { IsUnbroken (IsChosen (map E.terms entries.now) members.now) piece.old.first
+        piece.old.last }
+    requires standings { AreStandings (map E.terms entries.now) members.now members.now
+        piece.old.first piece.old.last standings.now }
+    ensures begins { piece.new.first ≡ piece.old.first }
+    ensures ends { piece.new.last ≡ piece.old.last }
+    ensures piece { OnOk result (IsPiece (map E.terms entries.now) members.now piece.new) }
+    ensures fault { IfErr result (IsFault (IsChosen (map E.terms entries.now) members.now)
+        piece.old.first piece.old.last) }
 {
-    let mut piece = Piece {
-        first,
-        last,
-        winners: [None; 7],
-    };
-    let mut day = first;
+    piece.winners = [None; 7];
+    let mut day = piece.first;
     for _ in 0..7u8 {
         let weekday = usize::from(day.weekday());
         match winner_by(entries, members, standings[weekday]) {
             Ok(source) => piece.winners[weekday] = source,
             Err(BodiesDiffer) => return Err(CalendarFault::Ambiguous(day)),
         }
-        match day.next_up_to(last) {
+        match day.next_up_to(piece.last) {
             Some(next) => day = next,
-            None => return Ok(piece),
+            None => return Ok(()),
         }
     }
-    Ok(piece)
+    Ok(())
 }
 
-/// The piece that begins on `first`, in a window that ends on `last`. If a stretch is ahead, the
-/// piece has its dates; if not, its end is looked for.
-fn piece_from<E: Entry>(
+/// Fills in the winners of a piece that has none yet, or finds its first date with a clash. If a
+/// stretch is ahead, the piece has its dates.
+fn fill<E: Entry>(
+    piece: &mut Piece,
     entries: &[E],
     members: &[usize],
     ahead: &[Stretch],
-    first: Day,
-    last: Day,
-) -> Result<Piece, CalendarFault>
+    covering: Covering,
+) -> Result<(), CalendarFault>
     requires positions { All (λ i. i < length entries.now) members.now }
-    requires in_order { first ≤ last }
-    requires ahead { AreAhead (map E.terms entries.now) members.now first last ahead.now }
-    ensures begins { IfOk result (λ p. p.first ≡ first) }
-    ensures from { IfOk result (λ p. p.first ≤ p.last) }
-    ensures upto { IfOk result (λ p. p.last ≤ last) }
-    ensures piece { IfOk result (IsPiece (map E.terms entries.now) members.now) }
-    ensures breaks { IfOk result (λ p. (p.last ≡ last)
-        ⊎ ChangesOn (IsChosen (map E.terms entries.now) members.now) (p.last + 1)) }
-    ensures stretch { IfOk result (λ p. EndsWith ahead.now p.last) }
-    ensures fault { IfErr result
-        (IsFault (IsChosen (map E.terms entries.now) members.now) first last) }
+    requires in_order { piece.old.first ≤ piece.old.last }
+    requires blank { (w : ℕ) → slice_index_or piece.old.winners w None ≡ None }
+    requires unbroken { IsUnbroken (IsChosen (map E.terms entries.now) members.now) piece.old.first
+        piece.old.last }
+    requires covering { IsCovering (map E.terms entries.now) members.now piece.old.first covering }
+    requires ahead { TellsOf (map E.terms entries.now) members.now piece.old.first piece.old.last
+        ahead.now }
+    ensures begins { piece.new.first ≡ piece.old.first }
+    ensures ends { piece.new.last ≡ piece.old.last }
+    ensures piece { OnOk result (IsPiece (map E.terms entries.now) members.now piece.new) }
+    ensures fault { IfErr result (IsFault (IsChosen (map E.terms entries.now) members.now)
+        piece.old.first piece.old.last) }
 {
-    if let [stretch, ..] = ahead {
-        return judged_piece(entries, members, &stretch.standings, first, stretch.last);
-    }
-    let end = end_of_piece(entries, members, first, last);
-    match who_covers(entries, members, first) {
-        Covering::Nobody => Ok(Piece {
-            first,
-            last: end,
-            winners: [None; 7],
-        }),
-        Covering::Only(position) => Ok(Piece {
-            first,
-            last: end,
-            winners: winners_of_one(&entries[position], position, first, end),
-        }),
+    let (first, last) = (piece.first, piece.last);
+    match covering {
+        Covering::Nobody => {}
+        Covering::Only(only) => lay(entries, only, first, last, &mut piece.winners),
+        Covering::Both(under, over) => {
+            lay(entries, under, first, last, &mut piece.winners);
+            lay(entries, over, first, last, &mut piece.winners);
+        }
         Covering::Several => {
-            let standings = standings_from(entries, members, &mut [None; FEW], 0, members, first);
-            judged_piece(entries, members, &standings, first, end)
+            let standings = leaders(entries, members, ahead, first, last);
+            return judge(piece, entries, members, &standings);
         }
     }
+    Ok(())
 }
 
 /// The calendar of the entries at `members`. These stretches of theirs are ahead, from the first of
@@ -166,11 +131,18 @@ fn calendar_of<E: Entry>(
     let mut ahead = stretches;
     let mut first = window.first;
     loop {
-        let piece = piece_from(entries, members, ahead, first, window.last)?;
-        let last = piece.last;
-        let Ok(()) = pieces.push(piece) else {
+        let (last, covering) = end_of_piece(entries, members, ahead, first, window.last);
+        let place = pieces.len();
+        let Ok(()) = pieces.reserve(1) else {
             return Err(CalendarFault::Memory);
         };
+        // With room for it, and its winners written out, the piece is made in its place.
+        pieces.push_reserved(Piece {
+            first,
+            last,
+            winners: [None, None, None, None, None, None, None],
+        });
+        fill(&mut pieces[place], entries, members, ahead, covering)?;
         ahead = behind(ahead, last);
         match last.next_up_to(window.last) {
             Some(next) => first = next,
@@ -211,9 +183,6 @@ pub fn calendar_in_room<E: Entry>(
     requires positions { All (λ i. i < length entries.now) members.now }
     ensures { IsAnswer (map E.terms entries.now) members.now window.first window.last result }
 {
-    if members.len() <= FEW {
-        return calendar_of(room, entries, members, &[], window);
-    }
-    let stretches = stretches_of_all(*room.allocator(), entries, members, &window)?;
+    let stretches = stretches_of_many(*room.allocator(), entries, members, &window)?;
     calendar_of(room, entries, members, stretches.as_slice(), window)
 }

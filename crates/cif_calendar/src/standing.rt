@@ -1,20 +1,24 @@
 //! Who leads on each weekday, where some members are looked at together.
+//!
+//! Members that are known to have one body aren't compared again. A list, `alike`, has for a member
+//! the number of an earlier one with its body, where that is known: links from number to number,
+//! which fall. Where the list is empty, nothing is known.
 
-ghost use Rattle.std.specs.Prelude.{◌≡◌, ◌<◌, ◌≤◌, ◌+◌, ℕ, length, map, All};
-ghost use Rattle.std.specs.Prelude.{IfOk, OnErr, slice_index_or};
+ghost use Rattle.std.specs.Prelude.{◌≡◌, ◌<◌, ◌≤◌, ◌+◌, ◌↔◌, ◌⊎◌, ℕ, Some, None, length, map};
+ghost use Rattle.std.specs.Prelude.{All, IfOk, IsTrue, OnErr, slice_index_or};
 ghost use Rattle.cif_columns.specs.Stp.{letter};
 ghost use Rattle.cif_calendar.specs.Terms.{Terms};
 ghost use Rattle.cif_calendar.specs.Clash.{IsClash};
 ghost use Rattle.cif_calendar.specs.Pieces.{IsUnbroken};
 ghost use Rattle.cif_calendar.specs.Source.{IsChosen};
 ghost use Rattle.cif_calendar.specs.Steps.Standing.{AreAlike, AreBelow, AreStandings, Combines};
-ghost use Rattle.cif_calendar.specs.Steps.Standing.{IsBelow, IsRank, Judges, LooksAt, Stands, StandsAt};
+ghost use Rattle.cif_calendar.specs.Steps.Standing.{HaveOneBody, IsBelow, IsRank, Judges, LooksAt};
+ghost use Rattle.cif_calendar.specs.Steps.Standing.{Stands, StandsAt};
 ghost use Rattle.cif_calendar.specs.Steps.Stretches.{IsPart};
 ghost use Rattle.cif_calendar.specs.declared.standing.Standing.TheVariants.{Nobody};
 
-use crate::entry::Entry;
-use crate::one_body::have_one_body;
-use crate::winner::covers;
+use crate::covering::covers;
+use crate::entry::{Entry, same_body};
 use cif_columns::{Day, DaysRun};
 
 /// Two winners of a date have different bodies, so what runs can't be said.
@@ -42,6 +46,79 @@ pub(crate) fn member<'a, E: Entry>(entries: &'a [E], members: &[usize], number: 
     ensures { StandsAt (map E.terms entries.now) members.now number (E.terms result.now) }
 {
     &entries[members[number]]
+}
+
+/// What `alike` has for the member with this number.
+fn known(alike: &[Option<usize>], number: usize) -> Option<usize>
+    ensures { result ≡ slice_index_or alike.now number None }
+{
+    if number < alike.len() {
+        alike[number]
+    } else {
+        None
+    }
+}
+
+/// Notes that the member with this number has the body of the earlier one.
+fn note(alike: &mut [Option<usize>], number: usize, earlier: usize)
+    ensures { (k : ℕ) → (slice_index_or alike.new k None ≡ slice_index_or alike.old k None)
+        ⊎ ((k ≡ number) × (slice_index_or alike.new k None ≡ Some earlier)) }
+{
+    if number < alike.len() {
+        alike[number] = Some(earlier);
+    }
+}
+
+/// Both numbers, the greater first.
+fn falling(one: usize, other: usize) -> (usize, usize)
+    ensures { ((result.0 ≡ one) × (result.1 ≡ other)) ⊎ ((result.0 ≡ other) × (result.1 ≡ one)) }
+{
+    if one < other {
+        (other, one)
+    } else {
+        (one, other)
+    }
+}
+
+/// Whether the members with these numbers have the same body, or both have none.
+///
+/// It follows the links of both. Where they meet, that is known; else the bodies are compared, and
+/// what was found is noted. Links that are followed are shortened.
+fn have_one_body<E: Entry>(
+    entries: &[E],
+    members: &[usize],
+    alike: &mut [Option<usize>],
+    one: usize,
+    other: usize,
+) -> bool
+    requires positions { All (λ i. i < length entries.now) members.now }
+    requires one { one < length members.now }
+    requires other { other < length members.now }
+    requires alike { AreAlike (map E.terms entries.now) members.now alike.old }
+    ensures alike { AreAlike (map E.terms entries.now) members.now alike.new }
+    ensures told { IsTrue result ↔ HaveOneBody (map E.terms entries.now) members.now one other }
+{
+    let mut pair = falling(one, other);
+    for _ in 0..alike.len() {
+        if pair.0 == pair.1 {
+            return true;
+        }
+        let Some(next) = known(alike, pair.0) else {
+            break;
+        };
+        if let Some(after) = known(alike, next) {
+            note(alike, pair.0, after);
+        }
+        pair = falling(next, pair.1);
+    }
+    let same = same_body(
+        member(entries, members, one),
+        member(entries, members, other),
+    );
+    if same {
+        note(alike, pair.0, pair.1);
+    }
+    same
 }
 
 /// The letter of who leads; a number after all letters where nobody leads.

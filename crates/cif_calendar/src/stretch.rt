@@ -2,12 +2,12 @@
 
 ghost use Rattle.std.specs.Prelude.{◌≡◌, ◌<◌, ◌+◌, length, map, All, IfOk};
 ghost use Rattle.cif_calendar.specs.Steps.Standing.{AreAlike, AreBelow};
-ghost use Rattle.cif_calendar.specs.Steps.Stretches.{AreAhead, AreBehind, AreStretches, IsJoint, IsPart};
+ghost use Rattle.cif_calendar.specs.Steps.Stretches.{AreAhead, AreBehind, AreStretchesOf, IsJoint, IsPart};
 
+use crate::covering::end_of_piece;
 use crate::entry::Entry;
-use crate::pieces::end_of_piece;
+use crate::key_calendar::Window;
 use crate::standing::{Standings, look_at, standings_from};
-use crate::window::Window;
 use cif_columns::{Day, DaysRun};
 use std::alloc::{AllocError, Global};
 
@@ -80,13 +80,13 @@ fn stretches_of_few<E: Entry>(
     requires alike { AreAlike (map E.terms entries.now) members.now alike.old }
     requires part { IsPart members.now number part.now }
     ensures alike { AreAlike (map E.terms entries.now) members.now alike.new }
-    ensures stretches { IfOk result (λ stretches. AreStretches (map E.terms entries.now) members.now
-        part.now (window.now.last + 1) window.now.first (window.now.last + 1) stretches.items) }
+    ensures stretches { IfOk result
+        (λ made. AreStretchesOf (map E.terms entries.now) members.now part.now window.now made.items) }
 {
     let mut stretches = Vec::new(alloc);
     let mut first = window.first;
     loop {
-        let last = end_of_piece(entries, part, first, window.last);
+        let (last, _) = end_of_piece(entries, part, &[], first, window.last);
         let standings = standings_from(entries, members, alike, number, part, first);
         stretches.push(Stretch { last, standings })?;
         match last.next_up_to(window.last) {
@@ -111,16 +111,24 @@ fn stretches_of<E: Entry>(
     requires alike { AreAlike (map E.terms entries.now) members.now alike.old }
     requires part { IsPart members.now number part.now }
     ensures alike { AreAlike (map E.terms entries.now) members.now alike.new }
-    ensures stretches { IfOk result (λ stretches. AreStretches (map E.terms entries.now) members.now
-        part.now (window.now.last + 1) window.now.first (window.now.last + 1) stretches.items) }
+    ensures stretches { IfOk result
+        (λ made. AreStretchesOf (map E.terms entries.now) members.now part.now window.now made.items) }
 {
     if part.len() <= FEW {
         return stretches_of_few(alloc, entries, members, alike, number, part, window);
     }
     let half = part.len() / 2;
-    let (front, back) = part.split_at(half);
-    let lefts = stretches_of(alloc, entries, members, alike, number, front, window)?;
-    let rights = stretches_of(alloc, entries, members, alike, number + half, back, window)?;
+    let (first_half, second_half) = part.split_at(half);
+    let lefts = stretches_of(alloc, entries, members, alike, number, first_half, window)?;
+    let rights = stretches_of(
+        alloc,
+        entries,
+        members,
+        alike,
+        number + half,
+        second_half,
+        window,
+    )?;
     let mut left = lefts.as_slice();
     let mut right = rights.as_slice();
     let mut stretches = Vec::new(alloc);
@@ -133,8 +141,8 @@ fn stretches_of<E: Entry>(
     Ok(stretches)
 }
 
-/// The stretches of all members, over the dates of the window.
-pub(crate) fn stretches_of_all<E: Entry>(
+/// The stretches of many members, over the dates of the window; none of few.
+pub(crate) fn stretches_of_many<E: Entry>(
     alloc: Global,
     entries: &[E],
     members: &[usize],
@@ -144,6 +152,9 @@ pub(crate) fn stretches_of_all<E: Entry>(
     ensures { IfOk result (λ stretches. AreAhead (map E.terms entries.now) members.now
         window.now.first window.now.last stretches.items) }
 {
+    if members.len() <= FEW {
+        return Ok(Vec::new(alloc));
+    }
     let mut alike = vec![in alloc; None; members.len()]?;
     stretches_of(
         alloc,

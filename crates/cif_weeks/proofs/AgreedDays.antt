@@ -1,14 +1,13 @@
 -- On which weekdays two weeks have to agree, and weekday by weekday whether they do.
-use Rattle.std.proofs.Common.{◌≡◌, ◌≢◌, ℕ, ◌+◌, ◌-◌, ◌*◌, ◌<◌, ◌≤◌, Bool, true, false, List, leb}
-use Rattle.std.proofs.Common.{sym, ◌∙◌, ⊎_elim, inl, inr, arith, refl, subst}
+use Rattle.std.proofs.Common.{◌≡◌, ℕ, ◌+◌, ◌-◌, ◌*◌, ◌<◌, ◌≤◌, Bool, List, leb}
+use Rattle.std.proofs.Common.{sym, arith, subst}
 use Rattle.std.specs.Prelude.{◌↔◌, IsTrue}
-use Rattle.std.proofs.lemmas.Bool.{cases_lt, false≢true, leb-true, le-leb}
+use Rattle.std.proofs.lemmas.Bool.{leb-true, le-leb}
 use Rattle.cif_columns.specs.Day.{week_of, weekday_of}
 use Rattle.cif_columns.specs.DaysRun.{RunsOn}
 use Rattle.cif_weeks.specs.declared.form.Form.{Form}
 use Rattle.cif_weeks.specs.declared.form.Form.TheVariants.{Two}
 use Rattle.cif_weeks.specs.Window.{Window}
-use Rattle.cif_weeks.specs.Separate.{ExactlyOne}
 use Rattle.cif_weeks.specs.Steps.WeekMasks.{Agree, Counts}
 
 -- form 2: the day of the weekday and the day seven later lie in the window
@@ -39,36 +38,9 @@ tested-date first last next w upto below from is = (
   λ (n, in_week, day, _, within). le-leb (next * 7 + w) upto (omega arith),
 )
 
--- two tests of one weekday
-pub same-tests : (x y : List Bool) (w : ℕ) (a b : Bool) → (IsTrue a ↔ RunsOn x w) → (IsTrue b ↔ RunsOn y w) → a ≡ b →
-    RunsOn x w ↔ RunsOn y w
-same-tests x y w a b on_x on_y same = (λ on. on_y.0 (sym same ∙ on_x.1 on), λ on. on_x.0 (same ∙ on_y.1 on))
-
-pub other-tests : (x y : List Bool) (w : ℕ) (a b : Bool) → (IsTrue a ↔ RunsOn x w) → (IsTrue b ↔ RunsOn y w) → a ≢ b →
-    ExactlyOne (RunsOn x w) (RunsOn y w)
-other-tests x y w true true on_x on_y differ = absurd (differ refl)
-other-tests x y w true false on_x on_y differ = inl (on_x.0 refl, λ on. false≢true (on_y.1 on))
-other-tests x y w false true on_x on_y differ = inr (λ on. false≢true (on_x.1 on), on_y.0 refl)
-other-tests x y w false false on_x on_y differ = absurd (differ refl)
-
 -- the masks agree on the weekdays before k
 pub record AgreeUpTo (form : Form) (window : Window) (next k : ℕ) (x y : List Bool) : Type 0 where
   pub below : (week w : ℕ) → week + 1 ≡ next → w < k → Counts form window week w → RunsOn x w ↔ RunsOn y w
-
-pub agree-more : (form : Form) (window : Window) (next k : ℕ) (x y : List Bool) → AgreeUpTo form window next k x y →
-    ((week : ℕ) → week + 1 ≡ next → Counts form window week k → RunsOn x k ↔ RunsOn y k) → AgreeUpTo form window next (k + 1) x y
-agree-more form window next k x y a here = record {
-  below = λ week w is h counts. ⊎_elim
-      (λ less. a.below week w is less counts)
-      (λ more.
-      let same : w ≡ k = omega arith in
-      subst (λ v. RunsOn x v ↔ RunsOn y v) (sym same) (here week is (subst (λ v. Counts form window week v) same counts)))
-      (cases_lt w k);
-}
-
-pub agree-whole : (form : Form) (window : Window) (week next : ℕ) (x y : List Bool) → week + 1 ≡ next → AgreeUpTo form window next 7 x y →
-    Agree form window week x y
-agree-whole form window week next x y is a w below counts = a.below week w is below counts
 
 -- equal masks agree on each weekday
 pub same-agree : (form : Form) (window : Window) (week : ℕ) (x y : List Bool) → x ≡ y → Agree form window week x y

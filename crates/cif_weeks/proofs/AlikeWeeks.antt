@@ -6,7 +6,7 @@ use Rattle.cif_calendar.specs.Terms.{Terms}
 use Rattle.cif_calendar.specs.Source.{body_at}
 use Rattle.cif_calendar.specs.Pieces.{Tiles, winner_of}
 use Rattle.cif_calendar.specs.Calendar.{CalendarParts}
-use Rattle.cif_calendar.specs.declared.piece.Piece.{Piece}
+use Rattle.cif_calendar.specs.declared.key_calendar.Piece.{Piece}
 use Rattle.cif_calendar.proofs.PieceLists.{tiles-from, tiles-ends, source_at-piece}
 use Rattle.cif_weeks.specs.Steps.WeekMasks.{AreAlike}
 use Rattle.cif_weeks.specs.Steps.WeekBodies.{source_in, body_in, AreAlikeUpTo, AreOfPiece}

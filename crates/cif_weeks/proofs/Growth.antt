@@ -1,11 +1,9 @@
 -- The bodies of sources, and the mask of a body in a week.
-use Rattle.std.proofs.Common.{◌≡◌, ℕ, ◌+◌, ◌*◌, ◌<◌, ◌≤◌, Bool, List, length, Option, None, Some, sym, ◌∙◌}
+use Rattle.std.proofs.Common.{◌≡◌, ℕ, ◌+◌, ◌*◌, ◌<◌, List, length, Option, None, Some, sym, ◌∙◌}
 use Rattle.std.proofs.Common.{arith, refl}
 use Rattle.std.specs.Prelude.{IsSome, slice_get}
 use Rattle.std.specs.Option.{option_and_then}
 use Rattle.std.proofs.lemmas.Option.{slice_get_within}
-use Rattle.cif_columns.specs.Day.{IsDay, week_of, weekday_of}
-use Rattle.cif_columns.specs.DaysRun.{RunsOn}
 use Rattle.cif_calendar.specs.Terms.{Terms}
 use Rattle.cif_calendar.specs.Source.{body_at}
 use Rattle.cif_calendar.specs.Calendar.{CalendarParts}
@@ -57,10 +55,3 @@ module _ {B : Type 0} (xs : List (Terms B)) (c : CalendarParts) (sources : AreSo
     shows = λ n at runs. i.shows n at (omega arith) runs;
     only = λ w on. let (n, at, day, known, runs) = i.only w on in (n, at, day, runs);
   }
-
-  -- a day of a mask is one of the calendar's
-  pub mask-days : (week : ℕ) (b : B) (mask : List Bool) → IsDay c.last → IsMask (body_in xs c) b week mask → (w : ℕ) → RunsOn mask w →
-      (n : ℕ) × (week_of n ≡ week) × (weekday_of n ≡ w) × IsDay n
-  mask-days week b mask last m w on =
-      let (n, in_week, day, runs) = m.only w on in
-      (n, in_week, day, (let upto : n ≤ c.last = (inside n b runs).upto in omega arith))

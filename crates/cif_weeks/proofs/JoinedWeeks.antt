@@ -10,7 +10,7 @@ use Rattle.cif_columns.specs.Day.{week_of, weekday_of}
 use Rattle.cif_calendar.specs.Terms.{Terms}
 use Rattle.cif_calendar.specs.Pieces.{Tiles}
 use Rattle.cif_calendar.specs.Calendar.{CalendarParts}
-use Rattle.cif_calendar.specs.declared.piece.Piece.{Piece}
+use Rattle.cif_calendar.specs.declared.key_calendar.Piece.{Piece}
 use Rattle.cif_weeks.specs.declared.form.Form.{Form}
 use Rattle.cif_weeks.specs.declared.joined.Joined.{Joined}
 use Rattle.cif_weeks.specs.declared.run.Run.{Run}

@@ -51,14 +51,6 @@ mask_next body_on b week mask a m = record {
       (i + 7, omega (arith, week_of-next i), weekday_of-next i ∙ day_i, a.same i (omega arith) (omega arith) ∙ runs);
 }
 
--- and of each of k weeks that are alike
-pub mask_alike : {B : Type 0} (body_on : ℕ → Option B) (b : B) (week k : ℕ) (mask : List Bool) → AreAlike body_on week k
-    → IsMask body_on b week mask → IsMask body_on b (week + k) mask
-mask_alike body_on b week zero mask a m = mask_moved body_on b week (week + zero) mask (omega arith) m
-mask_alike body_on b week (suc k) mask a m =
-    mask_moved body_on b ((week + k) + 1) (week + suc k) mask (omega arith)
-    (mask_next body_on b (week + k) mask (alike_last body_on week k a) (mask_alike body_on b week k mask (alike_fewer body_on week k a) m))
-
 module _ {B : Type 0} (window : Window) (body_on : ℕ → Option B)
     (inside : (n : ℕ) (b : B) → body_on n ≡ Some b → IsWithin window n) where
   -- the same mask and body fit the same weeks

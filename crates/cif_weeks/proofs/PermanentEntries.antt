@@ -33,13 +33,6 @@ module _ {K B : Type 0} (records : List (K × Permanent B)) (k : K) where
   record-entry : (r : Permanent B) → of_key records k r → of_key (permanent_entries records) k (terms_of r)
   record-entry r h = Contains-map (λ (e : K × Permanent B). (e.0, terms_of e.1)) records (k, r) h
 
-  pub entries-records : (t : Terms B) →
-      of_key (permanent_entries records) k t ↔ ((r : Permanent B) × of_key records k r × (terms_of r ≡ t))
-  entries-records t = (
-    entry-record t,
-    λ h. subst (λ u. of_key (permanent_entries records) k u) h.2 (record-entry h.0 h.1),
-  )
-
   permanent : (t : Terms B) → of_key (permanent_entries records) k t → (t.letter ≡ P) × IsSome t.body
   permanent t h =
       let (r, listed, is) = entry-record t h in

@@ -6,6 +6,7 @@ use Rattle.cif_calendar.specs.Clash.{IsClear}
 use Rattle.cif_calendar.specs.Source.{IsChosen, IsSource}
 use Rattle.cif_calendar.specs.Pieces.{ChangesOn, IsUnbroken}
 use Rattle.cif_calendar.specs.Steps.Standing.{AreBelow, AreStandings, Combines}
+use Rattle.cif_calendar.specs.declared.key_calendar.Window.{Window}
 use Rattle.cif_calendar.specs.declared.standing.Standing.TheVariants.{Nobody}
 use Rattle.cif_calendar.specs.declared.stretch.Stretch.{Stretch}
 
@@ -23,6 +24,10 @@ abbrev pub AreStretches : {B : Type 0} → List (Terms B) → List ℕ → List 
 AreStretches xs members looked end first to [] = first ≡ to
 AreStretches xs members looked end first to (s ∷ ss) =
     IsStretch xs members looked end first s × AreStretches xs members looked end (s.last + 1) to ss
+
+-- the stretches of some members over the days of a window
+abbrev pub AreStretchesOf : {B : Type 0} → List (Terms B) → List ℕ → List ℕ → Window → List Stretch → Type 0
+AreStretchesOf xs members looked window ss = AreStretches xs members looked (window.last + 1) window.first (window.last + 1) ss
 
 -- the stretch of two sets of members together, from a day on that both stretches have, ends with the sooner of them
 pub record IsJoint {B : Type 0} (xs : List (Terms B)) (members : List ℕ) (one other both : Stretch) : Type 0 where
@@ -48,10 +53,10 @@ abbrev pub AreAhead : {B : Type 0} → List (Terms B) → List ℕ → ℕ → �
 AreAhead xs members first last [] = Unit {0}
 AreAhead xs members first last (s ∷ ss) = AreStretches xs members members (last + 1) first (last + 1) (s ∷ ss)
 
--- the first stretch, if there is one, ends on this day
-abbrev pub EndsWith : List Stretch → ℕ → Type 0
-EndsWith [] day = Unit {0}
-EndsWith (s ∷ ss) day = s.last ≡ day
+-- the first stretch, if there is one, ends on day `last`, and has the standings of the days from `first` on
+abbrev pub TellsOf : {B : Type 0} → List (Terms B) → List ℕ → ℕ → ℕ → List Stretch → Type 0
+TellsOf xs members first last [] = Unit {0}
+TellsOf xs members first last (s ∷ ss) = (s.last ≡ last) × AreStandings xs members members first last s.standings
 
 -- the winners of the days from `first` to the day before `to`, which are clear
 pub record IsWeekFrom {B : Type 0} (xs : List (Terms B)) (members : List ℕ) (first to : ℕ) (winners : List (Option ℕ)) : Type 0 where

@@ -10,15 +10,15 @@ loop-stretches-preserved g c = let says = c.end_of_piece-last.ensures in record 
   alike = c.standings_from-standings.ensures.alike;
   stretches = stretches_more (map g.E.Entry.terms c.args.entries.now) c.args.members.now c.args.part.now (c.args.window.now.last + 1)
       c.args.window.now.first c.loop-stretches.first c.in-Some.next c.args.window.now.last c.loop-stretches.stretches.items
-      c.push.new.self.items (record { last = c.end_of_piece-last.result; standings = c.standings_from-standings.result })
+      c.push.new.self.items (record { last = c.end_of_piece-last.result.0; standings = c.standings_from-standings.result })
       refl c.in_ok-push.ensures.items c.in-Some.ensures.1 says.from says.upto says.unbroken says.breaks
-      (c.standings_from-standings.ensures.stands c.end_of_piece-last.result says.unbroken) c.loop-stretches.invariant.stretches;
+      (c.standings_from-standings.ensures.stands c.end_of_piece-last.result.0 says.unbroken) c.loop-stretches.invariant.stretches;
 }
 
 pub returns-in-None-clause-stretches : goal.returns-in-None-clause-stretches
 returns-in-None-clause-stretches g c = let says = c.end_of_piece-last.ensures in
     stretches_more (map g.E.Entry.terms c.args.entries.now) c.args.members.now c.args.part.now (c.args.window.now.last + 1)
     c.args.window.now.first c.loop-stretches.first (c.args.window.now.last + 1) c.args.window.now.last c.loop-stretches.stretches.items
-    c.push.new.self.items (record { last = c.end_of_piece-last.result; standings = c.standings_from-standings.result })
+    c.push.new.self.items (record { last = c.end_of_piece-last.result.0; standings = c.standings_from-standings.result })
     refl c.in_ok-push.ensures.items (omega (arith, c.in-None.ensures, says.upto)) says.from says.upto says.unbroken says.breaks
-    (c.standings_from-standings.ensures.stands c.end_of_piece-last.result says.unbroken) c.loop-stretches.invariant.stretches
+    (c.standings_from-standings.ensures.stands c.end_of_piece-last.result.0 says.unbroken) c.loop-stretches.invariant.stretches

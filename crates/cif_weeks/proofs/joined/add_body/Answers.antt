@@ -64,7 +64,8 @@ returns-in-Some-joined g c =
     c.args.runs.now.items r.runs c.args.body r.body r.first c.args.before.now r.before c.in-Some-joined.place
     j c.index-run.result.now
     (slice_get_read c.args.runs.now.items (length c.args.runs.now.items) c.in-Some-joined.place c.index-run.result.now refl
-    (slice_get_within c.args.runs.now.items c.in-Some-joined.place j.run j.at) c.index-run.ensures) c.day_of-last.result c.union.result day last
+    (slice_get_within c.args.runs.now.items c.in-Some-joined.place j.run j.at) c.index-run.ensures)
+    c.day_of-last.result c.union.result day last
     (omega (arith, c.day_of-last.ensures, last.in_week)) c.union.ensures.width c.union.ensures.runs
 
 pub day_of-first-requires-clause-in_range : goal.day_of-first-requires-clause-in_range

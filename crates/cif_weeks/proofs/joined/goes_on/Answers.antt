@@ -1,5 +1,6 @@
 -- Which way the test went has to be named: the run has another body, or its mask differs.
-use Rattle.std.proofs.Common.{◌≡◌, ◌+◌, ◌<◌, ℕ, List, Bool, [], ◌∷◌, ◌++◌, Some, map, take, length, get_or, sym, ◌∙◌, ap, subst, ⊎_elim, rules}
+use Rattle.std.proofs.Common.{◌≡◌, ◌+◌, ◌<◌, ℕ, List, Bool, [], ◌∷◌, ◌++◌, Some, map, take, length, get_or}
+use Rattle.std.proofs.Common.{sym, ◌∙◌, ap, subst, ⊎_elim, rules}
 use Rattle.std.specs.Prelude.{slice_get}
 use Rattle.std.proofs.lemmas.Bool.{false≢true}
 use Rattle.std.proofs.lemmas.List.{take_more}

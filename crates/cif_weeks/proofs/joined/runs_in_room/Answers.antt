@@ -1,7 +1,7 @@
 -- After the last piece all days are known (`joined-end`).
 use Rattle.std.proofs.Common.{◌≡◌, ◌+◌, List, map, length, ap, subst, arith}
 use Rattle.std.proofs.lemmas.List.{drop_all}
-use Rattle.cif_calendar.specs.declared.piece.Piece.{Piece}
+use Rattle.cif_calendar.specs.declared.key_calendar.Piece.{Piece}
 use Rattle.cif_calendar.specs.Pieces.{Tiles}
 use Rattle.cif_weeks.specs.Steps.Joined.{IsJoinedUpTo}
 use Rattle.cif_weeks.proofs.JoinedWeeks.{joined-end, joined-all}

@@ -61,7 +61,8 @@ loop-weekday-preserved g c =
             last_alike = rw w.self-is l.last_alike;
             positions = rw w.self-is l.positions;
             few = rw w.self-is (omega (arith, l.few));
-            bodies = λ it sources days known. rw w.self-is (bodies-later xs it number (number * 7 + k) (number * 7 + (k + 1)) old (omega arith)
+            bodies = λ it sources days known. rw w.self-is
+                (bodies-later xs it number (number * 7 + k) (number * 7 + (k + 1)) old (omega arith)
                 (λ m b at after sooner runs.
                 let here : m ≡ n = omega arith in
                 let (i, is) = body-source xs it sources (source_in it m) b runs in

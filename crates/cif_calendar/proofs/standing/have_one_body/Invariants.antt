@@ -2,7 +2,7 @@
 use Rattle.std.proofs.Common.{map}
 use Rattle.std.specs.Prelude.{◌↔◌}
 use Rattle.cif_calendar.specs.Steps.Standing.{AreAlike, HaveOneBody}
-use Rattle.cif_calendar.proofs.one_body.have_one_body.Given as goal
+use Rattle.cif_calendar.proofs.standing.have_one_body.Given as goal
 
 abbrev pub invariant-loop : goal.invariant-loop
 invariant-loop g l = record {

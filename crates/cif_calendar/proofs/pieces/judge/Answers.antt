@@ -5,7 +5,7 @@ use Rattle.cif_columns.specs.Day.{weekday_of}
 use Rattle.cif_calendar.specs.Steps.Stretches.{IsWeekFrom}
 use Rattle.cif_calendar.proofs.Alike.{piece-from_week}
 use Rattle.cif_calendar.proofs.FirstWeek.{week-step}
-use Rattle.cif_calendar.proofs.pieces.judged_piece.Goals as goal
+use Rattle.cif_calendar.proofs.pieces.judge.Goals as goal
 
 pub loop-preserved : goal.loop-preserved
 loop-preserved g c = let place : c.from-weekday.result ≡ weekday_of c.loop.day = c.from-weekday.ensures ∙ c.weekday.ensures.value in
@@ -15,7 +15,7 @@ loop-preserved g c = let place : c.from-weekday.result ≡ weekday_of c.loop.day
       seven = length-set _ _ _ ∙ c.loop.invariant.seven;
       day_is = omega (arith, c.in-Some.ensures);
       upto = omega (arith, c.in-Some.ensures);
-      week = week-step (map g.E.Entry.terms c.args.entries.now) c.args.members.now c.args.first c.loop.day c.from-weekday.result
+      week = week-step (map g.E.Entry.terms c.args.entries.now) c.args.members.now c.args.piece.now.first c.loop.day c.from-weekday.result
           c.in-Some.next c.loop.piece.winners c.in-Ok.source place c.in-Some.ensures.1 c.loop.invariant.seven (omega arith)
           (omega arith) (c.in-Ok.ensures.judged.source c.loop.day (rw place stood))
           (c.in-Ok.ensures.judged.clear c.loop.day (rw place stood)) c.loop.invariant.week;
@@ -28,7 +28,7 @@ returns-in-None-clause-piece g c =
     let stood = c.requires.standings.stands c.loop.day (omega arith) c.loop.invariant.upto in
     let is = c.loop.invariant in
     piece-from_week xs c.args.members.now _ (rw (is.begins, is.ends) c.requires.unbroken) (rw (is.begins, is.ends)
-    (week-step xs c.args.members.now c.args.first c.loop.day c.from-weekday.result _ c.loop.piece.winners
+    (week-step xs c.args.members.now c.args.piece.now.first c.loop.day c.from-weekday.result _ c.loop.piece.winners
     c.in-Ok.source place (omega (arith, c.in-None.ensures)) is.seven (omega arith) (omega arith)
     (c.in-Ok.ensures.judged.source c.loop.day (rw place stood))
     (c.in-Ok.ensures.judged.clear c.loop.day (rw place stood)) is.week))
@@ -38,5 +38,5 @@ returns-clause-piece g c =
     let xs = map g.E.Entry.terms c.args.entries.now in
     let is = c.loop.invariant in
     piece-from_week xs c.args.members.now c.loop.piece (rw (is.begins, is.ends) c.requires.unbroken) (rw (is.begins, is.ends)
-    (subst (λ n. IsWeekFrom xs c.args.members.now c.args.first n c.loop.piece.winners)
+    (subst (λ n. IsWeekFrom xs c.args.members.now c.args.piece.now.first n c.loop.piece.winners)
     (omega (arith, is.day_is, is.upto, c.loop-test.false)) is.week))

@@ -2,8 +2,8 @@
 use Rattle.std.proofs.Common.{map, sym, ◌∙◌}
 use Rattle.cif_calendar.specs.Steps.Standing.{HaveOneBody}
 use Rattle.cif_calendar.proofs.Bodies.{alike-noted, falling-next}
-use Rattle.cif_calendar.proofs.one_body.have_one_body.Goals as goal
-use Rattle.cif_calendar.proofs.one_body.have_one_body.Goals.{in-Some-known, in_default-known}
+use Rattle.cif_calendar.proofs.standing.have_one_body.Goals as goal
+use Rattle.cif_calendar.proofs.standing.have_one_body.Goals.{in-Some-known, in_default-known}
 
 pub loop-preserved : goal.loop-preserved
 loop-preserved g c =
