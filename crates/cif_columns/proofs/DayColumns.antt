@@ -1,6 +1,6 @@
 -- The six digits that name a day, and the day that six digits name.
 use Rattle.std.proofs.Common.{◌≡◌, ℕ, ◌<◌, List, [], ◌∷◌, length, get_or}
-use Rattle.std.proofs.Common.{Option, Some, None, refl, sym, ◌∙◌, arith, rules}
+use Rattle.std.proofs.Common.{Option, Some, None, refl, ◌∙◌, arith, rules}
 use Rattle.std.proofs.lemmas.Slice.Eq.{text_from_reads}
 use Rattle.jiff_core.proofs.CalendarLemmas.{days_in_month_bounds}
 use Rattle.cif_columns.specs.Day.{IsDated, StandsInYymmdd, StandsInDdmmyy, day_number, day_from, yymmdd_in, ddmmyy_in}
@@ -35,17 +35,6 @@ ddmmyy_in-stands columns n s =
     rw s.spelled
     (day_from_all _ _ _ s.yy s.month s.day n (number_in-two_digits s.yy s.dated.year)
     (number_in-two_digits s.month small.0) (number_in-two_digits s.day small.1) (day_number-dated s.yy s.month s.day n s.dated))
-
--- one day stands in columns
-pub one_in_yymmdd : (columns : List ℕ) (m n : ℕ) → StandsInYymmdd columns m → StandsInYymmdd columns n → m ≡ n
-one_in_yymmdd columns m n s t =
-    let found : Some m ≡ Some n = sym (yymmdd_in-stands columns m s) ∙ yymmdd_in-stands columns n t in
-    cc
-
-pub one_in_ddmmyy : (columns : List ℕ) (m n : ℕ) → StandsInDdmmyy columns m → StandsInDdmmyy columns n → m ≡ n
-one_in_ddmmyy columns m n s t =
-    let found : Some m ≡ Some n = sym (ddmmyy_in-stands columns m s) ∙ ddmmyy_in-stands columns n t in
-    cc
 
 -- ---- what is found in six columns stands there
 

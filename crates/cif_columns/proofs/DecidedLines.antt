@@ -1,8 +1,6 @@
 -- When the first line of bytes is known, whatever follows them.
 use Rattle.std.proofs.Common.{◌≡◌, ℕ, ◌+◌, ◌-◌, ◌<◌, ◌≤◌, Bool, true, false, not, cond, nat_eq, List, [], ◌∷◌, ◌++◌, length, take, drop}
 use Rattle.std.proofs.Common.{Ok, Err, refl, sym, ap, ◌∙◌, arith, length-append, length-take, ltb-false, drop_of_length-le, ne_eqb, ◌≢◌}
-use Rattle.std.proofs.Common.{Option, Some, None, IfSome, IsSome}
-use Rattle.std.specs.List.{position_or_len}
 use Rattle.std.proofs.lemmas.Bool.Decides.{nat_tests}
 use Rattle.std.proofs.lemmas.Bool.{ltb-true}
 use Rattle.std.proofs.lemmas.List.{take-append-le, drop-append-le}
@@ -125,9 +123,6 @@ one_part (x ∷ xs) h = at (is_line_feed x) h (one_part xs)
     at true h more = absurd (omega arith)
     at false h more = ap (onto_first x) (more (omega arith))
 
-pub contents_none : lines [] ≡ []
-contents_none = refl
-
 pub contents_first : (bytes : List ℕ) → 0 < length bytes → lines bytes ≡ first_content bytes ∷ lines (after_content bytes)
 contents_first bytes some = at (has_line_feed bytes) refl
   where
@@ -147,10 +142,3 @@ contents_first bytes some = at (has_line_feed bytes) refl
         ap lines_of_parts (one_part bytes far)
         ∙ ap (λ b. cond b [] (bytes ∷ [])) (ne_eqb (length bytes) 0 ne)
         ∙ ap (λ l. bytes ∷ lines l) (sym none)
-
--- what stands after the line feed behind 80 bytes
-pub plain_rest : {L : Type 0} (bytes : List ℕ) (line : Option L) → IfSome line (λ _. position_or_len is_line_feed bytes ≡ 80) →
-    IsSome line →
-    drop 81 bytes ≡ after_content bytes
-plain_rest bytes None h some = absurd (cc)
-plain_rest bytes (Some l) h some = ap (λ n. drop (n + 1) bytes) (sym h)

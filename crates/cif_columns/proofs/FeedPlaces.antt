@@ -1,20 +1,16 @@
 -- Where the first line feed of bytes stands, in a prefix of them and in more of them.
 use Rattle.std.proofs.Common.{◌≡◌, ℕ, zero, suc, ◌+◌, ◌<◌, ◌≤◌, min, Bool, true, false, not, cond, nat_lt, List, [], ◌∷◌, ◌++◌, length}
-use Rattle.std.proofs.Common.{take, refl, sym, ap, ◌∙◌, arith, get_or, Option, Some, None, IsSome, IfSome, IfNone, ◌&&◌, eq-eqb}
+use Rattle.std.proofs.Common.{take, refl, sym, ap, ◌∙◌, arith, get_or, Option, Some, None, IfSome, IfNone, ◌&&◌, eq-eqb}
 use Rattle.std.proofs.Common.{length-take, ltb-false}
 use Rattle.std.proofs.lemmas.Grind.{common_steps}
 use Rattle.std.proofs.lemmas.Bool.Decides.{nat_tests}
 use Rattle.std.proofs.lemmas.Option.{cond_some}
 use Rattle.std.proofs.lemmas.Bool.{ltb-true}
 use Rattle.std.specs.List.{position_or_len, position, list_all}
-use Rattle.std.proofs.lemmas.List.Sums.{prefix_len-le-length}
 use Rattle.cif_columns.specs.FirstLine.{is_line_feed, is_printable}
 
 abbrev pub place : List ℕ → ℕ
 place xs = position_or_len is_line_feed xs
-
-pub place-le : (xs : List ℕ) → place xs ≤ length xs
-place-le xs = prefix_len-le-length (λ x. not (is_line_feed x)) xs
 
 -- a prefix has the same place, or none
 pub place-front : (xs : List ℕ) (n : ℕ) → place (take n xs) ≡ min n (place xs)
@@ -79,7 +75,3 @@ module _ (xs : List ℕ) (m : ℕ) (within : m ≤ length xs) where
       at : (b : Bool) → b ≡ nat_lt (place (take m xs)) (length (take m xs)) → None ≡ cond b (Some (place (take m xs))) None → m ≤ place xs
       at true is e = absurd (cc)
       at false is e = omega (arith, front, ltb-false (place (take m xs)) (length (take m xs)) (sym is))
-
-pub if_some : {X : Type 0} (o : Option X) (P : Type 0) → (IsSome o → P) → IfSome o (λ _. P)
-if_some None P h = tt
-if_some (Some x) P h = h refl

@@ -1,17 +1,12 @@
 -- What is found in the held bytes is found in all that is left.
 use Rattle.std.proofs.Common.{◌≡◌, ℕ, Bool, true, false, List, ◌++◌, length, Option, Some, None, IfSome, Ok, refl, sym, ap, ◌∙◌, arith}
-use Rattle.std.proofs.Common.{subst, length-append, append-nil}
-use Rattle.std.specs.Io.KnownBytes.{Keeps, IsAtEnd, prepend_known}
+use Rattle.std.proofs.Common.{length-append}
+use Rattle.std.specs.Io.KnownBytes.{Keeps, prepend_known}
 use Rattle.cif_columns.specs.declared.ahead.Found.{Found}
 use Rattle.cif_columns.specs.declared.ahead.Found.TheVariants.{Next, End, Refused, Failed}
 use Rattle.cif_columns.specs.FirstLine.{first_line, after_content, is_decided}
 use Rattle.cif_columns.specs.Ahead.{Decides, Finds, IfNext}
 use Rattle.cif_columns.proofs.DecidedLines.{decided_some, decided_more, after_more}
-
-pub kept_left : (a b : Option (List ℕ)) → Keeps a b → IfSome a (λ bytes. b ≡ Some bytes)
-kept_left None b k = tt
-kept_left (Some x) None k = absurd k
-kept_left (Some x) (Some y) k = ap Some k
 
 module _ (is_full : Bool) where
   pub found_more : (a rem : Option (List ℕ)) (held rest : List ℕ) (found : Found) → Keeps a (prepend_known held rem)
@@ -30,15 +25,6 @@ module _ (is_full : Bool) where
     ap (first_line is_full) (sym k) ∙ decided_more held y is_full d ∙ f,
   )
   found_more (Some x) (Some y) held rest Failed k d f = absurd f
-
-  pub found_last : (a rem : Option (List ℕ)) (held rest : List ℕ) (found : Found) → Keeps a (prepend_known held rem) → IsAtEnd rem
-      → Finds is_full held found (Some rest) → IfSome a (λ bytes. Finds is_full bytes found (prepend_known rest rem))
-  found_last None rem held rest found k e f = tt
-  found_last (Some x) None held rest found k e f = absurd k
-  found_last (Some x) (Some y) held rest found k e f =
-      let all : held ≡ x = sym (append-nil held) ∙ ap (λ l. held ++ l) (sym e) ∙ k in
-      let left : rest ≡ rest ++ y = sym (append-nil rest) ∙ ap (λ l. rest ++ l) (sym e) in
-      subst (λ l. Finds is_full l found (Some (rest ++ y))) all (subst (λ l. Finds is_full held found (Some l)) left f)
 
 -- a line that is one too many is none
 pub line_not_full : (f : Bool) (bytes line : List ℕ) → first_line f bytes ≡ Ok line → f ≡ false

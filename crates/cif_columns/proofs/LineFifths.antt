@@ -107,15 +107,28 @@ passes_by_fifths t line = (
     timed = timed t line met;
   }),
   (λ h k lt. record {
-    first = (h.in_range k (omega (arith, lt)), h.followed k (omega (arith, lt)), h.followed_over k (omega (arith, lt)), h.timed k (omega (arith, lt)));
+    first = (
+      h.in_range k (omega (arith, lt)),
+      h.followed k (omega (arith, lt)),
+      h.followed_over k (omega (arith, lt)),
+      h.timed k (omega (arith, lt)),
+    );
     second = (
       h.in_range (16 + k) (omega (arith, lt)),
       h.followed (16 + k) (omega (arith, lt)),
       h.followed_over (16 + k) (omega (arith, lt)),
       h.timed (16 + k) (omega (arith, lt)),
     );
-    third = (h.in_range (32 + k) (omega (arith, lt)), h.followed (32 + k) (omega (arith, lt)), h.followed_over (32 + k) (omega (arith, lt)));
-    fourth = (h.in_range (48 + k) (omega (arith, lt)), h.followed (48 + k) (omega (arith, lt)), h.followed_over (48 + k) (omega (arith, lt)));
+    third = (
+      h.in_range (32 + k) (omega (arith, lt)),
+      h.followed (32 + k) (omega (arith, lt)),
+      h.followed_over (32 + k) (omega (arith, lt)),
+    );
+    fourth = (
+      h.in_range (48 + k) (omega (arith, lt)),
+      h.followed (48 + k) (omega (arith, lt)),
+      h.followed_over (48 + k) (omega (arith, lt)),
+    );
     before_fifth = h.followed (63 + k) (omega (arith, lt));
     fifth = h.in_range (64 + k) (omega (arith, lt));
   }),

@@ -1,8 +1,8 @@
 -- The texts of lines and the lines in them determine each other.
-use Rattle.std.proofs.Common.{◌≡◌, ℕ, ◌<◌, List, [], ◌∷◌, ◌++◌, All, map, take, length, get_or, refl, sym, ◌∙◌, ap, arith}
+use Rattle.std.proofs.Common.{◌≡◌, ℕ, List, [], ◌∷◌, ◌++◌, All, map, take, length, get_or, refl, sym, ◌∙◌, ap, arith}
 use Rattle.std.proofs.Common.{length-append, subst}
 use Rattle.std.specs.List.{flat_map}
-use Rattle.std.proofs.lemmas.List.{get_or-map, length-map, length-take, map-append}
+use Rattle.std.proofs.lemmas.List.{length-take, map-append}
 use Rattle.std.proofs.lemmas.List.Elements.{All-append, All-cons, All-map, All-nil, All-tail}
 use Rattle.std.proofs.lemmas.List.Folds.{flat_map-map}
 use Rattle.std.proofs.Math.Seq.{take-append_seam}
@@ -40,17 +40,6 @@ line_in_text text h =
 -- so the lines in texts are lines
 pub are_lines : (texts : List (List ℕ)) → All IsLineText texts → All IsLine (lines_in texts)
 are_lines texts h = All-map IsLine (take 80) texts (λ k d below. line_in_text (get_or texts k d) (h k d below))
-
--- the same lines have the same texts
-pub same_texts : (xs ys : List (List ℕ)) → All IsLineText xs → All IsLineText ys → lines_in xs ≡ lines_in ys → xs ≡ ys
-same_texts xs ys h k e = texts_again xs h ∙ ap (map line_text) e ∙ sym (texts_again ys k)
-
--- the line at a place stands in the text there
-pub line_at : (texts : List (List ℕ)) (at : ℕ) → at < length texts → get_or (lines_in texts) at [] ≡ take 80 (get_or texts at [])
-line_at texts at within = get_or-map (take 80) texts at [] [] within
-
-pub count_of_texts : (texts : List (List ℕ)) → length (lines_in texts) ≡ length texts
-count_of_texts texts = length-map texts (take 80)
 
 -- a text more is a line more
 pub lines_more : (old new : List (List ℕ)) (text line : List ℕ) → new ≡ old ++ (text ∷ []) → take 80 text ≡ line

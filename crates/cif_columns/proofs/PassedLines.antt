@@ -6,7 +6,8 @@ use Rattle.std.proofs.lemmas.Bool.Decides.{nat_tests}
 use Rattle.std.specs.List.{list_all, position_or_len}
 use Rattle.std.specs.Str.Lines.{strip_carriage_return}
 use Rattle.cif_columns.specs.Ahead.{Finds, known_left}
-use Rattle.cif_columns.specs.FirstLine.{after_content, first_line, first_content, has_line_feed, is_decided, is_line_feed, is_printable, line_of}
+use Rattle.cif_columns.specs.FirstLine.{after_content, first_line, first_content, has_line_feed, is_decided, is_line_feed}
+use Rattle.cif_columns.specs.FirstLine.{is_printable, line_of}
 use Rattle.cif_columns.specs.Line.{ArePrintable, IsLine}
 use Rattle.cif_columns.specs.LineReader.{AreAhead, HasPassed, IsNext, given, held, limit}
 use Rattle.cif_columns.specs.declared.ahead.Found.TheVariants.{Next}

@@ -125,13 +125,6 @@ public_passes columns (inr clock) =
 pub public_time_in-stands : (columns time : List ℕ) → public.StandsIn columns time → public.public_time_in columns ≡ Some time
 public_time_in-stands columns time s = chosen_at _ columns time (public_passes columns s.form) s.same
 
--- what is found in four columns stands there
-pub stands-public_time_in : (columns time : List ℕ) → length columns ≡ 4 → public.public_time_in columns ≡ Some time
-    → public.StandsIn columns time
-stands-public_time_in columns time width e =
-    let both = found_at (public.is_public_time columns) columns time e in
-    record { same = both.1; form = (public-stands columns width both.0).form }
-
 -- ---- working times
 
 work_form : (b t m : Bool) (columns : List ℕ) → length columns ≡ 5 → is_blank columns ≡ b
@@ -165,12 +158,6 @@ work_passes columns (inr timed) =
 -- what stands in columns is found there
 pub work_time_in-stands : (columns time : List ℕ) → work.StandsIn columns time → work.work_time_in columns ≡ Some time
 work_time_in-stands columns time s = chosen_at _ columns time (work_passes columns s.form) s.same
-
--- what is found in five columns stands there
-pub stands-work_time_in : (columns time : List ℕ) → length columns ≡ 5 → work.work_time_in columns ≡ Some time → work.StandsIn columns time
-stands-work_time_in columns time width e =
-    let both = found_at (work.is_work_time columns) columns time e in
-    record { same = both.1; form = (work-stands columns width both.0).form }
 
 -- ---- printable
 

@@ -10,10 +10,6 @@ use Rattle.cif_columns.specs.GivenLines.{EndsLine}
 use Rattle.cif_columns.proofs.DecidedLines.{parts_some}
 use mathlib.Core.Logic.{◌⊎◌, inl, inr, ⊎_elim}
 
-onto-append : (x : ℕ) (first : List ℕ) (others more : List (List ℕ))
-    → onto_first x ((first ∷ others) ++ more) ≡ onto_first x (first ∷ others) ++ more
-onto-append x first others more = refl
-
 -- a line feed splits its bytes
 split_at_feed : (front more : List ℕ)
     → slice_split is_line_feed (front ++ 10 ∷ more) ≡ slice_split is_line_feed front ++ slice_split is_line_feed more

@@ -33,10 +33,10 @@ module _ {W : Type 0} (contents : W → Option (List ℕ)) (errors : W → Optio
   -- a failure in the first of two texts
   pub failed_first : (a b : List ℕ) (s t : Sink W) → HasFailed contents errors a s t → HasFailed contents errors (a ++ b) s t
   failed_first a b s t h =
-      let f = h.front in
+      let f = h.prefix in
       record {
         failed = h.failed;
-        front = (f.0, f.1 ++ b, ap (λ l. l ++ b) f.2 ∙ append_assoc f.0 f.1 b, f.3);
+        prefix = (f.0, f.1 ++ b, ap (λ l. l ++ b) f.2 ∙ append_assoc f.0 f.1 b, f.3);
         erred = h.erred;
         untouched = h.untouched;
       }
@@ -45,10 +45,10 @@ module _ {W : Type 0} (contents : W → Option (List ℕ)) (errors : W → Optio
   pub failed_second : (a b : List ℕ) (s t u : Sink W) → HasWritten contents errors a s t → HasFailed contents errors b t u
       → HasFailed contents errors (a ++ b) s u
   failed_second a b s t u p h =
-      let f = h.front in
+      let f = h.prefix in
       record {
         failed = h.failed;
-        front = (a ++ f.0, f.1, ap (λ l. a ++ l) f.2 ∙ sym (append_assoc a f.0 f.1), Appends-trans _ _ _ a f.0 p.bytes f.3);
+        prefix = (a ++ f.0, f.1, ap (λ l. a ++ l) f.2 ∙ sym (append_assoc a f.0 f.1), Appends-trans _ _ _ a f.0 p.bytes f.3);
         erred = λ fresh. subst (λ n. OneError n (errors (writer_of u))) p.no_error (h.erred p.going);
         untouched = λ stopped. absurd (false≢true (sym p.fresh ∙ stopped));
       }

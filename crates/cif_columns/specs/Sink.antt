@@ -13,8 +13,8 @@ abbrev pub sink_failed : {W : Type 0} → Sink W → Bool
 sink_failed s = s.failed
 
 -- known bytes grow by a prefix of these
-abbrev pub AppendsFront : Option (List ℕ) → Option (List ℕ) → List ℕ → Type 0
-AppendsFront old new bytes = (front rest : List ℕ) × (bytes ≡ front ++ rest) × Appends old new front
+abbrev pub AppendsPrefix : Option (List ℕ) → Option (List ℕ) → List ℕ → Type 0
+AppendsPrefix old new bytes = (prefix rest : List ℕ) × (bytes ≡ prefix ++ rest) × Appends old new prefix
 
 -- A call has written the whole text: the sink hadn't failed and hasn't now, the writer's known bytes have grown by the text, and
 -- its errors, where they are known, are those of before.
@@ -30,7 +30,7 @@ pub record HasWritten {W : Type 0} (contents : W → Option (List ℕ)) (errors 
 pub record HasFailed {W : Type 0} (contents : W → Option (List ℕ)) (errors : W → Option ℕ) (text : List ℕ) (old new : Sink W) :
     Type 0 where
   pub failed : sink_failed new ≡ true
-  pub front : AppendsFront (contents (writer_of old)) (contents (writer_of new)) text
+  pub prefix : AppendsPrefix (contents (writer_of old)) (contents (writer_of new)) text
   pub erred : sink_failed old ≡ false → OneError (errors (writer_of old)) (errors (writer_of new))
   pub untouched : sink_failed old ≡ true → new ≡ old
 

@@ -54,7 +54,7 @@ impl Ahead {
         &self.buf[self.start..self.end]
     }
 
-    // Moves the bytes to the front, where they are few.
+    /// Moves the held bytes, which are few, to the front.
     fn to_front(&mut self)
         requires { length (held_bytes self.old) < LONGEST_LINE }
         ensures bytes { held_bytes self.new ≡ held_bytes self.old }
@@ -67,7 +67,7 @@ impl Ahead {
         self.end = len;
     }
 
-    // Reads once, and returns whether any bytes came.
+    /// Reads once, and returns whether any bytes came.
     fn fill<R: ReadDevice>(&mut self, source: &mut Source<R>) -> Result<bool, ReadFault>
         requires { length (held_bytes self.old) < LONGEST_LINE }
         ensures bytes { Keeps (known_left R.remaining self.old source.old)
@@ -121,7 +121,7 @@ impl Ahead {
         self.start += LINE_TEXT_WIDTH;
     }
 
-    // What the held bytes decide, if they do.
+    /// What the held bytes decide, if they do.
     fn decided(&mut self, is_full: bool) -> Option<Found>
         ensures found { IfSome result (λ found.
             Decides is_full (held_bytes self.old) found (held_bytes self.new)) }
@@ -139,7 +139,7 @@ impl Ahead {
         }
     }
 
-    // What the held bytes are, where no others follow.
+    /// What the held bytes are, where no others follow.
     fn last(&mut self, is_full: bool) -> Found
         requires { is_decided is_full (held_bytes self.old) ≡ false }
         ensures found { Finds is_full (held_bytes self.old) result (Some (held_bytes self.new)) }
@@ -185,7 +185,7 @@ impl Ahead {
     }
 }
 
-// Moves `len` bytes from `from` to the front.
+/// Moves `len` bytes from `from` to the front.
 fn move_to_front(buf: &mut [u8], from: usize, len: usize)
     requires few { len < LONGEST_LINE }
     requires within { from + len ≤ length buf.old }
@@ -196,7 +196,7 @@ fn move_to_front(buf: &mut [u8], from: usize, len: usize)
     buf[..len].copy_from_slice(&few[..len]);
 }
 
-// Reads once to what stands from `at` on.
+/// Reads once to what stands from `at` on.
 fn read_after<R: ReadDevice>(
     source: &mut Source<R>,
     buf: &mut [u8],
@@ -271,7 +271,7 @@ pub(crate) fn first_line_with_feed(bytes: &[u8], line: &mut Line) -> bool
     take_line_with_feed(bytes, line)
 }
 
-// Makes it the line that 80 bytes and a line feed are, if they are one.
+/// Makes it the line that 80 bytes and a line feed are, if they are one.
 fn take_line_with_feed(bytes: &[u8], line: &mut Line) -> bool
     ensures line { IsTrue result → line.new ≡ take 80 bytes.now }
     ensures printable { IsTrue result → IsTrue (list_all is_printable (take 80 bytes.now)) }
@@ -297,7 +297,7 @@ pub(crate) fn columns_with_feed(bytes: &[u8]) -> Option<&[u8; LINE_WIDTH]>
     bytes.first_chunk::<LINE_WIDTH>()
 }
 
-// Where the first line feed is, if it is among the bytes of a line of the greatest length.
+/// Where the first line feed is, if it is among the bytes of a line of the greatest length.
 fn line_feed(bytes: &[u8]) -> Option<usize>
     ensures found { IfSome result (λ at. at ≡ position_or_len is_line_feed bytes.now) }
     ensures within { IfSome result (λ at. at < length bytes.now) }
@@ -307,14 +307,14 @@ fn line_feed(bytes: &[u8]) -> Option<usize>
     position(&bytes[..bytes.len().min(LONGEST_LINE)])
 }
 
-// Where the first line feed is.
+/// Where the first line feed is.
 fn position(bytes: &[u8]) -> Option<usize>
     ensures { result ≡ position is_line_feed bytes.now }
 {
     bytes.iter().position(|b| *b == b'\n')
 }
 
-// The bytes without the one carriage return at their end.
+/// The bytes without the one carriage return at their end.
 fn stripped(bytes: &[u8]) -> &[u8]
     ensures { result.now ≡ strip_carriage_return bytes.now }
 {

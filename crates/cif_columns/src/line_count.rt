@@ -1,4 +1,4 @@
-//! The lines of a whole run.
+//! Counting all lines of a source.
 ghost use Rattle.std.specs.Prelude.{◌≡◌, ◌≤◌, ℕ, List, length, false, IfSome, IfOk, IfErr};
 ghost use Rattle.cif_columns.specs.GivenLines.{AreAllLines, AreLinesToFault};
 ghost use Rattle.cif_columns.specs.LineReader.{LineReads};

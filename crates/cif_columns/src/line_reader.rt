@@ -10,7 +10,7 @@ use crate::source::{ReadDevice, Source};
 /// The most lines that a reader may be asked to give.
 pub const MAX_LINES: u64 = 100_000_000;
 
-// What the calls so far came to.
+/// What the calls so far came to.
 #[derive(Clone, Copy)]
 enum Past {
     Reading,

@@ -115,7 +115,7 @@ impl<'a> ReadDevice for TrialReader<'a> {
     }
 }
 
-// Copies a piece of at most `step` bytes to the front of `buf`, and returns its length.
+/// Copies a piece of at most `step` bytes to the front of `buf`, and returns its length.
 fn give(rest: &[u8], step: usize, buf: &mut [u8]) -> usize
     requires { 0 < step }
     ensures within { result ≤ length rest.now }

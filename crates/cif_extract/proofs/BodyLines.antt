@@ -1,6 +1,6 @@
 -- How the lines of a body are put together.
 use Rattle.std.proofs.Common.{◌≡◌, ℕ, ◌+◌, ◌<◌, List, [], ◌∷◌, ◌++◌, length, map, take, get_or, Option, Some, None, sym, ◌∙◌, ap, subst}
-use Rattle.std.proofs.Common.{append_assoc, append-nil}
+use Rattle.std.proofs.Common.{append_assoc}
 use Rattle.std.proofs.lemmas.List.{map-append, take_more}
 use Rattle.cif_columns.specs.Field.{Row, AllStandIn, plain_line}
 use Rattle.cif_extract.specs.Body.{KeepAll, KeepBody, KeepMore, kept_tables}
@@ -27,9 +27,6 @@ pub more_by : (old new : List (List ℕ)) (line : List ℕ) (table : List Row) �
     → line ≡ plain_line table → KeepMore old new (table ∷ [])
 more_by old new line table is stands plain =
     λ tables k. subst (λ l. KeepAll l (tables ++ table ∷ [])) (sym is) (keep_last old tables line table k stands plain)
-
-pub more_by_none : (lines : List (List ℕ)) → KeepMore lines lines []
-more_by_none lines = λ tables k. subst (KeepAll lines) (sym (append-nil tables)) k
 
 pub more_and_more : (old new last : List (List ℕ)) (more most : List (List Row)) → KeepMore old new more → KeepMore new last most
     → KeepMore old last (more ++ most)

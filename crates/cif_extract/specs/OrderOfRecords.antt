@@ -1,5 +1,5 @@
--- Which kind of record may stand where, as the table of docs/FORMAT.md, "Order of records", says it. Records that the same kinds may
--- follow have one place. That this is the order of the grammar, no less and no more, are laws (proofs/OrderLaws and proofs/GoesOn).
+-- Which kind of record may stand where, as the table of docs/FORMAT.md, "Order of records", says it: one place for each row of that
+-- table. That this is the order of the grammar, no less and no more, are laws (proofs/OrderLaws and proofs/GoesOn).
 use Rattle.std.specs.Prelude.{◌≡◌, ℕ, Bool, true, List, [], ◌∷◌, ◌++◌, Option, Some, codes, if◌then◌else◌}
 use Rattle.std.specs.List.{fold, list_any}
 use Rattle.std.specs.Str.{bytes_eq}

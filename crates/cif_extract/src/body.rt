@@ -125,6 +125,14 @@ impl Body {
         self.lines.as_slice().line(0)
     }
 
+    /// Always true: its first line begins with a space. To know it, the line has to come from memory.
+    /// Who asks this of several bodies, before they are needed, waits for all of them at once.
+    pub fn is_at_hand(&self) -> bool
+        ensures { IsTrue result }
+    {
+        self.detail_line().bytes()[0] != 0
+    }
+
     /// The line of its BX or its LO.
     fn second_line(&self) -> Line
         ensures marked { is_extra result ≡ is_some self.now.extra }

@@ -4,8 +4,8 @@ ghost use Rattle.cif_extract.specs.OrderOfRecords.{after_extra, may_stand};
 
 use cif_records::Kind;
 
-/// A place in an extract, by the record before it. Records that the same kinds may follow have one
-/// place.
+/// A place in an extract, by the record before it: one place for each row of the table of
+/// docs/FORMAT.md, "Order of records".
 #[derive(Clone, Copy)]
 pub(crate) enum Place {
     /// The start of the input.

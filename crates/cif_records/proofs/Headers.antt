@@ -3,7 +3,7 @@ use Rattle.std.proofs.Common.{◌≡◌, ◌+◌, ◌≤◌, ℕ, nat_le, true, 
 use Rattle.std.proofs.Common.{take, drop, subst, length-take, length-drop, append_assoc, take-append-drop}
 use Rattle.std.proofs.Props.{props}
 use Rattle.std.proofs.lemmas.Bool.Decides.{nat_tests}
-use Rattle.std.proofs.lemmas.List.{drop-drop, drop-take, take-take, take_all, take_at}
+use Rattle.std.proofs.lemmas.List.{drop-drop, drop-take, take-take, take_all}
 use Rattle.std.proofs.lemmas.List.Elements.{All-take, All-drop}
 use mathlib.Core.HLevel.{Σ_prop_path}
 use Rattle.cif_columns.specs.Day.{IsDay, ddmmyy_in}
@@ -82,12 +82,6 @@ module _ (h : Header) where
   last_digits : kept 55 60 h.columns ≡ ddmmyy_of h.last
   last_digits = digits_of (kept 55 60 h.columns) h.last (wide_part 52 6 0 refl) h.last_stands
 
-  -- its window is of days
-  pub first_is_day : IsDay h.first
-  first_is_day =
-      is_day-ddmmyy (kept 49 54 h.columns) h.first
-      (stands-ddmmyy_in (kept 49 54 h.columns) h.first (wide_part 46 6 6 refl) h.first_stands)
-
   pub last_is_day : IsDay h.last
   last_is_day =
       is_day-ddmmyy (kept 55 60 h.columns) h.last
@@ -109,13 +103,6 @@ module _ (h : Header) where
       (append_assoc (kept 47 47 h.columns) (kept 48 48 h.columns) (ddmmyy_of h.first ++ ddmmyy_of h.last))
       ∙ ap (λ (l : List ℕ). kept 3 46 h.columns ++ (l ++ (kept 48 48 h.columns ++ (ddmmyy_of h.first ++ ddmmyy_of h.last)))) h.full
       ∙ sym columns_are
-
-  -- of two windows the last holds
-  pub last_window : (first last earlier_first earlier_last : ℕ) →
-      with_window first last (with_window earlier_first earlier_last h.columns) ≡ with_window first last h.columns
-  last_window first last earlier_first earlier_last =
-      ap (λ (l : List ℕ). l ++ (ddmmyy_of first ++ ddmmyy_of last))
-      (take_at (kept 3 48 h.columns) (ddmmyy_of earlier_first ++ ddmmyy_of earlier_last) 46 (wide_part 0 46 12 refl))
 
   -- its values fit their columns
   pub fits : AllFit (header_table h)
@@ -169,14 +156,6 @@ same_header h k e =
       last_stands = v.1.4;
       in_order = v.1.5;
     }) parts
-
--- a header is determined by columns 3 to 48 and its window
-pub by_window : (h k : Header) → kept 3 48 h.columns ≡ kept 3 48 k.columns → h.first ≡ k.first → h.last ≡ k.last → h ≡ k
-by_window h k front first last =
-    same_header h k (sym (own_window h)
-    ∙ ap (λ (l : List ℕ). l ++ (ddmmyy_of h.first ++ ddmmyy_of h.last)) front
-    ∙ ap (λ n. kept 3 48 k.columns ++ (ddmmyy_of n ++ ddmmyy_of h.last)) first
-    ∙ ap (λ n. kept 3 48 k.columns ++ (ddmmyy_of k.first ++ ddmmyy_of n)) last ∙ own_window k)
 
 -- two headers that a line spells are one
 pub one_header : (line : List ℕ) (h k : Header) → SpellsHeader line h → SpellsHeader line k → h ≡ k

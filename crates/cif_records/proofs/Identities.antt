@@ -1,8 +1,7 @@
 -- A kind is found by its identity, and by no other.
-use Rattle.std.proofs.Common.{◌≡◌, ℕ, Bool, true, false, cond, List, [], ◌∷◌, Some, IfSome, refl, sym, find, subst}
-use Rattle.cif_columns.specs.Field.{columns}
+use Rattle.std.proofs.Common.{◌≡◌, ℕ, Bool, true, false, cond, List, [], ◌∷◌, Some, IfSome, refl, sym, find}
 use Rattle.std.specs.Cmp.Lexicographic.{bytes_decides}
-use Rattle.cif_records.specs.Kind.{identity, kinds, is_identity, kind_in}
+use Rattle.cif_records.specs.Kind.{identity, kinds, is_identity}
 use Rattle.cif_records.specs.declared.record.Kind.{Kind}
 use Rattle.cif_records.specs.declared.record.Kind.TheVariants.{Hd, Ti, Ta, Td, Aa, Bs, Bx, Lo, Li, Cr, Lt, Zz}
 
@@ -31,7 +30,3 @@ only_kind letters Li e = rw e
 only_kind letters Cr e = rw e
 only_kind letters Lt e = rw e
 only_kind letters Zz e = rw e
-
--- what a kind's columns are
-pub identity-kind_in : (line : List ℕ) (k : Kind) → kind_in line ≡ Some k → columns 1 2 line ≡ identity k
-identity-kind_in line k e = subst (λ found. IfSome found (λ kind. columns 1 2 line ≡ identity kind)) e (found_kind (columns 1 2 line) kinds)
