@@ -185,7 +185,8 @@ pub all-found : (x : ExtractParts) (first last : ℕ) (associations : List Assoc
     AreAdded key_cmp named.Association (association_entries associations) first last none some →
     AreAdded (slice_cmp nat_cmp) named.Train (schedule_entries schedules) first last some all → AreAllClashes x all
 all-found x first last associations schedules none some all f l as_is ss_is empty a t =
-    let ks = added-of_slice key_cmp named.Association association_entry x.header first last associations x.associations none some f l as_is a
+    let ks = added-of_slice key_cmp named.Association association_entry x.header first last associations x.associations none some f l
+    as_is a
     in
     let ts = added-of_slice (slice_cmp nat_cmp) named.Train schedule_entry x.header first last schedules x.schedules some all f l ss_is t in
     record {

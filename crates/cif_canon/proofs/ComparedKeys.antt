@@ -12,7 +12,6 @@ use Rattle.std.proofs.lemmas.List.Elements.{All-contains}
 use Rattle.std.proofs.lemmas.List.Elements.{Contains-append_right, Contains-append_cases}
 use Rattle.cif_calendar.specs.Terms.{Terms}
 use Rattle.cif_calendar.specs.Keys.{of_key, ArePositionsOf}
-use Rattle.cif_calendar.specs.Meaning.{SameMeaning}
 use Rattle.cif_calendar.specs.Runs.{Runs}
 use Rattle.cif_calendar.proofs.Positions.{at-contains}
 use Rattle.cif_weeks.proofs.RisingLists.{Contains-none, not_less}
@@ -164,12 +163,6 @@ module _ {K B : Type 0} (cmp : K → K → Ordering) where
     -- nobody is left where there are no positions
     pub nobody : (k : K) → IsLeft xs [] ys [] k → ⊥
     nobody k = ⊎_elim (λ any. Contains-none any.position any.member) (λ any. Contains-none any.position any.member)
-
-    -- in the end none is
-    pub alike-all : AreAlikeBefore xs ys first last [] [] → SameMeaning xs ys first last
-    alike-all a = record {
-      same = λ k d o from upto. a.told k (nobody k) d from upto o;
-    }
 
     module _ (l r : List ℕ) (Told : K → Type 0) (a : ArePassed xs ys l r Told) (k : K) (f : IsFirstOfBoth cmp xs l ys r k) where
       -- a key before this one isn't left

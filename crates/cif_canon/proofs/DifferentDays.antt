@@ -12,7 +12,7 @@ use Rattle.cif_calendar.specs.Calendar.{CalendarParts, body_on}
 use Rattle.cif_calendar.specs.Pieces.{Tiles, winner_of}
 use Rattle.cif_calendar.specs.Source.{body_at}
 use Rattle.cif_calendar.specs.Terms.{Terms}
-use Rattle.cif_calendar.specs.declared.piece.Piece.{Piece}
+use Rattle.cif_calendar.specs.declared.key_calendar.Piece.{Piece}
 use Rattle.cif_calendar.proofs.PieceLists.{source_at-piece, tiles-ends}
 use Rattle.cif_weeks.specs.Runs.{AreSources}
 use Rattle.cif_canon.specs.Steps.Differences.{AreAlikeBy, FindsOther, HasBodies, IsFirstOther}
@@ -32,17 +32,6 @@ module _ {B : Type 0} (xs : List (Terms B)) (p : Piece) (ys : List (Terms B)) (q
       AreAlikeBy xs p ys q d
   alike-week first last week d from upto =
       let (e, after, within, before, same) = in-week first d from in alike-weekday e d same (week e after within)
-
--- it holds up to a day, and of that day
-pub alike-more : (alike : ℕ → Type 0) (first day : ℕ) → ((d : ℕ) → first ≤ d → d < day → alike d) → alike day → (next : ℕ) →
-    next ≡ day + 1 → (d : ℕ) → first ≤ d → d < next → alike d
-alike-more alike first day before here next is d from below = ⊎_elim
-    (λ (less : d < day). before d from less)
-    (λ (same : day ≡ d). subst alike same here)
-    split
-  where
-    split : (d < day) ⊎ (day ≡ d)
-    split = grind (arith, below, is)
 
 pub before-or-from : (d m : ℕ) → (d < m) ⊎ (m ≤ d)
 before-or-from d m = grind arith

@@ -103,14 +103,6 @@ module _ {K B : Type 0} (train_of : K → List ℕ) (entries : List (K × Terms 
       let parts = some_pair_parts _ _ _ _ (sym of_p.at ∙ ap (slice_get entries) place ∙ of_q.at) in
       placed-same p q place parts.0 parts.1
 
-  pub placed-none_below : ArePlacedBelow train_of entries u d 0 []
-  placed-none_below = record {
-    found = All-nil _;
-    below = All-nil _;
-    all = λ p of_p below. absurd (omega (arith, below));
-    rising = λ i j e lt below. absurd (omega (arith, below));
-  }
-
   module _ (n : ℕ) (placed : List (Placed K B)) (are : ArePlacedBelow train_of entries u d n placed) where
     pub placed-more : (p : Placed K B) → IsPlaced train_of entries u d p → p.place ≡ n
         → ArePlacedBelow train_of entries u d (n + 1) (placed ++ (p ∷ []))

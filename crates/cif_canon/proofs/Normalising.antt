@@ -111,9 +111,9 @@ module _ (max : ℕ) (asked : Asked) (bytes : List ℕ) where
       (n : Counts) → n ≡ c.counts → Normalises form asked max bytes c.text (Ok n)
   normalises-whole form x s c is n same = subst (IsNormalised form asked max bytes c.text) (sym same) (is-normalised form x s c is)
 
-  pub normalises-front : (form : Form) (x : ExtractParts) → SpellsNarrowed max asked x bytes → (c : CanonParts) → IsCanonOf form x c →
+  pub normalises-prefix : (form : Form) (x : ExtractParts) → SpellsNarrowed max asked x bytes → (c : CanonParts) → IsCanonOf form x c →
       (result : Result Counts Fault) (f : Fault) → result ≡ Err f → f ≡ fault.Write → Normalises form asked max bytes c.text result
-  normalises-front form x s c is result f failed write =
+  normalises-prefix form x s c is result f failed write =
       subst (Normalises form asked max bytes c.text) (sym (failed ∙ ap Err write)) (c.counts, is-normalised form x s c is)
 
 -- a prefix of the text went out

@@ -8,7 +8,7 @@ use Rattle.cif_columns.specs.Day.{weekday_of}
 use Rattle.cif_calendar.specs.Calendar.{CalendarParts}
 use Rattle.cif_calendar.specs.Pieces.{Tiles, source_at, winner_of}
 use Rattle.cif_calendar.specs.Terms.{Terms}
-use Rattle.cif_calendar.specs.declared.piece.Piece.{Piece}
+use Rattle.cif_calendar.specs.declared.key_calendar.Piece.{Piece}
 use Rattle.cif_calendar.proofs.Elements.{Contains-first}
 use Rattle.cif_calendar.proofs.PieceLists.{source_at-piece, tiles-find, tiles-push}
 use Rattle.cif_canon.specs.Steps.OnlySides.{AreOnlyWinners, IsOnlySource}

@@ -62,36 +62,6 @@ module _ (format : Format) where
       ∙ append_assoc (shown format first) (separator format ∷ shown format second) (after format (a ++ (b ++ c)))
       ∙ joined first (second ∷ (a ++ (b ++ c))))
 
-  -- three fields and a group
-  pub dated-row : (first last days : List ℕ) (a : List (List ℕ)) →
-      pushed (shown format first) (last ∷ days ∷ []) ++ after format a ≡ fields_text format (first ∷ last ∷ days ∷ a)
-  dated-row first last days a =
-      ap (λ (l : List ℕ). l ++ after format a) (pushed-after (shown format first) (last ∷ days ∷ []))
-      ∙ two-groups first (last ∷ days ∷ []) a
-
-  -- a field and two groups
-  pub field-and-groups : (start field : List ℕ) (a b : List (List ℕ)) →
-      ((start ++ (separator format ∷ shown format field)) ++ after format a) ++ after format b
-      ≡ start ++ after format (field ∷ (a ++ b))
-  field-and-groups start field a b =
-      both-after (start ++ (separator format ∷ shown format field)) a b
-      ∙ append_assoc start (separator format ∷ shown format field) (after format (a ++ b))
-
-  -- a group and fields
-  pub group-and-fields : (start : List ℕ) (a b : List (List ℕ)) → pushed (start ++ after format a) b ≡ start ++ after format (a ++ b)
-  group-and-fields start a b = pushed-after (start ++ after format a) b ∙ both-after start a b
-
-  -- fields, and the same group behind them and behind more fields
-  pub fields-and-group : (start one other : List ℕ) (a : List (List ℕ)) (b c d : List ℕ) →
-      pushed (pushed start (one ∷ other ∷ []) ++ after format a) (b ∷ c ∷ d ∷ []) ++ after format a
-      ≡ start ++ after format (one ∷ other ∷ (a ++ (b ∷ c ∷ d ∷ a)))
-  fields-and-group start one other a b c d =
-      ap (λ (l : List ℕ). l ++ after format a) (group-and-fields (pushed start (one ∷ other ∷ [])) a (b ∷ c ∷ d ∷ []))
-      ∙ both-after (pushed start (one ∷ other ∷ [])) (a ++ (b ∷ c ∷ d ∷ [])) a
-      ∙ ap (λ (fs : List (List ℕ)). pushed start (one ∷ other ∷ []) ++ after format fs) (append_assoc a (b ∷ c ∷ d ∷ []) a)
-      ∙ ap (λ (l : List ℕ). l ++ after format (a ++ (b ∷ c ∷ d ∷ a))) (pushed-after start (one ∷ other ∷ []))
-      ∙ both-after start (one ∷ other ∷ []) (a ++ (b ∷ c ∷ d ∷ a))
-
   -- a row behind a row
   pub joined-rows : (first : List ℕ) (fields : List (List ℕ)) (next : List ℕ) (more : List (List ℕ)) →
       fields_text format (first ∷ fields) ++ (separator format ∷ fields_text format (next ∷ more))
@@ -109,4 +79,5 @@ nothing-shown = refl
 
 pub tabs-after : (count : ℕ) → after Tsv (replicate count []) ≡ replicate count 9
 tabs-after zero = refl
-tabs-after (suc count) = ap (λ (l : List ℕ). 9 ∷ (l ++ after Tsv (replicate count []))) nothing-shown ∙ ap (λ (l : List ℕ). 9 ∷ l) (tabs-after count)
+tabs-after (suc count) =
+    ap (λ (l : List ℕ). 9 ∷ (l ++ after Tsv (replicate count []))) nothing-shown ∙ ap (λ (l : List ℕ). 9 ∷ l) (tabs-after count)

@@ -72,10 +72,12 @@ associations-text layout x d = flat_map (run_text (association_on layout d) (ass
 abbrev pub trains-text : Layout → ExtractParts → ℕ → List Run → List ℕ
 trains-text layout x d = flat_map (run_text (train_on layout d) (schedule_entries x.schedules))
 
-module _ (layout : Layout) (x : ExtractParts) (d : ℕ) (within : IsWithin (header_window x.header) d) (form : Form) (associations schedules : List Run)
+module _ (layout : Layout) (x : ExtractParts) (d : ℕ) (within : IsWithin (header_window x.header) d) (form : Form)
+    (associations schedules : List Run)
     (a : AreCanonicalRecords key_cmp form (header_window x.header) (association_entries x.associations) associations)
     (s : AreCanonicalRecords (slice_cmp nat_cmp) form (header_window x.header) (schedule_entries x.schedules) schedules) where
-  pub day-view : IsDayView layout x d (day_heading layout ++ (associations-text layout x d associations ++ trains-text layout x d schedules))
+  pub day-view : IsDayView layout x d
+      (day_heading layout ++ (associations-text layout x d associations ++ trains-text layout x d schedules))
   day-view = record {
     within = within;
     clear = record { associations = a.clear; schedules = s.clear };

@@ -1,5 +1,5 @@
 //! The canonical form of an extract: its counts and its lines.
-ghost use Rattle.std.specs.Prelude.{◌≡◌, ◌≤◌, All, IfErr, false};
+ghost use Rattle.std.specs.Prelude.{◌≡◌, ◌≤◌, All, IfErr, IsTrue, false};
 ghost use Rattle.std.specs.List.{flat_map};
 ghost use Rattle.cif_calendar.specs.Entries.{association_entries, schedule_entries};
 ghost use Rattle.cif_calendar.specs.Keys.{keyed};
@@ -9,6 +9,7 @@ ghost use Rattle.cif_weeks.specs.Runs.{record_of};
 ghost use Rattle.cif_canon.specs.Counts.{counts_line};
 ghost use Rattle.cif_canon.specs.Steps.Texts.{HasRecord, tiploc_text, run_text};
 
+use crate::records::AT_ONCE;
 use arrayvec::ArrayString;
 use cif_calendar::Entry;
 use cif_columns::{Sink, Uid, WriteDevice, WriteFault};
@@ -188,6 +189,13 @@ pub(crate) trait RecordLines<E: Entry> {
     // The text of a record with its key.
     ghost text: { Self → E.Key × Permanent E.Body → List ℕ };
 
+    /// Always true. Where a body is large, its first bytes have to come from memory to know it.
+    fn is_at_hand(&self, _body: &E::Body) -> bool
+        ensures { IsTrue result }
+    {
+        true
+    }
+
     /// Appends the text of the record with this key and this body, and the dates and the mask of the run.
     fn write_record<W: WriteDevice>(
         &self,
@@ -214,14 +222,29 @@ pub(crate) fn write_runs<E: Entry, L: RecordLines<E>, W: WriteDevice>(
         (flat_map (run_text (L.text lines.now) (keyed E.key E.terms entries.now)) runs.now)
         sink.old sink.new result }
 {
-    // Where no line is written, no write would tell it.
+    // If no line is written, no write tells that the sink has failed.
     if sink.failed() {
         return Err(WriteFault);
     }
-    for run in runs {
+    for (at, run) in runs.iter().enumerate() {
+        if at % AT_ONCE == 0 {
+            look_ahead(lines, entries, &runs[at..runs.len().min(at + AT_ONCE)]);
+        }
         write_run(lines, entries, run, sink)?;
     }
     Ok(())
+}
+
+/// Looks at the bodies that the runs' records have.
+fn look_ahead<E: Entry, L: RecordLines<E>>(lines: &L, entries: &[E], runs: &[Run])
+    requires { All (HasRecord (keyed E.key E.terms entries.now)) runs.now }
+{
+    for run in runs {
+        match entries[run.source].body() {
+            Some(body) if lines.is_at_hand(body) => {}
+            _ => unreachable!(),
+        }
+    }
 }
 
 /// Appends the lines of the run's record.
@@ -268,6 +291,10 @@ impl RecordLines<Schedule> for PlainLines {
     ghost use Rattle.cif_canon.specs.Steps.Texts.{schedule_text};
 
     ghost text = { λ lines. schedule_text };
+
+    fn is_at_hand(&self, body: &Body) -> bool {
+        body.is_at_hand()
+    }
 
     fn write_record<W: WriteDevice>(
         &self,

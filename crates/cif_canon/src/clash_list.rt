@@ -57,7 +57,7 @@ impl Clashes {
 fn write_clashes<W: WriteDevice>(clashes: &[Clash], sink: &mut Sink<W>) -> Result<(), WriteFault>
     ensures { Writes W.contents W.write_errors (clashes_text clashes.now) sink.old sink.new result }
 {
-    // Where there is no clash, no write would tell it.
+    // If there is no clash, no write tells that the sink has failed.
     if sink.failed() {
         return Err(WriteFault);
     }

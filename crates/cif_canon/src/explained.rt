@@ -22,7 +22,7 @@ use std::cmp::Ordering;
 /// What becomes of a record on a day on which it applies.
 #[derive(Clone, Copy, Debug, PartialEq, Eq)]
 pub enum Mark {
-    /// It wins, and so do no records with another body.
+    /// It wins, and no record with another body does.
     Wins,
     /// It wins, and another winner has another body.
     Clash,

@@ -96,7 +96,7 @@ fn write_marked<E: ExplainedEntry, W: WriteDevice>(
         (flat_map (λ one. E.line format (explained_of E.key E.terms one)) marked.now)
         sink.old sink.new result }
 {
-    // Where no record applies, no write would tell it.
+    // If no record applies, no write tells that the sink has failed.
     if sink.failed() {
         return Err(WriteFault);
     }

@@ -37,16 +37,18 @@ pub struct Layout {
 }
 
 /// The names of the fields of a journey.
-const JOURNEY: &str =
-    "\tidentity\torigin\torigin_suffix\tdeparture\torigin_platform\tterminus\tterminus_suffix\tarrival\tterminus_platform";
+const JOURNEY: &str = "\tidentity\torigin\torigin_suffix\tdeparture\torigin_platform\
+    \tterminus\tterminus_suffix\tarrival\tterminus_platform";
 
 /// The names of the fields of an association.
-pub(crate) const ASSOCIATION: &str =
-    "\tbase_uid\tassociated_uid\tassociation_category\tdate_indicator\tassociation_location\tbase_suffix\tassociated_suffix\tdiagram_type\tassociation_type";
+pub(crate) const ASSOCIATION: &str = "\tbase_uid\tassociated_uid\tassociation_category\
+    \tdate_indicator\tassociation_location\tbase_suffix\tassociated_suffix\tdiagram_type\
+    \tassociation_type";
 
 /// The names of the fields of a call.
-const CALL: &str =
-    "\tcall\tcall_location\tcall_suffix\tcall_arrival\tcall_departure\tcall_pass\tcall_public_arrival\tcall_public_departure\tcall_platform\tcall_path\tcall_line\tcall_activities";
+const CALL: &str = "\tcall\tcall_location\tcall_suffix\tcall_arrival\tcall_departure\
+    \tcall_pass\tcall_public_arrival\tcall_public_departure\tcall_platform\tcall_path\
+    \tcall_line\tcall_activities";
 
 /// The names of a table's fields: the first ones, those of a journey, the others, and those of a call if
 /// calls are listed. Text has none.

@@ -1,4 +1,5 @@
-//! The canonical extract of a CIF extract, how two extracts compare, and what runs on a day.
+//! The canonical extract of a CIF extract, how two extracts compare and differ, what runs on a day and
+//! why, and which records clash.
 #![tactic(auto)]
 
 mod all_clashes;

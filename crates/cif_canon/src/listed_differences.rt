@@ -138,7 +138,7 @@ pub(crate) fn write_marked_tiplocs<W: WriteDevice>(
     ensures { Writes W.contents W.write_errors (flat_map marked_tiploc tiplocs.now)
         sink.old sink.new result }
 {
-    // Where no line is written, no write would tell it.
+    // If no line is written, no write tells that the sink has failed.
     if sink.failed() {
         return Err(WriteFault);
     }

@@ -1,4 +1,4 @@
-//! The canonical form of an input, or why there is none.
+//! The canonical form of an input, or why there is none, and the line that says why.
 ghost use Rattle.std.specs.Prelude.{◌≤◌, ◌≡◌, ℕ, List, IfErr, IfOk, IfSome};
 ghost use Rattle.cif_columns.specs.Sink.{Writes};
 ghost use Rattle.cif_columns.specs.Source.{reader_of};

@@ -221,6 +221,23 @@ fn runs_of_key<E: Entry>(
     })
 }
 
+/// How many entries or records are looked at before they are worked on. In the order of their keys
+/// they stand far from one another; so memory is waited for once, and not for each of them.
+pub(crate) const AT_ONCE: usize = 16;
+
+/// Looks at the entries at the positions: each first date is one, but to know it, the entry has to
+/// come from memory.
+fn look_ahead<E: Entry>(entries: &[E], positions: &[usize])
+    requires { All (λ i. i < length entries.now) positions.now }
+{
+    for i in positions {
+        match Day::from_number(entries[*i].first().number()) {
+            Some(_) => {}
+            None => unreachable!(),
+        }
+    }
+}
+
 /// The runs of the canonical records of the entries in a form: for each key, in order, those that
 /// say what its entries say of the window, rising by first date. The source of a run is the
 /// position of an entry with the record's key and body.
@@ -248,8 +265,14 @@ where
         runs: Vec::new(alloc),
     };
     let mut rest = positions.as_slice();
+    let mut looked_at = 0;
     while !rest.is_empty() {
+        if looked_at == 0 {
+            looked_at = rest.len().min(AT_ONCE);
+            look_ahead(entries, &rest[..looked_at]);
+        }
         let (members, later) = rest.split_at(count_of_first_key(entries, rest));
+        looked_at = looked_at.saturating_sub(members.len());
         room = runs_of_key(room, entries, members, &window, form)?;
         all.extend_from_slice(room.runs.as_slice())?;
         rest = later;

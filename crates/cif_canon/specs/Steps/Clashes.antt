@@ -4,8 +4,8 @@ use Rattle.std.specs.declared.cmp.Ordering.{Ordering}
 use Rattle.cif_calendar.specs.Clash.{IsClearFrom, IsFirstClash}
 use Rattle.cif_calendar.specs.Keys.{of_key}
 use Rattle.cif_calendar.specs.Terms.{Terms}
-use Rattle.cif_calendar.specs.declared.calendar_fault.CalendarFault.{CalendarFault}
-use Rattle.cif_calendar.specs.declared.calendar_fault.CalendarFault.TheVariants.{Ambiguous, Memory}
+use Rattle.cif_calendar.specs.declared.key_calendar.CalendarFault.{CalendarFault}
+use Rattle.cif_calendar.specs.declared.key_calendar.CalendarFault.TheVariants.{Ambiguous, Memory}
 use Rattle.cif_extract.specs.declared.fault.Clash.{Clash}
 use Rattle.cif_canon.specs.Clashes.{AreClashes}
 

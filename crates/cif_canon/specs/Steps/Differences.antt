@@ -3,7 +3,7 @@ use Rattle.std.specs.Prelude.{◌≡◌, ℕ, ◌≤◌, ◌<◌, List, Option, 
 use Rattle.cif_calendar.specs.Pieces.{winner_of}
 use Rattle.cif_calendar.specs.Source.{body_at}
 use Rattle.cif_calendar.specs.Terms.{Terms}
-use Rattle.cif_calendar.specs.declared.piece.Piece.{Piece}
+use Rattle.cif_calendar.specs.declared.key_calendar.Piece.{Piece}
 
 -- it holds of the days from `first` to `last` before this one, and not of this one
 pub record IsFirstOther (alike : ℕ → Type 0) (first last day : ℕ) : Type 0 where

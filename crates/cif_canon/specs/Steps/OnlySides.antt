@@ -11,7 +11,7 @@ use Rattle.cif_calendar.specs.Meaning.{SameMeaning}
 use Rattle.cif_calendar.specs.Pieces.{source_at, winner_of}
 use Rattle.cif_calendar.specs.Source.{body_at}
 use Rattle.cif_calendar.specs.Terms.{Terms}
-use Rattle.cif_calendar.specs.declared.piece.Piece.{Piece}
+use Rattle.cif_calendar.specs.declared.key_calendar.Piece.{Piece}
 use Rattle.cif_columns.specs.Day.{weekday_of}
 use Rattle.cif_records.specs.declared.tiploc.Tiploc.{Tiploc}
 use Rattle.cif_weeks.specs.HaveForm.{HaveForm}

@@ -7,8 +7,8 @@ use Rattle.cif_calendar.specs.Clash.{IsClearFrom, IsFirstClash}
 use Rattle.cif_calendar.specs.Keys.{of_key, AreClear, IsFirstClashOf}
 use Rattle.cif_calendar.specs.Meaning.{SameMeaning}
 use Rattle.cif_calendar.specs.Runs.{BodyRuns}
-use Rattle.cif_calendar.specs.declared.calendar_fault.CalendarFault.{CalendarFault}
-use Rattle.cif_calendar.specs.declared.calendar_fault.CalendarFault.TheVariants as calendar
+use Rattle.cif_calendar.specs.declared.key_calendar.CalendarFault.{CalendarFault}
+use Rattle.cif_calendar.specs.declared.key_calendar.CalendarFault.TheVariants as calendar
 use Rattle.cif_extract.specs.declared.fault.Fault.{Fault}
 use Rattle.cif_extract.specs.declared.fault.Fault.TheVariants as fault
 use Rattle.cif_extract.specs.declared.fault.Fault.TheVariants.{Ambiguous}

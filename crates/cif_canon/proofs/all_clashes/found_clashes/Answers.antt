@@ -6,5 +6,6 @@ use Rattle.cif_canon.proofs.all_clashes.found_clashes.Goals as goal
 pub returns : goal.returns
 returns c =
     all-found (extract_parts c.args.extract.now) c.window_of-window.result.first c.window_of-window.result.last c.as_slice.result.now
-    c.as_slice-2.result.now _ c.in_ok-found.found.items c.in_ok-all.all.items c.window_of-window.ensures.first c.window_of-window.ensures.last
-    c.as_slice.ensures.value c.as_slice-2.ensures.value c.new-none.ensures.items c.in_ok-found.ensures c.in_ok-all.ensures
+    c.as_slice-2.result.now _ c.in_ok-found.found.items c.in_ok-all.all.items c.window_of-window.ensures.first
+    c.window_of-window.ensures.last c.as_slice.ensures.value c.as_slice-2.ensures.value c.new-none.ensures.items
+    c.in_ok-found.ensures c.in_ok-all.ensures

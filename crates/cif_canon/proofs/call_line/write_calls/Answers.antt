@@ -14,7 +14,8 @@ returns-in_err-write_both g c =
     writes_err _ _ _ _ _ c.from_residual.result c.from_residual.ensures.0
     (failed_first _ _ (text (origin_fields b.origin)) (flat_map (call_text text) b.calls ++ text (terminus_fields b.terminus)) _ _
     (subst (λ t. HasFailed g.W.Write.contents g.W.WriteDevice.write_errors t c.args.sink.now c.write_both.new.sink)
-    (ap (λ (l : List ℕ). c.args.before.now ++ l) (c.origin_line.ensures ∙ ap (λ o. line_of c.args.format (origin_fields o)) c.origin.ensures))
+    (ap (λ (l : List ℕ). c.args.before.now ++ l)
+    (c.origin_line.ensures ∙ ap (λ o. line_of c.args.format (origin_fields o)) c.origin.ensures))
     c.in_err-write_both.ensures))
 
 pub returns-in_err-write_calls_between : goal.returns-in_err-write_calls_between
@@ -24,7 +25,8 @@ returns-in_err-write_calls_between g c =
     writes_err _ _ _ _ _ c.from_residual-in_err-write_calls_between.result c.from_residual-in_err-write_calls_between.ensures.0
     (failed_second _ _ (text (origin_fields b.origin)) (flat_map (call_text text) b.calls ++ text (terminus_fields b.terminus)) _ _ _
     (subst (λ t. HasWritten g.W.Write.contents g.W.WriteDevice.write_errors t c.args.sink.now c.write_both.new.sink)
-    (ap (λ (l : List ℕ). c.args.before.now ++ l) (c.origin_line.ensures ∙ ap (λ o. line_of c.args.format (origin_fields o)) c.origin.ensures))
+    (ap (λ (l : List ℕ). c.args.before.now ++ l)
+    (c.origin_line.ensures ∙ ap (λ o. line_of c.args.format (origin_fields o)) c.origin.ensures))
     c.in_ok-write_both.ensures)
     (failed_first _ _ (flat_map (call_text text) b.calls) (text (terminus_fields b.terminus)) _ _
     (subst (λ t. HasFailed g.W.Write.contents g.W.WriteDevice.write_errors t c.write_both.new.sink c.write_calls_between.new.sink)
@@ -37,7 +39,8 @@ returns g c =
     writes_on _ _ (text (origin_fields b.origin)) (flat_map (call_text text) b.calls ++ text (terminus_fields b.terminus)) _ _ _
     c.write_both-2.result
     (subst (λ t. HasWritten g.W.Write.contents g.W.WriteDevice.write_errors t c.args.sink.now c.write_both.new.sink)
-    (ap (λ (l : List ℕ). c.args.before.now ++ l) (c.origin_line.ensures ∙ ap (λ o. line_of c.args.format (origin_fields o)) c.origin.ensures))
+    (ap (λ (l : List ℕ). c.args.before.now ++ l)
+    (c.origin_line.ensures ∙ ap (λ o. line_of c.args.format (origin_fields o)) c.origin.ensures))
     c.in_ok-write_both.ensures)
     (writes_on _ _ (flat_map (call_text text) b.calls) (text (terminus_fields b.terminus)) _ _ _ c.write_both-2.result
     (subst (λ t. HasWritten g.W.Write.contents g.W.WriteDevice.write_errors t c.write_both.new.sink c.write_calls_between.new.sink)

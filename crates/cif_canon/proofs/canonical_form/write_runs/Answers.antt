@@ -5,23 +5,23 @@ use Rattle.cif_columns.proofs.WrittenTexts.{item_failed, item_written, writes_er
 use Rattle.cif_canon.specs.Steps.Texts.{HasRecord, run_text}
 use Rattle.cif_canon.proofs.canonical_form.write_runs.Goals as goal
 
-pub loop-run-init : goal.loop-run-init
-loop-run-init g c = written_nothing _ _ _ (sym c.failed.ensures ∙ c.if-failed.false)
+pub loop-at-init : goal.loop-at-init
+loop-at-init g c = written_nothing _ _ _ (sym c.failed.ensures ∙ c.if-failed.false)
 
-pub loop-run-preserved : goal.loop-run-preserved
-loop-run-preserved g c =
+pub loop-at-preserved : goal.loop-at-preserved
+loop-at-preserved g c =
     let entries = keyed g.E.Entry.key g.E.Entry.terms c.args.entries.now in
-    item_written (run_text (g.L.RecordLines.text c.args.lines.now) entries) c.args.runs.now c.loop-run.run-index c.run-item.result
-    c.loop-run-test.true c.run-item.is _ _ _ _ _ c.loop-run.invariant c.in_ok-write_run.ensures
+    item_written (run_text (g.L.RecordLines.text c.args.lines.now) entries) c.args.runs.now c.loop-at.at c.index-runs-at.result
+    c.loop-at-test.true c.index-runs-at.is _ _ _ _ _ c.loop-at.invariant c.in_ok-write_run.ensures
 
 pub returns-in_err-write_run : goal.returns-in_err-write_run
 returns-in_err-write_run g c =
     let entries = keyed g.E.Entry.key g.E.Entry.terms c.args.entries.now in
     writes_err _ _ _ _ _ c.from_residual.result c.from_residual.ensures.0
-    (item_failed (run_text (g.L.RecordLines.text c.args.lines.now) entries) c.args.runs.now c.loop-run.run-index c.run-item.result
-    c.loop-run-test.true c.run-item.is _ _ _ _ _ c.loop-run.invariant c.in_err-write_run.ensures)
+    (item_failed (run_text (g.L.RecordLines.text c.args.lines.now) entries) c.args.runs.now c.loop-at.at c.index-runs-at.result
+    c.loop-at-test.true c.index-runs-at.is _ _ _ _ _ c.loop-at.invariant c.in_err-write_run.ensures)
 
 pub write_run-requires-clause-record : goal.write_run-requires-clause-record
 write_run-requires-clause-record g c =
-    subst (HasRecord (keyed g.E.Entry.key g.E.Entry.terms c.args.entries.now)) (sym c.run-item.is)
-    (c.requires c.loop-run.run-index c.run-item.result c.loop-run-test.true)
+    subst (HasRecord (keyed g.E.Entry.key g.E.Entry.terms c.args.entries.now)) (sym c.index-runs-at.is)
+    (c.requires c.loop-at.at c.index-runs-at.result c.loop-at-test.true)

@@ -1,9 +1,9 @@
--- The text has to be named, the canonical form's: of known bytes `Normalising` says it is that, written whole or as a front.
+-- The text has to be named, the canonical form's: of known bytes `Normalising` says it is that, written whole or as a prefix.
 use Rattle.cif_columns.specs.Source.{reader_of}
 use Rattle.cif_columns.proofs.GivenLinesLaws.{known_so}
 use Rattle.cif_extract.specs.ExtractParts.{extract_parts}
 use Rattle.cif_canon.proofs.HandedFaults.{at-fault}
-use Rattle.cif_canon.proofs.Normalising.{fault-writes, known-accepted, known-canon_accepted, known-canon_fault, normalises-front}
+use Rattle.cif_canon.proofs.Normalising.{fault-writes, known-accepted, known-canon_accepted, known-canon_fault, normalises-prefix}
 use Rattle.cif_canon.proofs.Normalising.{normalises-whole}
 use Rattle.cif_canon.proofs.normal_form.normalise_keeping.Goals as goal
 
@@ -32,7 +32,7 @@ returns-in_err-write-clause-normal g c =
       fault-writes _ _ c.in_ok-canon.canon.text _ _ c.from_residual-in_err-write.result fault failed c.in_err-write.ensures.fault
           c.in_err-write.ensures.writes,
       known_so _ _ _ (λ bytes spelled.
-          normalises-front c.args.max_lines c.args.asked.now bytes c.args.form (extract_parts c.in_ok-extract.extract) spelled
+          normalises-prefix c.args.max_lines c.args.asked.now bytes c.args.form (extract_parts c.in_ok-extract.extract) spelled
           c.in_ok-canon.canon (rw c.insert-extract.ensures.value at c.in_ok-canon.ensures.ok) c.from_residual-in_err-write.result fault
           failed c.in_err-write.ensures.fault)
           c.in_ok-extract.ensures.ok,

@@ -33,8 +33,9 @@ view : (g : Over) (c : In_ok-runs g) → let x = extract_parts c.args.extract.no
     IsDayView c.args.layout x c.args.day (day_heading c.args.layout
     ++ (associations-text c.args.layout x c.args.day c.in_ok-runs.runs.associations.items
     ++ trains-text c.args.layout x c.args.day c.in_ok-runs.runs.schedules.items))
-view g c = day-view c.args.layout (extract_parts c.args.extract.now) c.args.day c.in_ok-check_within.ensures.ok Two c.in_ok-runs.runs.associations.items
-    c.in_ok-runs.runs.schedules.items c.in_ok-runs.ensures.associations c.in_ok-runs.ensures.schedules
+view g c =
+    day-view c.args.layout (extract_parts c.args.extract.now) c.args.day c.in_ok-check_within.ensures.ok Two
+    c.in_ok-runs.runs.associations.items c.in_ok-runs.runs.schedules.items c.in_ok-runs.ensures.associations c.in_ok-runs.ensures.schedules
 
 -- the heading was written
 headed : (g : Over) (c : In_ok-write_all g) →
@@ -97,8 +98,8 @@ returns-in_err-write_runs-2-clause-view g c =
           (at-fault result _ c.from_residual-in_err-write_runs-2.ensures.1) (headed g at.In_ok-write_all)
           (failed_second _ _ one other _ _ _ (written g at.In_ok-write_runs)
           (subst (λ t. HasFailed g.W.Write.contents g.W.WriteDevice.write_errors t c.write_runs.new.sink c.write_runs-2.new.sink)
-          (sliced (train_on c.args.layout c.args.day) schedule_entry c.as_slice-3.result.now _ c.as_slice-4.result.now _ c.as_slice-3.ensures.value
-          c.as_slice-4.ensures.value) c.in_err-write_runs-2.ensures)),
+          (sliced (train_on c.args.layout c.args.day) schedule_entry c.as_slice-3.result.now _ c.as_slice-4.result.now _
+          c.as_slice-3.ensures.value c.as_slice-4.ensures.value) c.in_err-write_runs-2.ensures)),
       written-so result _ (view g at.In_ok-runs),
     )
 
@@ -113,7 +114,7 @@ returns-clause-view g c =
       written_both _ _ head (one ++ other) _ _ _ (headed g at.In_ok-write_all)
           (written_both _ _ one other _ _ _ (written g at.In_ok-write_runs)
           (subst (λ t. HasWritten g.W.Write.contents g.W.WriteDevice.write_errors t c.write_runs.new.sink c.write_runs-2.new.sink)
-          (sliced (train_on c.args.layout c.args.day) schedule_entry c.as_slice-3.result.now _ c.as_slice-4.result.now _ c.as_slice-3.ensures.value
-          c.as_slice-4.ensures.value) c.in_ok-write_runs-2.ensures)),
+          (sliced (train_on c.args.layout c.args.day) schedule_entry c.as_slice-3.result.now _ c.as_slice-4.result.now _
+          c.as_slice-3.ensures.value c.as_slice-4.ensures.value) c.in_ok-write_runs-2.ensures)),
       view g at.In_ok-runs,
     )

@@ -63,8 +63,8 @@ returns-in_err-write_runs-clause-view g c =
       fails-second _ _ head text _ _ c.write_runs.new.sink result (at-fault result _ c.from_residual-in_err-write_runs.ensures.1)
           (headed g at.In_ok-write_all)
           (subst (λ t. HasFailed g.W.Write.contents g.W.WriteDevice.write_errors t c.write_all.new.self c.write_runs.new.sink)
-          (sliced (schedule_of c.args.layout uid) schedule_entry c.as_slice.result.now x.schedules c.as_slice-2.result.now runs.schedules.items
-          c.as_slice.ensures.value c.as_slice-2.ensures.value) c.in_err-write_runs.ensures),
+          (sliced (schedule_of c.args.layout uid) schedule_entry c.as_slice.result.now x.schedules c.as_slice-2.result.now
+          runs.schedules.items c.as_slice.ensures.value c.as_slice-2.ensures.value) c.in_err-write_runs.ensures),
       written-so result _ (view g at.In_ok-runs),
     )
 
@@ -79,7 +79,7 @@ returns-clause-view g c =
       head ++ text,
       written_both _ _ head text _ _ _ (headed g at.In_ok-write_all)
           (subst (λ t. HasWritten g.W.Write.contents g.W.WriteDevice.write_errors t c.write_all.new.self c.write_runs.new.sink)
-          (sliced (schedule_of c.args.layout uid) schedule_entry c.as_slice.result.now x.schedules c.as_slice-2.result.now runs.schedules.items
-          c.as_slice.ensures.value c.as_slice-2.ensures.value) c.in_ok-write_runs.ensures),
+          (sliced (schedule_of c.args.layout uid) schedule_entry c.as_slice.result.now x.schedules c.as_slice-2.result.now
+          runs.schedules.items c.as_slice.ensures.value c.as_slice-2.ensures.value) c.in_ok-write_runs.ensures),
       view g at.In_ok-runs,
     )

@@ -1,4 +1,4 @@
--- Five parts are written one behind another: for each exit `WrittenCanon` says that the whole text, or a front of it, was.
+-- Five parts are written one behind another: for each exit `WrittenCanon` says that the whole text, or a prefix of it, was.
 use Rattle.std.proofs.Common.{ap, subst}
 use Rattle.cif_columns.specs.Sink.{Writes}
 use Rattle.cif_columns.proofs.WrittenTexts.{writes_err}
