@@ -1,7 +1,8 @@
 -- A command that is built call by call is the one that the definition says.
 use Rattle.std.proofs.Common.{◌≡◌, ◌∙◌, Some, codes, true, false, refl, ap, ap₂, ◌||◌}
 use Rattle.std.specs.Borrow.{Bor}
-use Rattle.clap.specs.Words.{AddsArg, AddsSubcommand, App, Rule, Text, app_of, is_simple, is_simple_and_free, new_app, rule_of, with_rule, with_subcommand}
+use Rattle.clap.specs.Words.{AddsArg, AddsSubcommand, App, Rule, Text, app_of, is_simple, is_simple_and_free, new_app, rule_of}
+use Rattle.clap.specs.Words.{with_rule, with_subcommand}
 use Rattle.clap.specs.Simple.{app_of_fields}
 use Rattle.clap.specs.declared.Command.{Command}
 use Rattle.clap.specs.declared.builder.arg.Arg.{Arg}

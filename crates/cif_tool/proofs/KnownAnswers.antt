@@ -1,5 +1,6 @@
 -- What the commands answer, by what their calls answer: of bytes that are known.
-use Rattle.std.proofs.Common.{◌≡◌, ◌↔◌, ◌⊎◌, ℕ, Bool, true, false, List, [], Option, IfSome, Result, Err, IfErr, IsTrue, inl, inr, refl, subst, sym, true≢false}
+use Rattle.std.proofs.Common.{◌≡◌, ◌↔◌, ◌⊎◌, ℕ, Bool, true, false, List, [], Option, IfSome, Result, Err, IfErr, IsTrue, inl, inr}
+use Rattle.std.proofs.Common.{refl, subst, sym, true≢false}
 use Rattle.cif_columns.specs.declared.line_reader.TheConstants.{MAX_LINES}
 use Rattle.cif_columns.proofs.GivenLinesLaws.{known_so}
 use Rattle.cif_extract.specs.ExtractParts.{ExtractParts}

@@ -143,8 +143,8 @@ abbrev pub IsHandedOn : {W A E : Type 0} → (W → Type 0) → Sink W → Resul
 IsHandedOn holds_nothing new (Ok done) = holds_nothing (writer_of new)
 IsHandedOn holds_nothing new (Err fault) = ⊤
 
--- What the job's command owes its sources: `compare` and `diff` read both, one after the other, and each other command its input alone. Where it
--- answers, nothing is left of what it has read.
+-- What the job's command owes its sources: `compare` and `diff` read both, one after the other, and each other command its input
+-- alone. Where it answers, nothing is left of what it has read.
 abbrev pub ReadsInputs : {R A : Type 0} → (R → Option (List ℕ)) → (R → Option ℕ) → Job → Source R → Source R → Source R → Source R →
     Result A Fault → Type 0
 ReadsInputs remaining errors (Compare left_file right_file asked common) left left_new right right_new result =

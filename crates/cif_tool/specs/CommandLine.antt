@@ -103,7 +103,8 @@ with_extract_commands forms a = with_subcommand (with_subcommand (with_subcomman
 -- with the subcommands about trains, dates and clashes
 abbrev pub with_train_commands : Choice → Choice → App → App
 with_train_commands forms formats a =
-    with_subcommand (with_subcommand (with_subcommand (with_subcommand a (day formats).top) (train forms formats).top) (explain formats).top)
+    with_subcommand
+    (with_subcommand (with_subcommand (with_subcommand a (day formats).top) (train forms formats).top) (explain formats).top)
     clashes.top
 
 -- the program `cif` with its eight subcommands

@@ -99,7 +99,8 @@ pub record IsShown {O E : Type 0} (contents : O → Option (List ℕ)) (write_er
   pub written : HasWritten contents write_errors text output output_new
   pub silent : errors_new ≡ errors
 
--- A text went to the errors, as far as it could be written, and nothing to the output: the line that names the fault, or else `clap`'s text.
+-- A text went to the errors, as far as it could be written, and nothing to the output: the line that names the fault, or else
+-- `clap`'s text.
 pub record IsReported {O E : Type 0} (contents : E → Option (List ℕ)) (write_errors : E → Option ℕ) (line : Option Text)
     (output output_new : Sink O) (errors errors_new : Sink E) : Type 0 where
   pub text : List ℕ

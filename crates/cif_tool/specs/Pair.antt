@@ -10,8 +10,8 @@ use Rattle.cif_canon.specs.Asked.{IsNarrowed, IsNarrowingFault}
 use Rattle.cif_canon.specs.Comparison.{IsCompareFault}
 use Rattle.cif_canon.specs.declared.asked.Asked.{Asked}
 
--- What is asked for of two extracts. Where their common window is asked for, a date that isn't given is the later of the two first dates, or
--- the earlier of the two last dates.
+-- What is asked for of two extracts. Where their common window is asked for, a date that isn't given is the later of the two first
+-- dates, or the earlier of the two last dates.
 abbrev pub asked_of_both : Bool → Asked → ExtractParts → ExtractParts → Asked
 asked_of_both false asked left right = asked
 asked_of_both true asked left right = record {

@@ -158,6 +158,7 @@ fn uid_of(clash: &Clash) -> &Uid {
     }
 }
 
+/// The date of the clash.
 fn day_of(clash: &Clash) -> Day {
     match clash {
         Clash::Association(_, day) | Clash::Train(_, day) => *day,

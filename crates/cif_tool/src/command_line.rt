@@ -1,6 +1,6 @@
 //! The command line of `cif`.
 ghost use Rattle.std.specs.Prelude.{◌≡◌, IfOk, codes, false, map, string_bytes};
-ghost use Rattle.clap.specs.Words.{FailsBy, app_of, rule_of, subcommand_rows_of};
+ghost use Rattle.clap.specs.Words.{App, FailsBy, app_of, rule_of, subcommand_rows_of, with_subcommand};
 ghost use Rattle.clap.specs.declared.Command.TheViews.{out-Command};
 ghost use Rattle.cif_tool.specs.CommandLine.{IsCommand, canonical, chosen, cif, clashes, day};
 ghost use Rattle.cif_tool.specs.CommandLine.{explain, faults_of, flag, form_option, format_option};
@@ -193,6 +193,17 @@ fn program<'a>(alloc: Global) -> Result<Command<'a>, AllocError>
     )
 }
 
+/// The command with one more subcommand, if this could be built.
+fn with_one<'a>(
+    command: Command<'a>,
+    subcommand: Result<Command<'a>, AllocError>,
+) -> Result<Command<'a>, AllocError>
+    ensures { (a s : App) → IsCommand a command.entry → IfOk subcommand.entry (IsCommand s) →
+        IfOk result (IsCommand (with_subcommand a s.top)) }
+{
+    command.subcommand(subcommand?)
+}
+
 /// The command, with the subcommands about whole extracts.
 fn with_extract_commands<'a>(
     alloc: Global,
@@ -202,17 +213,20 @@ fn with_extract_commands<'a>(
     requires { (out-Command command).has_globals ≡ false }
     ensures { IfOk result (IsCommand (with_extract_commands forms.entry (app_of command.entry))) }
 {
-    command
-        .subcommand(canonical(
-            alloc,
-            "normalise",
-            help::NORMALISE,
-            help::NORMALISE_MORE,
-            forms,
-        )?)?
-        .subcommand(canonical(alloc, "check", help::CHECK, help::CHECK_MORE, forms)?)?
-        .subcommand(of_two_files(alloc, "compare", help::COMPARE, help::COMPARE_MORE)?)?
-        .subcommand(of_two_files(alloc, "diff", help::DIFF, help::DIFF_MORE)?)
+    let normalise = canonical(
+        alloc,
+        "normalise",
+        help::NORMALISE,
+        help::NORMALISE_MORE,
+        forms,
+    );
+    let command = with_one(command, normalise)?;
+    let check = canonical(alloc, "check", help::CHECK, help::CHECK_MORE, forms);
+    let command = with_one(command, check)?;
+    let compare = of_two_files(alloc, "compare", help::COMPARE, help::COMPARE_MORE);
+    let command = with_one(command, compare)?;
+    let diff = of_two_files(alloc, "diff", help::DIFF, help::DIFF_MORE);
+    with_one(command, diff)
 }
 
 /// The command, with the subcommands about trains, dates and clashes.
@@ -226,11 +240,10 @@ fn with_train_commands<'a>(
     ensures { IfOk result (IsCommand
         (with_train_commands forms.entry formats.entry (app_of command.entry))) }
 {
-    command
-        .subcommand(day(alloc, formats)?)?
-        .subcommand(train(alloc, forms, formats)?)?
-        .subcommand(explain(alloc, formats)?)?
-        .subcommand(clashes(alloc)?)
+    let command = with_one(command, day(alloc, formats))?;
+    let command = with_one(command, train(alloc, forms, formats))?;
+    let command = with_one(command, explain(alloc, formats))?;
+    with_one(command, clashes(alloc))
 }
 
 /// The command line of `cif`, with the words that name a form, and a format.

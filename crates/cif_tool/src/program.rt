@@ -1,5 +1,5 @@
-//! From the words of the process to its status: what is said here, the rows of `tests/` show over the
-//! built program.
+//! From the words of the process to its status. No clause says what is done here: the rows of `tests/`
+//! show it on the built program.
 use crate::advice::{advise, advise_on_date, advise_on_uid, tell_failure, tell_window};
 use crate::answers::answer;
 use crate::devices::{ExtractInput, Output};
@@ -25,37 +25,57 @@ const NOT_TEXT: &str =
 /// to `errors`; that one can't be written changes no status.
 pub fn run<R: Env + Files + Input + Print + AllocGlobal, E: Print>(rt: &R, errors: &E) -> u8 {
     let mut errors = Sink::new(io::writer(errors));
-    let words = match words_of(rt) {
-        Ok(words) => words,
-        Err(error) if error.kind() == ErrorKind::OutOfMemory => return end(
+    match words_of(rt) {
+        Ok(words) => asked(rt, words, &mut errors),
+        Err(error) if error.kind() == ErrorKind::OutOfMemory => end(
             &Err(Fault::Memory),
             &mut errors,
         ),
         Err(_) => {
             let _ = errors.write_all(NOT_TEXT.as_bytes());
-            return MISTAKEN;
+            MISTAKEN
         }
-    };
+    }
+}
+
+/// Does what these words ask for, and returns the status to exit with.
+fn asked<R: Env + Files + Input + Print + AllocGlobal, W: WriteDevice>(
+    rt: &R,
+    words: Vec<String>,
+    errors: &mut Sink<W>,
+) -> u8 {
     let verbose = is_verbose(words.as_slice());
     let control = have_control(words.as_slice());
     match job_of(rt.alloc(), words) {
-        Ok(job) => done(rt, &job, verbose, &mut errors),
+        Ok(job) => done(rt, &job, verbose, errors),
         Err(fault) => {
             let fault = if control && fault.status() == MISTAKEN {
                 escaped(rt, fault)
             } else {
                 fault
             };
-            let status = end(&explained(rt, &fault, &mut errors), &mut errors);
-            if verbose && let Ok(words) = words_of(rt) {
-                match fault {
-                    JobFault::BadDate => advise_on_date(rt.alloc(), words.as_slice(), &mut errors),
-                    JobFault::BadUid => advise_on_uid(rt.alloc(), words.as_slice(), &mut errors),
-                    JobFault::Usage(_) | JobFault::OneInput | JobFault::Memory => {}
-                }
+            let status = end(&explained(rt, &fault, errors), errors);
+            if verbose {
+                advise_on_words(rt, &fault, errors);
             }
             status
         }
+    }
+}
+
+/// Says which word of the process is mistaken, if it is to name a date or a UID.
+fn advise_on_words<R: Env + AllocGlobal, W: WriteDevice>(
+    rt: &R,
+    fault: &JobFault,
+    errors: &mut Sink<W>,
+) {
+    let Ok(words) = words_of(rt) else {
+        return;
+    };
+    match fault {
+        JobFault::BadDate => advise_on_date(rt.alloc(), words.as_slice(), errors),
+        JobFault::BadUid => advise_on_uid(rt.alloc(), words.as_slice(), errors),
+        JobFault::Usage(_) | JobFault::OneInput | JobFault::Memory => {}
     }
 }
 
@@ -91,16 +111,28 @@ fn done<R: Files + Input + Print + AllocGlobal, W: WriteDevice>(
     let (answer, failure) = answered(rt, job, &mut left, &mut right);
     let status = end(&answer, errors);
     if verbose {
-        match &answer {
-            Ok(_) => {
-                tell_window(left.reader(), errors);
-                tell_window(right.reader(), errors);
-            }
-            Err(Fault::Write) => tell_failure(rt.alloc(), "", "standard output", failure, errors),
-            Err(fault) => advise(rt.alloc(), fault, left.reader(), right.reader(), errors),
-        }
+        advise_on_answer(rt, &answer, failure, left.reader(), right.reader(), errors);
     }
     status
+}
+
+/// Says more of the answer, or of its fault: `failure` is the error that a write ended with.
+fn advise_on_answer<R: Files + Input + AllocGlobal, W: WriteDevice>(
+    rt: &R,
+    answer: &Result<u8, Fault>,
+    failure: Option<io::Error>,
+    left: &ExtractInput<'_, R>,
+    right: &ExtractInput<'_, R>,
+    errors: &mut Sink<W>,
+) {
+    match answer {
+        Ok(_) => {
+            tell_window(left, errors);
+            tell_window(right, errors);
+        }
+        Err(Fault::Write) => tell_failure(rt.alloc(), "", "standard output", failure, errors),
+        Err(fault) => advise(rt.alloc(), fault, left, right, errors),
+    }
 }
 
 /// Answers the job on the standard output. With the answer comes the error that a write ended with.
@@ -115,9 +147,14 @@ fn answered<'a, R: Files + Input + Print + AllocGlobal>(
         Err(fault) => return (Err(fault), None),
     };
     let answer = answer(rt.alloc(), job, left, right, &mut Sink::new(&mut output));
-    // A `BufWriter` that is dropped writes what it holds, also after a failure.
+    (answer, failure_of(output))
+}
+
+/// The error that a write of the output ended with, of which nothing more is written: a `BufWriter`
+/// that is dropped writes what it holds, also after a failure.
+fn failure_of<R: Print>(output: BufWriter<Output<Printer<'_, R>>>) -> Option<io::Error> {
     let (output, _) = output.into_parts();
-    (answer, output.failure())
+    output.failure()
 }
 
 /// Says why the words ask for nothing: help and the version on the standard output, all else on
@@ -129,7 +166,7 @@ fn explained<R: Print + AllocGlobal, W: WriteDevice>(
 ) -> Result<u8, Fault> {
     let mut output = buffered_output(rt)?;
     let answer = fault.explain(rt.alloc(), &mut Sink::new(&mut output), errors);
-    let _ = output.into_parts();
+    let _ = failure_of(output);
     answer
 }
 

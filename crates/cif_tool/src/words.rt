@@ -118,6 +118,7 @@ fn named_job(alloc: Global, name: &str, matches: &ArgMatches<'_>) -> Result<Job,
     }
 }
 
+/// What `normalise` asks for.
 fn normalise_job(alloc: Global, matches: &ArgMatches<'_>) -> Result<Job, JobFault>
     ensures { IsJobOf (codes "normalise", rows_of (found_of matches.now)) result }
 {
@@ -128,6 +129,7 @@ fn normalise_job(alloc: Global, matches: &ArgMatches<'_>) -> Result<Job, JobFaul
     })
 }
 
+/// What `check` asks for.
 fn check_job(alloc: Global, matches: &ArgMatches<'_>) -> Result<Job, JobFault>
     ensures { IsJobOf (codes "check", rows_of (found_of matches.now)) result }
 {
@@ -138,6 +140,7 @@ fn check_job(alloc: Global, matches: &ArgMatches<'_>) -> Result<Job, JobFault>
     })
 }
 
+/// What `compare` asks for.
 fn compare_job(alloc: Global, matches: &ArgMatches<'_>) -> Result<Job, JobFault>
     requires left { HasWord (codes "LEFT") (rows_of (found_of matches.now)) }
     requires right { HasWord (codes "RIGHT") (rows_of (found_of matches.now)) }
@@ -153,6 +156,7 @@ fn compare_job(alloc: Global, matches: &ArgMatches<'_>) -> Result<Job, JobFault>
     })
 }
 
+/// What `diff` asks for.
 fn diff_job(alloc: Global, matches: &ArgMatches<'_>) -> Result<Job, JobFault>
     requires left { HasWord (codes "LEFT") (rows_of (found_of matches.now)) }
     requires right { HasWord (codes "RIGHT") (rows_of (found_of matches.now)) }
@@ -168,6 +172,7 @@ fn diff_job(alloc: Global, matches: &ArgMatches<'_>) -> Result<Job, JobFault>
     })
 }
 
+/// What `day` asks for.
 fn day_job(alloc: Global, matches: &ArgMatches<'_>) -> Result<Job, JobFault>
     requires { HasWord (codes "YYMMDD") (rows_of (found_of matches.now)) }
     ensures { IsJobOf (codes "day", rows_of (found_of matches.now)) result }
@@ -182,6 +187,7 @@ fn day_job(alloc: Global, matches: &ArgMatches<'_>) -> Result<Job, JobFault>
     })
 }
 
+/// What `train` asks for.
 fn train_job(alloc: Global, matches: &ArgMatches<'_>) -> Result<Job, JobFault>
     requires { HasWord (codes "UID") (rows_of (found_of matches.now)) }
     ensures { IsJobOf (codes "train", rows_of (found_of matches.now)) result }
@@ -198,6 +204,7 @@ fn train_job(alloc: Global, matches: &ArgMatches<'_>) -> Result<Job, JobFault>
     })
 }
 
+/// What `explain` asks for.
 fn explain_job(alloc: Global, matches: &ArgMatches<'_>) -> Result<Job, JobFault>
     requires uid { HasWord (codes "UID") (rows_of (found_of matches.now)) }
     requires day { HasWord (codes "YYMMDD") (rows_of (found_of matches.now)) }
@@ -217,6 +224,7 @@ fn explain_job(alloc: Global, matches: &ArgMatches<'_>) -> Result<Job, JobFault>
     })
 }
 
+/// What `clashes` asks for.
 fn clashes_job(alloc: Global, matches: &ArgMatches<'_>) -> Result<Job, JobFault>
     ensures { IsJobOf (codes "clashes", rows_of (found_of matches.now)) result }
 {

@@ -25,7 +25,8 @@ returns-in-Compare-clause-fault g c =
     let right = g.R.Read.remaining (reader_of c.args.right.now) in
     let right_after = g.R.Read.remaining (reader_of call.new.right) in
     rw c.in-Compare.is (of-fault start call.result (λ bytes.
-    IsCompareRefusal c.in-Compare.asked c.in-Compare.common bytes after (call.new.right ≡ c.args.right.now) right right_after) call.ensures.fault)
+    IsCompareRefusal c.in-Compare.asked c.in-Compare.common bytes after (call.new.right ≡ c.args.right.now) right right_after)
+    call.ensures.fault)
 
 pub returns-in-Diff-clause-answer : goal.returns-in-Diff-clause-answer
 returns-in-Diff-clause-answer g c = rw c.in-Diff.is c.answer_diff.ensures.answer

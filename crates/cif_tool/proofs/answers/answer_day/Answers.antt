@@ -16,7 +16,8 @@ returns-in_err-day_listing-clause-answer g c =
     let made = c.in_err-day_listing.ensures.view in
     let x = extract_parts c.in_ok-extract.extract in
     fails _ _ _ _ made.0 0 (Unit {0}) c.day_listing.new.sink call.result f (at-fault call.result f call.ensures.1) made.1
-    (written-then (Unit {0}) (Unit {0}) _ _ f (λ view. day-answer _ x c.in_ok-extract.ensures.ok c.args.layout c.args.day made.0 view) made.2)
+    (written-then (Unit {0}) (Unit {0}) _ _ f
+    (λ view. day-answer _ x c.in_ok-extract.ensures.ok c.args.layout c.args.day made.0 view) made.2)
 
 pub returns-in_err-day_listing-clause-fault : goal.returns-in_err-day_listing-clause-fault
 returns-in_err-day_listing-clause-fault g c =

@@ -16,14 +16,16 @@ returns-in_err-explain_listing-clause-answer g c =
     let made = c.in_err-explain_listing.ensures.view in
     let x = extract_parts c.in_ok-extract.extract in
     fails _ _ _ _ made.0 0 (Unit {0}) c.explain_listing.new.sink call.result f (at-fault call.result f call.ensures.1) made.1
-    (written-then (Unit {0}) (Unit {0}) _ _ f (λ view. explain-answer _ x c.in_ok-extract.ensures.ok c.args.format c.args.uid.now c.args.day made.0 view) made.2)
+    (written-then (Unit {0}) (Unit {0}) _ _ f
+    (λ view. explain-answer _ x c.in_ok-extract.ensures.ok c.args.format c.args.uid.now c.args.day made.0 view) made.2)
 
 pub returns-in_err-explain_listing-clause-fault : goal.returns-in_err-explain_listing-clause-fault
 returns-in_err-explain_listing-clause-fault g c =
     let after = g.R.Read.remaining (reader_of c.read_extract.new.source) in
-    known-fault c.from_residual-in_err-explain_listing.result c.in_err-explain_listing.field-0.0 c.from_residual-in_err-explain_listing.ensures.1 _ _
-    (λ bytes. IsExplainRefusal c.args.day bytes after)
-    (λ bytes spelled. inr (extract_parts c.in_ok-extract.extract, spelled, c.in_err-explain_listing.ensures.fault)) c.in_ok-extract.ensures.ok
+    known-fault c.from_residual-in_err-explain_listing.result c.in_err-explain_listing.field-0.0
+    c.from_residual-in_err-explain_listing.ensures.1 _ _ (λ bytes. IsExplainRefusal c.args.day bytes after)
+    (λ bytes spelled. inr (extract_parts c.in_ok-extract.extract, spelled, c.in_err-explain_listing.ensures.fault))
+    c.in_ok-extract.ensures.ok
 
 pub returns-clause-answer : goal.returns-clause-answer
 returns-clause-answer g c =

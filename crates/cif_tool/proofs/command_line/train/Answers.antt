@@ -1,4 +1,5 @@
--- The subcommand is built call by call: two words, the options for a narrower window, those for a form and a format, and the flag for the calls.
+-- The subcommand is built call by call: two words, the options for a narrower window, those for a form and a format, and the flag
+-- for the calls.
 use Rattle.std.proofs.lemmas.Result.{IfOk-weaker}
 use Rattle.cif_tool.proofs.CommandBuilt.{argument_added, dates_added}
 use Rattle.cif_tool.proofs.command_line.train.Goals as goal

@@ -21,7 +21,8 @@ returns-in_err-right-clause-fault g c =
     let call = c.from_residual-in_err-right in
     hands call.result c.in_err-right.field-0.0 call.ensures.1 _
     (known_so _ _ _ (λ bytes s.
-    inr (extract_parts c.in_ok-left.left, s, known_so _ _ _ (λ other fault. inl fault) c.in_err-right.ensures.fault)) c.in_ok-left.ensures.ok)
+    inr (extract_parts c.in_ok-left.left, s, known_so _ _ _ (λ other fault. inl fault) c.in_err-right.ensures.fault))
+    c.in_ok-left.ensures.ok)
 
 pub returns-in_err-left-2-clause-fault : goal.returns-in_err-left-2-clause-fault
 returns-in_err-left-2-clause-fault g c =
