@@ -101,8 +101,8 @@ impl Written for Answer<'_> {
         }
     }
 
-    fn writes_of(&self, front: &[u8]) -> u64 {
-        u64::from(!front.is_empty())
+    fn writes_of(&self, prefix: &[u8]) -> u64 {
+        u64::from(!prefix.is_empty())
     }
 }
 
@@ -118,7 +118,7 @@ impl Written for Canonical<'_> {
         }
     }
 
-    fn writes_of(&self, front: &[u8]) -> u64 {
-        writes_of_lines(front)
+    fn writes_of(&self, prefix: &[u8]) -> u64 {
+        writes_of_lines(prefix)
     }
 }

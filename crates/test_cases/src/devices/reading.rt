@@ -21,17 +21,29 @@ pub(crate) fn push_read(alloc: Global, out: &mut String, case: &Case) -> io::Res
         return Ok(true);
     };
     let mut source = Source::new(reader);
+    push_call(alloc, out, case, &mut source, max_lines)?;
+    Ok(true)
+}
+
+/// Appends what the case's call reads of this source.
+fn push_call(
+    alloc: Global,
+    out: &mut String,
+    case: &Case,
+    source: &mut Source<TrialReader>,
+    max_lines: u16,
+) -> io::Result<()> {
     match case.call {
-        "lines" => push_lines(out, &mut source, max_lines)?,
+        "lines" => push_lines(out, source, max_lines)?,
         "count" => {
-            push_count(out, count_lines(&mut source, u64::from(max_lines)))?;
+            push_count(out, count_lines(source, u64::from(max_lines)))?;
             writeln!(out, "reads {}", source.reader().calls())?;
         }
         "devices" => push_devices(alloc, out, case.input.as_slice(), max_lines)?,
-        "extract" => push_extract(alloc, out, &mut source, max_lines)?,
-        _ => push_reads(out, &mut source)?,
+        "extract" => push_extract(alloc, out, source, max_lines)?,
+        _ => push_reads(out, source)?,
     }
-    Ok(true)
+    Ok(())
 }
 
 /// The reader that the case asks for.

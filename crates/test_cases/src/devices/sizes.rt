@@ -28,15 +28,27 @@ pub(crate) fn push_sizes(alloc: Global, out: &mut String, case: &Case) -> Result
         return writeln!(out, "no such lines");
     };
     for size in SIZES {
-        let mut text = front.to_vec(alloc)?;
-        for _ in 0..size {
-            text.extend_from_slice(part)?;
-        }
-        text.extend_from_slice(back)?;
         write!(out, "{size} times: ")?;
+        let text = repeated(alloc, front, part, size, back)?;
         push_size(alloc, out, text.as_slice())?;
     }
     Ok(())
+}
+
+/// The bytes, with the part so many times.
+fn repeated(
+    alloc: Global,
+    front: &[u8],
+    part: &[u8],
+    count: usize,
+    back: &[u8],
+) -> Result<Vec<u8>, AllocError> {
+    let mut text = front.to_vec(alloc)?;
+    for _ in 0..count {
+        text.extend_from_slice(part)?;
+    }
+    text.extend_from_slice(back)?;
+    Ok(text)
 }
 
 /// Appends what the bytes are read as, and whether its records make the same bytes again.

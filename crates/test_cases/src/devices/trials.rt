@@ -32,14 +32,23 @@ pub(crate) fn push_trials<T: Written>(
         }
         None => return writeln!(out, "{name}: otherwise where all bytes fit"),
     }
-    for takes in 0..len.min(ROOM) {
+    match first_touched(written, text) {
+        Some((takes, zero)) => writeln!(out, "{name}: otherwise where {takes} bytes fit ({zero})"),
+        None => writeln!(out, "{name}: {WriteFault} where fewer than {len} bytes fit"),
+    }
+}
+
+/// The first of the writers that take too few bytes which isn't let be: how many it takes, and
+/// whether it answers 0 then.
+fn first_touched<T: Written>(written: &T, text: &[u8]) -> Option<(usize, bool)> {
+    for takes in 0..text.len().min(ROOM) {
         for zero in [false, true] {
             if !is_let_be(written, text, takes, zero) {
-                return writeln!(out, "{name}: otherwise where {takes} bytes fit ({zero})");
+                return Some((takes, zero));
             }
         }
     }
-    writeln!(out, "{name}: {WriteFault} where fewer than {len} bytes fit")
+    None
 }
 
 /// How often a writer that takes all bytes of the text, and no more, is called to write them, and
@@ -62,15 +71,15 @@ fn calls_for_all<T: Written>(written: &T, text: &[u8]) -> Option<(u64, u64)> {
 fn is_let_be<T: Written>(written: &T, text: &[u8], takes: usize, zero: bool) -> bool
     requires { takes ≤ ROOM }
 {
-    let Some(front) = text.get(..takes) else {
+    let Some(prefix) = text.get(..takes) else {
         return false;
     };
     let mut sink = Sink::new(TrialWriter::new(takes, zero));
     let has_failed = written.write(&mut sink) == Err(WriteFault) && sink.failed();
     let calls = sink.writer().calls();
-    let once_more = calls == written.writes_of(front).saturating_add(1);
+    let once_more = calls == written.writes_of(prefix).saturating_add(1);
     let fails_again = written.write(&mut sink) == Err(WriteFault)
         && sink.flush() == Err(WriteFault);
-    let is_front = sink.writer().bytes() == front;
-    has_failed && once_more && fails_again && is_front && sink.writer().calls() == calls
+    let is_prefix = sink.writer().bytes() == prefix;
+    has_failed && once_more && fails_again && is_prefix && sink.writer().calls() == calls
 }

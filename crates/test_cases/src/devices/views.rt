@@ -112,9 +112,9 @@ impl Written for View<'_> {
     }
 
     /// Each line goes out by one write.
-    fn writes_of(&self, front: &[u8]) -> u64 {
+    fn writes_of(&self, prefix: &[u8]) -> u64 {
         let mut writes = 0_u64;
-        for _ in front.split_inclusive(|byte| *byte == b'\n') {
+        for _ in prefix.split_inclusive(|byte| *byte == b'\n') {
             writes = writes.saturating_add(1);
         }
         writes

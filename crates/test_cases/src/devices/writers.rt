@@ -42,11 +42,15 @@ pub(crate) fn push_flushes(alloc: Global, out: &mut String, case: &Case) -> io::
     push_outcome(out, "written", sink.write_all(case.input.as_slice()))?;
     push_outcome(out, "flushed", sink.flush())?;
     push_outcome(out, "flushed", sink.flush())?;
-    // A `BufWriter` that is dropped writes what it holds.
-    let _ = buffer.into_parts();
+    leave(buffer);
     let len = writer.bytes().len();
     writeln!(out, "{len} bytes by {} calls", writer.calls())?;
     Ok(())
+}
+
+/// Leaves what the buffer holds unwritten: a `BufWriter` that is dropped writes it.
+pub(crate) fn leave<W: io::Write + Drop>(buffer: BufWriter<W>) {
+    let _ = buffer.into_parts();
 }
 
 fn push_outcome(

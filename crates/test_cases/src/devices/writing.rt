@@ -1,6 +1,7 @@
 //! What is written.
 use crate::case::{Case, text_of};
 use crate::devices::trials::push_trials;
+use crate::devices::writers::leave;
 use crate::devices::written::{Bytes, Dated, Dates, Written, parts_of};
 use cif_columns::{DaysRun, Sink, Source, TrialWriter};
 use cif_extract::{Extract, read_extract};
@@ -87,14 +88,19 @@ pub(crate) fn push_bytes(alloc: Global, out: &mut String, bytes: &[u8]) -> io::R
 
 fn push_buffered(alloc: Global, out: &mut String, bytes: &[u8]) -> io::Result<()> {
     let mut kept = Vec::new(alloc);
-    let mut buffer = BufWriter::with_capacity(alloc, 16, &mut kept)?;
-    let mut sink = Sink::new(&mut buffer);
-    let is_written = sink.write_all(bytes).is_ok() && sink.flush().is_ok();
-    // A `BufWriter` that is dropped writes what it holds: what the flush handed on is out by now.
-    let _ = buffer.into_parts();
-    if !is_written {
+    if !are_buffered(alloc, &mut kept, bytes)? {
         writeln!(out, "the sink has failed")?;
     }
     out.push_str(text_of(kept.as_slice()))?;
     Ok(())
+}
+
+/// Writes the bytes through a buffer, and tells whether they were written.
+fn are_buffered(alloc: Global, kept: &mut Vec<u8>, bytes: &[u8]) -> io::Result<bool> {
+    let mut buffer = BufWriter::with_capacity(alloc, 16, kept)?;
+    let mut sink = Sink::new(&mut buffer);
+    let are_written = sink.write_all(bytes).is_ok() && sink.flush().is_ok();
+    // What the flush handed on is out by now.
+    leave(buffer);
+    Ok(are_written)
 }

@@ -13,7 +13,7 @@ pub(crate) trait Written {
     fn write<W: WriteDevice>(&self, sink: &mut Sink<W>) -> Result<(), WriteFault>;
 
     /// By how many writes this prefix of its bytes goes out, to a writer that takes no more.
-    fn writes_of(&self, front: &[u8]) -> u64;
+    fn writes_of(&self, prefix: &[u8]) -> u64;
 }
 
 /// Bytes as they are, at once.
@@ -25,17 +25,17 @@ impl Written for Bytes<'_> {
         sink.write_all(self.0)
     }
 
-    fn writes_of(&self, front: &[u8]) -> u64 {
-        u64::from(!front.is_empty())
+    fn writes_of(&self, prefix: &[u8]) -> u64 {
+        u64::from(!prefix.is_empty())
     }
 }
 
 /// By how many writes this prefix of lines goes out: one for each line, but one for all that follow
 /// a BS.
-pub(crate) fn writes_of_lines(front: &[u8]) -> u64 {
+pub(crate) fn writes_of_lines(prefix: &[u8]) -> u64 {
     let mut writes = 0_u64;
     let mut goes_on = false;
-    for line in front.chunks(LINE_BYTES) {
+    for line in prefix.chunks(LINE_BYTES) {
         if !goes_on {
             writes = writes.saturating_add(1);
         }
@@ -107,8 +107,8 @@ impl Written for Dated<'_> {
         }
     }
 
-    fn writes_of(&self, front: &[u8]) -> u64 {
-        writes_of_lines(front)
+    fn writes_of(&self, prefix: &[u8]) -> u64 {
+        writes_of_lines(prefix)
     }
 }
 

@@ -19,8 +19,17 @@ pub(crate) fn damaged(
     for _ in 0..numbers.below(4) {
         damage_lines(&mut lines, others.as_slice(), numbers)?;
     }
+    damaged_bytes(alloc, lines.as_slice(), numbers)
+}
+
+/// The bytes of these lines with up to two damages.
+fn damaged_bytes(
+    alloc: Global,
+    lines: &[&[u8]],
+    numbers: &mut Numbers,
+) -> Result<Vec<u8>, AllocError> {
     let mut bytes = Vec::new(alloc);
-    for line in &lines {
+    for line in lines {
         bytes.extend_from_slice(line)?;
     }
     for _ in 0..numbers.below(3) {

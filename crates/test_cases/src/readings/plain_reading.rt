@@ -3,7 +3,7 @@
 //! the records' own reading.
 use cif_columns::{Line, Refusal};
 use cif_extract::{Body, Call, Calls, Extract, Schedule};
-use cif_records::{Basic, Kind, Record, read_record};
+use cif_records::{Association, Basic, Header, Kind, Record, Tiploc, read_record};
 use std::alloc::{AllocError, Global};
 
 /// The contents of the lines: what stands before each line feed, without one carriage return
@@ -172,42 +172,75 @@ fn is_next(compared: &mut Compared, record: Record) -> bool {
     }
 }
 
+/// What of an extract hasn't been compared yet, and the body that is being compared, if there is one.
+#[derive(Drop)]
+struct Rest<'a> {
+    header: &'a Header,
+    tiplocs: &'a [Tiploc],
+    associations: &'a [Association],
+    schedules: &'a [Schedule],
+    compared: Option<Compared<'a>>,
+}
+
+impl<'a> Rest<'a> {
+    /// Passes over what the record stands for, and tells whether it is that.
+    fn passes(&mut self, record: Record) -> bool {
+        match record {
+            Record::Header(header) => *self.header == header,
+            Record::Tiploc(tiploc) => match self.tiplocs {
+                [first, rest @ ..] => {
+                    self.tiplocs = rest;
+                    *first == tiploc
+                }
+                [] => false,
+            },
+            Record::Association(association) => match self.associations {
+                [first, rest @ ..] => {
+                    self.associations = rest;
+                    *first == association
+                }
+                [] => false,
+            },
+            Record::Basic(basic) => self.passes_basic(&basic),
+            Record::Trailer => true,
+            record => match &mut self.compared {
+                Some(compared) => is_next(compared, record),
+                None => true,
+            },
+        }
+    }
+
+    /// The same of a schedule by its BS, whose body is compared from then on.
+    fn passes_basic(&mut self, basic: &Basic) -> bool {
+        let [first, rest @ ..] = self.schedules else {
+            return false;
+        };
+        self.schedules = rest;
+        self.compared = first.body.as_ref().map(|body| Compared {
+            body,
+            calls: body.calls(),
+            has_extra: false,
+        });
+        is_of_basic(first, basic)
+    }
+}
+
 /// Whether the extract has the records of the contents, in their order, and no others.
 pub(crate) fn has_records_of(extract: &Extract, contents: &[&[u8]]) -> bool {
-    let mut tiplocs = extract.tiplocs.iter();
-    let mut associations = extract.associations.iter();
-    let mut schedules = extract.schedules.iter();
-    let mut compared: Option<Compared> = None;
+    let mut rest = Rest {
+        header: &extract.header,
+        tiplocs: extract.tiplocs.as_slice(),
+        associations: extract.associations.as_slice(),
+        schedules: extract.schedules.as_slice(),
+        compared: None,
+    };
     for content in contents {
         let Some(record) = record_at(content) else {
             return false;
         };
-        let is_same = match record {
-            Record::Header(header) => extract.header == header,
-            Record::Tiploc(tiploc) => tiplocs.next().is_some_and(|it| *it == tiploc),
-            Record::Association(association) => {
-                associations.next().is_some_and(|it| *it == association)
-            }
-            Record::Basic(basic) => match schedules.next() {
-                Some(schedule) => {
-                    compared = schedule.body.as_ref().map(|body| Compared {
-                        body,
-                        calls: body.calls(),
-                        has_extra: false,
-                    });
-                    is_of_basic(schedule, &basic)
-                }
-                None => false,
-            },
-            Record::Trailer => true,
-            record => match &mut compared {
-                Some(compared) => is_next(compared, record),
-                None => true,
-            },
-        };
-        if !is_same {
+        if !rest.passes(record) {
             return false;
         }
     }
-    tiplocs.next().is_none() && associations.next().is_none() && schedules.next().is_none()
+    rest.tiplocs.is_empty() && rest.associations.is_empty() && rest.schedules.is_empty()
 }
