@@ -4,7 +4,7 @@ ghost use Rattle.cif_columns.specs.Sink.{Writes};
 ghost use Rattle.cif_columns.specs.Source.{reader_of};
 ghost use Rattle.cif_columns.specs.declared.line_reader.TheConstants.{MAX_LINES};
 ghost use Rattle.cif_extract.specs.ExtractParts.{ExtractParts, extract_parts};
-ghost use Rattle.cif_extract.specs.ReadFault.{FaultReads, LeavesNothing};
+ghost use Rattle.cif_extract.specs.ReadFault.{FaultOf, FaultReads, LeavesNothing};
 ghost use Rattle.cif_canon.specs.Accepted.{IsAcceptedWithin, SpellsNarrowed};
 ghost use Rattle.cif_canon.specs.Canon.{IsCanonOf};
 ghost use Rattle.cif_canon.specs.Fault.{IsDeviceOrMemory, IsNormaliseFault, IsOfCheck};
@@ -40,8 +40,8 @@ pub fn normalise<R: ReadDevice, W: WriteDevice>(
         × FaultWrites W.contents W.write_errors text sink.old sink.new result
         × IfSome (R.remaining (reader_of source.old)) (λ bytes.
         Normalises form asked.now max_lines bytes text result) }
-    ensures fault { IfSome (R.remaining (reader_of source.old)) (λ bytes. IfErr result
-        (IsNormaliseFault max_lines asked.now bytes (R.remaining (reader_of source.new)))) }
+    ensures fault { FaultOf R.remaining (IsNormaliseFault max_lines asked.now)
+        source.old source.new result }
     ensures accepted { IfSome (R.remaining (reader_of source.old)) (λ bytes. (x : ExtractParts)
         → IsAcceptedWithin max_lines asked.now x bytes → IfErr result IsDeviceOrMemory) }
     ensures answers { IfErr result (IsOfNormalise max_lines) }
@@ -68,8 +68,8 @@ pub fn normalise_keeping<R: ReadDevice, W: WriteDevice>(
         × FaultWrites W.contents W.write_errors text sink.old sink.new result
         × IfSome (R.remaining (reader_of source.old)) (λ bytes.
         Normalises form asked.now max_lines bytes text result) }
-    ensures fault { IfSome (R.remaining (reader_of source.old)) (λ bytes. IfErr result
-        (IsNormaliseFault max_lines asked.now bytes (R.remaining (reader_of source.new)))) }
+    ensures fault { FaultOf R.remaining (IsNormaliseFault max_lines asked.now)
+        source.old source.new result }
     ensures accepted { IfSome (R.remaining (reader_of source.old)) (λ bytes. (x : ExtractParts)
         → IsAcceptedWithin max_lines asked.now x bytes → IfErr result IsDeviceOrMemory) }
     ensures answers { IfErr result (IsOfNormalise max_lines) }
@@ -95,8 +95,8 @@ pub fn check<R: ReadDevice>(
     requires within { max_lines ≤ MAX_LINES }
     ensures ok { IfSome (R.remaining (reader_of source.old)) (λ bytes. IfOk result (λ counts.
         (text : List ℕ) × IsNormalised form asked.now max_lines bytes text counts)) }
-    ensures fault { IfSome (R.remaining (reader_of source.old)) (λ bytes. IfErr result
-        (IsNormaliseFault max_lines asked.now bytes (R.remaining (reader_of source.new)))) }
+    ensures fault { FaultOf R.remaining (IsNormaliseFault max_lines asked.now)
+        source.old source.new result }
     ensures accepted { IfSome (R.remaining (reader_of source.old)) (λ bytes. (x : ExtractParts)
         → IsAcceptedWithin max_lines asked.now x bytes → IfErr result IsDeviceOrMemory) }
     ensures answers { IfErr result (IsOfCheck max_lines) }
@@ -119,8 +119,8 @@ pub fn check_keeping<R: ReadDevice>(
     requires within { max_lines ≤ MAX_LINES }
     ensures ok { IfSome (R.remaining (reader_of source.old)) (λ bytes. IfOk result (λ counts.
         (text : List ℕ) × IsNormalised form asked.now max_lines bytes text counts)) }
-    ensures fault { IfSome (R.remaining (reader_of source.old)) (λ bytes. IfErr result
-        (IsNormaliseFault max_lines asked.now bytes (R.remaining (reader_of source.new)))) }
+    ensures fault { FaultOf R.remaining (IsNormaliseFault max_lines asked.now)
+        source.old source.new result }
     ensures accepted { IfSome (R.remaining (reader_of source.old)) (λ bytes. (x : ExtractParts)
         → IsAcceptedWithin max_lines asked.now x bytes → IfErr result IsDeviceOrMemory) }
     ensures answers { IfErr result (IsOfCheck max_lines) }
@@ -142,8 +142,8 @@ fn read_narrowed<R: ReadDevice>(
     requires within { max_lines ≤ MAX_LINES }
     ensures ok { IfSome (R.remaining (reader_of source.old)) (λ bytes. IfOk result (λ extract.
         SpellsNarrowed max_lines asked.now (extract_parts extract) bytes)) }
-    ensures fault { IfSome (R.remaining (reader_of source.old)) (λ bytes. IfErr result
-        (IsNormaliseFault max_lines asked.now bytes (R.remaining (reader_of source.new)))) }
+    ensures fault { FaultOf R.remaining (IsNormaliseFault max_lines asked.now)
+        source.old source.new result }
     ensures answers { IfErr result (IsOfCheck max_lines) }
     ensures source { FaultReads R.read_errors source.old source.new result }
     ensures end { LeavesNothing R.remaining source.old source.new result }

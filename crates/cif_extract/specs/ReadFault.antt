@@ -1,5 +1,5 @@
 -- Why bytes are no extract, or can't be read.
-use Rattle.std.specs.Prelude.{◌≡◌, ◌≤◌, ◌+◌, ⊤, ℕ, List, [], Option, Some, IfSome, IsSomeAnd, Result, Ok, Err}
+use Rattle.std.specs.Prelude.{◌≡◌, ◌≤◌, ◌+◌, ⊤, ℕ, List, [], Option, Some, IfErr, IfSome, IsSomeAnd, Result, Ok, Err}
 use Rattle.cif_columns.specs.Source.{HasFailedToRead, HasReadOn, reader_of}
 use Rattle.cif_columns.specs.declared.source.Source.{Source}
 use Rattle.cif_extract.specs.ExtractParts.{ExtractParts, extract_parts}
@@ -39,6 +39,12 @@ abbrev pub FaultReads : {R A : Type 0} → (R → Option ℕ) → Source R → S
 FaultReads errors old new (Ok done) = HasReadOn errors old new
 FaultReads errors old new (Err Read) = HasFailedToRead errors old new
 FaultReads errors old new (Err fault) = HasReadOn errors old new
+
+-- where the bytes that a reader gives are known, a fault is one of these for them and for what the reader has left then
+abbrev pub FaultOf : {R A F : Type 0} → (R → Option (List ℕ)) → (List ℕ → Option (List ℕ) → F → Type 0) → Source R → Source R →
+    Result A F → Type 0
+FaultOf remaining IsFault old new result =
+    IfSome (remaining (reader_of old)) (λ bytes. IfErr result (IsFault bytes (remaining (reader_of new))))
 
 -- where a call answers, nothing is left of what the reader had
 abbrev pub LeavesNothing : {R A E : Type 0} → (R → Option (List ℕ)) → Source R → Source R → Result A E → Type 0

@@ -5,7 +5,7 @@ ghost use Rattle.cif_columns.specs.Line.{IsLine};
 ghost use Rattle.cif_columns.specs.Source.{reader_of, source_failed};
 ghost use Rattle.cif_columns.specs.declared.line_reader.TheConstants.{MAX_LINES};
 ghost use Rattle.cif_extract.specs.ExtractParts.{ExtractParts, extract_parts};
-ghost use Rattle.cif_extract.specs.ReadFault.{FaultReads, IsOfReading, IsReadAs, IsReadFault};
+ghost use Rattle.cif_extract.specs.ReadFault.{FaultOf, FaultReads, IsOfReading, IsReadAs, IsReadFault};
 ghost use Rattle.cif_extract.specs.ReadFault.{LeavesNothing};
 ghost use Rattle.cif_extract.specs.SpellsExtract.{BytesSpellWithin};
 ghost use Rattle.cif_records.specs.Association.{association_refusal};
@@ -41,8 +41,7 @@ pub fn read_extract<R: ReadDevice>(
         BytesSpellWithin max_lines bytes (extract_parts extract))) }
     ensures only { IfSome (R.remaining (reader_of source.old)) (λ bytes. (x : ExtractParts)
         → BytesSpellWithin max_lines bytes x → IsReadAs x result) }
-    ensures fault { IfSome (R.remaining (reader_of source.old)) (λ bytes. IfErr result
-        (IsReadFault max_lines bytes (R.remaining (reader_of source.new)))) }
+    ensures fault { FaultOf R.remaining (IsReadFault max_lines) source.old source.new result }
     ensures answers { IfErr result (IsOfReading max_lines) }
     ensures end { LeavesNothing R.remaining source.old source.new result }
     ensures endless { IfOk result (λ _. source_failed source.old ≡ false) }

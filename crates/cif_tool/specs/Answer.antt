@@ -1,12 +1,12 @@
 -- What the commands answer: a text on the output, and a status.
 use Rattle.std.specs.Prelude.{◌≡◌, ◌⊎◌, ⊤, ℕ, Bool, List, Option, IfSome, Result, Ok, Err, []}
 use Rattle.cif_columns.specs.Sink.{writer_of}
-use Rattle.cif_columns.specs.Source.{HasReadOn}
+use Rattle.cif_columns.specs.Source.{HasReadOn, reader_of}
 use Rattle.cif_columns.specs.declared.line_reader.TheConstants.{MAX_LINES}
 use Rattle.cif_columns.specs.declared.sink.Sink.{Sink}
 use Rattle.cif_columns.specs.declared.source.Source.{Source}
 use Rattle.cif_extract.specs.ExtractParts.{ExtractParts}
-use Rattle.cif_extract.specs.ReadFault.{FaultReads, IsReadFault, LeavesNothing}
+use Rattle.cif_extract.specs.ReadFault.{FaultOf, FaultReads, IsReadFault, LeavesNothing}
 use Rattle.cif_extract.specs.SpellsExtract.{BytesSpellWithin}
 use Rattle.cif_extract.specs.declared.fault.Fault.{Fault}
 use Rattle.cif_extract.specs.declared.fault.Fault.TheVariants.{Memory, Write}
@@ -27,7 +27,7 @@ use Rattle.cif_canon.specs.declared.comparison.Comparison.{Comparison}
 use Rattle.cif_canon.specs.declared.canonical_form.Counts.{Counts}
 use Rattle.cif_canon.specs.declared.layout.Format.{Format}
 use Rattle.cif_canon.specs.declared.layout.Layout.{Layout}
-use Rattle.cif_tool.specs.Pair.{IsCompareRefusal, SpellPair}
+use Rattle.cif_tool.specs.Pair.{FaultOfBoth, SpellPair}
 use Rattle.cif_tool.specs.Status.{outcome_of}
 use Rattle.cif_tool.specs.declared.job.Job.{Job}
 use Rattle.cif_tool.specs.declared.job.Job.TheVariants.{Check, Clashes, Compare, Day, Diff, Explain, Normalise, Train}
@@ -45,6 +45,16 @@ pub record Answers {W : Type 0} (contents : W → Option (List ℕ)) (errors : W
   pub text : List ℕ
   pub writes : FaultWrites contents errors text old new result
   pub answer : IfAnswered result (IsAnswer text)
+
+-- where the bytes that a reader gives are known, this answers them
+abbrev pub OfInput : {R : Type 0} → (R → Option (List ℕ)) → (List ℕ → List ℕ → ℕ → Type 0) → Source R → List ℕ → ℕ → Type 0
+OfInput remaining IsAnswer source text status = IfSome (remaining (reader_of source)) (λ bytes. IsAnswer bytes text status)
+
+-- and the same of two readers
+abbrev pub OfBoth : {R : Type 0} → (R → Option (List ℕ)) → (List ℕ → List ℕ → List ℕ → ℕ → Type 0) → Source R → Source R → List ℕ →
+    ℕ → Type 0
+OfBoth remaining IsAnswer left right =
+    OfInput remaining (λ left_bytes text status. OfInput remaining (IsAnswer left_bytes) right text status) left
 
 -- `normalise` answers these bytes by their canonical text.
 pub record IsNormaliseAnswer (form : Form) (asked : Asked) (bytes text : List ℕ) (status : ℕ) : Type 0 where
@@ -156,38 +166,36 @@ ReadsInputs remaining errors (Diff left_file right_file asked common) left left_
 ReadsInputs remaining errors _ source source_new right right_new result =
     FaultReads errors source source_new result × LeavesNothing remaining source source_new result × (right_new ≡ right)
 
--- What the job's command answers, where `start` is what the reader of its input gives, and `right` what that of a second one gives.
-abbrev pub IsJobAnswer : Job → Option (List ℕ) → Option (List ℕ) → List ℕ → ℕ → Type 0
-IsJobAnswer (Normalise file asked form) start right text status =
-    IfSome start (λ bytes. IsNormaliseAnswer form asked bytes text status)
-IsJobAnswer (Check file asked form) start right text status = IfSome start (λ bytes. IsCheckAnswer form asked bytes text status)
-IsJobAnswer (Compare left_file right_file asked common) start right text status =
-    IfSome start (λ left_bytes. IfSome right (λ right_bytes. IsCompareAnswer asked common left_bytes right_bytes text status))
-IsJobAnswer (Diff left_file right_file asked common) start right text status =
-    IfSome start (λ left_bytes. IfSome right (λ right_bytes. IsDiffAnswer asked common left_bytes right_bytes text status))
-IsJobAnswer (Day day file layout) start right text status = IfSome start (λ bytes. IsDayAnswer layout day bytes text status)
-IsJobAnswer (Train uid file asked form layout) start right text status =
-    IfSome start (λ bytes. IsTrainAnswer layout form asked uid bytes text status)
-IsJobAnswer (Explain uid day file format) start right text status =
-    IfSome start (λ bytes. IsExplainAnswer format uid day bytes text status)
-IsJobAnswer (Clashes file asked) start right text status = IfSome start (λ bytes. IsClashesAnswer asked bytes text status)
+-- what the job's command answers of what the readers of its input and of a second one give
+abbrev pub IsJobAnswer : {R : Type 0} → (R → Option (List ℕ)) → Job → Source R → Source R → List ℕ → ℕ → Type 0
+IsJobAnswer remaining (Normalise file asked form) source right = OfInput remaining (IsNormaliseAnswer form asked) source
+IsJobAnswer remaining (Check file asked form) source right = OfInput remaining (IsCheckAnswer form asked) source
+IsJobAnswer remaining (Compare left_file right_file asked common) source right =
+    OfBoth remaining (IsCompareAnswer asked common) source right
+IsJobAnswer remaining (Diff left_file right_file asked common) source right =
+    OfBoth remaining (IsDiffAnswer asked common) source right
+IsJobAnswer remaining (Day day file layout) source right = OfInput remaining (IsDayAnswer layout day) source
+IsJobAnswer remaining (Train uid file asked form layout) source right =
+    OfInput remaining (IsTrainAnswer layout form asked uid) source
+IsJobAnswer remaining (Explain uid day file format) source right = OfInput remaining (IsExplainAnswer format uid day) source
+IsJobAnswer remaining (Clashes file asked) source right = OfInput remaining (IsClashesAnswer asked) source
 
--- Why it has no answer, where `after` and `right_after` are what the readers have left then, and Untouched says that the second wasn't
--- touched.
-abbrev pub IsJobRefusal : Job → Option (List ℕ) → Option (List ℕ) → Type 0 → Option (List ℕ) → Option (List ℕ) → Fault → Type 0
-IsJobRefusal (Normalise file asked form) start after Untouched right right_after fault =
-    IfSome start (λ bytes. IsNormaliseFault MAX_LINES asked bytes after fault)
-IsJobRefusal (Check file asked form) start after Untouched right right_after fault =
-    IfSome start (λ bytes. IsNormaliseFault MAX_LINES asked bytes after fault)
-IsJobRefusal (Compare left_file right_file asked common) start after Untouched right right_after fault =
-    IfSome start (λ bytes. IsCompareRefusal asked common bytes after Untouched right right_after fault)
-IsJobRefusal (Diff left_file right_file asked common) start after Untouched right right_after fault =
-    IfSome start (λ bytes. IsCompareRefusal asked common bytes after Untouched right right_after fault)
-IsJobRefusal (Day day file layout) start after Untouched right right_after fault =
-    IfSome start (λ bytes. IsDayRefusal day bytes after fault)
-IsJobRefusal (Train uid file asked form layout) start after Untouched right right_after fault =
-    IfSome start (λ bytes. IsNormaliseFault MAX_LINES asked bytes after fault)
-IsJobRefusal (Explain uid day file format) start after Untouched right right_after fault =
-    IfSome start (λ bytes. IsExplainRefusal day bytes after fault)
-IsJobRefusal (Clashes file asked) start after Untouched right right_after fault =
-    IfSome start (λ bytes. IsClashesRefusal asked bytes after fault)
+-- why it has no answer
+abbrev pub IsJobFault : {R A : Type 0} → (R → Option (List ℕ)) → Job → Source R → Source R → Source R → Source R →
+    Result A Fault → Type 0
+IsJobFault remaining (Normalise file asked form) source source_new right right_new result =
+    FaultOf remaining (IsNormaliseFault MAX_LINES asked) source source_new result
+IsJobFault remaining (Check file asked form) source source_new right right_new result =
+    FaultOf remaining (IsNormaliseFault MAX_LINES asked) source source_new result
+IsJobFault remaining (Compare left_file right_file asked common) source source_new right right_new result =
+    FaultOfBoth remaining asked common source source_new right right_new result
+IsJobFault remaining (Diff left_file right_file asked common) source source_new right right_new result =
+    FaultOfBoth remaining asked common source source_new right right_new result
+IsJobFault remaining (Day day file layout) source source_new right right_new result =
+    FaultOf remaining (IsDayRefusal day) source source_new result
+IsJobFault remaining (Train uid file asked form layout) source source_new right right_new result =
+    FaultOf remaining (IsNormaliseFault MAX_LINES asked) source source_new result
+IsJobFault remaining (Explain uid day file format) source source_new right right_new result =
+    FaultOf remaining (IsExplainRefusal day) source source_new result
+IsJobFault remaining (Clashes file asked) source source_new right right_new result =
+    FaultOf remaining (IsClashesRefusal asked) source source_new result

@@ -1,8 +1,10 @@
 -- Two extracts, in a window that is asked for of both: what `compare` and `diff` read.
-use Rattle.std.specs.Prelude.{◌≡◌, ◌⊎◌, ℕ, Bool, true, false, List, Option, Some, IfSome, max, min, unwrap_or}
+use Rattle.std.specs.Prelude.{◌≡◌, ◌⊎◌, ℕ, Bool, true, false, List, Option, Some, IfSome, Result, max, min, unwrap_or}
+use Rattle.cif_columns.specs.Source.{reader_of}
 use Rattle.cif_columns.specs.declared.line_reader.TheConstants.{MAX_LINES}
+use Rattle.cif_columns.specs.declared.source.Source.{Source}
 use Rattle.cif_extract.specs.ExtractParts.{ExtractParts}
-use Rattle.cif_extract.specs.ReadFault.{IsReadFault}
+use Rattle.cif_extract.specs.ReadFault.{FaultOf, IsReadFault}
 use Rattle.cif_extract.specs.SpellsExtract.{BytesSpellWithin}
 use Rattle.cif_extract.specs.declared.fault.Fault.{Fault}
 use Rattle.cif_extract.specs.declared.fault.Fault.TheVariants.{Write}
@@ -60,3 +62,10 @@ IsCompareRefusal asked common bytes after Untouched right right_after fault =
     (IsReadFault MAX_LINES bytes after fault × Untouched)
     ⊎ ((left : ExtractParts) × BytesSpellWithin MAX_LINES bytes left
     × IfSome right (λ right_bytes. IsRightRefusal asked common left right_bytes right_after fault))
+
+-- where the bytes that the left reader gives are known, a fault is why there is no answer to them and to what the right one gives
+abbrev pub FaultOfBoth : {R A : Type 0} → (R → Option (List ℕ)) → Asked → Bool → Source R → Source R → Source R → Source R →
+    Result A Fault → Type 0
+FaultOfBoth remaining asked common left left_new right right_new result =
+    FaultOf remaining (λ bytes after fault. IsCompareRefusal asked common bytes after (right_new ≡ right) (remaining (reader_of right))
+    (remaining (reader_of right_new)) fault) left left_new result

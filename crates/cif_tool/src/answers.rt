@@ -1,17 +1,16 @@
 //! What each command answers, for any devices, and which of them a job asks for.
-ghost use Rattle.std.specs.Prelude.{◌≡◌, [], IfErr, IfOk, IfSome};
+ghost use Rattle.std.specs.Prelude.{◌≡◌, [], IfErr, IfOk};
 ghost use Rattle.cif_canon.specs.Fault.{IsNormaliseFault};
 ghost use Rattle.cif_columns.specs.Sink.{Writes};
-ghost use Rattle.cif_columns.specs.Source.{reader_of};
 ghost use Rattle.cif_columns.specs.declared.line_reader.TheConstants.{MAX_LINES};
-ghost use Rattle.cif_extract.specs.ReadFault.{FaultReads, LeavesNothing};
+ghost use Rattle.cif_extract.specs.ReadFault.{FaultOf, FaultReads, LeavesNothing};
 ghost use Rattle.cif_extract.specs.declared.fault.Fault.TheVariants.{Write};
-ghost use Rattle.cif_tool.specs.Answer.{Answers, IsCheckAnswer, IsCompareAnswer, IsClashesAnswer};
-ghost use Rattle.cif_tool.specs.Answer.{IsClashesRefusal, IsDayAnswer, IsDayRefusal, IsDiffAnswer};
-ghost use Rattle.cif_tool.specs.Answer.{IsExplainAnswer, IsExplainRefusal, IsHandedOn};
-ghost use Rattle.cif_tool.specs.Answer.{IsNormaliseAnswer, IsTrainAnswer, ReadsBoth, IsJobAnswer};
-ghost use Rattle.cif_tool.specs.Answer.{IsJobRefusal, ReadsInputs};
-ghost use Rattle.cif_tool.specs.Pair.{IsCompareRefusal};
+ghost use Rattle.cif_tool.specs.Answer.{Answers, IsCheckAnswer, IsClashesAnswer, IsClashesRefusal};
+ghost use Rattle.cif_tool.specs.Answer.{IsCompareAnswer, IsDayAnswer, IsDayRefusal, IsDiffAnswer};
+ghost use Rattle.cif_tool.specs.Answer.{IsExplainAnswer, IsExplainRefusal, IsHandedOn, IsJobAnswer};
+ghost use Rattle.cif_tool.specs.Answer.{IsJobFault, IsNormaliseAnswer, IsTrainAnswer, OfBoth, OfInput};
+ghost use Rattle.cif_tool.specs.Answer.{ReadsBoth, ReadsInputs};
+ghost use Rattle.cif_tool.specs.Pair.{FaultOfBoth};
 
 use crate::job::Job;
 use crate::pair::{narrowed, read_pair};
@@ -35,10 +34,10 @@ pub fn answer_normalise<R: ReadDevice, W: WriteDevice>(
     form: Form,
 ) -> Result<u8, Fault>
     ensures answer { Answers W.contents W.write_errors
-        (λ text status. IfSome (R.remaining (reader_of source.old)) (λ bytes.
-        IsNormaliseAnswer form asked.now bytes text status)) sink.old sink.new result }
-    ensures fault { IfSome (R.remaining (reader_of source.old)) (λ bytes. IfErr result
-        (IsNormaliseFault MAX_LINES asked.now bytes (R.remaining (reader_of source.new)))) }
+        (OfInput R.remaining (IsNormaliseAnswer form asked.now) source.old)
+        sink.old sink.new result }
+    ensures fault { FaultOf R.remaining (IsNormaliseFault MAX_LINES asked.now)
+        source.old source.new result }
     ensures source { FaultReads R.read_errors source.old source.new result }
     ensures end { LeavesNothing R.remaining source.old source.new result }
     ensures handed_on { IsHandedOn W.holds_nothing sink.new result }
@@ -60,10 +59,10 @@ pub fn answer_check<R: ReadDevice, W: WriteDevice>(
     form: Form,
 ) -> Result<u8, Fault>
     ensures answer { Answers W.contents W.write_errors
-        (λ text status. IfSome (R.remaining (reader_of source.old)) (λ bytes.
-        IsCheckAnswer form asked.now bytes text status)) sink.old sink.new result }
-    ensures fault { IfSome (R.remaining (reader_of source.old)) (λ bytes. IfErr result
-        (IsNormaliseFault MAX_LINES asked.now bytes (R.remaining (reader_of source.new)))) }
+        (OfInput R.remaining (IsCheckAnswer form asked.now) source.old)
+        sink.old sink.new result }
+    ensures fault { FaultOf R.remaining (IsNormaliseFault MAX_LINES asked.now)
+        source.old source.new result }
     ensures source { FaultReads R.read_errors source.old source.new result }
     ensures end { LeavesNothing R.remaining source.old source.new result }
     ensures handed_on { IsHandedOn W.holds_nothing sink.new result }
@@ -86,14 +85,10 @@ pub fn answer_compare<R: ReadDevice, W: WriteDevice>(
     common: bool,
 ) -> Result<u8, Fault>
     ensures answer { Answers W.contents W.write_errors
-        (λ text status. IfSome (R.remaining (reader_of left.old)) (λ left_bytes.
-        IfSome (R.remaining (reader_of right.old)) (λ right_bytes.
-        IsCompareAnswer asked.now common left_bytes right_bytes text status)))
+        (OfBoth R.remaining (IsCompareAnswer asked.now common) left.old right.old)
         sink.old sink.new result }
-    ensures fault { IfSome (R.remaining (reader_of left.old)) (λ bytes. IfErr result
-        (IsCompareRefusal asked.now common bytes (R.remaining (reader_of left.new))
-        (right.new ≡ right.old) (R.remaining (reader_of right.old))
-        (R.remaining (reader_of right.new)))) }
+    ensures fault { FaultOfBoth R.remaining asked.now common
+        left.old left.new right.old right.new result }
     ensures sources { ReadsBoth R.read_errors left.old left.new right.old right.new result }
     ensures left_end { LeavesNothing R.remaining left.old left.new result }
     ensures right_end { LeavesNothing R.remaining right.old right.new result }
@@ -116,14 +111,10 @@ pub fn answer_diff<R: ReadDevice, W: WriteDevice>(
     common: bool,
 ) -> Result<u8, Fault>
     ensures answer { Answers W.contents W.write_errors
-        (λ text status. IfSome (R.remaining (reader_of left.old)) (λ left_bytes.
-        IfSome (R.remaining (reader_of right.old)) (λ right_bytes.
-        IsDiffAnswer asked.now common left_bytes right_bytes text status)))
+        (OfBoth R.remaining (IsDiffAnswer asked.now common) left.old right.old)
         sink.old sink.new result }
-    ensures fault { IfSome (R.remaining (reader_of left.old)) (λ bytes. IfErr result
-        (IsCompareRefusal asked.now common bytes (R.remaining (reader_of left.new))
-        (right.new ≡ right.old) (R.remaining (reader_of right.old))
-        (R.remaining (reader_of right.new)))) }
+    ensures fault { FaultOfBoth R.remaining asked.now common
+        left.old left.new right.old right.new result }
     ensures sources { ReadsBoth R.read_errors left.old left.new right.old right.new result }
     ensures left_end { LeavesNothing R.remaining left.old left.new result }
     ensures right_end { LeavesNothing R.remaining right.old right.new result }
@@ -145,10 +136,9 @@ pub fn answer_day<R: ReadDevice, W: WriteDevice>(
     layout: Layout,
 ) -> Result<u8, Fault>
     ensures answer { Answers W.contents W.write_errors
-        (λ text status. IfSome (R.remaining (reader_of source.old)) (λ bytes.
-        IsDayAnswer layout day bytes text status)) sink.old sink.new result }
-    ensures fault { IfSome (R.remaining (reader_of source.old)) (λ bytes. IfErr result
-        (IsDayRefusal day bytes (R.remaining (reader_of source.new)))) }
+        (OfInput R.remaining (IsDayAnswer layout day) source.old)
+        sink.old sink.new result }
+    ensures fault { FaultOf R.remaining (IsDayRefusal day) source.old source.new result }
     ensures source { FaultReads R.read_errors source.old source.new result }
     ensures end { LeavesNothing R.remaining source.old source.new result }
     ensures handed_on { IsHandedOn W.holds_nothing sink.new result }
@@ -169,10 +159,10 @@ pub fn answer_train<R: ReadDevice, W: WriteDevice>(
     layout: Layout,
 ) -> Result<u8, Fault>
     ensures answer { Answers W.contents W.write_errors
-        (λ text status. IfSome (R.remaining (reader_of source.old)) (λ bytes.
-        IsTrainAnswer layout form asked.now uid.now bytes text status)) sink.old sink.new result }
-    ensures fault { IfSome (R.remaining (reader_of source.old)) (λ bytes. IfErr result
-        (IsNormaliseFault MAX_LINES asked.now bytes (R.remaining (reader_of source.new)))) }
+        (OfInput R.remaining (IsTrainAnswer layout form asked.now uid.now) source.old)
+        sink.old sink.new result }
+    ensures fault { FaultOf R.remaining (IsNormaliseFault MAX_LINES asked.now)
+        source.old source.new result }
     ensures source { FaultReads R.read_errors source.old source.new result }
     ensures end { LeavesNothing R.remaining source.old source.new result }
     ensures handed_on { IsHandedOn W.holds_nothing sink.new result }
@@ -192,10 +182,9 @@ pub fn answer_explain<R: ReadDevice, W: WriteDevice>(
     format: Format,
 ) -> Result<u8, Fault>
     ensures answer { Answers W.contents W.write_errors
-        (λ text status. IfSome (R.remaining (reader_of source.old)) (λ bytes.
-        IsExplainAnswer format uid.now day bytes text status)) sink.old sink.new result }
-    ensures fault { IfSome (R.remaining (reader_of source.old)) (λ bytes. IfErr result
-        (IsExplainRefusal day bytes (R.remaining (reader_of source.new)))) }
+        (OfInput R.remaining (IsExplainAnswer format uid.now day) source.old)
+        sink.old sink.new result }
+    ensures fault { FaultOf R.remaining (IsExplainRefusal day) source.old source.new result }
     ensures source { FaultReads R.read_errors source.old source.new result }
     ensures end { LeavesNothing R.remaining source.old source.new result }
     ensures handed_on { IsHandedOn W.holds_nothing sink.new result }
@@ -213,10 +202,9 @@ pub fn answer_clashes<R: ReadDevice, W: WriteDevice>(
     asked: &Asked,
 ) -> Result<u8, Fault>
     ensures answer { Answers W.contents W.write_errors
-        (λ text status. IfSome (R.remaining (reader_of source.old)) (λ bytes.
-        IsClashesAnswer asked.now bytes text status)) sink.old sink.new result }
-    ensures fault { IfSome (R.remaining (reader_of source.old)) (λ bytes. IfErr result
-        (IsClashesRefusal asked.now bytes (R.remaining (reader_of source.new)))) }
+        (OfInput R.remaining (IsClashesAnswer asked.now) source.old)
+        sink.old sink.new result }
+    ensures fault { FaultOf R.remaining (IsClashesRefusal asked.now) source.old source.new result }
     ensures source { FaultReads R.read_errors source.old source.new result }
     ensures end { LeavesNothing R.remaining source.old source.new result }
     ensures handed_on { IsHandedOn W.holds_nothing sink.new result }
@@ -250,12 +238,9 @@ pub fn answer<R: ReadDevice, W: WriteDevice>(
     sink: &mut Sink<W>,
 ) -> Result<u8, Fault>
     ensures answer { Answers W.contents W.write_errors
-        (IsJobAnswer job.now (R.remaining (reader_of source.old)) (R.remaining (reader_of right.old)))
-        sink.old sink.new result }
-    ensures fault { IfErr result (IsJobRefusal job.now
-        (R.remaining (reader_of source.old)) (R.remaining (reader_of source.new))
-        (right.new ≡ right.old)
-        (R.remaining (reader_of right.old)) (R.remaining (reader_of right.new))) }
+        (IsJobAnswer R.remaining job.now source.old right.old) sink.old sink.new result }
+    ensures fault { IsJobFault R.remaining job.now
+        source.old source.new right.old right.new result }
     ensures sources { ReadsInputs R.remaining R.read_errors job.now
         source.old source.new right.old right.new result }
     ensures handed_on { IsHandedOn W.holds_nothing sink.new result }

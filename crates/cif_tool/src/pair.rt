@@ -1,12 +1,12 @@
 //! Two extracts, in a window that is asked for of both.
-ghost use Rattle.std.specs.Prelude.{◌≡◌, ◌≢◌, IfErr, IfOk, IfSome};
+ghost use Rattle.std.specs.Prelude.{◌≡◌, ◌≢◌, IfErr, IfOk};
 ghost use Rattle.cif_columns.specs.Source.{reader_of};
 ghost use Rattle.cif_extract.specs.ExtractParts.{extract_parts};
 ghost use Rattle.cif_extract.specs.ReadFault.{LeavesNothing};
 ghost use Rattle.cif_extract.specs.declared.fault.Fault.TheVariants.{Write};
 ghost use Rattle.cif_canon.specs.Asked.{IsNarrowed, IsNarrowingFault};
 ghost use Rattle.cif_tool.specs.Answer.{ReadsBoth};
-ghost use Rattle.cif_tool.specs.Pair.{IsCompareRefusal, ReadAsPair, asked_of_both};
+ghost use Rattle.cif_tool.specs.Pair.{FaultOfBoth, ReadAsPair, asked_of_both};
 
 use cif_canon::{Asked, narrow};
 use cif_columns::{MAX_LINES, ReadDevice, Source};
@@ -25,10 +25,8 @@ pub(crate) fn read_pair<R: ReadDevice>(
     ensures ok { IfOk result (λ pair. ReadAsPair asked.now common
         (R.remaining (reader_of left.old)) (R.remaining (reader_of right.old))
         (extract_parts pair.0) (extract_parts pair.1)) }
-    ensures fault { IfErr result (λ fault. IfSome (R.remaining (reader_of left.old)) (λ bytes.
-        IsCompareRefusal asked.now common bytes (R.remaining (reader_of left.new))
-        (right.new ≡ right.old) (R.remaining (reader_of right.old))
-        (R.remaining (reader_of right.new)) fault)) }
+    ensures fault { FaultOfBoth R.remaining asked.now common
+        left.old left.new right.old right.new result }
     ensures silent { IfErr result (λ fault. fault ≢ Write) }
     ensures sources { ReadsBoth R.read_errors left.old left.new right.old right.new result }
     ensures left_end { LeavesNothing R.remaining left.old left.new result }

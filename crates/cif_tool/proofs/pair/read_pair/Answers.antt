@@ -1,5 +1,5 @@
 -- Each fault is told of known bytes of the left input, and then of the right (`spelled-refused`).
-use Rattle.std.proofs.Common.{◌≢◌, inl, inr, refl, subst}
+use Rattle.std.proofs.Common.{◌≢◌, IfErr, inl, inr, refl, subst}
 use Rattle.cif_columns.proofs.GivenLinesLaws.{known_so}
 use Rattle.cif_columns.specs.declared.line_reader.TheConstants.{MAX_LINES}
 use Rattle.cif_extract.specs.ExtractParts.{extract_parts}
@@ -7,40 +7,40 @@ use Rattle.cif_extract.specs.ReadFault.{IsOfReading}
 use Rattle.cif_extract.specs.declared.fault.Fault.TheVariants.{Write}
 use Rattle.cif_canon.specs.Asked.{IsNarrowingFault}
 use Rattle.cif_canon.proofs.HandedFaults.{hands}
+use Rattle.cif_tool.specs.Pair.{IsCompareRefusal}
 use Rattle.cif_tool.proofs.KnownAnswers.{are-narrowed, spelled-refused}
 use Rattle.cif_tool.proofs.pair.read_pair.Goals as goal
 
 pub returns-in_err-left-clause-fault : goal.returns-in_err-left-clause-fault
 returns-in_err-left-clause-fault g c =
     let call = c.from_residual in
-    hands call.result c.in_err-left.field-0.0 call.ensures.1 _
-    (known_so _ _ _ (λ bytes fault. inl (fault, refl)) c.in_err-left.ensures.fault)
+    known_so _ _ (λ bytes. IfErr call.result (IsCompareRefusal c.args.asked.now c.args.common bytes _ _ _ _)) (λ bytes fault.
+    hands call.result c.in_err-left.field-0.0 call.ensures.1 _ (inl (fault, refl)))
+    c.in_err-left.ensures.fault
 
 pub returns-in_err-right-clause-fault : goal.returns-in_err-right-clause-fault
 returns-in_err-right-clause-fault g c =
     let call = c.from_residual-in_err-right in
+    known_so _ _ (λ bytes. IfErr call.result (IsCompareRefusal c.args.asked.now c.args.common bytes _ _ _ _)) (λ bytes s.
     hands call.result c.in_err-right.field-0.0 call.ensures.1 _
-    (known_so _ _ _ (λ bytes s.
-    inr (extract_parts c.in_ok-left.left, s, known_so _ _ _ (λ other fault. inl fault) c.in_err-right.ensures.fault))
-    c.in_ok-left.ensures.ok)
+    (inr (extract_parts c.in_ok-left.left, s, known_so _ _ _ (λ other fault. inl fault) c.in_err-right.ensures.fault)))
+    c.in_ok-left.ensures.ok
 
 pub returns-in_err-left-2-clause-fault : goal.returns-in_err-left-2-clause-fault
 returns-in_err-left-2-clause-fault g c =
     let call = c.from_residual-in_err-left-2 in
-    hands call.result c.in_err-left-2.field-0.0 call.ensures.1 _
-    (known_so _ _ _ (λ bytes s.
-    spelled-refused c.args.asked.now c.args.common _ bytes _ _ _ (extract_parts c.in_ok-left.left) (extract_parts c.in_ok-right.right) s
+    known_so _ _ _ (λ bytes s. hands call.result c.in_err-left-2.field-0.0 call.ensures.1 _
+    (spelled-refused c.args.asked.now c.args.common _ bytes _ _ _ (extract_parts c.in_ok-left.left) (extract_parts c.in_ok-right.right) s
     c.in_ok-right.ensures.ok c.in_err-left-2.field-0.0 c.asked_of_both-asked.result c.asked_of_both-asked.ensures
-    (inl c.in_err-left-2.ensures.fault)) c.in_ok-left.ensures.ok)
+    (inl c.in_err-left-2.ensures.fault))) c.in_ok-left.ensures.ok
 
 pub returns-in_err-right-2-clause-fault : goal.returns-in_err-right-2-clause-fault
 returns-in_err-right-2-clause-fault g c =
     let call = c.from_residual-in_err-right-2 in
-    hands call.result c.in_err-right-2.field-0.0 call.ensures.1 _
-    (known_so _ _ _ (λ bytes s.
-    spelled-refused c.args.asked.now c.args.common _ bytes _ _ _ (extract_parts c.in_ok-left.left) (extract_parts c.in_ok-right.right) s
+    known_so _ _ _ (λ bytes s. hands call.result c.in_err-right-2.field-0.0 call.ensures.1 _
+    (spelled-refused c.args.asked.now c.args.common _ bytes _ _ _ (extract_parts c.in_ok-left.left) (extract_parts c.in_ok-right.right) s
     c.in_ok-right.ensures.ok c.in_err-right-2.field-0.0 c.asked_of_both-asked.result c.asked_of_both-asked.ensures
-    (inr (extract_parts c.in_ok-left-2.left, c.in_ok-left-2.ensures.ok, inl c.in_err-right-2.ensures.fault))) c.in_ok-left.ensures.ok)
+    (inr (extract_parts c.in_ok-left-2.left, c.in_ok-left-2.ensures.ok, inl c.in_err-right-2.ensures.fault)))) c.in_ok-left.ensures.ok
 
 pub returns-clause-ok : goal.returns-clause-ok
 returns-clause-ok g c = record {
