@@ -9,7 +9,7 @@ use Rattle.std.specs.declared.cmp.Ordering.TheVariants.{Less, Equal}
 use Rattle.std.proofs.lemmas.List.Elements.{Contains-append_cases, Contains-get_or}
 use Rattle.std.proofs.lemmas.Option.{same_Some}
 use Rattle.cif_calendar.specs.Keys.{of_key}
-use Rattle.cif_calendar.specs.Meaning.{SameMeaning}
+use Rattle.cif_calendar.specs.Meaning.{EntriesSayTheSame}
 use Rattle.cif_calendar.specs.Runs.{Runs}
 use Rattle.cif_calendar.specs.Terms.{Terms}
 use Rattle.cif_calendar.proofs.Elements.{Contains-first, Contains-rest, Contains-cases}
@@ -445,7 +445,7 @@ module _ {K B : Type 0} (window : Window) (xs ys : List (K × Terms B)) (found :
 
     -- no record is found where the lists say the same
     no-record : (cmp : K → K → Ordering) → AreCanonical cmp Two window (of_side Left found) →
-        AreCanonical cmp Two window (of_side Right found) → SameMeaning xs ys window.first window.last →
+        AreCanonical cmp Two window (of_side Right found) → EntriesSayTheSame xs ys window.first window.last →
         (s : Sided (K × Permanent B)) → Contains found s → ⊥
     no-record cmp left right same s in' = by s.side refl
       where
@@ -468,7 +468,7 @@ module _ {K B : Type 0} (window : Window) (xs ys : List (K × Terms B)) (found :
             only.differs ((same.same s.it.0 s.it.1.first (Some s.it.1.body) within.from within.upto).1 only.runs)
 
     pub none-all : (cmp : K → K → Ordering) → AreCanonical cmp Two window (of_side Left found) →
-        AreCanonical cmp Two window (of_side Right found) → (found ≡ []) ↔ SameMeaning xs ys window.first window.last
+        AreCanonical cmp Two window (of_side Right found) → (found ≡ []) ↔ EntriesSayTheSame xs ys window.first window.last
     none-all cmp left right = (
       λ is. record {
         same = λ k d o from upto.

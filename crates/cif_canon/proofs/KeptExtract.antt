@@ -4,7 +4,7 @@ use Rattle.std.specs.Prelude.{All, AllPairs, Contains, ◌↔◌}
 use Rattle.std.specs.Cmp.Lexicographic.{slice_cmp}
 use Rattle.std.specs.Ordering.{nat_cmp}
 use Rattle.std.specs.declared.cmp.Ordering.TheVariants.{Less}
-use Rattle.cif_calendar.specs.Meaning.{SameMeaning as SayTheSame}
+use Rattle.cif_calendar.specs.Meaning.{EntriesSayTheSame}
 use Rattle.cif_extract.specs.BodyParts.{BodyParts}
 use Rattle.cif_extract.specs.ExtractParts.{ExtractParts}
 use Rattle.cif_records.specs.AssocKey.{key_cmp}
@@ -26,11 +26,12 @@ module _ (form : Form) (x : ExtractParts) (tiplocs : List Tiploc)
     (associations : List (AssocKey × Permanent AssocBody))
     (canonical_associations : AreCanonical key_cmp form (header_window x.header) associations)
     (dated_associations : All IsDated associations)
-    (meant_associations : SayTheSame (association_entries x.associations) (permanent_entries associations) x.header.first x.header.last)
+    (meant_associations : EntriesSayTheSame (association_entries x.associations) (permanent_entries associations)
+    x.header.first x.header.last)
     (schedules : List (List ℕ × Permanent BodyParts))
     (canonical_schedules : AreCanonical (slice_cmp nat_cmp) form (header_window x.header) schedules)
     (dated_schedules : All IsDated schedules)
-    (meant_schedules : SayTheSame (schedule_entries x.schedules) (permanent_entries schedules) x.header.first x.header.last) where
+    (meant_schedules : EntriesSayTheSame (schedule_entries x.schedules) (permanent_entries schedules) x.header.first x.header.last) where
   -- the canonical extract
   abbrev pub canonical_of : ExtractParts
   canonical_of = record {
@@ -60,9 +61,9 @@ module _ (form : Form) (x : ExtractParts) (tiplocs : List Tiploc)
     header = refl;
     agree = record {
       tiplocs = members;
-      associations = subst (λ es. SayTheSame (association_entries x.associations) es x.header.first x.header.last)
+      associations = subst (λ es. EntriesSayTheSame (association_entries x.associations) es x.header.first x.header.last)
           (sym (entries-of_associations associations dated_associations)) meant_associations;
-      schedules = subst (λ es. SayTheSame (schedule_entries x.schedules) es x.header.first x.header.last)
+      schedules = subst (λ es. EntriesSayTheSame (schedule_entries x.schedules) es x.header.first x.header.last)
           (sym (entries-of_schedules schedules dated_schedules)) meant_schedules;
     };
   }

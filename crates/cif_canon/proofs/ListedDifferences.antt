@@ -7,7 +7,7 @@ use Rattle.std.specs.declared.cmp.Ordering.{Ordering}
 use Rattle.std.specs.declared.cmp.Ordering.TheVariants.{Less, Equal, Greater}
 use Rattle.std.proofs.lemmas.List.Elements.{Contains-get_or}
 use Rattle.cif_calendar.specs.Entries.{association_entries, schedule_entries}
-use Rattle.cif_calendar.specs.Meaning.{SameMeaning}
+use Rattle.cif_calendar.specs.Meaning.{EntriesSayTheSame}
 use Rattle.cif_calendar.specs.Terms.{Terms}
 use Rattle.cif_calendar.proofs.Elements.{Contains-first, Contains-rest, Contains-cases}
 use Rattle.cif_extract.specs.ExtractParts.{ExtractParts}
@@ -49,7 +49,7 @@ module _ {K B : Type 0} (cmp : K → K → Ordering) (window : Window) (xs ys : 
   pub kind-turn : TurnInto window xs ys (sided_records xs ys runs)
   kind-turn = subst (TurnInto window xs ys) (sym are) a.turn
 
-  pub kind-none : (sided_records xs ys runs ≡ []) ↔ SameMeaning xs ys window.first window.last
+  pub kind-none : (sided_records xs ys runs ≡ []) ↔ EntriesSayTheSame xs ys window.first window.last
   kind-none = (λ h. a.none.0 (sym are ∙ h), λ h. are ∙ a.none.1 h)
 
   canonical-of : (side : Side) → AreCanonical cmp Two window (of_side side a.found)

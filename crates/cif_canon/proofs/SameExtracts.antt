@@ -1,7 +1,7 @@
 -- Extracts with equal parts, and that saying the same is an equivalence.
 use Rattle.std.proofs.Common.{◌≡◌, ℕ, List, [], ◌∷◌, map, refl, sym, ap, ◌∙◌, subst}
 use Rattle.cif_calendar.specs.Terms.{Terms}
-use Rattle.cif_calendar.proofs.SayTheSame.{SameMeaning-refl, SameMeaning-sym, SameMeaning-trans}
+use Rattle.cif_calendar.proofs.SayTheSame.{EntriesSayTheSame-refl, EntriesSayTheSame-sym, EntriesSayTheSame-trans}
 use Rattle.cif_extract.specs.BodyParts.{BodyParts}
 use Rattle.cif_extract.specs.ExtractParts.{ExtractParts}
 use Rattle.cif_extract.specs.declared.extract.Schedule.{Schedule}
@@ -68,24 +68,24 @@ pub agree-with_header : (window : Window) (x : ExtractParts) (h : Header) →
     Agree window x (record { header = h; tiplocs = x.tiplocs; associations = x.associations; schedules = x.schedules })
 agree-with_header window x h = record {
   tiplocs = λ t. (λ h. h, λ h. h);
-  associations = SameMeaning-refl (association_entries x.associations) window.first window.last;
-  schedules = SameMeaning-refl (schedule_entries x.schedules) window.first window.last;
+  associations = EntriesSayTheSame-refl (association_entries x.associations) window.first window.last;
+  schedules = EntriesSayTheSame-refl (schedule_entries x.schedules) window.first window.last;
 }
 
 pub agree-sym : (window : Window) (x y : ExtractParts) → Agree window x y → Agree window y x
 agree-sym window x y a = record {
   tiplocs = λ t. ((a.tiplocs t).1, (a.tiplocs t).0);
-  associations = SameMeaning-sym (association_entries x.associations) (association_entries y.associations) window.first window.last
+  associations = EntriesSayTheSame-sym (association_entries x.associations) (association_entries y.associations) window.first window.last
       a.associations;
-  schedules = SameMeaning-sym (schedule_entries x.schedules) (schedule_entries y.schedules) window.first window.last a.schedules;
+  schedules = EntriesSayTheSame-sym (schedule_entries x.schedules) (schedule_entries y.schedules) window.first window.last a.schedules;
 }
 
 pub agree-trans : (window : Window) (x y z : ExtractParts) → Agree window x y → Agree window y z → Agree window x z
 agree-trans window x y z a b = record {
   tiplocs = λ t. (λ h. (b.tiplocs t).0 ((a.tiplocs t).0 h), λ h. (a.tiplocs t).1 ((b.tiplocs t).1 h));
-  associations = SameMeaning-trans (association_entries x.associations) (association_entries y.associations)
+  associations = EntriesSayTheSame-trans (association_entries x.associations) (association_entries y.associations)
       (association_entries z.associations) window.first window.last a.associations b.associations;
-  schedules = SameMeaning-trans (schedule_entries x.schedules) (schedule_entries y.schedules) (schedule_entries z.schedules)
+  schedules = EntriesSayTheSame-trans (schedule_entries x.schedules) (schedule_entries y.schedules) (schedule_entries z.schedules)
       window.first window.last a.schedules b.schedules;
 }
 

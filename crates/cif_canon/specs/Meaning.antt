@@ -1,6 +1,6 @@
 -- What an extract says.
 use Rattle.std.specs.Prelude.{◌≡◌, ◌↔◌, Contains}
-use Rattle.cif_calendar.specs.Meaning.{SameMeaning as EntriesSayTheSame}
+use Rattle.cif_calendar.specs.Meaning.{EntriesSayTheSame}
 use Rattle.cif_extract.specs.ExtractParts.{ExtractParts}
 use Rattle.cif_records.specs.declared.tiploc.Tiploc.{Tiploc}
 use Rattle.cif_weeks.specs.Window.{Window}

@@ -7,7 +7,7 @@ use Rattle.std.specs.declared.cmp.Ordering.{Ordering}
 use Rattle.std.specs.declared.cmp.Ordering.TheVariants.{Less}
 use Rattle.cif_calendar.specs.Entries.{association_entries, schedule_entries}
 use Rattle.cif_calendar.specs.Keys.{of_key}
-use Rattle.cif_calendar.specs.Meaning.{SameMeaning}
+use Rattle.cif_calendar.specs.Meaning.{EntriesSayTheSame}
 use Rattle.cif_calendar.specs.Runs.{BodyRuns}
 use Rattle.cif_calendar.specs.Terms.{Terms}
 use Rattle.cif_columns.specs.DayDigits.{yymmdd_of}
@@ -164,7 +164,7 @@ pub record IsTrainView (layout : Layout) (form : Form) (x : ExtractParts) (uid t
   pub clear : IsClearExtract x
   pub records : List (List ℕ × Permanent BodyParts)
   pub canonical : AreCanonical (slice_cmp nat_cmp) form (header_window x.header) records
-  pub same_meaning : SameMeaning (schedule_entries x.schedules) (permanent_entries records) x.header.first x.header.last
+  pub same_meaning : EntriesSayTheSame (schedule_entries x.schedules) (permanent_entries records) x.header.first x.header.last
   pub own : List (Permanent BodyParts)
   pub rising : AllPairs (λ r s. r.first < s.first) own
   pub are : (r : Permanent BodyParts) → Contains own r ↔ Contains records (uid, r)

@@ -4,7 +4,7 @@ ghost use Rattle.std.specs.Prelude.{IsTrue, length, map};
 ghost use Rattle.cif_calendar.specs.Calendar.{IsCalendar, body_on};
 ghost use Rattle.cif_calendar.specs.Clash.{IsClearFrom};
 ghost use Rattle.cif_calendar.specs.Keys.{AreClear, keyed};
-ghost use Rattle.cif_calendar.specs.Meaning.{SameMeaning};
+ghost use Rattle.cif_calendar.specs.Meaning.{EntriesSayTheSame};
 ghost use Rattle.cif_calendar.specs.Source.{IsChosen, body_at};
 ghost use Rattle.cif_columns.specs.Sink.{Writes};
 ghost use Rattle.cif_extract.specs.ExtractParts.{extract_parts};
@@ -171,7 +171,7 @@ where
     E::Key: Drop,
     requires left { AreClear (keyed E.key E.terms left.now) window.now.first window.now.last }
     requires right { AreClear (keyed E.key E.terms right.now) window.now.first window.now.last }
-    ensures none { IfOk result (λ found. IfNone found (SameMeaning (keyed E.key E.terms left.now)
+    ensures none { IfOk result (λ found. IfNone found (EntriesSayTheSame (keyed E.key E.terms left.now)
         (keyed E.key E.terms right.now) window.now.first window.now.last)) }
     ensures some { IfOk result (λ found. IfSome found (λ it. IsFirstDifference E.Key.cmp
         (keyed E.key E.terms left.now) (keyed E.key E.terms right.now)

@@ -8,7 +8,7 @@ use Rattle.cif_columns.specs.DaysRun.{RunsOn}
 use Rattle.cif_weeks.specs.declared.form.Form.{Form}
 use Rattle.cif_weeks.specs.declared.form.Form.TheVariants.{Two}
 use Rattle.cif_weeks.specs.Window.{Window}
-use Rattle.cif_weeks.specs.Steps.WeekMasks.{Agree, Counts}
+use Rattle.cif_weeks.specs.Steps.WeekMasks.{Counts, MasksAgree}
 
 -- form 2: the day of the weekday and the day seven later lie in the window
 pub counts-within : (window : Window) (week next w n : ℕ) → week + 1 ≡ next → week_of n ≡ next → weekday_of n ≡ w →
@@ -43,7 +43,7 @@ pub record AgreeUpTo (form : Form) (window : Window) (next k : ℕ) (x y : List 
   pub below : (week w : ℕ) → week + 1 ≡ next → w < k → Counts form window week w → RunsOn x w ↔ RunsOn y w
 
 -- equal masks agree on each weekday
-pub same-agree : (form : Form) (window : Window) (week : ℕ) (x y : List Bool) → x ≡ y → Agree form window week x y
+pub same-agree : (form : Form) (window : Window) (week : ℕ) (x y : List Bool) → x ≡ y → MasksAgree form window week x y
 same-agree form window week x y e = λ w below counted. (
   λ on. subst (λ d. RunsOn d w) e on,
   λ on. subst (λ d. RunsOn d w) (sym e) on,

@@ -7,7 +7,7 @@ use Rattle.cif_weeks.specs.declared.form.Form.TheVariants.{One, Two}
 use Rattle.cif_weeks.specs.Window.{Window, IsWithin}
 use Rattle.cif_weeks.specs.Permanent.{Permanent}
 use Rattle.cif_weeks.specs.Separate.{ExactlyOne}
-use Rattle.cif_weeks.specs.Steps.WeekMasks.{IsMask, Differ}
+use Rattle.cif_weeks.specs.Steps.WeekMasks.{IsMask, MasksDiffer}
 use Rattle.cif_weeks.specs.Steps.Growing.{Breaks, IsGrown}
 use Rattle.cif_weeks.proofs.WeekDays.{week_of-next, weekday_of-next}
 use Rattle.cif_weeks.proofs.Masks.{mask_runs, one_mask}
@@ -22,7 +22,7 @@ module _ {B : Type 0} (window : Window) (body_on : ℕ → Option B)
     (inside : (n : ℕ) (b : B) → body_on n ≡ Some b → IsWithin window n) where
   -- the mask of the next week differs from the record's
   pub breaks_differ : (form : Form) (r : Permanent B) (next : List Bool) → IsGrown form window body_on r
-      → IsMask body_on r.body (week_of r.last + 1) next → Differ form window (week_of r.last) r.days next
+      → IsMask body_on r.body (week_of r.last + 1) next → MasksDiffer form window (week_of r.last) r.days next
       → Breaks form window body_on r
   breaks_differ One r next g k (w, below, counts, one) = λ other is_mask same.
       not_equal r.days next w (same ∙ one_mask body_on r.body (week_of r.last + 1) other next is_mask k) one

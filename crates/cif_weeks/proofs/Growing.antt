@@ -7,7 +7,7 @@ use Rattle.cif_weeks.specs.declared.form.Form.{Form}
 use Rattle.cif_weeks.specs.declared.form.Form.TheVariants.{One, Two}
 use Rattle.cif_weeks.specs.Window.{Window, IsWithin}
 use Rattle.cif_weeks.specs.Permanent.{Permanent}
-use Rattle.cif_weeks.specs.Steps.WeekMasks.{IsMask, Agree, IsLastDay}
+use Rattle.cif_weeks.specs.Steps.WeekMasks.{IsLastDay, IsMask, MasksAgree}
 use Rattle.cif_weeks.specs.Steps.Growing.{Fits, IsGrown}
 use Rattle.cif_weeks.proofs.WeekDays.{day_rises, week_of-next, weekday_of-next, RunsOn-below}
 use Rattle.cif_weeks.proofs.Masks.{mask_runs, mask_moved, last_runs, last_latest}
@@ -40,14 +40,14 @@ module _ {B : Type 0} (window : Window) (body_on : ℕ → Option B)
       (k : IsMask body_on r.body (week + 1) next)
       (seven : length both ≡ 7) (union : (w : ℕ) → RunsOn both w ↔ (RunsOn r.days w ⊎ RunsOn next w)) where
     -- form 1: the weekdays of the record's mask are those of the next week's
-    one_both : Agree One window week r.days next → (w : ℕ) → RunsOn both w → RunsOn r.days w
+    one_both : MasksAgree One window week r.days next → (w : ℕ) → RunsOn both w → RunsOn r.days w
     one_both agree w on = elim ((union w).0 on) [
       | inl h ↦ h
       | inr h ↦ (agree w (RunsOn-below next w k.seven h) tt).1 h
     ]
 
     -- form 2: the weekdays of the next week's mask are right in the record's weeks, and those of the record's in the next week
-    module _ (g : IsGrown Two window body_on r) (agree : Agree Two window week r.days next) where
+    module _ (g : IsGrown Two window body_on r) (agree : MasksAgree Two window week r.days next) where
       two_old : (n : ℕ) → week_of r.first ≤ week_of n → week_of n ≤ week_of r.last → IsWithin window n
           → RunsOn next (weekday_of n) → body_on n ≡ Some r.body
       two_old n begun unfinished within on =
@@ -82,7 +82,7 @@ module _ {B : Type 0} (window : Window) (body_on : ℕ → Option B)
           ((agree (weekday_of n) (RunsOn-below r.days (weekday_of n) g.seven on) (i, week_i, day_i, within_i, next_within)).0 on)
 
     module _ (last : ℕ) where
-      old_fits : (form : Form) (v : ℕ) → IsGrown form window body_on r → Agree form window week r.days next
+      old_fits : (form : Form) (v : ℕ) → IsGrown form window body_on r → MasksAgree form window week r.days next
           → week_of r.first ≤ v → v ≤ week_of r.last
           → Fits form window body_on (record { first = r.first; last = last; days = both; body = r.body }) v
       old_fits One v g agree begun unfinished = record {
@@ -98,7 +98,7 @@ module _ {B : Type 0} (window : Window) (body_on : ℕ → Option B)
         ];
       }
 
-      new_fits : (form : Form) → IsGrown form window body_on r → Agree form window week r.days next
+      new_fits : (form : Form) → IsGrown form window body_on r → MasksAgree form window week r.days next
           → Fits form window body_on (record { first = r.first; last = last; days = both; body = r.body }) (week + 1)
       new_fits One g agree = record {
         seven = seven;
@@ -116,7 +116,7 @@ module _ {B : Type 0} (window : Window) (body_on : ℕ → Option B)
   -- the record with the next week, which agrees with its last one
   pub grown_more : (form : Form) (r : Permanent B) (week : ℕ) (next both : List Bool) (last : ℕ)
       → week_of r.last ≡ week → IsGrown form window body_on r
-      → IsMask body_on r.body (week + 1) next → Agree form window week r.days next
+      → IsMask body_on r.body (week + 1) next → MasksAgree form window week r.days next
       → length both ≡ 7 → ((w : ℕ) → RunsOn both w ↔ (RunsOn r.days w ⊎ RunsOn next w)) → IsLastDay (week + 1) next last
       → IsGrown form window body_on (record { first = r.first; last = last; days = both; body = r.body })
   grown_more form r week next both last here g k agree seven union l =

@@ -14,7 +14,7 @@ use Rattle.cif_weeks.specs.declared.run.Run.{Run}
 use Rattle.cif_weeks.specs.declared.week.Week.{Week}
 use Rattle.cif_weeks.specs.Runs.{AreSources, record_of, window_of}
 use Rattle.cif_weeks.specs.Steps.Growing.{Breaks, IsGrown}
-use Rattle.cif_weeks.specs.Steps.WeekMasks.{Agree, Differ, IsLastDay, IsMask}
+use Rattle.cif_weeks.specs.Steps.WeekMasks.{IsLastDay, IsMask, MasksAgree, MasksDiffer}
 use Rattle.cif_weeks.specs.Steps.WeekBodies.{source_in, body_in, IsBodyUpTo, IsWeek}
 use Rattle.cif_weeks.specs.declared.week.WeekBody.{WeekBody}
 use Rattle.cif_weeks.specs.Steps.OpenRuns.{RunsBefore, IsOpenRun, ComesBefore, AreOpen, ArePlaces, IsBefore}
@@ -243,7 +243,7 @@ module _ {B : Type 0} (form : Form) (xs : List (Terms B)) (c : CalendarParts) (s
         let next : IsMask (body_in xs c) b (old_week + 1) days = subst (λ v. IsMask (body_in xs c) b v days) (sym ends) mask in
         let one : IsGrown form (window_of c) (body_in xs c) (record { first = run.first; last = day; days = both; body = b }) =
         grown_more (window_of c) (body_in xs c) (inside xs c sources) form (record_of run b) old_week days both day refl grown
-        next (subst (λ (r : Run). Agree form (window_of c) old_week r.days days) one_run (j.agree old_week ends)) seven union
+        next (subst (λ (r : Run). MasksAgree form (window_of c) old_week r.days days) one_run (j.agree old_week ends)) seven union
         (subst (λ v. IsLastDay v days day) (sym ends) l) in
         let all : IsGrown form (window_of c) (body_in xs c) (record_of it b) =
         subst (λ v. IsGrown form (window_of c) (body_in xs c) (record { first = run.first; last = v; days = both; body = b })) (sym is_last)
@@ -340,8 +340,8 @@ module _ {B : Type 0} (form : Form) (xs : List (Terms B)) (c : CalendarParts) (s
               ⊎_elim
               (λ same.
               let r_is : h.run ≡ r = same_Some h.run r (sym h.at ∙ ap (slice_get old) (sym same) ∙ at_r) in
-              let differ : Differ form (window_of c) (week_of r.last) r.days days =
-              subst (λ (v : Run). Differ form (window_of c) (week_of v.last) v.days days) r_is
+              let differ : MasksDiffer form (window_of c) (week_of r.last) r.days days =
+              subst (λ (v : Run). MasksDiffer form (window_of c) (week_of v.last) v.days days) r_is
               (none.differ h.place h.run h.listed h.at (has_h ∙ sym has) (week_of h.run.last) ends_h) in
               breaks_differ (window_of c) (body_in xs c) (inside xs c sources) form (record_of r d) days grown_r
               (subst (λ v. IsMask (body_in xs c) d v days) (sym ends_r)

@@ -10,10 +10,10 @@ use Rattle.cif_calendar.specs.Terms.{Terms, AreLawful}
 use Rattle.cif_calendar.specs.Applies as entry
 use Rattle.cif_calendar.specs.Clash.{IsClearFrom}
 use Rattle.cif_calendar.specs.Keys.{of_key, AreClear}
-use Rattle.cif_calendar.specs.Meaning.{SameMeaning}
+use Rattle.cif_calendar.specs.Meaning.{EntriesSayTheSame}
 use Rattle.cif_calendar.specs.Runs.{BodyRuns}
 use Rattle.cif_calendar.proofs.PermanentRecords.{Wins-permanent, AreLawful-permanent}
-use Rattle.cif_calendar.proofs.SayTheSame.{SameMeaning-from_bodies}
+use Rattle.cif_calendar.proofs.SayTheSame.{EntriesSayTheSame-from_bodies}
 use Rattle.cif_weeks.specs.declared.form.Form.{Form}
 use Rattle.cif_weeks.specs.Window.{Window, IsWithin}
 use Rattle.cif_weeks.specs.Permanent.{Permanent, terms_of, permanent_entries}
@@ -76,9 +76,9 @@ module _ {K B : Type 0} (window : Window) where
   -- lawful entries mean what records mean, if those bodies run that the records have
   pub records-meaning : (entries : List (K × Terms B)) (records : List (K × Permanent B)) → ((k : K) → AreLawful (of_key entries k)) →
       ((k : K) (n : ℕ) (b : B) → IsWithin window n → BodyRuns (of_key entries k) n b ↔ HasBody (of_key records k) n b) →
-      SameMeaning entries (permanent_entries records) window.first window.last
+      EntriesSayTheSame entries (permanent_entries records) window.first window.last
   records-meaning entries records lawful says =
-      SameMeaning-from_bodies entries (permanent_entries records) window.first window.last lawful (entries-lawful records)
+      EntriesSayTheSame-from_bodies entries (permanent_entries records) window.first window.last lawful (entries-lawful records)
       (λ k n b from upto.
       let said = says k n b (record { from = from; upto = upto }) in
       let is = runs-applies records k n b in
@@ -86,7 +86,7 @@ module _ {K B : Type 0} (window : Window) where
 
   -- records mean the same where they say the same for each key
   pub same-meaning : (xs ys : List (K × Permanent B)) →
-      SameMeaning (permanent_entries xs) (permanent_entries ys) window.first window.last ↔ SayTheSameByKey window xs ys
+      EntriesSayTheSame (permanent_entries xs) (permanent_entries ys) window.first window.last ↔ SayTheSameByKey window xs ys
   same-meaning xs ys = (
     λ m. record {
       same = λ k. record {

@@ -3,7 +3,7 @@
 ghost use Rattle.std.specs.Prelude.{◌≡◌, ◌<◌, ◌≤◌, ◌+◌, ◌↔◌, ℕ, IsTrue, MatchBool};
 ghost use Rattle.cif_columns.specs.Day.{week_of, weekday_of};
 ghost use Rattle.cif_weeks.specs.Runs.{window_of};
-ghost use Rattle.cif_weeks.specs.Steps.WeekMasks.{Agree, Counts, Differ};
+ghost use Rattle.cif_weeks.specs.Steps.WeekMasks.{Counts, MasksAgree, MasksDiffer};
 
 use cif_calendar::{Calendar, Window};
 use cif_columns::{DAYS_IN_WEEK, DaysRun};
@@ -59,8 +59,8 @@ pub(crate) fn agree(
     days: DaysRun,
 ) -> bool
     ensures { (week : ℕ) → week + 1 ≡ next → MatchBool result
-        (Agree form (window_of calendar.now) week before days)
-        (Differ form (window_of calendar.now) week before days) }
+        (MasksAgree form (window_of calendar.now) week before days)
+        (MasksDiffer form (window_of calendar.now) week before days) }
 {
     before.is(days) || agree_by_weekday(form, calendar, next, before, days)
 }
@@ -74,8 +74,8 @@ fn agree_by_weekday(
     days: DaysRun,
 ) -> bool
     ensures { (week : ℕ) → week + 1 ≡ next → MatchBool result
-        (Agree form (window_of calendar.now) week before days)
-        (Differ form (window_of calendar.now) week before days) }
+        (MasksAgree form (window_of calendar.now) week before days)
+        (MasksDiffer form (window_of calendar.now) week before days) }
 {
     for weekday in 0..7u8 {
         if before.has(weekday) != days.has(weekday) && counts(form, calendar, next, weekday) {

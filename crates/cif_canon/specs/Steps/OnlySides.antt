@@ -7,7 +7,7 @@ use Rattle.std.specs.Cmp.Lexicographic.{slice_cmp}
 use Rattle.std.specs.declared.cmp.Ordering.{Ordering}
 use Rattle.std.specs.declared.cmp.Ordering.TheVariants.{Less, Greater}
 use Rattle.cif_calendar.specs.Calendar.{CalendarParts, body_on}
-use Rattle.cif_calendar.specs.Meaning.{SameMeaning}
+use Rattle.cif_calendar.specs.Meaning.{EntriesSayTheSame}
 use Rattle.cif_calendar.specs.Pieces.{source_at, winner_of}
 use Rattle.cif_calendar.specs.Source.{body_at}
 use Rattle.cif_calendar.specs.Terms.{Terms}
@@ -150,4 +150,4 @@ pub record AreDifferentRuns {K B : Type 0} (cmp : K → K → Ordering) (window 
   pub runs_of : AllZip (IsSidedRunOf xs ys) runs found
   pub different : AreDifferentRecords cmp window xs ys found
   pub turn : TurnInto window xs ys found
-  pub none : (found ≡ []) ↔ SameMeaning xs ys window.first window.last
+  pub none : (found ≡ []) ↔ EntriesSayTheSame xs ys window.first window.last

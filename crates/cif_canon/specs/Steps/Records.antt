@@ -5,7 +5,7 @@ use Rattle.std.specs.declared.cmp.Ordering.{Ordering}
 use Rattle.cif_calendar.specs.Terms.{Terms}
 use Rattle.cif_calendar.specs.Clash.{IsClearFrom, IsFirstClash}
 use Rattle.cif_calendar.specs.Keys.{of_key, AreClear, IsFirstClashOf}
-use Rattle.cif_calendar.specs.Meaning.{SameMeaning}
+use Rattle.cif_calendar.specs.Meaning.{EntriesSayTheSame}
 use Rattle.cif_calendar.specs.Runs.{BodyRuns}
 use Rattle.cif_calendar.specs.declared.key_calendar.CalendarFault.{CalendarFault}
 use Rattle.cif_calendar.specs.declared.key_calendar.CalendarFault.TheVariants as calendar
@@ -37,7 +37,7 @@ pub record AreCanonicalRecords {K B : Type 0} (cmp : K → K → Ordering) (form
   pub clear : AreClear entries window.first window.last
   pub records : List (K × Permanent B)
   pub canonical : AreCanonical cmp form window records
-  pub same_meaning : SameMeaning entries (permanent_entries records) window.first window.last
+  pub same_meaning : EntriesSayTheSame entries (permanent_entries records) window.first window.last
   pub runs_of : AllZip (IsRunOf entries) runs records
 
 -- of key k the entries are clear, and the records say what runs

@@ -12,7 +12,7 @@ use Rattle.cif_weeks.specs.Permanent.{Permanent}
 use Rattle.cif_weeks.specs.Separate.{Change}
 use Rattle.cif_weeks.specs.Runs.{record_of, window_of}
 use Rattle.cif_weeks.specs.Steps.Growing.{Breaks, IsGrown}
-use Rattle.cif_weeks.specs.Steps.WeekMasks.{Agree, Differ}
+use Rattle.cif_weeks.specs.Steps.WeekMasks.{MasksAgree, MasksDiffer}
 use Rattle.cif_weeks.specs.Steps.WeekBodies.{body_in, source_in, HaveOneBody}
 
 -- r ends in a week before that in which s begins, and where that is the very next week, there is a change between them
@@ -91,13 +91,13 @@ pub record Joins {B : Type 0} (form : Form) (xs : List (Terms B)) (c : CalendarP
   pub listed : Contains places place
   pub at : slice_get runs place ≡ Some run
   pub same : HaveOneBody xs run.source source
-  pub agree : (earlier : ℕ) → earlier + 1 ≡ week → Agree form (window_of c) earlier run.days days
+  pub agree : (earlier : ℕ) → earlier + 1 ≡ week → MasksAgree form (window_of c) earlier run.days days
 
 -- None of the runs at the places does.
 pub record JoinNone {B : Type 0} (form : Form) (xs : List (Terms B)) (c : CalendarParts) (week source : ℕ) (days : List Bool)
     (runs : List Run) (places : List ℕ) : Type 0 where
   pub differ : (place : ℕ) (run : Run) → Contains places place → slice_get runs place ≡ Some run → HaveOneBody xs run.source source →
-      (earlier : ℕ) → earlier + 1 ≡ week → Differ form (window_of c) earlier run.days days
+      (earlier : ℕ) → earlier + 1 ≡ week → MasksDiffer form (window_of c) earlier run.days days
 
 -- at its place is still the run that begins on this date, and it ends no earlier
 pub record IsKeptAt (runs : List Run) (place : ℕ) (run : Run) : Type 0 where

@@ -20,11 +20,11 @@ Counts One window week w = Unit {0}
 Counts Two window week w = (n : ℕ) × (week_of n ≡ week) × (weekday_of n ≡ w) × IsWithin window n × IsWithin window (n + 7)
 
 -- the masks of a week and the next agree, or differ, where they have to agree
-abbrev pub Agree : Form → Window → ℕ → List Bool → List Bool → Type 0
-Agree form window week this next = (w : ℕ) → w < 7 → Counts form window week w → RunsOn this w ↔ RunsOn next w
+abbrev pub MasksAgree : Form → Window → ℕ → List Bool → List Bool → Type 0
+MasksAgree form window week this next = (w : ℕ) → w < 7 → Counts form window week w → RunsOn this w ↔ RunsOn next w
 
-abbrev pub Differ : Form → Window → ℕ → List Bool → List Bool → Type 0
-Differ form window week this next = (w : ℕ) × (w < 7) × Counts form window week w × ExactlyOne (RunsOn this w) (RunsOn next w)
+abbrev pub MasksDiffer : Form → Window → ℕ → List Bool → List Bool → Type 0
+MasksDiffer form window week this next = (w : ℕ) × (w < 7) × Counts form window week w × ExactlyOne (RunsOn this w) (RunsOn next w)
 
 -- day n is the last of the week whose weekday is in the mask
 pub record IsLastDay (week : ℕ) (mask : List Bool) (n : ℕ) : Type 0 where

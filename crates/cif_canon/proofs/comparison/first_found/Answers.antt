@@ -2,7 +2,7 @@
 use Rattle.std.proofs.Common.{◌≡◌, ◌∙◌, ap}
 use Rattle.std.specs.Prelude.{Contains, ◌↔◌}
 use Rattle.cif_calendar.specs.Entries.{association_entries}
-use Rattle.cif_calendar.specs.Meaning.{SameMeaning}
+use Rattle.cif_calendar.specs.Meaning.{EntriesSayTheSame}
 use Rattle.cif_records.specs.declared.tiploc.Tiploc.{Tiploc}
 use Rattle.cif_weeks.specs.Window.{Window}
 use Rattle.cif_canon.proofs.comparison.first_found.Goals as goal
@@ -46,7 +46,7 @@ returns-in-Ok-Some c =
     (tiplocs (goal.at.returns-in-Ok-Some c).In_default, rw c.copy.ensures found)
 
 -- nor an association
-associations : (c : In-Ok-None) → SameMeaning (association_entries c.args.left.now.associations.items)
+associations : (c : In-Ok-None) → EntriesSayTheSame (association_entries c.args.left.now.associations.items)
     (association_entries c.args.right.now.associations.items) c.args.left.now.header.first c.args.left.now.header.last
 associations c =
     let window = c.window_of-window.ensures in

@@ -12,7 +12,7 @@ use Rattle.cif_weeks.specs.declared.form.Form.{Form}
 use Rattle.cif_weeks.specs.declared.run.Run.{Run}
 use Rattle.cif_weeks.specs.Runs.{window_of}
 use Rattle.cif_weeks.specs.Steps.WeekBodies.{HaveOneBody}
-use Rattle.cif_weeks.specs.Steps.WeekMasks.{Differ}
+use Rattle.cif_weeks.specs.Steps.WeekMasks.{MasksDiffer}
 use Rattle.cif_weeks.specs.Steps.OpenRuns.{JoinNone}
 use Rattle.cif_weeks.proofs.joined.goes_on.Goals as goal
 use Rattle.cif_weeks.proofs.joined.goes_on.Goals.{else-have_one_body-via-then-have_one_body+else-agree}
@@ -22,7 +22,7 @@ use Rattle.cif_weeks.proofs.joined.goes_on.Goals.{else-have_one_body-via-else-ha
 more-places : {B : Type 0} (form : Form) (xs : List (Terms B)) (c : CalendarParts) (week source : ℕ) (days : List Bool) (runs : List Run)
     (places : List ℕ) (p : ℕ) → JoinNone form xs c week source days runs places →
     ((run : Run) → slice_get runs p ≡ Some run → HaveOneBody xs run.source source →
-    (earlier : ℕ) → earlier + 1 ≡ week → Differ form (window_of c) earlier run.days days) →
+    (earlier : ℕ) → earlier + 1 ≡ week → MasksDiffer form (window_of c) earlier run.days days) →
     JoinNone form xs c week source days runs (places ++ p ∷ [])
 more-places form xs c week source days runs places p h here = record {
   differ = λ place run listed at. ⊎_elim
@@ -77,7 +77,7 @@ loop-place-preserved g c =
     sym (c.index-runs-place.is ∙ get_or_from_slice_get runs p run c.index-runs-place.result at) in
     elim c.else-have_one_body.branch [
       | else-have_one_body-via-then-have_one_body+else-agree v ↦
-          subst (λ (r : Run). Differ c.args.form (window_of c.args.calendar.now) earlier r.days c.args.days) (sym read)
+          subst (λ (r : Run). MasksDiffer c.args.form (window_of c.args.calendar.now) earlier r.days c.args.days) (sym read)
           (v.if-agree.ensures earlier next)
       | else-have_one_body-via-else-have_one_body v ↦
           absurd (false≢true (sym v.if-have_one_body.false ∙ c.have_one_body.ensures.1
