@@ -21,33 +21,29 @@ pub(crate) fn covers<E: Entry>(entry: &E, day: Day) -> bool
     entry.first() <= day && day <= entry.last()
 }
 
-/// The first day from `first` on after which the record has ended or begins, or `end` where there is
-/// none before it; and whether the record lies over `first`.
-fn end_for<E: Entry>(entry: &E, first: Day, end: Day) -> (Day, bool)
+/// The first day from `first` on after which the record has ended or begins; `end` where there is
+/// none before it.
+fn end_for<E: Entry>(entry: &E, first: Day, end: Day) -> Day
     requires { first ≤ end }
-    ensures from { first ≤ result.0 }
-    ensures upto { result.0 ≤ end }
-    ensures begins { first < (E.terms entry.now).first → result.0 < (E.terms entry.now).first }
-    ensures ends { first ≤ (E.terms entry.now).last → result.0 ≤ (E.terms entry.now).last }
-    ensures breaks { (result.0 ≡ end) ⊎ ((result.0 + 1 ≡ (E.terms entry.now).first)
-        ⊎ (result.0 + 1 ≡ (E.terms entry.now).last + 1)) }
-    ensures over { IsTrue result.1 ↔
-        (((E.terms entry.now).first ≤ first) × (first ≤ (E.terms entry.now).last)) }
+    ensures from { first ≤ result }
+    ensures upto { result ≤ end }
+    ensures begins { first < (E.terms entry.now).first → result < (E.terms entry.now).first }
+    ensures ends { first ≤ (E.terms entry.now).last → result ≤ (E.terms entry.now).last }
+    ensures breaks { (result ≡ end) ⊎ ((result + 1 ≡ (E.terms entry.now).first)
+        ⊎ (result + 1 ≡ (E.terms entry.now).last + 1)) }
 {
     let begin = entry.first();
     if first < begin {
         return match begin.previous() {
-            Some(before) if before < end => (before, false),
-            _ => (end, false),
+            Some(before) if before < end => before,
+            _ => end,
         };
     }
     let last = entry.last();
-    if last < first {
-        (end, false)
-    } else if last < end {
-        (last, true)
+    if first <= last && last < end {
+        last
     } else {
-        (end, true)
+        end
     }
 }
 
@@ -110,9 +106,8 @@ pub(crate) fn end_of_piece<E: Entry>(
     let mut covering = Covering::Nobody;
     for i in members {
         let entry = &entries[*i];
-        let (upto, over) = end_for(entry, first, end);
-        end = upto;
-        if over {
+        end = end_for(entry, first, end);
+        if covers(entry, first) {
             covering = match covering {
                 Covering::Nobody => Covering::Only(*i),
                 Covering::Only(other) => both(entries, other, *i),
@@ -142,8 +137,8 @@ fn with_dates(days: DaysRun, first: Day, last: Day) -> DaysRun
     }
 }
 
-/// Lays the entry at a position over the winners: it wins on its weekdays that a date from `first`
-/// to `last` has.
+/// Lays the entry at a position over the winners: it wins on its weekdays that a date from `first` to
+/// `last` has.
 pub(crate) fn lay<E: Entry>(
     entries: &[E],
     position: usize,

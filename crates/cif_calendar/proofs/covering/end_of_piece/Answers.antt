@@ -8,8 +8,8 @@ use Rattle.cif_calendar.proofs.Layers.{covering-not, only_below, over-more}
 use Rattle.cif_calendar.proofs.Winning.{refuted, terms_at}
 use Rattle.cif_calendar.proofs.Unbroken.{end-unbroken, end-breaks}
 use Rattle.cif_calendar.proofs.covering.end_of_piece.Goals as goal
-use Rattle.cif_calendar.proofs.covering.end_of_piece.Goals.{then-over+in-Nobody, then-over+in-Only}
-use Rattle.cif_calendar.proofs.covering.end_of_piece.Goals.{then-over+in_default-covering, else-over}
+use Rattle.cif_calendar.proofs.covering.end_of_piece.Goals.{then-covers+in-Nobody, then-covers+in-Only}
+use Rattle.cif_calendar.proofs.covering.end_of_piece.Goals.{then-covers+in_default-covering, else-covers}
 
 pub loop-i-preserved : goal.loop-i-preserved
 loop-i-preserved g c =
@@ -17,7 +17,7 @@ loop-i-preserved g c =
     let j = get_or c.args.members.now c.loop-i.i-index 0 in
     let r = g.E.Entry.terms c.index-entries-i.result in
     let before = take c.loop-i.i-index c.args.members.now in
-    let says = c.end_for-upto.ensures in
+    let says = c.end_for-end.ensures in
     let below : get_or c.args.members.now c.loop-i.i-index 0 < length c.args.entries.now =
     c.requires.positions c.loop-i.i-index 0 c.loop-i-test.true in
     let at = terms_at g.E.Entry.terms c.args.entries.now (get_or c.args.members.now c.loop-i.i-index 0) c.index-entries-i.result below
@@ -27,18 +27,18 @@ loop-i-preserved g c =
     record {
       from = says.from;
       upto = omega arith;
-      unbroken = rw more (end-unbroken xs before j r at c.loop-i.end c.end_for-upto.result.0 c.args.first says.upto says.begins
+      unbroken = rw more (end-unbroken xs before j r at c.loop-i.end c.end_for-end.result c.args.first says.upto says.begins
           says.ends old.unbroken);
-      breaks = rw more (end-breaks xs before j r at c.loop-i.end c.end_for-upto.result.0 c.args.last says.breaks old.breaks);
-      covering = elim c.if-over.branch [
-        | then-over+in-Nobody w ↦ rw (w.covering-is, more)
-            (over-more xs before c.args.first j r at [] (says.over.0 w.if-over.true) (rw w.in-Nobody.is at old.covering))
-        | then-over+in-Only w ↦ rw (w.covering-is, more) (w.both-covering.ensures (before ++ j ∷ []) c.args.first
-            (over-more xs before c.args.first j r at (w.in-Only.other ∷ []) (says.over.0 w.if-over.true)
+      breaks = rw more (end-breaks xs before j r at c.loop-i.end c.end_for-end.result c.args.last says.breaks old.breaks);
+      covering = elim c.if-covers.branch [
+        | then-covers+in-Nobody w ↦ rw (w.covering-is, more)
+            (over-more xs before c.args.first j r at [] (c.covers.ensures.0 w.if-covers.true) (rw w.in-Nobody.is at old.covering))
+        | then-covers+in-Only w ↦ rw (w.covering-is, more) (w.both-covering.ensures (before ++ j ∷ []) c.args.first
+            (over-more xs before c.args.first j r at (w.in-Only.other ∷ []) (c.covers.ensures.0 w.if-covers.true)
             (rw w.in-Only.is at old.covering)))
-        | then-over+in_default-covering w ↦ rw w.covering-is tt
-        | else-over w ↦ rw (w.covering-is, more) (covering-not xs before c.args.first j r at
-            (refuted c.end_for-upto.result.1 says.over w.if-over.false) c.loop-i.covering old.covering)
+        | then-covers+in_default-covering w ↦ rw w.covering-is tt
+        | else-covers w ↦ rw (w.covering-is, more) (covering-not xs before c.args.first j r at
+            (refuted c.covers.result c.covers.ensures w.if-covers.false) c.loop-i.covering old.covering)
       ];
     }
 
