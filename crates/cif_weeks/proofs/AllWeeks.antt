@@ -17,11 +17,11 @@ use Rattle.cif_weeks.specs.Permanent.{Permanent}
 use Rattle.cif_weeks.specs.Meets.{Meets}
 use Rattle.cif_weeks.specs.Runs.{AreSources, AreCanonicalRuns, IsRunOf, record_of, window_of}
 use Rattle.cif_weeks.specs.Steps.Growing.{Breaks, IsGrown}
-use Rattle.cif_weeks.specs.Steps.WeekBodies.{source_in, body_in, IsWeek}
+use Rattle.cif_weeks.specs.Steps.WeekBodies.{source_in, body_in, runs_in, IsWeek}
 use Rattle.cif_weeks.specs.declared.week.WeekBody.{WeekBody}
 use Rattle.std.proofs.lemmas.List.Elements.{Contains-append_left, Contains-append_right, Contains-push_cases}
 use Rattle.cif_weeks.specs.Steps.OpenRuns.{RunsBefore, IsOpenRun, AreOpen, ArePlaces, AreKept, IsAdded, IsBefore, IsKnown}
-use Rattle.cif_weeks.proofs.AlikeWeeks.{alike-source}
+use Rattle.cif_weeks.proofs.AlikeWeeks.{alike-day}
 use Rattle.cif_weeks.proofs.Growth.{body-source, inside}
 use Rattle.cif_weeks.proofs.OpenRuns.{open-upto}
 use Rattle.cif_weeks.proofs.WeekBodies.{one-first}
@@ -251,19 +251,11 @@ module _ {B : Type 0} (form : Form) (xs : List (Terms B)) (c : CalendarParts) (s
       (u : AreOpen form xs c week.number week.last_alike (week.number * 7 + 7) runs)
       (p : ArePlaces xs c (IsKnown week.number (week.number * 7 + 7)) (week.last_alike + 1) runs places) where
     -- the place of what runs on a day of these weeks
-    alike-day : (n : ℕ) (b : B) → week.number ≤ week_of n → week_of n ≤ week.last_alike → body_in xs c n ≡ Some b →
+    day-before : (n : ℕ) (b : B) → week.number ≤ week_of n → week_of n ≤ week.last_alike → body_in xs c n ≡ Some b →
         (i : ℕ) × (week_of i ≡ week.number) × (body_in xs c i ≡ Some b)
-    alike-day n b from upto runs_n =
-        let j : ℕ = week_of n - week.number in
-        let i : ℕ = n - 7 * j in ⊎_elim
-        (λ some.
-        let whole : 0 < week.number = k.alike.whole (omega arith) in
-        let back : i + 7 * j ≡ n = omega arith in
-        let in_week : week_of i ≡ week.number = omega arith in
-        let same = alike-source c week.number week.last_alike k.alike j i (omega arith) (omega arith) in
-        (i, in_week, ap (body_at xs) (sym same ∙ ap (source_in c) back) ∙ runs_n))
-        (λ one. (n, (let in_week : week_of n ≡ week.number = omega arith in in_week), runs_n))
-        (cases_lt week.number (week_of n))
+    day-before n b from upto runs_n =
+        let (i, at, day, same) = alike-day c week.number week.last_alike n k.alike from upto in
+        (i, at, ap (body_at xs) (sym same) ∙ runs_n)
 
     pub open-next : (next last : ℕ) → week.last_alike < next
         → ((n : ℕ) (b : B) → week.last_alike < week_of n → week_of n < next → body_in xs c n ≡ Some b → ⊥)
@@ -295,7 +287,7 @@ module _ {B : Type 0} (form : Form) (xs : List (Terms B)) (c : CalendarParts) (s
           (λ from. ⊎_elim
           (λ over. absurd (idle n b over (omega arith) runs_n))
           (λ within.
-          let (i, in_week, runs_i) = alike-day n b (omega arith) (omega arith) runs_n in
+          let (i, in_week, runs_i) = day-before n b (omega arith) (omega arith) runs_n in
           let h = p.each i b (in_week, omega arith) runs_i in
           let (run, at, ends) = p.only h.place h.listed in
           let one : run ≡ h.run = same_Some run h.run (sym at ∙ h.at) in
@@ -317,7 +309,7 @@ module _ {B : Type 0} (form : Form) (xs : List (Terms B)) (c : CalendarParts) (s
     pub places-next : (next : ℕ) → next ≡ week.last_alike + 1 → ArePlaces xs c (IsBefore next) next runs places
     places-next next is = record {
       each = λ n b follows runs_n.
-          let (i, in_week, runs_i) = alike-day n b (omega (arith, k.from)) (omega arith) runs_n in
+          let (i, in_week, runs_i) = day-before n b (omega (arith, k.from)) (omega arith) runs_n in
           p.each i b (in_week, omega arith) runs_i;
       only = λ v listed.
           let (run, at, ends) = p.only v listed in (run, at, (let later : next ≤ week_of run.last + 1 = omega arith in later));
@@ -377,8 +369,8 @@ module _ {B : Type 0} (form : Form) (xs : List (Terms B)) (c : CalendarParts) (s
         at : slice_get runs k ≡ Some run
         is : r ≡ record_of run r.body
         has : body_at xs (Some run.source) ≡ Some r.body
-        grown : IsGrown form (window_of c) (body_in xs c) r
-        ended : (n : ℕ) → week_of n ≡ week_of r.last + 1 → body_in xs c n ≡ Some r.body → Breaks form (window_of c) (body_in xs c) r
+        grown : IsGrown form (window_of c) (runs_in xs c r.body) r
+        ended : (n : ℕ) → week_of n ≡ week_of r.last + 1 → body_in xs c n ≡ Some r.body → Breaks form (window_of c) (runs_in xs c r.body) r
 
       stands-of : (k : ℕ) (run : Run) → slice_get runs k ≡ Some run → (r : Permanent B) → IsRunOf xs c run r → Stands k r
       stands-of k run at r i =
@@ -390,9 +382,9 @@ module _ {B : Type 0} (form : Form) (xs : List (Terms B)) (c : CalendarParts) (s
             at = at;
             is = i.dates;
             has = i.body;
-            grown = subst (λ v. IsGrown form (window_of c) (body_in xs c) v) one o.grown;
+            grown = subst (λ (v : Permanent B). IsGrown form (window_of c) (runs_in xs c v.body) v) one o.grown;
             ended = subst (λ (v : Permanent B). (n : ℕ) → week_of n ≡ week_of v.last + 1 → body_in xs c n ≡ Some v.body →
-                Breaks form (window_of c) (body_in xs c) v) one
+                Breaks form (window_of c) (runs_in xs c v.body) v) one
                 (λ n next runs_n. o.ended n (let h : week_of n < week = over n o.body runs_n in omega arith) next runs_n);
           }
 
@@ -424,8 +416,9 @@ module _ {B : Type 0} (form : Form) (xs : List (Terms B)) (c : CalendarParts) (s
               (before-dates i j (get_or records i d) (get_or records j d) less
               (slice_get-get_or records i d (omega arith)) (slice_get-get_or records j d below)).0;
           aligned = λ k d below.
-              grown_aligned (window_of c) (body_in xs c) (inside xs c sources) form (get_or records k d)
-              (stands k (get_or records k d) (slice_get-get_or records k d below)).grown;
+              let r = get_or records k d in
+              grown_aligned (window_of c) (runs_in xs c r.body) (inside xs c sources r.body) form r
+              (stands k r (slice_get-get_or records k d below)).grown;
           apart = λ i j d less below same.
               let r = get_or records i d in
               let s = get_or records j d in
@@ -435,8 +428,9 @@ module _ {B : Type 0} (form : Form) (xs : List (Terms B)) (c : CalendarParts) (s
               let l = stands j s at_j in
               record {
                 before = (before-dates i j r s less at_i at_j).1 same;
-                change = λ next. grown_change (window_of c) (body_in xs c) (inside xs c sources) form r s h.grown
-                    (h.ended s.first next (l.grown.first_runs ∙ ap Some (sym same))) l.grown same next;
+                change = λ next. grown_change (window_of c) (runs_in xs c r.body) (inside xs c sources r.body) form r s h.grown
+                    (h.ended s.first next (l.grown.first_runs ∙ ap Some (sym same)))
+                    (subst (λ b. IsGrown form (window_of c) (runs_in xs c b) s) (sym same) l.grown) next;
               };
           complete = λ n b within runs_n.
               let h = u.complete n b (let o : week_of n < week = over n b runs_n in omega arith) runs_n in
@@ -447,11 +441,11 @@ module _ {B : Type 0} (form : Form) (xs : List (Terms B)) (c : CalendarParts) (s
               let body : r.body ≡ b = same_Some r.body b (sym i.body ∙ h.has) in (
                 r,
                 (h.place, slice_get_within records h.place r at, get_or_from_slice_get records h.place r r at),
-                grown_applies (window_of c) (body_in xs c) (inside xs c sources) form r s.grown n (omega (arith, h.from))
+                grown_applies (window_of c) (runs_in xs c r.body) (inside xs c sources r.body) form r s.grown n (omega (arith, h.from))
                     (omega (arith, h.upto)) (runs_n ∙ ap Some (sym body)),
               );
           sound = λ n r listed on.
-              grown_runs (window_of c) (body_in xs c) (inside xs c sources) form r (stands-in r listed).1.grown n on;
+              grown_runs (window_of c) (runs_in xs c r.body) (inside xs c sources r.body) form r (stands-in r listed).1.grown n on;
         }));
       }
 

@@ -1,5 +1,5 @@
 -- A record starts with one week, and grows by the next week where the two agree.
-use Rattle.std.proofs.Common.{◌≡◌, ◌⊎◌, inl, inr, ◌↔◌, ℕ, ◌+◌, ◌-◌, ◌≤◌, List, Bool, Option, Some, length, arith, refl, sym, ◌∙◌, ap, subst}
+use Rattle.std.proofs.Common.{◌≡◌, ◌⊎◌, inl, inr, ◌↔◌, ℕ, ◌+◌, ◌-◌, ◌≤◌, List, Bool, length, arith, refl, sym, ◌∙◌, ap, subst}
 use Rattle.std.proofs.lemmas.Bool.{cases_lt}
 use Rattle.cif_columns.specs.Day.{week_of, weekday_of}
 use Rattle.cif_columns.specs.DaysRun.{RunsOn}
@@ -10,49 +10,49 @@ use Rattle.cif_weeks.specs.Permanent.{Permanent}
 use Rattle.cif_weeks.specs.Steps.WeekMasks.{IsLastDay, IsMask, MasksAgree}
 use Rattle.cif_weeks.specs.Steps.Growing.{Fits, IsGrown}
 use Rattle.cif_weeks.proofs.WeekDays.{day_rises, week_of-next, weekday_of-next, RunsOn-below}
-use Rattle.cif_weeks.proofs.Masks.{mask_runs, mask_moved, last_runs, last_latest}
+use Rattle.cif_weeks.proofs.Masks.{mask_runs, last_runs, last_latest}
 
-module _ {B : Type 0} (window : Window) (body_on : ℕ → Option B)
-    (inside : (n : ℕ) (b : B) → body_on n ≡ Some b → IsWithin window n) where
-  start_fits : (form : Form) (r : Permanent B) (week : ℕ) → IsMask body_on r.body week r.days → Fits form window body_on r week
+module _ {B : Type 0} (window : Window) (on : ℕ → Type 0) (inside : (n : ℕ) → on n → IsWithin window n) where
+  start_fits : (form : Form) (r : Permanent B) (week : ℕ) → IsMask on week r.days → Fits form window on r week
   start_fits One r week m = m
-  start_fits Two r week m = record { shows = m.shows; full = λ n at within on. mask_runs body_on r.body week r.days n m at on }
+  start_fits Two r week m = record { shows = m.shows; full = λ n at within has. mask_runs on week r.days n m at has }
 
   -- a record of one week, from the first day to the last on which its body runs there
-  pub grown_start : (form : Form) (r : Permanent B) → IsMask body_on r.body (week_of r.first) r.days
-      → IsLastDay (week_of r.first) r.days r.last → body_on r.first ≡ Some r.body
-      → ((n : ℕ) → week_of n ≡ week_of r.first → body_on n ≡ Some r.body → r.first ≤ n) → IsGrown form window body_on r
+  pub grown_start : (form : Form) (r : Permanent B) → IsMask on (week_of r.first) r.days
+      → IsLastDay (week_of r.first) r.days r.last → on r.first
+      → ((n : ℕ) → week_of n ≡ week_of r.first → on n → r.first ≤ n) → IsGrown form window on r
   grown_start form r m l runs earliest =
       let one : week_of r.last ≡ week_of r.first = l.in_week in
       record {
         seven = m.seven;
         in_order = omega arith;
         first_runs = runs;
-        last_runs = last_runs body_on r.body (week_of r.first) r.days r.last m l;
+        last_runs = last_runs on (week_of r.first) r.days r.last m l;
         earliest = earliest;
-        latest = λ n at runs_n. last_latest body_on r.body (week_of r.first) r.days r.last n m l (at ∙ one) runs_n;
-        used = λ w on. let (n, at, day, runs_n) = m.only w on in (n, day, omega arith, omega arith, runs_n);
+        latest = λ n at runs_n. last_latest on (week_of r.first) r.days r.last n m l (at ∙ one) runs_n;
+        used = λ w has. let (n, at, day, runs_n) = m.only w has in (n, day, omega arith, omega arith, runs_n);
         fits = λ week begun unfinished.
-            start_fits form r week (mask_moved body_on r.body (week_of r.first) week r.days (omega arith) m);
+            let here : week_of r.first ≡ week = omega arith in
+            start_fits form r week (subst (λ v. IsMask on v r.days) here m);
       }
 
   module _ (r : Permanent B) (week : ℕ) (next both : List Bool) (here : week_of r.last ≡ week)
-      (k : IsMask body_on r.body (week + 1) next)
+      (k : IsMask on (week + 1) next)
       (seven : length both ≡ 7) (union : (w : ℕ) → RunsOn both w ↔ (RunsOn r.days w ⊎ RunsOn next w)) where
     -- form 1: the weekdays of the record's mask are those of the next week's
     one_both : MasksAgree One window week r.days next → (w : ℕ) → RunsOn both w → RunsOn r.days w
-    one_both agree w on = elim ((union w).0 on) [
+    one_both agree w has = elim ((union w).0 has) [
       | inl h ↦ h
       | inr h ↦ (agree w (RunsOn-below next w k.seven h) tt).1 h
     ]
 
     -- form 2: the weekdays of the next week's mask are right in the record's weeks, and those of the record's in the next week
-    module _ (g : IsGrown Two window body_on r) (agree : MasksAgree Two window week r.days next) where
+    module _ (g : IsGrown Two window on r) (agree : MasksAgree Two window week r.days next) where
       two_old : (n : ℕ) → week_of r.first ≤ week_of n → week_of n ≤ week_of r.last → IsWithin window n
-          → RunsOn next (weekday_of n) → body_on n ≡ Some r.body
-      two_old n begun unfinished within on =
-          let (j, at, day, runs) = k.only (weekday_of n) on in
-          let within_j : IsWithin window j = inside j r.body runs in
+          → RunsOn next (weekday_of n) → on n
+      two_old n begun unfinished within has =
+          let (j, at, day, runs) = k.only (weekday_of n) has in
+          let within_j : IsWithin window j = inside j runs in
           let i : ℕ = j - 7 in
           let j_is : i + 7 ≡ j = omega arith in
           let week_i : week_of i ≡ week = omega (arith, week_of-next i, ap week_of j_is) in
@@ -63,12 +63,12 @@ module _ {B : Type 0} (window : Window) (body_on : ℕ → Option B)
           let within_i : IsWithin window i = record { from = omega arith; upto = omega arith } in
           let next_within : IsWithin window (i + 7) = subst (λ v. IsWithin window v) (sym j_is) within_j in
           (g.fits (week_of n) begun unfinished).full n refl within
-          ((agree (weekday_of n) (RunsOn-below next (weekday_of n) k.seven on) (i, week_i, day_i, within_i, next_within)).1 on)
+          ((agree (weekday_of n) (RunsOn-below next (weekday_of n) k.seven has) (i, week_i, day_i, within_i, next_within)).1 has)
 
-      two_next : (n : ℕ) → week_of n ≡ week + 1 → IsWithin window n → RunsOn r.days (weekday_of n) → body_on n ≡ Some r.body
-      two_next n at within on =
-          let (j, day, begun, unfinished, runs) = g.used (weekday_of n) on in
-          let within_j : IsWithin window j = inside j r.body runs in
+      two_next : (n : ℕ) → week_of n ≡ week + 1 → IsWithin window n → RunsOn r.days (weekday_of n) → on n
+      two_next n at within has =
+          let (j, day, begun, unfinished, runs) = g.used (weekday_of n) has in
+          let within_j : IsWithin window j = inside j runs in
           let i : ℕ = n - 7 in
           let n_is : i + 7 ≡ n = omega arith in
           let week_i : week_of i ≡ week = omega (arith, week_of-next i, ap week_of n_is) in
@@ -78,47 +78,47 @@ module _ {B : Type 0} (window : Window) (body_on : ℕ → Option B)
           let upto : n ≤ window.last = within.upto in
           let within_i : IsWithin window i = record { from = omega arith; upto = omega arith } in
           let next_within : IsWithin window (i + 7) = subst (λ v. IsWithin window v) (sym n_is) within in
-          mask_runs body_on r.body (week + 1) next n k at
-          ((agree (weekday_of n) (RunsOn-below r.days (weekday_of n) g.seven on) (i, week_i, day_i, within_i, next_within)).0 on)
+          mask_runs on (week + 1) next n k at
+          ((agree (weekday_of n) (RunsOn-below r.days (weekday_of n) g.seven has) (i, week_i, day_i, within_i, next_within)).0 has)
 
     module _ (last : ℕ) where
-      old_fits : (form : Form) (v : ℕ) → IsGrown form window body_on r → MasksAgree form window week r.days next
+      old_fits : (form : Form) (v : ℕ) → IsGrown form window on r → MasksAgree form window week r.days next
           → week_of r.first ≤ v → v ≤ week_of r.last
-          → Fits form window body_on (record { first = r.first; last = last; days = both; body = r.body }) v
+          → Fits form window on (record { first = r.first; last = last; days = both; body = r.body }) v
       old_fits One v g agree begun unfinished = record {
         seven = seven;
         shows = λ n at runs. (union (weekday_of n)).1 (inl ((g.fits v begun unfinished).shows n at runs));
-        only = λ w on. (g.fits v begun unfinished).only w (one_both agree w on);
+        only = λ w has. (g.fits v begun unfinished).only w (one_both agree w has);
       }
       old_fits Two v g agree begun unfinished = record {
         shows = λ n at runs. (union (weekday_of n)).1 (inl ((g.fits v begun unfinished).shows n at runs));
-        full = λ n at within on. elim ((union (weekday_of n)).0 on) [
+        full = λ n at within has. elim ((union (weekday_of n)).0 has) [
           | inl h ↦ (g.fits v begun unfinished).full n at within h
           | inr h ↦ two_old g agree n (omega arith) (omega arith) within h
         ];
       }
 
-      new_fits : (form : Form) → IsGrown form window body_on r → MasksAgree form window week r.days next
-          → Fits form window body_on (record { first = r.first; last = last; days = both; body = r.body }) (week + 1)
+      new_fits : (form : Form) → IsGrown form window on r → MasksAgree form window week r.days next
+          → Fits form window on (record { first = r.first; last = last; days = both; body = r.body }) (week + 1)
       new_fits One g agree = record {
         seven = seven;
         shows = λ n at runs. (union (weekday_of n)).1 (inr (k.shows n at runs));
-        only = λ w on. k.only w ((agree w (RunsOn-below both w seven on) tt).0 (one_both agree w on));
+        only = λ w has. k.only w ((agree w (RunsOn-below both w seven has) tt).0 (one_both agree w has));
       }
       new_fits Two g agree = record {
         shows = λ n at runs. (union (weekday_of n)).1 (inr (k.shows n at runs));
-        full = λ n at within on. elim ((union (weekday_of n)).0 on) [
+        full = λ n at within has. elim ((union (weekday_of n)).0 has) [
           | inl h ↦ two_next g agree n at within h
-          | inr h ↦ mask_runs body_on r.body (week + 1) next n k at h
+          | inr h ↦ mask_runs on (week + 1) next n k at h
         ];
       }
 
   -- the record with the next week, which agrees with its last one
   pub grown_more : (form : Form) (r : Permanent B) (week : ℕ) (next both : List Bool) (last : ℕ)
-      → week_of r.last ≡ week → IsGrown form window body_on r
-      → IsMask body_on r.body (week + 1) next → MasksAgree form window week r.days next
+      → week_of r.last ≡ week → IsGrown form window on r
+      → IsMask on (week + 1) next → MasksAgree form window week r.days next
       → length both ≡ 7 → ((w : ℕ) → RunsOn both w ↔ (RunsOn r.days w ⊎ RunsOn next w)) → IsLastDay (week + 1) next last
-      → IsGrown form window body_on (record { first = r.first; last = last; days = both; body = r.body })
+      → IsGrown form window on (record { first = r.first; last = last; days = both; body = r.body })
   grown_more form r week next both last here g k agree seven union l =
       let at_last : week_of last ≡ week + 1 = l.in_week in
       let in_order : week_of r.first ≤ week_of r.last = g.in_order in
@@ -126,10 +126,10 @@ module _ {B : Type 0} (window : Window) (body_on : ℕ → Option B)
         seven = seven;
         in_order = omega arith;
         first_runs = g.first_runs;
-        last_runs = last_runs body_on r.body (week + 1) next last k l;
+        last_runs = last_runs on (week + 1) next last k l;
         earliest = g.earliest;
-        latest = λ n at runs. last_latest body_on r.body (week + 1) next last n k l (at ∙ at_last) runs;
-        used = λ w on. elim ((union w).0 on) [
+        latest = λ n at runs. last_latest on (week + 1) next last n k l (at ∙ at_last) runs;
+        used = λ w has. elim ((union w).0 has) [
           | inl h ↦ let (n, day, begun, unfinished, runs) = g.used w h in (n, day, begun, omega arith, runs)
           | inr h ↦ let (n, at, day, runs) = k.only w h in (n, day, omega arith, omega arith, runs)
         ];
@@ -137,7 +137,7 @@ module _ {B : Type 0} (window : Window) (body_on : ℕ → Option B)
           | inr old ↦ old_fits r week next both here k seven union last form v g agree begun old
           | inl new ↦
               let is : week + 1 ≡ v = omega arith in
-              subst (λ v. Fits form window body_on (record { first = r.first; last = last; days = both; body = r.body }) v) is
+              subst (λ v. Fits form window on (record { first = r.first; last = last; days = both; body = r.body }) v) is
               (new_fits r week next both here k seven union last form g agree)
         ];
       }

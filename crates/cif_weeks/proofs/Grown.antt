@@ -1,5 +1,5 @@
 -- Records that have grown: on which days they apply, that they are aligned, and the change where one ends and another begins.
-use Rattle.std.proofs.Common.{◌≡◌, inl, inr, ℕ, ◌+◌, ◌<◌, ◌≤◌, Option, Some, arith, refl, sym, subst}
+use Rattle.std.proofs.Common.{◌≡◌, inl, inr, ℕ, ◌+◌, ◌<◌, ◌≤◌, arith, refl, subst}
 use Rattle.std.proofs.lemmas.Bool.{cases_lt}
 use Rattle.cif_columns.specs.Day.{week_of, weekday_of}
 use Rattle.cif_columns.specs.DaysRun.{RunsOn}
@@ -16,40 +16,39 @@ use Rattle.cif_weeks.proofs.WeekDays.{week_of-rises, day_rises_week, week_of-nex
 use Rattle.cif_weeks.proofs.Masks.{mask_runs}
 use Rattle.cif_weeks.proofs.Separate.{change-seven_days}
 
-module _ {B : Type 0} (window : Window) (body_on : ℕ → Option B)
-    (inside : (n : ℕ) (b : B) → body_on n ≡ Some b → IsWithin window n) where
+module _ {B : Type 0} (window : Window) (on : ℕ → Type 0) (inside : (n : ℕ) → on n → IsWithin window n) where
   -- where its mask fits a week, the mask has each weekday on which the body runs there
-  pub fits_shows : (form : Form) (r : Permanent B) (week n : ℕ) → Fits form window body_on r week → week_of n ≡ week
-      → body_on n ≡ Some r.body → RunsOn r.days (weekday_of n)
+  pub fits_shows : (form : Form) (r : Permanent B) (week n : ℕ) → Fits form window on r week → week_of n ≡ week
+      → on n → RunsOn r.days (weekday_of n)
   fits_shows One r week n f at runs = f.shows n at runs
   fits_shows Two r week n f at runs = f.shows n at runs
 
   -- and its body runs on each day of the week and the window whose weekday is in the mask
-  pub fits_full : (form : Form) (r : Permanent B) (week n : ℕ) → Fits form window body_on r week → week_of n ≡ week
-      → IsWithin window n → RunsOn r.days (weekday_of n) → body_on n ≡ Some r.body
-  fits_full One r week n f at within on = mask_runs body_on r.body week r.days n f at on
-  fits_full Two r week n f at within on = f.full n at within on
+  pub fits_full : (form : Form) (r : Permanent B) (week n : ℕ) → Fits form window on r week → week_of n ≡ week
+      → IsWithin window n → RunsOn r.days (weekday_of n) → on n
+  fits_full One r week n f at within has = mask_runs on week r.days n f at has
+  fits_full Two r week n f at within has = f.full n at within has
 
-  module _ (form : Form) (r : Permanent B) (g : IsGrown form window body_on r) where
-    fits_first : Fits form window body_on r (week_of r.first)
+  module _ (form : Form) (r : Permanent B) (g : IsGrown form window on r) where
+    fits_first : Fits form window on r (week_of r.first)
     fits_first = g.fits (week_of r.first) (omega arith) g.in_order
 
     -- its mask fits its last week
-    pub fits_last : Fits form window body_on r (week_of r.last)
+    pub fits_last : Fits form window on r (week_of r.last)
     fits_last = g.fits (week_of r.last) g.in_order (omega arith)
 
     -- where a grown record applies, its body runs
-    pub grown_runs : (n : ℕ) → Applies r n → body_on n ≡ Some r.body
+    pub grown_runs : (n : ℕ) → Applies r n → on n
     grown_runs n h =
-        let a : window.first ≤ r.first = (inside r.first r.body g.first_runs).from in
-        let b : r.last ≤ window.last = (inside r.last r.body g.last_runs).upto in
+        let a : window.first ≤ r.first = (inside r.first g.first_runs).from in
+        let b : r.last ≤ window.last = (inside r.last g.last_runs).upto in
         let c : r.first ≤ n = h.begun in
         let d : n ≤ r.last = h.unfinished in
         fits_full form r (week_of n) n (g.fits (week_of n) (week_of-rises r.first n c) (week_of-rises n r.last d)) refl
         (record { from = omega arith; upto = omega arith }) h.on_weekday
 
     -- and where its body runs in its weeks, it applies
-    pub grown_applies : (n : ℕ) → week_of r.first ≤ week_of n → week_of n ≤ week_of r.last → body_on n ≡ Some r.body → Applies r n
+    pub grown_applies : (n : ℕ) → week_of r.first ≤ week_of n → week_of n ≤ week_of r.last → on n → Applies r n
     grown_applies n begun unfinished runs = record {
       begun = elim (cases_lt (week_of r.first) (week_of n)) [
         | inl later ↦ let h : r.first < n = day_rises_week r.first n later in omega arith
@@ -70,23 +69,23 @@ module _ {B : Type 0} (window : Window) (body_on : ℕ → Option B)
     grown_last = grown_applies r.last g.in_order (omega arith) g.last_runs
 
   -- a grown record is aligned
-  pub grown_aligned : (form : Form) (r : Permanent B) → IsGrown form window body_on r → IsAligned form window r
+  pub grown_aligned : (form : Form) (r : Permanent B) → IsGrown form window on r → IsAligned form window r
   grown_aligned One r g = record {
     seven = g.seven;
     in_order = (grown_last One r g).begun;
-    first_within = inside r.first r.body g.first_runs;
-    last_within = inside r.last r.body g.last_runs;
+    first_within = inside r.first g.first_runs;
+    last_within = inside r.last g.last_runs;
     least = record {
       runs = (grown_first One r g).on_weekday;
-      none_before = λ w sooner on.
-          let (n, at, day, runs) = (fits_first One r g).only w on in
+      none_before = λ w sooner has.
+          let (n, at, day, runs) = (fits_first One r g).only w has in
           let h : r.first ≤ n = g.earliest n at runs in
           omega arith;
     };
     greatest = record {
       runs = (grown_last One r g).on_weekday;
-      none_after = λ w later on.
-          let (n, at, day, runs) = (fits_last One r g).only w on in
+      none_after = λ w later has.
+          let (n, at, day, runs) = (fits_last One r g).only w has in
           let h : n ≤ r.last = g.latest n at runs in
           omega arith;
     };
@@ -94,30 +93,27 @@ module _ {B : Type 0} (window : Window) (body_on : ℕ → Option B)
   grown_aligned Two r g = record {
     seven = g.seven;
     first = record {
-      within = inside r.first r.body g.first_runs;
+      within = inside r.first g.first_runs;
       in_week = refl;
       in_mask = (grown_first Two r g).on_weekday;
     };
     earliest = λ n h. g.earliest n h.in_week ((fits_first Two r g).full n h.in_week h.within h.in_mask);
     last = record {
-      within = inside r.last r.body g.last_runs;
+      within = inside r.last g.last_runs;
       in_week = refl;
       in_mask = (grown_last Two r g).on_weekday;
     };
     latest = λ n h. g.latest n h.in_week ((fits_last Two r g).full n h.in_week h.within h.in_mask);
-    used = λ w on.
-        let (n, day, begun, unfinished, runs) = g.used w on in
+    used = λ w has.
+        let (n, day, begun, unfinished, runs) = g.used w has in
         (n, day, grown_applies Two r g n begun unfinished runs);
   }
 
-  -- where a record with the body of one begins in the week after it, which doesn't join it, there is a change
-  pub grown_change : (form : Form) (r s : Permanent B) → IsGrown form window body_on r → Breaks form window body_on r
-      → IsGrown form window body_on s → r.body ≡ s.body → week_of s.first ≡ week_of r.last + 1 → Change form window r s
-  grown_change One r s g breaks h same next =
-      let there : IsMask body_on s.body (week_of r.last + 1) s.days =
-      subst (λ v. IsMask body_on s.body v s.days) next (fits_first One s h) in
-      breaks s.days (subst (λ b. IsMask body_on b (week_of r.last + 1) s.days) (sym same) there)
-  grown_change Two r s g (n, t) h same next =
+  -- where a record of the same days begins in the week after one, which doesn't join it, there is a change
+  pub grown_change : (form : Form) (r s : Permanent B) → IsGrown form window on r → Breaks form window on r
+      → IsGrown form window on s → week_of s.first ≡ week_of r.last + 1 → Change form window r s
+  grown_change One r s g breaks h next = breaks s.days (subst (λ v. IsMask on v s.days) next (fits_first One s h))
+  grown_change Two r s g (n, t) h next =
       let at : week_of n ≡ week_of r.last = t.in_week in
       let there : week_of (n + 7) ≡ week_of s.first = omega (arith, week_of-next n) in
       let in_order : week_of s.first ≤ week_of s.last = h.in_order in
@@ -128,13 +124,7 @@ module _ {B : Type 0} (window : Window) (body_on : ℕ → Option B)
         t.within,
         t.next_within,
         elim t.on_one [
-          | inl p ↦ inl (
-            grown_applies Two r g n (omega arith) (omega arith) p.0,
-            λ a. p.1 (subst (λ b. body_on (n + 7) ≡ Some b) (sym same) (grown_runs Two s h (n + 7) a)),
-          )
-          | inr p ↦ inr (
-            λ a. p.0 (grown_runs Two r g n a),
-            grown_applies Two s h (n + 7) (omega arith) (omega arith) (subst (λ b. body_on (n + 7) ≡ Some b) same p.1),
-          )
+          | inl p ↦ inl (grown_applies Two r g n (omega arith) (omega arith) p.0, λ a. p.1 (grown_runs Two s h (n + 7) a))
+          | inr p ↦ inr (λ a. p.0 (grown_runs Two r g n a), grown_applies Two s h (n + 7) (omega arith) (omega arith) p.1)
         ],
       )

@@ -10,7 +10,7 @@ use Rattle.cif_calendar.specs.Calendar.{CalendarParts}
 use Rattle.cif_weeks.specs.Window.{IsWithin}
 use Rattle.cif_weeks.specs.Steps.WeekMasks.{IsMask}
 use Rattle.cif_weeks.specs.Runs.{AreSources, window_of}
-use Rattle.cif_weeks.specs.Steps.WeekBodies.{source_in, body_in, IsBodyUpTo}
+use Rattle.cif_weeks.specs.Steps.WeekBodies.{source_in, runs_in, IsBodyUpTo}
 use Rattle.cif_weeks.specs.declared.week.WeekBody.{WeekBody}
 use Rattle.cif_weeks.proofs.SourcesIn.{source_in-within, source_in-inside}
 
@@ -24,8 +24,8 @@ module _ {B : Type 0} (xs : List (Terms B)) (c : CalendarParts) (sources : AreSo
   body-source None b e = absurd (cc)
   body-source (Some i) b e = (i, refl)
 
-  pub inside : (n : ℕ) (b : B) → body_in xs c n ≡ Some b → IsWithin (window_of c) n
-  inside n b runs = let (i, is) = body-source (source_in c n) b runs in source_in-inside c n i is
+  pub inside : (b : B) (n : ℕ) → runs_in xs c b n → IsWithin (window_of c) n
+  inside b n runs = let (i, is) = body-source (source_in c n) b runs in source_in-inside c n i is
 
   -- a source of the calendar is the position of a body
   pub source-body : (n i : ℕ) → source_in c n ≡ Some i → (b : B) × (body_at xs (Some i) ≡ Some b)
@@ -49,7 +49,7 @@ module _ {B : Type 0} (xs : List (Terms B)) (c : CalendarParts) (sources : AreSo
   pub body-position : (week limit : ℕ) (it : WeekBody) → IsBodyUpTo xs c week limit it → it.source < length xs
   body-position week limit it i = has-below it.source i.body i.has
 
-  pub body-mask : (week : ℕ) (it : WeekBody) → (i : IsBodyUpTo xs c week (week * 7 + 7) it) → IsMask (body_in xs c) i.body week it.days
+  pub body-mask : (week : ℕ) (it : WeekBody) → (i : IsBodyUpTo xs c week (week * 7 + 7) it) → IsMask (runs_in xs c i.body) week it.days
   body-mask week it i = record {
     seven = i.seven;
     shows = λ n at runs. i.shows n at (omega arith) runs;

@@ -1,121 +1,64 @@
--- Weeks that are alike: they have one mask, and a record grows by all of them at once.
-use Rattle.std.proofs.Common.{◌≡◌, inl, inr, zero, suc, ℕ, ◌+◌, ◌-◌, ◌*◌, ◌<◌, ◌≤◌, List, Bool, Option, Some, arith, sym, ◌∙◌, ap, subst}
-use Rattle.std.proofs.lemmas.Bool.{cases_lt}
+-- Weeks with one mask: a record grows by all of them at once.
+use Rattle.std.proofs.Common.{◌≡◌, inl, zero, suc, ℕ, ◌+◌, ◌*◌, ◌≤◌, List, Bool, arith, refl, sym, subst, ⊎_elim}
 use Rattle.cif_columns.specs.Day.{week_of, weekday_of}
 use Rattle.cif_columns.specs.DaysRun.{RunsOn}
 use Rattle.cif_weeks.specs.declared.form.Form.{Form}
 use Rattle.cif_weeks.specs.declared.form.Form.TheVariants.{One, Two}
 use Rattle.cif_weeks.specs.Window.{Window, IsWithin}
 use Rattle.cif_weeks.specs.Permanent.{Permanent}
-use Rattle.cif_weeks.specs.Steps.WeekMasks.{IsMask, AreAlike}
-use Rattle.cif_weeks.specs.Steps.Growing.{Fits, IsGrown}
-use Rattle.cif_weeks.proofs.WeekDays.{day_rises, week_later, week_of-next, weekday_of-next}
-use Rattle.cif_weeks.proofs.Masks.{mask_moved}
-use Rattle.cif_weeks.proofs.Grown.{fits_last}
+use Rattle.cif_weeks.specs.Steps.WeekMasks.{IsMask, MasksAgree}
+use Rattle.cif_weeks.specs.Steps.Growing.{IsGrown}
+use Rattle.cif_weeks.proofs.WeekDays.{week_later, week_of-next, weekday_of-next}
+use Rattle.cif_weeks.proofs.Growing.{grown_more}
+use Rattle.cif_weeks.proofs.Grown.{fits_last, fits_shows}
 
--- in alike weeks the body of a day is that of the day seven days before, and there is such a day
-pub day_before : {B : Type 0} (body_on : ℕ → Option B) (week n : ℕ) → AreAlike body_on week 1 → week_of n ≡ week + 1
-    → (i : ℕ) × (i + 7 ≡ n) × (week_of i ≡ week) × (weekday_of i ≡ weekday_of n) × (body_on n ≡ body_on i)
-day_before body_on week n a at =
-    let whole : 0 < week = a.whole (omega arith) in
-    let i : ℕ = n - 7 in
-    let is : i + 7 ≡ n = omega arith in
-    let week_i : week_of i ≡ week = omega (arith, week_of-next i, ap week_of is) in
-    let day_i : weekday_of i ≡ weekday_of n = omega (arith, weekday_of-next i, ap weekday_of is) in
-    (i, is, week_i, day_i, subst (λ v. body_on v ≡ body_on i) is (a.same i (omega arith) (omega arith)))
+module _ {B : Type 0} (window : Window) (on : ℕ → Type 0) (inside : (n : ℕ) → on n → IsWithin window n) where
+  module _ (r : Permanent B) (days : List Bool) (m : IsMask on (week_of r.last) days) where
+    -- the mask of a record has the weekdays of the mask of its last week, and agrees with that mask
+    has_days : (form : Form) → IsGrown form window on r → (w : ℕ) → RunsOn days w → RunsOn r.days w
+    has_days form g w has =
+        let (n, at, day, runs) = m.only w has in
+        subst (λ v. RunsOn r.days v) day
+        (fits_shows window on inside form r (week_of r.last) n (fits_last window on inside form r g) at runs)
 
--- the first of the alike weeks with the next, and the others
-pub alike_fewer : {B : Type 0} (body_on : ℕ → Option B) (week k : ℕ) → AreAlike body_on week (suc k) → AreAlike body_on week k
-alike_fewer body_on week k a = record {
-  same = λ n from upto. a.same n from (omega arith);
-  whole = λ some. a.whole (omega arith);
-}
+    days_agree : (form : Form) → IsGrown form window on r → MasksAgree form window (week_of r.last) r.days days
+    days_agree One g w below counts = (
+      λ has.
+          let (n, at, day, runs) = (fits_last window on inside One r g).only w has in
+          subst (λ v. RunsOn days v) day (m.shows n at runs),
+      has_days One g w,
+    )
+    days_agree Two g w below (n, at, day, within, next_within) = (
+      λ has. subst (λ v. RunsOn days v) day
+          (m.shows n at ((fits_last window on inside Two r g).full n at within (subst (λ v. RunsOn r.days v) (sym day) has))),
+      has_days Two g w,
+    )
 
--- the last of the alike weeks with the one before
-pub alike_last : {B : Type 0} (body_on : ℕ → Option B) (week k : ℕ) → AreAlike body_on week (suc k) → AreAlike body_on (week + k) 1
-alike_last body_on week k a = record {
-  same = λ n from upto. a.same n (omega arith) (omega arith);
-  whole = λ some. let whole : 0 < week = a.whole (omega arith) in omega arith;
-}
+    grown_next : (form : Form) → IsGrown form window on r → IsMask on (week_of r.last + 1) days
+        → IsGrown form window on (record { first = r.first; last = r.last + 7; days = r.days; body = r.body })
+    grown_next form g next = grown_more window on inside form r (week_of r.last) days r.days (r.last + 7) refl g next
+        (days_agree form g) g.seven (λ w. (λ has. inl has, ⊎_elim (λ h. h) (λ h. has_days form g w h)))
+        (record {
+          in_week = week_of-next r.last;
+          runs = subst (λ v. RunsOn days v) (sym (weekday_of-next r.last)) (m.shows r.last refl g.last_runs);
+          latest = λ n at has.
+              let (i, at_i, day, runs) = m.only (weekday_of n) has in
+              let h : i ≤ r.last = g.latest i at_i runs in
+              omega arith;
+        })
 
--- a mask of a week is one of the next where they are alike
-mask_next : {B : Type 0} (body_on : ℕ → Option B) (b : B) (week : ℕ) (mask : List Bool) → AreAlike body_on week 1
-    → IsMask body_on b week mask → IsMask body_on b (week + 1) mask
-mask_next body_on b week mask a m = record {
-  seven = m.seven;
-  shows = λ n at runs.
-      let (i, is, week_i, day_i, same) = day_before body_on week n a at in
-      subst (λ v. RunsOn mask v) day_i (m.shows i week_i (sym same ∙ runs));
-  only = λ w on.
-      let (i, week_i, day_i, runs) = m.only w on in
-      (i + 7, omega (arith, week_of-next i), weekday_of-next i ∙ day_i, a.same i (omega arith) (omega arith) ∙ runs);
-}
-
-module _ {B : Type 0} (window : Window) (body_on : ℕ → Option B)
-    (inside : (n : ℕ) (b : B) → body_on n ≡ Some b → IsWithin window n) where
-  -- the same mask and body fit the same weeks
-  fits_later : (form : Form) (r : Permanent B) (last week : ℕ) → Fits form window body_on r week
-      → Fits form window body_on (record { first = r.first; last = last; days = r.days; body = r.body }) week
-  fits_later One r last week f = f
-  fits_later Two r last week f = record { shows = f.shows; full = f.full }
-
-  next_fits : (form : Form) (r : Permanent B) (week : ℕ) → week_of r.last ≡ week → IsGrown form window body_on r
-      → AreAlike body_on week 1 → Fits form window body_on r (week + 1)
-  next_fits One r week here g a =
-      mask_next body_on r.body week r.days a
-      (mask_moved body_on r.body (week_of r.last) week r.days here (fits_last window body_on inside One r g))
-  next_fits Two r week here g a = record {
-    shows = λ n at runs.
-        let (i, is, week_i, day_i, same) = day_before body_on week n a at in
-        subst (λ v. RunsOn r.days v) day_i
-        ((fits_last window body_on inside Two r g).shows i (week_i ∙ sym here) (sym same ∙ runs));
-    full = λ n at within on.
-        let (i, is, week_i, day_i, same) = day_before body_on week n a at in
-        let (j, day, begun, unfinished, runs) = g.used (weekday_of n) on in
-        let j_le_i : j ≤ i = day_rises j i (omega arith) (omega arith) in
-        let from : window.first ≤ j = (inside j r.body runs).from in
-        let upto : n ≤ window.last = within.upto in
-        let within_i : IsWithin window i = record { from = omega arith; upto = omega arith } in
-        same ∙ (fits_last window body_on inside Two r g).full i (week_i ∙ sym here) within_i
-        (subst (λ v. RunsOn r.days v) (sym day_i) on);
-  }
-
-  grown_next : (form : Form) (r : Permanent B) (week : ℕ) → week_of r.last ≡ week → IsGrown form window body_on r
-      → AreAlike body_on week 1
-      → IsGrown form window body_on (record { first = r.first; last = r.last + 7; days = r.days; body = r.body })
-  grown_next form r week here g a =
-      let last : week_of (r.last + 7) ≡ week + 1 = omega (arith, week_of-next r.last) in
-      let in_order : week_of r.first ≤ week_of r.last = g.in_order in
-      record {
-        seven = g.seven;
-        in_order = omega arith;
-        first_runs = g.first_runs;
-        last_runs = a.same r.last (omega arith) (omega arith) ∙ g.last_runs;
-        earliest = g.earliest;
-        latest = λ n at runs.
-            let (i, is, week_i, day_i, same) = day_before body_on week n a (at ∙ last) in
-            let h : i ≤ r.last = g.latest i (week_i ∙ sym here) (sym same ∙ runs) in
-            omega arith;
-        used = λ w on. let (n, day, begun, unfinished, runs) = g.used w on in (n, day, begun, omega arith, runs);
-        fits = λ v begun unfinished. fits_later form r (r.last + 7) v (elim (cases_lt (week_of r.last) v) [
-          | inr old ↦ g.fits v begun old
-          | inl new ↦
-              let is : week + 1 ≡ v = omega arith in
-              subst (λ v. Fits form window body_on r v) is (next_fits form r week here g a)
-        ]);
-      }
-
-  -- the record with k weeks more, where its last week and these are alike
-  pub grown_jump : (form : Form) (r : Permanent B) (week k : ℕ) → week_of r.last ≡ week → IsGrown form window body_on r
-      → AreAlike body_on week k
-      → IsGrown form window body_on (record { first = r.first; last = r.last + 7 * k; days = r.days; body = r.body })
-  grown_jump form r week zero here g a =
+  -- the record with k weeks more, where its last week and these have one mask
+  pub grown_jump : (form : Form) (r : Permanent B) (week k : ℕ) (days : List Bool) → week_of r.last ≡ week → IsGrown form window on r
+      → ((v : ℕ) → week ≤ v → v ≤ week + k → IsMask on v days)
+      → IsGrown form window on (record { first = r.first; last = r.last + 7 * k; days = r.days; body = r.body })
+  grown_jump form r week zero days here g masks =
       let same : r.last ≡ r.last + 7 * zero = omega arith in
-      subst (λ v. IsGrown form window body_on (record { first = r.first; last = v; days = r.days; body = r.body })) same g
-  grown_jump form r week (suc k) here g a =
+      subst (λ v. IsGrown form window on (record { first = r.first; last = v; days = r.days; body = r.body })) same g
+  grown_jump form r week (suc k) days here g masks =
       let s : Permanent B = record { first = r.first; last = r.last + 7 * k; days = r.days; body = r.body } in
-      let h : IsGrown form window body_on s = grown_jump form r week k here g (alike_fewer body_on week k a) in
+      let h : IsGrown form window on s = grown_jump form r week k days here g (λ v from upto. masks v from (omega arith)) in
       let there : week_of (r.last + 7 * k) ≡ week + k = omega (arith, week_later r.last k) in
       let same : (r.last + 7 * k) + 7 ≡ r.last + 7 * suc k = omega arith in
-      subst (λ v. IsGrown form window body_on (record { first = r.first; last = v; days = r.days; body = r.body })) same
-      (grown_next form s (week + k) there h (alike_last body_on week k a))
+      subst (λ v. IsGrown form window on (record { first = r.first; last = v; days = r.days; body = r.body })) same
+      (grown_next s days (masks (week_of s.last) (omega arith) (omega arith)) form h
+      (masks (week_of s.last + 1) (omega arith) (omega arith)))

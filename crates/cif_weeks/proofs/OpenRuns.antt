@@ -15,7 +15,7 @@ use Rattle.cif_weeks.specs.declared.week.Week.{Week}
 use Rattle.cif_weeks.specs.Runs.{AreSources, record_of, window_of}
 use Rattle.cif_weeks.specs.Steps.Growing.{Breaks, IsGrown}
 use Rattle.cif_weeks.specs.Steps.WeekMasks.{IsLastDay, IsMask, MasksAgree, MasksDiffer}
-use Rattle.cif_weeks.specs.Steps.WeekBodies.{source_in, body_in, IsBodyUpTo, IsWeek}
+use Rattle.cif_weeks.specs.Steps.WeekBodies.{source_in, body_in, runs_in, IsBodyUpTo, IsWeek}
 use Rattle.cif_weeks.specs.declared.week.WeekBody.{WeekBody}
 use Rattle.cif_weeks.specs.Steps.OpenRuns.{RunsBefore, IsOpenRun, ComesBefore, AreOpen, ArePlaces, IsBefore}
 use Rattle.cif_weeks.specs.Steps.OpenRuns.{Joins, JoinNone, IsAdded}
@@ -26,7 +26,7 @@ use Rattle.cif_weeks.proofs.Ended.{breaks_differ}
 use Rattle.cif_weeks.proofs.Jump.{grown_jump}
 use Rattle.cif_weeks.proofs.Masks.{last_runs}
 use Rattle.cif_weeks.proofs.SourcesIn.{source_in-inside}
-use Rattle.cif_weeks.proofs.AlikeWeeks.{alike-bodies, alike-source}
+use Rattle.cif_weeks.proofs.AlikeWeeks.{alike-masks, alike-source}
 use Rattle.cif_weeks.proofs.Growth.{inside, body-source, body-mask}
 
 -- more days are known
@@ -77,7 +77,7 @@ module _ {B : Type 0} (form : Form) (xs : List (Terms B)) (c : CalendarParts) (w
     (u : AreOpen form xs c week last limit old) (in_week : (n : ℕ) → n + 4 ≡ limit → week_of n ≡ week) where
   -- a run that stays as it is
   later : (r : Run) → (o : IsOpenRun form xs c week last limit r) → ((n : ℕ) → n + 4 ≡ limit → week_of r.last + 1 ≡ week →
-      body_in xs c n ≡ Some o.body → Breaks form (window_of c) (body_in xs c) (record_of r o.body)) →
+      body_in xs c n ≡ Some o.body → Breaks form (window_of c) (runs_in xs c o.body) (record_of r o.body)) →
       IsOpenRun form xs c week last (limit + 1) r
   later r o breaks = record {
     body = o.body;
@@ -103,8 +103,8 @@ module _ {B : Type 0} (form : Form) (xs : List (Terms B)) (c : CalendarParts) (w
       (p : IsPut old new place it) (i : IsOpenRun form xs c week last (limit + 1) it) (has : body_at xs (Some it.source) ≡ Some b)
       (from : week_of it.first ≤ week) (upto : week ≤ week_of it.last)
       (breaks : (j : ℕ) (r : Run) (d : B) → j ≢ place → slice_get old j ≡ Some r → body_at xs (Some r.source) ≡ Some d →
-      IsGrown form (window_of c) (body_in xs c) (record_of r d) →
-      body_in xs c n ≡ Some d → week_of r.last + 1 ≡ week → Breaks form (window_of c) (body_in xs c) (record_of r d))
+      IsGrown form (window_of c) (runs_in xs c d) (record_of r d) →
+      body_in xs c n ≡ Some d → week_of r.last + 1 ≡ week → Breaks form (window_of c) (runs_in xs c d) (record_of r d))
       (before : (j : ℕ) (r : Run) → j < place → slice_get old j ≡ Some r → ComesBefore xs r it)
       (after : (j : ℕ) (r : Run) → place < j → slice_get old j ≡ Some r → ComesBefore xs it r) where
     pub open-put : AreOpen form xs c week last (limit + 1) new
@@ -170,7 +170,7 @@ module _ {B : Type 0} (form : Form) (xs : List (Terms B)) (c : CalendarParts) (s
   abbrev body : B
   body = s.body
 
-  mask : IsMask (body_in xs c) body week.number days
+  mask : IsMask (runs_in xs c body) week.number days
   mask = body-mask xs c sources week.number t s
 
   -- the day on which it begins
@@ -238,18 +238,18 @@ module _ {B : Type 0} (form : Form) (xs : List (Terms B)) (c : CalendarParts) (s
         let body_is : b ≡ o.body = same_Some b o.body (sym has ∙ o.has) in
         let ends = ends-before place run j.listed at has in
         let old_week = week_of run.last in
-        let grown : IsGrown form (window_of c) (body_in xs c) (record_of run b) =
-        subst (λ d. IsGrown form (window_of c) (body_in xs c) (record_of run d)) (sym body_is) o.grown in
-        let next : IsMask (body_in xs c) b (old_week + 1) days = subst (λ v. IsMask (body_in xs c) b v days) (sym ends) mask in
-        let one : IsGrown form (window_of c) (body_in xs c) (record { first = run.first; last = day; days = both; body = b }) =
-        grown_more (window_of c) (body_in xs c) (inside xs c sources) form (record_of run b) old_week days both day refl grown
+        let grown : IsGrown form (window_of c) (runs_in xs c b) (record_of run b) =
+        subst (λ d. IsGrown form (window_of c) (runs_in xs c d) (record_of run d)) (sym body_is) o.grown in
+        let next : IsMask (runs_in xs c b) (old_week + 1) days = subst (λ v. IsMask (runs_in xs c b) v days) (sym ends) mask in
+        let one : IsGrown form (window_of c) (runs_in xs c b) (record { first = run.first; last = day; days = both; body = b }) =
+        grown_more (window_of c) (runs_in xs c b) (inside xs c sources b) form (record_of run b) old_week days both day refl grown
         next (subst (λ (r : Run). MasksAgree form (window_of c) old_week r.days days) one_run (j.agree old_week ends)) seven union
         (subst (λ v. IsLastDay v days day) (sym ends) l) in
-        let all : IsGrown form (window_of c) (body_in xs c) (record_of it b) =
-        subst (λ v. IsGrown form (window_of c) (body_in xs c) (record { first = run.first; last = v; days = both; body = b })) (sym is_last)
-        (grown_jump (window_of c) (body_in xs c) (inside xs c sources) form
-        (record { first = run.first; last = day; days = both; body = b }) week.number (week.last_alike - week.number) l.in_week one
-        (alike-bodies xs c week.number week.last_alike k.from k.alike)) in
+        let all : IsGrown form (window_of c) (runs_in xs c b) (record_of it b) =
+        subst (λ v. IsGrown form (window_of c) (runs_in xs c b) (record { first = run.first; last = v; days = both; body = b })) (sym is_last)
+        (grown_jump (window_of c) (runs_in xs c b) (inside xs c sources b) form
+        (record { first = run.first; last = day; days = both; body = b }) week.number (week.last_alike - week.number) days l.in_week one
+        (λ v from upto. alike-masks xs c b week.number week.last_alike days k.alike mask v from (omega (arith, k.from)))) in
         let upto : week_of it.last ≡ week.last_alike = omega (arith, k.from, l.in_week) in
         let n = day-of.0 in
         let at_n = day-of.1 in
@@ -305,15 +305,15 @@ module _ {B : Type 0} (form : Form) (xs : List (Terms B)) (c : CalendarParts) (s
         let has = s.has in
         let in_week : week.number ≡ week_of first = omega arith in
         let runs_first = runs-first first at_first in
-        let one : IsGrown form (window_of c) (body_in xs c) (record { first = first; last = day; days = days; body = b }) =
-        grown_start (window_of c) (body_in xs c) (inside xs c sources) form (record { first = first; last = day; days = days; body = b })
-        (subst (λ v. IsMask (body_in xs c) b v days) in_week mask) (subst (λ v. IsLastDay v days day) in_week l) runs_first
+        let one : IsGrown form (window_of c) (runs_in xs c b) (record { first = first; last = day; days = days; body = b }) =
+        grown_start (window_of c) (runs_in xs c b) (inside xs c sources b) form (record { first = first; last = day; days = days; body = b })
+        (subst (λ v. IsMask (runs_in xs c b) v days) in_week mask) (subst (λ v. IsLastDay v days day) in_week l) runs_first
         (λ i same runs. earliest first i at_first same runs) in
-        let all : IsGrown form (window_of c) (body_in xs c) (record_of it b) =
-        subst (λ v. IsGrown form (window_of c) (body_in xs c) (record { first = first; last = v; days = days; body = b })) (sym is_last)
-        (grown_jump (window_of c) (body_in xs c) (inside xs c sources) form
-        (record { first = first; last = day; days = days; body = b }) week.number (week.last_alike - week.number) l.in_week one
-        (alike-bodies xs c week.number week.last_alike k.from k.alike)) in
+        let all : IsGrown form (window_of c) (runs_in xs c b) (record_of it b) =
+        subst (λ v. IsGrown form (window_of c) (runs_in xs c b) (record { first = first; last = v; days = days; body = b })) (sym is_last)
+        (grown_jump (window_of c) (runs_in xs c b) (inside xs c sources b) form
+        (record { first = first; last = day; days = days; body = b }) week.number (week.last_alike - week.number) days l.in_week one
+        (λ v from upto. alike-masks xs c b week.number week.last_alike days k.alike mask v from (omega (arith, k.from)))) in
         let upto : week_of it.last ≡ week.last_alike = omega (arith, k.from, l.in_week) in
         let starts : source_in c first ≡ Some source =
         let same : day-of.0 ≡ first = omega (arith, day-of.1) in ap (source_in c) (sym same) ∙ day-of.2 in
@@ -343,9 +343,9 @@ module _ {B : Type 0} (form : Form) (xs : List (Terms B)) (c : CalendarParts) (s
               let differ : MasksDiffer form (window_of c) (week_of r.last) r.days days =
               subst (λ (v : Run). MasksDiffer form (window_of c) (week_of v.last) v.days days) r_is
               (none.differ h.place h.run h.listed h.at (has_h ∙ sym has) (week_of h.run.last) ends_h) in
-              breaks_differ (window_of c) (body_in xs c) (inside xs c sources) form (record_of r d) days grown_r
-              (subst (λ v. IsMask (body_in xs c) d v days) (sym ends_r)
-              (subst (λ v. IsMask (body_in xs c) v week.number days) (sym is_b) mask))
+              breaks_differ (window_of c) (runs_in xs c d) (inside xs c sources d) form (record_of r d) days grown_r
+              (subst (λ v. IsMask (runs_in xs c d) v days) (sym ends_r)
+              (subst (λ v. IsMask (runs_in xs c v) week.number days) (sym is_b) mask))
               differ)
               (λ apart. ⊎_elim
               (λ less. absurd (one-before i h.place r h.run at_r h.at bodies ends_r ends_h less))
@@ -392,7 +392,7 @@ module _ {B : Type 0} (form : Form) (xs : List (Terms B)) (c : CalendarParts) (s
   -- the last day of the mask in the last of the weeks that are like this one is a day of the calendar
   pub last-within : (day : ℕ) → IsLastDay week.number days day → day + 7 * (week.last_alike - week.number) ≤ c.last
   last-within day l =
-      let runs : body_in xs c day ≡ Some body = last_runs (body_in xs c) body week.number days day mask l in
+      let runs : body_in xs c day ≡ Some body = last_runs (runs_in xs c body) week.number days day mask l in
       let (i, is) = body-source xs c sources (source_in c day) body runs in
       let there : source_in c (day + 7 * (week.last_alike - week.number)) ≡ Some i =
       alike-source c week.number week.last_alike k.alike (week.last_alike - week.number) day (omega (arith, l.in_week))

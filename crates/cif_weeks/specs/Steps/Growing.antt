@@ -1,5 +1,5 @@
 -- Steps to the runs: records that grow week by week. No public clause cites them.
-use Rattle.std.specs.Prelude.{◌≡◌, ◌≢◌, ℕ, ◌+◌, ◌≤◌, List, Bool, length, Option, Some}
+use Rattle.std.specs.Prelude.{◌≡◌, ◌≢◌, ℕ, ◌+◌, ◌≤◌, List, Bool, length}
 use Rattle.cif_columns.specs.Day.{week_of, weekday_of}
 use Rattle.cif_columns.specs.DaysRun.{RunsOn}
 use Rattle.cif_weeks.specs.declared.form.Form.{Form}
@@ -9,37 +9,37 @@ use Rattle.cif_weeks.specs.Permanent.{Permanent}
 use Rattle.cif_weeks.specs.Separate.{ExactlyOne}
 use Rattle.cif_weeks.specs.Steps.WeekMasks.{IsMask}
 
--- form 2: on the days of a week that are in the window, the mask has just the weekdays on which the body runs
-pub record FitsWithin {B : Type 0} (window : Window) (body_on : ℕ → Option B) (r : Permanent B) (week : ℕ) : Type 0 where
-  pub shows : (n : ℕ) → week_of n ≡ week → body_on n ≡ Some r.body → RunsOn r.days (weekday_of n)
-  pub full : (n : ℕ) → week_of n ≡ week → IsWithin window n → RunsOn r.days (weekday_of n) → body_on n ≡ Some r.body
+-- form 2: on the days of a week that are in the window, the mask has just the weekdays on which the record's body runs
+pub record FitsWithin {B : Type 0} (window : Window) (on : ℕ → Type 0) (r : Permanent B) (week : ℕ) : Type 0 where
+  pub shows : (n : ℕ) → week_of n ≡ week → on n → RunsOn r.days (weekday_of n)
+  pub full : (n : ℕ) → week_of n ≡ week → IsWithin window n → RunsOn r.days (weekday_of n) → on n
 
 -- the record's mask is right for a week
-abbrev pub Fits : {B : Type 0} → Form → Window → (ℕ → Option B) → Permanent B → ℕ → Type 0
-Fits One window body_on r week = IsMask body_on r.body week r.days
-Fits Two window body_on r week = FitsWithin window body_on r week
+abbrev pub Fits : {B : Type 0} → Form → Window → (ℕ → Type 0) → Permanent B → ℕ → Type 0
+Fits One window on r week = IsMask on week r.days
+Fits Two window on r week = FitsWithin window on r week
 
 -- A record as far as it has grown: its mask is right for each of its weeks, and it begins and ends where its body does in
 -- the first and the last of them.
-pub record IsGrown {B : Type 0} (form : Form) (window : Window) (body_on : ℕ → Option B) (r : Permanent B) : Type 0 where
+pub record IsGrown {B : Type 0} (form : Form) (window : Window) (on : ℕ → Type 0) (r : Permanent B) : Type 0 where
   pub seven : length r.days ≡ 7
   pub in_order : week_of r.first ≤ week_of r.last
-  pub first_runs : body_on r.first ≡ Some r.body
-  pub last_runs : body_on r.last ≡ Some r.body
-  pub earliest : (n : ℕ) → week_of n ≡ week_of r.first → body_on n ≡ Some r.body → r.first ≤ n
-  pub latest : (n : ℕ) → week_of n ≡ week_of r.last → body_on n ≡ Some r.body → n ≤ r.last
+  pub first_runs : on r.first
+  pub last_runs : on r.last
+  pub earliest : (n : ℕ) → week_of n ≡ week_of r.first → on n → r.first ≤ n
+  pub latest : (n : ℕ) → week_of n ≡ week_of r.last → on n → n ≤ r.last
   pub used : (w : ℕ) → RunsOn r.days w →
-      (n : ℕ) × (weekday_of n ≡ w) × (week_of r.first ≤ week_of n) × (week_of n ≤ week_of r.last) × (body_on n ≡ Some r.body)
-  pub fits : (week : ℕ) → week_of r.first ≤ week → week ≤ week_of r.last → Fits form window body_on r week
+      (n : ℕ) × (weekday_of n ≡ w) × (week_of r.first ≤ week_of n) × (week_of n ≤ week_of r.last) × on n
+  pub fits : (week : ℕ) → week_of r.first ≤ week → week ≤ week_of r.last → Fits form window on r week
 
 -- form 2: a day of a week and the day seven later are in the window, and the body runs on just one of them
-pub record TurnsOn {B : Type 0} (window : Window) (body_on : ℕ → Option B) (b : B) (week n : ℕ) : Type 0 where
+pub record TurnsOn (window : Window) (on : ℕ → Type 0) (week n : ℕ) : Type 0 where
   pub in_week : week_of n ≡ week
   pub within : IsWithin window n
   pub next_within : IsWithin window (n + 7)
-  pub on_one : ExactlyOne (body_on n ≡ Some b) (body_on (n + 7) ≡ Some b)
+  pub on_one : ExactlyOne (on n) (on (n + 7))
 
 -- the week after a record's last doesn't join it
-abbrev pub Breaks : {B : Type 0} → Form → Window → (ℕ → Option B) → Permanent B → Type 0
-Breaks One window body_on r = (next : List Bool) → IsMask body_on r.body (week_of r.last + 1) next → r.days ≢ next
-Breaks Two window body_on r = (n : ℕ) × TurnsOn window body_on r.body (week_of r.last) n
+abbrev pub Breaks : {B : Type 0} → Form → Window → (ℕ → Type 0) → Permanent B → Type 0
+Breaks One window on r = (next : List Bool) → IsMask on (week_of r.last + 1) next → r.days ≢ next
+Breaks Two window on r = (n : ℕ) × TurnsOn window on (week_of r.last) n

@@ -13,7 +13,7 @@ use Rattle.cif_weeks.specs.Separate.{Change}
 use Rattle.cif_weeks.specs.Runs.{record_of, window_of}
 use Rattle.cif_weeks.specs.Steps.Growing.{Breaks, IsGrown}
 use Rattle.cif_weeks.specs.Steps.WeekMasks.{MasksAgree, MasksDiffer}
-use Rattle.cif_weeks.specs.Steps.WeekBodies.{body_in, source_in, HaveOneBody}
+use Rattle.cif_weeks.specs.Steps.WeekBodies.{body_in, runs_in, source_in, HaveOneBody}
 
 -- r ends in a week before that in which s begins, and where that is the very next week, there is a change between them
 pub record IsApartFrom {B : Type 0} (form : Form) (window : Window) (r s : Permanent B) : Type 0 where
@@ -35,11 +35,11 @@ pub record IsOpenRun {B : Type 0} (form : Form) (xs : List (Terms B)) (c : Calen
   pub body : B
   pub has : body_at xs (Some run.source) ≡ Some body
   pub starts : source_in c run.first ≡ Some run.source
-  pub grown : IsGrown form (window_of c) (body_in xs c) (record_of run body)
+  pub grown : IsGrown form (window_of c) (runs_in xs c body) (record_of run body)
   pub begun : run.first + 4 < limit
   pub reaches : (week_of run.last < week) ⊎ ((week_of run.last ≡ last) × RunsBefore xs c week limit body)
   pub ended : (n : ℕ) → n + 4 < limit → week_of n ≡ week_of run.last + 1 → body_in xs c n ≡ Some body →
-      Breaks form (window_of c) (body_in xs c) (record_of run body)
+      Breaks form (window_of c) (runs_in xs c body) (record_of run body)
 
 -- a run of the list with body b has the week of day n
 pub record HasDay {B : Type 0} (xs : List (Terms B)) (runs : List Run) (n : ℕ) (b : B) : Type 0 where

@@ -19,6 +19,10 @@ source_in c n = if nat_le c.first n then (if nat_le n c.last then source_at c.pi
 abbrev pub body_in : {B : Type 0} → List (Terms B) → CalendarParts → ℕ → Option B
 body_in xs c n = body_at xs (source_in c n)
 
+-- the days on which body b runs
+abbrev pub runs_in : {B : Type 0} → List (Terms B) → CalendarParts → B → ℕ → Type 0
+runs_in xs c b n = body_in xs c n ≡ Some b
+
 -- the entries at two positions have one body
 abbrev pub HaveOneBody : {B : Type 0} → List (Terms B) → ℕ → ℕ → Type 0
 HaveOneBody xs one other = body_at xs (Some one) ≡ body_at xs (Some other)

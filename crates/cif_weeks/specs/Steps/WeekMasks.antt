@@ -1,5 +1,5 @@
 -- Steps to the runs: the weekdays of a body week by week. No public clause cites them.
-use Rattle.std.specs.Prelude.{◌≡◌, ℕ, ◌+◌, ◌<◌, ◌≤◌, Bool, List, length, Option, Some, ◌↔◌}
+use Rattle.std.specs.Prelude.{◌≡◌, ℕ, ◌+◌, ◌<◌, ◌≤◌, Bool, List, length, ◌↔◌}
 use Rattle.cif_columns.specs.Day.{week_of, weekday_of}
 use Rattle.cif_columns.specs.DaysRun.{RunsOn}
 use Rattle.cif_weeks.specs.declared.form.Form.{Form}
@@ -7,11 +7,11 @@ use Rattle.cif_weeks.specs.declared.form.Form.TheVariants.{One, Two}
 use Rattle.cif_weeks.specs.Window.{Window, IsWithin}
 use Rattle.cif_weeks.specs.Separate.{ExactlyOne}
 
--- the mask of body b in a week has the weekdays on which it runs
-pub record IsMask {B : Type 0} (body_on : ℕ → Option B) (b : B) (week : ℕ) (mask : List Bool) : Type 0 where
+-- the mask of a set of days in a week has the weekdays of those days
+pub record IsMask (on : ℕ → Type 0) (week : ℕ) (mask : List Bool) : Type 0 where
   pub seven : length mask ≡ 7
-  pub shows : (n : ℕ) → week_of n ≡ week → body_on n ≡ Some b → RunsOn mask (weekday_of n)
-  pub only : (w : ℕ) → RunsOn mask w → (n : ℕ) × (week_of n ≡ week) × (weekday_of n ≡ w) × (body_on n ≡ Some b)
+  pub shows : (n : ℕ) → week_of n ≡ week → on n → RunsOn mask (weekday_of n)
+  pub only : (w : ℕ) → RunsOn mask w → (n : ℕ) × (week_of n ≡ week) × (weekday_of n ≡ w) × on n
 
 -- A week and the next have to agree on this weekday: in form 1 on each, and in form 2 on those whose days in both weeks lie
 -- in the window.
@@ -31,9 +31,3 @@ pub record IsLastDay (week : ℕ) (mask : List Bool) (n : ℕ) : Type 0 where
   pub in_week : week_of n ≡ week
   pub runs : RunsOn mask (weekday_of n)
   pub latest : (m : ℕ) → week_of m ≡ week → RunsOn mask (weekday_of m) → m ≤ n
-
--- The k weeks from `week` on are alike, and so is the one after them: on each of their days runs what runs seven days later.
--- None of the weeks is that of day 0, which begins before that day.
-pub record AreAlike {B : Type 0} (body_on : ℕ → Option B) (week k : ℕ) : Type 0 where
-  pub same : (n : ℕ) → week ≤ week_of n → week_of n < week + k → body_on (n + 7) ≡ body_on n
-  pub whole : 0 < k → 0 < week
