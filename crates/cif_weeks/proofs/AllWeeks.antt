@@ -1,5 +1,5 @@
 -- The runs over the weekdays of a week, over the weeks that are like it, and over all weeks of the window.
-use Rattle.std.proofs.Common.{◌≡◌, ℕ, zero, suc, ◌+◌, ◌-◌, ◌*◌, ◌<◌, ◌≤◌, List, [], ◌∷◌, ◌++◌, Some, length, get_or}
+use Rattle.std.proofs.Common.{◌≡◌, ℕ, zero, suc, ◌+◌, ◌*◌, ◌<◌, ◌≤◌, List, [], ◌∷◌, ◌++◌, Some, length, get_or}
 use Rattle.std.proofs.Common.{arith, refl, sym, ◌∙◌, ap, subst, inl, length-append, ⊎_elim}
 use Rattle.std.specs.Prelude.{Contains, slice_get}
 use Rattle.std.specs.List.{AllZip}
@@ -254,8 +254,7 @@ module _ {B : Type 0} (form : Form) (xs : List (Terms B)) (c : CalendarParts) (s
     day-before : (n : ℕ) (b : B) → week.number ≤ week_of n → week_of n ≤ week.last_alike → body_in xs c n ≡ Some b →
         (i : ℕ) × (week_of i ≡ week.number) × (body_in xs c i ≡ Some b)
     day-before n b from upto runs_n =
-        let (i, at, day, same) = alike-day c week.number week.last_alike n k.alike from upto in
-        (i, at, ap (body_at xs) (sym same) ∙ runs_n)
+        let (i, at, day, same) = alike-day c week.number week.last_alike n k.alike from upto in (i, at, ap (body_at xs) (sym same) ∙ runs_n)
 
     pub open-next : (next last : ℕ) → week.last_alike < next
         → ((n : ℕ) (b : B) → week.last_alike < week_of n → week_of n < next → body_in xs c n ≡ Some b → ⊥)

@@ -246,8 +246,8 @@ module _ {B : Type 0} (form : Form) (xs : List (Terms B)) (c : CalendarParts) (s
         next (subst (λ (r : Run). MasksAgree form (window_of c) old_week r.days days) one_run (j.agree old_week ends)) seven union
         (subst (λ v. IsLastDay v days day) (sym ends) l) in
         let all : IsGrown form (window_of c) (runs_in xs c b) (record_of it b) =
-        subst (λ v. IsGrown form (window_of c) (runs_in xs c b) (record { first = run.first; last = v; days = both; body = b })) (sym is_last)
-        (grown_jump (window_of c) (runs_in xs c b) (inside xs c sources b) form
+        subst (λ v. IsGrown form (window_of c) (runs_in xs c b) (record { first = run.first; last = v; days = both; body = b }))
+        (sym is_last) (grown_jump (window_of c) (runs_in xs c b) (inside xs c sources b) form
         (record { first = run.first; last = day; days = both; body = b }) week.number (week.last_alike - week.number) days l.in_week one
         (λ v from upto. alike-masks xs c b week.number week.last_alike days k.alike mask v from (omega (arith, k.from)))) in
         let upto : week_of it.last ≡ week.last_alike = omega (arith, k.from, l.in_week) in
@@ -306,9 +306,9 @@ module _ {B : Type 0} (form : Form) (xs : List (Terms B)) (c : CalendarParts) (s
         let in_week : week.number ≡ week_of first = omega arith in
         let runs_first = runs-first first at_first in
         let one : IsGrown form (window_of c) (runs_in xs c b) (record { first = first; last = day; days = days; body = b }) =
-        grown_start (window_of c) (runs_in xs c b) (inside xs c sources b) form (record { first = first; last = day; days = days; body = b })
-        (subst (λ v. IsMask (runs_in xs c b) v days) in_week mask) (subst (λ v. IsLastDay v days day) in_week l) runs_first
-        (λ i same runs. earliest first i at_first same runs) in
+        grown_start (window_of c) (runs_in xs c b) (inside xs c sources b) form
+        (record { first = first; last = day; days = days; body = b }) (subst (λ v. IsMask (runs_in xs c b) v days) in_week mask)
+        (subst (λ v. IsLastDay v days day) in_week l) runs_first (λ i same runs. earliest first i at_first same runs) in
         let all : IsGrown form (window_of c) (runs_in xs c b) (record_of it b) =
         subst (λ v. IsGrown form (window_of c) (runs_in xs c b) (record { first = first; last = v; days = days; body = b })) (sym is_last)
         (grown_jump (window_of c) (runs_in xs c b) (inside xs c sources b) form
