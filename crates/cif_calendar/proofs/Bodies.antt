@@ -1,21 +1,11 @@
 -- Which members are known to have one body.
-use Rattle.std.proofs.Common.{◌≡◌, ℕ, List, Option, Some, None, replicate, get_or, arith, ⊎_elim, sym, ◌∙◌, subst}
+use Rattle.std.proofs.Common.{◌≡◌, ℕ, List, Option, Some, None, get_or, ⊎_elim, sym, ◌∙◌, subst}
 use Rattle.std.specs.Prelude.{◌⊎◌, ◌↔◌}
-use Rattle.std.proofs.lemmas.Bool.{cases_lt}
-use Rattle.std.proofs.lemmas.List.{get_or_past, get_or-replicate, length-replicate}
 use Rattle.std.proofs.lemmas.Option.{same_Some}
 use Rattle.cif_calendar.specs.Terms.{Terms}
 use Rattle.cif_calendar.specs.Steps.Standing.{AreAlike, HaveOneBody}
 
 module _ {B : Type 0} (xs : List (Terms B)) (members : List ℕ) where
-  -- at first nothing is known
-  pub alike-none : (n : ℕ) → AreAlike xs members (replicate n None)
-  alike-none n k j is = absurd (⊎_elim
-      (λ below. let no : None ≡ Some j = sym (get_or-replicate n k None None below) ∙ is in cc)
-      (λ past. let no : None ≡ Some j = sym (get_or_past (replicate n None) k None
-      (omega (arith, length-replicate {A = Option ℕ} n None))) ∙ is in cc)
-      (cases_lt k n))
-
   -- what is noted is known
   pub alike-noted : (old new : List (Option ℕ)) (number earlier : ℕ) → HaveOneBody xs members number earlier →
       ((k : ℕ) → (get_or new k None ≡ get_or old k None) ⊎ ((k ≡ number) × (get_or new k None ≡ Some earlier))) →

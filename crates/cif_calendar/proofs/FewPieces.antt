@@ -1,5 +1,5 @@
 -- How many pieces there can be: each begins at an end of a record that the ones before have not used.
-use Rattle.std.proofs.Common.{◌≡◌, ℕ, ◌+◌, ◌*◌, ◌≤◌, List, [], ◌∷◌, length, Option, None, Some, cond, subst, sym, arith, ⊎_elim}
+use Rattle.std.proofs.Common.{◌≡◌, ℕ, ◌+◌, ◌*◌, ◌≤◌, List, [], ◌∷◌, length, Option, None, Some, cond, arith, ⊎_elim}
 use Rattle.std.proofs.Common.{ltb, leb, ap, ◌∙◌}
 use Rattle.std.specs.Prelude.{Contains, slice_get, ◌⊎◌}
 use Rattle.std.proofs.lemmas.Bool.Decides.{nat_tests}
@@ -9,31 +9,21 @@ use Rattle.cif_calendar.specs.Pieces.{ChangesOn}
 use Rattle.cif_calendar.proofs.Elements.{Contains-cases}
 
 -- how many of a record's two breaks come after a piece that begins on day d has begun
-abbrev breaks_from : ℕ → ℕ → ℕ → ℕ
-breaks_from d first last = cond (ltb d first) 1 0 + cond (leb d last) 1 0
-
-breaks_from-falls : (d e first last : ℕ) → d ≤ e → breaks_from e first last ≤ breaks_from d first last
-breaks_from-falls d e first last h = grind (arith, nat_tests)
-
-breaks_from-two : (d first last : ℕ) → breaks_from d first last ≤ 2
-breaks_from-two d first last = grind (arith, nat_tests)
-
-breaks_from-used : {B : Type 0} (d e : ℕ) (r : Terms B) → d ≤ e → (e + 1 ≡ r.first) ⊎ (e + 1 ≡ r.last + 1) →
-    breaks_from (e + 1) r.first r.last + 1 ≤ breaks_from d r.first r.last
-breaks_from-used d e r h b = grind (arith, nat_tests)
-
--- the same of the record at a position
 abbrev breaks_at : {B : Type 0} → Option (Terms B) → ℕ → ℕ
 breaks_at None d = 0
-breaks_at (Some r) d = breaks_from d r.first r.last
+breaks_at (Some r) d = cond (ltb d r.first) 1 0 + cond (leb d r.last) 1 0
 
 breaks_at-falls : {B : Type 0} (o : Option (Terms B)) (d e : ℕ) → d ≤ e → breaks_at o e ≤ breaks_at o d
 breaks_at-falls None d e h = omega arith
-breaks_at-falls (Some r) d e h = breaks_from-falls d e r.first r.last h
+breaks_at-falls (Some r) d e h = grind (arith, nat_tests)
 
 breaks_at-two : {B : Type 0} (o : Option (Terms B)) (d : ℕ) → breaks_at o d ≤ 2
 breaks_at-two None d = omega arith
-breaks_at-two (Some r) d = breaks_from-two d r.first r.last
+breaks_at-two (Some r) d = grind (arith, nat_tests)
+
+breaks_at-used : {B : Type 0} (d e : ℕ) (r : Terms B) → d ≤ e → (e + 1 ≡ r.first) ⊎ (e + 1 ≡ r.last + 1) →
+    breaks_at (Some r) (e + 1) + 1 ≤ breaks_at (Some r) d
+breaks_at-used d e r h b = grind (arith, nat_tests)
 
 -- how many breaks of the members are left
 abbrev pub left : {B : Type 0} → List (Terms B) → List ℕ → ℕ → ℕ
@@ -50,8 +40,7 @@ left-used xs [] d e j r h (k, below, is) at b = absurd (omega arith)
 left-used {B} xs (i ∷ members) d e j r h in' at b = ⊎_elim
     (λ same.
     let here : slice_get xs i ≡ Some r = ap (slice_get xs) same ∙ at in
-    let used : breaks_at (slice_get xs i) (e + 1) + 1 ≤ breaks_at (slice_get xs i) d =
-    subst (λ (o : Option (Terms B)). breaks_at o (e + 1) + 1 ≤ breaks_at o d) (sym here) (breaks_from-used d e r h b) in
+    let used : breaks_at (slice_get xs i) (e + 1) + 1 ≤ breaks_at (slice_get xs i) d = rw here (breaks_at-used d e r h b) in
     omega (arith, used, left-falls xs members d (e + 1) (omega arith)))
     (λ rest. omega (
       arith,

@@ -135,11 +135,7 @@ letter-below O = omega arith
 letter-below C = omega arith
 
 module _ {B : Type 0} (xs : List (Terms B)) (members : List ℕ) where
-  -- one record stands at a number
-  pub stands_at-one : (k : ℕ) (t v : Terms B) → StandsAt xs members k t → StandsAt xs members k v → t ≡ v
-  stands_at-one k t v a b = same_Some t v (sym a.at ∙ ap (slice_get xs) (same_Some a.position b.position (sym a.member ∙ b.member)) ∙ b.at)
-
-  -- and has the body there
+  -- the body at a number
   pub body-at : (k : ℕ) (t : Terms B) → StandsAt xs members k t → body_at xs (slice_get members k) ≡ t.body
   body-at k t a = ap (body_at xs) a.member ∙ ap (λ (o : Option (Terms B)). option_and_then (λ (v : Terms B). v.body) o) a.at
 
