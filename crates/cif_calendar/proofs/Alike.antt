@@ -1,5 +1,8 @@
--- In an unbroken stretch a record applies on all days of a weekday or on none.
+-- In an unbroken stretch a record applies on all days of a weekday or on none, so the winners of the first week are those of all days.
 use Rattle.std.proofs.Common.{◌≡◌, ℕ, ◌+◌, ◌-◌, ◌<◌, ◌≤◌, ◌%◌, List, Option, None, Some, subst, sym, arith, min, get_or}
+use Rattle.std.proofs.Common.{length, ◌∙◌, ⊎_elim, set}
+use Rattle.std.proofs.lemmas.Bool.{cases_lt}
+use Rattle.std.proofs.lemmas.List.{get_or-set_same, get_or-set_other}
 use Rattle.cif_columns.specs.Day.{weekday_of}
 use Rattle.cif_columns.specs.DaysRun.{RunsOn}
 use Rattle.cif_calendar.specs.Terms.{Terms, Records}
@@ -8,7 +11,6 @@ use Rattle.cif_calendar.specs.Wins.{Wins}
 use Rattle.cif_calendar.specs.Clash.{IsClear}
 use Rattle.cif_calendar.specs.Source.{IsChosen, IsSource}
 use Rattle.cif_calendar.specs.Pieces.{IsUnbroken, IsPiece}
-use Rattle.cif_calendar.specs.Steps.Stretches.{IsWeekFrom}
 use Rattle.cif_calendar.specs.declared.key_calendar.Piece.{Piece}
 use Rattle.cif_calendar.proofs.Standings.{covered-back}
 
@@ -69,6 +71,32 @@ in_week-alike first last d from upto =
 
 in_week-before : (first last d : ℕ) → first ≤ d → d ≤ last → in_week first d < min (last + 1) (first + 7)
 in_week-before first last d from upto = omega arith
+
+-- the winners of the days from `first` to the day before `to`, which are clear
+pub record IsWeekFrom {B : Type 0} (xs : List (Terms B)) (members : List ℕ) (first to : ℕ) (winners : List (Option ℕ)) : Type 0 where
+  pub sources : (d : ℕ) → first ≤ d → d < to → IsSource xs members d (get_or winners (weekday_of d) None)
+  pub clear : (d : ℕ) → first ≤ d → d < to → IsClear (IsChosen xs members) d
+  pub idle : (w : ℕ) → ((d : ℕ) → first ≤ d → d < to → weekday_of d ≡ w → ⊥) → get_or winners w None ≡ None
+
+-- one day more, as a loop says it: w is its weekday, and `to` the next day
+pub week-more : {B : Type 0} (xs : List (Terms B)) (members : List ℕ) (first day w to : ℕ) (ws : List (Option ℕ)) (o : Option ℕ) →
+    w ≡ weekday_of day → to ≡ day + 1 → length ws ≡ 7 → first ≤ day → day < first + 7 → IsSource xs members day o →
+    IsClear (IsChosen xs members) day → IsWeekFrom xs members first day ws → IsWeekFrom xs members first to (set ws w o)
+week-more xs members first day w to ws o is next seven from near source clear week = rw (next, is) (record {
+  sources = λ d a b. ⊎_elim
+      (λ less. rw (get_or-set_other ws (weekday_of day) (weekday_of d) o None (λ e. omega arith)) (week.sources d a less))
+      (λ upto. let e : day ≡ d = omega arith in
+      subst (λ n. IsSource xs members n (get_or (set ws (weekday_of day) o) (weekday_of n) None)) e
+      (rw (get_or-set_same ws (weekday_of day) o None (omega arith)) source))
+      (cases_lt d day);
+  clear = λ d a b. ⊎_elim
+      (λ less. week.clear d a less)
+      (λ upto. let e : day ≡ d = omega arith in subst (IsClear (IsChosen xs members)) e clear)
+      (cases_lt d day);
+  idle = λ v none.
+      get_or-set_other ws (weekday_of day) v o None (λ e. none day from (omega arith) (sym e))
+      ∙ week.idle v (λ d a b. none d a (omega arith));
+})
 
 -- the winners of the first seven days are those of the whole stretch
 pub piece-from_week : {B : Type 0} (xs : List (Terms B)) (members : List ℕ) (p : Piece) → IsUnbroken (IsChosen xs members) p.first p.last →

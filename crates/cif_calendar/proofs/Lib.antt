@@ -1,7 +1,6 @@
 pub mod Sets
 pub mod Winning
 pub mod Standings
-pub mod WithDates
 pub mod Meaning
 pub mod SayTheSame
 pub mod Positions
@@ -12,10 +11,7 @@ pub mod FirstClash
 pub mod Elements
 pub mod PieceLists
 pub mod Alike
-pub mod FirstWeek
-pub mod Unbroken
 pub mod FewPieces
 pub mod LaidPieces
-pub mod Layers
 pub mod Stretches
 pub mod Bodies

@@ -1,10 +1,11 @@
 -- Who leads on each weekday, as more members are looked at.
 use Rattle.std.proofs.Common.{◌≡◌, ℕ, ◌+◌, ◌<◌, ◌≤◌, List, [], ◌∷◌, ◌++◌, Some, replicate, length-set, get_or, set}
-use Rattle.std.proofs.Common.{arith, refl, ⊎_elim, sym, ◌∙◌, ap, subst, true, false}
+use Rattle.std.proofs.Common.{◌≢◌, ◌⊎◌, inl, inr, arith, refl, ⊎_elim, sym, ◌∙◌, ap, subst, true, false}
 use Rattle.std.specs.Prelude.{slice_get}
 use Rattle.std.proofs.lemmas.Bool.{cases_lt}
 use Rattle.std.proofs.lemmas.Option.{slice_get-get_or}
-use Rattle.std.proofs.lemmas.List.{get_or-set_same, get_or-set_other, get_or_past, get_or-replicate}
+use Rattle.std.proofs.lemmas.Grind.{get_or-set_at}
+use Rattle.std.proofs.lemmas.List.{get_or-set_other, get_or_past, get_or-replicate, set-get_or}
 use Rattle.cif_columns.specs.Day.{weekday_of}
 use Rattle.cif_calendar.specs.Terms.{Terms, Records}
 use Rattle.cif_calendar.specs.Applies.{Applies}
@@ -24,43 +25,32 @@ module _ (step : ℕ → Standing → Standing → Type 0) (n : ℕ) (old : List
 
   -- one weekday more
   module _ (k : ℕ) (new : List Standing) (below : k < 7) (l : AreStepped k new) where
+    -- weekday w is that one, or stays as it was
+    at : (s : Standing) (w : ℕ) → ((k ≡ w) × (get_or (set new k s) w Nobody ≡ s))
+        ⊎ ((k ≢ w) × (get_or (set new k s) w Nobody ≡ get_or new w Nobody))
+    at s w = ⊎_elim
+        (λ less. inr (λ e. omega arith, get_or-set_other new k w s Nobody (λ e. omega arith)))
+        (λ more. ⊎_elim
+        (λ over. inr (λ e. omega arith, get_or-set_other new k w s Nobody (λ e. omega arith)))
+        (λ upto. inl (omega arith, get_or-set_at new k w s Nobody (omega arith) (omega (arith, l.below.seven))))
+        (cases_lt k w))
+        (cases_lt w k)
+
     pub stepped : (j : ℕ) (s : Standing) → j ≡ k → IsBelow n s → step k (get_or new k Nobody) s → AreStepped (k + 1) (set new j s)
     stepped j s is in_range h = rw is (record {
       below = record {
         seven = length-set new k s ∙ l.below.seven;
-        below = λ w. ⊎_elim
-            (λ less. other w (λ e. omega arith) (λ v. IsBelow n v) (l.below.below w))
-            (λ more. ⊎_elim
-            (λ over. other w (λ e. omega arith) (λ v. IsBelow n v) (l.below.below w))
-            (λ upto. same w (omega arith) (λ w v. IsBelow n v) in_range)
-            (cases_lt k w))
-            (cases_lt w k);
+        below = λ w. ⊎_elim (λ here. rw here.1 in_range) (λ apart. rw apart.1 (l.below.below w)) (at s w);
       };
       each = λ w upto. ⊎_elim
-          (λ less. other w (λ e. omega arith) (λ v. step w (get_or old w Nobody) v) (l.each w less))
-          (λ more. same w (omega arith) (λ w v. step w (get_or old w Nobody) v)
-          (subst (λ (v : Standing). step k v s) (l.rest k (omega arith)) h))
-          (cases_lt w k);
+          (λ here. rw here.1 (subst (λ v. step v (get_or old v Nobody) s) here.0 (rw (l.rest k (omega arith)) at h)))
+          (λ apart. rw apart.1 (l.each w (omega (arith, apart.0))))
+          (at s w);
       rest = λ w over. get_or-set_other new k w s Nobody (λ e. omega arith) ∙ l.rest w (omega arith);
-    }) where
-      other : (w : ℕ) → (w ≡ k → ⊥) → (is : Standing → Type 0) → is (get_or new w Nobody) → is (get_or (set new k s) w Nobody)
-      other w apart is h = subst is (sym (get_or-set_other new k w s Nobody apart)) h
-
-      same : (w : ℕ) → k ≡ w → (is : ℕ → Standing → Type 0) → is k s → is w (get_or (set new k s) w Nobody)
-      same w here is h = subst (λ v. is v (get_or (set new k s) v Nobody)) here
-          (subst (is k) (sym (get_or-set_same new k s Nobody (omega (arith, l.below.seven)))) h)
+    })
 
     pub stepped-same : step k (get_or new k Nobody) (get_or new k Nobody) → AreStepped (k + 1) new
-    stepped-same h = record {
-      below = l.below;
-      each = λ w upto. ⊎_elim
-          (λ less. l.each w less)
-          (λ more. let here : k ≡ w = omega arith in
-          subst (λ v. step v (get_or old v Nobody) (get_or new v Nobody)) here
-          (subst (λ (v : Standing). step k v (get_or new k Nobody)) (l.rest k (omega arith)) h))
-          (cases_lt w k);
-      rest = λ w over. l.rest w (omega arith);
-    }
+    stepped-same h = subst (AreStepped (k + 1)) (set-get_or new k Nobody) (stepped k (get_or new k Nobody) refl (l.below.below k) h)
 
 -- in an unbroken stretch a record that applies on a day lies over the first
 pub covered-back : {B : Type 0} (records : Records B) (first last : ℕ) → IsUnbroken records first last → (d : ℕ) (r : Terms B) → records r →

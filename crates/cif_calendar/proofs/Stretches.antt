@@ -1,17 +1,45 @@
 -- Stretches one after another, and those of two sets of members together.
-use Rattle.std.proofs.Common.{◌≡◌, ℕ, ◌+◌, ◌<◌, ◌≤◌, List, [], ◌∷◌, ◌++◌, Some, length, get_or, All}
+use Rattle.std.proofs.Common.{◌≡◌, ℕ, ◌+◌, ◌<◌, ◌≤◌, List, [], ◌∷◌, ◌++◌, Some, length, get_or, All, replicate}
 use Rattle.std.proofs.Common.{arith, refl, ⊎_elim, inl, inr, sym, ◌∙◌, ap, subst}
 use Rattle.std.specs.Prelude.{◌⊎◌, slice_get}
 use Rattle.std.proofs.lemmas.Option.{slice_get-get_or}
 use Rattle.cif_columns.specs.Day.{weekday_of}
-use Rattle.cif_calendar.specs.Terms.{Terms}
+use Rattle.cif_calendar.specs.Terms.{Terms, Records}
 use Rattle.cif_calendar.specs.Source.{IsChosen}
 use Rattle.cif_calendar.specs.Pieces.{ChangesOn, IsUnbroken}
-use Rattle.cif_calendar.specs.Steps.Standing.{AreStandings}
-use Rattle.cif_calendar.specs.Steps.Stretches.{AreAhead, AreBehind, AreStretches, IsJoint, IsPart, IsStretch, TellsOf}
+use Rattle.cif_calendar.specs.Steps.Standing.{AreBelow, LooksAt, Stands}
+use Rattle.cif_calendar.specs.Steps.Stretches.{AreBehind, AreStretches, IsEndFor, IsJoint, IsPart, IsStretch}
+use Rattle.cif_calendar.specs.declared.standing.Standing.{Standing}
+use Rattle.cif_calendar.specs.declared.standing.Standing.TheVariants.{Nobody, Leader}
 use Rattle.cif_calendar.specs.declared.stretch.Stretch.{Stretch}
-use Rattle.cif_calendar.proofs.Unbroken.{unbroken-within, unbroken-both, changes-kept}
-use Rattle.cif_calendar.proofs.Winning.{chosen-union, union-swap}
+use Rattle.cif_calendar.proofs.Standings.{below-same, covered-back, stands-more, stands-none, stands-skip}
+use Rattle.cif_calendar.proofs.Winning.{IsUnion, chosen-one, chosen-union, one-chosen, union-swap}
+
+-- how far the days are alike, by fewer days and by more records
+unbroken-within : {B : Type 0} (records : Records B) (first last from upto : ℕ) → first ≤ from → upto ≤ last →
+    IsUnbroken records first last → IsUnbroken records from upto
+unbroken-within records first last from upto low high u = record {
+  begins = λ s h after. let k : last < s.first = u.begins s h (omega arith) in omega arith;
+  ends = λ s h after. let k : last ≤ s.last = u.ends s h (omega arith) in omega arith;
+}
+
+module _ {B : Type 0} (ys ns zs : Records B) (a : IsUnion ys ns zs) where
+  unbroken-both : (first last : ℕ) → IsUnbroken ys first last → IsUnbroken ns first last → IsUnbroken zs first last
+  unbroken-both first last u v = record {
+    begins = λ s h after. ⊎_elim (λ old. u.begins s old after) (λ new. v.begins s new after) (a.only s h);
+    ends = λ s h after. ⊎_elim (λ old. u.ends s old after) (λ new. v.ends s new after) (a.only s h);
+  }
+
+  changes-kept : (P : Type 0) (d : ℕ) → P ⊎ ChangesOn ys d → P ⊎ ChangesOn zs d
+  changes-kept P d h = ⊎_elim (λ p. inl p) (λ c. inr (c.0, a.left c.0 c.1, c.2)) h
+
+module _ {B : Type 0} (xs : List (Terms B)) (i : ℕ) (r : Terms B) (at : slice_get xs i ≡ Some r) where
+  unbroken-one : (first last : ℕ) → (first < r.first → last < r.first) → (first ≤ r.last → last ≤ r.last) →
+      IsUnbroken (IsChosen xs (i ∷ [])) first last
+  unbroken-one first last begins ends = record {
+    begins = λ s c. subst (λ (q : Terms B). first < q.first → last < q.first) (one-chosen xs i r at s c) begins;
+    ends = λ s c. subst (λ (q : Terms B). first ≤ q.last → last ≤ q.last) (one-chosen xs i r at s c) ends;
+  }
 
 module _ (members : List ℕ) (k : ℕ) (part : List ℕ) (p : IsPart members k part) where
   -- what stands in it is a member
@@ -23,24 +51,60 @@ module _ (members : List ℕ) (k : ℕ) (part : List ℕ) (p : IsPart members k 
 
 -- the same members
 module _ {B : Type 0} (xs : List (Terms B)) (members looked : List ℕ) (end : ℕ) where
-  pub stretches-push : (from to : ℕ) (ss : List Stretch) (s : Stretch) → AreStretches xs members looked end from to ss →
-      IsStretch xs members looked end to s → AreStretches xs members looked end from (s.last + 1) (ss ++ s ∷ [])
-  stretches-push from to [] s e h = (subst (λ n. IsStretch xs members looked end n s) (sym e) h, refl)
-  stretches-push from to (t ∷ ts) s h more = (h.0, stretches-push (t.last + 1) to ts s h.1 more)
+  -- before a member is looked at, all days are one stretch
+  pub stretch-none : (first last : ℕ) → first ≤ last → end ≡ last + 1 →
+      IsStretch xs members [] end first (record { last = last; standings = replicate 7 Nobody })
+  stretch-none first last up over = record {
+    in_order = up;
+    upto = omega arith;
+    unbroken = record { begins = λ r c. absurd (none r c); ends = λ r c. absurd (none r c) };
+    change = inl (sym over);
+    below = below-same (length members) Nobody tt;
+    stands = λ d from upto. stands-none xs members d (weekday_of d);
+  } where
+    none : (r : Terms B) → IsChosen xs [] r → ⊥
+    none r c = let (k, below, is) = c.member in omega arith
 
-  -- the same as a loop says it: `more` has the new stretch too, and the next one begins on day `to`
-  pub stretches_more : (from first to last : ℕ) (ss more : List Stretch) (s : Stretch) → end ≡ last + 1 → more ≡ ss ++ s ∷ [] →
-      to ≡ s.last + 1 → first ≤ s.last → s.last ≤ last → IsUnbroken (IsChosen xs looked) first s.last →
-      (s.last ≡ last) ⊎ ChangesOn (IsChosen xs looked) (s.last + 1) → AreStandings xs members looked first s.last s.standings →
-      AreStretches xs members looked end from first ss → AreStretches xs members looked end from to more
-  stretches_more from first to last ss more s over is next up upto unbroken change standings h = rw (is, next)
-      (stretches-push from first ss s h (record {
-        in_order = up;
-        upto = omega arith;
-        unbroken = unbroken;
-        change = ⊎_elim (λ e. inl (omega arith)) (λ c. inr c) change;
-        standings = standings;
-      }))
+  -- then the record r is, which the member with number k has, and by which the stretch goes up to day `to`
+  module _ (first k i : ℕ) (r : Terms B) (member : slice_get members k ≡ Some i) (at : slice_get xs i ≡ Some r) (s : Stretch)
+      (h : IsStretch xs members looked end first s) (to : ℕ) (e : IsEndFor r first s.last to) where
+    alone : IsUnbroken (IsChosen xs (i ∷ [])) first to
+    alone = unbroken-one xs i r at first to e.begins e.ends
+
+    stretch-more : (standings : List Standing) → AreBelow (length members) standings → ((d : ℕ) → first ≤ d → d ≤ to →
+        Stands xs members (IsChosen xs (looked ++ i ∷ [])) d (get_or standings (weekday_of d) Nobody)) →
+        IsStretch xs members (looked ++ i ∷ []) end first (record { last = to; standings = standings })
+    stretch-more standings below stands = let both = chosen-union xs looked (i ∷ []) in record {
+      in_order = e.from;
+      upto = omega (arith, e.upto, h.upto);
+      unbroken = unbroken-both _ _ _ both first to
+          (unbroken-within (IsChosen xs looked) first s.last first to (omega arith) e.upto h.unbroken) alone;
+      change = ⊎_elim
+          (λ same. rw same (changes-kept _ _ _ both (s.last + 1 ≡ end) (s.last + 1) h.change))
+          (λ c. inr (r, both.right r (chosen-one xs i r at), c))
+          e.breaks;
+      below = below;
+      stands = stands;
+    }
+
+    pub stretch-looked : (standings : List Standing) → AreBelow (length members) standings → (r.first ≤ first) × (first ≤ r.last) →
+        ((w : ℕ) → w < 7 → LooksAt xs members r.days (replicate 7 (Leader k)) w (get_or s.standings w Nobody) (get_or standings w Nobody)) →
+        IsStretch xs members (looked ++ i ∷ []) end first (record { last = to; standings = standings })
+    stretch-looked standings below covered each = stretch-more standings below (λ d from upto.
+        let last : to ≤ r.last = e.ends covered.1 in
+        stands-more xs members looked k i r member at d _ (h.stands d from (omega (arith, e.upto))) _
+        (omega (arith, covered.0)) (omega arith) (each (weekday_of d) (omega arith)))
+
+    pub stretch-passed : ((r.first ≤ first) × (first ≤ r.last) → ⊥) →
+        IsStretch xs members (looked ++ i ∷ []) end first (record { last = to; standings = s.standings })
+    stretch-passed off = stretch-more s.standings h.below (λ d from upto.
+        stands-skip xs members looked k i r member at d _ (h.stands d from (omega (arith, e.upto)))
+        (λ on. off (covered-back (IsChosen xs (i ∷ [])) first to alone d r (chosen-one xs i r at) from upto on)))
+
+  pub stretches-push : (from to next : ℕ) (ss : List Stretch) (s : Stretch) → next ≡ s.last + 1 → IsStretch xs members looked end to s →
+      AreStretches xs members looked end from to ss → AreStretches xs members looked end from next (ss ++ s ∷ [])
+  stretches-push from to next [] s is more e = (subst (λ n. IsStretch xs members looked end n s) (sym e) more, sym is)
+  stretches-push from to next (t ∷ ts) s is more h = (h.0, stretches-push (t.last + 1) to next ts s is more h.1)
 
   -- a stretch from a later day on
   stretch-later : (first day : ℕ) (s : Stretch) → first ≤ day → day ≤ s.last → IsStretch xs members looked end first s →
@@ -50,7 +114,8 @@ module _ {B : Type 0} (xs : List (Terms B)) (members looked : List ℕ) (end : �
     upto = h.upto;
     unbroken = unbroken-within (IsChosen xs looked) first s.last day s.last later (omega arith) h.unbroken;
     change = h.change;
-    standings = record { below = h.standings.below; stands = λ d low high. h.standings.stands d (omega arith) high };
+    below = h.below;
+    stands = λ d low high. h.stands d (omega arith) high;
   }
 
   -- what is left behind a day of the first
@@ -63,20 +128,6 @@ module _ {B : Type 0} (xs : List (Terms B)) (members looked : List ℕ) (end : �
       (λ more. subst (λ r. AreStretches xs members looked end (day + 1) to r) (sym more.1)
       (stretch-later first (day + 1) s (omega arith) (omega (arith, more.0)) h.0, h.1))
       b
-
--- those that are ahead, behind the first
-module _ {B : Type 0} (xs : List (Terms B)) (members : List ℕ) (last : ℕ) where
-  pub stretches-ahead : (first : ℕ) (ss : List Stretch) → AreStretches xs members members (last + 1) first (last + 1) ss →
-      AreAhead xs members first last ss
-  stretches-ahead first [] h = tt
-  stretches-ahead first (s ∷ ss) h = h
-
-  pub ahead-behind : (first day next : ℕ) (ss rest : List Stretch) → first ≤ day → next ≡ day + 1 → TellsOf xs members first day ss →
-      AreBehind ss day rest → AreAhead xs members first last ss → AreAhead xs members next last rest
-  ahead-behind first day next [] rest from is e b h = subst (AreAhead xs members next last) (sym b) tt
-  ahead-behind first day next (s ∷ ss) rest from is e b h =
-      stretches-ahead next rest (subst (λ n. AreStretches xs members members (last + 1) n (last + 1) rest) (sym is)
-      (stretches-behind xs members members (last + 1) first (last + 1) day s ss rest from (let e : s.last ≡ day = e.0 in omega arith) h b))
 
 -- two sets of members
 module _ {B : Type 0} (xs : List (Terms B)) (members ms ns : List ℕ) (end : ℕ) where
@@ -92,11 +143,9 @@ module _ {B : Type 0} (xs : List (Terms B)) (members ms ns : List ℕ) (end : �
         (λ e. rw e (changes-kept _ _ _ (chosen-union xs ms ns) (s.last + 1 ≡ end) (s.last + 1) h.change))
         (λ e. rw e (changes-kept _ _ _ (union-swap _ _ _ (chosen-union xs ms ns)) (t.last + 1 ≡ end) (t.last + 1) k.change))
         j.ends;
-    standings = record {
-      below = j.below;
-      stands = λ d from upto. (j.each (weekday_of d) (omega arith)).stands ms ns d (h.standings.stands d from (omega (arith, j.upto_one)))
-          (k.standings.stands d from (omega (arith, j.upto_other)));
-    };
+    below = j.below;
+    stands = λ d from upto. (j.each (weekday_of d) (omega arith)).stands ms ns d (h.stands d from (omega (arith, j.upto_one)))
+        (k.stands d from (omega (arith, j.upto_other)));
   }
 
   -- the stretches of both so far, and what is left of those of either
@@ -119,5 +168,5 @@ module _ {B : Type 0} (xs : List (Terms B)) (members ms ns : List ℕ) (end : �
         of_left = stretches-behind xs members ms end m.day to u.last a ss left it.in_order joint.upto_one m.of_left behind_left;
         of_right = stretches-behind xs members ns end m.day to u.last b ts right it.in_order joint.upto_other m.of_right behind_right;
         of_both = subst (AreStretches xs members (ms ++ ns) end from (u.last + 1)) (sym is)
-            (stretches-push xs members (ms ++ ns) end from m.day both u m.of_both it);
+            (stretches-push xs members (ms ++ ns) end from m.day _ both u refl it m.of_both);
       }

@@ -1,7 +1,6 @@
 //! Which record of a timetable wins on each date, and what runs.
 #![tactic(auto)]
 
-mod covering;
 mod entry;
 mod key_calendar;
 pub mod laws;

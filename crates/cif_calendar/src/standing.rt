@@ -2,28 +2,23 @@
 //!
 //! Members that are known to have one body aren't compared again. A list, `alike`, has for a member
 //! the number of an earlier one with its body, where that is known: links from number to number,
-//! which fall. Where the list is empty, nothing is known.
+//! which fall.
 
 ghost use Rattle.std.specs.Prelude.{◌≡◌, ◌<◌, ◌≤◌, ◌+◌, ◌↔◌, ◌⊎◌, ℕ, Some, None, length, map};
-ghost use Rattle.std.specs.Prelude.{All, IfOk, IsTrue, OnErr, slice_index_or};
+ghost use Rattle.std.specs.Prelude.{All, IfErr, IfOk, IsTrue, OnOk, slice_index_or};
 ghost use Rattle.cif_columns.specs.Stp.{letter};
 ghost use Rattle.cif_calendar.specs.Terms.{Terms};
-ghost use Rattle.cif_calendar.specs.Clash.{IsClash};
-ghost use Rattle.cif_calendar.specs.Pieces.{IsUnbroken};
-ghost use Rattle.cif_calendar.specs.Source.{IsChosen};
-ghost use Rattle.cif_calendar.specs.Steps.Standing.{AreAlike, AreBelow, AreStandings, Combines};
-ghost use Rattle.cif_calendar.specs.Steps.Standing.{HaveOneBody, IsBelow, IsRank, Judges, LooksAt};
+ghost use Rattle.cif_calendar.specs.Clash.{IsClash, IsClear};
+ghost use Rattle.cif_calendar.specs.Source.{IsChosen, IsSource};
+ghost use Rattle.cif_calendar.specs.Steps.Standing.{AreAlike, AreBelow, Combines};
+ghost use Rattle.cif_calendar.specs.Steps.Standing.{HaveOneBody, IsBelow, IsRank, LooksAt};
 ghost use Rattle.cif_calendar.specs.Steps.Standing.{Stands, StandsAt};
-ghost use Rattle.cif_calendar.specs.Steps.Stretches.{IsPart};
+ghost use Rattle.cif_calendar.specs.declared.key_calendar.CalendarFault.TheVariants.{Ambiguous};
 ghost use Rattle.cif_calendar.specs.declared.standing.Standing.TheVariants.{Nobody};
 
-use crate::covering::covers;
 use crate::entry::{Entry, same_body};
+use crate::key_calendar::CalendarFault;
 use cif_columns::{Day, DaysRun};
-
-/// Two winners of a date have different bodies, so what runs can't be said.
-#[derive(Clone, Copy, Debug, PartialEq, Eq)]
-pub(crate) struct BodiesDiffer;
 
 /// Who leads among the members that were looked at.
 #[derive(Clone, Copy, Debug, PartialEq, Eq)]
@@ -228,43 +223,7 @@ pub(crate) fn look_at<E: Entry>(
     }
 }
 
-/// Who leads on each weekday of the dates from `first` to the next break among the members in
-/// `part`, the first of which has this number.
-pub(crate) fn standings_from<E: Entry>(
-    entries: &[E],
-    members: &[usize],
-    alike: &mut [Option<usize>],
-    number: usize,
-    part: &[usize],
-    first: Day,
-) -> Standings
-    requires positions { All (λ i. i < length entries.now) members.now }
-    requires alike { AreAlike (map E.terms entries.now) members.now alike.old }
-    requires part { IsPart members.now number part.now }
-    ensures alike { AreAlike (map E.terms entries.now) members.now alike.new }
-    ensures stands { (last : ℕ) →
-        IsUnbroken (IsChosen (map E.terms entries.now) part.now) first last →
-        AreStandings (map E.terms entries.now) members.now part.now first last result }
-{
-    let mut standings = [Standing::Nobody; 7];
-    for (index, position) in part.iter().enumerate() {
-        let entry = &entries[*position];
-        if covers(entry, first) {
-            let others = [Standing::Leader(number + index); 7];
-            look_at(
-                entries,
-                members,
-                alike,
-                &mut standings,
-                entry.days(),
-                &others,
-            );
-        }
-    }
-    standings
-}
-
-/// The position in `entries` of a winner of a date on which this standing is that of all members;
+/// The position in `entries` of a winner of the day, on which this standing is that of all members;
 /// `None` where nothing runs.
 ///
 /// Any of several winners with one body may be named. `Err` comes exactly where two winners
@@ -273,13 +232,16 @@ pub(crate) fn winner_by<E: Entry>(
     entries: &[E],
     members: &[usize],
     standing: Standing,
-) -> Result<Option<usize>, BodiesDiffer>
+    day: Day,
+) -> Result<Option<usize>, CalendarFault>
     requires positions { All (λ i. i < length entries.now) members.now }
     requires leader { IsBelow (length members.now) standing }
-    ensures judged { IfOk result (Judges (map E.terms entries.now) members.now standing) }
-    ensures clash { (d : ℕ) → Stands (map E.terms entries.now) members.now
-        (IsChosen (map E.terms entries.now) members.now) d standing →
-        OnErr result (IsClash (IsChosen (map E.terms entries.now) members.now) d) }
+    requires stands { Stands (map E.terms entries.now) members.now
+        (IsChosen (map E.terms entries.now) members.now) day standing }
+    ensures clear { OnOk result (IsClear (IsChosen (map E.terms entries.now) members.now) day) }
+    ensures source { IfOk result (IsSource (map E.terms entries.now) members.now day) }
+    ensures clash { IfErr result (λ fault. (fault ≡ Ambiguous day)
+        × IsClash (IsChosen (map E.terms entries.now) members.now) day) }
 {
     match standing {
         Standing::Nobody => Ok(None),
@@ -287,6 +249,6 @@ pub(crate) fn winner_by<E: Entry>(
             None => Ok(None),
             Some(_) => Ok(Some(members[number])),
         },
-        Standing::Disputed(_) => Err(BodiesDiffer),
+        Standing::Disputed(_) => Err(CalendarFault::Ambiguous(day)),
     }
 }

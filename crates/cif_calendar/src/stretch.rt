@@ -1,19 +1,19 @@
 //! The stretches of dates on which no member begins or ends, and who leads on them.
 
-ghost use Rattle.std.specs.Prelude.{◌≡◌, ◌<◌, ◌+◌, length, map, All, IfOk};
+ghost use Rattle.std.specs.Prelude.{◌≡◌, ◌<◌, ◌≤◌, ◌+◌, ◌↔◌, length, map, All, IfOk, IsTrue};
 ghost use Rattle.cif_calendar.specs.Steps.Standing.{AreAlike, AreBelow};
-ghost use Rattle.cif_calendar.specs.Steps.Stretches.{AreAhead, AreBehind, AreStretchesOf, IsJoint, IsPart};
+ghost use Rattle.cif_calendar.specs.Steps.Stretches.{AreBehind, AreStretchesOf, IsEndFor};
+ghost use Rattle.cif_calendar.specs.Steps.Stretches.{IsJoint, IsPart, IsStretch};
 
-use crate::covering::end_of_piece;
 use crate::entry::Entry;
 use crate::key_calendar::Window;
-use crate::standing::{Standings, look_at, standings_from};
+use crate::standing::{Standing, Standings, look_at};
 use cif_columns::{Day, DaysRun};
 use std::alloc::{AllocError, Global};
 
 /// How many members are few: to look at all of them for each stretch takes less time than to halve
 /// them.
-pub(crate) const FEW: usize = 16;
+const FEW: usize = 16;
 
 /// Dates on each of which the same members apply as on the others of its weekday. A stretch begins
 /// on the day after the one before it in a list, and the first with the window.
@@ -23,6 +23,76 @@ pub(crate) struct Stretch {
     pub(crate) last: Day,
     /// Who leads on the dates of each weekday.
     pub(crate) standings: Standings,
+}
+
+/// Whether the day lies between the entry's first and last date, whatever its weekday.
+fn covers<E: Entry>(entry: &E, day: Day) -> bool
+    ensures { IsTrue result ↔
+        (((E.terms entry.now).first ≤ day) × (day ≤ (E.terms entry.now).last)) }
+{
+    entry.first() <= day && day <= entry.last()
+}
+
+/// The first day from `first` on after which the record has ended or begins; `end` where there is
+/// none before it.
+fn end_for<E: Entry>(entry: &E, first: Day, end: Day) -> Day
+    requires { first ≤ end }
+    ensures { IsEndFor (E.terms entry.now) first end result }
+{
+    let begin = entry.first();
+    if first < begin {
+        return match begin.previous() {
+            Some(before) if before < end => before,
+            _ => end,
+        };
+    }
+    let last = entry.last();
+    if first <= last && last < end {
+        last
+    } else {
+        end
+    }
+}
+
+/// The stretch that begins on `first`, in a window that ends on `last`, of the members in `part`, the
+/// first of which has this number.
+fn stretch_from<E: Entry>(
+    entries: &[E],
+    members: &[usize],
+    alike: &mut [Option<usize>],
+    number: usize,
+    part: &[usize],
+    first: Day,
+    last: Day,
+) -> Stretch
+    requires positions { All (λ i. i < length entries.now) members.now }
+    requires alike { AreAlike (map E.terms entries.now) members.now alike.old }
+    requires part { IsPart members.now number part.now }
+    requires in_order { first ≤ last }
+    ensures alike { AreAlike (map E.terms entries.now) members.now alike.new }
+    ensures stretch { IsStretch (map E.terms entries.now) members.now part.now (last + 1) first result }
+{
+    let mut end = last;
+    let mut standings = [Standing::Nobody; 7];
+    for (index, position) in part.iter().enumerate() {
+        let entry = &entries[*position];
+        end = end_for(entry, first, end);
+        if covers(entry, first) {
+            let others = [Standing::Leader(number + index); 7];
+            look_at(
+                entries,
+                members,
+                alike,
+                &mut standings,
+                entry.days(),
+                &others,
+            );
+        }
+    }
+    Stretch {
+        last: end,
+        standings,
+    }
 }
 
 /// The stretch of two sets of members together, from a stretch of each; the two have a date in
@@ -56,7 +126,7 @@ fn joint<E: Entry>(
 }
 
 /// The stretches that remain after the day, of which only the first may end by then.
-pub(crate) fn behind(stretches: &[Stretch], day: Day) -> &[Stretch]
+fn behind(stretches: &[Stretch], day: Day) -> &[Stretch]
     ensures { AreBehind stretches.now day result.now }
 {
     match stretches {
@@ -65,40 +135,9 @@ pub(crate) fn behind(stretches: &[Stretch], day: Day) -> &[Stretch]
     }
 }
 
-/// The stretches of few members, which are all looked at for each. They are those in `part`, the
-/// first of which has this number.
-fn stretches_of_few<E: Entry>(
-    alloc: Global,
-    entries: &[E],
-    members: &[usize],
-    alike: &mut [Option<usize>],
-    number: usize,
-    part: &[usize],
-    window: &Window,
-) -> Result<Vec<Stretch>, AllocError>
-    requires positions { All (λ i. i < length entries.now) members.now }
-    requires alike { AreAlike (map E.terms entries.now) members.now alike.old }
-    requires part { IsPart members.now number part.now }
-    ensures alike { AreAlike (map E.terms entries.now) members.now alike.new }
-    ensures stretches { IfOk result
-        (λ made. AreStretchesOf (map E.terms entries.now) members.now part.now window.now made.items) }
-{
-    let mut stretches = Vec::new(alloc);
-    let mut first = window.first;
-    loop {
-        let (last, _) = end_of_piece(entries, part, &[], first, window.last);
-        let standings = standings_from(entries, members, alike, number, part, first);
-        stretches.push(Stretch { last, standings })?;
-        match last.next_up_to(window.last) {
-            Some(next) => first = next,
-            None => return Ok(stretches),
-        }
-    }
-}
-
-/// The stretches of the members in `part`, the first of which has this number. Those of many are
-/// made from those of both halves.
-fn stretches_of<E: Entry>(
+/// The stretches of the members in `part`, the first of which has this number. Few are all looked at
+/// for each; the stretches of many are made from those of both halves.
+pub(crate) fn stretches_of<E: Entry>(
     alloc: Global,
     entries: &[E],
     members: &[usize],
@@ -115,7 +154,17 @@ fn stretches_of<E: Entry>(
         (λ made. AreStretchesOf (map E.terms entries.now) members.now part.now window.now made.items) }
 {
     if part.len() <= FEW {
-        return stretches_of_few(alloc, entries, members, alike, number, part, window);
+        let mut stretches = Vec::new(alloc);
+        let mut first = window.first;
+        loop {
+            let stretch = stretch_from(entries, members, alike, number, part, first, window.last);
+            let next = stretch.last.next_up_to(window.last);
+            stretches.push(stretch)?;
+            match next {
+                Some(next) => first = next,
+                None => return Ok(stretches),
+            }
+        }
     }
     let half = part.len() / 2;
     let (first_half, second_half) = part.split_at(half);
@@ -139,30 +188,4 @@ fn stretches_of<E: Entry>(
         stretches.push(stretch)?;
     }
     Ok(stretches)
-}
-
-/// The stretches of many members, over the dates of the window; none of few.
-pub(crate) fn stretches_of_many<E: Entry>(
-    alloc: Global,
-    entries: &[E],
-    members: &[usize],
-    window: &Window,
-) -> Result<Vec<Stretch>, AllocError>
-    requires positions { All (λ i. i < length entries.now) members.now }
-    ensures { IfOk result (λ stretches. AreAhead (map E.terms entries.now) members.now
-        window.now.first window.now.last stretches.items) }
-{
-    if members.len() <= FEW {
-        return Ok(Vec::new(alloc));
-    }
-    let mut alike = vec![in alloc; None; members.len()]?;
-    stretches_of(
-        alloc,
-        entries,
-        members,
-        alike.as_mut_slice(),
-        0,
-        members,
-        window,
-    )
 }

@@ -1,14 +1,12 @@
 -- Who leads on a day among members that are looked at together. No public clause cites it.
-use Rattle.std.specs.Prelude.{◌≡◌, ◌≢◌, ℕ, ◌<◌, ◌≤◌, List, ◌++◌, length, Bool, Option, Some, None}
+use Rattle.std.specs.Prelude.{◌≡◌, ◌≢◌, ℕ, ◌<◌, List, ◌++◌, length, Bool, Option, Some, None}
 use Rattle.std.specs.Prelude.{slice_get, slice_index_or, ◌⊎◌}
-use Rattle.cif_columns.specs.Day.{weekday_of}
 use Rattle.cif_columns.specs.DaysRun.{RunsOn}
 use Rattle.cif_columns.specs.Stp.{letter}
 use Rattle.cif_calendar.specs.Terms.{Terms, Records}
 use Rattle.cif_calendar.specs.Applies.{Applies}
 use Rattle.cif_calendar.specs.Wins.{Wins}
-use Rattle.cif_calendar.specs.Clash.{IsClear}
-use Rattle.cif_calendar.specs.Source.{IsChosen, IsSource, body_at}
+use Rattle.cif_calendar.specs.Source.{IsChosen, body_at}
 use Rattle.cif_calendar.specs.declared.standing.Standing.{Standing}
 use Rattle.cif_calendar.specs.declared.standing.Standing.TheVariants.{Nobody, Leader, Disputed}
 
@@ -66,18 +64,6 @@ pub record Combines {B : Type 0} (xs : List (Terms B)) (members : List ℕ) (s t
 abbrev pub LooksAt : {B : Type 0} → List (Terms B) → List ℕ → List Bool → List Standing → ℕ → Standing → Standing → Type 0
 LooksAt xs members days others w s u =
     (RunsOn days w × Combines xs members s (slice_index_or others w Nobody) u) ⊎ ((¬ RunsOn days w) × (u ≡ s))
-
--- the standing of each day from `first` to `last`, by its weekday, of the members that were looked at
-pub record AreStandings {B : Type 0} (xs : List (Terms B)) (members looked : List ℕ) (first last : ℕ)
-    (standings : List Standing) : Type 0 where
-  pub below : AreBelow (length members) standings
-  pub stands : (d : ℕ) → first ≤ d → d ≤ last →
-      Stands xs members (IsChosen xs looked) d (slice_index_or standings (weekday_of d) Nobody)
-
--- what the standing s of a day among all members says of it: that it is clear, and that o is its source
-pub record Judges {B : Type 0} (xs : List (Terms B)) (members : List ℕ) (s : Standing) (o : Option ℕ) : Type 0 where
-  pub clear : (d : ℕ) → Stands xs members (IsChosen xs members) d s → IsClear (IsChosen xs members) d
-  pub source : (d : ℕ) → Stands xs members (IsChosen xs members) d s → IsSource xs members d o
 
 -- the members with two numbers have one body
 abbrev pub HaveOneBody : {B : Type 0} → List (Terms B) → List ℕ → ℕ → ℕ → Type 0

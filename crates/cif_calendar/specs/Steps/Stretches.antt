@@ -1,11 +1,10 @@
 -- Stretches of days, one after another, and who leads on them. No public clause cites it.
-use Rattle.std.specs.Prelude.{◌≡◌, ℕ, ◌+◌, ◌<◌, ◌≤◌, List, [], ◌∷◌, length, Option, None, slice_index_or, ◌⊎◌}
+use Rattle.std.specs.Prelude.{◌≡◌, ℕ, ◌+◌, ◌<◌, ◌≤◌, List, [], ◌∷◌, length, slice_index_or, ◌⊎◌}
 use Rattle.cif_columns.specs.Day.{weekday_of}
 use Rattle.cif_calendar.specs.Terms.{Terms}
-use Rattle.cif_calendar.specs.Clash.{IsClear}
-use Rattle.cif_calendar.specs.Source.{IsChosen, IsSource}
+use Rattle.cif_calendar.specs.Source.{IsChosen}
 use Rattle.cif_calendar.specs.Pieces.{ChangesOn, IsUnbroken}
-use Rattle.cif_calendar.specs.Steps.Standing.{AreBelow, AreStandings, Combines}
+use Rattle.cif_calendar.specs.Steps.Standing.{AreBelow, Combines, Stands}
 use Rattle.cif_calendar.specs.declared.key_calendar.Window.{Window}
 use Rattle.cif_calendar.specs.declared.standing.Standing.TheVariants.{Nobody}
 use Rattle.cif_calendar.specs.declared.stretch.Stretch.{Stretch}
@@ -17,7 +16,17 @@ pub record IsStretch {B : Type 0} (xs : List (Terms B)) (members looked : List �
   pub upto : s.last < end
   pub unbroken : IsUnbroken (IsChosen xs looked) first s.last
   pub change : (s.last + 1 ≡ end) ⊎ ChangesOn (IsChosen xs looked) (s.last + 1)
-  pub standings : AreStandings xs members looked first s.last s.standings
+  pub below : AreBelow (length members) s.standings
+  pub stands : (d : ℕ) → first ≤ d → d ≤ s.last →
+      Stands xs members (IsChosen xs looked) d (slice_index_or s.standings (weekday_of d) Nobody)
+
+-- from day `first` to day `end` the record doesn't begin or end, and `end` is `last` or the day before it does, if that is sooner
+pub record IsEndFor {B : Type 0} (r : Terms B) (first last end : ℕ) : Type 0 where
+  pub from : first ≤ end
+  pub upto : end ≤ last
+  pub begins : first < r.first → end < r.first
+  pub ends : first ≤ r.last → end ≤ r.last
+  pub breaks : (end ≡ last) ⊎ ((end + 1 ≡ r.first) ⊎ (end + 1 ≡ r.last + 1))
 
 -- stretches from day `first` to the day before `to`
 abbrev pub AreStretches : {B : Type 0} → List (Terms B) → List ℕ → List ℕ → ℕ → ℕ → ℕ → List Stretch → Type 0
@@ -47,19 +56,3 @@ pub record IsPart (members : List ℕ) (k : ℕ) (part : List ℕ) : Type 0 wher
 abbrev pub AreBehind : List Stretch → ℕ → List Stretch → Type 0
 AreBehind [] day rest = rest ≡ []
 AreBehind (s ∷ ss) day rest = ((s.last ≤ day) × (rest ≡ ss)) ⊎ ((day < s.last) × (rest ≡ s ∷ ss))
-
--- stretches that are ahead, in a window that ends on day `last`, or none is known
-abbrev pub AreAhead : {B : Type 0} → List (Terms B) → List ℕ → ℕ → ℕ → List Stretch → Type 0
-AreAhead xs members first last [] = Unit {0}
-AreAhead xs members first last (s ∷ ss) = AreStretches xs members members (last + 1) first (last + 1) (s ∷ ss)
-
--- the first stretch, if there is one, ends on day `last`, and has the standings of the days from `first` on
-abbrev pub TellsOf : {B : Type 0} → List (Terms B) → List ℕ → ℕ → ℕ → List Stretch → Type 0
-TellsOf xs members first last [] = Unit {0}
-TellsOf xs members first last (s ∷ ss) = (s.last ≡ last) × AreStandings xs members members first last s.standings
-
--- the winners of the days from `first` to the day before `to`, which are clear
-pub record IsWeekFrom {B : Type 0} (xs : List (Terms B)) (members : List ℕ) (first to : ℕ) (winners : List (Option ℕ)) : Type 0 where
-  pub sources : (d : ℕ) → first ≤ d → d < to → IsSource xs members d (slice_index_or winners (weekday_of d) None)
-  pub clear : (d : ℕ) → first ≤ d → d < to → IsClear (IsChosen xs members) d
-  pub idle : (w : ℕ) → ((d : ℕ) → first ≤ d → d < to → weekday_of d ≡ w → ⊥) → slice_index_or winners w None ≡ None

@@ -1,0 +1,12 @@
+-- So far it is the stretch of the members that were looked at.
+use Rattle.std.proofs.Common.{◌+◌, take, map}
+use Rattle.cif_calendar.specs.Steps.Standing.{AreAlike}
+use Rattle.cif_calendar.specs.Steps.Stretches.{IsStretch}
+use Rattle.cif_calendar.proofs.stretch.stretch_from.Given as goal
+
+abbrev pub invariant-loop-index : goal.invariant-loop-index
+invariant-loop-index g l = record {
+  alike : AreAlike (map g.E.Entry.terms l.entries) l.members l.alike;
+  stretch : IsStretch (map g.E.Entry.terms l.entries) l.members (take l.index l.part) (l.fn.last + 1) l.first
+      (record { last = l.end; standings = l.standings });
+}
