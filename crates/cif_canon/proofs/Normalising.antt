@@ -1,5 +1,5 @@
 -- What an input that is read and narrowed comes to.
-use Rattle.std.proofs.Common.{◌≡◌, ◌≤◌, ℕ, List, Option, Result, Ok, Err, IfErr, sym, ap, ◌∙◌, subst, arith}
+use Rattle.std.proofs.Common.{◌≡◌, ◌≢◌, ◌≤◌, ℕ, List, [], Option, Some, None, Result, Ok, Err, IfErr, refl, sym, ap, ◌∙◌, subst, arith}
 use Rattle.std.specs.Prelude.{IfSome, IsErrAnd}
 use Rattle.cif_calendar.proofs.FirstClash.{first_clash-clear}
 use Rattle.cif_columns.specs.Sink.{HasFailed}
@@ -122,6 +122,30 @@ pub fault-writes : {W A : Type 0} (contents : W → Option (List ℕ)) (errors :
     FaultWrites contents errors text old new result
 fault-writes contents errors text old new result f failed write h =
     subst (FaultWrites contents errors text old new) (sym (failed ∙ ap Err write)) h
+
+-- a fault before anything is written
+module _ {W : Type 0} (contents : W → Option (List ℕ)) (errors : W → Option ℕ) (start : Option (List ℕ)) (form : Form) (asked : Asked)
+    (max : ℕ) (old : Sink W) where
+  abbrev IsSilent : Result Counts Fault → Type 0
+  IsSilent result = (text : List ℕ) × FaultWrites contents errors text old old result
+      × IfSome start (λ bytes. Normalises form asked max bytes text result)
+
+  unsaid : (bytes : Option (List ℕ)) → IfSome bytes (λ known. Unit {0})
+  unsaid (Some known) = tt
+  unsaid None = tt
+
+  silent : (f : Fault) → f ≢ fault.Write → IsSilent (Err f)
+  silent (fault.Refused line why) other = ([], refl, unsaid start)
+  silent (fault.Ambiguous clash) other = ([], refl, unsaid start)
+  silent fault.WindowsDiffer other = ([], refl, unsaid start)
+  silent fault.OutsideWindow other = ([], refl, unsaid start)
+  silent fault.WindowReversed other = ([], refl, unsaid start)
+  silent fault.Read other = ([], refl, unsaid start)
+  silent fault.Write other = absurd (other refl)
+  silent fault.Memory other = ([], refl, unsaid start)
+
+  pub fails-silently : (result : Result Counts Fault) (f : Fault) → result ≡ Err f → f ≢ fault.Write → IsSilent result
+  fails-silently result f is other = subst IsSilent (sym is) (silent f other)
 
 -- ---- the same where the bytes may be unknown, of the fault that `?` hands on
 

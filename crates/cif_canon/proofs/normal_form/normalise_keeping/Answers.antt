@@ -1,11 +1,28 @@
 -- The text has to be named, the canonical form's: of known bytes `Normalising` says it is that, written whole or as a prefix.
+use Rattle.std.proofs.Common.{subst}
 use Rattle.cif_columns.specs.Source.{reader_of}
 use Rattle.cif_columns.proofs.GivenLinesLaws.{known_so}
 use Rattle.cif_extract.specs.ExtractParts.{extract_parts}
 use Rattle.cif_canon.proofs.HandedFaults.{at-fault}
-use Rattle.cif_canon.proofs.Normalising.{fault-writes, known-accepted, known-canon_accepted, known-canon_fault, normalises-prefix}
-use Rattle.cif_canon.proofs.Normalising.{normalises-whole}
+use Rattle.cif_canon.specs.Fault.{IsCanonFault, IsOfCheck}
+use Rattle.cif_canon.proofs.Normalising.{fails-silently, fault-writes, known-accepted, known-canon_accepted, known-canon_fault}
+use Rattle.cif_canon.proofs.Normalising.{normalises-prefix, normalises-whole}
 use Rattle.cif_canon.proofs.normal_form.normalise_keeping.Goals as goal
+
+pub returns-in_err-extract-clause-normal : goal.returns-in_err-extract-clause-normal
+returns-in_err-extract-clause-normal g c =
+    let f = c.in_err-extract.field-0.0 in
+    fails-silently _ _ _ c.args.form c.args.asked.now c.args.max_lines c.args.sink.now c.from_residual.result f
+    (at-fault c.from_residual.result f c.from_residual.ensures.1)
+    (λ write. subst (IsOfCheck c.args.max_lines) write c.in_err-extract.ensures.answers)
+
+pub returns-in_err-canon-clause-normal : goal.returns-in_err-canon-clause-normal
+returns-in_err-canon-clause-normal g c =
+    let call = c.from_residual-in_err-canon in
+    let f = c.in_err-canon.field-0.0 in
+    let x = extract_parts c.insert-extract.result.now in
+    fails-silently _ _ _ c.args.form c.args.asked.now c.args.max_lines c.args.sink.now call.result f
+    (at-fault call.result f call.ensures.1) (λ write. subst (IsCanonFault x) write c.in_err-canon.ensures.fault)
 
 pub returns-in_err-extract-clause-accepted : goal.returns-in_err-extract-clause-accepted
 returns-in_err-extract-clause-accepted g c =
