@@ -30,6 +30,7 @@ pub mod NormalForms
 pub mod Normalising
 pub mod OnlyDays
 pub mod OnlyRuns
+pub mod ReadPairs
 pub mod RunTexts
 pub mod RunningRecords
 pub mod SameExtracts

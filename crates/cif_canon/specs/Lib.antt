@@ -13,6 +13,7 @@ pub mod Fields
 pub mod Meaning
 pub mod NormalForm
 pub mod Normalised
+pub mod Pair
 pub mod Report
 pub mod Steps
 pub mod Views

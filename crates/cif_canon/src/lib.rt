@@ -15,6 +15,7 @@ pub mod laws;
 mod layout;
 mod listed_differences;
 mod normal_form;
+mod pair;
 mod records;
 mod tiplocs;
 mod turns;
@@ -29,5 +30,8 @@ pub use differing::differences;
 pub use explanation::{explain_listing, explain_view};
 pub use layout::{Format, Layout};
 pub use listed_differences::{Differences, Side, Sided};
-pub use normal_form::{canon, check, check_keeping, normalise, normalise_keeping, report};
+pub use normal_form::{
+    canon, check, check_keeping, normalise, normalise_keeping, read_narrowed, report,
+};
+pub use pair::read_pair;
 pub use views::{day_listing, day_view, train_listing, train_view};

@@ -133,7 +133,7 @@ pub fn check_keeping<R: ReadDevice>(
 }
 
 /// The extract that the source's lines spell, narrowed to the window that is asked for.
-fn read_narrowed<R: ReadDevice>(
+pub fn read_narrowed<R: ReadDevice>(
     alloc: Global,
     source: &mut Source<R>,
     max_lines: u64,

@@ -5,7 +5,7 @@ use Rattle.cif_columns.specs.declared.source.Source.{Source}
 use Rattle.cif_extract.specs.ReadFault.{FaultReads}
 use Rattle.cif_extract.specs.declared.fault.Fault.{Fault}
 use Rattle.cif_extract.specs.declared.fault.Fault.TheVariants as fault
-use Rattle.cif_tool.specs.Answer.{ReadsBoth}
+use Rattle.cif_canon.specs.Pair.{ReadsBoth}
 
 module _ {R B : Type 0} (errors : R → Option ℕ) where
   read-on : (old new : Source R) (result : Result B Fault) → IfErr result (λ f. f ≢ fault.Read) → HasReadOn errors old new →

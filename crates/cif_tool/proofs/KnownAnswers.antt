@@ -1,6 +1,6 @@
 -- What the commands answer, by what their calls answer: of bytes that are known.
 use Rattle.std.proofs.Common.{◌≡◌, ◌↔◌, ◌⊎◌, ℕ, Bool, true, false, List, [], Option, IfSome, Result, Err, IfErr, IsTrue, inl, inr}
-use Rattle.std.proofs.Common.{refl, subst, sym, true≢false}
+use Rattle.std.proofs.Common.{refl, sym, true≢false}
 use Rattle.cif_columns.specs.declared.line_reader.TheConstants.{MAX_LINES}
 use Rattle.cif_columns.proofs.GivenLinesLaws.{known_so}
 use Rattle.cif_extract.specs.ExtractParts.{ExtractParts}
@@ -9,6 +9,7 @@ use Rattle.cif_extract.specs.declared.fault.Clash.{Clash}
 use Rattle.cif_extract.specs.declared.fault.Fault.{Fault}
 use Rattle.cif_extract.specs.declared.fault.Fault.TheVariants as fault
 use Rattle.cif_weeks.specs.declared.form.Form.{Form}
+use Rattle.cif_canon.specs.Accepted.{SpellsNarrowed}
 use Rattle.cif_canon.specs.Asked.{IsNarrowed}
 use Rattle.cif_canon.specs.Comparison.{AreCompared, IsCompareFault, comparison_line}
 use Rattle.cif_canon.specs.Clashes.{AreAllClashes, clashes_text}
@@ -16,6 +17,8 @@ use Rattle.cif_canon.specs.Counts.{counts_line}
 use Rattle.cif_canon.specs.Differences.{AreDifferences, AreNone, DifferencesParts, differences_text}
 use Rattle.cif_canon.specs.Explanation.{IsExplanation}
 use Rattle.cif_canon.specs.Normalised.{IfWritten, IsNormalised, Normalises}
+use Rattle.cif_canon.specs.Pair.{IsCompareRefusal, ReadAsPair, SpellPair}
+use Rattle.cif_canon.proofs.ReadPairs.{spelled-refused}
 use Rattle.cif_canon.specs.Views.{IsDayView, IsTrainView}
 use Rattle.cif_canon.specs.declared.asked.Asked.{Asked}
 use Rattle.cif_canon.specs.declared.comparison.Comparison.{Comparison}
@@ -24,7 +27,6 @@ use Rattle.cif_canon.specs.declared.layout.Format.{Format}
 use Rattle.cif_canon.specs.declared.layout.Layout.{Layout}
 use Rattle.cif_tool.specs.Answer.{IsCheckAnswer, IsClashesAnswer, IsCompareAnswer, IsDayAnswer, IsDiffAnswer}
 use Rattle.cif_tool.specs.Answer.{IsExplainAnswer, IsListedStatus, IsNormaliseAnswer, IsTrainAnswer}
-use Rattle.cif_tool.specs.Pair.{AreNarrowed, IsCompareRefusal, IsPairRefusal, IsRightRefusal, ReadAsPair, SpellPair, asked_of_both}
 use Rattle.cif_tool.specs.Status.{listed_status, outcome_of}
 
 -- the status of a list, of which it is told whether there is none
@@ -90,38 +92,12 @@ module _ (start : Option (List ℕ)) where
           status_is = listed (clashes ≡ []) none tells;
         }) spelled
 
-    pub train-answer : (layout : Layout) (form : Form) (asked : Asked) (y : ExtractParts) (uid text : List ℕ) → IsNarrowed asked x y →
-        IsTrainView layout form y uid text → IfSome start (λ bytes. IsTrainAnswer layout form asked uid bytes text 0)
-    train-answer layout form asked y uid text narrowed view =
-        known_so start (λ bytes. BytesSpellWithin MAX_LINES bytes x) (λ bytes. IsTrainAnswer layout form asked uid bytes text 0)
-        (λ bytes s. record {
-          extract = y;
-          spelled = record { whole = x; spelled = s; narrowed = narrowed };
-          view = view;
-          status_is = refl;
-        }) spelled
-
--- a left input that spells an extract, and a reader that gives one, have no answer where the two extracts have none
-pub spelled-refused : (asked : Asked) (common : Bool) (right : Option (List ℕ)) (bytes : List ℕ) (after right_after : Option (List ℕ))
-    (Untouched : Type 0) (one other : ExtractParts) → BytesSpellWithin MAX_LINES bytes one →
-    IfSome right (λ b. BytesSpellWithin MAX_LINES b other) → (f : Fault) (wanted : Asked) →
-    wanted ≡ asked_of_both common asked one other → IsPairRefusal wanted one other f →
-    IsCompareRefusal asked common bytes after Untouched right right_after f
-spelled-refused asked common right bytes after right_after Untouched one other s t f wanted is h = inr (
-  one,
-  s,
-  known_so right (λ b. BytesSpellWithin MAX_LINES b other) (λ b. IsRightRefusal asked common one b right_after f)
-      (λ b spelled. inr (other, spelled, subst (λ (w : Asked). IsPairRefusal w one other f) is h)) t,
-)
-
--- two whole extracts, narrowed to what is asked for of both
-pub are-narrowed : (asked : Asked) (common : Bool) (one other x y : ExtractParts) (wanted : Asked) →
-    wanted ≡ asked_of_both common asked one other → IsNarrowed wanted one x → IsNarrowed wanted other y →
-    AreNarrowed asked common one other x y
-are-narrowed asked common one other x y wanted is m n = record {
-  left = subst (λ (w : Asked). IsNarrowed w one x) is m;
-  right = subst (λ (w : Asked). IsNarrowed w other y) is n;
-}
+  pub train-answer : (asked : Asked) (x : ExtractParts) → IfSome start (SpellsNarrowed MAX_LINES asked x) → (layout : Layout)
+      (form : Form) (uid text : List ℕ) → IsTrainView layout form x uid text →
+      IfSome start (λ bytes. IsTrainAnswer layout form asked uid bytes text 0)
+  train-answer asked x spelled layout form uid text view =
+      known_so start (SpellsNarrowed MAX_LINES asked x) (λ bytes. IsTrainAnswer layout form asked uid bytes text 0)
+      (λ bytes s. record { extract = x; spelled = s; view = view; status_is = refl }) spelled
 
 -- two readers, of which what they give is read as these extracts
 module _ (asked : Asked) (common : Bool) (left right : Option (List ℕ)) (x y : ExtractParts)

@@ -1,7 +1,7 @@
 -- What the commands answer: a text on the output, and a status.
 use Rattle.std.specs.Prelude.{◌≡◌, ◌⊎◌, ⊤, ℕ, Bool, List, Option, IfSome, Result, Ok, Err, []}
 use Rattle.cif_columns.specs.Sink.{writer_of}
-use Rattle.cif_columns.specs.Source.{HasReadOn, reader_of}
+use Rattle.cif_columns.specs.Source.{reader_of}
 use Rattle.cif_columns.specs.declared.line_reader.TheConstants.{MAX_LINES}
 use Rattle.cif_columns.specs.declared.sink.Sink.{Sink}
 use Rattle.cif_columns.specs.declared.source.Source.{Source}
@@ -21,13 +21,13 @@ use Rattle.cif_canon.specs.Differences.{AreDifferences, AreNone, DifferencesPart
 use Rattle.cif_canon.specs.Explanation.{IsExplanation, IsExplanationFault}
 use Rattle.cif_canon.specs.Fault.{IsNormaliseFault}
 use Rattle.cif_canon.specs.Normalised.{FaultWrites, IsNormalised}
+use Rattle.cif_canon.specs.Pair.{FaultOfBoth, ReadsBoth, SpellPair}
 use Rattle.cif_canon.specs.Views.{IsDayFault, IsDayView, IsTrainView}
 use Rattle.cif_canon.specs.declared.asked.Asked.{Asked}
 use Rattle.cif_canon.specs.declared.comparison.Comparison.{Comparison}
 use Rattle.cif_canon.specs.declared.canonical_form.Counts.{Counts}
 use Rattle.cif_canon.specs.declared.layout.Format.{Format}
 use Rattle.cif_canon.specs.declared.layout.Layout.{Layout}
-use Rattle.cif_tool.specs.Pair.{FaultOfBoth, SpellPair}
 use Rattle.cif_tool.specs.Status.{outcome_of}
 use Rattle.cif_tool.specs.declared.job.Job.{Job}
 use Rattle.cif_tool.specs.declared.job.Job.TheVariants.{Check, Clashes, Compare, Day, Diff, Explain, Normalise, Train}
@@ -141,12 +141,6 @@ abbrev pub IsClashesRefusal : Asked → List ℕ → Option (List ℕ) → Fault
 IsClashesRefusal asked bytes after fault = IsReadFault MAX_LINES bytes after fault
     ⊎ ((extract : ExtractParts) × BytesSpellWithin MAX_LINES bytes extract
     × (IsNarrowingFault asked extract.header fault ⊎ ((fault ≡ Memory) ⊎ (fault ≡ Write))))
-
--- What a command that reads a left and then a right source owes them: the right one is as it was where the left one isn't read on.
-abbrev pub ReadsBoth : {R A : Type 0} → (R → Option ℕ) → Source R → Source R → Source R → Source R → Result A Fault → Type 0
-ReadsBoth errors left left_new right right_new result =
-    (FaultReads errors left left_new result × (right_new ≡ right))
-    ⊎ (HasReadOn errors left left_new × FaultReads errors right right_new result)
 
 -- where a command answers, its sink's writer holds nothing back: the whole answer is handed on
 abbrev pub IsHandedOn : {W A E : Type 0} → (W → Type 0) → Sink W → Result A E → Type 0

@@ -2,5 +2,4 @@ pub mod Answer
 pub mod CommandLine
 pub mod Job
 pub mod JobFault
-pub mod Pair
 pub mod Status

@@ -1,6 +1,7 @@
 //! What each command answers, for any devices, and which of them a job asks for.
 ghost use Rattle.std.specs.Prelude.{◌≡◌, [], IfErr, IfOk};
 ghost use Rattle.cif_canon.specs.Fault.{IsNormaliseFault};
+ghost use Rattle.cif_canon.specs.Pair.{FaultOfBoth, ReadsBoth};
 ghost use Rattle.cif_columns.specs.Sink.{Writes};
 ghost use Rattle.cif_columns.specs.declared.line_reader.TheConstants.{MAX_LINES};
 ghost use Rattle.cif_extract.specs.ReadFault.{FaultOf, FaultReads, LeavesNothing};
@@ -9,15 +10,14 @@ ghost use Rattle.cif_tool.specs.Answer.{Answers, IsCheckAnswer, IsClashesAnswer,
 ghost use Rattle.cif_tool.specs.Answer.{IsCompareAnswer, IsDayAnswer, IsDayRefusal, IsDiffAnswer};
 ghost use Rattle.cif_tool.specs.Answer.{IsExplainAnswer, IsExplainRefusal, IsHandedOn, IsJobAnswer};
 ghost use Rattle.cif_tool.specs.Answer.{IsJobFault, IsNormaliseAnswer, IsTrainAnswer, OfBoth, OfInput};
-ghost use Rattle.cif_tool.specs.Answer.{ReadsBoth, ReadsInputs};
-ghost use Rattle.cif_tool.specs.Pair.{FaultOfBoth};
+ghost use Rattle.cif_tool.specs.Answer.{ReadsInputs};
 
 use crate::job::Job;
-use crate::pair::{narrowed, read_pair};
 use crate::status::{DONE, listed, outcome};
 use cif_canon::{
     Asked, Format, Layout, check_keeping, clashes, compare, day_listing, differences,
-    explain_listing, normalise_keeping, train_listing, write_comparison, write_counts,
+    explain_listing, narrow, normalise_keeping, read_narrowed, read_pair, train_listing,
+    write_comparison, write_counts,
 };
 use cif_columns::{Day, MAX_LINES, ReadDevice, Sink, Source, Uid, WriteDevice};
 use cif_extract::{Fault, read_extract};
@@ -167,7 +167,7 @@ pub fn answer_train<R: ReadDevice, W: WriteDevice>(
     ensures end { LeavesNothing R.remaining source.old source.new result }
     ensures handed_on { IsHandedOn W.holds_nothing sink.new result }
 {
-    let extract = narrowed(read_extract(alloc, source, MAX_LINES)?, asked)?;
+    let extract = read_narrowed(alloc, source, MAX_LINES, asked)?;
     train_listing(alloc, &extract, uid, sink, form, layout)?;
     flushed(sink, DONE)
 }
@@ -209,8 +209,8 @@ pub fn answer_clashes<R: ReadDevice, W: WriteDevice>(
     ensures end { LeavesNothing R.remaining source.old source.new result }
     ensures handed_on { IsHandedOn W.holds_nothing sink.new result }
 {
-    let whole = read_extract(alloc, source, MAX_LINES)?;
-    let extract = narrowed(whole, asked)?;
+    let mut extract = read_extract(alloc, source, MAX_LINES)?;
+    narrow(&mut extract, asked)?;
     let found = clashes(alloc, &extract)?;
     let status = listed(found.is_empty());
     found.write(sink)?;

@@ -8,7 +8,6 @@ mod command_line;
 mod devices;
 mod help;
 mod job;
-mod pair;
 mod program;
 mod refused_columns;
 mod status;

@@ -13,13 +13,13 @@ use Rattle.cif_tool.proofs.Answered.{fails-silently, fails-to-write, flushed, on
 use Rattle.cif_tool.proofs.KnownAnswers.{clashes-answer}
 use Rattle.cif_tool.proofs.answers.answer_clashes.Goals as goal
 
-pub returns-in_err-extract-clause-fault : goal.returns-in_err-extract-clause-fault
-returns-in_err-extract-clause-fault g c =
+pub returns-in_err-narrow-clause-fault : goal.returns-in_err-narrow-clause-fault
+returns-in_err-narrow-clause-fault g c =
     let after = g.R.Read.remaining (reader_of c.read_extract.new.source) in
-    known-fault c.from_residual-in_err-extract.result c.in_err-extract.field-0.0 c.from_residual-in_err-extract.ensures.1 _ _
+    known-fault c.from_residual-in_err-narrow.result c.in_err-narrow.field-0.0 c.from_residual-in_err-narrow.ensures.1 _ _
     (λ bytes. IsClashesRefusal c.args.asked.now bytes after)
-    (λ bytes spelled. inr (extract_parts c.in_ok-whole.whole, spelled, inl c.in_err-extract.ensures.fault))
-    c.in_ok-whole.ensures.ok
+    (λ bytes spelled. inr (extract_parts c.in_ok-extract.extract, spelled, inl c.in_err-narrow.ensures.fault))
+    c.in_ok-extract.ensures.ok
 
 pub returns-in_err-found-clause-answer : goal.returns-in_err-found-clause-answer
 returns-in_err-found-clause-answer g c =
@@ -33,8 +33,8 @@ returns-in_err-found-clause-fault g c =
     let after = g.R.Read.remaining (reader_of c.read_extract.new.source) in
     known-fault c.from_residual-in_err-found.result c.in_err-found.field-0.0 c.from_residual-in_err-found.ensures.1 _ _
     (λ bytes. IsClashesRefusal c.args.asked.now bytes after)
-    (λ bytes spelled. inr (extract_parts c.in_ok-whole.whole, spelled, inr (inl c.in_err-found.ensures.fault)))
-    c.in_ok-whole.ensures.ok
+    (λ bytes spelled. inr (extract_parts c.in_ok-extract.extract, spelled, inr (inl c.in_err-found.ensures.fault)))
+    c.in_ok-extract.ensures.ok
 
 pub returns-in_err-write-clause-answer : goal.returns-in_err-write-clause-answer
 returns-in_err-write-clause-answer g c =
@@ -44,16 +44,16 @@ returns-in_err-write-clause-answer g c =
     let none = c.is_empty.result in
     fails-to-write _ _ _ _ (clashes_text made) (listed_status none) c.write.new.sink call.result f
     (at-fault call.result f call.ensures.1) c.in_err-write.ensures.fault c.in_err-write.ensures.writes
-    (clashes-answer _ (extract_parts c.in_ok-whole.whole) c.in_ok-whole.ensures.ok c.args.asked.now
-    (extract_parts c.in_ok-extract.extract) made none c.in_ok-extract.ensures.ok c.in_ok-found.ensures.all c.is_empty.ensures)
+    (clashes-answer _ (extract_parts c.in_ok-extract.extract) c.in_ok-extract.ensures.ok c.args.asked.now
+    (extract_parts c.narrow.new.extract) made none c.in_ok-narrow.ensures.ok c.in_ok-found.ensures.all c.is_empty.ensures)
 
 pub returns-in_err-write-clause-fault : goal.returns-in_err-write-clause-fault
 returns-in_err-write-clause-fault g c =
     let after = g.R.Read.remaining (reader_of c.read_extract.new.source) in
     known-fault c.from_residual-in_err-write.result c.in_err-write.field-0.0 c.from_residual-in_err-write.ensures.1 _ _
     (λ bytes. IsClashesRefusal c.args.asked.now bytes after)
-    (λ bytes spelled. inr (extract_parts c.in_ok-whole.whole, spelled, inr (inr c.in_err-write.ensures.fault)))
-    c.in_ok-whole.ensures.ok
+    (λ bytes spelled. inr (extract_parts c.in_ok-extract.extract, spelled, inr (inr c.in_err-write.ensures.fault)))
+    c.in_ok-extract.ensures.ok
 
 pub returns-clause-answer : goal.returns-clause-answer
 returns-clause-answer g c =
@@ -62,12 +62,12 @@ returns-clause-answer g c =
     flushed _ _ _ _ (clashes_text made) (listed_status none) c.write.new.sink c.flushed.new.sink c.flushed.result
     c.in_ok-write.ensures.writes c.flushed.ensures.writes
     (IfOk-weaker c.flushed.result _ _ (λ status is. is ∙ c.listed-status.ensures) c.flushed.ensures.ok) c.flushed.ensures.fault
-    (clashes-answer _ (extract_parts c.in_ok-whole.whole) c.in_ok-whole.ensures.ok c.args.asked.now
-    (extract_parts c.in_ok-extract.extract) made none c.in_ok-extract.ensures.ok c.in_ok-found.ensures.all c.is_empty.ensures)
+    (clashes-answer _ (extract_parts c.in_ok-extract.extract) c.in_ok-extract.ensures.ok c.args.asked.now
+    (extract_parts c.narrow.new.extract) made none c.in_ok-narrow.ensures.ok c.in_ok-found.ensures.all c.is_empty.ensures)
 
 pub returns-clause-fault : goal.returns-clause-fault
 returns-clause-fault g c =
     let after = g.R.Read.remaining (reader_of c.read_extract.new.source) in
     known_so _ _ _ (λ bytes spelled.
     only-write (IsClashesRefusal c.args.asked.now bytes after) c.flushed.result c.flushed.ensures.fault
-    (inr (extract_parts c.in_ok-whole.whole, spelled, inr (inr refl)))) c.in_ok-whole.ensures.ok
+    (inr (extract_parts c.in_ok-extract.extract, spelled, inr (inr refl)))) c.in_ok-extract.ensures.ok

@@ -5,11 +5,10 @@ use Rattle.cif_columns.specs.declared.line_reader.TheConstants.{MAX_LINES}
 use Rattle.cif_extract.specs.ExtractParts.{extract_parts}
 use Rattle.cif_extract.specs.ReadFault.{IsOfReading}
 use Rattle.cif_extract.specs.declared.fault.Fault.TheVariants.{Write}
-use Rattle.cif_canon.specs.Asked.{IsNarrowingFault}
 use Rattle.cif_canon.proofs.HandedFaults.{hands}
-use Rattle.cif_tool.specs.Pair.{IsCompareRefusal}
-use Rattle.cif_tool.proofs.KnownAnswers.{are-narrowed, spelled-refused}
-use Rattle.cif_tool.proofs.pair.read_pair.Goals as goal
+use Rattle.cif_canon.specs.Pair.{IsCompareRefusal}
+use Rattle.cif_canon.proofs.ReadPairs.{are-narrowed, spelled-refused}
+use Rattle.cif_canon.proofs.pair.read_pair.Goals as goal
 
 pub returns-in_err-left-clause-fault : goal.returns-in_err-left-clause-fault
 returns-in_err-left-clause-fault g c =
@@ -26,21 +25,21 @@ returns-in_err-right-clause-fault g c =
     (inr (extract_parts c.in_ok-left.left, s, known_so _ _ _ (λ other fault. inl fault) c.in_err-right.ensures.fault)))
     c.in_ok-left.ensures.ok
 
-pub returns-in_err-left-2-clause-fault : goal.returns-in_err-left-2-clause-fault
-returns-in_err-left-2-clause-fault g c =
-    let call = c.from_residual-in_err-left-2 in
-    known_so _ _ _ (λ bytes s. hands call.result c.in_err-left-2.field-0.0 call.ensures.1 _
+pub returns-in_err-narrow-clause-fault : goal.returns-in_err-narrow-clause-fault
+returns-in_err-narrow-clause-fault g c =
+    let call = c.from_residual-in_err-narrow in
+    known_so _ _ _ (λ bytes s. hands call.result c.in_err-narrow.field-0.0 call.ensures.1 _
     (spelled-refused c.args.asked.now c.args.common _ bytes _ _ _ (extract_parts c.in_ok-left.left) (extract_parts c.in_ok-right.right) s
-    c.in_ok-right.ensures.ok c.in_err-left-2.field-0.0 c.asked_of_both-asked.result c.asked_of_both-asked.ensures
-    (inl c.in_err-left-2.ensures.fault))) c.in_ok-left.ensures.ok
+    c.in_ok-right.ensures.ok c.in_err-narrow.field-0.0 c.asked_of_both-asked.result c.asked_of_both-asked.ensures
+    (inl c.in_err-narrow.ensures.fault))) c.in_ok-left.ensures.ok
 
-pub returns-in_err-right-2-clause-fault : goal.returns-in_err-right-2-clause-fault
-returns-in_err-right-2-clause-fault g c =
-    let call = c.from_residual-in_err-right-2 in
-    known_so _ _ _ (λ bytes s. hands call.result c.in_err-right-2.field-0.0 call.ensures.1 _
+pub returns-in_err-narrow-2-clause-fault : goal.returns-in_err-narrow-2-clause-fault
+returns-in_err-narrow-2-clause-fault g c =
+    let call = c.from_residual-in_err-narrow-2 in
+    known_so _ _ _ (λ bytes s. hands call.result c.in_err-narrow-2.field-0.0 call.ensures.1 _
     (spelled-refused c.args.asked.now c.args.common _ bytes _ _ _ (extract_parts c.in_ok-left.left) (extract_parts c.in_ok-right.right) s
-    c.in_ok-right.ensures.ok c.in_err-right-2.field-0.0 c.asked_of_both-asked.result c.asked_of_both-asked.ensures
-    (inr (extract_parts c.in_ok-left-2.left, c.in_ok-left-2.ensures.ok, inl c.in_err-right-2.ensures.fault)))) c.in_ok-left.ensures.ok
+    c.in_ok-right.ensures.ok c.in_err-narrow-2.field-0.0 c.asked_of_both-asked.result c.asked_of_both-asked.ensures
+    (inr (extract_parts c.narrow.new.extract, c.in_ok-narrow.ensures.ok, inl c.in_err-narrow-2.ensures.fault)))) c.in_ok-left.ensures.ok
 
 pub returns-clause-ok : goal.returns-clause-ok
 returns-clause-ok g c = record {
@@ -49,7 +48,7 @@ returns-clause-ok g c = record {
   left_spelled = c.in_ok-left.ensures.ok;
   right_spelled = c.in_ok-right.ensures.ok;
   narrowed = are-narrowed c.args.asked.now c.args.common _ _ _ _ c.asked_of_both-asked.result c.asked_of_both-asked.ensures
-      c.in_ok-left-2.ensures.ok c.in_ok-right-2.ensures.ok;
+      c.in_ok-narrow.ensures.ok c.in_ok-narrow-2.ensures.ok;
 }
 
 pub returns-in_err-left-clause-silent : goal.returns-in_err-left-clause-silent
@@ -61,13 +60,3 @@ pub returns-in_err-right-clause-silent : goal.returns-in_err-right-clause-silent
 returns-in_err-right-clause-silent g c =
     hands c.from_residual-in_err-right.result c.in_err-right.field-0.0 c.from_residual-in_err-right.ensures.1 (λ f. f ≢ Write)
     (λ write. subst (IsOfReading MAX_LINES) write c.in_err-right.ensures.answers)
-
-pub returns-in_err-left-2-clause-silent : goal.returns-in_err-left-2-clause-silent
-returns-in_err-left-2-clause-silent g c =
-    hands c.from_residual-in_err-left-2.result c.in_err-left-2.field-0.0 c.from_residual-in_err-left-2.ensures.1 (λ f. f ≢ Write)
-    (λ write. subst (IsNarrowingFault _ _) write c.in_err-left-2.ensures.fault)
-
-pub returns-in_err-right-2-clause-silent : goal.returns-in_err-right-2-clause-silent
-returns-in_err-right-2-clause-silent g c =
-    hands c.from_residual-in_err-right-2.result c.in_err-right-2.field-0.0 c.from_residual-in_err-right-2.ensures.1 (λ f. f ≢ Write)
-    (λ write. subst (IsNarrowingFault _ _) write c.in_err-right-2.ensures.fault)

@@ -1,10 +1,10 @@
 -- Two extracts, in a window that is asked for of both: what `compare` and `diff` read.
 use Rattle.std.specs.Prelude.{◌≡◌, ◌⊎◌, ℕ, Bool, true, false, List, Option, Some, IfSome, Result, max, min, unwrap_or}
-use Rattle.cif_columns.specs.Source.{reader_of}
+use Rattle.cif_columns.specs.Source.{HasReadOn, reader_of}
 use Rattle.cif_columns.specs.declared.line_reader.TheConstants.{MAX_LINES}
 use Rattle.cif_columns.specs.declared.source.Source.{Source}
 use Rattle.cif_extract.specs.ExtractParts.{ExtractParts}
-use Rattle.cif_extract.specs.ReadFault.{FaultOf, IsReadFault}
+use Rattle.cif_extract.specs.ReadFault.{FaultOf, FaultReads, IsReadFault}
 use Rattle.cif_extract.specs.SpellsExtract.{BytesSpellWithin}
 use Rattle.cif_extract.specs.declared.fault.Fault.{Fault}
 use Rattle.cif_extract.specs.declared.fault.Fault.TheVariants.{Write}
@@ -69,3 +69,9 @@ abbrev pub FaultOfBoth : {R A : Type 0} → (R → Option (List ℕ)) → Asked 
 FaultOfBoth remaining asked common left left_new right right_new result =
     FaultOf remaining (λ bytes after fault. IsCompareRefusal asked common bytes after (right_new ≡ right) (remaining (reader_of right))
     (remaining (reader_of right_new)) fault) left left_new result
+
+-- What a command that reads a left and then a right source owes them: the right one is as it was where the left one isn't read on.
+abbrev pub ReadsBoth : {R A : Type 0} → (R → Option ℕ) → Source R → Source R → Source R → Source R → Result A Fault → Type 0
+ReadsBoth errors left left_new right right_new result =
+    (FaultReads errors left left_new result × (right_new ≡ right))
+    ⊎ (HasReadOn errors left left_new × FaultReads errors right right_new result)

@@ -4,18 +4,16 @@ ghost use Rattle.cif_columns.specs.Source.{reader_of};
 ghost use Rattle.cif_extract.specs.ExtractParts.{extract_parts};
 ghost use Rattle.cif_extract.specs.ReadFault.{LeavesNothing};
 ghost use Rattle.cif_extract.specs.declared.fault.Fault.TheVariants.{Write};
-ghost use Rattle.cif_canon.specs.Asked.{IsNarrowed, IsNarrowingFault};
-ghost use Rattle.cif_tool.specs.Answer.{ReadsBoth};
-ghost use Rattle.cif_tool.specs.Pair.{FaultOfBoth, ReadAsPair, asked_of_both};
+ghost use Rattle.cif_canon.specs.Pair.{FaultOfBoth, ReadAsPair, ReadsBoth, asked_of_both};
 
-use cif_canon::{Asked, narrow};
+use crate::{Asked, narrow};
 use cif_columns::{MAX_LINES, ReadDevice, Source};
 use cif_extract::{Extract, Fault, read_extract};
 use std::alloc::Global;
 
 /// The extracts of two sources, narrowed to what is asked for of both. The right one isn't touched
 /// before the left one is read to its end and no line of it is refused.
-pub(crate) fn read_pair<R: ReadDevice>(
+pub fn read_pair<R: ReadDevice>(
     alloc: Global,
     left: &mut Source<R>,
     right: &mut Source<R>,
@@ -32,11 +30,11 @@ pub(crate) fn read_pair<R: ReadDevice>(
     ensures left_end { LeavesNothing R.remaining left.old left.new result }
     ensures right_end { LeavesNothing R.remaining right.old right.new result }
 {
-    let left = read_extract(alloc, left, MAX_LINES)?;
-    let right = read_extract(alloc, right, MAX_LINES)?;
+    let mut left = read_extract(alloc, left, MAX_LINES)?;
+    let mut right = read_extract(alloc, right, MAX_LINES)?;
     let asked = asked_of_both(asked, common, &left, &right);
-    let left = narrowed(left, &asked)?;
-    let right = narrowed(right, &asked)?;
+    narrow(&mut left, &asked)?;
+    narrow(&mut right, &asked)?;
     Ok((left, right))
 }
 
@@ -57,14 +55,4 @@ fn asked_of_both(asked: &Asked, common: bool, left: &Extract, right: &Extract) -
     } else {
         *asked
     }
-}
-
-/// The extract, narrowed to the window that is asked for.
-pub(crate) fn narrowed(mut extract: Extract, asked: &Asked) -> Result<Extract, Fault>
-    ensures ok { IfOk result (λ narrowed.
-        IsNarrowed asked.now (extract_parts extract) (extract_parts narrowed)) }
-    ensures fault { IfErr result (IsNarrowingFault asked.now extract.header) }
-{
-    narrow(&mut extract, asked)?;
-    Ok(extract)
 }
