@@ -9,10 +9,12 @@ mod bodies;
 mod calendars;
 mod case;
 mod devices;
+mod output;
 mod readings;
 mod values;
 
 use case::{Case, cases_of};
+use output::Output;
 use std::alloc::Global;
 use std::io;
 
@@ -42,5 +44,8 @@ fn push_answer(alloc: Global, out: &mut String, case: &Case, cases: &[Case]) -> 
     if devices::push_answer(alloc, out, case, cases)? {
         return Ok(());
     }
-    Ok(values::push_answers(alloc, out, case)?)
+    let mut text = Output::new(alloc);
+    values::push_answers(&mut text, case);
+    out.push_str(text.finish()?.as_str())?;
+    Ok(())
 }

@@ -29,6 +29,7 @@ mod fields;
 mod records;
 
 use crate::case::Case;
+use crate::output::Output;
 use cif_columns::Line;
 use columns::{
     push_activities, push_days, push_letter, push_public_time, push_text, push_uid, push_weekday,
@@ -37,23 +38,20 @@ use columns::{
 use damaged::push_damaged;
 use days::{push_day_after, push_ddmmyy, push_number, push_yymmdd};
 use records::{push_association, push_fields, push_header, push_kind, push_plain, push_window};
-use std::alloc::{AllocError, Global};
-use std::fmt::Write;
 
 /// Appends what each line of the case is answered by.
-pub(crate) fn push_answers(alloc: Global, out: &mut String, case: &Case) -> Result<(), AllocError> {
+pub(crate) fn push_answers(out: &mut Output, case: &Case) {
     for line in case.input.as_slice().split_inclusive(|byte| *byte == b'\n') {
         let columns = line.strip_suffix(b"\n").unwrap_or(line);
         match columns.as_array::<80>() {
-            Some(columns) => push_of_line(alloc, out, case, columns)?,
-            None => push_of_columns(out, case, columns)?,
+            Some(columns) => push_of_line(out, case, columns),
+            None => push_of_columns(out, case, columns),
         }
     }
-    Ok(())
 }
 
 /// Appends what these columns, which are no whole line, are answered by.
-fn push_of_columns(out: &mut String, case: &Case, columns: &[u8]) -> Result<(), AllocError> {
+fn push_of_columns(out: &mut Output, case: &Case, columns: &[u8]) {
     match case.call {
         "text" => push_text(out, columns),
         "uid" => push_uid(out, columns),
@@ -72,12 +70,7 @@ fn push_of_columns(out: &mut String, case: &Case, columns: &[u8]) -> Result<(), 
 }
 
 /// Appends what these eighty columns are answered by.
-fn push_of_line(
-    alloc: Global,
-    out: &mut String,
-    case: &Case,
-    columns: &[u8; 80],
-) -> Result<(), AllocError> {
+fn push_of_line(out: &mut Output, case: &Case, columns: &[u8; 80]) {
     let Some(line) = Line::of(*columns) else {
         return writeln!(out, "no line");
     };
@@ -85,7 +78,7 @@ fn push_of_line(
         "kind" => push_kind(out, &line),
         "plain" => push_plain(out, &line),
         "damaged" => push_damaged(out, &line),
-        "fields" => push_fields(alloc, out, &line),
+        "fields" => push_fields(out, &line),
         "HD" => push_header(out, &line),
         "AA" => push_association(out, &line),
         "window" => push_window(out, case, &line),

@@ -2,12 +2,11 @@
 ghost use Rattle.std.specs.Prelude.{◌≤◌};
 
 use crate::case::text_of;
+use crate::output::Output;
 use cif_columns::{DaysRun, Line, PublicTime, Stp, Text, WorkTime, activities_at, text_at, uid_at};
-use std::alloc::AllocError;
-use std::fmt::Write;
 
 /// Appends the columns that a value is written in.
-fn push_written(out: &mut String, columns: &[u8]) -> Result<(), AllocError> {
+fn push_written(out: &mut Output, columns: &[u8]) {
     write!(out, "|{}|", text_of(columns))
 }
 
@@ -21,7 +20,7 @@ fn line_with(columns: &[u8]) -> Option<Line> {
     Line::of(line)
 }
 
-pub(crate) fn push_text(out: &mut String, columns: &[u8]) -> Result<(), AllocError> {
+pub(crate) fn push_text(out: &mut Output, columns: &[u8]) {
     let Some(line) = line_with(columns) else {
         return writeln!(out, "none");
     };
@@ -39,54 +38,54 @@ pub(crate) fn push_text(out: &mut String, columns: &[u8]) -> Result<(), AllocErr
 }
 
 /// Appends the text in the first `N` columns.
-fn push_text_of<const N: usize>(out: &mut String, line: &Line) -> Result<(), AllocError>
+fn push_text_of<const N: usize>(out: &mut Output, line: &Line)
     requires { N ≤ 80 }
 {
     let text: Text<N> = text_at(line, 1);
     let written = text.write();
-    push_written(out, &written)?;
+    push_written(out, &written);
     writeln!(out)
 }
 
-pub(crate) fn push_uid(out: &mut String, columns: &[u8]) -> Result<(), AllocError> {
+pub(crate) fn push_uid(out: &mut Output, columns: &[u8]) {
     let Some(line) = line_with(columns) else {
         return writeln!(out, "none");
     };
     let uid = uid_at(&line, 1);
     let written = uid.write();
-    push_written(out, &written)?;
+    push_written(out, &written);
     writeln!(out)
 }
 
-pub(crate) fn push_activities(out: &mut String, columns: &[u8]) -> Result<(), AllocError> {
+pub(crate) fn push_activities(out: &mut Output, columns: &[u8]) {
     let Some(line) = line_with(columns) else {
         return writeln!(out, "none");
     };
     let codes = activities_at(&line, 1);
     let written = codes.write();
-    push_written(out, &written)?;
+    push_written(out, &written);
     writeln!(out)
 }
 
-pub(crate) fn push_work_time(out: &mut String, columns: &[u8]) -> Result<(), AllocError> {
+pub(crate) fn push_work_time(out: &mut Output, columns: &[u8]) {
     let Some(time) = columns.as_array().and_then(WorkTime::read) else {
         return writeln!(out, "none");
     };
     let written = time.write();
-    push_written(out, &written)?;
+    push_written(out, &written);
     writeln!(out)
 }
 
-pub(crate) fn push_public_time(out: &mut String, columns: &[u8]) -> Result<(), AllocError> {
+pub(crate) fn push_public_time(out: &mut Output, columns: &[u8]) {
     let Some(time) = columns.as_array().and_then(PublicTime::read) else {
         return writeln!(out, "none");
     };
     let written = time.write();
-    push_written(out, &written)?;
+    push_written(out, &written);
     writeln!(out)
 }
 
-pub(crate) fn push_days(out: &mut String, columns: &[u8]) -> Result<(), AllocError> {
+pub(crate) fn push_days(out: &mut Output, columns: &[u8]) {
     match columns.as_array().and_then(DaysRun::read) {
         Some(days) => push_days_run(out, days),
         None => writeln!(out, "none"),
@@ -94,29 +93,29 @@ pub(crate) fn push_days(out: &mut String, columns: &[u8]) -> Result<(), AllocErr
 }
 
 /// Appends the mask with this weekday alone.
-pub(crate) fn push_weekday(out: &mut String, columns: &[u8]) -> Result<(), AllocError> {
+pub(crate) fn push_weekday(out: &mut Output, columns: &[u8]) {
     match columns {
         [digit @ b'0'..=b'6'] => push_days_run(out, DaysRun::only(*digit - b'0')),
         _ => writeln!(out, "none"),
     }
 }
 
-fn push_days_run(out: &mut String, days: DaysRun) -> Result<(), AllocError> {
+fn push_days_run(out: &mut Output, days: DaysRun) {
     let written = days.write();
-    push_written(out, &written)?;
+    push_written(out, &written);
     match (days.first(), days.last()) {
-        (Some(first), Some(last)) => write!(out, " from {first} to {last}:")?,
-        _ => write!(out, " no weekday")?,
+        (Some(first), Some(last)) => write!(out, " from {first} to {last}:"),
+        _ => write!(out, " no weekday"),
     }
     for weekday in 0..7u8 {
         if days.has(weekday) {
-            write!(out, " {weekday}")?;
+            write!(out, " {weekday}");
         }
     }
     writeln!(out)
 }
 
-pub(crate) fn push_letter(out: &mut String, columns: &[u8]) -> Result<(), AllocError> {
+pub(crate) fn push_letter(out: &mut Output, columns: &[u8]) {
     let letter = match columns {
         [column] => Stp::read(*column),
         _ => None,
@@ -125,10 +124,10 @@ pub(crate) fn push_letter(out: &mut String, columns: &[u8]) -> Result<(), AllocE
         return writeln!(out, "none");
     };
     let written = letter.write();
-    push_written(out, &[written])?;
+    push_written(out, &[written]);
     for other in [Stp::C, Stp::N, Stp::O, Stp::P] {
         if letter < other {
-            write!(out, " before {other:?}")?;
+            write!(out, " before {other:?}");
         }
     }
     writeln!(out)

@@ -1,14 +1,13 @@
 //! Lines that are damaged in each way, and the two ways to their plain lines.
 use crate::case::text_of;
+use crate::output::Output;
 use crate::values::records::plain_line;
 use cif_columns::Line;
 use cif_records::{is_plain_line, kind_of, read_record, write_record};
-use std::alloc::AllocError;
-use std::fmt::Write;
 
 /// Appends whether the line is known for a plain one in one pass, and how many damaged lines have the
 /// same plain line both ways, or the first that has not.
-pub(crate) fn push_damaged(out: &mut String, line: &Line) -> Result<(), AllocError> {
+pub(crate) fn push_damaged(out: &mut Output, line: &Line) {
     let mut lines = 0u32;
     for column in 0..80usize {
         for byte in b' '..=b'~' {

@@ -1,42 +1,18 @@
 //! The fields of records.
 use crate::case::text_of;
+use crate::output::Output;
 use cif_records::{
     Association, Basic, Change, Detail, Extra, Header, Origin, Record, Stop, Terminus, Tiploc,
 };
-use std::alloc::{AllocError, Global};
-use std::fmt::Write;
 
-/// The fields of a record so far, each with its columns, or that memory ran out.
-#[derive(Drop)]
-pub(crate) struct Listing {
-    text: String,
-    outcome: Result<(), AllocError>,
-}
-
-impl Listing {
-    pub(crate) fn new(alloc: Global) -> Listing {
-        Listing {
-            text: String::new(alloc),
-            outcome: Ok(()),
-        }
-    }
-
+impl Output {
     fn put(&mut self, name: &str, columns: &[u8]) {
-        if self.outcome.is_ok() {
-            self.outcome = writeln!(self.text, "{name} |{}|", text_of(columns));
-        }
-    }
-
-    /// The lines of the listing.
-    pub(crate) fn finish(self) -> Result<String, AllocError> {
-        let Listing { text, outcome } = self;
-        outcome?;
-        Ok(text)
+        writeln!(self, "{name} |{}|", text_of(columns));
     }
 }
 
 /// Lists the fields of the record.
-pub(crate) fn list_record(listing: &mut Listing, record: &Record) {
+pub(crate) fn list_record(listing: &mut Output, record: &Record) {
     match record {
         Record::Header(header) => list_header(listing, header),
         Record::Tiploc(tiploc) => list_tiploc(listing, tiploc),
@@ -51,17 +27,17 @@ pub(crate) fn list_record(listing: &mut Listing, record: &Record) {
     }
 }
 
-fn list_header(listing: &mut Listing, header: &Header) {
+fn list_header(listing: &mut Output, header: &Header) {
     listing.put("columns", &header.columns);
     listing.put("first", &header.first.to_yymmdd());
     listing.put("last", &header.last.to_yymmdd());
 }
 
-fn list_tiploc(listing: &mut Listing, tiploc: &Tiploc) {
+fn list_tiploc(listing: &mut Output, tiploc: &Tiploc) {
     listing.put("columns", &tiploc.columns);
 }
 
-fn list_association(listing: &mut Listing, association: &Association) {
+fn list_association(listing: &mut Output, association: &Association) {
     let key = &association.key;
     listing.put("key.base", &key.base.write());
     listing.put("key.associated", &key.associated.write());
@@ -80,7 +56,7 @@ fn list_association(listing: &mut Listing, association: &Association) {
     }
 }
 
-fn list_basic(listing: &mut Listing, basic: &Basic) {
+fn list_basic(listing: &mut Output, basic: &Basic) {
     listing.put("uid", &basic.uid.write());
     listing.put("first", &basic.first.to_yymmdd());
     listing.put("last", &basic.last.to_yymmdd());
@@ -91,7 +67,7 @@ fn list_basic(listing: &mut Listing, basic: &Basic) {
     }
 }
 
-fn list_detail(listing: &mut Listing, detail: &Detail) {
+fn list_detail(listing: &mut Output, detail: &Detail) {
     listing.put("detail.status", &detail.status.write());
     listing.put("detail.category", &detail.category.write());
     listing.put("detail.identity", &detail.identity.write());
@@ -104,7 +80,7 @@ fn list_detail(listing: &mut Listing, detail: &Detail) {
 }
 
 /// Lists the fields of the detail from the timing load on.
-fn list_later_detail(listing: &mut Listing, detail: &Detail) {
+fn list_later_detail(listing: &mut Output, detail: &Detail) {
     listing.put("detail.timing_load", &detail.timing_load.write());
     listing.put("detail.speed", &detail.speed.write());
     listing.put("detail.characteristics", &detail.characteristics.write());
@@ -116,7 +92,7 @@ fn list_later_detail(listing: &mut Listing, detail: &Detail) {
     listing.put("detail.branding", &detail.branding.write());
 }
 
-fn list_extra(listing: &mut Listing, extra: &Extra) {
+fn list_extra(listing: &mut Output, extra: &Extra) {
     listing.put("traction", &extra.traction.write());
     listing.put("uic", &extra.uic.write());
     listing.put("operator_code", &extra.operator_code.write());
@@ -125,7 +101,7 @@ fn list_extra(listing: &mut Listing, extra: &Extra) {
     listing.put("reserved_b", &extra.reserved_b.write());
 }
 
-fn list_origin(listing: &mut Listing, origin: &Origin) {
+fn list_origin(listing: &mut Output, origin: &Origin) {
     listing.put("location", &origin.location.write());
     listing.put("suffix", &origin.suffix.write());
     listing.put("departure", &origin.departure.write());
@@ -138,7 +114,7 @@ fn list_origin(listing: &mut Listing, origin: &Origin) {
     listing.put("performance", &origin.performance.write());
 }
 
-fn list_stop(listing: &mut Listing, stop: &Stop) {
+fn list_stop(listing: &mut Output, stop: &Stop) {
     listing.put("location", &stop.location.write());
     listing.put("suffix", &stop.suffix.write());
     listing.put("arrival", &stop.arrival.write());
@@ -155,7 +131,7 @@ fn list_stop(listing: &mut Listing, stop: &Stop) {
     listing.put("performance", &stop.performance.write());
 }
 
-fn list_change(listing: &mut Listing, change: &Change) {
+fn list_change(listing: &mut Output, change: &Change) {
     listing.put("location", &change.location.write());
     listing.put("suffix", &change.suffix.write());
     listing.put("category", &change.category.write());
@@ -169,7 +145,7 @@ fn list_change(listing: &mut Listing, change: &Change) {
 }
 
 /// Lists the fields of the change from the timing load on.
-fn list_later_change(listing: &mut Listing, change: &Change) {
+fn list_later_change(listing: &mut Output, change: &Change) {
     listing.put("timing_load", &change.timing_load.write());
     listing.put("speed", &change.speed.write());
     listing.put("characteristics", &change.characteristics.write());
@@ -184,7 +160,7 @@ fn list_later_change(listing: &mut Listing, change: &Change) {
     listing.put("reserved_a", &change.reserved_a.write());
 }
 
-fn list_terminus(listing: &mut Listing, terminus: &Terminus) {
+fn list_terminus(listing: &mut Output, terminus: &Terminus) {
     listing.put("location", &terminus.location.write());
     listing.put("suffix", &terminus.suffix.write());
     listing.put("arrival", &terminus.arrival.write());

@@ -1,13 +1,12 @@
 //! Lines of records.
 use crate::case::{Case, text_of};
-use crate::values::fields::{Listing, list_record};
+use crate::output::Output;
+use crate::values::fields::list_record;
 use cif_columns::{Day, Line, Refusal};
 use cif_records::{Association, Header, kind_of, plain_line_of, read_record, write_record};
-use std::alloc::{AllocError, Global};
-use std::fmt::Write;
 
 /// Appends the line, or why there is none.
-fn push_judged(out: &mut String, judged: Result<Line, Refusal>) -> Result<(), AllocError> {
+fn push_judged(out: &mut Output, judged: Result<Line, Refusal>) {
     match judged {
         Ok(line) => writeln!(out, "{}", text_of(line.bytes())),
         Err(why) => writeln!(out, "{why:?}, number {}", why.number()),
@@ -15,7 +14,7 @@ fn push_judged(out: &mut String, judged: Result<Line, Refusal>) -> Result<(), Al
 }
 
 /// Appends the kind that the line names.
-pub(crate) fn push_kind(out: &mut String, line: &Line) -> Result<(), AllocError> {
+pub(crate) fn push_kind(out: &mut Output, line: &Line) {
     match kind_of(line) {
         Some(kind) => writeln!(out, "{kind:?} |{}|", text_of(&kind.identity())),
         None => writeln!(out, "none"),
@@ -31,35 +30,31 @@ pub(crate) fn plain_line(line: &Line) -> Result<Line, Refusal> {
 }
 
 /// Appends the plain line of the record that the line spells.
-pub(crate) fn push_plain(out: &mut String, line: &Line) -> Result<(), AllocError> {
+pub(crate) fn push_plain(out: &mut Output, line: &Line) {
     let written = read_record(line).map(|record| write_record(&record));
     let plain = plain_line(line);
     if written != plain {
-        writeln!(out, "the record's line and the plain line differ:")?;
-        push_judged(out, written)?;
+        writeln!(out, "the record's line and the plain line differ:");
+        push_judged(out, written);
     }
     push_judged(out, plain)
 }
 
 /// Appends the fields of the record that the line spells.
-pub(crate) fn push_fields(alloc: Global, out: &mut String, line: &Line) -> Result<(), AllocError> {
+pub(crate) fn push_fields(out: &mut Output, line: &Line) {
     match read_record(line) {
-        Ok(record) => {
-            let mut listing = Listing::new(alloc);
-            list_record(&mut listing, &record);
-            out.push_str(listing.finish()?.as_str())
-        }
+        Ok(record) => list_record(out, &record),
         Err(why) => push_judged(out, Err(why)),
     }
 }
 
 /// Appends the plain line of the header that the line spells.
-pub(crate) fn push_header(out: &mut String, line: &Line) -> Result<(), AllocError> {
+pub(crate) fn push_header(out: &mut Output, line: &Line) {
     push_judged(out, Header::read(line).map(|header| header.write()))
 }
 
 /// Appends the plain line of the association that the line spells.
-pub(crate) fn push_association(out: &mut String, line: &Line) -> Result<(), AllocError> {
+pub(crate) fn push_association(out: &mut Output, line: &Line) {
     push_judged(
         out,
         Association::read(line).map(|association| association.write()),
@@ -67,7 +62,7 @@ pub(crate) fn push_association(out: &mut String, line: &Line) -> Result<(), Allo
 }
 
 /// Appends the plain line of the header with the window that the case asks for.
-pub(crate) fn push_window(out: &mut String, case: &Case, line: &Line) -> Result<(), AllocError> {
+pub(crate) fn push_window(out: &mut Output, case: &Case, line: &Line) {
     let first = case.day("first");
     let last = case.day("last");
     match (first, last) {
@@ -79,18 +74,13 @@ pub(crate) fn push_window(out: &mut String, case: &Case, line: &Line) -> Result<
     }
 }
 
-fn push_header_with(
-    out: &mut String,
-    header: &Header,
-    first: Day,
-    last: Day,
-) -> Result<(), AllocError> {
+fn push_header_with(out: &mut Output, header: &Header, first: Day, last: Day) {
     if first > last {
         return writeln!(out, "no window");
     }
     let header = header.with_window(first, last);
     if header.first != first || header.last != last {
-        writeln!(out, "its dates are others:")?;
+        writeln!(out, "its dates are others:");
     }
     push_judged(out, Ok(header.write()))
 }
