@@ -24,38 +24,29 @@ mod sizes;
 mod winners;
 
 use crate::case::Case;
+use crate::output::Output;
 use cif_calendar::Window;
 use cif_columns::Source;
 use cif_extract::{Extract, read_extract};
 use dates::push_calendar;
 use sizes::push_sizes;
-use std::alloc::{AllocError, Global};
-use std::fmt::Write;
+use std::alloc::Global;
 use winners::push_winners;
 
 /// Appends what the case's call answers, if it is one of these.
-pub(crate) fn push_answer(
-    alloc: Global,
-    out: &mut String,
-    case: &Case,
-) -> Result<bool, AllocError> {
+pub(crate) fn push_answer(alloc: Global, out: &mut Output, case: &Case) -> bool {
     if !matches!(case.call, "calendar" | "calendar-sizes" | "winners") {
-        return Ok(false);
+        return false;
     }
     match read_extract(alloc, &mut Source::new(case.input.as_slice()), 1000) {
-        Ok(extract) => push_call(alloc, out, case, &extract)?,
-        Err(_) => writeln!(out, "no extract")?,
+        Ok(extract) => push_call(alloc, out, case, &extract),
+        Err(_) => writeln!(out, "no extract"),
     }
-    Ok(true)
+    true
 }
 
 /// Appends what the case's call answers of the extract.
-fn push_call(
-    alloc: Global,
-    out: &mut String,
-    case: &Case,
-    extract: &Extract,
-) -> Result<(), AllocError> {
+fn push_call(alloc: Global, out: &mut Output, case: &Case, extract: &Extract) {
     let first = case.day("from").unwrap_or(extract.header.first);
     let last = case.day("to").unwrap_or(extract.header.last);
     let trains = extract.schedules.as_slice();

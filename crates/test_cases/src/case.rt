@@ -13,9 +13,9 @@
 //! question. Each line of the input has its line
 //! feed. In a line `\xNN` is the byte with that number in hexadecimal digits, and a backslash at its
 //! end takes its line feed away.
+use crate::output::Output;
 use cif_columns::Day;
 use std::alloc::{AllocError, Global};
-use std::fmt::Write;
 use std::str;
 
 /// The bytes of a line of eighty columns and its line feed.
@@ -130,43 +130,35 @@ fn push_line(input: &mut Vec<u8>, line: &str) -> Result<(), AllocError> {
             None => input.extend_from_slice(part.as_bytes())?,
         }
     }
-    input.extend_from_slice(ending.as_bytes())?;
-    Ok(())
+    input.extend_from_slice(ending.as_bytes())
 }
 
 /// Appends a case with this input.
-pub(crate) fn push_case(
-    out: &mut String,
-    name: &str,
-    call: &str,
-    input: &[u8],
-) -> Result<(), AllocError> {
-    writeln!(out, "== {name}: {call}")?;
+pub(crate) fn push_case(out: &mut Output, name: &str, call: &str, input: &[u8]) {
+    writeln!(out, "== {name}: {call}");
     for line in input.split_inclusive(|byte| *byte == b'\n') {
         match line.strip_suffix(b"\n") {
             Some(columns) => {
-                push_columns(out, columns)?;
-                writeln!(out)?;
+                push_columns(out, columns);
+                writeln!(out);
             }
             None => {
-                push_columns(out, line)?;
-                writeln!(out, "\\")?;
+                push_columns(out, line);
+                writeln!(out, "\\");
             }
         }
     }
-    Ok(())
 }
 
 /// Appends the bytes, those that can't be printed by their numbers.
-fn push_columns(out: &mut String, columns: &[u8]) -> Result<(), AllocError> {
+fn push_columns(out: &mut Output, columns: &[u8]) {
     for byte in columns {
         if (b' '..=b'~').contains(byte) && *byte != b'\\' {
-            out.push(char::from(*byte))?;
+            write!(out, "{}", char::from(*byte));
         } else {
-            write!(out, "\\x{byte:02x}")?;
+            write!(out, "\\x{byte:02x}");
         }
     }
-    Ok(())
 }
 
 /// The day with these columns `yymmdd`.

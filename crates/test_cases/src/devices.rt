@@ -57,34 +57,29 @@ mod writing;
 mod written;
 
 use crate::case::Case;
+use crate::output::Output;
 use canonical::{push_canon, push_normalise};
 use reading::push_read;
 use sizes::push_sizes;
 use std::alloc::Global;
-use std::io;
 use views::{push_comparison, push_day, push_train};
 use writers::{push_flushes, push_writes};
 use writing::{push_bytes, push_records};
 
 /// Appends what the case's call answers, if it is one of these.
-pub(crate) fn push_answer(
-    alloc: Global,
-    out: &mut String,
-    case: &Case,
-    cases: &[Case],
-) -> io::Result<bool> {
+pub(crate) fn push_answer(alloc: Global, out: &mut Output, case: &Case, cases: &[Case]) -> bool {
     match case.call {
-        "records" => push_records(alloc, out, case)?,
-        "bytes" => push_bytes(alloc, out, case.input.as_slice())?,
-        "writes" => push_writes(out, case)?,
-        "flushes" => push_flushes(alloc, out, case)?,
-        "normalise" => push_normalise(alloc, out, case)?,
-        "canon" => push_canon(alloc, out, case)?,
-        "day" => push_day(alloc, out, case)?,
-        "train" => push_train(alloc, out, case)?,
-        "compare" => push_comparison(alloc, out, case, cases)?,
-        "sizes" => push_sizes(alloc, out, case)?,
+        "records" => push_records(alloc, out, case),
+        "bytes" => push_bytes(alloc, out, case.input.as_slice()),
+        "writes" => push_writes(out, case),
+        "flushes" => push_flushes(alloc, out, case),
+        "normalise" => push_normalise(alloc, out, case),
+        "canon" => push_canon(alloc, out, case),
+        "day" => push_day(alloc, out, case),
+        "train" => push_train(alloc, out, case),
+        "compare" => push_comparison(alloc, out, case, cases),
+        "sizes" => push_sizes(alloc, out, case),
         _ => return push_read(alloc, out, case),
     }
-    Ok(true)
+    true
 }

@@ -28,24 +28,18 @@ fn main(rt: HostRuntime) -> io::Result<()> {
 }
 
 fn print_answer(rt: &(impl Print + AllocGlobal), case: &Case, cases: &[Case]) -> io::Result<()> {
-    let mut out = String::new(rt.alloc());
-    push_answer(rt.alloc(), &mut out, case, cases)?;
-    print!(rt; "== {}\n{}", case.name, out.as_str())
+    let mut out = Output::new(rt.alloc());
+    push_answer(rt.alloc(), &mut out, case, cases);
+    let text = out.finish()?;
+    print!(rt; "== {}\n{}", case.name, text.as_str())
 }
 
 /// Appends what the case's call answers. A call that no other module has is one of `values`.
-fn push_answer(alloc: Global, out: &mut String, case: &Case, cases: &[Case]) -> io::Result<()> {
-    if readings::push_answer(alloc, out, case, cases)? {
-        return Ok(());
+fn push_answer(alloc: Global, out: &mut Output, case: &Case, cases: &[Case]) {
+    if !readings::push_answer(alloc, out, case, cases)
+        && !calendars::push_answer(alloc, out, case)
+        && !devices::push_answer(alloc, out, case, cases)
+    {
+        values::push_answers(out, case);
     }
-    if calendars::push_answer(alloc, out, case)? {
-        return Ok(());
-    }
-    if devices::push_answer(alloc, out, case, cases)? {
-        return Ok(());
-    }
-    let mut text = Output::new(alloc);
-    values::push_answers(&mut text, case);
-    out.push_str(text.finish()?.as_str())?;
-    Ok(())
 }

@@ -39,40 +39,35 @@ mod read;
 mod sweeps;
 
 use crate::case::Case;
+use crate::output::Output;
 use comparisons::{push_compared, push_damage};
 use kinds::push_kinds;
 use read::{push_endless, push_failing, push_reading};
-use std::alloc::{AllocError, Global};
-use std::fmt::Write;
+use std::alloc::Global;
 use sweeps::{push_cuts, push_failing_cuts, push_limits, push_replaced};
 
 /// Appends what the case's call answers, if it is one of these.
-pub(crate) fn push_answer(
-    alloc: Global,
-    out: &mut String,
-    case: &Case,
-    cases: &[Case],
-) -> Result<bool, AllocError> {
+pub(crate) fn push_answer(alloc: Global, out: &mut Output, case: &Case, cases: &[Case]) -> bool {
     let bytes = case.input.as_slice();
     let max_lines = case.number("max", 100);
     match case.call {
-        "read" => push_reading(alloc, out, bytes, max_lines)?,
-        "fails" => push_failing(alloc, out, bytes, max_lines)?,
-        "goes-on" => push_endless(alloc, out, bytes, case.number("from", 0), max_lines)?,
-        "cuts" => push_cuts(alloc, out, bytes, max_lines)?,
-        "failing-cuts" => push_failing_cuts(alloc, out, bytes, max_lines)?,
-        "limits" => push_limits(alloc, out, bytes, max_lines)?,
-        "replace" => push_replaced(alloc, out, bytes, byte_of(case), max_lines)?,
-        "kinds" => push_kinds(alloc, out, bytes, case.named("others", cases))?,
-        "plain-look" => push_compared(alloc, out, bytes, max_lines)?,
+        "read" => push_reading(alloc, out, bytes, max_lines),
+        "fails" => push_failing(alloc, out, bytes, max_lines),
+        "goes-on" => push_endless(alloc, out, bytes, case.number("from", 0), max_lines),
+        "cuts" => push_cuts(alloc, out, bytes, max_lines),
+        "failing-cuts" => push_failing_cuts(alloc, out, bytes, max_lines),
+        "limits" => push_limits(alloc, out, bytes, max_lines),
+        "replace" => push_replaced(alloc, out, bytes, byte_of(case), max_lines),
+        "kinds" => push_kinds(alloc, out, bytes, case.named("others", cases)),
+        "plain-look" => push_compared(alloc, out, bytes, max_lines),
         "damage" => {
             let others = case.named("others", cases);
-            push_damage(alloc, out, bytes, others, case.number("count", 1))?;
+            push_damage(alloc, out, bytes, others, case.number("count", 1));
         }
-        "keep" => writeln!(out, "{} bytes", bytes.len())?,
-        _ => return Ok(false),
+        "keep" => writeln!(out, "{} bytes", bytes.len()),
+        _ => return false,
     }
-    Ok(true)
+    true
 }
 
 /// The byte of a case of `replace`.

@@ -5,27 +5,30 @@ ghost use Rattle.cif_weeks.specs.Runs.{AreSources};
 use crate::calendars::positions::{all_positions, are_below, positions_of};
 use crate::calendars::report::{push_pieces, push_run, push_sources, push_window};
 use crate::case::Case;
+use crate::output::Output;
 use cif_calendar::{Calendar, CalendarFault, Entry, Window, calendar};
 use cif_columns::Day;
 use cif_weeks::{Form, runs};
-use std::alloc::{AllocError, Global};
-use std::fmt::Write;
+use std::alloc::Global;
 
 /// Appends what runs on the dates from the first to the last by the members that the case asks for.
 pub(crate) fn push_calendar<E: Entry>(
     alloc: Global,
-    out: &mut String,
+    out: &mut Output,
     case: &Case,
     entries: &[E],
     first: Day,
     last: Day,
-) -> Result<(), AllocError> {
+) {
     if first > last {
         return writeln!(out, "no window");
     }
     let members = match case.value("members") {
-        Some(words) => positions_of(alloc, words)?,
-        None => all_positions(alloc, entries.len())?,
+        Some(words) => positions_of(alloc, words),
+        None => all_positions(alloc, entries.len()),
+    };
+    let Ok(members) = members else {
+        return out.fail();
     };
     if !are_below(members.as_slice(), entries.len()) {
         return writeln!(out, "no such record");
@@ -37,18 +40,13 @@ pub(crate) fn push_calendar<E: Entry>(
 }
 
 /// Appends what the calendar and its runs say.
-fn push_dates<E: Entry>(
-    alloc: Global,
-    out: &mut String,
-    entries: &[E],
-    calendar: &Calendar,
-) -> Result<(), AllocError>
+fn push_dates<E: Entry>(alloc: Global, out: &mut Output, entries: &[E], calendar: &Calendar)
     requires { AreSources (map E.terms entries.now) calendar.now }
 {
-    push_window(out, calendar.window())?;
-    push_sources(out, entries, calendar)?;
-    push_pieces(out, entries, calendar.pieces())?;
-    push_runs(alloc, out, entries, calendar, Form::One)?;
+    push_window(out, calendar.window());
+    push_sources(out, entries, calendar);
+    push_pieces(out, entries, calendar.pieces());
+    push_runs(alloc, out, entries, calendar, Form::One);
     push_runs(alloc, out, entries, calendar, Form::Two)
 }
 
@@ -69,15 +67,17 @@ pub(crate) fn calendar_of<E: Entry>(
 /// Appends the runs of the calendar in this form.
 fn push_runs<E: Entry>(
     alloc: Global,
-    out: &mut String,
+    out: &mut Output,
     entries: &[E],
     calendar: &Calendar,
     form: Form,
-) -> Result<(), AllocError>
+)
     requires { AreSources (map E.terms entries.now) calendar.now }
 {
-    for run in &runs(alloc, entries, calendar, form)? {
-        push_run(out, entries, form, run)?;
+    let Ok(all) = runs(alloc, entries, calendar, form) else {
+        return out.fail();
+    };
+    for run in &all {
+        push_run(out, entries, form, run);
     }
-    Ok(())
 }

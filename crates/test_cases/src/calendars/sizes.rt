@@ -6,41 +6,39 @@ use crate::calendars::dates::calendar_of;
 use crate::calendars::positions::{Place, all_positions, are_below};
 use crate::calendars::report::place_on;
 use crate::case::{Case, SIZES};
+use crate::output::Output;
 use cif_calendar::{Calendar, Entry, Window};
 use cif_columns::{Day, Stp};
 use cif_records::Association;
 use cif_weeks::{Form, Run, runs};
 use std::alloc::{AllocError, Global};
-use std::fmt::Write;
 
 /// Appends what calendars of so many associations have. Each is the first one of the input on one
 /// date, so many days after the one before.
 pub(crate) fn push_sizes(
     alloc: Global,
-    out: &mut String,
+    out: &mut Output,
     case: &Case,
     associations: &[Association],
     window: &Window,
-) -> Result<(), AllocError> {
+) {
     let Some(first) = associations.first() else {
         return writeln!(out, "no association");
     };
     for size in SIZES {
-        let entries = entries_of(alloc, first, size, case.number("apart", 0))?;
-        write!(out, "{size} members: ")?;
-        push_members(alloc, out, entries.as_slice(), window)?;
+        let Ok(entries) = entries_of(alloc, first, size, case.number("apart", 0)) else {
+            return out.fail();
+        };
+        write!(out, "{size} members: ");
+        push_members(alloc, out, entries.as_slice(), window);
     }
-    Ok(())
 }
 
 /// Appends what the calendar of all of these records has.
-fn push_members<E: Entry>(
-    alloc: Global,
-    out: &mut String,
-    entries: &[E],
-    window: &Window,
-) -> Result<(), AllocError> {
-    let members = all_positions(alloc, entries.len())?;
+fn push_members<E: Entry>(alloc: Global, out: &mut Output, entries: &[E], window: &Window) {
+    let Ok(members) = all_positions(alloc, entries.len()) else {
+        return out.fail();
+    };
     if !are_below(members.as_slice(), entries.len()) {
         return writeln!(out, "no such record");
     }
@@ -77,12 +75,7 @@ fn entries_of(
 
 /// Appends how many pieces the calendar has, on how many of the entries' first dates something runs,
 /// and how many runs there are in each form.
-fn push_size<E: Entry>(
-    alloc: Global,
-    out: &mut String,
-    entries: &[E],
-    calendar: &Calendar,
-) -> Result<(), AllocError>
+fn push_size<E: Entry>(alloc: Global, out: &mut Output, entries: &[E], calendar: &Calendar)
     requires { AreSources (map E.terms entries.now) calendar.now }
 {
     let pieces = calendar.pieces().len();
@@ -90,18 +83,14 @@ fn push_size<E: Entry>(
         .iter()
         .filter(|entry| place_on(entries, calendar, entry.first()) != Place(None))
         .count();
-    write!(out, "{pieces} pieces, {dates} dates")?;
-    push_count(out, "1", &runs(alloc, entries, calendar, Form::One))?;
-    push_count(out, "2", &runs(alloc, entries, calendar, Form::Two))?;
+    write!(out, "{pieces} pieces, {dates} dates");
+    push_count(out, "1", &runs(alloc, entries, calendar, Form::One));
+    push_count(out, "2", &runs(alloc, entries, calendar, Form::Two));
     writeln!(out)
 }
 
 /// Appends how many runs there are in this form, or that memory ran out.
-fn push_count(
-    out: &mut String,
-    form: &str,
-    runs: &Result<Vec<Run>, AllocError>,
-) -> Result<(), AllocError> {
+fn push_count(out: &mut Output, form: &str, runs: &Result<Vec<Run>, AllocError>) {
     match runs {
         Ok(runs) => write!(out, ", {} runs in form {form}", runs.len()),
         Err(_) => write!(out, ", no memory for those in form {form}"),

@@ -1,37 +1,27 @@
 //! Winners of single dates.
 use crate::calendars::positions::{are_below, first_alike, positions_of};
 use crate::case::{Case, day_in};
+use crate::output::Output;
 use cif_calendar::{CalendarFault, Entry, Window, calendar};
 use cif_columns::Day;
-use std::alloc::{AllocError, Global};
-use std::fmt::Write;
+use std::alloc::Global;
 
 /// Appends, for each word of the case, the source on its date by the records at its positions.
-pub(crate) fn push_winners<E: Entry>(
-    alloc: Global,
-    out: &mut String,
-    case: &Case,
-    entries: &[E],
-) -> Result<(), AllocError> {
+pub(crate) fn push_winners<E: Entry>(alloc: Global, out: &mut Output, case: &Case, entries: &[E]) {
     for word in case.words.split_whitespace() {
-        write!(out, "{word}: ")?;
+        write!(out, "{word}: ");
         let (date, members) = word.split_once('=').unwrap_or((word, ""));
         match day_in(date) {
-            Some(day) => push_winner(alloc, out, entries, members, day)?,
-            None => writeln!(out, "no date")?,
+            Some(day) => push_winner(alloc, out, entries, members, day),
+            None => writeln!(out, "no date"),
         }
     }
-    Ok(())
 }
 
-fn push_winner<E: Entry>(
-    alloc: Global,
-    out: &mut String,
-    entries: &[E],
-    members: &str,
-    day: Day,
-) -> Result<(), AllocError> {
-    let members = positions_of(alloc, members)?;
+fn push_winner<E: Entry>(alloc: Global, out: &mut Output, entries: &[E], members: &str, day: Day) {
+    let Ok(members) = positions_of(alloc, members) else {
+        return out.fail();
+    };
     if !are_below(members.as_slice(), entries.len()) {
         return writeln!(out, "no such record");
     }

@@ -4,20 +4,16 @@ use crate::devices::reading::reader_of;
 use crate::devices::trials::push_trials;
 use crate::devices::writers::writer_of;
 use crate::devices::written::{Written, writes_of_lines};
+use crate::output::Output;
 use cif_canon::{Asked, Canon, Counts, canon, normalise, report, write_counts};
 use cif_columns::{Sink, Source, WriteDevice, WriteFault};
 use cif_extract::{Extract, Fault, read_extract};
 use cif_weeks::Form;
-use std::alloc::{AllocError, Global};
-use std::fmt::Write;
+use std::alloc::Global;
 
 /// Appends what a trial writer has of the canonical extract of what a reader gives, and the line
 /// that answers.
-pub(crate) fn push_normalise(
-    alloc: Global,
-    out: &mut String,
-    case: &Case,
-) -> Result<(), AllocError> {
+pub(crate) fn push_normalise(alloc: Global, out: &mut Output, case: &Case) {
     let Some(reader) = reader_of(case) else {
         return writeln!(out, "no such reader");
     };
@@ -36,32 +32,27 @@ pub(crate) fn push_normalise(
         &asked,
         form_of(case),
     );
-    out.push_str(text_of(sink.writer().bytes()))?;
-    push_line(alloc, out, &Answer(&answer))?;
-    writeln!(out, "writes {}", sink.writer().calls())?;
+    out.push_str(text_of(sink.writer().bytes()));
+    push_line(alloc, out, &Answer(&answer));
+    writeln!(out, "writes {}", sink.writer().calls());
     push_trials(alloc, out, "Line", &Answer(&answer))
 }
 
 /// Appends the canonical form of the extract that the input is, and its counts.
-pub(crate) fn push_canon(alloc: Global, out: &mut String, case: &Case) -> Result<(), AllocError> {
+pub(crate) fn push_canon(alloc: Global, out: &mut Output, case: &Case) {
     match read_extract(alloc, &mut Source::new(case.input.as_slice()), 1000) {
         Ok(extract) => push_canon_of(alloc, out, &extract, form_of(case)),
         Err(_) => writeln!(out, "no extract"),
     }
 }
 
-fn push_canon_of(
-    alloc: Global,
-    out: &mut String,
-    extract: &Extract,
-    form: Form,
-) -> Result<(), AllocError> {
+fn push_canon_of(alloc: Global, out: &mut Output, extract: &Extract, form: Form) {
     match canon(alloc, extract, form) {
         Ok(canon) => {
             let counts = Ok(canon.counts());
             let canonical = Canonical(canon);
-            push_line(alloc, out, &canonical)?;
-            push_line(alloc, out, &Answer(&counts))?;
+            push_line(alloc, out, &canonical);
+            push_line(alloc, out, &Answer(&counts));
             push_trials(alloc, out, "Canon", &canonical)
         }
         Err(fault) => push_line(alloc, out, &Answer(&Err(fault))),
@@ -69,14 +60,10 @@ fn push_canon_of(
 }
 
 /// Appends what goes to a writer that takes all of it.
-pub(crate) fn push_line<T: Written>(
-    alloc: Global,
-    out: &mut String,
-    written: &T,
-) -> Result<(), AllocError> {
+pub(crate) fn push_line<T: Written>(alloc: Global, out: &mut Output, written: &T) {
     let mut sink = Sink::new(Vec::new(alloc));
     if written.write(&mut sink).is_err() {
-        return Err(AllocError);
+        return out.fail();
     }
     out.push_str(text_of(sink.writer().as_slice()))
 }

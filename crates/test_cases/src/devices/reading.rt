@@ -1,49 +1,47 @@
 //! What is read.
 use crate::case::{Case, text_of};
+use crate::output::Output;
 use cif_columns::{End, LineFault, LineReader, Source, TrialReader, count_lines};
 use cif_extract::{Extract, read_extract};
-use std::alloc::{AllocError, Global};
-use std::fmt::Write;
-use std::io;
+use std::alloc::Global;
 use std::io::BufReader;
 
 /// Appends what the case's call reads, if it is one of these.
-pub(crate) fn push_read(alloc: Global, out: &mut String, case: &Case) -> io::Result<bool> {
+pub(crate) fn push_read(alloc: Global, out: &mut Output, case: &Case) -> bool {
     let max_lines = case.number("max", 1000);
     if !matches!(
         case.call,
         "lines" | "count" | "devices" | "extract" | "reads"
     ) {
-        return Ok(false);
+        return false;
     }
     let Some(reader) = reader_of(case) else {
-        writeln!(out, "no such reader")?;
-        return Ok(true);
+        writeln!(out, "no such reader");
+        return true;
     };
     let mut source = Source::new(reader);
-    push_call(alloc, out, case, &mut source, max_lines)?;
-    Ok(true)
+    push_call(alloc, out, case, &mut source, max_lines);
+    true
 }
 
 /// Appends what the case's call reads of this source.
 fn push_call(
     alloc: Global,
-    out: &mut String,
+    out: &mut Output,
     case: &Case,
     source: &mut Source<TrialReader>,
     max_lines: u16,
-) -> io::Result<()> {
+) {
     match case.call {
-        "lines" => push_lines(out, source, max_lines)?,
+        "lines" => push_lines(out, source, max_lines),
         "count" => {
-            push_count(out, count_lines(source, u64::from(max_lines)))?;
-            writeln!(out, "reads {}", source.reader().calls())?;
+            push_count(out, count_lines(source, u64::from(max_lines)));
+            writeln!(out, "reads {}", source.reader().calls());
         }
-        "devices" => push_devices(alloc, out, case.input.as_slice(), max_lines)?,
-        "extract" => push_extract(alloc, out, source, max_lines)?,
-        _ => push_reads(out, source)?,
+        "devices" => push_devices(alloc, out, case.input.as_slice(), max_lines),
+        "extract" => push_extract(alloc, out, source, max_lines),
+        _ => push_reads(out, source),
     }
-    Ok(())
 }
 
 /// The reader that the case asks for.
@@ -68,11 +66,7 @@ pub(crate) fn reader_of<'a>(case: &'a Case) -> Option<TrialReader<'a>> {
 }
 
 /// Appends what each call for a line gives.
-fn push_lines(
-    out: &mut String,
-    source: &mut Source<TrialReader>,
-    max_lines: u16,
-) -> Result<(), AllocError> {
+fn push_lines(out: &mut Output, source: &mut Source<TrialReader>, max_lines: u16) {
     let mut lines = LineReader::new(u64::from(max_lines));
     let mut has_ended = false;
     for _ in 0..=max_lines.saturating_add(1) {
@@ -80,13 +74,13 @@ fn push_lines(
         let reads = source.reader().calls();
         match answer {
             Ok(Some(line)) => {
-                writeln!(out, "after {reads} reads {}", text_of(line.bytes()))?;
+                writeln!(out, "after {reads} reads {}", text_of(line.bytes()));
                 continue;
             }
-            Ok(None) => writeln!(out, "after {reads} reads the end")?,
+            Ok(None) => writeln!(out, "after {reads} reads the end"),
             Err(fault) => {
-                write!(out, "after {reads} reads ")?;
-                push_fault(out, fault)?;
+                write!(out, "after {reads} reads ");
+                push_fault(out, fault);
             }
         }
         if has_ended {
@@ -97,7 +91,7 @@ fn push_lines(
     writeln!(out, "lines {}", lines.line_number())
 }
 
-fn push_fault(out: &mut String, fault: LineFault) -> Result<(), AllocError> {
+fn push_fault(out: &mut Output, fault: LineFault) {
     match fault {
         LineFault::Refused { line: _, why } => writeln!(out, "{fault}, number {}", why.number()),
         LineFault::Read => writeln!(out, "{fault}"),
@@ -105,7 +99,7 @@ fn push_fault(out: &mut String, fault: LineFault) -> Result<(), AllocError> {
 }
 
 /// Appends how many lines there are, or why there is no further one.
-fn push_count(out: &mut String, count: Result<u64, LineFault>) -> Result<(), AllocError> {
+fn push_count(out: &mut Output, count: Result<u64, LineFault>) {
     match count {
         Ok(count) => writeln!(out, "lines {count}"),
         Err(fault) => push_fault(out, fault),
@@ -113,21 +107,16 @@ fn push_count(out: &mut String, count: Result<u64, LineFault>) -> Result<(), All
 }
 
 /// Appends what the source is read as, and how often it is read.
-fn push_extract(
-    alloc: Global,
-    out: &mut String,
-    source: &mut Source<TrialReader>,
-    max_lines: u16,
-) -> Result<(), AllocError> {
+fn push_extract(alloc: Global, out: &mut Output, source: &mut Source<TrialReader>, max_lines: u16) {
     match read_extract(alloc, source, u64::from(max_lines)) {
-        Ok(extract) => push_counts(out, &extract)?,
-        Err(fault) => write!(out, "{fault}")?,
+        Ok(extract) => push_counts(out, &extract),
+        Err(fault) => write!(out, "{fault}"),
     }
     writeln!(out, ", after {} reads", source.reader().calls())
 }
 
 /// Appends how many records the extract has.
-pub(crate) fn push_counts(out: &mut String, extract: &Extract) -> Result<(), AllocError> {
+pub(crate) fn push_counts(out: &mut Output, extract: &Extract) {
     let tiplocs = extract.tiplocs.len();
     let associations = extract.associations.len();
     let schedules = extract.schedules.len();
@@ -135,17 +124,18 @@ pub(crate) fn push_counts(out: &mut String, extract: &Extract) -> Result<(), All
 }
 
 /// Appends how many lines these bytes are, over several devices.
-fn push_devices(alloc: Global, out: &mut String, bytes: &[u8], max_lines: u16) -> io::Result<()> {
+fn push_devices(alloc: Global, out: &mut Output, bytes: &[u8], max_lines: u16) {
     if begins_with_line(bytes, max_lines) {
-        writeln!(out, "begins with a line")?;
+        writeln!(out, "begins with a line");
     }
     let max_lines = u64::from(max_lines);
-    push_count(out, count_lines(&mut Source::new(bytes), max_lines))?;
-    let reader = BufReader::with_capacity(alloc, 16, bytes)?;
-    push_count(out, count_lines(&mut Source::new(reader), max_lines))?;
+    push_count(out, count_lines(&mut Source::new(bytes), max_lines));
+    let Ok(reader) = BufReader::with_capacity(alloc, 16, bytes) else {
+        return out.fail();
+    };
+    push_count(out, count_lines(&mut Source::new(reader), max_lines));
     let mut reader = TrialReader::new(bytes, 9, End::Stop);
-    push_count(out, count_lines(&mut Source::new(&mut reader), max_lines))?;
-    Ok(())
+    push_count(out, count_lines(&mut Source::new(&mut reader), max_lines));
 }
 
 /// Whether a line stands first in the bytes. A slice never fails.
@@ -159,17 +149,17 @@ fn begins_with_line(bytes: &[u8], max_lines: u16) -> bool {
 }
 
 /// Appends what each read gives.
-fn push_reads(out: &mut String, source: &mut Source<TrialReader>) -> Result<(), AllocError> {
+fn push_reads(out: &mut Output, source: &mut Source<TrialReader>) {
     let mut buf = [0; 100];
     let mut has_ended = false;
     for _ in 0..u16::MAX {
         match source.read(&mut buf) {
-            Ok(0) => writeln!(out, "the end")?,
+            Ok(0) => writeln!(out, "the end"),
             Ok(count) => {
-                writeln!(out, "{count} bytes")?;
+                writeln!(out, "{count} bytes");
                 continue;
             }
-            Err(fault) => writeln!(out, "{fault}")?,
+            Err(fault) => writeln!(out, "{fault}"),
         }
         if has_ended {
             break;

@@ -2,6 +2,7 @@
 use crate::bodies::made_again;
 use crate::case::{Case, LINE_BYTES, SIZES};
 use crate::devices::reading::push_counts;
+use crate::output::Output;
 use cif_columns::{Sink, Source, WriteFault};
 use cif_extract::{
     Extract, Schedule, read_extract, write_association, write_head, write_schedule, write_tiploc,
@@ -9,14 +10,13 @@ use cif_extract::{
 };
 use cif_records::Association;
 use std::alloc::{AllocError, Global};
-use std::fmt::Write;
 
 /// The most lines that may come.
 const MOST: u64 = 10_000;
 
 /// Appends, for each size, what the input is read as where it has the lines that the case names so
 /// many times, and whether its records make the same bytes again.
-pub(crate) fn push_sizes(alloc: Global, out: &mut String, case: &Case) -> Result<(), AllocError> {
+pub(crate) fn push_sizes(alloc: Global, out: &mut Output, case: &Case) {
     let start = usize::from(case.number("from", 1)).saturating_sub(1) * LINE_BYTES;
     let end = usize::from(case.number("to", 1)) * LINE_BYTES;
     let bytes = case.input.as_slice();
@@ -28,11 +28,12 @@ pub(crate) fn push_sizes(alloc: Global, out: &mut String, case: &Case) -> Result
         return writeln!(out, "no such lines");
     };
     for size in SIZES {
-        write!(out, "{size} times: ")?;
-        let text = repeated(alloc, front, part, size, back)?;
-        push_size(alloc, out, text.as_slice())?;
+        write!(out, "{size} times: ");
+        let Ok(text) = repeated(alloc, front, part, size, back) else {
+            return out.fail();
+        };
+        push_size(alloc, out, text.as_slice());
     }
-    Ok(())
 }
 
 /// The bytes, with the part so many times.
@@ -52,12 +53,12 @@ fn repeated(
 }
 
 /// Appends what the bytes are read as, and whether its records make the same bytes again.
-fn push_size(alloc: Global, out: &mut String, bytes: &[u8]) -> Result<(), AllocError> {
+fn push_size(alloc: Global, out: &mut Output, bytes: &[u8]) {
     let extract = match read_extract(alloc, &mut Source::new(bytes), MOST) {
         Ok(extract) => extract,
         Err(fault) => return writeln!(out, "{fault}"),
     };
-    push_counts(out, &extract)?;
+    push_counts(out, &extract);
     let mut sink = Sink::new(Vec::new(alloc));
     match write_records(alloc, &extract, &mut sink) {
         Ok(()) if sink.writer().as_slice() == bytes => writeln!(out),

@@ -2,24 +2,19 @@
 ghost use Rattle.std.specs.Prelude.{◌≤◌};
 
 use crate::devices::written::Written;
+use crate::output::Output;
 use cif_columns::{Sink, TrialWriter, WriteFault};
-use std::alloc::{AllocError, Global};
-use std::fmt::Write;
+use std::alloc::Global;
 
 /// The most bytes that a trial writer takes.
 const ROOM: usize = 2048;
 
 /// Appends how often a writer that takes all bytes is called, and whether each that takes too few
 /// keeps those that fit, is called for these and once more, and is let be then.
-pub(crate) fn push_trials<T: Written>(
-    alloc: Global,
-    out: &mut String,
-    name: &str,
-    written: &T,
-) -> Result<(), AllocError> {
+pub(crate) fn push_trials<T: Written>(alloc: Global, out: &mut Output, name: &str, written: &T) {
     let mut sink = Sink::new(Vec::new(alloc));
     if written.write(&mut sink).is_err() {
-        return Err(AllocError);
+        return out.fail();
     }
     let text = sink.writer().as_slice();
     let len = text.len();
@@ -28,7 +23,7 @@ pub(crate) fn push_trials<T: Written>(
             writeln!(
                 out,
                 "{name}: {len} bytes, calls to write {writes}, to flush {flushes}"
-            )?;
+            );
         }
         None => return writeln!(out, "{name}: otherwise where all bytes fit"),
     }

@@ -3,15 +3,15 @@ use crate::case::{Case, text_of};
 use crate::devices::canonical::{Answer, form_of, push_line};
 use crate::devices::trials::push_trials;
 use crate::devices::written::Written;
+use crate::output::Output;
 use cif_canon::{compare, day_view, train_view, write_comparison};
 use cif_columns::{Day, Sink, Source, Uid, WriteDevice, WriteFault, are_printable};
 use cif_extract::{Extract, Fault, read_extract};
 use cif_weeks::Form;
-use std::alloc::{AllocError, Global};
-use std::fmt::Write;
+use std::alloc::Global;
 
 /// Appends what runs on the day that the case asks for.
-pub(crate) fn push_day(alloc: Global, out: &mut String, case: &Case) -> Result<(), AllocError> {
+pub(crate) fn push_day(alloc: Global, out: &mut Output, case: &Case) {
     let extract = read_extract(alloc, &mut Source::new(case.input.as_slice()), 1000);
     match (extract, case.day("day")) {
         (Ok(extract), Some(day)) => {
@@ -23,7 +23,7 @@ pub(crate) fn push_day(alloc: Global, out: &mut String, case: &Case) -> Result<(
 }
 
 /// Appends when the train runs that the case asks for.
-pub(crate) fn push_train(alloc: Global, out: &mut String, case: &Case) -> Result<(), AllocError> {
+pub(crate) fn push_train(alloc: Global, out: &mut Output, case: &Case) {
     let extract = read_extract(alloc, &mut Source::new(case.input.as_slice()), 1000);
     match (extract, uid_of(case.value("uid"))) {
         (Ok(extract), Some(uid)) => {
@@ -35,12 +35,7 @@ pub(crate) fn push_train(alloc: Global, out: &mut String, case: &Case) -> Result
 }
 
 /// Appends how the input compares with that of the case of this name.
-pub(crate) fn push_comparison(
-    alloc: Global,
-    out: &mut String,
-    case: &Case,
-    cases: &[Case],
-) -> Result<(), AllocError> {
+pub(crate) fn push_comparison(alloc: Global, out: &mut Output, case: &Case, cases: &[Case]) {
     let left = read_extract(alloc, &mut Source::new(case.input.as_slice()), 1000);
     let right = read_extract(alloc, &mut Source::new(case.named("with", cases)), 1000);
     match (left, right) {
@@ -53,11 +48,11 @@ pub(crate) fn push_comparison(
 }
 
 /// Appends the lines of the view, or that of its fault.
-fn push_view(alloc: Global, out: &mut String, view: &View) -> Result<(), AllocError> {
+fn push_view(alloc: Global, out: &mut Output, view: &View) {
     let mut sink = Sink::new(Vec::new(alloc));
     match view.answer(&mut sink) {
         Ok(()) => {
-            out.push_str(text_of(sink.writer().as_slice()))?;
+            out.push_str(text_of(sink.writer().as_slice()));
             push_trials(alloc, out, "View", view)
         }
         Err(fault) => push_line(alloc, out, &Answer(&Err(fault))),

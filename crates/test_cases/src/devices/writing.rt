@@ -3,35 +3,32 @@ use crate::case::{Case, text_of};
 use crate::devices::trials::push_trials;
 use crate::devices::writers::leave;
 use crate::devices::written::{Bytes, Dated, Dates, Written, parts_of};
+use crate::output::Output;
 use cif_columns::{DaysRun, Sink, Source, TrialWriter};
 use cif_extract::{Extract, read_extract};
-use std::alloc::{AllocError, Global};
-use std::fmt::Write;
+use std::alloc::Global;
 use std::io;
 use std::io::BufWriter;
 
 /// Appends what goes out of the records of an extract on the dates that the case asks for.
-pub(crate) fn push_records(alloc: Global, out: &mut String, case: &Case) -> Result<(), AllocError> {
+pub(crate) fn push_records(alloc: Global, out: &mut Output, case: &Case) {
     match dates_of(case) {
         Some(dates) => push_on(alloc, out, case.input.as_slice(), &dates),
         None => writeln!(out, "no dates"),
     }
 }
 
-fn push_on(alloc: Global, out: &mut String, bytes: &[u8], dates: &Dates) -> Result<(), AllocError> {
+fn push_on(alloc: Global, out: &mut Output, bytes: &[u8], dates: &Dates) {
     match read_extract(alloc, &mut Source::new(bytes), 100) {
         Ok(extract) => push_parts(alloc, out, &extract, dates),
         Err(_) => writeln!(out, "no extract"),
     }
 }
 
-fn push_parts(
-    alloc: Global,
-    out: &mut String,
-    extract: &Extract,
-    dates: &Dates,
-) -> Result<(), AllocError> {
-    let parts = parts_of(alloc, extract)?;
+fn push_parts(alloc: Global, out: &mut Output, extract: &Extract, dates: &Dates) {
+    let Ok(parts) = parts_of(alloc, extract) else {
+        return out.fail();
+    };
     let mut sink = Sink::new(TrialWriter::new(2048, false));
     for part in &parts {
         let part = *part;
@@ -42,13 +39,15 @@ fn push_parts(
         }
         .write(&mut sink);
         if outcome.is_err() {
-            writeln!(out, "the sink has failed")?;
+            writeln!(out, "the sink has failed");
         }
     }
-    out.push_str(text_of(sink.writer().bytes()))?;
+    out.push_str(text_of(sink.writer().bytes()));
     for part in &parts {
         let part = *part;
-        let name = format!(in alloc; "{part:?}")?;
+        let Ok(name) = format!(in alloc; "{part:?}") else {
+            return out.fail();
+        };
         push_trials(
             alloc,
             out,
@@ -58,9 +57,8 @@ fn push_parts(
                 part,
                 dates,
             },
-        )?;
+        );
     }
-    Ok(())
 }
 
 /// The dates that the case asks for.
@@ -80,19 +78,19 @@ fn days_of(columns: Option<&str>) -> Option<DaysRun> {
 }
 
 /// Appends what goes out of these bytes through a buffer.
-pub(crate) fn push_bytes(alloc: Global, out: &mut String, bytes: &[u8]) -> io::Result<()> {
-    push_buffered(alloc, out, bytes)?;
-    push_trials(alloc, out, "Bytes", &Bytes(bytes))?;
-    Ok(())
+pub(crate) fn push_bytes(alloc: Global, out: &mut Output, bytes: &[u8]) {
+    push_buffered(alloc, out, bytes);
+    push_trials(alloc, out, "Bytes", &Bytes(bytes));
 }
 
-fn push_buffered(alloc: Global, out: &mut String, bytes: &[u8]) -> io::Result<()> {
+fn push_buffered(alloc: Global, out: &mut Output, bytes: &[u8]) {
     let mut kept = Vec::new(alloc);
-    if !are_buffered(alloc, &mut kept, bytes)? {
-        writeln!(out, "the sink has failed")?;
+    match are_buffered(alloc, &mut kept, bytes) {
+        Ok(true) => {}
+        Ok(false) => writeln!(out, "the sink has failed"),
+        Err(_) => return out.fail(),
     }
-    out.push_str(text_of(kept.as_slice()))?;
-    Ok(())
+    out.push_str(text_of(kept.as_slice()));
 }
 
 /// Writes the bytes through a buffer, and tells whether they were written.

@@ -1,12 +1,12 @@
 //! Readings beside a plain look at the whole contents.
 use crate::case::push_case;
+use crate::output::Output;
 use crate::readings::damage::damaged;
 use crate::readings::numbers::Numbers;
 use crate::readings::plain_reading::{contents_of, first_refusal, has_records_of};
 use crate::readings::read::read_slice;
 use cif_extract::Fault;
 use std::alloc::{AllocError, Global};
-use std::fmt::Write;
 
 /// What a reading and a look at the contents came to.
 #[derive(Clone, Copy)]
@@ -33,13 +33,10 @@ fn compare(alloc: Global, bytes: &[u8], max_lines: u16) -> Result<Comparison, Al
 }
 
 /// Appends whether the bytes are read as their contents say.
-pub(crate) fn push_compared(
-    alloc: Global,
-    out: &mut String,
-    bytes: &[u8],
-    max_lines: u16,
-) -> Result<(), AllocError> {
-    let compared = compare(alloc, bytes, max_lines)?;
+pub(crate) fn push_compared(alloc: Global, out: &mut Output, bytes: &[u8], max_lines: u16) {
+    let Ok(compared) = compare(alloc, bytes, max_lines) else {
+        return out.fail();
+    };
     let number = compared.number;
     if compared.is_same {
         writeln!(out, "read as its contents say: {number}")
@@ -52,21 +49,25 @@ pub(crate) fn push_compared(
 /// say.
 pub(crate) fn push_damage(
     alloc: Global,
-    out: &mut String,
+    out: &mut Output,
     bytes: &[u8],
     others: &[u8],
     count: u16,
-) -> Result<(), AllocError> {
+) {
     let mut numbers = Numbers::new();
     let mut met = [false; 15];
     for _ in 0..count {
-        let input = damaged(alloc, bytes, others, &mut numbers)?;
+        let Ok(input) = damaged(alloc, bytes, others, &mut numbers) else {
+            return out.fail();
+        };
         let max_lines = match numbers.below(16) {
             0 => 9,
             1 => 11,
             _ => 100,
         };
-        let compared = compare(alloc, input.as_slice(), max_lines)?;
+        let Ok(compared) = compare(alloc, input.as_slice(), max_lines) else {
+            return out.fail();
+        };
         if !compared.is_same {
             return push_difference(alloc, out, input.as_slice(), max_lines);
         }
@@ -74,28 +75,25 @@ pub(crate) fn push_damage(
             *is_met = true;
         }
     }
-    writeln!(out, "{count} inputs, each read as its contents say")?;
+    writeln!(out, "{count} inputs, each read as its contents say");
     push_met(out, &met)
 }
 
 /// Appends the numbers that were met.
-fn push_met(out: &mut String, met: &[bool; 15]) -> Result<(), AllocError> {
-    write!(out, "met")?;
+fn push_met(out: &mut Output, met: &[bool; 15]) {
+    write!(out, "met");
     for (number, is_met) in met.iter().enumerate() {
         if *is_met {
-            write!(out, " {number}")?;
+            write!(out, " {number}");
         }
     }
     writeln!(out)
 }
 
 /// Appends an input that isn't read as its contents say.
-fn push_difference(
-    alloc: Global,
-    out: &mut String,
-    input: &[u8],
-    max_lines: u16,
-) -> Result<(), AllocError> {
-    let call = format!(in alloc; "plain-look max={max_lines}")?;
-    push_case(out, "not-read-as-its-contents-say", call.as_str(), input)
+fn push_difference(alloc: Global, out: &mut Output, input: &[u8], max_lines: u16) {
+    let Ok(call) = format!(in alloc; "plain-look max={max_lines}") else {
+        return out.fail();
+    };
+    push_case(out, "not-read-as-its-contents-say", call.as_str(), input);
 }

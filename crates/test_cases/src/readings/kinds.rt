@@ -1,58 +1,51 @@
 //! Which records may follow which.
 use crate::case::{LINE_BYTES, text_of};
+use crate::output::Output;
 use crate::readings::answer::{Answer, Outcome};
 use crate::readings::read::answer_of;
 use cif_columns::Refusal;
 use std::alloc::{AllocError, Global};
-use std::fmt::Write;
 
 /// Appends, for each prefix of whole lines of the bytes, which of the other lines may follow it, and
 /// what the front and that line come to.
-pub(crate) fn push_kinds(
-    alloc: Global,
-    out: &mut String,
-    bytes: &[u8],
-    others: &[u8],
-) -> Result<(), AllocError> {
+pub(crate) fn push_kinds(alloc: Global, out: &mut Output, bytes: &[u8], others: &[u8]) {
     for count in 0..=bytes.len() / LINE_BYTES {
         let front = &bytes[..count * LINE_BYTES];
         let mut none = true;
         for other in others.chunks(LINE_BYTES) {
-            if push_kind(alloc, out, front, count, other)? {
+            if push_kind(alloc, out, front, count, other) {
                 none = false;
             }
         }
         if none {
-            writeln!(out, "after {count}: no line")?;
+            writeln!(out, "after {count}: no line");
         }
     }
-    Ok(())
 }
 
 /// Appends what the front, which has so many lines, and the other line come to, where that isn't out
 /// of order; gives whether it may stand there.
-fn push_kind(
-    alloc: Global,
-    out: &mut String,
-    front: &[u8],
-    count: usize,
-    other: &[u8],
-) -> Result<bool, AllocError> {
+fn push_kind(alloc: Global, out: &mut Output, front: &[u8], count: usize, other: &[u8]) -> bool {
     let identity = text_of(other.get(..2).unwrap_or(b""));
-    let answer = answer_behind(alloc, front, other, false)?;
-    let spoilt = answer_behind(alloc, front, other, true)?;
+    let (Ok(answer), Ok(spoilt)) = (
+        answer_behind(alloc, front, other, false),
+        answer_behind(alloc, front, other, true),
+    ) else {
+        out.fail();
+        return false;
+    };
     let out_of_order = Outcome::Refused((count as u64).saturating_add(1), Refusal::OutOfOrder);
     if answer.outcome != out_of_order || answer.again != out_of_order {
-        writeln!(out, "after {count}: {identity}, {answer}")?;
-        return Ok(true);
+        writeln!(out, "after {count}: {identity}, {answer}");
+        return true;
     }
     if spoilt != answer {
         writeln!(
             out,
             "after {count}: {identity} with other columns, {spoilt}"
-        )?;
+        );
     }
-    Ok(false)
+    false
 }
 
 /// What the front and this line behind it come to.

@@ -1,12 +1,12 @@
 //! Readings over slices and trial readers.
 ghost use Rattle.std.specs.Prelude.{◌<◌};
 
+use crate::output::Output;
 use crate::readings::answer::{Answer, Outcome};
 use crate::readings::listing::push_extract;
 use cif_columns::{End, Source, TrialReader};
 use cif_extract::{Extract, Fault, read_extract};
 use std::alloc::{AllocError, Global};
-use std::fmt::Write;
 
 /// What the bytes are read as.
 pub(crate) fn read_slice(alloc: Global, bytes: &[u8], max_lines: u16) -> Result<Extract, Fault> {
@@ -54,43 +54,35 @@ fn read_before_failure(alloc: Global, bytes: &[u8], step: usize, max_lines: u16)
 }
 
 /// Appends what the bytes are read as.
-pub(crate) fn push_reading(
-    alloc: Global,
-    out: &mut String,
-    bytes: &[u8],
-    max_lines: u16,
-) -> Result<(), AllocError> {
-    let whole = reading_text(alloc, &read_slice(alloc, bytes, max_lines))?;
-    let in_pieces = reading_text(alloc, &read_byte_by_byte(alloc, bytes, max_lines))?;
-    push_texts(out, whole.as_str(), in_pieces.as_str())
+pub(crate) fn push_reading(alloc: Global, out: &mut Output, bytes: &[u8], max_lines: u16) {
+    let whole = reading_text(alloc, &read_slice(alloc, bytes, max_lines));
+    let in_pieces = reading_text(alloc, &read_byte_by_byte(alloc, bytes, max_lines));
+    match (whole, in_pieces) {
+        (Ok(whole), Ok(in_pieces)) => push_texts(out, whole.as_str(), in_pieces.as_str()),
+        _ => out.fail(),
+    }
 }
 
 /// Appends the text, and the one of the bytes in pieces where it is another.
-fn push_texts(out: &mut String, whole: &str, in_pieces: &str) -> Result<(), AllocError> {
-    out.push_str(whole)?;
+fn push_texts(out: &mut Output, whole: &str, in_pieces: &str) {
+    out.push_str(whole);
     if in_pieces != whole {
-        writeln!(out, "one byte a read:")?;
-        out.push_str(in_pieces)?;
+        writeln!(out, "one byte a read:");
+        out.push_str(in_pieces);
     }
-    Ok(())
 }
 
 fn reading_text(alloc: Global, read: &Result<Extract, Fault>) -> Result<String, AllocError> {
-    let mut text = String::new(alloc);
-    writeln!(text, "{}", Outcome::of(read))?;
+    let mut text = Output::new(alloc);
+    writeln!(text, "{}", Outcome::of(read));
     if let Ok(extract) = read {
-        push_extract(alloc, &mut text, extract)?;
+        push_extract(alloc, &mut text, extract);
     }
-    Ok(text)
+    text.finish()
 }
 
 /// Appends what the bytes come to where the reader fails after them.
-pub(crate) fn push_failing(
-    alloc: Global,
-    out: &mut String,
-    bytes: &[u8],
-    max_lines: u16,
-) -> Result<(), AllocError> {
+pub(crate) fn push_failing(alloc: Global, out: &mut Output, bytes: &[u8], max_lines: u16) {
     writeln!(out, "{}", answer_of_failing(alloc, bytes, max_lines))
 }
 
@@ -98,11 +90,11 @@ pub(crate) fn push_failing(
 /// read, and the number of reads.
 pub(crate) fn push_endless(
     alloc: Global,
-    out: &mut String,
+    out: &mut Output,
     bytes: &[u8],
     from: u16,
     max_lines: u16,
-) -> Result<(), AllocError> {
+) {
     let from = usize::from(from);
     if from >= bytes.len() {
         return writeln!(out, "no byte to go on from");

@@ -1,9 +1,9 @@
 //! Readings of an input that is changed in each place in turn.
 use crate::case::LINE_BYTES;
+use crate::output::Output;
 use crate::readings::answer::Answer;
 use crate::readings::read::{answer_of, answer_of_failing};
 use std::alloc::{AllocError, Global};
-use std::fmt::Write;
 
 /// Neighbouring places with one answer.
 #[derive(Clone, Copy)]
@@ -14,7 +14,7 @@ struct Stretch {
 }
 
 /// Appends what is answered at these places.
-fn push_stretch(out: &mut String, label: &str, stretch: &Stretch) -> Result<(), AllocError> {
+fn push_stretch(out: &mut Output, label: &str, stretch: &Stretch) {
     let first = stretch.first;
     let last = stretch.last;
     let answer = stretch.answer;
@@ -28,68 +28,53 @@ fn push_stretch(out: &mut String, label: &str, stretch: &Stretch) -> Result<(), 
 /// The stretch with one place more; where the answer is another, the stretch is appended and a new
 /// one begins.
 fn gone_on(
-    out: &mut String,
+    out: &mut Output,
     label: &str,
     stretch: Option<Stretch>,
     place: usize,
     answer: Answer,
-) -> Result<Option<Stretch>, AllocError> {
+) -> Option<Stretch> {
     let first = match stretch {
         Some(stretch) if stretch.answer == answer => stretch.first,
         Some(stretch) => {
-            push_stretch(out, label, &stretch)?;
+            push_stretch(out, label, &stretch);
             place
         }
         None => place,
     };
-    Ok(Some(Stretch {
+    Some(Stretch {
         first,
         last: place,
         answer,
-    }))
+    })
 }
 
 /// Appends what each prefix of the bytes comes to.
-pub(crate) fn push_cuts(
-    alloc: Global,
-    out: &mut String,
-    bytes: &[u8],
-    max_lines: u16,
-) -> Result<(), AllocError> {
+pub(crate) fn push_cuts(alloc: Global, out: &mut Output, bytes: &[u8], max_lines: u16) {
     let mut stretch = None;
     for len in 0..=bytes.len() {
         let answer = answer_of(alloc, &bytes[..len], max_lines);
-        stretch = gone_on(out, "cut after", stretch, len, answer)?;
+        stretch = gone_on(out, "cut after", stretch, len, answer);
     }
     push_last(out, "cut after", stretch)
 }
 
 /// Appends what each prefix of the bytes comes to where the reader fails after it.
-pub(crate) fn push_failing_cuts(
-    alloc: Global,
-    out: &mut String,
-    bytes: &[u8],
-    max_lines: u16,
-) -> Result<(), AllocError> {
+pub(crate) fn push_failing_cuts(alloc: Global, out: &mut Output, bytes: &[u8], max_lines: u16) {
     let mut stretch = None;
     for len in 0..=bytes.len() {
         let answer = answer_of_failing(alloc, &bytes[..len], max_lines);
-        stretch = gone_on(out, "failing after", stretch, len, answer)?;
+        stretch = gone_on(out, "failing after", stretch, len, answer);
     }
     push_last(out, "failing after", stretch)
 }
 
 /// Appends what the bytes come to with each number of lines that may come, up to this one.
-pub(crate) fn push_limits(
-    alloc: Global,
-    out: &mut String,
-    bytes: &[u8],
-    max_lines: u16,
-) -> Result<(), AllocError> {
+pub(crate) fn push_limits(alloc: Global, out: &mut Output, bytes: &[u8], max_lines: u16) {
     let mut stretch = None;
     for max in 0..=max_lines {
         let answer = answer_of(alloc, bytes, max);
-        stretch = gone_on(out, "at most", stretch, usize::from(max), answer)?;
+        stretch = gone_on(out, "at most", stretch, usize::from(max), answer);
     }
     push_last(out, "at most", stretch)
 }
@@ -97,36 +82,39 @@ pub(crate) fn push_limits(
 /// Appends what the bytes come to with this one in place of each in turn, line by line.
 pub(crate) fn push_replaced(
     alloc: Global,
-    out: &mut String,
+    out: &mut Output,
     bytes: &[u8],
     byte: u8,
     max_lines: u16,
-) -> Result<(), AllocError> {
+) {
     let mut line = 0u32;
     for (start, _) in bytes.iter().enumerate().step_by(LINE_BYTES) {
         line = line.saturating_add(1);
-        let label = format!(in alloc; "line {line}, column")?;
-        push_replaced_in(alloc, out, label.as_str(), bytes, start, byte, max_lines)?;
+        let Ok(label) = format!(in alloc; "line {line}, column") else {
+            return out.fail();
+        };
+        push_replaced_in(alloc, out, label.as_str(), bytes, start, byte, max_lines);
     }
-    Ok(())
 }
 
 /// Appends what they come to with this one in place of each of the line that starts here.
 fn push_replaced_in(
     alloc: Global,
-    out: &mut String,
+    out: &mut Output,
     label: &str,
     bytes: &[u8],
     start: usize,
     byte: u8,
     max_lines: u16,
-) -> Result<(), AllocError> {
+) {
     let mut stretch = None;
     for column in 1..=LINE_BYTES {
         let place = start.saturating_add(column - 1);
         if place < bytes.len() {
-            let answer = answer_with(alloc, bytes, place, byte, max_lines)?;
-            stretch = gone_on(out, label, stretch, column, answer)?;
+            let Ok(answer) = answer_with(alloc, bytes, place, byte, max_lines) else {
+                return out.fail();
+            };
+            stretch = gone_on(out, label, stretch, column, answer);
         }
     }
     push_last(out, label, stretch)
@@ -148,9 +136,8 @@ fn answer_with(
 }
 
 /// Appends the stretch that has no further neighbour.
-fn push_last(out: &mut String, label: &str, stretch: Option<Stretch>) -> Result<(), AllocError> {
-    match stretch {
-        Some(stretch) => push_stretch(out, label, &stretch),
-        None => Ok(()),
+fn push_last(out: &mut Output, label: &str, stretch: Option<Stretch>) {
+    if let Some(stretch) = stretch {
+        push_stretch(out, label, &stretch);
     }
 }
