@@ -26,8 +26,7 @@ mod winners;
 use crate::case::Case;
 use crate::output::Output;
 use cif_calendar::Window;
-use cif_columns::Source;
-use cif_extract::{Extract, read_extract};
+use cif_extract::Extract;
 use dates::push_calendar;
 use sizes::push_sizes;
 use std::alloc::Global;
@@ -38,7 +37,7 @@ pub(crate) fn push_answer(alloc: Global, out: &mut Output, case: &Case) -> bool 
     if !matches!(case.call, "calendar" | "calendar-sizes" | "winners") {
         return false;
     }
-    match read_extract(alloc, &mut Source::new(case.input.as_slice()), 1000) {
+    match case.extract(alloc) {
         Ok(extract) => push_call(alloc, out, case, &extract),
         Err(_) => writeln!(out, "no extract"),
     }

@@ -14,7 +14,8 @@
 //! feed. In a line `\xNN` is the byte with that number in hexadecimal digits, and a backslash at its
 //! end takes its line feed away.
 use crate::output::Output;
-use cif_columns::Day;
+use cif_columns::{Day, Source};
+use cif_extract::{Extract, Fault, read_extract};
 use std::alloc::{AllocError, Global};
 use std::str;
 
@@ -64,14 +65,21 @@ impl<'a> Case<'a> {
         day_in(self.value(key)?)
     }
 
+    /// What its input is read as.
+    pub(crate) fn extract(&self, alloc: Global) -> Result<Extract, Fault> {
+        read_extract(alloc, &mut Source::new(self.input.as_slice()), 1000)
+    }
+
     /// The input of the first of these cases with the name behind `key=`; no byte where there is
     /// none.
     pub(crate) fn named<'b>(&self, key: &str, cases: &'b [Case]) -> &'b [u8] {
         let name = self.value(key).unwrap_or("");
-        match cases.iter().find(|case| case.name == name) {
-            Some(case) => case.input.as_slice(),
-            None => b"",
+        for case in cases {
+            if case.name == name {
+                return case.input.as_slice();
+            }
         }
+        b""
     }
 }
 
@@ -122,21 +130,24 @@ fn push_line(input: &mut Vec<u8>, line: &str) -> Result<(), AllocError> {
     let front = parts.next().unwrap_or("");
     input.extend_from_slice(front.as_bytes())?;
     for part in parts {
-        match part.split_at_checked(2) {
-            Some((digits, rest)) => {
-                input.push(u8::from_str_radix(digits, 16).unwrap_or(b'?'))?;
-                input.extend_from_slice(rest.as_bytes())?;
-            }
-            None => input.extend_from_slice(part.as_bytes())?,
-        }
+        push_part(input, part)?;
     }
     input.extend_from_slice(ending.as_bytes())
+}
+
+/// Appends the bytes that a part of a line stands for, which begins behind the mark of a number.
+fn push_part(input: &mut Vec<u8>, part: &str) -> Result<(), AllocError> {
+    let Some((digits, rest)) = part.split_at_checked(2) else {
+        return input.extend_from_slice(part.as_bytes());
+    };
+    input.push(u8::from_str_radix(digits, 16).unwrap_or(b'?'))?;
+    input.extend_from_slice(rest.as_bytes())
 }
 
 /// Appends a case with this input.
 pub(crate) fn push_case(out: &mut Output, name: &str, call: &str, input: &[u8]) {
     writeln!(out, "== {name}: {call}");
-    for line in input.split_inclusive(|byte| *byte == b'\n') {
+    for line in input.split_inclusive(is_line_feed) {
         match line.strip_suffix(b"\n") {
             Some(columns) => {
                 push_columns(out, columns);
@@ -164,6 +175,11 @@ fn push_columns(out: &mut Output, columns: &[u8]) {
 /// The day with these columns `yymmdd`.
 pub(crate) fn day_in(columns: &str) -> Option<Day> {
     Day::from_yymmdd(columns.as_bytes().as_array()?)
+}
+
+/// Whether a line ends with the byte.
+pub(crate) fn is_line_feed(byte: &u8) -> bool {
+    *byte == b'\n'
 }
 
 /// The bytes as text.

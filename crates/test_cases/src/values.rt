@@ -28,7 +28,7 @@ mod days;
 mod fields;
 mod records;
 
-use crate::case::Case;
+use crate::case::{Case, is_line_feed};
 use crate::output::Output;
 use cif_columns::Line;
 use columns::{
@@ -41,7 +41,7 @@ use records::{push_association, push_fields, push_header, push_kind, push_plain,
 
 /// Appends what each line of the case is answered by.
 pub(crate) fn push_answers(out: &mut Output, case: &Case) {
-    for line in case.input.as_slice().split_inclusive(|byte| *byte == b'\n') {
+    for line in case.input.as_slice().split_inclusive(is_line_feed) {
         let columns = line.strip_suffix(b"\n").unwrap_or(line);
         match columns.as_array::<80>() {
             Some(columns) => push_of_line(out, case, columns),

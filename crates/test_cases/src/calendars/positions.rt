@@ -26,7 +26,12 @@ pub(crate) fn first_alike<E: Entry>(entries: &[E], position: Option<usize>) -> P
     let Some(entry) = entries.get(position) else {
         return Place(None);
     };
-    Place(entries.iter().position(|other| same_body(other, entry)))
+    for (at, other) in entries.iter().enumerate() {
+        if same_body(other, entry) {
+            return Place(Some(at));
+        }
+    }
+    Place(None)
 }
 
 /// The positions of all of so many records.

@@ -79,10 +79,12 @@ fn push_size<E: Entry>(alloc: Global, out: &mut Output, entries: &[E], calendar:
     requires { AreSources (map E.terms entries.now) calendar.now }
 {
     let pieces = calendar.pieces().len();
-    let dates = entries
-        .iter()
-        .filter(|entry| place_on(entries, calendar, entry.first()) != Place(None))
-        .count();
+    let mut dates = 0_usize;
+    for entry in entries {
+        if place_on(entries, calendar, entry.first()) != Place(None) {
+            dates = dates.saturating_add(1);
+        }
+    }
     write!(out, "{pieces} pieces, {dates} dates");
     push_count(out, "1", &runs(alloc, entries, calendar, Form::One));
     push_count(out, "2", &runs(alloc, entries, calendar, Form::Two));

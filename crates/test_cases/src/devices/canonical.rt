@@ -7,7 +7,7 @@ use crate::devices::written::{Written, writes_of_lines};
 use crate::output::Output;
 use cif_canon::{Asked, Canon, Counts, canon, normalise, report, write_counts};
 use cif_columns::{Sink, Source, WriteDevice, WriteFault};
-use cif_extract::{Extract, Fault, read_extract};
+use cif_extract::{Extract, Fault};
 use cif_weeks::Form;
 use std::alloc::Global;
 
@@ -40,7 +40,7 @@ pub(crate) fn push_normalise(alloc: Global, out: &mut Output, case: &Case) {
 
 /// Appends the canonical form of the extract that the input is, and its counts.
 pub(crate) fn push_canon(alloc: Global, out: &mut Output, case: &Case) {
-    match read_extract(alloc, &mut Source::new(case.input.as_slice()), 1000) {
+    match case.extract(alloc) {
         Ok(extract) => push_canon_of(alloc, out, &extract, form_of(case)),
         Err(_) => writeln!(out, "no extract"),
     }

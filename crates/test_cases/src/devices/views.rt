@@ -1,5 +1,5 @@
 //! What runs on a day, when a train runs, and how two extracts compare.
-use crate::case::{Case, text_of};
+use crate::case::{Case, is_line_feed, text_of};
 use crate::devices::canonical::{Answer, form_of, push_line};
 use crate::devices::trials::push_trials;
 use crate::devices::written::Written;
@@ -12,7 +12,7 @@ use std::alloc::Global;
 
 /// Appends what runs on the day that the case asks for.
 pub(crate) fn push_day(alloc: Global, out: &mut Output, case: &Case) {
-    let extract = read_extract(alloc, &mut Source::new(case.input.as_slice()), 1000);
+    let extract = case.extract(alloc);
     match (extract, case.day("day")) {
         (Ok(extract), Some(day)) => {
             let asked = Question::Day(&extract, day);
@@ -24,7 +24,7 @@ pub(crate) fn push_day(alloc: Global, out: &mut Output, case: &Case) {
 
 /// Appends when the train runs that the case asks for.
 pub(crate) fn push_train(alloc: Global, out: &mut Output, case: &Case) {
-    let extract = read_extract(alloc, &mut Source::new(case.input.as_slice()), 1000);
+    let extract = case.extract(alloc);
     match (extract, uid_of(case.value("uid"))) {
         (Ok(extract), Some(uid)) => {
             let asked = Question::Train(&extract, uid, form_of(case));
@@ -36,7 +36,7 @@ pub(crate) fn push_train(alloc: Global, out: &mut Output, case: &Case) {
 
 /// Appends how the input compares with that of the case of this name.
 pub(crate) fn push_comparison(alloc: Global, out: &mut Output, case: &Case, cases: &[Case]) {
-    let left = read_extract(alloc, &mut Source::new(case.input.as_slice()), 1000);
+    let left = case.extract(alloc);
     let right = read_extract(alloc, &mut Source::new(case.named("with", cases)), 1000);
     match (left, right) {
         (Ok(left), Ok(right)) => {
@@ -109,7 +109,7 @@ impl Written for View<'_> {
     /// Each line goes out by one write.
     fn writes_of(&self, prefix: &[u8]) -> u64 {
         let mut writes = 0_u64;
-        for _ in prefix.split_inclusive(|byte| *byte == b'\n') {
+        for _ in prefix.split_inclusive(is_line_feed) {
             writes = writes.saturating_add(1);
         }
         writes

@@ -2,7 +2,7 @@
 use crate::case::{Case, text_of};
 use crate::devices::trials::push_trials;
 use crate::devices::writers::leave;
-use crate::devices::written::{Bytes, Dated, Dates, Written, parts_of};
+use crate::devices::written::{Bytes, Dated, Dates, Part, Written, part_at};
 use crate::output::Output;
 use cif_columns::{DaysRun, Sink, Source, TrialWriter};
 use cif_extract::{Extract, read_extract};
@@ -26,12 +26,15 @@ fn push_on(alloc: Global, out: &mut Output, bytes: &[u8], dates: &Dates) {
 }
 
 fn push_parts(alloc: Global, out: &mut Output, extract: &Extract, dates: &Dates) {
-    let Ok(parts) = parts_of(alloc, extract) else {
-        return out.fail();
-    };
+    let last = extract
+        .tiplocs
+        .len()
+        .saturating_add(extract.associations.len())
+        .saturating_add(extract.schedules.len())
+        .saturating_add(1);
     let mut sink = Sink::new(TrialWriter::new(2048, false));
-    for part in &parts {
-        let part = *part;
+    for place in 0..=last {
+        let part = part_at(extract, place);
         let outcome = Dated {
             extract,
             part,
@@ -43,22 +46,22 @@ fn push_parts(alloc: Global, out: &mut Output, extract: &Extract, dates: &Dates)
         }
     }
     out.push_str(text_of(sink.writer().bytes()));
-    for part in &parts {
-        let part = *part;
-        let Ok(name) = format!(in alloc; "{part:?}") else {
-            return out.fail();
-        };
-        push_trials(
-            alloc,
-            out,
-            name.as_str(),
-            &Dated {
-                extract,
-                part,
-                dates,
-            },
-        );
+    for place in 0..=last {
+        push_part(alloc, out, extract, part_at(extract, place), dates);
     }
+}
+
+/// Appends what goes out of a record, to trial writers.
+fn push_part(alloc: Global, out: &mut Output, extract: &Extract, part: Part, dates: &Dates) {
+    let Ok(name) = format!(in alloc; "{part:?}") else {
+        return out.fail();
+    };
+    let dated = Dated {
+        extract,
+        part,
+        dates,
+    };
+    push_trials(alloc, out, name.as_str(), &dated);
 }
 
 /// The dates that the case asks for.

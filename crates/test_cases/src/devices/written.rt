@@ -6,7 +6,6 @@ use cif_columns::{Day, DaysRun, Sink, WriteDevice, WriteFault};
 use cif_extract::{
     Extract, write_association, write_head, write_schedule, write_tiploc, write_trailer,
 };
-use std::alloc::{AllocError, Global};
 
 /// What is written at once.
 pub(crate) trait Written {
@@ -57,21 +56,26 @@ pub(crate) enum Part {
     Trailer,
 }
 
-/// All records of the extract.
-pub(crate) fn parts_of(alloc: Global, extract: &Extract) -> Result<Vec<Part>, AllocError> {
-    let mut parts = Vec::new(alloc);
-    parts.push(Part::Header)?;
-    for at in 0..extract.tiplocs.len() {
-        parts.push(Part::Location(at))?;
+/// The record at this place among all of the extract's, 0 for the header; the trailer from the place
+/// behind the others on.
+pub(crate) fn part_at(extract: &Extract, place: usize) -> Part {
+    if place == 0 {
+        return Part::Header;
     }
-    for at in 0..extract.associations.len() {
-        parts.push(Part::Association(at))?;
+    let at = place - 1;
+    if at < extract.tiplocs.len() {
+        return Part::Location(at);
     }
-    for at in 0..extract.schedules.len() {
-        parts.push(Part::Schedule(at))?;
+    let at = at - extract.tiplocs.len();
+    if at < extract.associations.len() {
+        return Part::Association(at);
     }
-    parts.push(Part::Trailer)?;
-    Ok(parts)
+    let at = at - extract.associations.len();
+    if at < extract.schedules.len() {
+        Part::Schedule(at)
+    } else {
+        Part::Trailer
+    }
 }
 
 /// The dates of a record.

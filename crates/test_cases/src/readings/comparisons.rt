@@ -26,7 +26,10 @@ fn compare(alloc: Global, bytes: &[u8], max_lines: u16) -> Result<Comparison, Al
             number: why.number(),
         },
         None => Comparison {
-            is_same: given.is_ok_and(|extract| has_records_of(&extract, &contents)),
+            is_same: match given {
+                Ok(extract) => has_records_of(&extract, &contents),
+                Err(_) => false,
+            },
             number: 0,
         },
     })

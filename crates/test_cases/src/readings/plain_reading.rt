@@ -117,14 +117,12 @@ pub(crate) fn first_refusal(contents: &[&[u8]], max_lines: u16) -> Option<(u64, 
         }
         line = line.saturating_add(1);
     }
-    if contents
-        .iter()
-        .any(|content| kind_at(content) == Some(Kind::Zz))
-    {
-        None
-    } else {
-        Some((line, Refusal::Truncated))
+    for content in contents {
+        if kind_at(content) == Some(Kind::Zz) {
+            return None;
+        }
     }
+    Some((line, Refusal::Truncated))
 }
 
 /// The record that the content spells.
@@ -143,7 +141,10 @@ struct Compared<'a> {
 
 /// Whether the schedule has what its BS says.
 fn is_of_basic(schedule: &Schedule, basic: &Basic) -> bool {
-    let detail = schedule.body.as_ref().map(|body| body.detail());
+    let detail = match &schedule.body {
+        Some(body) => Some(body.detail()),
+        None => None,
+    };
     schedule.uid == basic.uid
         && schedule.first == basic.first
         && schedule.last == basic.last
@@ -216,11 +217,14 @@ impl<'a> Rest<'a> {
             return false;
         };
         self.schedules = rest;
-        self.compared = first.body.as_ref().map(|body| Compared {
-            body,
-            calls: body.calls(),
-            has_extra: false,
-        });
+        self.compared = match &first.body {
+            Some(body) => Some(Compared {
+                body,
+                calls: body.calls(),
+                has_extra: false,
+            }),
+            None => None,
+        };
         is_of_basic(first, basic)
     }
 }

@@ -10,6 +10,16 @@ fn push_written(out: &mut Output, columns: &[u8]) {
     write!(out, "|{}|", text_of(columns))
 }
 
+/// Appends a line with them.
+fn push_value(out: &mut Output, columns: &[u8]) {
+    writeln!(out, "|{}|", text_of(columns));
+}
+
+/// Appends a line that says that there is no such value.
+fn push_none(out: &mut Output) {
+    writeln!(out, "none");
+}
+
 /// The line that begins with these columns.
 fn line_with(columns: &[u8]) -> Option<Line> {
     if columns.len() > 80 {
@@ -22,7 +32,7 @@ fn line_with(columns: &[u8]) -> Option<Line> {
 
 pub(crate) fn push_text(out: &mut Output, columns: &[u8]) {
     let Some(line) = line_with(columns) else {
-        return writeln!(out, "none");
+        return push_none(out);
     };
     match columns.len() {
         1 => push_text_of::<1>(out, &line),
@@ -42,53 +52,43 @@ fn push_text_of<const N: usize>(out: &mut Output, line: &Line)
     requires { N ≤ 80 }
 {
     let text: Text<N> = text_at(line, 1);
-    let written = text.write();
-    push_written(out, &written);
-    writeln!(out)
+    push_value(out, &text.write());
 }
 
 pub(crate) fn push_uid(out: &mut Output, columns: &[u8]) {
     let Some(line) = line_with(columns) else {
-        return writeln!(out, "none");
+        return push_none(out);
     };
     let uid = uid_at(&line, 1);
-    let written = uid.write();
-    push_written(out, &written);
-    writeln!(out)
+    push_value(out, &uid.write());
 }
 
 pub(crate) fn push_activities(out: &mut Output, columns: &[u8]) {
     let Some(line) = line_with(columns) else {
-        return writeln!(out, "none");
+        return push_none(out);
     };
     let codes = activities_at(&line, 1);
-    let written = codes.write();
-    push_written(out, &written);
-    writeln!(out)
+    push_value(out, &codes.write());
 }
 
 pub(crate) fn push_work_time(out: &mut Output, columns: &[u8]) {
     let Some(time) = columns.as_array().and_then(WorkTime::read) else {
-        return writeln!(out, "none");
+        return push_none(out);
     };
-    let written = time.write();
-    push_written(out, &written);
-    writeln!(out)
+    push_value(out, &time.write());
 }
 
 pub(crate) fn push_public_time(out: &mut Output, columns: &[u8]) {
     let Some(time) = columns.as_array().and_then(PublicTime::read) else {
-        return writeln!(out, "none");
+        return push_none(out);
     };
-    let written = time.write();
-    push_written(out, &written);
-    writeln!(out)
+    push_value(out, &time.write());
 }
 
 pub(crate) fn push_days(out: &mut Output, columns: &[u8]) {
     match columns.as_array().and_then(DaysRun::read) {
         Some(days) => push_days_run(out, days),
-        None => writeln!(out, "none"),
+        None => push_none(out),
     }
 }
 
@@ -96,7 +96,7 @@ pub(crate) fn push_days(out: &mut Output, columns: &[u8]) {
 pub(crate) fn push_weekday(out: &mut Output, columns: &[u8]) {
     match columns {
         [digit @ b'0'..=b'6'] => push_days_run(out, DaysRun::only(*digit - b'0')),
-        _ => writeln!(out, "none"),
+        _ => push_none(out),
     }
 }
 
@@ -121,7 +121,7 @@ pub(crate) fn push_letter(out: &mut Output, columns: &[u8]) {
         _ => None,
     };
     let Some(letter) = letter else {
-        return writeln!(out, "none");
+        return push_none(out);
     };
     let written = letter.write();
     push_written(out, &[written]);

@@ -1,9 +1,9 @@
 //! Lines that are damaged in each way, and the two ways to their plain lines.
 use crate::case::text_of;
 use crate::output::Output;
-use crate::values::records::plain_line;
+use crate::values::records::{plain_line, written_line};
 use cif_columns::Line;
-use cif_records::{is_plain_line, kind_of, read_record, write_record};
+use cif_records::{is_plain_line, kind_of};
 
 /// Appends whether the line is known for a plain one in one pass, and how many damaged lines have the
 /// same plain line both ways, or the first that has not.
@@ -39,5 +39,5 @@ fn is_known(line: &Line) -> bool {
 
 /// Whether the line's plain line is that of the record that it is read as, or both are refused alike.
 fn has_one_plain_line(line: &Line) -> bool {
-    plain_line(line) == read_record(line).map(|record| write_record(&record))
+    plain_line(line) == written_line(line)
 }

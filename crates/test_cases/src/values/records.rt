@@ -29,9 +29,17 @@ pub(crate) fn plain_line(line: &Line) -> Result<Line, Refusal> {
     }
 }
 
+/// The line of the record that the line is read as, or why it is none.
+pub(crate) fn written_line(line: &Line) -> Result<Line, Refusal> {
+    match read_record(line) {
+        Ok(record) => Ok(write_record(&record)),
+        Err(why) => Err(why),
+    }
+}
+
 /// Appends the plain line of the record that the line spells.
 pub(crate) fn push_plain(out: &mut Output, line: &Line) {
-    let written = read_record(line).map(|record| write_record(&record));
+    let written = written_line(line);
     let plain = plain_line(line);
     if written != plain {
         writeln!(out, "the record's line and the plain line differ:");
@@ -50,15 +58,18 @@ pub(crate) fn push_fields(out: &mut Output, line: &Line) {
 
 /// Appends the plain line of the header that the line spells.
 pub(crate) fn push_header(out: &mut Output, line: &Line) {
-    push_judged(out, Header::read(line).map(|header| header.write()))
+    match Header::read(line) {
+        Ok(header) => push_judged(out, Ok(header.write())),
+        Err(why) => push_judged(out, Err(why)),
+    }
 }
 
 /// Appends the plain line of the association that the line spells.
 pub(crate) fn push_association(out: &mut Output, line: &Line) {
-    push_judged(
-        out,
-        Association::read(line).map(|association| association.write()),
-    )
+    match Association::read(line) {
+        Ok(association) => push_judged(out, Ok(association.write())),
+        Err(why) => push_judged(out, Err(why)),
+    }
 }
 
 /// Appends the plain line of the header with the window that the case asks for.
