@@ -130,18 +130,15 @@ fn push_line(input: &mut Vec<u8>, line: &str) -> Result<(), AllocError> {
     let front = parts.next().unwrap_or("");
     input.extend_from_slice(front.as_bytes())?;
     for part in parts {
-        push_part(input, part)?;
+        match part.split_at_checked(2) {
+            Some((digits, rest)) => {
+                input.push(u8::from_str_radix(digits, 16).unwrap_or(b'?'))?;
+                input.extend_from_slice(rest.as_bytes())?;
+            }
+            None => input.extend_from_slice(part.as_bytes())?,
+        }
     }
     input.extend_from_slice(ending.as_bytes())
-}
-
-/// Appends the bytes that a part of a line stands for, which begins behind the mark of a number.
-fn push_part(input: &mut Vec<u8>, part: &str) -> Result<(), AllocError> {
-    let Some((digits, rest)) = part.split_at_checked(2) else {
-        return input.extend_from_slice(part.as_bytes());
-    };
-    input.push(u8::from_str_radix(digits, 16).unwrap_or(b'?'))?;
-    input.extend_from_slice(rest.as_bytes())
 }
 
 /// Appends a case with this input.

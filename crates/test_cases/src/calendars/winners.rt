@@ -1,6 +1,4 @@
 //! Winners of single dates.
-ghost use Rattle.std.specs.Prelude.{◌<◌, All, length};
-
 use crate::calendars::positions::{are_below, first_alike, positions_of};
 use crate::case::{Case, day_in};
 use crate::output::Output;
@@ -27,28 +25,13 @@ fn push_winner<E: Entry>(alloc: Global, out: &mut Output, entries: &[E], members
     if !are_below(members.as_slice(), entries.len()) {
         return writeln!(out, "no such record");
     }
-    match source_on(alloc, entries, members.as_slice(), day) {
-        Ok(source) => writeln!(out, "{}", first_alike(entries, source)),
-        Err(CalendarFault::Ambiguous(_)) => writeln!(out, "bodies differ"),
-        Err(CalendarFault::Memory) => writeln!(out, "memory"),
-    }
-}
-
-/// The source on the day by these members.
-fn source_on<E: Entry>(
-    alloc: Global,
-    entries: &[E],
-    members: &[usize],
-    day: Day,
-) -> Result<Option<usize>, CalendarFault>
-    requires { All (λ i. i < length entries.now) members.now }
-{
     let window = Window {
         first: day,
         last: day,
     };
-    match calendar(alloc, entries, members, window) {
-        Ok(calendar) => Ok(calendar.source_on(day)),
-        Err(fault) => Err(fault),
+    match calendar(alloc, entries, members.as_slice(), window) {
+        Ok(calendar) => writeln!(out, "{}", first_alike(entries, calendar.source_on(day))),
+        Err(CalendarFault::Ambiguous(_)) => writeln!(out, "bodies differ"),
+        Err(CalendarFault::Memory) => writeln!(out, "memory"),
     }
 }

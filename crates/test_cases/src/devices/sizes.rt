@@ -54,26 +54,17 @@ fn repeated(
 
 /// Appends what the bytes are read as, and whether its records make the same bytes again.
 fn push_size(alloc: Global, out: &mut Output, bytes: &[u8]) {
-    match read_extract(alloc, &mut Source::new(bytes), MOST) {
-        Ok(extract) => push_written(alloc, out, &extract, bytes),
-        Err(fault) => writeln!(out, "{fault}"),
-    }
-}
-
-fn push_written(alloc: Global, out: &mut Output, extract: &Extract, bytes: &[u8]) {
-    push_counts(out, extract);
-    match is_written_as(alloc, extract, bytes) {
-        Ok(true) => writeln!(out),
-        Ok(false) => writeln!(out, ", written otherwise"),
+    let extract = match read_extract(alloc, &mut Source::new(bytes), MOST) {
+        Ok(extract) => extract,
+        Err(fault) => return writeln!(out, "{fault}"),
+    };
+    push_counts(out, &extract);
+    let mut sink = Sink::new(Vec::new(alloc));
+    match write_records(alloc, &extract, &mut sink) {
+        Ok(()) if sink.writer().as_slice() == bytes => writeln!(out),
+        Ok(()) => writeln!(out, ", written otherwise"),
         Err(_) => writeln!(out, ", not written"),
     }
-}
-
-/// Whether the extract's records make these bytes.
-fn is_written_as(alloc: Global, extract: &Extract, bytes: &[u8]) -> Result<bool, WriteFault> {
-    let mut sink = Sink::new(Vec::new(alloc));
-    write_records(alloc, extract, &mut sink)?;
-    Ok(sink.writer().as_slice() == bytes)
 }
 
 /// Writes the records of the extract that have a body, each on its own dates, with bodies that are

@@ -13,36 +13,23 @@ const ROOM: usize = 2048;
 /// keeps those that fit, is called for these and once more, and is let be then.
 pub(crate) fn push_trials<T: Written>(alloc: Global, out: &mut Output, name: &str, written: &T) {
     let mut sink = Sink::new(Vec::new(alloc));
-    match written.write(&mut sink) {
-        Ok(()) => push_calls(out, name, written, sink.writer().as_slice()),
-        Err(_) => out.fail(),
+    if written.write(&mut sink).is_err() {
+        return out.fail();
     }
-}
-
-fn push_calls<T: Written>(out: &mut Output, name: &str, written: &T, text: &[u8]) {
-    write!(out, "{name}: ");
+    let text = sink.writer().as_slice();
+    let len = text.len();
     match calls_for_all(written, text) {
         Some((writes, flushes)) => {
-            let len = text.len();
             writeln!(
                 out,
-                "{len} bytes, calls to write {writes}, to flush {flushes}"
+                "{name}: {len} bytes, calls to write {writes}, to flush {flushes}"
             );
-            write!(out, "{name}: ");
-            push_touched(out, written, text);
         }
-        None => writeln!(out, "otherwise where all bytes fit"),
+        None => return writeln!(out, "{name}: otherwise where all bytes fit"),
     }
-}
-
-fn push_touched<T: Written>(out: &mut Output, written: &T, text: &[u8]) {
     match first_touched(written, text) {
-        Some((takes, zero)) => writeln!(out, "otherwise where {takes} bytes fit ({zero})"),
-        None => writeln!(
-            out,
-            "{WriteFault} where fewer than {} bytes fit",
-            text.len()
-        ),
+        Some((takes, zero)) => writeln!(out, "{name}: otherwise where {takes} bytes fit ({zero})"),
+        None => writeln!(out, "{name}: {WriteFault} where fewer than {len} bytes fit"),
     }
 }
 
