@@ -34,6 +34,11 @@ module _ {E K B : Type 0} (key : E → K) (terms : E → Terms B) where
     chosen-cancelled (Some x) r e =
         subst (λ (s : Terms B). IsNone s.body ↔ (s.letter ≡ C)) (same_Some (terms x) r e) (cancelled x)
 
+    pub AreLawful-chosen : (es : List E) (members : List ℕ) → AreLawful (IsChosen (map terms es) members)
+    AreLawful-chosen es members = record {
+      cancelled = λ r c. chosen-cancelled (slice_get es c.position) r (sym (slice_get-map terms es c.position) ∙ c.at);
+    }
+
     pub AreLawful-of_key : (es : List E) (k : K) → AreLawful (of_key (keyed key terms es) k)
     AreLawful-of_key es k = record {
       cancelled = λ r in'. let f = at-contains (keyed key terms es) (k, r) in' in

@@ -21,7 +21,7 @@ use Rattle.cif_weeks.specs.Window.{Window, IsWithin}
 use Rattle.cif_weeks.specs.declared.form.Form.TheVariants.{Two}
 use Rattle.cif_weeks.specs.declared.run.Run.{Run}
 use Rattle.cif_weeks.proofs.AlignedDays.{tight}
-use Rattle.cif_weeks.proofs.JoinedLists.{AllPairs-append, AllZip-append, Contains-from_map}
+use Rattle.cif_weeks.proofs.JoinedLists.{AllPairs-append, AllZip-append, Contains-from_map, zip-back}
 use Rattle.cif_weeks.proofs.KeyByKey.{HasBody-more, canonical-more, canonical-none, of_key-more}
 use Rattle.cif_weeks.proofs.RisingLists.{Contains-none, not_less}
 use Rattle.cif_canon.specs.Differences.{ComesBefore, OnlySays, RunsApplied, SaysNothing, TurnInto, is_side, of_side}
@@ -150,13 +150,6 @@ module _ {K B : Type 0} (records : List (K × Permanent B)) (k : K) (own : List 
 -- one record comes before another by first date, and where that is the same the left one before the right one
 abbrev DatesBefore : {K B : Type 0} → Sided (K × Permanent B) → Sided (K × Permanent B) → Type 0
 DatesBefore s t = (s.it.1.first < t.it.1.first) ⊎ ((s.it.1.first ≡ t.it.1.first) × (s.side ≡ Left) × (t.side ≡ Right))
-
--- lists that go together, the other way round
-zip-back : {X Y : Type 0} (R : X → Y → Type 0) (us : List X) (vs : List Y) → AllZip R us vs → AllZip (λ v u. R u v) vs us
-zip-back R [] [] z = tt
-zip-back R [] (v ∷ vs) z = absurd z
-zip-back R (u ∷ us) [] z = absurd z
-zip-back R (u ∷ us) (v ∷ vs) z = (z.0, zip-back R us vs z.1)
 
 -- what is of a side is listed with it
 from-one : {A : Type 0} (side t : Side) (x e : A) (u : List A) → Contains (if is_side side t then x ∷ u else u) e →

@@ -7,24 +7,21 @@ use Rattle.std.proofs.lemmas.List.Elements.{All-head, All-tail, Contains-get_or}
 use Rattle.std.proofs.lemmas.Option.{slice_get-map}
 use Rattle.std.specs.Prelude.{option_map}
 use Rattle.cif_columns.specs.declared.stp.Stp.TheVariants.{C}
-use Rattle.cif_columns.specs.Stp.{letter}
-use Rattle.std.proofs.lemmas.List.{get_or_default}
 use Rattle.std.proofs.lemmas.Option.{same_Some, slice_get-get_or}
-use Rattle.cif_calendar.specs.Applies.{Applies}
-use Rattle.cif_calendar.specs.Terms.{Terms}
+use Rattle.cif_calendar.specs.Terms.{SameRecords, Terms}
 use Rattle.cif_calendar.specs.Calendar.{CalendarParts, IsCalendar, IsFault, body_on}
 use Rattle.cif_calendar.specs.declared.key_calendar.CalendarFault.{CalendarFault}
 use Rattle.cif_calendar.specs.declared.key_calendar.CalendarFault.TheVariants.{Ambiguous, Memory}
 use Rattle.cif_calendar.specs.Keys.{keyed, of_key, ArePositionsOf}
 use Rattle.cif_calendar.specs.Source.{IsChosen}
 use Rattle.cif_calendar.proofs.KeyCalendar.{key-clear, key-runs, key-source, key-fault}
-use Rattle.cif_calendar.proofs.Positions.{terms_at-keyed, contains-at, at-contains}
+use Rattle.cif_calendar.proofs.Positions.{positions-records, terms_at-keyed}
+use Rattle.cif_calendar.proofs.Sets.{IsClearFrom-same, Runs-same}
 use Rattle.cif_weeks.specs.Canonical.{with_key}
 use Rattle.cif_weeks.specs.HaveForm.{HaveForm}
-use Rattle.cif_weeks.specs.OnlyRun.{IsOnlyRun}
-use Rattle.cif_weeks.specs.Permanent.{Permanent, terms_of}
+use Rattle.cif_weeks.specs.MemberRuns.{AreRunsOfMembers, IsMembersRun}
+use Rattle.cif_weeks.specs.Permanent.{Permanent}
 use Rattle.cif_weeks.specs.Runs.{IsRunOf as IsCalendarRun, AreCanonicalRuns, record_of, window_of}
-use Rattle.cif_weeks.proofs.OnlyRun.{only}
 use Rattle.cif_weeks.specs.Window.{Window, IsWithin, window_from}
 use Rattle.cif_weeks.specs.declared.form.Form.{Form}
 use Rattle.cif_weeks.specs.declared.run.Run.{Run}
@@ -39,6 +36,37 @@ module _ {E K B : Type 0} (key : E → K) (terms : E → Terms B) (es : List E) 
       IsKeyFault (window_from first last) (keyed key terms es) members k (records_fault fault m)
   key_fault m member first last Memory h = tt
   key_fault m member first last (Ambiguous day) h = (member, key-fault key terms es k members p first last (Ambiguous day) h)
+
+  members-runs : (runs : List Run) (records : List (Permanent B)) → AllZip (IsMembersRun (map terms es) members) runs records →
+      AllZip (IsRunOf (keyed key terms es)) runs (with_key k records)
+  members-runs [] [] z = tt
+  members-runs [] (r ∷ records) z = absurd z
+  members-runs (run ∷ runs) [] z = absurd z
+  members-runs (run ∷ runs) (r ∷ records) z =
+      let (t, at) = p.found run.source z.0.member in
+      let body : t.body ≡ Some r.body =
+      sym (ap (λ o. option_and_then (λ (u : Terms B). u.body) o) (terms_at-keyed key terms es run.source k t at)) ∙ z.0.body in
+      (record { dates = z.0.dates; terms = t; at = at; body = body }, members-runs runs records z.1)
+
+  -- the runs of the key's members are those of the key
+  pub members-records : (form : Form) (window : Window) (runs : List Run) → AreRunsOfMembers form (map terms es) members window runs →
+      AreRunsOfKey form window (keyed key terms es) k runs
+  members-records form window runs a =
+      let chosen = positions-records key terms es k members p in
+      let back : SameRecords (of_key (keyed key terms es) k) (IsChosen (map terms es) members) =
+      record { same = λ r. ((chosen.same r).1, (chosen.same r).0) } in
+      record {
+        records = a.records;
+        runs_of = members-runs runs a.records a.runs_of;
+        rising = a.rising;
+        have_form = a.have_form;
+        said = record {
+          clear = IsClearFrom-same _ _ chosen window.first window.last a.clear;
+          say = λ n b within.
+              let says = a.say n b within in
+              (λ runs. says.0 (Runs-same _ _ back n (Some b) runs), λ has. Runs-same _ _ chosen n (Some b) (says.1 has));
+        };
+      }
 
   module _ (first last : ℕ) (c : CalendarParts) (cal : IsCalendar (map terms es) members first last c) where
     pub window-is : window_of c ≡ window_from first last
@@ -85,79 +113,3 @@ module _ {E K B : Type 0} (key : E → K) (terms : E → Terms B) (es : List E) 
             (λ h. says.0 (runs.1 h), λ h. runs.0 (says.1 h));
       };
     }
-
-one-member : (members : List ℕ) → length members < 2 → (j : ℕ) → Contains members j → j ≡ get_or members 0 0
-one-member members few j (m, below, is) =
-    let first : m ≡ 0 = omega (arith, below, few) in
-    sym is ∙ ap (λ n. get_or members n j) first ∙ get_or_default members 0 j 0 (omega (arith, below))
-
--- a key with one record, whose run this is
-module _ {K B : Type 0} (entries : List (K × Terms B)) (k : K) (members : List ℕ) (p : ArePositionsOf entries k members) (i : ℕ)
-    (one : (j : ℕ) → Contains members j → j ≡ i) (window : Window) (t : Terms B)
-    (at : slice_get entries i ≡ Some (k, t)) (run : Run) (o : IsOnlyRun t i window run) where
-  only-record : (r : Terms B) → of_key entries k r → r ≡ t
-  only-record r listed =
-      let (j, there) = at-contains entries (k, r) listed in
-      let same : j ≡ i = one j (p.all j r there) in
-      ap (λ (e : K × Terms B). e.1) (same_Some (k, r) (k, t) (sym there ∙ ap (slice_get entries) same ∙ at))
-
-  of-key : of_key entries k t
-  of-key = contains-at entries i (k, t) at
-
-  pub key-alone : (form : Form) → AreRunsOfKey form window entries k (run ∷ [])
-  key-alone form = record {
-    records = record_of run o.body ∷ [];
-    runs_of = (
-      record {
-        dates = refl;
-        terms = t;
-        at = ap (slice_get entries) o.source ∙ at;
-        body = o.has;
-      },
-      tt,
-    );
-    rising = λ j l d less below. absurd (omega (arith, less, below));
-    have_form = o.have_form form;
-    said = record {
-      clear = record {
-        clear = λ d from upto. record {
-          agree = λ r s wins_r wins_s.
-              ap (λ (u : Terms B). u.body) (only-record r wins_r.listed ∙ sym (only-record s wins_s.listed));
-        };
-      };
-      say = λ n b within. (
-        λ h.
-            let is = only-record h.winner h.wins.listed in
-            record {
-              it = record_of run o.body;
-              listed = (0, omega arith, refl);
-              applies = (o.says n within).0 (subst (λ u. Applies u n) is h.wins.applies);
-              body = same_Some o.body b (sym o.has ∙ sym (ap (λ (u : Terms B). u.body) is) ∙ h.body);
-            },
-        λ h.
-            let is = only (record_of run o.body) h.it h.listed in
-            record {
-              winner = t;
-              wins = record {
-                listed = of-key;
-                applies = (o.says n within).1 (subst (λ r. Applies (terms_of r) n) is h.applies);
-                least = λ s listed applies. omega (arith, ap (λ (u : Terms B). letter u.letter) (only-record s listed));
-              };
-              body = o.has ∙ ap Some (ap (λ (r : Permanent B). r.body) (sym is) ∙ h.body);
-            },
-      );
-    };
-  }
-
-pub key-of-one : {E K B : Type 0} (key : E → K) (terms : E → Terms B) (es : List E) (k : K) (members : List ℕ) → 1 ≤ length members
-    → length members < 2 → ArePositionsOf (keyed key terms es) k members → (e : E) → get_or members 0 0 < length es
-    → e ≡ get_or es (get_or members 0 0) e → (window : Window) (run : Run) → IsOnlyRun (terms e) (get_or members 0 0) window run
-    → (form : Form) → AreRunsOfKey form window (keyed key terms es) k (run ∷ [])
-key-of-one key terms es k members some few p e below is window run o =
-    let i : ℕ = get_or members 0 0 in
-    let (t, at) = p.found i (Contains-get_or members 0 0 some) in
-    let there : slice_get es (get_or members 0 0) ≡ Some e = slice_get-get_or es i e below ∙ ap Some (sym is) in
-    let same : terms e ≡ t = same_Some (terms e) t
-    (sym (slice_get-map terms es i ∙ ap (option_map terms) there) ∙ terms_at-keyed key terms es i k t at) in
-    key-alone (keyed key terms es) k members p i (one-member members few) window t at run
-    (subst (λ u. IsOnlyRun u i window run) same o)

@@ -18,7 +18,7 @@ use crate::turns::{CopiedKey, count_of_first_key, positions_by_key};
 use cif_calendar::{CalendarFault, Entry, Piece, Window, calendar_in_room};
 use cif_columns::Day;
 use cif_extract::{Clash, Extract, Fault};
-use cif_weeks::{Form, Run, only_run, runs_in_room};
+use cif_weeks::{Form, Run, runs_in_room, runs_of_few};
 use std::alloc::{AllocError, Global};
 
 /// The runs of an extract's canonical records in a form, by kind, each rising by key and first date.
@@ -160,30 +160,6 @@ struct KeyRoom {
     runs: Vec<Run>,
 }
 
-/// The only run of a key with one record, where `only_run` finds it.
-fn run_of_one_member<E: Entry>(entries: &[E], members: &[usize], window: &Window) -> Option<Run>
-    requires { All (λ i. i < length entries.now) members.now }
-    ensures { IfSome result (λ run. (k : E.Key) (form : AForm) →
-        ArePositionsOf (keyed E.key E.terms entries.now) k members.now →
-        AreRunsOfKey form (window_from window.now.first window.now.last)
-        (keyed E.key E.terms entries.now) k (run ∷ [])) }
-{
-    match members {
-        [only] => only_run(&entries[*only], *only, *window),
-        _ => None,
-    }
-}
-
-/// The run alone, in the memory of runs that are no longer needed.
-fn alone_in_room(room: Vec<Run>, run: Run) -> Result<Vec<Run>, AllocError>
-    ensures { IfOk result (λ runs. runs.items ≡ run ∷ []) }
-{
-    let mut runs = room;
-    runs.clear();
-    runs.push(run)?;
-    Ok(runs)
-}
-
 /// The runs of one key's canonical records, in the room of another key's. The key's entries are at
 /// `members`.
 fn runs_of_key<E: Entry>(
@@ -204,17 +180,17 @@ fn runs_of_key<E: Entry>(
         IsKeyFault (window_from window.now.first window.now.last)
         (keyed E.key E.terms entries.now) members.now k fault) }
 {
-    if let Some(run) = run_of_one_member(entries, members, window) {
-        return Ok(KeyRoom {
-            pieces: room.pieces,
-            runs: alone_in_room(room.runs, run)?,
-        });
+    let KeyRoom { pieces, runs } = room;
+    let mut runs = runs;
+    let are_made = runs_of_few(&mut runs, entries, members, window, form)?;
+    if are_made {
+        return Ok(KeyRoom { pieces, runs });
     }
-    let calendar = match calendar_in_room(room.pieces, entries, members, *window) {
+    let calendar = match calendar_in_room(pieces, entries, members, *window) {
         Ok(calendar) => calendar,
         Err(fault) => return Err(fault_of(fault, members[0])),
     };
-    let runs = runs_in_room(room.runs, entries, &calendar, form)?;
+    let runs = runs_in_room(runs, entries, &calendar, form)?;
     Ok(KeyRoom {
         pieces: calendar.into_room(),
         runs,

@@ -1,15 +1,16 @@
 -- The runs over the weekdays of a week, over the weeks that are like it, and over all weeks of the window.
-use Rattle.std.proofs.Common.{◌≡◌, ℕ, zero, suc, ◌+◌, ◌*◌, ◌<◌, ◌≤◌, List, [], ◌∷◌, ◌++◌, Some, length, get_or}
+use Rattle.std.proofs.Common.{◌≡◌, ℕ, suc, ◌+◌, ◌*◌, ◌<◌, ◌≤◌, List, [], ◌∷◌, ◌++◌, Some, length, get_or}
 use Rattle.std.proofs.Common.{arith, refl, sym, ◌∙◌, ap, subst, inl, length-append, ⊎_elim}
-use Rattle.std.specs.Prelude.{Contains, slice_get}
+use Rattle.std.specs.Prelude.{AllPairs, Contains, slice_get}
 use Rattle.std.specs.List.{AllZip}
 use Rattle.std.proofs.lemmas.Bool.{cases_lt}
-use Rattle.std.proofs.lemmas.Option.{same_Some, slice_get_within, slice_get-get_or, get_or_from_slice_get}
+use Rattle.std.proofs.lemmas.Option.{same_Some, slice_get_within, slice_get-get_or}
 use Rattle.cif_columns.specs.Day.{week_of, weekday_of}
 use Rattle.cif_columns.specs.DaysRun.{RunsOn, IsFirstOf}
 use Rattle.cif_calendar.specs.Terms.{Terms}
 use Rattle.cif_calendar.specs.Source.{body_at}
 use Rattle.cif_calendar.specs.Calendar.{CalendarParts, body_on}
+use Rattle.cif_calendar.proofs.Positions.{at-contains, contains-at}
 use Rattle.cif_weeks.specs.declared.form.Form.{Form}
 use Rattle.cif_weeks.specs.declared.run.Run.{Run}
 use Rattle.cif_weeks.specs.declared.week.Week.{Week}
@@ -26,7 +27,8 @@ use Rattle.cif_weeks.proofs.Growth.{body-source, inside}
 use Rattle.cif_weeks.proofs.OpenRuns.{open-upto}
 use Rattle.cif_weeks.proofs.WeekBodies.{one-first}
 use Rattle.cif_weeks.proofs.Grown.{grown_aligned, grown_applies, grown_change, grown_runs}
-use Rattle.cif_weeks.proofs.Meeting.{meets}
+use Rattle.cif_weeks.proofs.JoinedLists.{zip-at, zip-back}
+use Rattle.cif_weeks.proofs.Meeting.{MeetsInOrder, have_form, say}
 use Rattle.cif_weeks.proofs.SourcesIn.{source_in-inside, source_in-within}
 
 pub places-none : {B : Type 0} (xs : List (Terms B)) (c : CalendarParts) (days : ℕ → Type 0) (next : ℕ) (runs : List Run)
@@ -315,15 +317,16 @@ module _ {B : Type 0} (form : Form) (xs : List (Terms B)) (c : CalendarParts) (s
     }
 
   -- in the window what runs is what the calendar says
-  on-window : (records : List (Permanent B)) → Meets form (window_of c) (body_in xs c) records →
-      Meets form (window_of c) (body_on xs c) records
-  on-window records m = record {
-    rising = m.rising;
-    have_form = m.have_form;
+  on-window : (records : List (Permanent B)) → AllPairs (λ r s. r.first < s.first) records →
+      MeetsInOrder form (window_of c) (runs_in xs c) records → Meets form (window_of c) (body_on xs c) records
+  on-window records rising m = record {
+    rising = rising;
+    have_form = have_form form (window_of c) (runs_in xs c) records m;
     say = record {
       says = λ n b within.
           let same : body_in xs c n ≡ body_on xs c n = ap (body_at xs) (source_in-within c n within.from within.upto) in
-          (λ runs. (m.say.says n b within).0 (same ∙ runs), λ has. sym same ∙ (m.say.says n b within).1 has);
+          let says = say form (window_of c) (runs_in xs c) records m n b within in
+          (λ runs. says.0 (same ∙ runs), λ has. sym same ∙ says.1 has);
     };
   }
 
@@ -342,22 +345,6 @@ module _ {B : Type 0} (form : Form) (xs : List (Terms B)) (c : CalendarParts) (s
         body = o.has;
       } in
       (record_of run o.body ∷ records, (first, zip))
-
-  run-at : (runs : List Run) (records : List (Permanent B)) → AllZip (IsRunOf xs c) runs records → (k : ℕ) (r : Permanent B) →
-      slice_get records k ≡ Some r → (run : Run) × (slice_get runs k ≡ Some run) × IsRunOf xs c run r
-  run-at [] [] zip k r at = absurd (cc)
-  run-at [] (s ∷ records) zip k r at = absurd zip
-  run-at (run ∷ runs) [] zip k r at = absurd zip
-  run-at (run ∷ runs) (s ∷ records) zip zero r at = (run, refl, subst (λ v. IsRunOf xs c run v) (same_Some s r at) zip.0)
-  run-at (run ∷ runs) (s ∷ records) zip (suc k) r at = run-at runs records zip.1 k r at
-
-  record-at : (runs : List Run) (records : List (Permanent B)) → AllZip (IsRunOf xs c) runs records → (k : ℕ) (run : Run) →
-      slice_get runs k ≡ Some run → (r : Permanent B) × (slice_get records k ≡ Some r) × IsRunOf xs c run r
-  record-at [] [] zip k run at = absurd (cc)
-  record-at [] (s ∷ records) zip k run at = absurd zip
-  record-at (r ∷ runs) [] zip k run at = absurd zip
-  record-at (r ∷ runs) (s ∷ records) zip zero run at = (s, refl, subst (λ v. IsRunOf xs c v s) (same_Some r run at) zip.0)
-  record-at (r ∷ runs) (s ∷ records) zip (suc k) run at = record-at runs records zip.1 k run at
 
   module _ (week last : ℕ) (runs : List Run) (over : (n : ℕ) (b : B) → body_in xs c n ≡ Some b → week_of n < week)
       (u : AreOpen form xs c week last (week * 7) runs) (records : List (Permanent B)) (zipped : AllZip (IsRunOf xs c) runs records)
@@ -388,10 +375,12 @@ module _ {B : Type 0} (form : Form) (xs : List (Terms B)) (c : CalendarParts) (s
           }
 
       stands : (k : ℕ) (r : Permanent B) → slice_get records k ≡ Some r → Stands k r
-      stands k r at = let (run, at_run, i) = run-at runs records zipped k r at in stands-of k run at_run r i
+      stands k r at =
+          let (run, at_run, i) = zip-at (λ s run. IsRunOf xs c run s) records runs (zip-back (IsRunOf xs c) runs records zipped) k r at in
+          stands-of k run at_run r i
 
       stands-in : (r : Permanent B) → Contains records r → (k : ℕ) × Stands k r
-      stands-in r (k, below, is) = (k, stands k r (slice_get-get_or records k r below ∙ ap Some is))
+      stands-in r listed = let (k, at) = at-contains records r listed in (k, stands k r at)
 
       before-dates : (j k : ℕ) (r s : Permanent B) → j < k → slice_get records j ≡ Some r → slice_get records k ≡ Some s →
           (r.first < s.first) × (r.body ≡ s.body → week_of r.last < week_of s.first)
@@ -410,42 +399,44 @@ module _ {B : Type 0} (form : Form) (xs : List (Terms B)) (c : CalendarParts) (s
       canonical = record {
         records = records;
         runs_of = zipped;
-        meets = on-window records (meets form (window_of c) (body_in xs c) records (record {
-          rising = λ i j d less below.
-              (before-dates i j (get_or records i d) (get_or records j d) less
-              (slice_get-get_or records i d (omega arith)) (slice_get-get_or records j d below)).0;
-          aligned = λ k d below.
-              let r = get_or records k d in
-              grown_aligned (window_of c) (runs_in xs c r.body) (inside xs c sources r.body) form r
-              (stands k r (slice_get-get_or records k d below)).grown;
-          apart = λ i j d less below same.
-              let r = get_or records i d in
-              let s = get_or records j d in
-              let at_i = slice_get-get_or records i d (omega arith) in
-              let at_j = slice_get-get_or records j d below in
-              let h = stands i r at_i in
-              let l = stands j s at_j in
-              record {
-                before = (before-dates i j r s less at_i at_j).1 same;
-                change = λ next. grown_change (window_of c) (runs_in xs c r.body) (inside xs c sources r.body) form r s h.grown
-                    (h.ended s.first next (l.grown.first_runs ∙ ap Some (sym same)))
-                    (subst (λ b. IsGrown form (window_of c) (runs_in xs c b) s) (sym same) l.grown) next;
-              };
-          complete = λ n b within runs_n.
-              let h = u.complete n b (let o : week_of n < week = over n b runs_n in omega arith) runs_n in
-              let (r, at, i) = record-at runs records zipped h.place h.run h.at in
-              let s = stands-of h.place h.run h.at r i in
-              let first_r : r.first ≡ h.run.first = ap (λ (v : Permanent B). v.first) i.dates in
-              let last_r : r.last ≡ h.run.last = ap (λ (v : Permanent B). v.last) i.dates in
-              let body : r.body ≡ b = same_Some r.body b (sym i.body ∙ h.has) in (
-                r,
-                (h.place, slice_get_within records h.place r at, get_or_from_slice_get records h.place r r at),
-                grown_applies (window_of c) (runs_in xs c r.body) (inside xs c sources r.body) form r s.grown n (omega (arith, h.from))
-                    (omega (arith, h.upto)) (runs_n ∙ ap Some (sym body)),
-              );
-          sound = λ n r listed on.
-              grown_runs (window_of c) (runs_in xs c r.body) (inside xs c sources r.body) form r (stands-in r listed).1.grown n on;
-        }));
+        meets = on-window records
+            (λ i j d less below.
+            (before-dates i j (get_or records i d) (get_or records j d) less
+            (slice_get-get_or records i d (omega arith)) (slice_get-get_or records j d below)).0)
+            (record {
+              one_body = λ n b d one other. same_Some b d (sym one ∙ other);
+              aligned = λ r listed.
+                  grown_aligned (window_of c) (runs_in xs c r.body) (inside xs c sources r.body) form r (stands-in r listed).1.grown;
+              apart = λ i j d less below same.
+                  let r = get_or records i d in
+                  let s = get_or records j d in
+                  let at_i = slice_get-get_or records i d (omega arith) in
+                  let at_j = slice_get-get_or records j d below in
+                  let h = stands i r at_i in
+                  let l = stands j s at_j in
+                  record {
+                    before = (before-dates i j r s less at_i at_j).1 same;
+                    change = λ next. grown_change (window_of c) (runs_in xs c r.body) (inside xs c sources r.body) form r s h.grown
+                        (h.ended s.first next (l.grown.first_runs ∙ ap Some (sym same)))
+                        (subst (λ b. IsGrown form (window_of c) (runs_in xs c b) s) (sym same) l.grown) next;
+                  };
+              complete = λ n b within runs_n.
+                  let h = u.complete n b (let o : week_of n < week = over n b runs_n in omega arith) runs_n in
+                  let (r, at, i) = zip-at (IsRunOf xs c) runs records zipped h.place h.run h.at in
+                  let s = stands-of h.place h.run h.at r i in
+                  let first_r : r.first ≡ h.run.first = ap (λ (v : Permanent B). v.first) i.dates in
+                  let last_r : r.last ≡ h.run.last = ap (λ (v : Permanent B). v.last) i.dates in
+                  let body : r.body ≡ b = same_Some r.body b (sym i.body ∙ h.has) in
+                  record {
+                    it = r;
+                    listed = contains-at records h.place r at;
+                    applies = grown_applies (window_of c) (runs_in xs c r.body) (inside xs c sources r.body) form r s.grown n
+                        (omega (arith, h.from)) (omega (arith, h.upto)) (runs_n ∙ ap Some (sym body));
+                    body = body;
+                  };
+              sound = λ n r listed on.
+                  grown_runs (window_of c) (runs_in xs c r.body) (inside xs c sources r.body) form r (stands-in r listed).1.grown n on;
+            });
       }
 
   -- after the last week with a source they are the canonical runs

@@ -1,9 +1,10 @@
 -- Lists that are joined, and lists that are mapped.
-use Rattle.std.proofs.Common.{◌≡◌, zero, suc, ◌<◌, List, [], ◌∷◌, ◌++◌, map, length, get_or, refl, ap, arith}
-use Rattle.std.specs.Prelude.{AllPairs, Contains}
+use Rattle.std.proofs.Common.{◌≡◌, ℕ, zero, suc, ◌<◌, List, [], ◌∷◌, ◌++◌, Some, map, length, get_or, refl, ap, subst, arith}
+use Rattle.std.specs.Prelude.{AllPairs, Contains, slice_get}
 use Rattle.std.specs.List.{AllZip}
 use Rattle.std.proofs.lemmas.List.Elements.{All-append, All-map, Contains-get_or}
 use Rattle.std.proofs.lemmas.List.Kept.{AllPairs-cons}
+use Rattle.std.proofs.lemmas.Option.{same_Some}
 
 module _ {X Y : Type 0} (f : X → Y) where
   -- the members of a list that is mapped
@@ -43,3 +44,18 @@ AllZip-append R [] us [] vs h k = k
 AllZip-append R [] us (y ∷ ys) vs h k = absurd h
 AllZip-append R (x ∷ xs) us [] vs h k = absurd h
 AllZip-append R (x ∷ xs) us (y ∷ ys) vs h k = (h.0, AllZip-append R xs us ys vs h.1 k)
+
+-- lists that go together, the other way round
+pub zip-back : {X Y : Type 0} (R : X → Y → Type 0) (us : List X) (vs : List Y) → AllZip R us vs → AllZip (λ v u. R u v) vs us
+zip-back R [] [] z = tt
+zip-back R [] (v ∷ vs) z = absurd z
+zip-back R (u ∷ us) [] z = absurd z
+zip-back R (u ∷ us) (v ∷ vs) z = (z.0, zip-back R us vs z.1)
+
+-- what goes with the item at a place
+pub zip-at : {X Y : Type 0} (R : X → Y → Type 0) (us : List X) (vs : List Y) → AllZip R us vs → (k : ℕ) (u : X) →
+    slice_get us k ≡ Some u → (v : Y) × (slice_get vs k ≡ Some v) × R u v
+zip-at R [] vs z k u at = absurd (cc)
+zip-at R (w ∷ us) [] z k u at = absurd z
+zip-at R (w ∷ us) (v ∷ vs) z zero u at = (v, refl, subst (λ x. R x v) (same_Some w u at) z.0)
+zip-at R (w ∷ us) (v ∷ vs) z (suc k) u at = zip-at R us vs z.1 k u at

@@ -7,13 +7,13 @@ pub mod Jump
 pub mod KeyByKey
 pub mod Masks
 pub mod Meeting
-pub mod OnlyRun
 pub mod PermanentEntries
 pub mod RisingLists
 pub mod Separate
 pub mod Unique
 pub mod UniqueByKey
 pub mod WeekDays
+pub mod Spans
 pub mod SourcesIn
 pub mod AlikeWeeks
 pub mod AgreedDays
@@ -24,3 +24,6 @@ pub mod AllWeeks
 pub mod CalendarSources
 pub mod WeekBodies
 pub mod JoinedWeeks
+pub mod BodyRuns
+pub mod MemberRuns
+pub mod SpanRuns

@@ -3,7 +3,7 @@ pub mod Applies
 pub mod Canonical
 pub mod HaveForm
 pub mod Meets
-pub mod OnlyRun
+pub mod MemberRuns
 pub mod Permanent
 pub mod Runs
 pub mod Separate

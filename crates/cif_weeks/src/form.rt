@@ -2,10 +2,10 @@
 
 ghost use Rattle.std.specs.Prelude.{◌≡◌, ◌<◌, ◌≤◌, ◌+◌, ◌↔◌, ℕ, IsTrue, MatchBool};
 ghost use Rattle.cif_columns.specs.Day.{week_of, weekday_of};
-ghost use Rattle.cif_weeks.specs.Runs.{window_of};
 ghost use Rattle.cif_weeks.specs.Steps.WeekMasks.{Counts, MasksAgree, MasksDiffer};
+ghost use Rattle.cif_weeks.specs.Window.{window_from};
 
-use cif_calendar::{Calendar, Window};
+use cif_calendar::Window;
 use cif_columns::{DAYS_IN_WEEK, DaysRun};
 
 /// How the dates on which a body runs are written as records.
@@ -27,10 +27,10 @@ pub enum Form {
 }
 
 /// Whether the dates of a weekday in the week before `next` and in this one lie in the window.
-fn lie_in_window(window: Window, next: u32, weekday: u8) -> bool
+fn lie_in_window(window: &Window, next: u32, weekday: u8) -> bool
     requires { weekday < 7 }
     ensures { IsTrue result ↔ ((n : ℕ) × (week_of n ≡ next) × (weekday_of n ≡ weekday)
-        × (window.first + 7 ≤ n) × (n ≤ window.last)) }
+        × (window.now.first + 7 ≤ n) × (n ≤ window.now.last)) }
 {
     let day = u64::from(next) * u64::from(DAYS_IN_WEEK) + u64::from(weekday);
     let first = window.first.days_since_first_monday() + DAYS_IN_WEEK;
@@ -39,46 +39,34 @@ fn lie_in_window(window: Window, next: u32, weekday: u8) -> bool
 
 /// Whether the week before `next` and this one have to agree on a weekday: in form 1 always, and in
 /// form 2 where its dates in both lie in the window.
-fn counts(form: Form, calendar: &Calendar, next: u32, weekday: u8) -> bool
+fn counts(form: Form, window: &Window, next: u32, weekday: u8) -> bool
     requires { weekday < 7 }
     ensures { (week : ℕ) → week + 1 ≡ next →
-        IsTrue result ↔ Counts form (window_of calendar.now) week weekday }
+        IsTrue result ↔ Counts form (window_from window.now.first window.now.last) week weekday }
 {
     match form {
         Form::One => true,
-        Form::Two => lie_in_window(calendar.window(), next, weekday),
+        Form::Two => lie_in_window(window, next, weekday),
     }
 }
 
 /// Whether the masks of the week before `next` and of this one agree where they have to.
-pub(crate) fn agree(
-    form: Form,
-    calendar: &Calendar,
-    next: u32,
-    before: DaysRun,
-    days: DaysRun,
-) -> bool
+pub(crate) fn agree(form: Form, window: &Window, next: u32, before: DaysRun, days: DaysRun) -> bool
     ensures { (week : ℕ) → week + 1 ≡ next → MatchBool result
-        (MasksAgree form (window_of calendar.now) week before days)
-        (MasksDiffer form (window_of calendar.now) week before days) }
+        (MasksAgree form (window_from window.now.first window.now.last) week before days)
+        (MasksDiffer form (window_from window.now.first window.now.last) week before days) }
 {
-    before.is(days) || agree_by_weekday(form, calendar, next, before, days)
+    before.is(days) || agree_by_weekday(form, window, next, before, days)
 }
 
 /// The same, weekday by weekday.
-fn agree_by_weekday(
-    form: Form,
-    calendar: &Calendar,
-    next: u32,
-    before: DaysRun,
-    days: DaysRun,
-) -> bool
+fn agree_by_weekday(form: Form, window: &Window, next: u32, before: DaysRun, days: DaysRun) -> bool
     ensures { (week : ℕ) → week + 1 ≡ next → MatchBool result
-        (MasksAgree form (window_of calendar.now) week before days)
-        (MasksDiffer form (window_of calendar.now) week before days) }
+        (MasksAgree form (window_from window.now.first window.now.last) week before days)
+        (MasksDiffer form (window_from window.now.first window.now.last) week before days) }
 {
     for weekday in 0..7u8 {
-        if before.has(weekday) != days.has(weekday) && counts(form, calendar, next, weekday) {
+        if before.has(weekday) != days.has(weekday) && counts(form, window, next, weekday) {
             return false;
         }
     }

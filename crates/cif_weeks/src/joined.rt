@@ -39,10 +39,11 @@ fn goes_on<E: Entry>(
         (JoinNone form (map E.terms entries.now) calendar.now week source days runs.now places.now)
         (Joins form (map E.terms entries.now) calendar.now week source days runs.now places.now) }
 {
+    let window = calendar.window();
     for place in places {
         let run = &runs[*place];
         if have_one_body(entries, run.source, source)
-            && agree(form, calendar, week, run.days, days)
+            && agree(form, &window, week, run.days, days)
         {
             return Some(*place);
         }
@@ -51,7 +52,7 @@ fn goes_on<E: Entry>(
 }
 
 /// The day of the week, which a date of the window has.
-fn day_of(week: u32, weekday: u8) -> Day
+pub(crate) fn day_of(week: u32, weekday: u8) -> Day
     requires weekday { weekday < 7 }
     requires in_range { (n : ℕ) × (n + 4 ≡ week * 7 + weekday) × IsDay n }
     ensures { result + 4 ≡ week * 7 + weekday }

@@ -2,12 +2,15 @@
 //! runs on each day determines them.
 #![tactic(auto)]
 
+mod few;
 mod form;
 mod joined;
 pub mod laws;
 mod run;
+mod span;
 mod week;
 
+pub use few::runs_of_few;
 pub use form::Form;
 pub use joined::{runs, runs_in_room};
-pub use run::{Run, only_run};
+pub use run::Run;

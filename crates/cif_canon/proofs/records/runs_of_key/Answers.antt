@@ -1,7 +1,15 @@
--- Whichever key has these positions: a fault of the calendar is one of that key (`key_fault`), its runs the key's records.
+-- Whichever key has these positions: a fault of the calendar is one of that key (`key_fault`), and the runs of its members, found with
+-- or without a calendar, are the key's (`members-records`, `key-records`).
 use Rattle.std.proofs.lemmas.List.Elements.{Contains-get_or}
-use Rattle.cif_canon.proofs.KeyRecords.{key-records, key_fault}
+use Rattle.cif_weeks.specs.Window.{window_from}
+use Rattle.cif_canon.proofs.KeyRecords.{key-records, key_fault, members-records}
 use Rattle.cif_canon.proofs.records.runs_of_key.Goals as goal
+
+pub returns-then-are_made-clause-runs : goal.returns-then-are_made-clause-runs
+returns-then-are_made-clause-runs g c k p =
+    members-records g.E.Entry.key g.E.Entry.terms c.args.entries.now k c.args.members.now p c.args.form
+    (window_from c.args.window.now.first c.args.window.now.last) c.runs_of_few.new.runs.items
+    (c.in_ok-are_made.ensures c.if-are_made.true)
 
 pub returns-in-Err-clause-fault : goal.returns-in-Err-clause-fault
 returns-in-Err-clause-fault g c = rw c.fault_of.ensures (λ k p.

@@ -5,7 +5,7 @@ use Rattle.cif_weeks.proofs.form.lie_in_window.Goals as goal
 
 pub returns-then-from-day : goal.returns-then-from-day
 returns-then-from-day c =
-    let w = c.args.window in
+    let w = c.args.window.now in
     let upto : c.from-then-from-day.result ≡ w.last + 4 =
     omega (arith, c.from-then-from-day.ensures, c.days_since_first_monday.ensures.value) in
     let told = rw (c.from.ensures, c.from-2.ensures, c.from-3.ensures) at c.if-from-day.true in

@@ -61,7 +61,7 @@ returns-then-agree g c =
       listed = listed;
       at = at ∙ ap Some (sym (get_or_from_slice_get c.args.runs.now p run c.index-runs-place.result at) ∙ sym c.index-runs-place.is);
       same = c.have_one_body.ensures.0 c.if-have_one_body.true;
-      agree = λ earlier next. c.if-agree.ensures earlier next;
+      agree = λ earlier next. rw (c.window-window.ensures.first, c.window-window.ensures.last) at c.if-agree.ensures earlier next;
     }
 
 pub loop-place-preserved : goal.loop-place-preserved
@@ -78,7 +78,7 @@ loop-place-preserved g c =
     elim c.else-have_one_body.branch [
       | else-have_one_body-via-then-have_one_body+else-agree v ↦
           subst (λ (r : Run). MasksDiffer c.args.form (window_of c.args.calendar.now) earlier r.days c.args.days) (sym read)
-          (v.if-agree.ensures earlier next)
+          (rw (c.window-window.ensures.first, c.window-window.ensures.last) at v.if-agree.ensures earlier next)
       | else-have_one_body-via-else-have_one_body v ↦
           absurd (false≢true (sym v.if-have_one_body.false ∙ c.have_one_body.ensures.1
           (subst (λ (r : Run). HaveOneBody xs r.source c.args.source) read same)))

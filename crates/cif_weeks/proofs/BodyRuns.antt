@@ -1,0 +1,229 @@
+-- The runs of one body, week by week: weeks without a day of it, a run that begins, and one that goes on.
+use Rattle.std.proofs.Common.{◌≡◌, ◌⊎◌, ℕ, ◌+◌, ◌-◌, ◌*◌, ◌<◌, ◌≤◌, Bool, List, [], ◌∷◌, ◌++◌, Option, None, Some}
+use Rattle.std.proofs.Common.{length, refl, sym, ◌∙◌, ap, subst, arith, ⊎_elim, append_assoc}
+use Rattle.std.specs.Prelude.{◌↔◌, reverse}
+use Rattle.std.proofs.lemmas.List.{append-nil, reverse-append, reverse-reverse}
+use Rattle.std.proofs.lemmas.Bool.{cases_lt}
+use Rattle.cif_columns.specs.Day.{IsDay, week_of, weekday_of}
+use Rattle.cif_columns.specs.DaysRun.{RunsOn, IsFirstOf, IsLastOf}
+use Rattle.cif_weeks.specs.declared.form.Form.{Form}
+use Rattle.cif_weeks.specs.declared.run.Run.{Run}
+use Rattle.cif_weeks.specs.declared.span.Span.{Span}
+use Rattle.cif_weeks.specs.declared.span.Weeks.{Weeks}
+use Rattle.cif_weeks.specs.Permanent.{Permanent}
+use Rattle.cif_weeks.specs.Window.{Window, IsWithin}
+use Rattle.cif_weeks.specs.Steps.BodyRuns.{AreBodyRuns, AreGrownTo, AreRunsOfBody, BreaksBefore, IsLatest, dates_of}
+use Rattle.cif_weeks.specs.Steps.Growing.{IsGrown}
+use Rattle.cif_weeks.specs.Steps.Spans.{HaveOneMask, IsAgreed, Shows}
+use Rattle.cif_weeks.specs.Steps.WeekMasks.{IsLastDay, IsMask, MasksAgree, MasksDiffer}
+use Rattle.cif_weeks.proofs.Ended.{breaks_differ}
+use Rattle.cif_weeks.proofs.Growing.{grown_start, grown_more}
+use Rattle.cif_weeks.proofs.Jump.{grown_jump}
+use Rattle.cif_weeks.proofs.WeekDays.{RunsOn-below}
+
+module _ (form : Form) (window : Window) (on : ℕ → Type 0) (source : ℕ) where
+  -- weeks more, without a day
+  pub body-idle : (limit later : ℕ) (runs : List Run) → limit ≤ later → ((n : ℕ) → limit ≤ week_of n → week_of n < later → ¬ on n) →
+      AreBodyRuns form window on source limit runs → AreBodyRuns form window on source later runs
+  body-idle limit later [] upto none before = λ n less. ⊎_elim
+      (λ sooner. before n sooner)
+      (λ from. none n from less)
+      (cases_lt (week_of n) limit)
+  body-idle limit later (run ∷ runs) upto none (latest, breaks, before) = (
+    record {
+      grown = latest.grown;
+      source_is = latest.source_is;
+      upto = omega (arith, latest.upto);
+      none_after = λ n after less. ⊎_elim
+          (λ sooner. latest.none_after n after sooner)
+          (λ from. none n from less)
+          (cases_lt (week_of n) limit);
+    },
+    breaks,
+    before,
+  )
+
+  pub grown-idle : (limit later : ℕ) (old runs : List Run) (growing : Option Run) → limit ≤ later →
+      ((n : ℕ) → limit ≤ week_of n → week_of n < later → ¬ on n) → AreGrownTo form window on source limit old runs growing →
+      AreGrownTo form window on source later old runs growing
+  grown-idle limit later old runs None upto none (are, before) = (are, body-idle limit later [] upto none before)
+  grown-idle limit later old runs (Some run) upto none (before, are, body) =
+      (before, are, body-idle limit later (run ∷ before) upto none body)
+
+  -- what is before a run doesn't depend on how it ends
+  pub breaks-first : (run other : Run) (before : List Run) → run.first ≡ other.first → BreaksBefore form window on run before →
+      BreaksBefore form window on other before
+  breaks-first run other [] same breaks = tt
+  breaks-first run other (last ∷ before) same breaks = λ next. breaks (ap week_of same ∙ next)
+
+  module _ (inside : (n : ℕ) → on n → IsWithin window n) where
+    -- weeks that have one mask, with the first weekday f and the last one l
+    module _ (week until : ℕ) (it : Weeks) (h : HaveOneMask on week until it) (f l : ℕ) (is_first : IsFirstOf it.days f)
+        (is_last : IsLastOf it.days l) where
+      abbrev days : List Bool
+      days = it.days
+
+      abbrev last : ℕ
+      last = it.last
+
+      masks : (v : ℕ) → week ≤ v → v ≤ last → IsMask on v days
+      masks v from upto = h.masks v from upto
+
+      here : IsMask on week days
+      here = masks week (omega arith) h.from
+
+      below : (w : ℕ) → RunsOn days w → w < 7
+      below w runs = RunsOn-below days w here.seven runs
+
+      -- the days with which they begin and end are days of the window
+      pub first-date : IsDay window.last → (n : ℕ) × (n + 4 ≡ week * 7 + f) × IsDay n
+      first-date is_day =
+          let (n, at, day, is) = here.only f is_first.runs in
+          let within = inside n is in
+          (n, omega arith, omega (arith, is_day, within.upto))
+
+      pub last-date : IsDay window.last → (n : ℕ) × (n + 4 ≡ last * 7 + l) × IsDay n
+      last-date is_day =
+          let (n, at, day, is) = (masks last h.from (omega arith)).only l is_last.runs in
+          let within = inside n is in
+          (n, omega arith, omega (arith, is_day, within.upto))
+
+      module _ (end : ℕ) (end_at : end + 4 ≡ last * 7 + l) where
+        -- the last day of the first of the weeks
+        week-end : (n : ℕ) × IsLastDay week days n × (end ≡ n + 7 * (last - week))
+        week-end =
+            let (n, at, day, is) = here.only l is_last.runs in
+            let l_below = below l is_last.runs in (
+              n,
+              record {
+                in_week = at;
+                runs = subst (RunsOn days) (sym day) is_last.runs;
+                latest = λ m at_m runs. ⊎_elim
+                    (λ after. absurd (is_last.none_after (weekday_of m) (omega arith) runs))
+                    (λ h. h)
+                    (cases_lt n m);
+              },
+              omega arith,
+            )
+
+        grown-on : {B : Type 0} (r : Permanent B) → (n : ℕ) → end ≡ n + 7 * (last - week) → week_of n ≡ week →
+            IsGrown form window on (record { first = r.first; last = n; days = r.days; body = r.body }) →
+            IsGrown form window on (record { first = r.first; last = end; days = r.days; body = r.body })
+        grown-on r n is at grown =
+            subst (λ v. IsGrown form window on (record { first = r.first; last = v; days = r.days; body = r.body })) (sym is)
+            (grown_jump window on inside form (record { first = r.first; last = n; days = r.days; body = r.body }) week (last - week) days
+            at grown (λ v from to. masks v from (omega arith)))
+
+        latest-of : (run : Run) → run.last ≡ end → run.source ≡ source → IsGrown form window on (dates_of run) →
+            IsLatest form window on source (last + 1) run
+        latest-of run is source_is grown =
+            let l_below = below l is_last.runs in
+            record {
+              grown = grown;
+              source_is = source_is;
+              upto = omega arith;
+              none_after = λ n after less. absurd (omega arith);
+            }
+
+        -- a run that begins with these weeks
+        new-grown : (first : ℕ) → first + 4 ≡ week * 7 + f →
+            IsGrown form window on (record { first = first; last = end; days = days; body = source })
+        new-grown first first_at =
+            let (n, is_end, is) = week-end in
+            let (m, at, day, on_m) = here.only f is_first.runs in
+            let same : m ≡ first = omega arith in
+            let begins : week_of first ≡ week = omega (arith, below f is_first.runs) in
+            grown-on (record { first = first; last = n; days = days; body = source }) n is is_end.in_week
+            (grown_start window on inside form (record { first = first; last = n; days = days; body = source })
+            (subst (λ v. IsMask on v days) (sym begins) here) (subst (λ v. IsLastDay v days n) (sym begins) is_end)
+            (subst on same on_m)
+            (λ i at_i on_i. ⊎_elim
+            (λ before. absurd (is_first.none_before (weekday_of i) (omega arith) (here.shows i (at_i ∙ begins) on_i)))
+            (λ h. h)
+            (cases_lt i first)))
+
+        -- a run of the week before that goes on in these weeks
+        longer-grown : (run : Run) (both : List Bool) → IsGrown form window on (dates_of run) → week_of run.last + 1 ≡ week →
+            MasksAgree form window (week_of run.last) run.days days → length both ≡ 7 →
+            ((w : ℕ) → RunsOn both w ↔ (RunsOn run.days w ⊎ RunsOn days w)) →
+            IsGrown form window on (record { first = run.first; last = end; days = both; body = run.source })
+        longer-grown run both grown next agree seven union =
+            let (n, is_end, is) = week-end in
+            grown-on (record { first = run.first; last = n; days = both; body = run.source }) n is is_end.in_week
+            (grown_more window on inside form (dates_of run) (week_of run.last) days both n refl grown
+            (subst (λ v. IsMask on v days) (sym next) here) agree seven union (subst (λ v. IsLastDay v days n) (sym next) is_end))
+
+        -- what is found after these weeks: the run that grows has them, or it is put to the runs, and one begins
+        pub grow-longer : (old runs : List Run) (run : Run) (both : List Bool) → AreGrownTo form window on source week old runs (Some run) →
+            week_of run.last + 1 ≡ week → ((v : ℕ) → v + 1 ≡ week → MasksAgree form window v run.days days) → length both ≡ 7 →
+            ((w : ℕ) → RunsOn both w ↔ (RunsOn run.days w ⊎ RunsOn days w)) →
+            AreGrownTo form window on source (last + 1) old runs
+            (Some (record { first = run.first; last = end; days = both; source = run.source }))
+        grow-longer old runs run both (before, are, (latest, breaks, rest)) next agree seven union =
+            let it : Run = record { first = run.first; last = end; days = both; source = run.source } in (
+              before,
+              are,
+              (
+                latest-of it refl latest.source_is (longer-grown run both latest.grown next (agree (week_of run.last) next) seven union),
+                breaks-first run it before refl breaks,
+                rest,
+              ),
+            )
+
+        module _ (first : ℕ) (first_at : first + 4 ≡ week * 7 + f) where
+          abbrev it-begins : Run
+          it-begins = record { first = first; last = end; days = days; source = source }
+
+          begins-in : week ≡ week_of first
+          begins-in = let f_below = below f is_first.runs in omega arith
+
+          pub grow-first : (old runs : List Run) → AreGrownTo form window on source week old runs None →
+              AreGrownTo form window on source (last + 1) old runs (Some it-begins)
+          grow-first old runs (are, none) = (
+            [],
+            are ∙ sym (append-nil old),
+            (
+              latest-of it-begins refl refl (new-grown first first_at),
+              tt,
+              subst (λ v. AreBodyRuns form window on source v []) begins-in none,
+            ),
+          )
+
+          pub grow-next : (old runs : List Run) (run : Run) → AreGrownTo form window on source week old runs (Some run) →
+              (week_of run.last + 1 ≡ week → MasksDiffer form window (week_of run.last) run.days days) →
+              AreGrownTo form window on source (last + 1) old (runs ++ run ∷ []) (Some it-begins)
+          grow-next old runs run (before, are, (latest, breaks, rest)) differ = (
+            run ∷ before,
+            ap (λ v. v ++ run ∷ []) are ∙ append_assoc old (reverse before) (run ∷ [])
+                ∙ ap (λ v. old ++ v) (sym (reverse-append (run ∷ []) before)),
+            (
+              latest-of it-begins refl refl (new-grown first first_at),
+              λ next.
+                  let adjoins : week_of run.last + 1 ≡ week = sym next ∙ sym begins-in in
+                  breaks_differ window on inside form (dates_of run) days latest.grown
+                  (subst (λ v. IsMask on v days) (sym adjoins) here) (differ adjoins),
+              subst (λ v. AreBodyRuns form window on source v (run ∷ before)) begins-in (latest, breaks, rest),
+            ),
+          )
+
+-- after the last week the run that still grows, if there is one, is put to the runs
+module _ (form : Form) (window : Window) (spans : List Span) (source limit : ℕ) (over : (n : ℕ) → Shows spans source n → week_of n < limit)
+    (agreed : (n : ℕ) → Shows spans source n → IsAgreed spans n) (old runs : List Run) where
+  pub body-none : AreGrownTo form window (Shows spans source) source limit old runs None →
+      (added : List Run) × (runs ≡ old ++ added) × AreRunsOfBody form window spans source added
+  body-none (are, none) =
+      ([], are ∙ sym (append-nil old), record { limit = limit; over = over; body_runs = none; agreed = agreed })
+
+  pub body-put : (run : Run) → AreGrownTo form window (Shows spans source) source limit old runs (Some run) →
+      (added : List Run) × (runs ++ run ∷ [] ≡ old ++ added) × AreRunsOfBody form window spans source added
+  body-put run (before, are, body) = (
+    reverse before ++ run ∷ [],
+    ap (λ v. v ++ run ∷ []) are ∙ append_assoc old (reverse before) (run ∷ []),
+    record {
+      limit = limit;
+      over = over;
+      body_runs = subst (AreBodyRuns form window (Shows spans source) source limit)
+          (sym (reverse-append (reverse before) (run ∷ []) ∙ ap (λ v. run ∷ v) (reverse-reverse before))) body;
+      agreed = agreed;
+    },
+  )

@@ -1,0 +1,189 @@
+-- The runs of few records: those of one source after another.
+use Rattle.std.proofs.Common.{◌≡◌, ◌≢◌, ◌⊎◌, inl, inr, ℕ, ◌+◌, ◌<◌, ◌≤◌, ◌==◌, Bool, false, List, [], ◌∷◌, ◌++◌, reverse, get_or}
+use Rattle.std.proofs.Common.{arith, refl, sym, ◌∙◌, ap, subst, ⊎_elim}
+use Rattle.std.specs.Prelude.{All, AllPairs, Contains, IsPermutation}
+use Rattle.std.specs.List.Sorted.{IsNonDecreasingBy}
+use Rattle.std.proofs.lemmas.Bool.{cases_lt}
+use Rattle.std.proofs.lemmas.Bool.Decides.{nat_tests}
+use Rattle.std.proofs.lemmas.List.Elements.{All-cons, All-contains, Contains-append_cases, Contains-append_left, Contains-append_right}
+use Rattle.std.proofs.lemmas.List.Elements.{Contains-get_or, Contains-push, Contains-push_cases}
+use Rattle.std.proofs.lemmas.List.Kept.{AllPairs-cons}
+use Rattle.std.proofs.lemmas.List.Sorted.{Contains-permutation, IsPermutation-reverse, IsPermutation-sym}
+use Rattle.std.proofs.lemmas.Map.Keys.{IsDistinct-IsPermutation, IsDistinct-from_apart, apart_from_distinct}
+use Rattle.cif_columns.specs.Day.{week_of}
+use Rattle.cif_calendar.proofs.Elements.{Contains-cases, Contains-first, Contains-rest}
+use Rattle.cif_weeks.specs.declared.form.Form.{Form}
+use Rattle.cif_weeks.specs.declared.run.Run.{Run}
+use Rattle.cif_weeks.specs.declared.span.Span.{Span}
+use Rattle.cif_weeks.specs.Window.{Window}
+use Rattle.cif_weeks.specs.Steps.BodyRuns.{AreBodyRuns, AreRunsOfBody, AreRunsOfSpans, EndsBefore, HasBody, HasSource}
+use Rattle.cif_weeks.specs.Steps.BodyRuns.{HasWeekOf, IsLatest, dates_of}
+use Rattle.cif_weeks.specs.Steps.Growing.{IsGrown}
+use Rattle.cif_weeks.specs.Steps.Spans.{IsAgreed, Shows}
+use Rattle.cif_weeks.proofs.JoinedLists.{AllPairs-append}
+use Rattle.cif_weeks.proofs.RisingLists.{AllPairs-members, Contains-none}
+
+-- whether two runs begin on one date
+abbrev begin_together : Run → Run → Bool
+begin_together r s = r.first == s.first
+
+-- The runs are those of these sources, in some order. No two places have runs that begin on one date.
+pub record AreRunsOf (form : Form) (window : Window) (spans : List Span) (sources : ℕ → Type 0) (runs : List Run) : Type 0 where
+  pub each : (run : Run) → Contains runs run → sources run.source × IsGrown form window (Shows spans run.source) (dates_of run)
+  pub once : AllPairs (λ r s. begin_together r s ≡ false) runs
+  pub apart : (r s : Run) → Contains runs r → Contains runs s → r.source ≡ s.source → r.first < s.first →
+      EndsBefore form window (Shows spans r.source) r s
+  pub complete : (i n : ℕ) → sources i → Shows spans i n → HasWeekOf runs i n
+  pub agreed : (i n : ℕ) → sources i → Shows spans i n → IsAgreed spans n
+
+-- a list with the runs of another has their weeks
+has_week : {xs ys : List Run} {i n : ℕ} → ((run : Run) → Contains xs run → Contains ys run) → HasWeekOf xs i n → HasWeekOf ys i n
+has_week also h = record { run = h.run; listed = also h.run h.listed; is = h.is; from = h.from; upto = h.upto }
+
+module _ (form : Form) (window : Window) (spans : List Span) where
+  -- the runs in another order
+  pub runs-permuted : {sources : ℕ → Type 0} {xs ys : List Run} → IsPermutation xs ys → AreRunsOf form window spans sources xs →
+      AreRunsOf form window spans sources ys
+  runs-permuted {xs = xs} {ys = ys} p h =
+      let back : (r : Run) → Contains ys r → Contains xs r = λ r. Contains-permutation ys xs r (IsPermutation-sym xs ys p) in
+      record {
+        each = λ r listed. h.each r (back r listed);
+        once = λ i j d. apart_from_distinct begin_together ys i j d (IsDistinct-IsPermutation begin_together
+            (λ x y. grind (arith, nat_tests)) xs ys p (IsDistinct-from_apart begin_together xs h.once));
+        apart = λ r s in_r in_s. h.apart r s (back r in_r) (back s in_s);
+        complete = λ i n of shows. has_week (λ r. Contains-permutation xs ys r p) (h.complete i n of shows);
+        agreed = h.agreed;
+      }
+
+  module _ (source : ℕ) where
+    -- each run of a body is the latest before some week
+    body_run : (limit : ℕ) (runs : List Run) → AreBodyRuns form window (Shows spans source) source limit runs → (r : Run)
+        → Contains runs r → (week : ℕ) × (week ≤ limit) × IsLatest form window (Shows spans source) source week r
+    body_run limit [] h r listed = absurd (Contains-none r listed)
+    body_run limit (x ∷ xs) (latest, breaks, rest) r listed = ⊎_elim
+        (λ same. (limit, omega arith, subst (λ v. IsLatest form window (Shows spans source) source limit v) same latest))
+        (λ later.
+        let (week, upto, h) = body_run (week_of x.first) xs rest r later in
+        (week, omega (arith, latest.upto, latest.grown.in_order), h))
+        (Contains-cases x xs r listed)
+
+    -- The latest first, each is apart from those before it. Only the last of these can end in the week before it.
+    body_apart : (limit : ℕ) (runs : List Run) → AreBodyRuns form window (Shows spans source) source limit runs →
+        AllPairs (λ s r. EndsBefore form window (Shows spans source) r s) runs
+    body_apart limit [] h = λ i j d less within. absurd (omega arith)
+    body_apart limit (x ∷ []) h = λ i j d less within. absurd (omega arith)
+    body_apart limit (x ∷ y ∷ ys) (latest, breaks, rest) =
+        AllPairs-cons (λ s r. EndsBefore form window (Shows spans source) r s) x (y ∷ ys)
+        (All-cons (λ r. EndsBefore form window (Shows spans source) r x) y ys (record { before = rest.0.upto; breaks = breaks })
+        (λ k d below.
+        let (week, upto, h) = body_run (week_of y.first) ys rest.2 (get_or ys k d) (Contains-get_or ys k d below) in
+        let far : week_of (get_or ys k d).last + 1 < week_of x.first = omega (arith, h.upto, rest.0.upto, rest.0.grown.in_order) in
+        record { before = omega arith; breaks = λ at. absurd (omega arith) }))
+        (body_apart (week_of x.first) (y ∷ ys) rest)
+
+    body_complete : (limit : ℕ) (runs : List Run) → AreBodyRuns form window (Shows spans source) source limit runs → (n : ℕ) →
+        week_of n < limit → Shows spans source n → HasWeekOf runs source n
+    body_complete limit [] h n below shows = absurd (h n below shows)
+    body_complete limit (x ∷ xs) (latest, breaks, rest) n below shows = ⊎_elim
+        (λ later. absurd (latest.none_after n later below shows))
+        (λ upto. ⊎_elim
+        (λ sooner. has_week (Contains-rest x xs) (body_complete (week_of x.first) xs rest n sooner shows))
+        (λ from. record { run = x; listed = Contains-first x xs; is = latest.source_is; from = from; upto = upto })
+        (cases_lt (week_of n) (week_of x.first)))
+        (cases_lt (week_of x.last) (week_of n))
+
+    pub runs-of_body : (added : List Run) → AreRunsOfBody form window spans source added →
+        AreRunsOf form window spans (λ i. source ≡ i) added
+    runs-of_body added h =
+        let xs = reverse added in
+        let run = body_run h.limit xs h.body_runs in
+        let pairs = body_apart h.limit xs h.body_runs in
+        runs-permuted (IsPermutation-sym added xs (IsPermutation-reverse added)) (record {
+          each = λ r listed.
+              let b = (run r listed).2 in
+              (sym b.source_is, subst (λ v. IsGrown form window (Shows spans v) (dates_of r)) (sym b.source_is) b.grown);
+          once = λ i j d less below.
+              let b = (run (get_or xs j d) (Contains-get_or xs j d below)).2 in
+              grind (arith, nat_tests, (pairs i j d less below).before, b.grown.in_order);
+          apart = λ r s in_r in_s same less. ⊎_elim
+              (λ one. absurd (omega (arith, ap (λ (v : Run). v.first) one)))
+              (⊎_elim
+              (λ a. absurd (omega (arith, a.before, (run s in_s).2.grown.in_order)))
+              (λ a. subst (λ v. EndsBefore form window (Shows spans v) r s) (sym (run r in_r).2.source_is) a))
+              (AllPairs-members (λ s r. EndsBefore form window (Shows spans source) r s) r s xs pairs in_r in_s);
+          complete = λ i n is shows.
+              let own : Shows spans source n = subst (λ v. Shows spans v n) (sym is) shows in
+              subst (λ v. HasWeekOf xs v n) is (body_complete h.limit xs h.body_runs n (h.over n own) own);
+          agreed = λ i n is shows. h.agreed n (subst (λ v. Shows spans v n) (sym is) shows);
+        })
+
+  -- one span more
+  module _ (done : List Span) (s : Span) {runs : List Run} (x : AreRunsOf form window spans (HasSource done) runs) where
+    has_old : (i : ℕ) → HasSource done i → HasSource (done ++ s ∷ []) i
+    has_old i (t, listed, body, is) = (t, Contains-append_left done (s ∷ []) t listed, body, is)
+
+    has_cases : (i : ℕ) → HasSource (done ++ s ∷ []) i → HasSource done i ⊎ (HasBody s × (s.source ≡ i))
+    has_cases i (t, listed, body, is) = ⊎_elim
+        (λ h. inl (t, h, body, is))
+        (λ same. inr (subst (λ (v : Span). HasBody v × (v.source ≡ i)) (sym same) (body, is)))
+        (Contains-push_cases done s t listed)
+
+    pub runs-skipped : (HasBody s → HasSource done s.source) → AreRunsOf form window spans (HasSource (done ++ s ∷ [])) runs
+    runs-skipped known =
+        let before : (i : ℕ) → HasSource (done ++ s ∷ []) i → HasSource done i =
+        λ i has. ⊎_elim (λ h. h) (λ h. subst (HasSource done) h.1 (known h.0)) (has_cases i has) in
+        record {
+          each = λ r listed. let (has, grown) = x.each r listed in (has_old r.source has, grown);
+          once = x.once;
+          apart = x.apart;
+          complete = λ i n has. x.complete i n (before i has);
+          agreed = λ i n has. x.agreed i n (before i has);
+        }
+
+    pub runs-added : {added : List Run} → HasBody s → All (λ t. HasBody t → t.source ≢ s.source) done →
+        AreRunsOf form window spans (λ i. s.source ≡ i) added → AreRunsOf form window spans (HasSource (done ++ s ∷ [])) (runs ++ added)
+    runs-added {added} body new y =
+        let cases = Contains-append_cases runs added in
+        let other : (r t : Run) → Contains runs r → Contains added t → r.source ≢ t.source =
+        λ r t in_r in_t same.
+        let (v, listed, has_body, is) = (x.each r in_r).0 in
+        All-contains (λ v. HasBody v → v.source ≢ s.source) done v new listed has_body (is ∙ same ∙ sym (y.each t in_t).0) in
+        record {
+          each = λ r listed. ⊎_elim
+              (λ h. let (has, grown) = x.each r h in (has_old r.source has, grown))
+              (λ h. let (is, grown) = y.each r h in ((s, Contains-push done s, body, is), grown))
+              (cases r listed);
+          once = AllPairs-append (λ r t. begin_together r t ≡ false) runs added x.once y.once (λ r t in_r in_t.
+              let (is, grown) = y.each t in_t in
+              let no : r.first ≢ t.first = λ same.
+              let a = subst (Shows spans r.source) same (x.each r in_r).1.first_runs in
+              let b = grown.first_runs in
+              other r t in_r in_t
+              (sym a.is ∙ (y.agreed t.source t.first is b).agree a.it b.it a.listed b.listed a.leads b.leads ∙ b.is) in
+              grind (arith, nat_tests));
+          apart = λ r t in_r in_t same less. ⊎_elim
+              (λ a. ⊎_elim (λ b. x.apart r t a b same less) (λ b. absurd (other r t a b same)) (cases t in_t))
+              (λ a. ⊎_elim (λ b. absurd (other t r b a (sym same))) (λ b. y.apart r t a b same less) (cases t in_t))
+              (cases r in_r);
+          complete = λ i n has shows. ⊎_elim
+              (λ old. has_week (Contains-append_left runs added) (x.complete i n old shows))
+              (λ h. has_week (Contains-append_right runs added) (y.complete i n h.1 shows))
+              (has_cases i has);
+          agreed = λ i n has shows. ⊎_elim (λ old. x.agreed i n old shows) (λ h. y.agreed i n h.1 shows) (has_cases i has);
+        }
+
+  -- the runs of all spans, after the sort
+  pub runs-sorted : {runs : List Run} → IsNonDecreasingBy (λ (r : Run). r.first) runs → AreRunsOf form window spans (HasSource spans) runs →
+      AreRunsOfSpans form window spans runs
+  runs-sorted up h = record {
+    rising = λ i j d less within.
+        let upto = up i j d (omega arith) within in
+        let two = h.once i j d less within in
+        grind (arith, nat_tests);
+    each = λ run listed.
+        let ((s, in_spans, body, is), grown) = h.each run listed in
+        record { span = s; listed = in_spans; has_body = body; source = is; grown = grown };
+    apart = h.apart;
+    complete = λ s n listed body. h.complete s.source n (s, listed, body, refl);
+    agreed = λ s n listed body. h.agreed s.source n (s, listed, body, refl);
+  }

@@ -1,0 +1,216 @@
+-- The masks of a span's days week by week, and of the days that some of the spans so far have, span by span.
+use Rattle.std.proofs.Common.{◌≡◌, ◌≢◌, ◌⊎◌, inl, inr, ◌↔◌, ℕ, ◌+◌, ◌-◌, ◌*◌, ◌<◌, ◌≤◌, List, [], ◌∷◌, ◌++◌, Bool, length, take, get_or}
+use Rattle.std.proofs.Common.{refl, sym, ◌∙◌, ap, subst, arith, ⊎_elim}
+use Rattle.std.specs.Prelude.{Contains}
+use Rattle.std.proofs.lemmas.Bool.{cases_lt}
+use Rattle.std.proofs.lemmas.List.{take_more}
+use Rattle.std.proofs.lemmas.List.Elements.{Contains-append_left, Contains-push, Contains-push_cases}
+use Rattle.cif_columns.specs.Day.{week_of, weekday_of}
+use Rattle.cif_columns.specs.DaysRun.{RunsOn}
+use Rattle.cif_weeks.specs.declared.span.Span.{Span}
+use Rattle.cif_weeks.specs.declared.span.Weeks.{Weeks}
+use Rattle.cif_weeks.specs.Steps.Spans.{AgreeOn, HasDay, HaveOneMask, IsAgreed, Leads, Shows}
+use Rattle.cif_weeks.specs.Steps.WeekMasks.{IsMask}
+use Rattle.cif_weeks.proofs.Masks.{mask_runs}
+use Rattle.cif_weeks.proofs.RunsRead.{same_or_other}
+use Rattle.cif_weeks.proofs.WeekDays.{RunsOn-below}
+
+-- a week of the span has this mask
+pub span-mask : (s : Span) (week : ℕ) (days : List Bool) → s.first_week ≤ week → week ≤ s.last_week → length days ≡ 7
+    → (week ≡ s.first_week → s.first_days ≡ days) → (week ≡ s.last_week → s.last_days ≡ days)
+    → (s.first_week < week → week < s.last_week → s.days ≡ days) → IsMask (HasDay s) week days
+span-mask s week days from upto seven first last between = record {
+  seven = seven;
+  shows = λ n at has. ⊎_elim
+      (λ sooner. ⊎_elim
+      (λ later. subst (λ d. RunsOn d (weekday_of n)) (between later sooner) (has.between (omega arith) (omega arith)))
+      (λ begins. subst (λ d. RunsOn d (weekday_of n)) (first (omega arith)) (has.first (omega arith)))
+      (cases_lt s.first_week week))
+      (λ ends. subst (λ d. RunsOn d (weekday_of n)) (last (omega arith)) (has.last (omega arith)))
+      (cases_lt week s.last_week);
+  only = λ w runs.
+      let below = RunsOn-below days w seven runs in
+      let real : 4 ≤ week * 7 + w = ⊎_elim
+      (λ later. omega arith)
+      (λ none. let h = s.begins w (subst (λ d. RunsOn d w) (sym (first (omega arith))) runs) in omega arith)
+      (cases_lt 0 week) in
+      let n : ℕ = week * 7 + w - 4 in
+      let at : week_of n ≡ week = omega arith in
+      let day : weekday_of n ≡ w = omega arith in
+      let on : RunsOn days (weekday_of n) = subst (λ u. RunsOn days u) (sym day) runs in (
+        n,
+        at,
+        day,
+        record {
+          from = omega arith;
+          upto = omega arith;
+          first = λ e. subst (λ d. RunsOn d (weekday_of n)) (sym (first (sym at ∙ e))) on;
+          last = λ e. subst (λ d. RunsOn d (weekday_of n)) (sym (last (sym at ∙ e))) on;
+          between = λ later sooner. subst (λ d. RunsOn d (weekday_of n)) (sym (between (omega arith) (omega arith))) on;
+        },
+      );
+}
+
+-- one week by itself
+pub week-alone : (s : Span) (week until : ℕ) (days : List Bool) → week ≤ until → IsMask (HasDay s) week days →
+    HaveOneMask (HasDay s) week until (record { days = days; last = week })
+week-alone s week until days upto m = record {
+  from = omega arith;
+  upto = upto;
+  masks = λ v begun unfinished. subst (λ u. IsMask (HasDay s) u days) (let is : week ≡ v = omega arith in is) m;
+}
+
+pub take_next : {X : Type 0} (xs : List X) (i : ℕ) (x : X) → i < length xs → x ≡ get_or xs i x → take (i + 1) xs ≡ take i xs ++ x ∷ []
+take_next xs i x below is = take_more xs i x below ∙ ap (λ y. take i xs ++ y ∷ []) (sym is)
+
+-- one of the spans in the list, of those that are meant, has day n
+pub record SomeOf (Is : Span → Type 0) (On : Span → ℕ → Type 0) (p : List Span) (n : ℕ) : Type 0 where
+  pub it : Span
+  pub listed : Contains p it
+  pub is : Is it
+  pub on : On it n
+
+-- One span more.
+module _ {Is : Span → Type 0} {On : Span → ℕ → Type 0} {p : List Span} (t : Span) where
+  pub old_or_new : (n : ℕ) → SomeOf Is On (p ++ t ∷ []) n → SomeOf Is On p n ⊎ (Is t × On t n)
+  old_or_new n h = ⊎_elim
+      (λ old. inl (record { it = h.it; listed = old; is = h.is; on = h.on }))
+      (λ same. inr (subst (λ s. Is s × On s n) (sym same) (h.is, h.on)))
+      (Contains-push_cases p t h.it h.listed)
+
+  old : (n : ℕ) → SomeOf Is On p n → SomeOf Is On (p ++ t ∷ []) n
+  old n h = record { it = h.it; listed = Contains-append_left p (t ∷ []) h.it h.listed; is = h.is; on = h.on }
+
+  module _ {week : ℕ} {so_far : Weeks} where
+    -- if it is meant, the masks are united where both are known
+    pub some-more : {until : ℕ} {weeks : Weeks} {both : List Bool} → HaveOneMask (SomeOf Is On p) week until so_far → Is t
+        → HaveOneMask (On t) week so_far.last weeks → length both ≡ 7
+        → ((w : ℕ) → RunsOn both w ↔ (RunsOn so_far.days w ⊎ RunsOn weeks.days w))
+        → HaveOneMask (SomeOf Is On (p ++ t ∷ [])) week until (record { days = both; last = weeks.last })
+    some-more h is k seven union = record {
+      from = k.from;
+      upto = omega arith;
+      masks = λ v begun unfinished.
+          let before = h.masks v begun (omega arith) in
+          let here = k.masks v begun unfinished in
+          record {
+            seven = seven;
+            shows = λ n at has. (union (weekday_of n)).1
+                (⊎_elim (λ o. inl (before.shows n at o)) (λ new. inr (here.shows n at new.1)) (old_or_new n has));
+            only = λ w runs. ⊎_elim
+                (λ o. let (n, at, day, has) = before.only w o in (n, at, day, old n has))
+                (λ new. let (n, at, day, on) = here.only w new in
+                (n, at, day, record { it = t; listed = Contains-push p t; is = is; on = on }))
+                ((union w).0 runs);
+          };
+    }
+
+    -- if it isn't, the mask remains, perhaps for fewer weeks
+    pub some-same : {until last : ℕ} → HaveOneMask (SomeOf Is On p) week until so_far → ¬ Is t → week ≤ last → last ≤ so_far.last
+        → HaveOneMask (SomeOf Is On (p ++ t ∷ [])) week until (record { days = so_far.days; last = last })
+    some-same h other from upto = record {
+      from = from;
+      upto = omega arith;
+      masks = λ v begun unfinished.
+          let before = h.masks v begun (omega arith) in
+          record {
+            seven = before.seven;
+            shows = λ n at has. ⊎_elim (λ o. before.shows n at o) (λ new. absurd (other new.0)) (old_or_new n has);
+            only = λ w runs. let (n, at, day, has) = before.only w runs in (n, at, day, old n has);
+          };
+    }
+
+    pub agree-more : {spans : List Span} {it : Weeks} → AgreeOn spans (SomeOf Is On p) week so_far → it.last ≤ so_far.last
+        → (Is t → (n : ℕ) → week ≤ week_of n → week_of n ≤ it.last → On t n → IsAgreed spans n)
+        → AgreeOn spans (SomeOf Is On (p ++ t ∷ [])) week it
+    agree-more h upto k = record {
+      agreed = λ n begun unfinished has. ⊎_elim
+          (λ o. h.agreed n begun (omega arith) o)
+          (λ new. k new.0 n begun unfinished new.1)
+          (old_or_new n has);
+    }
+
+-- the days on which a source is shown are those on which one of its spans leads
+module _ {spans : List Span} {source week : ℕ} {it : Weeks} where
+  pub shown-weeks : {until : ℕ} → HaveOneMask (SomeOf (λ s. s.source ≡ source) (λ s n. Leads spans n s) spans) week until it
+      → HaveOneMask (Shows spans source) week until it
+  shown-weeks h = record {
+    from = h.from;
+    upto = h.upto;
+    masks = λ v begun unfinished.
+        let m = h.masks v begun unfinished in
+        record {
+          seven = m.seven;
+          shows = λ n at s. m.shows n at (record { it = s.it; listed = s.listed; is = s.is; on = s.leads });
+          only = λ w runs.
+              let (n, at, day, s) = m.only w runs in
+              (n, at, day, record { it = s.it; listed = s.listed; is = s.is; leads = s.on });
+        };
+  }
+
+  pub shown-agreed : AgreeOn spans (SomeOf (λ s. s.source ≡ source) (λ s n. Leads spans n s) spans) week it
+      → AgreeOn spans (Shows spans source) week it
+  shown-agreed h = record {
+    agreed = λ n begun unfinished s. h.agreed n begun unfinished
+        (record { it = s.it; listed = s.listed; is = s.is; on = s.leads });
+  }
+
+-- span t is over a span, or is its rival: its letter is before the other's, or it is the same, and their sources differ
+abbrev pub IsOver : Span → Span → Type 0
+IsOver span t = t.letter < span.letter
+
+abbrev pub IsRival : Span → Span → Type 0
+IsRival span t = (t.letter ≡ span.letter) × (t.source ≢ span.source)
+
+-- a span leads on its days that no span over it has, and the spans agree where no rival has them
+module _ {spans : List Span} {span : Span} {week until last : ℕ} {own : Weeks} {over days : List Bool}
+    (h : HaveOneMask (HasDay span) week until own)
+    (o : HaveOneMask (SomeOf (IsOver span) HasDay spans) week own.last (record { days = over; last = last }))
+    (seven : length days ≡ 7) (minus : (w : ℕ) → RunsOn days w ↔ (RunsOn own.days w × (¬ RunsOn over w))) where
+  pub led-weeks : HaveOneMask (λ n. Leads spans n span) week until (record { days = days; last = last })
+  led-weeks = record {
+    from = o.from;
+    upto = omega arith;
+    masks = λ v begun unfinished.
+        let m = h.masks v begun (omega arith) in
+        let k = o.masks v begun unfinished in
+        record {
+          seven = seven;
+          shows = λ n at leads. (minus (weekday_of n)).1 (
+            m.shows n at leads.has,
+            λ hidden.
+                let t = mask_runs (SomeOf (IsOver span) HasDay spans) v over n k at hidden in
+                let least = leads.least t.it t.listed t.on in
+                omega (arith, t.is),
+          );
+          only = λ w runs.
+              let (own_w, free) = (minus w).0 runs in
+              let (n, at, day, has) = m.only w own_w in
+              let least = λ (t : Span) (listed : Contains spans t) (has_t : HasDay t n). ⊎_elim
+              (λ less. absurd (free (subst (λ w. RunsOn over w) day
+              (k.shows n at (record { it = t; listed = listed; is = less; on = has_t })))))
+              (λ from. from)
+              (cases_lt t.letter span.letter) in
+              (n, at, day, record { has = has; least = least });
+        };
+  }
+
+  pub led-agreed : {rivals : List Bool}
+      → HaveOneMask (SomeOf (IsRival span) HasDay spans) week own.last (record { days = rivals; last = last })
+      → ((w : ℕ) → ¬ (RunsOn days w × RunsOn rivals w)) → Contains spans span
+      → AgreeOn spans (λ n. Leads spans n span) week (record { days = days; last = last })
+  led-agreed r apart listed = record {
+    agreed = λ n begun unfinished leads.
+        let one = λ (s : Span) (in_s : Contains spans s) (leads_s : Leads spans n s).
+        let there = leads.least s in_s leads_s.has in
+        let back = leads_s.least span listed leads.has in
+        ⊎_elim
+        (λ (same : s.source ≡ span.source). same)
+        (λ other. absurd (apart (weekday_of n) (
+          (led-weeks.masks (week_of n) begun unfinished).shows n refl leads,
+          (r.masks (week_of n) begun unfinished).shows n refl
+              (record { it = s; listed = in_s; is = (omega arith, other); on = leads_s.has }),
+        )))
+        (same_or_other s.source span.source) in
+        record { agree = λ s t in_s in_t leads_s leads_t. one s in_s leads_s ∙ sym (one t in_t leads_t) };
+  }

@@ -1,0 +1,29 @@
+-- The runs of one span more (`runs-skipped`, `runs-added`), and those of all after the sort.
+use Rattle.std.proofs.Common.{rules}
+use Rattle.std.proofs.lemmas.List.{take_all, take_more}
+use Rattle.std.proofs.lemmas.List.Sorted.{IsNonDecreasingBy-from_sort_by_key}
+use Rattle.cif_weeks.specs.declared.run.Run.{Run}
+use Rattle.cif_weeks.proofs.SpanRuns.{runs-added, runs-of_body, runs-permuted, runs-skipped, runs-sorted}
+use Rattle.cif_weeks.proofs.few.add_all_runs.Goals as goal
+
+pub add_body_runs-requires : goal.add_body_runs-requires
+add_body_runs-requires c n shows = c.requires.inside _ n shows
+
+pub loop-number-preserved-then-is_added : goal.loop-number-preserved-then-is_added
+loop-number-preserved-then-is_added c =
+    rw (take_more c.args.spans.now c.loop-number.number c.index-spans-number.result c.loop-number-test.true, ← c.index-spans-number.is)
+    (runs-skipped _ _ _ _ _ c.loop-number.invariant c.if-is_added.ensures)
+
+pub loop-number-preserved : goal.loop-number-preserved
+loop-number-preserved c =
+    let (added, are, runs) = c.in_ok-add_body_runs.ensures c.if-not-branch.false in
+    rw (take_more c.args.spans.now c.loop-number.number c.index-spans-number.result c.loop-number-test.true, ← c.index-spans-number.is, are)
+    (runs-added _ _ _ _ _ c.loop-number.invariant c.if-is_added.ensures.0 c.if-is_added.ensures.1
+    (runs-of_body _ _ _ _ added runs))
+
+pub returns : goal.returns
+returns c made =
+    let sorted = c.sort_unstable_by_key.ensures in
+    runs-sorted _ _ _ (IsNonDecreasingBy-from_sort_by_key (λ (r : Run). r.first) _ sorted.sorted (λ a r q k. search rules))
+    (runs-permuted _ _ _ sorted.permutation
+    (rw (take_all c.loop-number.number c.args.spans.now c.loop-number-test.false) at c.loop-number.invariant))

@@ -1,0 +1,10 @@
+-- The runs of the spans so far.
+use Rattle.std.proofs.Common.{take}
+use Rattle.cif_weeks.specs.Window.{window_from}
+use Rattle.cif_weeks.specs.Steps.BodyRuns.{HasSource}
+use Rattle.cif_weeks.proofs.SpanRuns.{AreRunsOf}
+use Rattle.cif_weeks.proofs.few.add_all_runs.Given as goal
+
+abbrev pub invariant-loop-number : goal.invariant-loop-number
+invariant-loop-number l =
+    AreRunsOf l.form (window_from l.window.first l.window.last) l.spans (HasSource (take l.number l.spans)) l.runs.items

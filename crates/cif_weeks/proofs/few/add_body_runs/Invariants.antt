@@ -1,0 +1,17 @@
+-- The runs of the body in the weeks before `week` are made, and where it is shown in these weeks the spans agree.
+use Rattle.std.proofs.Common.{◌+◌, ◌-◌, ◌<◌, ℕ}
+use Rattle.cif_columns.specs.Day.{week_of}
+use Rattle.cif_weeks.specs.Window.{window_from}
+use Rattle.cif_weeks.specs.Steps.BodyRuns.{AreGrownTo}
+use Rattle.cif_weeks.specs.Steps.Spans.{IsAgreed, Shows}
+use Rattle.cif_weeks.proofs.few.add_body_runs.Given as goal
+
+abbrev pub invariant-loop-week : goal.invariant-loop-week
+invariant-loop-week l = record {
+  grown : AreGrownTo l.form (window_from l.window.first l.window.last) (Shows l.spans l.source) l.source l.week l.initial.runs.items
+      l.runs.items l.growing;
+  agreed : (n : ℕ) → week_of n < l.week → Shows l.spans l.source n → IsAgreed l.spans n;
+}
+
+abbrev pub decreases-loop-week : goal.decreases-loop-week
+decreases-loop-week l = (l.last + 1) - l.week

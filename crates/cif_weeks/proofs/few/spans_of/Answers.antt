@@ -1,0 +1,36 @@
+-- One member more, which has a span (`spans-more`) or none (`spans-same`).
+use Rattle.std.proofs.Common.{◌≡◌, ◌<◌, ℕ, Some, map, length, get_or, refl, ◌∙◌, ap, arith, length-append}
+use Rattle.std.specs.Prelude.{option_map, slice_get}
+use Rattle.std.proofs.lemmas.List.{take_more}
+use Rattle.std.proofs.lemmas.List.Elements.{All-contains, All-take, Contains-get_or}
+use Rattle.std.proofs.lemmas.Option.{slice_get-map, slice_get_read}
+use Rattle.cif_weeks.proofs.MemberRuns.{spans-more, spans-same}
+use Rattle.cif_weeks.proofs.few.spans_of.Goals as goal
+use Rattle.cif_weeks.proofs.few.spans_of.Goals.{in-Some, in_default}
+
+pub source_of-source-requires-clause-sources : goal.source_of-source-requires-clause-sources
+source_of-source-requires-clause-sources g c =
+    let below = λ (j : ℕ). j < length c.args.entries.now in
+    rw c.as_slice.ensures.value (λ k d within. All-contains below _ _ (All-take below _ c.args.members.now c.requires.positions)
+    (c.loop-position.invariant.are.each (get_or c.loop-position.spans.items k d) (Contains-get_or _ k d within)).source)
+
+pub loop-position-preserved : goal.loop-position-preserved
+loop-position-preserved g c =
+    let terms = g.E.Entry.terms in
+    let i = c.loop-position.position-index in
+    let at : slice_get (map g.E.Entry.terms c.args.entries.now) (get_or c.args.members.now c.loop-position.position-index 0)
+    ≡ Some (g.E.Entry.terms c.index-entries-position.result) = slice_get-map terms c.args.entries.now _ ∙ ap (option_map terms)
+    (slice_get_read _ _ _ _ refl (c.requires.positions i 0 c.loop-position-test.true) c.index-entries-position.is) in
+    let are = c.loop-position.invariant.are in
+    let of = c.source_of-source.ensures in
+    rw (take_more c.args.members.now i 0 c.loop-position-test.true) (elim c.match-of.branch [
+      | in-Some w ↦ rw (w.spans-is, w.push.ensures.items) (record {
+        are = spans-more _ _ _ _ are _ _ at w.in-Some.span w.in-Some.ensures.some (rw w.in-Some.ensures.source of.body)
+            (rw (w.in-Some.ensures.source, ← c.as_slice.ensures.value) of.source);
+        few = simp length-append (omega arith);
+      })
+      | in_default w ↦ rw w.spans-is (record {
+        are = spans-same _ _ _ _ are _ _ at w.in_default.ensures.none;
+        few = omega arith;
+      })
+    ])

@@ -1,0 +1,12 @@
+-- The spans are those of the members so far.
+use Rattle.std.proofs.Common.{◌≤◌, length, map, take}
+use Rattle.cif_weeks.specs.Steps.Spans.{AreSpansOf}
+use Rattle.cif_weeks.specs.Window.{window_from}
+use Rattle.cif_weeks.proofs.few.spans_of.Given as goal
+
+abbrev pub invariant-loop-position : goal.invariant-loop-position
+invariant-loop-position g l = record {
+  are : AreSpansOf (map g.E.Entry.terms l.entries) (take l.position-index l.members) (window_from l.window.first l.window.last)
+      l.spans.items;
+  few : length l.spans.items ≤ l.position-index;
+}

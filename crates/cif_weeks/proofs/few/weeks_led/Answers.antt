@@ -1,0 +1,53 @@
+-- A span is over this one, or its rival, or neither.
+use Rattle.std.proofs.Common.{arith}
+use Rattle.std.proofs.lemmas.List.{take_all}
+use Rattle.cif_weeks.proofs.Spans.{take_next, some-more, some-same, led-weeks, led-agreed}
+use Rattle.cif_weeks.proofs.few.weeks_led.Goals as goal
+use Rattle.cif_weeks.proofs.few.weeks_led.Goals.{then-other_letter-letter}
+use Rattle.cif_weeks.proofs.few.weeks_led.Goals.{else-other_letter-letter+then-other_letter-letter-2+then-other-span}
+use Rattle.cif_weeks.proofs.few.weeks_led.Goals.{else-other_letter-letter+else-other_letter-letter-2}
+use Rattle.cif_weeks.proofs.few.weeks_led.Goals.{else-other_letter-letter-2-via-then-other_letter-letter-2+else-other-span}
+use Rattle.cif_weeks.proofs.few.weeks_led.Goals.{else-other_letter-letter-2-via-else-other_letter-letter-2}
+
+pub loop-other-preserved : goal.loop-other-preserved
+loop-other-preserved c =
+    let l = c.loop-other.invariant in
+    let t = c.other-item.result in
+    let next = take_next c.args.spans.now c.loop-other.other-index t c.loop-other-test.true c.other-item.is in
+    elim c.if-other_letter-letter.branch [
+      | then-other_letter-letter w ↦
+          let k = w.weeks_from-weeks.ensures in
+          let u = w.union-over.ensures in
+          rw (next, w.last-is, w.over-is, w.rivals-is) (record {
+            over = some-more t l.over (omega arith) k u.width u.runs;
+            rivals = some-same t l.rivals (λ rival. omega arith) k.from k.upto;
+          })
+      | else-other_letter-letter+then-other_letter-letter-2+then-other-span w ↦
+          let k = w.weeks_from-weeks-then-other-span.ensures in
+          let u = w.union-rivals.ensures in
+          rw (next, w.last-is, w.over-is, w.rivals-is) (record {
+            over = some-same t l.over (λ over. omega arith) k.from k.upto;
+            rivals = some-more t l.rivals (omega arith, λ same. omega arith) k u.width u.runs;
+          })
+      | else-other_letter-letter+else-other_letter-letter-2 w ↦
+          rw (next, w.last-is, w.over-is, w.rivals-is) (record {
+            over = some-same t l.over (λ over. omega arith) l.over.from (omega arith);
+            rivals = some-same t l.rivals
+                (λ rival. elim w.else-other_letter-letter-2.branch [
+                  | else-other_letter-letter-2-via-then-other_letter-letter-2+else-other-span v ↦ rival.1 (omega arith)
+                  | else-other_letter-letter-2-via-else-other_letter-letter-2 v ↦ omega arith
+                ])
+                l.rivals.from (omega arith);
+          })
+    ]
+
+pub returns-in-None-clause-weeks : goal.returns-in-None-clause-weeks
+returns-in-None-clause-weeks c =
+    let l = rw (take_all c.loop-other.other-index c.args.spans.now c.loop-other-test.false) at c.loop-other.invariant in
+    led-weeks c.weeks_from-own.ensures l.over c.fits.ensures c.minus-days.ensures
+
+pub returns-in-None-clause-agreed : goal.returns-in-None-clause-agreed
+returns-in-None-clause-agreed c =
+    let l = rw (take_all c.loop-other.other-index c.args.spans.now c.loop-other-test.false) at c.loop-other.invariant in
+    led-agreed c.weeks_from-own.ensures l.over c.fits.ensures c.minus-days.ensures l.rivals
+    (λ w both. c.in-None.ensures.none w ((c.intersection.ensures.runs w).1 both))

@@ -1,0 +1,31 @@
+-- The runs of some members of a list of entries: their canonical records, by the positions of their bodies.
+use Rattle.std.specs.Prelude.{◌≡◌, ℕ, ◌<◌, List, Some, AllPairs, Contains, ◌↔◌}
+use Rattle.std.specs.List.{AllZip}
+use Rattle.cif_calendar.specs.Terms.{Terms}
+use Rattle.cif_calendar.specs.Clash.{IsClearFrom}
+use Rattle.cif_calendar.specs.Runs.{BodyRuns}
+use Rattle.cif_calendar.specs.Source.{IsChosen, body_at}
+use Rattle.cif_weeks.specs.declared.form.Form.{Form}
+use Rattle.cif_weeks.specs.declared.run.Run.{Run}
+use Rattle.cif_weeks.specs.HaveForm.{HaveForm}
+use Rattle.cif_weeks.specs.Permanent.{Permanent}
+use Rattle.cif_weeks.specs.Runs.{record_of}
+use Rattle.cif_weeks.specs.WhatRuns.{HasBody}
+use Rattle.cif_weeks.specs.Window.{Window, IsWithin}
+
+-- The run has the dates and the mask of permanent record r, and its source is the position of a member with r's body.
+pub record IsMembersRun {B : Type 0} (xs : List (Terms B)) (members : List ℕ) (run : Run) (r : Permanent B) : Type 0 where
+  pub dates : r ≡ record_of run r.body
+  pub member : Contains members run.source
+  pub body : body_at xs (Some run.source) ≡ Some r.body
+
+-- On each day of the window the members are clear. The runs are, one by one, those of the records of the form that say what runs
+-- by the members, rising by first day.
+pub record AreRunsOfMembers {B : Type 0} (form : Form) (xs : List (Terms B)) (members : List ℕ) (window : Window) (runs : List Run)
+    : Type 0 where
+  pub clear : IsClearFrom (IsChosen xs members) window.first window.last
+  pub records : List (Permanent B)
+  pub runs_of : AllZip (IsMembersRun xs members) runs records
+  pub rising : AllPairs (λ r s. r.first < s.first) records
+  pub have_form : HaveForm form window (Contains records)
+  pub say : (n : ℕ) (b : B) → IsWithin window n → BodyRuns (IsChosen xs members) n b ↔ HasBody (Contains records) n b

@@ -1,0 +1,86 @@
+-- Steps to the runs of few records: those of one body, week by week. No public clause cites them.
+use Rattle.std.specs.Prelude.{◌≡◌, ◌≢◌, ℕ, ◌+◌, ◌<◌, ◌≤◌, ◌++◌, List, [], ◌∷◌, Option, None, Some, AllPairs, Contains, reverse}
+use Rattle.cif_columns.specs.Stp.{letter}
+use Rattle.cif_columns.specs.declared.stp.Stp.TheVariants.{C}
+use Rattle.cif_columns.specs.Day.{week_of}
+use Rattle.cif_weeks.specs.declared.form.Form.{Form}
+use Rattle.cif_weeks.specs.declared.run.Run.{Run}
+use Rattle.cif_weeks.specs.Permanent.{Permanent}
+use Rattle.cif_weeks.specs.Runs.{record_of}
+use Rattle.cif_weeks.specs.Window.{Window}
+use Rattle.cif_weeks.specs.Steps.Growing.{Breaks, IsGrown}
+use Rattle.cif_weeks.specs.Steps.Spans.{IsAgreed, Shows}
+use Rattle.cif_weeks.specs.declared.span.Span.{Span}
+
+-- the dates and the mask of a run as those of a record, with the run's source as the body
+abbrev pub dates_of : Run → Permanent ℕ
+dates_of run = record_of run run.source
+
+-- The run has all weeks of these days from its first week on that come before `limit`.
+pub record IsLatest (form : Form) (window : Window) (on : ℕ → Type 0) (source limit : ℕ) (run : Run) : Type 0 where
+  pub grown : IsGrown form window on (dates_of run)
+  pub source_is : run.source ≡ source
+  pub upto : week_of run.last < limit
+  pub none_after : (n : ℕ) → week_of run.last < week_of n → week_of n < limit → ¬ on n
+
+-- the run that is before it, if there is one, isn't joined by it
+abbrev pub BreaksBefore : Form → Window → (ℕ → Type 0) → Run → List Run → Type 0
+BreaksBefore form window on run [] = Unit {0}
+BreaksBefore form window on run (before ∷ _) = week_of run.first ≡ week_of before.last + 1 → Breaks form window on (dates_of before)
+
+-- The runs of these days in the weeks before `limit`, the latest first.
+abbrev pub AreBodyRuns : Form → Window → (ℕ → Type 0) → ℕ → ℕ → List Run → Type 0
+AreBodyRuns form window on source limit [] = (n : ℕ) → week_of n < limit → ¬ on n
+AreBodyRuns form window on source limit (run ∷ before) = IsLatest form window on source limit run
+    × BreaksBefore form window on run before × AreBodyRuns form window on source (week_of run.first) before
+
+-- The runs of these days in the weeks before `limit` are those in the list after the old ones, and the one that still grows.
+abbrev pub AreGrownTo : Form → Window → (ℕ → Type 0) → ℕ → ℕ → List Run → List Run → Option Run → Type 0
+AreGrownTo form window on source limit old runs None = (runs ≡ old) × AreBodyRuns form window on source limit []
+AreGrownTo form window on source limit old runs (Some run) =
+    (before : List Run) × (runs ≡ old ++ reverse before) × AreBodyRuns form window on source limit (run ∷ before)
+
+-- The runs are those of all days on which the source is shown, and the spans agree on these days.
+pub record AreRunsOfBody (form : Form) (window : Window) (spans : List Span) (source : ℕ) (runs : List Run) : Type 0 where
+  pub limit : ℕ
+  pub over : (n : ℕ) → Shows spans source n → week_of n < limit
+  pub body_runs : AreBodyRuns form window (Shows spans source) source limit (reverse runs)
+  pub agreed : (n : ℕ) → Shows spans source n → IsAgreed spans n
+
+-- the span has a body
+abbrev pub HasBody : Span → Type 0
+HasBody span = span.letter ≢ letter C
+
+-- a span of the list with a body has this source
+abbrev pub HasSource : List Span → ℕ → Type 0
+HasSource spans source = (s : Span) × Contains spans s × HasBody s × (s.source ≡ source)
+
+-- the run is one of a span with a body
+pub record IsSpansRun (form : Form) (window : Window) (spans : List Span) (run : Run) : Type 0 where
+  pub span : Span
+  pub listed : Contains spans span
+  pub has_body : HasBody span
+  pub source : span.source ≡ run.source
+  pub grown : IsGrown form window (Shows spans run.source) (dates_of run)
+
+-- run r ends in a week before that in which s begins, and where that is the very next week, it doesn't join r
+pub record EndsBefore (form : Form) (window : Window) (on : ℕ → Type 0) (r s : Run) : Type 0 where
+  pub before : week_of r.last < week_of s.first
+  pub breaks : week_of s.first ≡ week_of r.last + 1 → Breaks form window on (dates_of r)
+
+-- the week of day n is one of a run with this source
+pub record HasWeekOf (runs : List Run) (source n : ℕ) : Type 0 where
+  pub run : Run
+  pub listed : Contains runs run
+  pub is : run.source ≡ source
+  pub from : week_of run.first ≤ week_of n
+  pub upto : week_of n ≤ week_of run.last
+
+-- The runs, rising by first date, are those of all spans that have a body.
+pub record AreRunsOfSpans (form : Form) (window : Window) (spans : List Span) (runs : List Run) : Type 0 where
+  pub rising : AllPairs (λ r s. r.first < s.first) runs
+  pub each : (run : Run) → Contains runs run → IsSpansRun form window spans run
+  pub apart : (r s : Run) → Contains runs r → Contains runs s → r.source ≡ s.source → r.first < s.first →
+      EndsBefore form window (Shows spans r.source) r s
+  pub complete : (s : Span) (n : ℕ) → Contains spans s → HasBody s → Shows spans s.source n → HasWeekOf runs s.source n
+  pub agreed : (s : Span) (n : ℕ) → Contains spans s → HasBody s → Shows spans s.source n → IsAgreed spans n

@@ -1,0 +1,158 @@
+//! What a record has of the days of a window, week by week.
+
+ghost use Rattle.std.specs.Prelude.{◌≡◌, ◌<◌, ◌≤◌, ◌+◌, ◌*◌, IfNone, IfSome, ℕ, length, max, min};
+ghost use Rattle.cif_columns.specs.DaysRun.{RunsOn};
+
+use cif_calendar::{Entry, Window};
+use cif_columns::{Day, DaysRun};
+
+/// The days of a window on which a record applies, week by week.
+#[derive(Clone, Copy)]
+pub(crate) struct Span {
+    /// The first of its weeks.
+    pub first_week: u32,
+    /// The last of its weeks.
+    pub last_week: u32,
+    /// The weekdays on which it applies in its first week.
+    pub first_days: DaysRun,
+    /// Those in its last week.
+    pub last_days: DaysRun,
+    /// Those in the weeks between.
+    pub days: DaysRun,
+    /// Its letter.
+    pub letter: u8,
+    /// The position of an entry with its body, one position for each body.
+    pub source: usize,
+    ghost one_week: { first_week ≡ last_week → first_days ≡ last_days },
+    ghost in_range: { last_week < 65535 },
+    ghost begins: { (weekday : ℕ) → RunsOn first_days weekday → 4 ≤ first_week * 7 + weekday },
+}
+
+impl Default for Span {
+    /// What stands in a list's places that aren't used.
+    fn default() -> Span {
+        let none = no_days();
+        Span {
+            first_week: 0,
+            last_week: 0,
+            first_days: none,
+            last_days: none,
+            days: none,
+            letter: 0,
+            source: 0,
+        }
+    }
+}
+
+/// Weeks, from one on, that have one mask.
+#[derive(Clone, Copy)]
+pub(crate) struct Weeks {
+    /// The mask.
+    pub days: DaysRun,
+    /// The last of the weeks.
+    pub last: u32,
+}
+
+impl Span {
+    ghost use Rattle.cif_calendar.specs.Applies.{Applies};
+    ghost use Rattle.cif_weeks.specs.Steps.Spans.{HasDay, HaveOneMask, IsSpanOf};
+    ghost use Rattle.cif_weeks.specs.Window.{IsWithin, window_from};
+
+    /// The days of the window on which the entry applies, whose body is that of the entry at `source`;
+    /// `None` where it ends before the window or begins after it.
+    pub(crate) fn of<E: Entry>(entry: &E, source: usize, window: &Window) -> Option<Span>
+        ensures some { IfSome result
+            (IsSpanOf (window_from window.now.first window.now.last) (E.terms entry.now)) }
+        ensures source { IfSome result (λ span. span.source ≡ source) }
+        ensures none { IfNone result ((n : ℕ) → IsWithin (window_from window.now.first window.now.last) n →
+            ¬ Applies (E.terms entry.now) n) }
+    {
+        let first = later(entry.first(), window.first);
+        let last = earlier(entry.last(), window.last);
+        if last < first {
+            return None;
+        }
+        let days = entry.days();
+        let after = days.intersection(DaysRun::between(first.weekday(), 7));
+        let before = days.intersection(DaysRun::between(0, last.weekday() + 1));
+        let (first_week, last_week) = (first.week(), last.week());
+        last.fits();
+        let both = after.intersection(before);
+        let is_one_week = first_week == last_week;
+        Some(Span {
+            first_week,
+            last_week,
+            first_days: if is_one_week { both } else { after },
+            last_days: if is_one_week { both } else { before },
+            days,
+            letter: entry.letter().write(),
+            source,
+        })
+    }
+
+    /// The week, and those after it up to `until` in which it applies on the same weekdays.
+    pub(crate) fn weeks_from(&self, week: u32, until: u32) -> Weeks
+        requires { week ≤ until }
+        ensures { HaveOneMask (HasDay self.now) week until result }
+    {
+        if self.last_week < week {
+            return Weeks {
+                days: no_days(),
+                last: until,
+            };
+        }
+        if week < self.first_week {
+            let before = self.first_week - 1;
+            return Weeks {
+                days: no_days(),
+                last: until.min(before),
+            };
+        }
+        self.days.fits();
+        self.first_days.fits();
+        self.last_days.fits();
+        if week == self.last_week {
+            return Weeks {
+                days: self.last_days,
+                last: week,
+            };
+        }
+        if week == self.first_week && !self.first_days.is(self.days) {
+            return Weeks {
+                days: self.first_days,
+                last: week,
+            };
+        }
+        let alike = if self.last_days.is(self.days) {
+            self.last_week
+        } else {
+            self.last_week - 1
+        };
+        Weeks {
+            days: self.days,
+            last: until.min(alike),
+        }
+    }
+}
+
+/// No weekday.
+pub(crate) fn no_days() -> DaysRun
+    ensures none { (weekday : ℕ) → ¬ RunsOn result weekday }
+    ensures width { length result ≡ 7 }
+{
+    DaysRun::of([false; 7])
+}
+
+/// The later of two dates.
+fn later(one: Day, other: Day) -> Day
+    ensures { result ≡ max one other }
+{
+    if one < other { other } else { one }
+}
+
+/// The earlier of two dates.
+fn earlier(one: Day, other: Day) -> Day
+    ensures { result ≡ min one other }
+{
+    if one < other { one } else { other }
+}
