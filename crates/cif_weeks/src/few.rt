@@ -1,7 +1,7 @@
 //! The canonical runs of few records, body by body and without a calendar.
 //!
-//! For each body, one week after another is asked for the weekdays on which the body wins. Weeks that
-//! have one mask are taken at once.
+//! For each body, the weekdays on which it wins are found week by week. Weeks that have one mask are
+//! taken at once.
 
 ghost use Rattle.std.specs.Prelude.{◌≡◌, ◌≢◌, ◌<◌, ◌≤◌, ◌+◌, ◌++◌, [], All, Contains, IfOk, IfSome};
 ghost use Rattle.std.specs.Prelude.{IsTrue, MatchBool, ℕ, List, Some, length, map};
@@ -27,8 +27,8 @@ use std::alloc::AllocError;
 /// How many records are few.
 const FEW: usize = 8;
 
-/// The week, and those after it up to `until` in which the span leads on the same weekdays. `None`
-/// where one with another body leads with it.
+/// The week, and those after it up to `until` in which the span leads on the same weekdays. `None` if
+/// a span with another body leads on one of these dates too.
 fn weeks_led(spans: &[Span], span: &Span, week: u32, until: u32) -> Option<Weeks>
     requires in_order { week ≤ until }
     requires in_range { until < 65536 }
@@ -63,7 +63,7 @@ fn weeks_led(spans: &[Span], span: &Span, week: u32, until: u32) -> Option<Weeks
 }
 
 /// The week, and those after it up to `until` in which the body at `source` is shown on the same
-/// weekdays. `None` where another body leads with it.
+/// weekdays. `None` if another body leads on one of these dates too.
 fn weeks_shown(spans: &[Span], source: usize, week: u32, until: u32) -> Option<Weeks>
     requires in_order { week ≤ until }
     requires in_range { until < 65536 }
@@ -82,8 +82,8 @@ fn weeks_shown(spans: &[Span], source: usize, week: u32, until: u32) -> Option<W
     Some(Weeks { days, last })
 }
 
-/// The run that grows, after these weeks too, which follow those before. One that they don't join is
-/// put to the runs, and another begins. The weeks are those in which the spans show the source.
+/// Gives the run that grows the next weeks, in which the spans show the body at `source`. If they
+/// don't join it, it is added to the runs, and another begins. The result is the run that grows now.
 fn grow(
     runs: &mut Vec<Run>,
     growing: Option<Run>,
@@ -143,7 +143,7 @@ fn weeks_of(spans: &[Span], source: usize) -> (u32, u32)
     (first, last)
 }
 
-/// Adds the runs of the body at `source`. `false` where another body leads with it on some date.
+/// Adds the runs of the body at `source`. `false` if another body leads on one of its dates too.
 fn add_body_runs(
     runs: &mut Vec<Run>,
     spans: &[Span],
@@ -174,7 +174,7 @@ fn add_body_runs(
     Ok(true)
 }
 
-/// Whether nothing is to be added for a span: it has no body, or one of those before it has its body.
+/// Whether nothing is left to be added for a span: it has no body, or a span before it has the same.
 fn is_added(before: &[Span], span: &Span) -> bool
     ensures { MatchBool result (HasBody span.now → HasSource before.now span.now.source)
         (HasBody span.now × All (λ s. HasBody s → s.source ≢ span.now.source) before.now) }
@@ -190,7 +190,7 @@ fn is_added(before: &[Span], span: &Span) -> bool
     false
 }
 
-/// Adds the runs of all bodies to none. `false` where two lead on some date.
+/// Makes the runs of all bodies, rising by first date. `false` if two bodies lead on one date.
 fn add_all_runs(
     runs: &mut Vec<Run>,
     spans: &[Span],
@@ -250,11 +250,11 @@ fn spans_of<E: Entry>(entries: &[E], members: &[usize], window: &Window) -> Arra
 }
 
 /// Makes the runs of the canonical records that say what runs by the entries at `members`, rising by
-/// first date. Tells whether it did: only of few members, and where no two winners of a date of the
-/// window have different bodies. The runs that the list had before are gone.
+/// first date, in place of those that the list has. `false` if there are more than eight members, or
+/// two winners of a date of the window have different bodies: a calendar tells then.
 ///
-/// A run's source is the position of a member with its body. The calendar of any members, and its
-/// `runs`, say the same.
+/// A run's source is the position of a member with its body. `runs` of the members' calendar gives
+/// runs with the same dates, weekdays and bodies.
 pub fn runs_of_few<E: Entry>(
     runs: &mut Vec<Run>,
     entries: &[E],
