@@ -132,7 +132,8 @@ pub fn check_keeping<R: ReadDevice>(
     Ok(canon(alloc, extract, form)?.counts())
 }
 
-/// The extract that the source's lines spell, narrowed to the window that is asked for.
+/// The extract that the source's lines spell, narrowed to the window that is asked for. A fault is
+/// that of `read_extract`, or else that of `narrow`.
 pub fn read_narrowed<R: ReadDevice>(
     alloc: Global,
     source: &mut Source<R>,

@@ -11,8 +11,13 @@ use cif_columns::{MAX_LINES, ReadDevice, Source};
 use cif_extract::{Extract, Fault, read_extract};
 use std::alloc::Global;
 
-/// The extracts of two sources, narrowed to what is asked for of both. The right one isn't touched
-/// before the left one is read to its end and no line of it is refused.
+/// The extracts of two sources, narrowed to the window that is asked for. If it is `common`, a date
+/// that isn't given is that of the window common to both: the later of their first dates, or the
+/// earlier of their last dates.
+///
+/// A fault comes from reading the left extract, then from reading the right one, then from narrowing
+/// them in this order. The right source isn't touched before the left one is read to its end and no
+/// line of it is refused.
 pub fn read_pair<R: ReadDevice>(
     alloc: Global,
     left: &mut Source<R>,
