@@ -1,4 +1,4 @@
--- The bodies of sources, and the mask of a body in a week.
+-- The sources of a calendar, and their bodies.
 use Rattle.std.proofs.Common.{◌≡◌, ℕ, ◌+◌, ◌*◌, ◌<◌, List, length, Option, None, Some, sym, ◌∙◌}
 use Rattle.std.proofs.Common.{arith, refl}
 use Rattle.std.specs.Prelude.{IsSome, slice_get}
@@ -8,10 +8,8 @@ use Rattle.cif_calendar.specs.Terms.{Terms}
 use Rattle.cif_calendar.specs.Source.{body_at}
 use Rattle.cif_calendar.specs.Calendar.{CalendarParts}
 use Rattle.cif_weeks.specs.Window.{IsWithin}
-use Rattle.cif_weeks.specs.Steps.WeekMasks.{IsMask}
 use Rattle.cif_weeks.specs.Runs.{AreSources, window_of}
-use Rattle.cif_weeks.specs.Steps.WeekBodies.{source_in, runs_in, IsBodyUpTo}
-use Rattle.cif_weeks.specs.declared.week.WeekBody.{WeekBody}
+use Rattle.cif_weeks.specs.Steps.PieceSpans.{source_in, body_in}
 use Rattle.cif_weeks.proofs.SourcesIn.{source_in-within, source_in-inside}
 
 some-body : {B : Type 0} (o : Option B) → IsSome o → (b : B) × (o ≡ Some b)
@@ -24,7 +22,7 @@ module _ {B : Type 0} (xs : List (Terms B)) (c : CalendarParts) (sources : AreSo
   body-source None b e = absurd (cc)
   body-source (Some i) b e = (i, refl)
 
-  pub inside : (b : B) (n : ℕ) → runs_in xs c b n → IsWithin (window_of c) n
+  pub inside : (b : B) (n : ℕ) → body_in xs c n ≡ Some b → IsWithin (window_of c) n
   inside b n runs = let (i, is) = body-source (source_in c n) b runs in source_in-inside c n i is
 
   -- a source of the calendar is the position of a body
@@ -44,14 +42,3 @@ module _ {B : Type 0} (xs : List (Terms B)) (c : CalendarParts) (sources : AreSo
 
   pub source-below : (n i : ℕ) → source_in c n ≡ Some i → i < length xs
   source-below n i is = let b = source-body n i is in has-below i b.0 b.1
-
-  -- what is known of a body of a week
-  pub body-position : (week limit : ℕ) (it : WeekBody) → IsBodyUpTo xs c week limit it → it.source < length xs
-  body-position week limit it i = has-below it.source i.body i.has
-
-  pub body-mask : (week : ℕ) (it : WeekBody) → (i : IsBodyUpTo xs c week (week * 7 + 7) it) → IsMask (runs_in xs c i.body) week it.days
-  body-mask week it i = record {
-    seven = i.seven;
-    shows = λ n at runs. i.shows n at (omega arith) runs;
-    only = λ w on. let (n, at, day, known, runs) = i.only w on in (n, at, day, runs);
-  }

@@ -15,15 +15,9 @@ pub mod UniqueByKey
 pub mod WeekDays
 pub mod Spans
 pub mod SourcesIn
-pub mod AlikeWeeks
 pub mod AgreedDays
 pub mod Growth
-pub mod OpenRuns
-pub mod RunsRead
-pub mod AllWeeks
 pub mod CalendarSources
-pub mod WeekBodies
-pub mod JoinedWeeks
 pub mod BodyRuns
 pub mod MemberRuns
 pub mod SpanRuns

@@ -20,8 +20,7 @@ use Rattle.cif_weeks.specs.MemberRuns.{AreRunsOfMembers, IsMembersRun}
 use Rattle.cif_weeks.specs.Permanent.{Permanent}
 use Rattle.cif_weeks.specs.Runs.{record_of}
 use Rattle.cif_weeks.specs.Steps.BodyRuns.{AreRunsOfSpans, HasBody, IsSpansRun, dates_of}
-use Rattle.cif_weeks.specs.Steps.Growing.{Breaks, Fits, IsGrown}
-use Rattle.cif_weeks.specs.Steps.OpenRuns.{IsApartFrom}
+use Rattle.cif_weeks.specs.Steps.Growing.{Breaks, Fits, IsApartFrom, IsGrown}
 use Rattle.cif_weeks.specs.Steps.Spans.{AreSpansOf, IsMembersSpan, IsSourceAmong, IsSpanOf, Leads, Shows}
 use Rattle.cif_weeks.specs.Window.{Window, IsWithin}
 use Rattle.cif_weeks.specs.declared.form.Form.{Form}

@@ -5,7 +5,7 @@ use Rattle.cif_calendar.specs.Pieces.{source_at}
 use Rattle.cif_calendar.specs.Calendar.{CalendarParts}
 use Rattle.cif_weeks.specs.Window.{IsWithin}
 use Rattle.cif_weeks.specs.Runs.{window_of}
-use Rattle.cif_weeks.specs.Steps.WeekBodies.{source_in}
+use Rattle.cif_weeks.specs.Steps.PieceSpans.{source_in}
 
 module _ (c : CalendarParts) (n : ℕ) where
   pub source_in-within : c.first ≤ n → n ≤ c.last → source_in c n ≡ source_at c.pieces n

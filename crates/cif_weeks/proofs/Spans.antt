@@ -12,8 +12,7 @@ use Rattle.cif_weeks.specs.declared.span.Weeks.{Weeks}
 use Rattle.cif_weeks.specs.Steps.Spans.{AgreeOn, HasDay, HaveOneMask, IsAgreed, Leads, Shows}
 use Rattle.cif_weeks.specs.Steps.WeekMasks.{IsMask}
 use Rattle.cif_weeks.proofs.Masks.{mask_runs}
-use Rattle.cif_weeks.proofs.RunsRead.{same_or_other}
-use Rattle.cif_weeks.proofs.WeekDays.{RunsOn-below}
+use Rattle.cif_weeks.proofs.WeekDays.{RunsOn-below, same_or_other}
 
 -- a week of the span has this mask
 pub span-mask : (s : Span) (week : ℕ) (days : List Bool) → s.first_week ≤ week → week ≤ s.last_week → length days ≡ 7

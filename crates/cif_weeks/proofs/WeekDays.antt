@@ -1,5 +1,6 @@
 -- Arithmetic of days, weekdays and weeks, and masks.
-use Rattle.std.proofs.Common.{◌≡◌, ℕ, suc, ◌+◌, ◌-◌, ◌*◌, ◌<◌, ◌≤◌, Bool, true, false, List, [], ◌∷◌, length, arith, refl, ap}
+use Rattle.std.proofs.Common.{◌≡◌, ◌≢◌, ◌⊎◌, inl, inr, ⊎_elim, ℕ, suc, ◌+◌, ◌-◌, ◌*◌, ◌<◌, ◌≤◌, Bool, true, false, List, [], ◌∷◌, length, arith, refl, ap}
+use Rattle.std.proofs.lemmas.Bool.{cases_lt}
 use Rattle.std.proofs.lemmas.Option.{slice_get_within}
 use Rattle.cif_columns.specs.Day.{weekday_of, week_of}
 use Rattle.cif_columns.specs.DaysRun.{RunsOn}
@@ -55,3 +56,10 @@ weekday_of-next n = omega arith
 
 pub same_day : (m n : ℕ) → week_of m ≡ week_of n → weekday_of m ≡ weekday_of n → m ≡ n
 same_day m n weeks days = omega arith
+
+-- two numbers are one, or they differ
+pub same_or_other : (j k : ℕ) → (j ≡ k) ⊎ (j ≢ k)
+same_or_other j k = ⊎_elim
+    (λ less. inr (λ e. omega arith))
+    (λ from. ⊎_elim (λ more. inr (λ e. omega arith)) (λ upto. inl (omega arith)) (cases_lt k j))
+    (cases_lt j k)

@@ -2,7 +2,7 @@
 use Rattle.std.specs.Prelude.{◌≡◌, ℕ, ◌<◌, List, Some, AllPairs, Contains, ◌↔◌}
 use Rattle.std.specs.List.{AllZip}
 use Rattle.cif_calendar.specs.Terms.{Terms}
-use Rattle.cif_calendar.specs.Clash.{IsClearFrom}
+use Rattle.cif_calendar.specs.Clash.{IsClash, IsClearFrom}
 use Rattle.cif_calendar.specs.Runs.{BodyRuns}
 use Rattle.cif_calendar.specs.Source.{IsChosen, body_at}
 use Rattle.cif_weeks.specs.declared.form.Form.{Form}
@@ -29,3 +29,7 @@ pub record AreRunsOfMembers {B : Type 0} (form : Form) (xs : List (Terms B)) (me
   pub rising : AllPairs (λ r s. r.first < s.first) records
   pub have_form : HaveForm form window (Contains records)
   pub say : (n : ℕ) (b : B) → IsWithin window n → BodyRuns (IsChosen xs members) n b ↔ HasBody (Contains records) n b
+
+-- on a day of the window the members clash
+abbrev pub HaveClash : {B : Type 0} → List (Terms B) → List ℕ → Window → Type 0
+HaveClash xs members window = (n : ℕ) × IsWithin window n × IsClash (IsChosen xs members) n

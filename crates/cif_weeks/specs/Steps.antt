@@ -1,8 +1,6 @@
 -- What the contracts of the code's own steps speak of. No clause of a public function cites it, so nothing here has to be believed.
 pub mod BodyRuns
 pub mod Growing
-pub mod Joined
-pub mod OpenRuns
+pub mod PieceSpans
 pub mod Spans
-pub mod WeekBodies
 pub mod WeekMasks

@@ -2,15 +2,15 @@
 //! runs on each day determines them.
 #![tactic(auto)]
 
+mod body_runs;
+mod calendar_runs;
 mod few;
 mod form;
-mod joined;
 pub mod laws;
 mod run;
 mod span;
-mod week;
 
+pub use calendar_runs::{runs, runs_in_room};
 pub use few::runs_of_few;
 pub use form::Form;
-pub use joined::{runs, runs_in_room};
 pub use run::Run;

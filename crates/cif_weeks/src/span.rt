@@ -1,6 +1,6 @@
 //! What a record has of the days of a window, week by week.
 
-ghost use Rattle.std.specs.Prelude.{◌≡◌, ◌<◌, ◌≤◌, ◌+◌, ◌*◌, IfNone, IfSome, ℕ, length, max, min};
+ghost use Rattle.std.specs.Prelude.{◌≡◌, ◌<◌, ◌≤◌, ◌+◌, ◌*◌, ◌↔◌, IfNone, IfSome, ℕ, length, max, min};
 ghost use Rattle.cif_columns.specs.DaysRun.{RunsOn};
 
 use cif_calendar::{Entry, Window};
@@ -55,8 +55,36 @@ pub(crate) struct Weeks {
 
 impl Span {
     ghost use Rattle.cif_calendar.specs.Applies.{Applies};
+    ghost use Rattle.cif_columns.specs.Day.{week_of, weekday_of};
     ghost use Rattle.cif_weeks.specs.Steps.Spans.{HasDay, HaveOneMask, IsSpanOf};
     ghost use Rattle.cif_weeks.specs.Window.{IsWithin, window_from};
+
+    /// The dates from a first to a last on these weekdays, on which the body at `source` applies by a
+    /// letter.
+    pub(crate) fn between(first: Day, last: Day, days: DaysRun, letter: u8, source: usize) -> Span
+        requires { first ≤ last }
+        ensures days { (n : ℕ) → HasDay result n ↔ ((first ≤ n) × (n ≤ last) × RunsOn days (weekday_of n)) }
+        ensures first_week { result.first_week ≡ week_of first }
+        ensures last_week { result.last_week ≡ week_of last }
+        ensures letter { result.letter ≡ letter }
+        ensures source { result.source ≡ source }
+    {
+        let after = days.intersection(DaysRun::between(first.weekday(), 7));
+        let before = days.intersection(DaysRun::between(0, last.weekday() + 1));
+        let (first_week, last_week) = (first.week(), last.week());
+        last.fits();
+        let both = after.intersection(before);
+        let is_one_week = first_week == last_week;
+        Span {
+            first_week,
+            last_week,
+            first_days: if is_one_week { both } else { after },
+            last_days: if is_one_week { both } else { before },
+            days,
+            letter,
+            source,
+        }
+    }
 
     /// The days of the window on which the entry applies, whose body is that of the entry at `source`;
     /// `None` where it ends before the window or begins after it.
@@ -72,22 +100,8 @@ impl Span {
         if last < first {
             return None;
         }
-        let days = entry.days();
-        let after = days.intersection(DaysRun::between(first.weekday(), 7));
-        let before = days.intersection(DaysRun::between(0, last.weekday() + 1));
-        let (first_week, last_week) = (first.week(), last.week());
-        last.fits();
-        let both = after.intersection(before);
-        let is_one_week = first_week == last_week;
-        Some(Span {
-            first_week,
-            last_week,
-            first_days: if is_one_week { both } else { after },
-            last_days: if is_one_week { both } else { before },
-            days,
-            letter: entry.letter().write(),
-            source,
-        })
+        let letter = entry.letter().write();
+        Some(Span::between(first, last, entry.days(), letter, source))
     }
 
     /// The week, and those after it up to `until` in which it applies on the same weekdays.

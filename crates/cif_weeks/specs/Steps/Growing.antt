@@ -1,12 +1,12 @@
 -- Steps to the runs: records that grow week by week. No public clause cites them.
-use Rattle.std.specs.Prelude.{◌≡◌, ◌≢◌, ℕ, ◌+◌, ◌≤◌, List, Bool, length}
+use Rattle.std.specs.Prelude.{◌≡◌, ◌≢◌, ℕ, ◌+◌, ◌<◌, ◌≤◌, List, Bool, length}
 use Rattle.cif_columns.specs.Day.{week_of, weekday_of}
 use Rattle.cif_columns.specs.DaysRun.{RunsOn}
 use Rattle.cif_weeks.specs.declared.form.Form.{Form}
 use Rattle.cif_weeks.specs.declared.form.Form.TheVariants.{One, Two}
 use Rattle.cif_weeks.specs.Window.{Window, IsWithin}
 use Rattle.cif_weeks.specs.Permanent.{Permanent}
-use Rattle.cif_weeks.specs.Separate.{ExactlyOne}
+use Rattle.cif_weeks.specs.Separate.{Change, ExactlyOne}
 use Rattle.cif_weeks.specs.Steps.WeekMasks.{IsMask}
 
 -- form 2: on the days of a week that are in the window, the mask has just the weekdays on which the record's body runs
@@ -43,3 +43,8 @@ pub record TurnsOn (window : Window) (on : ℕ → Type 0) (week n : ℕ) : Type
 abbrev pub Breaks : {B : Type 0} → Form → Window → (ℕ → Type 0) → Permanent B → Type 0
 Breaks One window on r = (next : List Bool) → IsMask on (week_of r.last + 1) next → r.days ≢ next
 Breaks Two window on r = (n : ℕ) × TurnsOn window on (week_of r.last) n
+
+-- r ends in a week before that in which s begins, and where that is the very next week, there is a change between them
+pub record IsApartFrom {B : Type 0} (form : Form) (window : Window) (r s : Permanent B) : Type 0 where
+  pub before : week_of r.last < week_of s.first
+  pub change : week_of s.first ≡ week_of r.last + 1 → Change form window r s

@@ -57,6 +57,16 @@ pub record Shows (spans : List Span) (source n : ℕ) : Type 0 where
   pub is : it.source ≡ source
   pub leads : Leads spans n it
 
+-- two spans with different sources lead on day n
+pub record IsDisputed (spans : List Span) (n : ℕ) : Type 0 where
+  pub one : Span
+  pub other : Span
+  pub listed : Contains spans one
+  pub other_listed : Contains spans other
+  pub leads : Leads spans n one
+  pub other_leads : Leads spans n other
+  pub differ : one.source ≢ other.source
+
 -- all spans that lead on day n have one source
 pub record IsAgreed (spans : List Span) (n : ℕ) : Type 0 where
   pub agree : (s t : Span) → Contains spans s → Contains spans t → Leads spans n s → Leads spans n t → s.source ≡ t.source

@@ -5,7 +5,7 @@ use Rattle.cif_columns.specs.Day.{week_of}
 use Rattle.cif_weeks.specs.Window.{window_from}
 use Rattle.cif_weeks.specs.Steps.Spans.{Shows}
 use Rattle.cif_weeks.proofs.BodyRuns.{body-none, body-put}
-use Rattle.cif_weeks.proofs.few.add_body_runs.Goals as goal
+use Rattle.cif_weeks.proofs.body_runs.add_body_runs.Goals as goal
 
 pub loop-week-preserved : goal.loop-week-preserved
 loop-week-preserved c = record {

@@ -2,7 +2,7 @@
 use Rattle.std.proofs.Common.{take}
 use Rattle.cif_weeks.specs.Steps.Spans.{HasDay, HaveOneMask}
 use Rattle.cif_weeks.proofs.Spans.{IsOver, IsRival, SomeOf}
-use Rattle.cif_weeks.proofs.few.weeks_led.Given as goal
+use Rattle.cif_weeks.proofs.body_runs.weeks_led.Given as goal
 
 abbrev pub invariant-loop-other : goal.invariant-loop-other
 invariant-loop-other l =

@@ -2,12 +2,12 @@
 use Rattle.std.proofs.Common.{arith}
 use Rattle.std.proofs.lemmas.List.{take_all}
 use Rattle.cif_weeks.proofs.Spans.{take_next, some-more, some-same, led-weeks, led-agreed}
-use Rattle.cif_weeks.proofs.few.weeks_led.Goals as goal
-use Rattle.cif_weeks.proofs.few.weeks_led.Goals.{then-other_letter-letter}
-use Rattle.cif_weeks.proofs.few.weeks_led.Goals.{else-other_letter-letter+then-other_letter-letter-2+then-other-span}
-use Rattle.cif_weeks.proofs.few.weeks_led.Goals.{else-other_letter-letter+else-other_letter-letter-2}
-use Rattle.cif_weeks.proofs.few.weeks_led.Goals.{else-other_letter-letter-2-via-then-other_letter-letter-2+else-other-span}
-use Rattle.cif_weeks.proofs.few.weeks_led.Goals.{else-other_letter-letter-2-via-else-other_letter-letter-2}
+use Rattle.cif_weeks.proofs.body_runs.weeks_led.Goals as goal
+use Rattle.cif_weeks.proofs.body_runs.weeks_led.Goals.{then-other_letter-letter}
+use Rattle.cif_weeks.proofs.body_runs.weeks_led.Goals.{else-other_letter-letter+then-other_letter-letter-2+then-other-span}
+use Rattle.cif_weeks.proofs.body_runs.weeks_led.Goals.{else-other_letter-letter+else-other_letter-letter-2}
+use Rattle.cif_weeks.proofs.body_runs.weeks_led.Goals.{else-other_letter-letter-2-via-then-other_letter-letter-2+else-other-span}
+use Rattle.cif_weeks.proofs.body_runs.weeks_led.Goals.{else-other_letter-letter-2-via-else-other_letter-letter-2}
 
 pub loop-other-preserved : goal.loop-other-preserved
 loop-other-preserved c =

@@ -4,7 +4,7 @@ use Rattle.cif_columns.specs.Day.{week_of}
 use Rattle.cif_weeks.specs.Window.{window_from}
 use Rattle.cif_weeks.specs.Steps.BodyRuns.{AreGrownTo}
 use Rattle.cif_weeks.specs.Steps.Spans.{IsAgreed, Shows}
-use Rattle.cif_weeks.proofs.few.add_body_runs.Given as goal
+use Rattle.cif_weeks.proofs.body_runs.add_body_runs.Given as goal
 
 abbrev pub invariant-loop-week : goal.invariant-loop-week
 invariant-loop-week l = record {

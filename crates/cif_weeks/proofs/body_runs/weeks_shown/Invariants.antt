@@ -2,7 +2,7 @@
 use Rattle.std.proofs.Common.{◌≡◌, take}
 use Rattle.cif_weeks.specs.Steps.Spans.{AgreeOn, HaveOneMask, Leads}
 use Rattle.cif_weeks.proofs.Spans.{SomeOf}
-use Rattle.cif_weeks.proofs.few.weeks_shown.Given as goal
+use Rattle.cif_weeks.proofs.body_runs.weeks_shown.Given as goal
 
 abbrev pub invariant-loop-span : goal.invariant-loop-span
 invariant-loop-span l = record {

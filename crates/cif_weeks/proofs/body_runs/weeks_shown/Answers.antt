@@ -2,8 +2,8 @@
 use Rattle.std.proofs.Common.{sym, arith}
 use Rattle.std.proofs.lemmas.List.{take_all}
 use Rattle.cif_weeks.proofs.Spans.{take_next, some-more, some-same, agree-more, shown-weeks, shown-agreed}
-use Rattle.cif_weeks.proofs.few.weeks_shown.Goals as goal
-use Rattle.cif_weeks.proofs.few.weeks_shown.Goals.{then-span-source+in_ok-weeks, else-span-source}
+use Rattle.cif_weeks.proofs.body_runs.weeks_shown.Goals as goal
+use Rattle.cif_weeks.proofs.body_runs.weeks_shown.Goals.{then-span-source+in_ok-weeks, else-span-source}
 
 pub loop-span-preserved : goal.loop-span-preserved
 loop-span-preserved c =

@@ -5,9 +5,9 @@ use Rattle.cif_columns.specs.Day.{week_of, weekday_of}
 use Rattle.cif_weeks.specs.Window.{window_from}
 use Rattle.cif_weeks.specs.Steps.Spans.{Shows}
 use Rattle.cif_weeks.proofs.BodyRuns.{grown-idle, first-date, last-date, grow-longer, grow-first, grow-next}
-use Rattle.cif_weeks.proofs.few.grow.Goals as goal
-use Rattle.cif_weeks.proofs.few.grow.Goals.{in-Some-growing+else-week+in_ok-push, in_default-growing}
-use Rattle.cif_weeks.proofs.few.grow.Goals.{else-week-via-then-week+else-agree, else-week-via-else-week}
+use Rattle.cif_weeks.proofs.body_runs.grow.Goals as goal
+use Rattle.cif_weeks.proofs.body_runs.grow.Goals.{in-Some-growing+else-week+in_ok-push, in_default-growing}
+use Rattle.cif_weeks.proofs.body_runs.grow.Goals.{else-week-via-then-week+else-agree, else-week-via-else-week}
 
 pub returns-in_default : goal.returns-in_default
 returns-in_default c old h =

@@ -1,0 +1,66 @@
+-- Steps to the runs of a calendar: the spans of its pieces. No public clause cites them.
+use Rattle.std.specs.Prelude.{◌≡◌, ℕ, ◌+◌, ◌<◌, ◌≤◌, List, Option, Some, None, Contains, length, slice_index_or, unwrap_or, nat_le,
+    if◌then◌else◌}
+use Rattle.std.specs.List.Sorted.{IsNonDecreasingBy}
+use Rattle.cif_columns.specs.Day.{week_of}
+use Rattle.cif_columns.specs.Stp.{letter}
+use Rattle.cif_columns.specs.declared.stp.Stp.TheVariants.{P}
+use Rattle.cif_calendar.specs.Calendar.{CalendarParts}
+use Rattle.cif_calendar.specs.Pieces.{source_at}
+use Rattle.cif_calendar.specs.Source.{body_at}
+use Rattle.cif_calendar.specs.Terms.{Terms}
+use Rattle.cif_calendar.specs.declared.key_calendar.Piece.{Piece}
+use Rattle.cif_weeks.specs.Steps.Spans.{HasDay}
+use Rattle.cif_weeks.specs.declared.run.Run.{Run}
+use Rattle.cif_weeks.specs.declared.span.Span.{Span}
+
+-- the source of day n, and none outside the window
+abbrev pub source_in : CalendarParts → ℕ → Option ℕ
+source_in c n = if nat_le c.first n then (if nat_le n c.last then source_at c.pieces n else None) else None
+
+-- the body that runs on day n, and none outside the window
+abbrev pub body_in : {B : Type 0} → List (Terms B) → CalendarParts → ℕ → Option B
+body_in xs c n = body_at xs (source_in c n)
+
+-- a span of the calendar: the body at its source runs on its days
+pub record IsPieceSpan {B : Type 0} (xs : List (Terms B)) (c : CalendarParts) (s : Span) : Type 0 where
+  pub body : B
+  pub has : body_at xs (Some s.source) ≡ Some body
+  pub letter : s.letter ≡ letter P
+  pub runs : (n : ℕ) → HasDay s n → body_in xs c n ≡ Some body
+
+-- the weeks of the spans meet, or those of one begin right after those of the other
+pub record AreNear (s t : Span) : Type 0 where
+  pub reaches : s.first_week ≤ t.last_week + 1
+  pub reached : t.first_week ≤ s.last_week + 1
+
+-- The spans are those of the calendar's known days. Spans with one body that are near each other have one source.
+pub record AreSpansOn {B : Type 0} (xs : List (Terms B)) (c : CalendarParts) (known : ℕ → Type 0) (spans : List Span) : Type 0 where
+  pub each : (s : Span) → Contains spans s → IsPieceSpan xs c s
+  pub all : (n : ℕ) (b : B) → known n → body_in xs c n ≡ Some b →
+      (s : Span) × Contains spans s × HasDay s n × (body_at xs (Some s.source) ≡ Some b)
+  pub one_source : (s t : Span) → Contains spans s → Contains spans t → AreNear s t →
+      body_at xs (Some s.source) ≡ body_at xs (Some t.source) → s.source ≡ t.source
+
+-- the spans are in the order of their weeks, and none begins or ends after this week
+pub record AreInOrder (week : ℕ) (spans : List Span) : Type 0 where
+  pub first_weeks : IsNonDecreasingBy (λ (s : Span). s.first_week) spans
+  pub last_weeks : IsNonDecreasingBy (λ (s : Span). s.last_week) spans
+  pub begun : (s : Span) → Contains spans s → s.first_week ≤ week
+  pub ended : (s : Span) → Contains spans s → s.last_week ≤ week
+
+-- The spans are those of the pieces before these, the first of which begins on day `limit`.
+pub record AreSpansBefore {B : Type 0} (xs : List (Terms B)) (c : CalendarParts) (limit : ℕ) (spans : List Span) : Type 0 where
+  pub are : AreSpansOn xs c (λ n. n < limit) spans
+  pub order : AreInOrder (week_of limit) spans
+
+-- the spans rise by source, and those of one source by their first weeks
+pub record AreBySource (spans : List Span) : Type 0 where
+  pub sources : IsNonDecreasingBy (λ (s : Span). s.source) spans
+  pub weeks : (k : ℕ) (d : Span) → k + 1 < length spans →
+      (slice_index_or spans k d).source ≡ (slice_index_or spans (k + 1) d).source →
+      (slice_index_or spans k d).first_week ≤ (slice_index_or spans (k + 1) d).first_week
+
+-- the run with the calendar's source of its first day
+abbrev pub named : CalendarParts → Run → Run
+named c run = record { first = run.first; last = run.last; days = run.days; source = unwrap_or (source_at c.pieces run.first) run.source }

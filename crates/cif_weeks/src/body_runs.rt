@@ -1,0 +1,192 @@
+//! The runs of one body: the weekdays on which its spans lead, week by week. Weeks that have one mask
+//! are taken at once.
+
+ghost use Rattle.std.specs.Prelude.{◌≡◌, ◌≢◌, ◌<◌, ◌≤◌, ◌+◌, ◌++◌, Contains, IfNone, IfOk, IfSome};
+ghost use Rattle.std.specs.Prelude.{MatchBool, ℕ, List};
+ghost use Rattle.std.specs.List.Sorted.{IsNonDecreasingBy, IsPartitionPoint};
+ghost use Rattle.cif_columns.specs.Day.{IsDay, week_of};
+ghost use Rattle.cif_weeks.specs.Steps.BodyRuns.{AreGrownTo, AreRunsOfBody};
+ghost use Rattle.cif_weeks.specs.Steps.Spans.{AgreeOn, HaveOneMask, IsDisputed, Leads, Shows};
+ghost use Rattle.cif_weeks.specs.Window.{IsWithin, window_from};
+ghost use Rattle.cif_weeks.specs.declared.run.Run.{Run};
+
+use crate::form::{Form, agree};
+use crate::run::Run;
+use crate::span::{Span, Weeks, no_days};
+use cif_calendar::Window;
+use cif_columns::Day;
+use std::alloc::AllocError;
+
+/// No span has a later week than this one.
+const LAST_WEEK: u32 = 65_534;
+
+/// The day of the week, which a date of the window has.
+fn day_of(week: u32, weekday: u8) -> Day
+    requires weekday { weekday < 7 }
+    requires in_range { (n : ℕ) × (n + 4 ≡ week * 7 + weekday) × IsDay n }
+    ensures { result + 4 ≡ week * 7 + weekday }
+{
+    match Day::in_week(week, weekday) {
+        Some(day) => day,
+        None => unreachable!(),
+    }
+}
+
+/// The week, and those after it up to `until` in which the span leads on the same weekdays. `None` if
+/// a span with another body leads on one of these dates too.
+fn weeks_led(spans: &[Span], span: &Span, week: u32, until: u32) -> Option<Weeks>
+    requires in_order { week ≤ until }
+    requires in_range { until < 65536 }
+    ensures weeks { IfSome result
+        (HaveOneMask (λ n. Leads spans.now n span.now) week until) }
+    ensures agreed { Contains spans.now span.now → IfSome result
+        (AgreeOn spans.now (λ n. Leads spans.now n span.now) week) }
+    ensures disputed { Contains spans.now span.now → IfNone result ((n : ℕ) × IsDisputed spans.now n) }
+{
+    let own = span.weeks_from(week, until);
+    let mut last = own.last;
+    let mut over = no_days();
+    let mut rivals = no_days();
+    let letter = span.letter;
+    for other in spans {
+        let other_letter = other.letter;
+        if other_letter < letter {
+            let weeks = other.weeks_from(week, last);
+            over = over.union(weeks.days);
+            last = weeks.last;
+        } else if other_letter == letter && other.source != span.source {
+            let weeks = other.weeks_from(week, last);
+            rivals = rivals.union(weeks.days);
+            last = weeks.last;
+        }
+    }
+    let days = own.days.minus(over);
+    days.fits();
+    match days.intersection(rivals).first() {
+        Some(_) => None,
+        None => Some(Weeks { days, last }),
+    }
+}
+
+/// The week, and those after it up to `until` in which the body at `source` is shown on the same
+/// weekdays. `None` if another body leads on one of these dates too.
+fn weeks_shown(spans: &[Span], source: usize, week: u32, until: u32) -> Option<Weeks>
+    requires in_order { week ≤ until }
+    requires in_range { until < 65536 }
+    ensures weeks { IfSome result (HaveOneMask (Shows spans.now source) week until) }
+    ensures agreed { IfSome result (AgreeOn spans.now (Shows spans.now source) week) }
+    ensures disputed { IfNone result ((n : ℕ) × IsDisputed spans.now n) }
+{
+    let mut days = no_days();
+    let mut last = until;
+    for span in spans {
+        if span.source == source {
+            let weeks = weeks_led(spans, span, week, last)?;
+            days = days.union(weeks.days);
+            last = weeks.last;
+        }
+    }
+    Some(Weeks { days, last })
+}
+
+/// Gives the run that grows the next weeks, in which the spans show the body at `source`. If they
+/// don't join it, it is added to the runs, and another begins. The result is the run that grows now.
+fn grow(
+    runs: &mut Vec<Run>,
+    growing: Option<Run>,
+    week: u32,
+    weeks: Weeks,
+    spans: &[Span],
+    source: usize,
+    window: &Window,
+    form: Form,
+) -> Result<Option<Run>, AllocError>
+    requires inside { (n : ℕ) → Shows spans.now source n →
+        IsWithin (window_from window.now.first window.now.last) n }
+    requires in_range { IsDay window.now.last }
+    requires weeks { HaveOneMask (Shows spans.now source) week weeks.last weeks }
+    ensures { IfOk result (λ grown. (old : List Run) →
+        AreGrownTo form (window_from window.now.first window.now.last) (Shows spans.now source) source
+        week old runs.old.items growing →
+        AreGrownTo form (window_from window.now.first window.now.last) (Shows spans.now source) source
+        (weeks.last + 1) old runs.new.items grown) }
+{
+    let Some(first_weekday) = weeks.days.first() else {
+        return Ok(growing);
+    };
+    let Some(last_weekday) = weeks.days.last() else {
+        return Ok(growing);
+    };
+    let last = day_of(weeks.last, last_weekday);
+    if let Some(run) = growing {
+        if run.last.week() + 1 == week && agree(form, window, week, run.days, weeks.days) {
+            let days = run.days.union(weeks.days);
+            return Ok(Some(Run { last, days, ..run }));
+        }
+        runs.push(run)?;
+    }
+    Ok(Some(Run {
+        first: day_of(week, first_weekday),
+        last,
+        days: weeks.days,
+        source,
+    }))
+}
+
+/// How many of the spans, which are in the order of their first weeks, begin by the week.
+fn count_begun(spans: &[Span], week: u32) -> usize
+    requires { IsNonDecreasingBy (λ s. s.first_week) spans.now }
+    ensures { IsPartitionPoint (λ s. s.first_week ≤ week) (λ s. week < s.first_week) spans.now result }
+{
+    for (count, span) in spans.iter().enumerate() {
+        if week < span.first_week {
+            return count;
+        }
+    }
+    spans.len()
+}
+
+/// Adds the runs of the body at `source`. The spans are in the order of their first weeks. `false` if
+/// another body leads on one of its dates too.
+pub(crate) fn add_body_runs(
+    runs: &mut Vec<Run>,
+    spans: &[Span],
+    source: usize,
+    window: &Window,
+    form: Form,
+) -> Result<bool, AllocError>
+    requires inside { (n : ℕ) → Shows spans.now source n →
+        IsWithin (window_from window.now.first window.now.last) n }
+    requires order { IsNonDecreasingBy (λ s. s.first_week) spans.now }
+    ensures { IfOk result (λ made. MatchBool made
+        ((added : List Run) × (runs.new.items ≡ runs.old.items ++ added)
+        × AreRunsOfBody form (window_from window.now.first window.now.last) spans.now source added)
+        ((n : ℕ) × IsDisputed spans.now n)) }
+{
+    window.last.fits();
+    let mut growing = None;
+    let mut week = 0;
+    let mut left = spans;
+    while let [span, after @ ..] = left {
+        if span.last_week < week {
+            left = after;
+        } else {
+            week = week.max(span.first_week);
+            let count = count_begun(left, week);
+            let until = if count < left.len() {
+                left[count].first_week - 1
+            } else {
+                LAST_WEEK
+            };
+            let Some(weeks) = weeks_shown(&left[..count], source, week, until) else {
+                return Ok(false);
+            };
+            growing = grow(runs, growing, week, weeks, spans, source, window, form)?;
+            week = weeks.last + 1;
+        }
+    }
+    if let Some(run) = growing {
+        runs.push(run)?;
+    }
+    Ok(true)
+}

@@ -1,0 +1,196 @@
+//! The canonical runs of a calendar, body by body, from the spans of its pieces.
+
+ghost use Rattle.std.specs.Prelude.{◌≡◌, ◌<◌, ◌≤◌, ◌+◌, ◌↔◌, ℕ, All, Contains, IfOk, List, None, Some, length};
+ghost use Rattle.std.specs.Prelude.{map, slice_index_or, []};
+ghost use Rattle.cif_columns.specs.Day.{weekday_of};
+ghost use Rattle.cif_columns.specs.DaysRun.{RunsOn};
+ghost use Rattle.cif_calendar.specs.declared.key_calendar.Piece.{Piece};
+ghost use Rattle.cif_calendar.specs.Source.{body_at};
+ghost use Rattle.cif_weeks.specs.Runs.{AreCanonicalRuns, AreSources, window_of};
+ghost use Rattle.cif_weeks.specs.Steps.BodyRuns.{AreRunsOfSpans, HasBody};
+ghost use Rattle.cif_weeks.specs.Steps.PieceSpans.{AreBySource, AreSpansBefore, AreSpansOn, named};
+ghost use Rattle.cif_weeks.specs.Steps.Spans.{IsAgreed, Shows};
+ghost use Rattle.cif_weeks.specs.Window.{IsWithin, window_from};
+ghost use Rattle.cif_weeks.specs.declared.run.Run.{Run};
+ghost use Rattle.cif_weeks.specs.declared.span.Span.{Span};
+
+use crate::body_runs::add_body_runs;
+use crate::few::{have_one_body, source_of};
+use crate::form::Form;
+use crate::run::Run;
+use crate::span::{Span, no_days};
+use cif_calendar::{Calendar, Entry, Piece, Window};
+use cif_columns::DaysRun;
+use std::alloc::{AllocError, Global};
+
+/// The weekdays of the piece's dates.
+fn weekdays_of(piece: &Piece) -> DaysRun
+    requires { piece.now.first ≤ piece.now.last }
+    ensures { (w : ℕ) → RunsOn result w ↔
+        ((n : ℕ) × (piece.now.first ≤ n) × (n ≤ piece.now.last) × (weekday_of n ≡ w)) }
+{
+    let (first, last) = (piece.first.weekday(), piece.last.weekday());
+    if piece.first.number() + 6 <= piece.last.number() {
+        DaysRun::between(0, 7)
+    } else if first <= last {
+        DaysRun::between(first, last + 1)
+    } else {
+        DaysRun::between(first, 7).union(DaysRun::between(0, last + 1))
+    }
+}
+
+/// Those of the weekdays on which the piece's winners have the body of the entry at `source`.
+fn days_of<E: Entry>(entries: &[E], piece: &Piece, weekdays: DaysRun, source: usize) -> DaysRun
+    requires source { source < length entries.now }
+    requires winners { (w i : ℕ) → RunsOn weekdays w →
+        slice_index_or piece.now.winners w None ≡ Some i → i < length entries.now }
+    ensures runs { (w : ℕ) → RunsOn result w ↔ (RunsOn weekdays w × ((i : ℕ) ×
+        (slice_index_or piece.now.winners w None ≡ Some i) ×
+        (body_at (map E.terms entries.now) (Some source)
+        ≡ body_at (map E.terms entries.now) (Some i)))) }
+{
+    let mut days = no_days();
+    for weekday in 0..7u8 {
+        if weekdays.has(weekday) {
+            if let Some(winner) = piece.winners[usize::from(weekday)] {
+                if have_one_body(entries, source, winner) {
+                    days = days.union(DaysRun::only(weekday));
+                }
+            }
+        }
+    }
+    days
+}
+
+/// Adds the spans of the calendar's piece with this number: one for each body, with its weekdays. A
+/// body that has a span in the week before or later keeps its source.
+fn add_piece<E: Entry>(
+    spans: &mut Vec<Span>,
+    entries: &[E],
+    calendar: &Calendar,
+    number: usize,
+) -> Result<(), AllocError>
+    requires sources { AreSources (map E.terms entries.now) calendar.now }
+    requires number { number < length calendar.now.pieces }
+    requires spans { (p : Piece) → AreSpansBefore (map E.terms entries.now) calendar.now
+        (slice_index_or calendar.now.pieces number p).first spans.old.items }
+    ensures { IfOk result (λ _. (p : Piece) → AreSpansBefore (map E.terms entries.now) calendar.now
+        ((slice_index_or calendar.now.pieces number p).last + 1) spans.new.items) }
+{
+    let piece = &calendar.pieces()[number];
+    let week = piece.first.week();
+    let weekdays = weekdays_of(piece);
+    let mut taken = no_days();
+    for weekday in 0..7u8 {
+        if !weekdays.has(weekday) || taken.has(weekday) {
+            continue;
+        }
+        if let Some(winner) = piece.winners[usize::from(weekday)] {
+            let ended = spans.as_slice().partition_point(|span| span.last_week + 1 < week);
+            let source = source_of(entries, &spans[ended..], winner);
+            let days = days_of(entries, piece, weekdays, source);
+            spans.push(Span::between(piece.first, piece.last, days, b'P', source))?;
+            taken = taken.union(days);
+        }
+    }
+    Ok(())
+}
+
+/// The spans of a calendar's pieces, by their sources, and those of one source in the order of their
+/// first weeks.
+fn spans_by_source<E: Entry>(
+    alloc: Global,
+    entries: &[E],
+    calendar: &Calendar,
+) -> Result<Vec<Span>, AllocError>
+    requires sources { AreSources (map E.terms entries.now) calendar.now }
+    ensures spans { IfOk result (λ spans. AreSpansOn (map E.terms entries.now) calendar.now
+        (λ n. n < calendar.now.last + 1) spans.items) }
+    ensures order { IfOk result (λ spans. AreBySource spans.items) }
+{
+    let mut spans = Vec::new(alloc);
+    for number in 0..calendar.pieces().len() {
+        add_piece(&mut spans, entries, calendar, number)?;
+    }
+    spans.sort_by_key(|span| span.source)?;
+    Ok(spans)
+}
+
+/// Makes the runs of all bodies, rising by first date. On each date spans of one source lead.
+fn add_runs_by_source(
+    runs: &mut Vec<Run>,
+    spans: &[Span],
+    window: &Window,
+    form: Form,
+) -> Result<(), AllocError>
+    requires none { runs.old.items ≡ [] }
+    requires inside { (source n : ℕ) → Shows spans.now source n →
+        IsWithin (window_from window.now.first window.now.last) n }
+    requires bodied { All HasBody spans.now }
+    requires level { (s t : Span) → Contains spans.now s → Contains spans.now t → s.letter ≡ t.letter }
+    requires agreed { (n : ℕ) → IsAgreed spans.now n }
+    requires order { AreBySource spans.now }
+    ensures { IfOk result (λ _. AreRunsOfSpans form (window_from window.now.first window.now.last)
+        spans.now runs.new.items) }
+{
+    let mut left = spans;
+    while let [span, ..] = left {
+        let source = span.source;
+        let count = left.partition_point(|other| other.source <= source);
+        let (own, others) = left.split_at(count);
+        if !add_body_runs(runs, own, source, window, form)? {
+            unreachable!()
+        }
+        left = others;
+    }
+    runs.sort_unstable_by_key(|run| run.first.number());
+    Ok(())
+}
+
+/// Gives each run the calendar's source of its first date.
+fn name_sources(runs: &mut [Run], calendar: &Calendar)
+    requires { All (λ run. IsWithin (window_of calendar.now) run.first) runs.old }
+    ensures { runs.new ≡ map (named calendar.now) runs.old }
+{
+    for run in runs.iter_mut() {
+        if let Some(source) = calendar.source_on(run.first) {
+            run.source = source;
+        }
+    }
+}
+
+/// The canonical runs of a calendar in a form, rising by first date.
+///
+/// Hand in the entries of which the calendar tells. A run's source is the calendar's on the run's
+/// first date. The time depends on the runs and pieces of the calendar, not on its dates.
+pub fn runs<E: Entry>(
+    alloc: Global,
+    entries: &[E],
+    calendar: &Calendar,
+    form: Form,
+) -> Result<Vec<Run>, AllocError>
+    requires sources { AreSources (map E.terms entries.now) calendar.now }
+    ensures { IfOk result (λ runs.
+        AreCanonicalRuns form (map E.terms entries.now) calendar.now runs.items) }
+{
+    runs_in_room(Vec::new(alloc), entries, calendar, form)
+}
+
+/// The same runs, in the memory of runs that are no longer needed.
+pub fn runs_in_room<E: Entry>(
+    room: Vec<Run>,
+    entries: &[E],
+    calendar: &Calendar,
+    form: Form,
+) -> Result<Vec<Run>, AllocError>
+    requires sources { AreSources (map E.terms entries.now) calendar.now }
+    ensures { IfOk result (λ runs.
+        AreCanonicalRuns form (map E.terms entries.now) calendar.now runs.items) }
+{
+    let mut runs = room;
+    runs.clear();
+    let spans = spans_by_source(*runs.allocator(), entries, calendar)?;
+    add_runs_by_source(&mut runs, spans.as_slice(), &calendar.window(), form)?;
+    name_sources(runs.as_mut_slice(), calendar);
+    Ok(runs)
+}
