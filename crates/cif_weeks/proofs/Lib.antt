@@ -21,3 +21,6 @@ pub mod CalendarSources
 pub mod BodyRuns
 pub mod MemberRuns
 pub mod SpanRuns
+pub mod PieceSpans
+pub mod SameDays
+pub mod Cuts

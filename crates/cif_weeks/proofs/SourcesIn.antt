@@ -1,8 +1,11 @@
 -- The source of a day, and none outside the window.
-use Rattle.std.proofs.Common.{◌≡◌, ℕ, ◌<◌, ◌≤◌, Some, None, leb, sym, ◌∙◌, ⊎_elim}
+use Rattle.std.proofs.Common.{◌≡◌, ℕ, ◌+◌, ◌<◌, ◌≤◌, Some, None, leb, sym, ◌∙◌, ⊎_elim, arith}
+use Rattle.std.specs.Prelude.{Contains}
 use Rattle.std.proofs.lemmas.Bool.{cond-true, cond-false, cases_lt, le-leb, lt-leb}
-use Rattle.cif_calendar.specs.Pieces.{source_at}
+use Rattle.cif_calendar.specs.Pieces.{Tiles, source_at, winner_of}
 use Rattle.cif_calendar.specs.Calendar.{CalendarParts}
+use Rattle.cif_calendar.specs.declared.key_calendar.Piece.{Piece}
+use Rattle.cif_calendar.proofs.PieceLists.{source_at-piece, tiles-ends, tiles-from}
 use Rattle.cif_weeks.specs.Window.{IsWithin}
 use Rattle.cif_weeks.specs.Runs.{window_of}
 use Rattle.cif_weeks.specs.Steps.PieceSpans.{source_in}
@@ -32,3 +35,11 @@ module _ (c : CalendarParts) (n : ℕ) where
         (λ upto. upto)
         (cases_lt c.last n);
   }
+
+-- the source of a day of a piece
+pub source_in-piece : (c : CalendarParts) (p : Piece) → Tiles c.pieces c.first (c.last + 1) → Contains c.pieces p → (n : ℕ) → p.first ≤ n →
+    n ≤ p.last → source_in c n ≡ winner_of p n
+source_in-piece c p tiles listed n from upto =
+    let first : c.first ≤ p.first = tiles-from c.pieces c.first (c.last + 1) p tiles listed in
+    let ends = tiles-ends c.pieces c.first (c.last + 1) p tiles listed in
+    source_in-within c n (omega arith) (omega (arith, ends)) ∙ source_at-piece c.pieces c.first (c.last + 1) p n tiles listed from upto

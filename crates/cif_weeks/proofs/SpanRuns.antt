@@ -22,6 +22,7 @@ use Rattle.cif_weeks.specs.Steps.Growing.{IsGrown}
 use Rattle.cif_weeks.specs.Steps.Spans.{IsAgreed, Shows}
 use Rattle.cif_weeks.proofs.JoinedLists.{AllPairs-append}
 use Rattle.cif_weeks.proofs.RisingLists.{AllPairs-members, Contains-none}
+use Rattle.cif_weeks.proofs.SameDays.{breaks-over, grown-over}
 
 -- whether two runs begin on one date
 abbrev begin_together : Run → Run → Bool
@@ -117,6 +118,38 @@ module _ (form : Form) (window : Window) (spans : List Span) where
           agreed = λ i n is shows. h.agreed n (subst (λ v. Shows spans v n) (sym is) shows);
         })
 
+  -- the runs of some sources and of others
+  pub runs-joined : {some other both : ℕ → Type 0} {xs ys : List Run} → ((i : ℕ) → some i → both i) → ((i : ℕ) → other i → both i) →
+      ((i : ℕ) → both i → some i ⊎ other i) → ((i : ℕ) → some i → ¬ other i) → AreRunsOf form window spans some xs →
+      AreRunsOf form window spans other ys → AreRunsOf form window spans both (xs ++ ys)
+  runs-joined {xs = xs} {ys = ys} one two either apart x y =
+      let cases = Contains-append_cases xs ys in
+      let differ : (r t : Run) → Contains xs r → Contains ys t → r.source ≢ t.source =
+      λ r t in_r in_t same. apart t.source (subst (λ i. some i) same (x.each r in_r).0) (y.each t in_t).0 in
+      record {
+        each = λ r listed. ⊎_elim
+            (λ h. let (has, grown) = x.each r h in (one r.source has, grown))
+            (λ h. let (has, grown) = y.each r h in (two r.source has, grown))
+            (cases r listed);
+        once = AllPairs-append (λ r t. begin_together r t ≡ false) xs ys x.once y.once (λ r t in_r in_t.
+            let (has, grown) = y.each t in_t in
+            let no : r.first ≢ t.first = λ same.
+            let a = subst (Shows spans r.source) same (x.each r in_r).1.first_runs in
+            let b = grown.first_runs in
+            differ r t in_r in_t
+            (sym a.is ∙ (y.agreed t.source t.first has b).agree a.it b.it a.listed b.listed a.leads b.leads ∙ b.is) in
+            grind (arith, nat_tests));
+        apart = λ r t in_r in_t same less. ⊎_elim
+            (λ a. ⊎_elim (λ b. x.apart r t a b same less) (λ b. absurd (differ r t a b same)) (cases t in_t))
+            (λ a. ⊎_elim (λ b. absurd (differ t r b a (sym same))) (λ b. y.apart r t a b same less) (cases t in_t))
+            (cases r in_r);
+        complete = λ i n has shows. ⊎_elim
+            (λ old. has_week (Contains-append_left xs ys) (x.complete i n old shows))
+            (λ new. has_week (Contains-append_right xs ys) (y.complete i n new shows))
+            (either i has);
+        agreed = λ i n has shows. ⊎_elim (λ old. x.agreed i n old shows) (λ new. y.agreed i n new shows) (either i has);
+      }
+
   -- one span more
   module _ (done : List Span) (s : Span) {runs : List Run} (x : AreRunsOf form window spans (HasSource done) runs) where
     has_old : (i : ℕ) → HasSource done i → HasSource (done ++ s ∷ []) i
@@ -142,35 +175,12 @@ module _ (form : Form) (window : Window) (spans : List Span) where
 
     pub runs-added : {added : List Run} → HasBody s → All (λ t. HasBody t → t.source ≢ s.source) done →
         AreRunsOf form window spans (λ i. s.source ≡ i) added → AreRunsOf form window spans (HasSource (done ++ s ∷ [])) (runs ++ added)
-    runs-added {added} body new y =
-        let cases = Contains-append_cases runs added in
-        let other : (r t : Run) → Contains runs r → Contains added t → r.source ≢ t.source =
-        λ r t in_r in_t same.
-        let (v, listed, has_body, is) = (x.each r in_r).0 in
-        All-contains (λ v. HasBody v → v.source ≢ s.source) done v new listed has_body (is ∙ same ∙ sym (y.each t in_t).0) in
-        record {
-          each = λ r listed. ⊎_elim
-              (λ h. let (has, grown) = x.each r h in (has_old r.source has, grown))
-              (λ h. let (is, grown) = y.each r h in ((s, Contains-push done s, body, is), grown))
-              (cases r listed);
-          once = AllPairs-append (λ r t. begin_together r t ≡ false) runs added x.once y.once (λ r t in_r in_t.
-              let (is, grown) = y.each t in_t in
-              let no : r.first ≢ t.first = λ same.
-              let a = subst (Shows spans r.source) same (x.each r in_r).1.first_runs in
-              let b = grown.first_runs in
-              other r t in_r in_t
-              (sym a.is ∙ (y.agreed t.source t.first is b).agree a.it b.it a.listed b.listed a.leads b.leads ∙ b.is) in
-              grind (arith, nat_tests));
-          apart = λ r t in_r in_t same less. ⊎_elim
-              (λ a. ⊎_elim (λ b. x.apart r t a b same less) (λ b. absurd (other r t a b same)) (cases t in_t))
-              (λ a. ⊎_elim (λ b. absurd (other t r b a (sym same))) (λ b. y.apart r t a b same less) (cases t in_t))
-              (cases r in_r);
-          complete = λ i n has shows. ⊎_elim
-              (λ old. has_week (Contains-append_left runs added) (x.complete i n old shows))
-              (λ h. has_week (Contains-append_right runs added) (y.complete i n h.1 shows))
-              (has_cases i has);
-          agreed = λ i n has shows. ⊎_elim (λ old. x.agreed i n old shows) (λ h. y.agreed i n h.1 shows) (has_cases i has);
-        }
+    runs-added body new = runs-joined has_old
+        (λ i is. (s, Contains-push done s, body, is))
+        (λ i has. ⊎_elim inl (λ h. inr h.1) (has_cases i has))
+        (λ i (v, listed, has_body, is) same.
+        All-contains (λ v. HasBody v → v.source ≢ s.source) done v new listed has_body (is ∙ sym same))
+        x
 
   -- the runs of all spans, after the sort
   pub runs-sorted : {runs : List Run} → IsNonDecreasingBy (λ (r : Run). r.first) runs → AreRunsOf form window spans (HasSource spans) runs →
@@ -187,3 +197,23 @@ module _ (form : Form) (window : Window) (spans : List Span) where
     complete = λ s n listed body. h.complete s.source n (s, listed, body, refl);
     agreed = λ s n listed body. h.agreed s.source n (s, listed, body, refl);
   }
+
+-- the same runs, of other spans that show these sources on the same days
+pub runs-over : (form : Form) (window : Window) (p q : List Span) {sources : ℕ → Type 0} {runs : List Run} →
+    ((i n : ℕ) → sources i → Shows p i n → Shows q i n) → ((i n : ℕ) → sources i → Shows q i n → Shows p i n) →
+    ((n : ℕ) → IsAgreed q n) → AreRunsOf form window p sources runs → AreRunsOf form window q sources runs
+runs-over form window p q forth back agreed h = record {
+  each = λ r listed.
+      let (of, grown) = h.each r listed in
+      (of, grown-over window (λ n. forth r.source n of) (λ n. back r.source n of) (dates_of r) form grown);
+  once = h.once;
+  apart = λ r s in_r in_s same less.
+      let e = h.apart r s in_r in_s same less in
+      let of = (h.each r in_r).0 in
+      record {
+        before = e.before;
+        breaks = λ next. breaks-over window (λ n. forth r.source n of) (λ n. back r.source n of) (dates_of r) form (e.breaks next);
+      };
+  complete = λ i n of shows. h.complete i n of (back i n of shows);
+  agreed = λ i n of shows. agreed n;
+}

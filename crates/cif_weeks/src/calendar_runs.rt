@@ -1,7 +1,7 @@
 //! The canonical runs of a calendar, body by body, from the spans of its pieces.
 
 ghost use Rattle.std.specs.Prelude.{◌≡◌, ◌<◌, ◌≤◌, ◌+◌, ◌↔◌, ℕ, All, Contains, IfOk, List, None, Some, length};
-ghost use Rattle.std.specs.Prelude.{map, slice_index_or, []};
+ghost use Rattle.std.specs.Prelude.{map, slice_get, slice_index_or, []};
 ghost use Rattle.cif_columns.specs.Day.{weekday_of};
 ghost use Rattle.cif_columns.specs.DaysRun.{RunsOn};
 ghost use Rattle.cif_calendar.specs.declared.key_calendar.Piece.{Piece};
@@ -72,10 +72,10 @@ fn add_piece<E: Entry>(
 ) -> Result<(), AllocError>
     requires sources { AreSources (map E.terms entries.now) calendar.now }
     requires number { number < length calendar.now.pieces }
-    requires spans { (p : Piece) → AreSpansBefore (map E.terms entries.now) calendar.now
-        (slice_index_or calendar.now.pieces number p).first spans.old.items }
-    ensures { IfOk result (λ _. (p : Piece) → AreSpansBefore (map E.terms entries.now) calendar.now
-        ((slice_index_or calendar.now.pieces number p).last + 1) spans.new.items) }
+    requires spans { (piece : Piece) → slice_get calendar.now.pieces number ≡ Some piece →
+        AreSpansBefore (map E.terms entries.now) calendar.now piece.first spans.old.items }
+    ensures { IfOk result (λ _. (piece : Piece) → slice_get calendar.now.pieces number ≡ Some piece →
+        AreSpansBefore (map E.terms entries.now) calendar.now (piece.last + 1) spans.new.items) }
 {
     let piece = &calendar.pieces()[number];
     let week = piece.first.week();
@@ -87,7 +87,8 @@ fn add_piece<E: Entry>(
         }
         if let Some(winner) = piece.winners[usize::from(weekday)] {
             let ended = spans.as_slice().partition_point(|span| span.last_week + 1 < week);
-            let source = source_of(entries, &spans[ended..], winner);
+            let (_, near) = spans.as_slice().split_at(ended);
+            let source = source_of(entries, near, winner);
             let days = days_of(entries, piece, weekdays, source);
             spans.push(Span::between(piece.first, piece.last, days, b'P', source))?;
             taken = taken.union(days);
@@ -112,7 +113,7 @@ fn spans_by_source<E: Entry>(
     for number in 0..calendar.pieces().len() {
         add_piece(&mut spans, entries, calendar, number)?;
     }
-    spans.sort_by_key(|span| span.source)?;
+    spans.sort_unstable_by_key(|span| (span.source, span.first_week));
     Ok(spans)
 }
 
@@ -152,9 +153,9 @@ fn name_sources(runs: &mut [Run], calendar: &Calendar)
     requires { All (λ run. IsWithin (window_of calendar.now) run.first) runs.old }
     ensures { runs.new ≡ map (named calendar.now) runs.old }
 {
-    for run in runs.iter_mut() {
-        if let Some(source) = calendar.source_on(run.first) {
-            run.source = source;
+    for place in 0..runs.len() {
+        if let Some(source) = calendar.source_on(runs[place].first) {
+            runs[place].source = source;
         }
     }
 }

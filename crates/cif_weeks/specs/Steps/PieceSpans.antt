@@ -42,17 +42,16 @@ pub record AreSpansOn {B : Type 0} (xs : List (Terms B)) (c : CalendarParts) (kn
   pub one_source : (s t : Span) → Contains spans s → Contains spans t → AreNear s t →
       body_at xs (Some s.source) ≡ body_at xs (Some t.source) → s.source ≡ t.source
 
--- the spans are in the order of their weeks, and none begins or ends after this week
-pub record AreInOrder (week : ℕ) (spans : List Span) : Type 0 where
-  pub first_weeks : IsNonDecreasingBy (λ (s : Span). s.first_week) spans
-  pub last_weeks : IsNonDecreasingBy (λ (s : Span). s.last_week) spans
-  pub begun : (s : Span) → Contains spans s → s.first_week ≤ week
-  pub ended : (s : Span) → Contains spans s → s.last_week ≤ week
+-- the spans rise by their last weeks, and none begins or ends after these weeks
+pub record AreInOrder (first_week last_week : ℕ) (spans : List Span) : Type 0 where
+  pub rising : IsNonDecreasingBy (λ (s : Span). s.last_week) spans
+  pub begun : (s : Span) → Contains spans s → s.first_week ≤ first_week
+  pub ended : (s : Span) → Contains spans s → s.last_week ≤ last_week
 
--- The spans are those of the pieces before these, the first of which begins on day `limit`.
+-- The spans are those of the pieces that end before day `limit`, on which the next one begins.
 pub record AreSpansBefore {B : Type 0} (xs : List (Terms B)) (c : CalendarParts) (limit : ℕ) (spans : List Span) : Type 0 where
   pub are : AreSpansOn xs c (λ n. n < limit) spans
-  pub order : AreInOrder (week_of limit) spans
+  pub order : AreInOrder (week_of limit) (week_of limit) spans
 
 -- the spans rise by source, and those of one source by their first weeks
 pub record AreBySource (spans : List Span) : Type 0 where

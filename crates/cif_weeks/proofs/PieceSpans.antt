@@ -1,0 +1,239 @@
+-- The spans of a calendar's pieces: one span more, one piece more, and all of them by their sources.
+use Rattle.std.proofs.Common.{◌≡◌, ◌⊎◌, inl, inr, ◌↔◌, ℕ, ◌+◌, ◌-◌, ◌<◌, ◌≤◌, Bool, true, false, List, [], ◌∷◌, ◌++◌, None, Some, length}
+use Rattle.std.proofs.Common.{get_or, drop, ltb, ltb-true, ltb-false}
+use Rattle.std.proofs.Common.{arith, refl, sym, ◌∙◌, ap, subst, ⊎_elim}
+use Rattle.std.specs.Prelude.{Contains, slice_get}
+use Rattle.std.specs.List.Sorted.{IsNonDecreasingBy, IsPartitionPoint, IsPartitionedBy}
+use Rattle.std.proofs.lemmas.Bool.{cases_lt}
+use Rattle.std.proofs.lemmas.List.Elements.{All-contains, Contains-append_left, Contains-get_or, Contains-push, Contains-push_cases}
+use Rattle.std.proofs.lemmas.List.Sorted.{IsNonDecreasingBy-push, IsNonDecreasingBy-short, IsPartitionedBy-ltb}
+use Rattle.std.proofs.lemmas.Option.{slice_get-get_or}
+use Rattle.cif_columns.specs.Day.{week_of, weekday_of}
+use Rattle.cif_columns.specs.DaysRun.{RunsOn}
+use Rattle.cif_columns.specs.Stp.{letter}
+use Rattle.cif_columns.specs.declared.stp.Stp.TheVariants.{P}
+use Rattle.cif_calendar.specs.Calendar.{CalendarParts}
+use Rattle.cif_calendar.specs.Pieces.{Tiles, winner_of}
+use Rattle.cif_calendar.specs.Source.{body_at}
+use Rattle.cif_calendar.specs.Terms.{Terms}
+use Rattle.cif_calendar.specs.declared.key_calendar.Piece.{Piece}
+use Rattle.cif_calendar.proofs.PieceLists.{tiles-ends}
+use Rattle.cif_weeks.specs.Runs.{AreSources}
+use Rattle.cif_weeks.specs.Steps.PieceSpans.{AreInOrder, AreNear, AreSpansBefore, AreSpansOn, IsPieceSpan, body_in, source_in}
+use Rattle.cif_weeks.specs.Steps.Spans.{HasDay, IsSourceAmong}
+use Rattle.cif_weeks.specs.declared.span.Span.{Span}
+use Rattle.cif_weeks.proofs.Cuts.{cut-cases, cut-rest}
+use Rattle.cif_weeks.proofs.Growth.{body-source, has-below, inside, source-body}
+use Rattle.cif_weeks.proofs.SourcesIn.{source_in-piece}
+use Rattle.cif_weeks.proofs.RisingLists.{Contains-none}
+
+-- a piece of the calendar
+pub record IsPieceOf (c : CalendarParts) (p : Piece) : Type 0 where
+  pub tiles : Tiles c.pieces c.first (c.last + 1)
+  pub listed : Contains c.pieces p
+  pub in_order : p.first ≤ p.last
+
+-- the one with this number
+pub piece-at : (c : CalendarParts) (items : List Piece) (number : ℕ) (p : Piece) → items ≡ c.pieces → Tiles items c.first (c.last + 1) →
+    number < length c.pieces → p ≡ get_or items number p → IsPieceOf c p × (slice_get c.pieces number ≡ Some p)
+piece-at c items number p same tiles below is =
+    let all : Tiles c.pieces c.first (c.last + 1) = subst (λ ps. Tiles ps c.first (c.last + 1)) same tiles in
+    let at : p ≡ get_or c.pieces number p = is ∙ ap (λ ps. get_or ps number p) same in
+    let listed : Contains c.pieces p = (number, below, sym at) in (
+      record { tiles = all; listed = listed; in_order = (tiles-ends c.pieces c.first (c.last + 1) p all listed).0 },
+      slice_get-get_or c.pieces number p below ∙ ap Some (sym at),
+    )
+
+-- no span is added
+pub order-later : {first last : ℕ} (later ended : ℕ) (spans : List Span) → first ≤ later → last ≤ ended → AreInOrder first last spans →
+    AreInOrder later ended spans
+order-later later ended spans begin end o = record {
+  rising = o.rising;
+  begun = λ s listed. omega (arith, o.begun s listed);
+  ended = λ s listed. omega (arith, o.ended s listed);
+}
+
+-- a span is added that begins and ends in these weeks
+pub order-more : (first last : ℕ) (spans : List Span) (u : Span) → u.first_week ≡ first → u.last_week ≡ last → AreInOrder first last spans →
+    AreInOrder first last (spans ++ u ∷ [])
+order-more first last spans u begins ends o = record {
+  rising = IsNonDecreasingBy-push (λ (s : Span). s.last_week) spans u o.rising
+      (λ d some. omega (arith, o.ended (get_or spans (length spans - 1) d) (Contains-get_or spans (length spans - 1) d (omega arith))));
+  begun = λ s listed. ⊎_elim
+      (λ old. o.begun s old)
+      (λ same. omega (arith, ap (λ (v : Span). v.first_week) same))
+      (Contains-push_cases spans u s listed);
+  ended = λ s listed. ⊎_elim
+      (λ old. o.ended s old)
+      (λ same. omega (arith, ap (λ (v : Span). v.last_week) same))
+      (Contains-push_cases spans u s listed);
+}
+
+pub order-none : (first last : ℕ) → AreInOrder first last []
+order-none first last = record {
+  rising = IsNonDecreasingBy-short (λ (s : Span). s.last_week) [] (omega arith);
+  begun = λ s listed. absurd (Contains-none s listed);
+  ended = λ s listed. absurd (Contains-none s listed);
+}
+
+-- the spans before this place end before the week before this one, and no others do
+abbrev pub EndBefore : ℕ → List Span → ℕ → Type 0
+EndBefore week spans place =
+    IsPartitionPoint (λ (s : Span). ltb (s.last_week + 1) week ≡ true) (λ (s : Span). ltb (s.last_week + 1) week ≡ false) spans place
+
+pub rises-for : (week : ℕ) (spans : List Span) → IsNonDecreasingBy (λ (s : Span). s.last_week) spans →
+    IsPartitionedBy (λ (s : Span). ltb (s.last_week + 1) week) spans
+rises-for week spans rising = IsPartitionedBy-ltb (λ (s : Span). s.last_week + 1) spans week
+    (λ i j d upto below. omega (arith, rising i j d upto below))
+
+-- a span that shows the body on the day is still there
+still : (Is : Span → Type 0) (spans : List Span) (n : ℕ) (u : Span) → ((s : Span) × Contains spans s × HasDay s n × Is s) →
+    (s : Span) × Contains (spans ++ u ∷ []) s × HasDay s n × Is s
+still Is spans n u (s, listed, has, of) = (s, Contains-append_left spans (u ∷ []) s listed, has, of)
+
+near-sym : (s t : Span) → AreNear s t → AreNear t s
+near-sym s t h = record { reaches = h.reached; reached = h.reaches }
+
+-- the days before the piece, and those of its days whose weekdays are taken
+abbrev pub KnownIn : Piece → List Bool → ℕ → Type 0
+KnownIn p taken n = (n < p.first) ⊎ ((p.first ≤ n) × (n ≤ p.last) × RunsOn taken (weekday_of n))
+
+module _ {B : Type 0} (xs : List (Terms B)) (c : CalendarParts) where
+  -- of other days it is known what runs, if of all of them that have a body
+  pub spans-known : {known other : ℕ → Type 0} (spans : List Span) → ((n : ℕ) (b : B) → other n → body_in xs c n ≡ Some b → known n) →
+      AreSpansOn xs c known spans → AreSpansOn xs c other spans
+  spans-known spans also a = record {
+    each = a.each;
+    all = λ n b is runs. a.all n b (also n b is runs) runs;
+    one_source = a.one_source;
+  }
+
+  module _ (sources : AreSources xs c) where
+    -- before the first piece no day has a body
+    pub spans-none : AreSpansOn xs c (λ n. n < c.first) []
+    spans-none = record {
+      each = λ s listed. absurd (Contains-none s listed);
+      all = λ n b before runs. absurd (omega (arith, (inside xs c sources b n runs).from, before));
+      one_source = λ s t listed. absurd (Contains-none s listed);
+    }
+
+    module _ (p : Piece) (of : IsPieceOf c p) where
+      -- what runs on a day of the piece
+      piece-body : (n : ℕ) (b : B) → p.first ≤ n → n ≤ p.last → body_in xs c n ≡ Some b →
+          (i : ℕ) × (winner_of p n ≡ Some i) × (body_at xs (Some i) ≡ Some b)
+      piece-body n b from upto runs =
+          let (i, is) = body-source xs c sources (source_in c n) b runs in (
+            i,
+            sym (source_in-piece c p of.tiles of.listed n from upto) ∙ is,
+            ap (body_at xs) (sym is) ∙ runs,
+          )
+
+      -- a winner of a weekday that the piece has is the position of a body
+      pub winner-body : (n i : ℕ) → p.first ≤ n → n ≤ p.last → winner_of p n ≡ Some i → (b : B) × (body_at xs (Some i) ≡ Some b)
+      winner-body n i from upto is = source-body xs c sources n i (source_in-piece c p of.tiles of.listed n from upto ∙ is)
+
+      -- one span more
+      module _ (spans : List Span) (taken days weekdays both : List Bool) (u : Span) (winner weekday ended : ℕ)
+          (order : AreInOrder (week_of p.first) (week_of p.last) spans) (point : EndBefore (week_of p.first) spans ended)
+          (own : (n : ℕ) → HasDay u n ↔ ((p.first ≤ n) × (n ≤ p.last) × RunsOn days (weekday_of n)))
+          (begins : u.first_week ≡ week_of p.first) (ends : u.last_week ≡ week_of p.last) (is_P : u.letter ≡ letter P)
+          (same : body_at xs (Some u.source) ≡ body_at xs (Some winner))
+          (among : IsSourceAmong xs (drop ended spans) winner u.source)
+          (wins : get_or p.winners weekday None ≡ Some winner)
+          (dated : (n : ℕ) × (p.first ≤ n) × (n ≤ p.last) × (weekday_of n ≡ weekday))
+          (of_body : (w : ℕ) → RunsOn days w ↔ (RunsOn weekdays w × ((i : ℕ) × (get_or p.winners w None ≡ Some i)
+          × (body_at xs (Some u.source) ≡ body_at xs (Some i)))))
+          (united : (w : ℕ) → RunsOn both w ↔ (RunsOn taken w ⊎ RunsOn days w)) where
+        has-body : (b : B) × (body_at xs (Some u.source) ≡ Some b)
+        has-body =
+            let (n, from, upto, day) = dated in
+            let (b, is) = winner-body n winner from upto (ap (λ w. get_or p.winners w None) day ∙ wins) in (b, same ∙ is)
+
+        its-runs : (n : ℕ) → HasDay u n → body_in xs c n ≡ body_at xs (Some u.source)
+        its-runs n has =
+            let (from, upto, on) = (own n).0 has in
+            let (_, (i, is, one)) = (of_body (weekday_of n)).0 on in
+            ap (body_at xs) (source_in-piece c p of.tiles of.listed n from upto ∙ is) ∙ sym one
+
+        near : (s : Span) → Contains (drop ended spans) s → Contains spans s × (week_of p.first ≤ s.last_week + 1)
+        near s h = let (listed, late) = cut-rest spans ended point s h in (listed, ltb-false (s.last_week + 1) (week_of p.first) late)
+
+        -- an earlier span that is near the new one, with its body, is one of those that were looked at
+        old-source : (s : Span) → Contains spans s → AreNear s u → body_at xs (Some s.source) ≡ body_at xs (Some u.source) →
+            AreSpansOn xs c (KnownIn p taken) spans → s.source ≡ u.source
+        old-source s in_s close one a =
+            let in_near : Contains (drop ended spans) s = ⊎_elim
+            (λ gone. absurd (omega (arith, close.reached, ltb-true (s.last_week + 1) (week_of p.first) gone.1)))
+            (λ h. h.0)
+            (cut-cases spans ended point s in_s) in
+            ⊎_elim
+            (λ h.
+            let (t, in_t, is) = h in
+            let (there, late) = near t in_t in
+            let (_, late_s) = near s in_near in
+            a.one_source s t in_s there
+            (record {
+              reaches = omega (arith, order.begun s in_s);
+              reached = omega (arith, order.begun t there);
+            }) (one ∙ ap (λ v. body_at xs (Some v)) (sym is)) ∙ is)
+            (λ h. absurd (All-contains (λ (v : Span). (body_at xs (Some v.source) ≡ body_at xs (Some winner)) → ⊥) (drop ended spans) s h.1 in_near
+            (one ∙ same)))
+            among
+
+        pub spans-more : AreSpansOn xs c (KnownIn p taken) spans → AreSpansOn xs c (KnownIn p both) (spans ++ u ∷ [])
+        spans-more a = record {
+          each = λ s in_s. ⊎_elim
+              (λ old. a.each s old)
+              (λ is. subst (λ v. IsPieceSpan xs c v) is (record {
+                body = has-body.0;
+                has = has-body.1;
+                letter = is_P;
+                runs = λ n has. its-runs n has ∙ has-body.1;
+              }))
+              (Contains-push_cases spans u s in_s);
+          all = λ n b known runs.
+              let old = λ (k : KnownIn p taken n). still (λ s. body_at xs (Some s.source) ≡ Some b) spans n u (a.all n b k runs) in
+              ⊎_elim
+              (λ before. old (inl before))
+              (λ k. ⊎_elim
+              (λ t. old (inr (k.0, k.1, t)))
+              (λ d.
+              let has = (own n).1 (k.0, k.1, d) in (u, Contains-push spans u, has, sym (its-runs n has) ∙ runs))
+              ((united (weekday_of n)).0 k.2))
+              known;
+          one_source = λ s t in_s in_t close one. ⊎_elim
+              (λ old. ⊎_elim
+              (λ other. a.one_source s t old other close one)
+              (λ is. subst (λ (v : Span). s.source ≡ v.source) is (old-source s old
+              (subst (λ v. AreNear s v) (sym is) close) (one ∙ ap (λ (v : Span). body_at xs (Some v.source)) (sym is)) a))
+              (Contains-push_cases spans u t in_t))
+              (λ is. ⊎_elim
+              (λ other. subst (λ (v : Span). v.source ≡ t.source) is (sym (old-source t other
+              (near-sym u t (subst (λ v. AreNear v t) (sym is) close))
+              (sym one ∙ ap (λ (v : Span). body_at xs (Some v.source)) (sym is)) a)))
+              (λ same_t. ap (λ (v : Span). v.source) (sym is ∙ same_t))
+              (Contains-push_cases spans u t in_t))
+              (Contains-push_cases spans u s in_s);
+        }
+
+      -- all weekdays that have a winner are taken
+      pub spans-all : (spans : List Span) (weekdays taken : List Bool) →
+          ((n : ℕ) → p.first ≤ n → n ≤ p.last → RunsOn weekdays (weekday_of n)) →
+          ((w i : ℕ) → w < 7 → RunsOn weekdays w → get_or p.winners w None ≡ Some i → RunsOn taken w) →
+          AreSpansOn xs c (KnownIn p taken) spans → AreSpansOn xs c (λ n. n < p.last + 1) spans
+      spans-all spans weekdays taken dated done a = spans-known spans
+          (λ n b before runs. ⊎_elim
+          (λ earlier. inl earlier)
+          (λ from.
+          let upto : n ≤ p.last = omega arith in
+          let (i, is, has) = piece-body n b from upto runs in
+          inr (from, upto, done (weekday_of n) i (omega arith) (dated n from upto) is))
+          (cases_lt n p.first)) a
+
+      -- the source of a span is the position of an entry
+      pub winner-below : (n i : ℕ) → p.first ≤ n → n ≤ p.last → winner_of p n ≡ Some i → i < length xs
+      winner-below n i from upto is = let (b, has) = winner-body n i from upto is in has-below xs c sources i b has
+
+    pub span-below : {known : ℕ → Type 0} (spans : List Span) → AreSpansOn xs c known spans → (s : Span) → Contains spans s →
+        s.source < length xs
+    span-below spans a s listed = let e = a.each s listed in has-below xs c sources s.source e.body e.has

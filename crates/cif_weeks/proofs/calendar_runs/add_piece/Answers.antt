@@ -1,0 +1,107 @@
+-- One weekday more: none of the piece (`order-later`), one that is taken, one without a winner, or a span for a body (`spans-more`).
+use Rattle.std.proofs.Common.{◌≡◌, inl, inr, ◌+◌, ◌<◌, ◌≤◌, ℕ, List, Bool, None, Some, map, get_or, drop, length, ltb}
+use Rattle.std.proofs.Common.{sym, ◌∙◌, ap, subst, refl, arith, rules, ⊎_elim}
+use Rattle.std.specs.Prelude.{Contains}
+use Rattle.std.proofs.lemmas.Bool.{cases_lt}
+use Rattle.std.proofs.lemmas.List.{length-map}
+use Rattle.std.proofs.lemmas.List.Elements.{Contains-get_or}
+use Rattle.std.proofs.lemmas.List.Sorted.{IsPartitionPoint-from_clause}
+use Rattle.std.proofs.lemmas.Option.{same_Some}
+use Rattle.cif_columns.specs.Day.{week_of, weekday_of}
+use Rattle.cif_columns.specs.DaysRun.{RunsOn}
+use Rattle.cif_calendar.proofs.Winning.{refuted}
+use Rattle.cif_calendar.specs.declared.key_calendar.Piece.{Piece}
+use Rattle.cif_weeks.specs.Steps.PieceSpans.{AreSpansBefore}
+use Rattle.cif_weeks.specs.declared.span.Span.{Span}
+use Rattle.cif_weeks.proofs.Cuts.{cut-rest}
+use Rattle.cif_weeks.proofs.PieceSpans.{EndBefore, IsPieceOf, order-later, order-more, piece-at, rises-for, span-below, spans-all, spans-known}
+use Rattle.cif_weeks.proofs.PieceSpans.{spans-more, winner-below}
+use Rattle.cif_weeks.proofs.calendar_runs.add_piece.Goals as goal
+use Rattle.cif_weeks.proofs.calendar_runs.add_piece.Goals.{then-not-has-via-then-not-has, then-not-has-via-else-not-has+then-has}
+use Rattle.cif_weeks.proofs.calendar_runs.add_piece.Goals.{in-Some+in_ok-push, in_default}
+
+-- one weekday more of which it is known whether it has a winner and is taken
+done-more : (winners : List _) (weekdays taken both : List Bool) (weekday : ℕ) →
+    ((w i : ℕ) → w < weekday → RunsOn weekdays w → get_or winners w None ≡ Some i → RunsOn taken w) →
+    ((w : ℕ) → RunsOn taken w → RunsOn both w) →
+    ((i : ℕ) → RunsOn weekdays weekday → get_or winners weekday None ≡ Some i → RunsOn both weekday) →
+    (w i : ℕ) → w < weekday + 1 → RunsOn weekdays w → get_or winners w None ≡ Some i → RunsOn both w
+done-more winners weekdays taken both weekday old also it w i less on is = ⊎_elim
+    (λ sooner. also w (old w i sooner on is))
+    (λ from.
+    let at : w ≡ weekday = omega arith in
+    subst (RunsOn both) (sym at) (it i (subst (RunsOn weekdays) at on) (ap (λ v. get_or winners v None) (sym at) ∙ is)))
+    (cases_lt w weekday)
+
+pub weekdays_of-weekdays-requires : goal.weekdays_of-weekdays-requires
+weekdays_of-weekdays-requires g c =
+    (piece-at c.args.calendar.now c.pieces.result.now c.args.number c.index-pieces-number.result c.pieces.ensures.pieces
+    c.pieces.ensures.tiles c.requires.number c.index-pieces-number.is).0.in_order
+
+pub loop-weekday-init : goal.loop-weekday-init
+loop-weekday-init g c =
+    let p = c.index-pieces-number.result in
+    let (of, at) = piece-at c.args.calendar.now c.pieces.result.now c.args.number p c.pieces.ensures.pieces c.pieces.ensures.tiles
+    c.requires.number c.index-pieces-number.is in
+    let before = c.requires.spans p at in
+    record {
+      are = spans-known _ _ _ (λ n b known runs. ⊎_elim (λ h. h) (λ h. absurd (c.no_days-taken.ensures.none (weekday_of n) h.2)) known)
+          before.are;
+      order = order-later (week_of p.first) (week_of p.last) _ (omega arith) (omega (arith, of.in_order)) before.order;
+      done = λ w i less. absurd (omega arith);
+    }
+
+pub loop-weekday-preserved-then-not-has : goal.loop-weekday-preserved-then-not-has
+loop-weekday-preserved-then-not-has g c =
+    let l = c.loop-weekday.invariant in
+    record {
+      are = l.are;
+      order = l.order;
+      done = done-more c.index-pieces-number.result.winners c.weekdays_of-weekdays.result c.loop-weekday.taken c.loop-weekday.taken
+          c.loop-weekday.weekday l.done (λ w on. on) (λ i on is. elim c.then-not-has.branch [
+            | then-not-has-via-then-not-has w ↦ absurd (refuted _ c.has.ensures w.if-not-has.true on)
+            | then-not-has-via-else-not-has+then-has w ↦ w.has-else-not-has.ensures.0 w.if-has.true
+          ]);
+    }
+
+pub source_of-source-requires-clause-position : goal.source_of-source-requires-clause-position
+source_of-source-requires-clause-position g c =
+    let p = c.index-pieces-number.result in
+    let (of, at) = piece-at c.args.calendar.now c.pieces.result.now c.args.number p c.pieces.ensures.pieces c.pieces.ensures.tiles
+    c.requires.number c.index-pieces-number.is in
+    let (n, from, upto, day) = (c.weekdays_of-weekdays.ensures c.loop-weekday.weekday).0 (c.has.ensures.0 c.if-not-has.false) in
+    subst (λ v. c.in-Some.winner < v) (length-map c.args.entries.now g.E.Entry.terms)
+    (winner-below _ c.args.calendar.now c.requires.sources p of n c.in-Some.winner from upto
+    (ap (λ v. get_or p.winners v None) (day ∙ sym c.from.ensures) ∙ c.in-Some.is))
+
+pub source_of-source-requires-clause-sources : goal.source_of-source-requires-clause-sources
+source_of-source-requires-clause-sources g c = ?
+
+pub days_of-days-requires-clause-source : goal.days_of-days-requires-clause-source
+days_of-days-requires-clause-source g c = ?
+
+pub days_of-days-requires-clause-winners : goal.days_of-days-requires-clause-winners
+days_of-days-requires-clause-winners g c w i on is =
+    let p = c.index-pieces-number.result in
+    let (of, at) = piece-at c.args.calendar.now c.pieces.result.now c.args.number p c.pieces.ensures.pieces c.pieces.ensures.tiles
+    c.requires.number c.index-pieces-number.is in
+    let (n, from, upto, day) = (c.weekdays_of-weekdays.ensures w).0 on in
+    subst (λ v. i < v) (length-map c.args.entries.now g.E.Entry.terms)
+    (winner-below _ c.args.calendar.now c.requires.sources p of n i from upto (ap (λ v. get_or p.winners v None) day ∙ is))
+
+pub loop-weekday-preserved : goal.loop-weekday-preserved
+loop-weekday-preserved g c = ?
+
+pub returns : goal.returns
+returns g c piece at =
+    let p = c.index-pieces-number.result in
+    let (of, there) = piece-at c.args.calendar.now c.pieces.result.now c.args.number p c.pieces.ensures.pieces c.pieces.ensures.tiles
+    c.requires.number c.index-pieces-number.is in
+    let l = c.loop-weekday.invariant in
+    subst (λ (q : Piece). AreSpansBefore _ c.args.calendar.now (q.last + 1) c.loop-weekday.spans.items)
+    (same_Some p piece (sym there ∙ at)) (record {
+      are = spans-all _ _ c.requires.sources p of _ c.weekdays_of-weekdays.result c.loop-weekday.taken
+          (λ n from upto. (c.weekdays_of-weekdays.ensures (weekday_of n)).1 (n, from, upto, refl))
+          (λ w i below. l.done w i (omega (arith, c.loop-weekday-test.false))) l.are;
+      order = order-later (week_of (p.last + 1)) (week_of (p.last + 1)) _ (omega (arith, of.in_order)) (omega arith) l.order;
+    })

@@ -1,0 +1,12 @@
+-- The spans of the pieces so far.
+use Rattle.std.proofs.Common.{◌+◌, ℕ, map, drop}
+use Rattle.cif_calendar.specs.Pieces.{Tiles}
+use Rattle.cif_weeks.specs.Steps.PieceSpans.{AreSpansBefore}
+use Rattle.cif_weeks.proofs.calendar_runs.spans_by_source.Given as goal
+
+abbrev pub invariant-loop-number : goal.invariant-loop-number
+invariant-loop-number g l = record {
+  limit : ℕ;
+  tiles : Tiles (drop l.number l.calendar.pieces) limit (l.calendar.last + 1);
+  before : AreSpansBefore (map g.E.Entry.terms l.entries) l.calendar limit l.spans.items;
+}
