@@ -21,3 +21,4 @@ pub mod CalendarSources
 pub mod BodyRuns
 pub mod MemberRuns
 pub mod SpanRuns
+pub mod ActiveSpans

@@ -1,7 +1,7 @@
 //! The runs of one body: the weekdays on which its spans lead, week by week. Weeks that have one mask
 //! are taken at once.
 
-ghost use Rattle.std.specs.Prelude.{◌≡◌, ◌≢◌, ◌<◌, ◌≤◌, ◌+◌, ◌++◌, Contains, IfNone, IfOk, IfSome};
+ghost use Rattle.std.specs.Prelude.{◌≡◌, ◌≢◌, ◌<◌, ◌≤◌, ◌+◌, ◌*◌, ◌++◌, Contains, IfNone, IfOk, IfSome};
 ghost use Rattle.std.specs.Prelude.{MatchBool, ℕ, List};
 ghost use Rattle.std.specs.List.Sorted.{IsNonDecreasingBy, IsPartitionPoint};
 ghost use Rattle.cif_columns.specs.Day.{IsDay, week_of};
@@ -41,7 +41,8 @@ fn weeks_led(spans: &[Span], span: &Span, week: u32, until: u32) -> Option<Weeks
         (HaveOneMask (λ n. Leads spans.now n span.now) week until) }
     ensures agreed { Contains spans.now span.now → IfSome result
         (AgreeOn spans.now (λ n. Leads spans.now n span.now) week) }
-    ensures disputed { Contains spans.now span.now → IfNone result ((n : ℕ) × IsDisputed spans.now n) }
+    ensures disputed { Contains spans.now span.now → IfNone result
+        ((n : ℕ) × (week_of n ≡ week) × IsDisputed spans.now n) }
 {
     let own = span.weeks_from(week, until);
     let mut last = own.last;
@@ -75,7 +76,7 @@ fn weeks_shown(spans: &[Span], source: usize, week: u32, until: u32) -> Option<W
     requires in_range { until < 65536 }
     ensures weeks { IfSome result (HaveOneMask (Shows spans.now source) week until) }
     ensures agreed { IfSome result (AgreeOn spans.now (Shows spans.now source) week) }
-    ensures disputed { IfNone result ((n : ℕ) × IsDisputed spans.now n) }
+    ensures disputed { IfNone result ((n : ℕ) × (week_of n ≡ week) × IsDisputed spans.now n) }
 {
     let mut days = no_days();
     let mut last = until;
@@ -181,8 +182,9 @@ pub(crate) fn add_body_runs(
             let Some(weeks) = weeks_shown(&left[..count], source, week, until) else {
                 return Ok(false);
             };
+            let last = weeks.last;
             growing = grow(runs, growing, week, weeks, spans, source, window, form)?;
-            week = weeks.last + 1;
+            week = last + 1;
         }
     }
     if let Some(run) = growing {
