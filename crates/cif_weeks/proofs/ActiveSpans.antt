@@ -1,10 +1,10 @@
 -- The spans that may not have ended by a week. On the days of some weeks those of them that have begun are all that count.
-use Rattle.std.proofs.Common.{◌≡◌, ◌⊎◌, inl, inr, ℕ, ◌+◌, ◌<◌, ◌≤◌, List, [], ◌∷◌, length, take, get_or}
+use Rattle.std.proofs.Common.{◌≡◌, ◌⊎◌, inl, inr, ℕ, ◌-◌, ◌<◌, ◌≤◌, List, [], ◌∷◌, length, take, drop, get_or}
 use Rattle.std.proofs.Common.{refl, sym, ◌∙◌, ap, subst, arith, ⊎_elim}
 use Rattle.std.specs.Prelude.{Contains}
 use Rattle.std.specs.List.Sorted.{IsNonDecreasingBy}
 use Rattle.std.proofs.lemmas.Bool.{cases_lt}
-use Rattle.std.proofs.lemmas.List.{get_or-take, length-take, take-append-drop}
+use Rattle.std.proofs.lemmas.List.{get_or-take, get_or_read_under, length-take, take-append-drop, take_all}
 use Rattle.std.proofs.lemmas.List.Elements.{Contains-append_left}
 use Rattle.std.proofs.lemmas.List.Sorted.{IsNonDecreasingBy-drop}
 use Rattle.cif_columns.specs.Day.{week_of}
@@ -79,57 +79,71 @@ pub record AreLeft (spans left : List Span) (week : ℕ) : Type 0 where
 pub left-start : (spans : List Span) (week : ℕ) → IsNonDecreasingBy (λ (s : Span). s.first_week) spans → AreLeft spans spans week
 left-start spans week order = record { some = λ s listed. listed; all = λ s listed. inl listed; order = order }
 
-module _ {spans : List Span} {week : ℕ} where
-  -- one has ended
-  pub left-fewer : (span : Span) (after : List Span) → AreLeft spans (span ∷ after) week → span.last_week < week → AreLeft spans after week
-  left-fewer span after h ended = record {
-    some = λ s listed. h.some s (Contains-rest span after s listed);
-    all = λ s listed. ⊎_elim
-        (λ here. ⊎_elim
-        (λ same. inr (subst (λ (v : Span). v.last_week < week) same ended))
-        (λ rest. inl rest)
-        (Contains-cases span after s here))
-        (λ gone. inr gone)
-        (h.all s listed);
-    order = IsNonDecreasingBy-drop (λ (s : Span). s.first_week) 1 (span ∷ after) h.order;
-  }
+-- a list with a first element
+first-is : (left : List Span) (span : Span) → 1 ≤ length left → span ≡ get_or left 0 span →
+    left ≡ span ∷ take (length left - 1) (drop 1 left)
+first-is [] span some is = absurd (omega arith)
+first-is (s ∷ rest) span some is = rw (take_all (length (s ∷ rest) - 1) rest (omega arith)) (ap (λ v. v ∷ rest) (sym is))
 
-  pub left-later : {left : List Span} (later : ℕ) → AreLeft spans left week → week ≤ later → AreLeft spans left later
-  left-later later h upto = record {
+module _ {spans left : List Span} {week : ℕ} (h : AreLeft spans left week) where
+  pub left-later : (later : ℕ) → week ≤ later → AreLeft spans left later
+  left-later later upto = record {
     some = h.some;
     all = λ s listed. ⊎_elim (λ here. inl here) (λ gone. inr (omega arith)) (h.all s listed);
     order = h.order;
   }
 
-  -- before the first of them begins, and after the last has ended, there is no day
-  pub none-before : (span : Span) (after : List Span) → AreLeft spans (span ∷ after) week → {source : ℕ} (n : ℕ) → week ≤ week_of n →
-      week_of n < span.first_week → ¬ Shows spans source n
-  none-before span after h n from less on = ⊎_elim
-      (λ (k, below, is).
-      let upto = h.order 0 k on.it (omega arith) below in
-      let at : (get_or (span ∷ after) k on.it).first_week ≡ on.it.first_week = ap (λ (v : Span). v.first_week) is in
-      omega (arith, on.leads.has.from))
-      (λ gone. omega (arith, on.leads.has.upto))
-      (h.all on.it on.listed)
+  -- the first of them
+  module _ (span : Span) (some : 1 ≤ length left) (is : span ≡ get_or left 0 span) where
+    abbrev rest : List Span
+    rest = take (length left - 1) (drop 1 left)
 
-  pub none-after : AreLeft spans [] week → {source : ℕ} (n : ℕ) → Shows spans source n → week_of n < week
-  none-after h n on = ⊎_elim
+    -- it has ended
+    pub left-fewer : span.last_week < week → AreLeft spans rest week
+    left-fewer ended =
+        let cons = first-is left span some is in
+        record {
+          some = λ s listed. h.some s (subst (λ v. Contains v s) (sym cons) (Contains-rest span rest s listed));
+          all = λ s listed. ⊎_elim
+              (λ here. ⊎_elim
+              (λ same. inr (subst (λ (v : Span). v.last_week < week) same ended))
+              (λ later. inl later)
+              (Contains-cases span rest s (subst (λ v. Contains v s) cons here)))
+              (λ gone. inr gone)
+              (h.all s listed);
+          order = IsNonDecreasingBy-drop (λ (s : Span). s.first_week) 1 (span ∷ rest)
+              (subst (IsNonDecreasingBy (λ (s : Span). s.first_week)) cons h.order);
+        }
+
+    -- before it begins there is no day
+    pub none-before : (n : ℕ) → week ≤ week_of n → week_of n < span.first_week → {source : ℕ} → ¬ Shows spans source n
+    none-before n from less on = ⊎_elim
+        (λ (k, below, at).
+        let upto = h.order 0 k on.it (omega arith) below in
+        let first = ap (λ (v : Span). v.first_week) (get_or_read_under left 0 (length left) span on.it is (omega arith) refl) in
+        let here = ap (λ (v : Span). v.first_week) at in
+        omega (arith, on.leads.has.from))
+        (λ gone. omega (arith, on.leads.has.upto))
+        (h.all on.it on.listed)
+
+  -- after the last has ended there is none
+  pub none-after : length left < 1 → {source : ℕ} (n : ℕ) → Shows spans source n → week_of n < week
+  none-after none n on = ⊎_elim
       (λ (k, below, is). absurd (omega arith))
       (λ gone. omega (arith, on.leads.has.upto))
       (h.all on.it on.listed)
 
   -- up to the week before the next one begins, those that have begun are all that count
-  pub begun-same : {left : List Span} → AreLeft spans left week → (count until : ℕ) →
-      ((d : Span) → count < length left → until < (get_or left count d).first_week) → (n : ℕ) → week ≤ week_of n → week_of n ≤ until →
-      SameOn (take count left) spans n
-  begun-same {left} h count until next n from upto = record {
+  pub begun-same : (count until : ℕ) → ((d : Span) → count < length left → until < (get_or left count d).first_week) → (n : ℕ) →
+      week ≤ week_of n → week_of n ≤ until → SameOn (take count left) spans n
+  begun-same count until next n from upto = record {
     some = λ s listed.
         h.some s (subst (λ v. Contains v s) (take-append-drop count left) (Contains-append_left (take count left) _ s listed));
     all = λ s listed has. ⊎_elim
         (λ (k, below, is). ⊎_elim
         (λ less. (k, (let long = length-take count left in omega arith), get_or-take count left k s less ∙ is))
-        (λ from.
-        let rises = h.order count k s from below in
+        (λ later.
+        let rises = h.order count k s later below in
         let at : (get_or left k s).first_week ≡ s.first_week = ap (λ (v : Span). v.first_week) is in
         absurd (omega (arith, next s (omega arith), has.from)))
         (cases_lt k count))

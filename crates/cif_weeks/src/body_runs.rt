@@ -2,7 +2,7 @@
 //! are taken at once.
 
 ghost use Rattle.std.specs.Prelude.{◌≡◌, ◌≢◌, ◌<◌, ◌≤◌, ◌+◌, ◌*◌, ◌++◌, Contains, IfNone, IfOk, IfSome};
-ghost use Rattle.std.specs.Prelude.{MatchBool, ℕ, List};
+ghost use Rattle.std.specs.Prelude.{MatchBool, ℕ, List, length};
 ghost use Rattle.std.specs.List.Sorted.{IsNonDecreasingBy, IsPartitionPoint};
 ghost use Rattle.cif_columns.specs.Day.{IsDay, week_of};
 ghost use Rattle.cif_weeks.specs.Steps.BodyRuns.{AreGrownTo, AreRunsOfBody};
@@ -137,7 +137,8 @@ fn grow(
 /// How many of the spans, which are in the order of their first weeks, begin by the week.
 fn count_begun(spans: &[Span], week: u32) -> usize
     requires { IsNonDecreasingBy (λ s. s.first_week) spans.now }
-    ensures { IsPartitionPoint (λ s. s.first_week ≤ week) (λ s. week < s.first_week) spans.now result }
+    ensures begun { IsPartitionPoint (λ s. s.first_week ≤ week) (λ s. week < s.first_week) spans.now result }
+    ensures count { result ≤ length spans.now }
 {
     for (count, span) in spans.iter().enumerate() {
         if week < span.first_week {
@@ -174,10 +175,9 @@ pub(crate) fn add_body_runs(
         } else {
             week = week.max(span.first_week);
             let count = count_begun(left, week);
-            let until = if count < left.len() {
-                left[count].first_week - 1
-            } else {
-                LAST_WEEK
+            let until = match left.get(count) {
+                Some(next) => next.first_week - 1,
+                None => LAST_WEEK,
             };
             let Some(weeks) = weeks_shown(&left[..count], source, week, until) else {
                 return Ok(false);

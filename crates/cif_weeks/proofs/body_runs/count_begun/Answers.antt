@@ -4,8 +4,8 @@ use Rattle.std.proofs.lemmas.List.{get_or_read_under}
 use Rattle.cif_weeks.specs.declared.span.Span.{Span}
 use Rattle.cif_weeks.proofs.body_runs.count_begun.Goals as goal
 
-pub returns-then-week-span : goal.returns-then-week-span
-returns-then-week-span c = (
+pub returns-then-week-span-clause-begun : goal.returns-then-week-span-clause-begun
+returns-then-week-span-clause-begun c = (
   c.loop-count.invariant,
   λ k d from below.
       let s = c.index-spans-count.result in
