@@ -22,3 +22,4 @@ pub mod BodyRuns
 pub mod MemberRuns
 pub mod SpanRuns
 pub mod ActiveSpans
+pub mod MemberClash
