@@ -7,7 +7,8 @@ use Rattle.cif_columns.specs.Day.{week_of}
 use Rattle.cif_weeks.specs.Window.{window_from}
 use Rattle.cif_weeks.specs.Steps.Spans.{Shows}
 use Rattle.cif_weeks.specs.declared.span.Span.{Span}
-use Rattle.cif_weeks.proofs.ActiveSpans.{SameOn, begun-same, agree-all, disputed-all, left-fewer, left-later, mask-all, none-after, none-before}
+use Rattle.cif_weeks.proofs.ActiveSpans.{SameOn, agree-all, begun-same, disputed-all, left-fewer, left-later, mask-all}
+use Rattle.cif_weeks.proofs.ActiveSpans.{none-after, none-before}
 use Rattle.cif_weeks.proofs.BodyRuns.{body-none, body-put, grown-idle}
 use Rattle.cif_weeks.proofs.body_runs.add_body_runs.Goals as goal
 use Rattle.cif_weeks.proofs.body_runs.add_body_runs.Goals.{Joined-get, in-Some, in-None}
@@ -22,7 +23,7 @@ loop-left-preserved-then-span-week c =
       in_range = i.in_range;
     }
 
--- up to `until` only the spans before the next one count
+-- until then the next one doesn't begin
 until-below : (c : Joined-get) → (d : Span) → c.count_begun-count.result < length c.loop-left.left.now →
     c.match-get.until < (get_or c.loop-left.left.now c.count_begun-count.result d).first_week
 until-below c d below =
@@ -34,6 +35,7 @@ until-below c d below =
       | in-None w ↦ absurd (omega (arith, w.in-None.ensures.lookup.3))
     ]
 
+-- that is no earlier than the week, and has a week after it
 until-in_range : (c : Joined-get) → (c.max-week.result ≤ c.match-get.until) × (c.match-get.until < 65535)
 until-in_range c = elim c.match-get.branch [
   | in-Some w ↦
@@ -47,6 +49,7 @@ until-in_range c = elim c.match-get.branch [
       (omega (arith, c.max-week.ensures, s.in_order, s.in_range, c.if-span-week.false), omega arith)
 ]
 
+-- so on each day of these weeks the spans that have begun are all that count
 same : (c : Joined-get) → (n : ℕ) → c.max-week.result ≤ week_of n → week_of n ≤ c.match-get.until →
     SameOn (take c.count_begun-count.result c.loop-left.left.now) c.args.spans.now n
 same c = begun-same (left-later c.loop-left.invariant.left c.max-week.result (omega (arith, c.max-week.ensures)))

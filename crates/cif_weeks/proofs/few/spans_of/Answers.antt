@@ -3,7 +3,7 @@ use Rattle.std.proofs.Common.{◌≡◌, ◌<◌, ℕ, List, Some, map, length, 
 use Rattle.std.specs.Prelude.{option_map, slice_get}
 use Rattle.std.specs.List.{refill}
 use Rattle.std.proofs.lemmas.List.{take_all, take_more}
-use Rattle.std.proofs.lemmas.List.Sorted.{IsNonDecreasingBy-from_sort_by_key, length_permutation}
+use Rattle.std.proofs.lemmas.List.Sorted.{IsNonDecreasingBy-from_sort_by_key}
 use Rattle.std.proofs.Math.Seq.{take-append_seam}
 use Rattle.std.proofs.lemmas.List.Elements.{All-contains, All-take, Contains-get_or}
 use Rattle.std.proofs.lemmas.Option.{slice_get-map, slice_get_read}
@@ -46,13 +46,16 @@ refilled n xs ws e = subst (λ v. refill v xs ws ≡ ws) e (take-append_seam ws 
 
 pub returns-clause-spans : goal.returns-clause-spans
 returns-clause-spans g c =
+    let items = c.loop-position.spans.items in
     let sorted = c.sort_unstable_by_key.ensures in
-    let h = sorted.permutation in
-    let k = c.as_mut_slice.ensures in
-    let are = rw (take_all c.loop-position.position-index c.args.members.now c.loop-position-test.false) at c.loop-position.invariant.are in
-    ?
+    let value = c.as_mut_slice.ensures.value in
+    rw (refilled (length items) items c.sort_unstable_by_key.new.self (sorted.len ∙ ap length value)) (spans-permuted
+    (rw (take_all c.loop-position.position-index c.args.members.now c.loop-position-test.false) at c.loop-position.invariant.are)
+    (rw value at sorted.permutation))
 
 pub returns-clause-order : goal.returns-clause-order
 returns-clause-order g c =
+    let items = c.loop-position.spans.items in
     let sorted = c.sort_unstable_by_key.ensures in
-    ?
+    rw (refilled (length items) items c.sort_unstable_by_key.new.self (sorted.len ∙ ap length c.as_mut_slice.ensures.value))
+    (IsNonDecreasingBy-from_sort_by_key (λ (s : Span). s.first_week) _ sorted.sorted (λ a r q k. search rules))
