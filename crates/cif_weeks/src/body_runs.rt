@@ -1,8 +1,8 @@
 //! The runs of one body: the weekdays on which its spans lead, week by week. Weeks that have one mask
 //! are taken at once.
 
-ghost use Rattle.std.specs.Prelude.{◌≡◌, ◌≢◌, ◌<◌, ◌≤◌, ◌+◌, ◌*◌, ◌++◌, Contains, IfNone, IfOk, IfSome};
-ghost use Rattle.std.specs.Prelude.{MatchBool, ℕ, List, length};
+ghost use Rattle.std.specs.Prelude.{◌≡◌, ◌≢◌, ◌<◌, ◌≤◌, ◌+◌, ◌*◌, ◌++◌, Contains, IfNone, IfOk};
+ghost use Rattle.std.specs.Prelude.{IfSome, MatchBool, ℕ, List, length};
 ghost use Rattle.std.specs.List.Sorted.{IsNonDecreasingBy, IsPartitionPoint};
 ghost use Rattle.cif_columns.specs.Day.{IsDay, week_of};
 ghost use Rattle.cif_weeks.specs.Steps.BodyRuns.{AreGrownTo, AreRunsOfBody};
@@ -137,7 +137,8 @@ fn grow(
 /// How many of the spans, which are in the order of their first weeks, begin by the week.
 fn count_begun(spans: &[Span], week: u32) -> usize
     requires { IsNonDecreasingBy (λ s. s.first_week) spans.now }
-    ensures begun { IsPartitionPoint (λ s. s.first_week ≤ week) (λ s. week < s.first_week) spans.now result }
+    ensures begun { IsPartitionPoint (λ s. s.first_week ≤ week) (λ s. week < s.first_week)
+        spans.now result }
     ensures count { result ≤ length spans.now }
 {
     for (count, span) in spans.iter().enumerate() {
