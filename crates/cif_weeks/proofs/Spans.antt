@@ -9,7 +9,7 @@ use Rattle.cif_columns.specs.Day.{week_of, weekday_of}
 use Rattle.cif_columns.specs.DaysRun.{RunsOn}
 use Rattle.cif_weeks.specs.declared.span.Span.{Span}
 use Rattle.cif_weeks.specs.declared.span.Weeks.{Weeks}
-use Rattle.cif_weeks.specs.Steps.Spans.{AgreeOn, HasDay, HaveOneMask, IsAgreed, Leads, Shows}
+use Rattle.cif_weeks.specs.Steps.Spans.{AgreeOn, HasDay, HaveOneMask, IsAgreed, IsDisputed, Leads, Shows}
 use Rattle.cif_weeks.specs.Steps.WeekMasks.{IsMask}
 use Rattle.cif_weeks.proofs.Masks.{mask_runs}
 use Rattle.cif_weeks.proofs.WeekDays.{RunsOn-below, same_or_other}
@@ -213,3 +213,24 @@ module _ {spans : List Span} {span : Span} {week until last : ℕ} {own : Weeks}
         (same_or_other s.source span.source) in
         record { agree = λ s t in_s in_t leads_s leads_t. one s in_s leads_s ∙ sym (one t in_t leads_t) };
   }
+
+-- a day of the first week on which it leads, and a rival has one, is disputed
+pub led-disputed : {spans : List Span} {span : Span} {week until last : ℕ} {days rivals : Weeks}
+    → HaveOneMask (λ n. Leads spans n span) week until days → HaveOneMask (SomeOf (IsRival span) HasDay spans) week last rivals
+    → (w : ℕ) → RunsOn days.days w → RunsOn rivals.days w → Contains spans span → (n : ℕ) × (week_of n ≡ week) × IsDisputed spans n
+led-disputed {spans} {span} {week} {rivals = rivals} h r w on both listed =
+    let (n, at, day, leads) = (h.masks week (omega arith) h.from).only w on in
+    let t = mask_runs (SomeOf (IsRival span) HasDay spans) week rivals.days n (r.masks week (omega arith) r.from) at
+    (subst (λ v. RunsOn rivals.days v) (sym day) both) in (
+      n,
+      at,
+      record {
+        one = span;
+        other = t.it;
+        listed = listed;
+        other_listed = t.listed;
+        leads = leads;
+        other_leads = record { has = t.on; least = λ u in_u has_u. omega (arith, leads.least u in_u has_u, t.is) };
+        differ = λ e. t.is.1 (sym e);
+      },
+    )

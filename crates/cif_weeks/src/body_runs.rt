@@ -1,8 +1,8 @@
 //! The runs of one body: the weekdays on which its spans lead, week by week. Weeks that have one mask
 //! are taken at once.
 
-ghost use Rattle.std.specs.Prelude.{◌≡◌, ◌≢◌, ◌<◌, ◌≤◌, ◌+◌, ◌++◌, Contains, IfNone, IfOk, IfSome};
-ghost use Rattle.std.specs.Prelude.{MatchBool, ℕ, List};
+ghost use Rattle.std.specs.Prelude.{◌≡◌, ◌≢◌, ◌<◌, ◌≤◌, ◌+◌, ◌*◌, ◌++◌, Contains, IfNone, IfOk};
+ghost use Rattle.std.specs.Prelude.{IfSome, MatchBool, ℕ, List, length};
 ghost use Rattle.std.specs.List.Sorted.{IsNonDecreasingBy, IsPartitionPoint};
 ghost use Rattle.cif_columns.specs.Day.{IsDay, week_of};
 ghost use Rattle.cif_weeks.specs.Steps.BodyRuns.{AreGrownTo, AreRunsOfBody};
@@ -41,7 +41,8 @@ fn weeks_led(spans: &[Span], span: &Span, week: u32, until: u32) -> Option<Weeks
         (HaveOneMask (λ n. Leads spans.now n span.now) week until) }
     ensures agreed { Contains spans.now span.now → IfSome result
         (AgreeOn spans.now (λ n. Leads spans.now n span.now) week) }
-    ensures disputed { Contains spans.now span.now → IfNone result ((n : ℕ) × IsDisputed spans.now n) }
+    ensures disputed { Contains spans.now span.now → IfNone result
+        ((n : ℕ) × (week_of n ≡ week) × IsDisputed spans.now n) }
 {
     let own = span.weeks_from(week, until);
     let mut last = own.last;
@@ -75,7 +76,7 @@ fn weeks_shown(spans: &[Span], source: usize, week: u32, until: u32) -> Option<W
     requires in_range { until < 65536 }
     ensures weeks { IfSome result (HaveOneMask (Shows spans.now source) week until) }
     ensures agreed { IfSome result (AgreeOn spans.now (Shows spans.now source) week) }
-    ensures disputed { IfNone result ((n : ℕ) × IsDisputed spans.now n) }
+    ensures disputed { IfNone result ((n : ℕ) × (week_of n ≡ week) × IsDisputed spans.now n) }
 {
     let mut days = no_days();
     let mut last = until;
@@ -136,7 +137,9 @@ fn grow(
 /// How many of the spans, which are in the order of their first weeks, begin by the week.
 fn count_begun(spans: &[Span], week: u32) -> usize
     requires { IsNonDecreasingBy (λ s. s.first_week) spans.now }
-    ensures { IsPartitionPoint (λ s. s.first_week ≤ week) (λ s. week < s.first_week) spans.now result }
+    ensures begun { IsPartitionPoint (λ s. s.first_week ≤ week) (λ s. week < s.first_week)
+        spans.now result }
+    ensures count { result ≤ length spans.now }
 {
     for (count, span) in spans.iter().enumerate() {
         if week < span.first_week {
@@ -173,16 +176,16 @@ pub(crate) fn add_body_runs(
         } else {
             week = week.max(span.first_week);
             let count = count_begun(left, week);
-            let until = if count < left.len() {
-                left[count].first_week - 1
-            } else {
-                LAST_WEEK
+            let until = match left.get(count) {
+                Some(next) => next.first_week - 1,
+                None => LAST_WEEK,
             };
             let Some(weeks) = weeks_shown(&left[..count], source, week, until) else {
                 return Ok(false);
             };
+            let last = weeks.last;
             growing = grow(runs, growing, week, weeks, spans, source, window, form)?;
-            week = weeks.last + 1;
+            week = last + 1;
         }
     }
     if let Some(run) = growing {

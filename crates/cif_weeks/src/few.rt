@@ -106,7 +106,9 @@ fn spans_of<E: Entry>(entries: &[E], members: &[usize], window: &Window) -> Arra
             spans.push(span);
         }
     }
-    spans.as_mut_slice().sort_unstable_by_key(|span| span.first_week);
+    spans
+        .as_mut_slice()
+        .sort_unstable_by_key(|span| span.first_week);
     spans
 }
 

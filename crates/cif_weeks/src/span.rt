@@ -23,6 +23,7 @@ pub(crate) struct Span {
     pub letter: u8,
     /// The position of an entry with its body, one position for each body.
     pub source: usize,
+    ghost in_order: { first_week ≤ last_week },
     ghost one_week: { first_week ≡ last_week → first_days ≡ last_days },
     ghost in_range: { last_week < 65535 },
     ghost begins: { (weekday : ℕ) → RunsOn first_days weekday → 4 ≤ first_week * 7 + weekday },

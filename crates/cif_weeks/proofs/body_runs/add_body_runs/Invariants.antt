@@ -1,17 +1,21 @@
--- The runs of the body in the weeks before `week` are made, and where it is shown in these weeks the spans agree.
-use Rattle.std.proofs.Common.{◌+◌, ◌-◌, ◌<◌, ℕ}
+-- The runs of the body in the weeks before `week` are made, and where it is shown in these weeks the spans agree. The spans that
+-- aren't left have ended.
+use Rattle.std.proofs.Common.{◌+◌, ◌-◌, ◌<◌, ℕ, length}
 use Rattle.cif_columns.specs.Day.{week_of}
 use Rattle.cif_weeks.specs.Window.{window_from}
 use Rattle.cif_weeks.specs.Steps.BodyRuns.{AreGrownTo}
 use Rattle.cif_weeks.specs.Steps.Spans.{IsAgreed, Shows}
+use Rattle.cif_weeks.proofs.ActiveSpans.{AreLeft}
 use Rattle.cif_weeks.proofs.body_runs.add_body_runs.Given as goal
 
-abbrev pub invariant-loop-week : goal.invariant-loop-week
-invariant-loop-week l = record {
+abbrev pub invariant-loop-left : goal.invariant-loop-left
+invariant-loop-left l = record {
   grown : AreGrownTo l.form (window_from l.window.first l.window.last) (Shows l.spans l.source) l.source l.week l.initial.runs.items
       l.runs.items l.growing;
   agreed : (n : ℕ) → week_of n < l.week → Shows l.spans l.source n → IsAgreed l.spans n;
+  left : AreLeft l.spans l.left l.week;
+  in_range : l.week < 65536;
 }
 
-abbrev pub decreases-loop-week : goal.decreases-loop-week
-decreases-loop-week l = (l.last + 1) - l.week
+abbrev pub decreases-loop-left : goal.decreases-loop-left
+decreases-loop-left l = length l.left + (65536 - l.week)

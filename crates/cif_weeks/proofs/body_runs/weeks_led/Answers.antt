@@ -1,7 +1,7 @@
 -- A span is over this one, or its rival, or neither.
 use Rattle.std.proofs.Common.{arith}
 use Rattle.std.proofs.lemmas.List.{take_all}
-use Rattle.cif_weeks.proofs.Spans.{take_next, some-more, some-same, led-weeks, led-agreed}
+use Rattle.cif_weeks.proofs.Spans.{take_next, some-more, some-same, led-weeks, led-agreed, led-disputed}
 use Rattle.cif_weeks.proofs.body_runs.weeks_led.Goals as goal
 use Rattle.cif_weeks.proofs.body_runs.weeks_led.Goals.{then-other_letter-letter}
 use Rattle.cif_weeks.proofs.body_runs.weeks_led.Goals.{else-other_letter-letter+then-other_letter-letter-2+then-other-span}
@@ -51,3 +51,10 @@ returns-in-None-clause-agreed c =
     let l = rw (take_all c.loop-other.other-index c.args.spans.now c.loop-other-test.false) at c.loop-other.invariant in
     led-agreed c.weeks_from-own.ensures l.over c.fits.ensures c.minus-days.ensures l.rivals
     (λ w both. c.in-None.ensures.none w ((c.intersection.ensures.runs w).1 both))
+
+pub returns-in-Some-clause-disputed : goal.returns-in-Some-clause-disputed
+returns-in-Some-clause-disputed c listed =
+    let l = rw (take_all c.loop-other.other-index c.args.spans.now c.loop-other-test.false) at c.loop-other.invariant in
+    let both = (c.intersection.ensures.runs c.in-Some.field-0).0 c.in-Some.ensures.found.runs in
+    led-disputed (led-weeks c.weeks_from-own.ensures l.over c.fits.ensures c.minus-days.ensures) l.rivals c.in-Some.field-0
+    both.0 both.1 listed

@@ -6,8 +6,8 @@ use Rattle.cif_weeks.specs.declared.run.Run.{Run}
 use Rattle.cif_weeks.proofs.SpanRuns.{runs-added, runs-of_body, runs-permuted, runs-skipped, runs-sorted}
 use Rattle.cif_weeks.proofs.few.add_all_runs.Goals as goal
 
-pub add_body_runs-requires : goal.add_body_runs-requires
-add_body_runs-requires c n shows = c.requires.inside _ n shows
+pub add_body_runs-requires-clause-inside : goal.add_body_runs-requires-clause-inside
+add_body_runs-requires-clause-inside c n shows = c.requires.inside _ n shows
 
 pub loop-number-preserved-then-is_added : goal.loop-number-preserved-then-is_added
 loop-number-preserved-then-is_added c =
@@ -16,13 +16,13 @@ loop-number-preserved-then-is_added c =
 
 pub loop-number-preserved : goal.loop-number-preserved
 loop-number-preserved c =
-    let (added, are, runs) = c.in_ok-add_body_runs.ensures c.if-not-branch.false in
+    let (added, are, runs) = rw c.if-not-branch.false at c.in_ok-add_body_runs.ensures in
     rw (take_more c.args.spans.now c.loop-number.number c.index-spans-number.result c.loop-number-test.true, ← c.index-spans-number.is, are)
     (runs-added _ _ _ _ _ c.loop-number.invariant c.if-is_added.ensures.0 c.if-is_added.ensures.1
     (runs-of_body _ _ _ _ added runs))
 
 pub returns : goal.returns
-returns c made =
+returns c =
     let sorted = c.sort_unstable_by_key.ensures in
     runs-sorted _ _ _ (IsNonDecreasingBy-from_sort_by_key (λ (r : Run). r.first) _ sorted.sorted (λ a r q k. search rules))
     (runs-permuted _ _ _ sorted.permutation

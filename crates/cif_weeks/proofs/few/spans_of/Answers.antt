@@ -1,9 +1,14 @@
 -- One member more, which has a span (`spans-more`) or none (`spans-same`).
-use Rattle.std.proofs.Common.{◌≡◌, ◌<◌, ℕ, Some, map, length, get_or, refl, ◌∙◌, ap, arith, length-append}
+use Rattle.std.proofs.Common.{◌≡◌, ◌<◌, ℕ, List, Some, map, length, get_or, refl, ◌∙◌, ap, subst, rules, arith, length-append}
 use Rattle.std.specs.Prelude.{option_map, slice_get}
-use Rattle.std.proofs.lemmas.List.{take_more}
+use Rattle.std.specs.List.{refill}
+use Rattle.std.proofs.lemmas.List.{take_all, take_more}
+use Rattle.std.proofs.lemmas.List.Sorted.{IsNonDecreasingBy-from_sort_by_key}
+use Rattle.std.proofs.Math.Seq.{take-append_seam}
 use Rattle.std.proofs.lemmas.List.Elements.{All-contains, All-take, Contains-get_or}
 use Rattle.std.proofs.lemmas.Option.{slice_get-map, slice_get_read}
+use Rattle.cif_weeks.specs.declared.span.Span.{Span}
+use Rattle.cif_weeks.proofs.MemberClash.{spans-permuted}
 use Rattle.cif_weeks.proofs.MemberRuns.{spans-more, spans-same}
 use Rattle.cif_weeks.proofs.few.spans_of.Goals as goal
 use Rattle.cif_weeks.proofs.few.spans_of.Goals.{in-Some, in_default}
@@ -34,3 +39,23 @@ loop-position-preserved g c =
         few = omega arith;
       })
     ])
+
+-- the list that was sorted takes the place of the whole
+refilled : (n : ℕ) (xs ws : List Span) → length ws ≡ n → refill n xs ws ≡ ws
+refilled n xs ws e = subst (λ v. refill v xs ws ≡ ws) e (take-append_seam ws _)
+
+pub returns-clause-spans : goal.returns-clause-spans
+returns-clause-spans g c =
+    let items = c.loop-position.spans.items in
+    let sorted = c.sort_unstable_by_key.ensures in
+    let value = c.as_mut_slice.ensures.value in
+    rw (refilled (length items) items c.sort_unstable_by_key.new.self (sorted.len ∙ ap length value)) (spans-permuted
+    (rw (take_all c.loop-position.position-index c.args.members.now c.loop-position-test.false) at c.loop-position.invariant.are)
+    (rw value at sorted.permutation))
+
+pub returns-clause-order : goal.returns-clause-order
+returns-clause-order g c =
+    let items = c.loop-position.spans.items in
+    let sorted = c.sort_unstable_by_key.ensures in
+    rw (refilled (length items) items c.sort_unstable_by_key.new.self (sorted.len ∙ ap length c.as_mut_slice.ensures.value))
+    (IsNonDecreasingBy-from_sort_by_key (λ (s : Span). s.first_week) _ sorted.sorted (λ a r q k. search rules))

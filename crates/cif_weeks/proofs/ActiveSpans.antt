@@ -1,0 +1,152 @@
+-- The spans that may not have ended by a week. On the days of some weeks those of them that have begun are all that count.
+use Rattle.std.proofs.Common.{◌≡◌, ◌⊎◌, inl, inr, ℕ, ◌-◌, ◌<◌, ◌≤◌, List, [], ◌∷◌, length, take, drop, get_or}
+use Rattle.std.proofs.Common.{refl, sym, ◌∙◌, ap, subst, arith, ⊎_elim}
+use Rattle.std.specs.Prelude.{Contains}
+use Rattle.std.specs.List.Sorted.{IsNonDecreasingBy}
+use Rattle.std.proofs.lemmas.Bool.{cases_lt}
+use Rattle.std.proofs.lemmas.List.{get_or-take, get_or_read_under, length-take, take-append-drop, take_all}
+use Rattle.std.proofs.lemmas.List.Elements.{Contains-append_left}
+use Rattle.std.proofs.lemmas.List.Sorted.{IsNonDecreasingBy-drop}
+use Rattle.cif_columns.specs.Day.{week_of}
+use Rattle.cif_calendar.proofs.Elements.{Contains-cases, Contains-rest}
+use Rattle.cif_weeks.specs.declared.span.Span.{Span}
+use Rattle.cif_weeks.specs.declared.span.Weeks.{Weeks}
+use Rattle.cif_weeks.specs.Steps.Spans.{AgreeOn, HasDay, HaveOneMask, IsAgreed, IsDisputed, Leads, Shows}
+
+-- the spans of p are some of those of q: all that have day n
+pub record SameOn (p q : List Span) (n : ℕ) : Type 0 where
+  pub some : (s : Span) → Contains p s → Contains q s
+  pub all : (s : Span) → Contains q s → HasDay s n → Contains p s
+
+-- so the same spans lead on the day
+module _ {p q : List Span} {n : ℕ} (same : SameOn p q n) where
+  leads-all : (s : Span) → Leads p n s → Leads q n s
+  leads-all s l = record { has = l.has; least = λ t in_t has_t. l.least t (same.all t in_t has_t) has_t }
+
+  leads-some : (s : Span) → Leads q n s → Leads p n s
+  leads-some s l = record { has = l.has; least = λ t in_t has_t. l.least t (same.some t in_t) has_t }
+
+  shows-all : {source : ℕ} → Shows p source n → Shows q source n
+  shows-all h = record { it = h.it; listed = same.some h.it h.listed; is = h.is; leads = leads-all h.it h.leads }
+
+  shows-some : {source : ℕ} → Shows q source n → Shows p source n
+  shows-some h = record { it = h.it; listed = same.all h.it h.listed h.leads.has; is = h.is; leads = leads-some h.it h.leads }
+
+  agreed-all : IsAgreed p n → IsAgreed q n
+  agreed-all h = record {
+    agree = λ s t in_s in_t lead_s lead_t.
+        h.agree s t (same.all s in_s lead_s.has) (same.all t in_t lead_t.has) (leads-some s lead_s) (leads-some t lead_t);
+  }
+
+  pub disputed-all : IsDisputed p n → IsDisputed q n
+  disputed-all h = record {
+    one = h.one;
+    other = h.other;
+    listed = same.some h.one h.listed;
+    other_listed = same.some h.other h.other_listed;
+    leads = leads-all h.one h.leads;
+    other_leads = leads-all h.other h.other_leads;
+    differ = h.differ;
+  }
+
+-- where this is so on each day of some weeks, a source is shown on the same days
+module _ {p q : List Span} {week until source : ℕ} {it : Weeks}
+    (same : (n : ℕ) → week ≤ week_of n → week_of n ≤ until → SameOn p q n) (h : HaveOneMask (Shows p source) week until it) where
+  pub mask-all : HaveOneMask (Shows q source) week it.last it
+  mask-all = record {
+    from = h.from;
+    upto = omega arith;
+    masks = λ v begun unfinished.
+        let m = h.masks v begun unfinished in
+        record {
+          seven = m.seven;
+          shows = λ n at on. m.shows n at (shows-some (same n (omega arith) (omega (arith, h.upto))) on);
+          only = λ w runs.
+              let (n, at, day, on) = m.only w runs in (n, at, day, shows-all (same n (omega arith) (omega (arith, h.upto))) on);
+        };
+  }
+
+  pub agree-all : AgreeOn p (Shows p source) week it → (n : ℕ) → week ≤ week_of n → week_of n ≤ it.last → Shows q source n → IsAgreed q n
+  agree-all a n begun unfinished on =
+      let here = same n begun (omega (arith, h.upto)) in agreed-all here (a.agreed n begun unfinished (shows-some here on))
+
+-- The spans that are left, in the order of their first weeks, are those that may not have ended by the week.
+pub record AreLeft (spans left : List Span) (week : ℕ) : Type 0 where
+  pub some : (s : Span) → Contains left s → Contains spans s
+  pub all : (s : Span) → Contains spans s → Contains left s ⊎ (s.last_week < week)
+  pub order : IsNonDecreasingBy (λ s. s.first_week) left
+
+pub left-start : (spans : List Span) (week : ℕ) → IsNonDecreasingBy (λ (s : Span). s.first_week) spans → AreLeft spans spans week
+left-start spans week order = record { some = λ s listed. listed; all = λ s listed. inl listed; order = order }
+
+-- a list with a first element
+first-is : (left : List Span) (span : Span) → 1 ≤ length left → span ≡ get_or left 0 span →
+    left ≡ span ∷ take (length left - 1) (drop 1 left)
+first-is [] span some is = absurd (omega arith)
+first-is (s ∷ rest) span some is = rw (take_all (length (s ∷ rest) - 1) rest (omega arith)) (ap (λ v. v ∷ rest) (sym is))
+
+module _ {spans left : List Span} {week : ℕ} (h : AreLeft spans left week) where
+  pub left-later : (later : ℕ) → week ≤ later → AreLeft spans left later
+  left-later later upto = record {
+    some = h.some;
+    all = λ s listed. ⊎_elim (λ here. inl here) (λ gone. inr (omega arith)) (h.all s listed);
+    order = h.order;
+  }
+
+  -- the first of them
+  module _ (span : Span) (some : 1 ≤ length left) (is : span ≡ get_or left 0 span) where
+    abbrev rest : List Span
+    rest = take (length left - 1) (drop 1 left)
+
+    -- it has ended
+    pub left-fewer : span.last_week < week → AreLeft spans rest week
+    left-fewer ended =
+        let cons = first-is left span some is in
+        record {
+          some = λ s listed. h.some s (subst (λ v. Contains v s) (sym cons) (Contains-rest span rest s listed));
+          all = λ s listed. ⊎_elim
+              (λ here. ⊎_elim
+              (λ same. inr (subst (λ (v : Span). v.last_week < week) same ended))
+              (λ later. inl later)
+              (Contains-cases span rest s (subst (λ v. Contains v s) cons here)))
+              (λ gone. inr gone)
+              (h.all s listed);
+          order = IsNonDecreasingBy-drop (λ (s : Span). s.first_week) 1 (span ∷ rest)
+              (subst (IsNonDecreasingBy (λ (s : Span). s.first_week)) cons h.order);
+        }
+
+    -- before it begins there is no day
+    pub none-before : (n : ℕ) → week ≤ week_of n → week_of n < span.first_week → {source : ℕ} → ¬ Shows spans source n
+    none-before n from less on = ⊎_elim
+        (λ (k, below, at).
+        let upto = h.order 0 k on.it (omega arith) below in
+        let first = ap (λ (v : Span). v.first_week) (get_or_read_under left 0 (length left) span on.it is (omega arith) refl) in
+        let here = ap (λ (v : Span). v.first_week) at in
+        omega (arith, on.leads.has.from))
+        (λ gone. omega (arith, on.leads.has.upto))
+        (h.all on.it on.listed)
+
+  -- after the last has ended there is none
+  pub none-after : length left < 1 → {source : ℕ} (n : ℕ) → Shows spans source n → week_of n < week
+  none-after none n on = ⊎_elim
+      (λ (k, below, is). absurd (omega arith))
+      (λ gone. omega (arith, on.leads.has.upto))
+      (h.all on.it on.listed)
+
+  -- up to the week before the next one begins, those that have begun are all that count
+  pub begun-same : (count until : ℕ) → ((d : Span) → count < length left → until < (get_or left count d).first_week) → (n : ℕ) →
+      week ≤ week_of n → week_of n ≤ until → SameOn (take count left) spans n
+  begun-same count until next n from upto = record {
+    some = λ s listed.
+        h.some s (subst (λ v. Contains v s) (take-append-drop count left) (Contains-append_left (take count left) _ s listed));
+    all = λ s listed has. ⊎_elim
+        (λ (k, below, is). ⊎_elim
+        (λ less. (k, (let long = length-take count left in omega arith), get_or-take count left k s less ∙ is))
+        (λ later.
+        let rises = h.order count k s later below in
+        let at : (get_or left k s).first_week ≡ s.first_week = ap (λ (v : Span). v.first_week) is in
+        absurd (omega (arith, next s (omega arith), has.from)))
+        (cases_lt k count))
+        (λ gone. absurd (omega (arith, has.upto)))
+        (h.all s listed);
+  }

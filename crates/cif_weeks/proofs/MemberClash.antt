@@ -1,0 +1,57 @@
+-- The spans of members in another order, and where two of them with different sources lead: there the members clash.
+use Rattle.std.proofs.Common.{◌≡◌, ℕ, List, Some, sym, ◌∙◌}
+use Rattle.std.specs.Prelude.{Contains, IsPermutation}
+use Rattle.std.proofs.lemmas.List.Sorted.{Contains-permutation, IsPermutation-sym}
+use Rattle.cif_calendar.specs.Source.{IsChosen, body_at}
+use Rattle.cif_calendar.specs.Terms.{Terms}
+use Rattle.cif_calendar.specs.Wins.{Wins}
+use Rattle.cif_weeks.specs.MemberRuns.{HaveClash}
+use Rattle.cif_weeks.specs.Steps.Spans.{AreSpansOf, IsDisputed, Leads}
+use Rattle.cif_weeks.specs.Window.{Window}
+use Rattle.cif_weeks.specs.declared.span.Span.{Span}
+
+module _ {B : Type 0} {xs : List (Terms B)} {members : List ℕ} {window : Window} {spans : List Span}
+    (a : AreSpansOf xs members window spans) where
+  pub spans-permuted : {other : List Span} → IsPermutation spans other → AreSpansOf xs members window other
+  spans-permuted {other} p =
+      let back = λ (s : Span). Contains-permutation other spans s (IsPermutation-sym spans other p) in
+      record {
+        each = λ s listed. a.each s (back s listed);
+        all = λ r n in_r within on.
+            let (s, listed, of, body) = a.all r n in_r within on in
+            (s, Contains-permutation spans other s p listed, of, body);
+        one_source = λ s t in_s in_t. a.one_source s t (back s in_s) (back t in_t);
+      }
+
+  -- the record of a span that leads is a winner
+  leads-winner : (n : ℕ) (s : Span) → Contains spans s → Leads spans n s →
+      (r : Terms B) × Wins (IsChosen xs members) n r × (r.body ≡ body_at xs (Some s.source))
+  leads-winner n s listed leads =
+      let m = a.each s listed in
+      let (within, on) = (m.span.days n).0 leads.has in (
+        m.terms,
+        record {
+          listed = m.chosen;
+          applies = on;
+          least = λ t in_t on_t.
+              let (u, in_u, of, body) = a.all t n in_t within on_t in
+              rw (sym m.span.letter, sym of.letter) (leads.least u in_u ((of.days n).1 (within, on_t)));
+        },
+        m.body,
+      )
+
+  pub disputed-clash : (n : ℕ) → IsDisputed spans n → HaveClash xs members window
+  disputed-clash n d =
+      let (r, wins, body) = leads-winner n d.one d.listed d.leads in
+      let (t, wins_t, body_t) = leads-winner n d.other d.other_listed d.other_leads in (
+        n,
+        (((a.each d.one d.listed).span.days n).0 d.leads.has).0,
+        record {
+          one = r;
+          other = t;
+          one_wins = wins;
+          other_wins = wins_t;
+          bodies_differ = λ same.
+              d.differ (a.one_source d.one d.other d.listed d.other_listed (sym body ∙ same ∙ body_t));
+        },
+      )
