@@ -9,8 +9,7 @@ use Rattle.std.proofs.lemmas.List.{get_or-drop, get_or-take}
 module _ {X : Type 0} (xs : List X) (i : ℕ) where
   pub Contains-take : (x : X) → Contains (take i xs) x → (k : ℕ) × (k < i) × (k < length xs) × (get_or xs k x ≡ x)
   Contains-take x (k, below, is) =
-      let within = omega (arith, length-take i xs) in
-      let sooner : k < i = within in
+      let sooner : k < i = omega (arith, length-take i xs) in
       (k, sooner, omega (arith, length-take i xs), sym (get_or-take i xs k x sooner) ∙ is)
 
   pub Contains-drop : (x : X) → Contains (drop i xs) x → (k : ℕ) × (i ≤ k) × (k < length xs) × (get_or xs k x ≡ x)
@@ -24,7 +23,7 @@ module _ {X : Type 0} (xs : List X) (i : ℕ) where
       let same : i + (k - i) ≡ k = omega arith in
       (k - i, omega (arith, length-drop i xs), get_or-drop i xs (k - i) x ∙ ap (λ j. get_or xs j x) same ∙ is)
 
-  module _ {P Q : X → Type 0} (point : IsPartitionPoint P Q xs i) where
+  module _ (P Q : X → Type 0) (point : IsPartitionPoint P Q xs i) where
     pub cut-first : (x : X) → Contains (take i xs) x → Contains xs x × P x
     cut-first x h = let (k, sooner, below, is) = Contains-take x h in ((k, below, is), subst P is (point.0 k x (omega arith) sooner))
 

@@ -1,5 +1,5 @@
 -- The spans of a calendar's pieces: one span more, one piece more, and all of them by their sources.
-use Rattle.std.proofs.Common.{◌≡◌, ◌⊎◌, inl, inr, ◌↔◌, ℕ, ◌+◌, ◌-◌, ◌<◌, ◌≤◌, Bool, true, false, List, [], ◌∷◌, ◌++◌, None, Some, length}
+use Rattle.std.proofs.Common.{◌≡◌, ◌⊎◌, inl, inr, ◌↔◌, ℕ, ◌+◌, ◌-◌, ◌<◌, ◌≤◌, Bool, true, false, List, [], ◌∷◌, ◌++◌, Option, None, Some, length}
 use Rattle.std.proofs.Common.{get_or, drop, ltb, ltb-true, ltb-false}
 use Rattle.std.proofs.Common.{arith, refl, sym, ◌∙◌, ap, subst, ⊎_elim}
 use Rattle.std.specs.Prelude.{Contains, slice_get}
@@ -44,6 +44,11 @@ piece-at c items number p same tiles below is =
       slice_get-get_or c.pieces number p below ∙ ap Some (sym at),
     )
 
+-- a winner has the body of the entry at `source` on one of these weekdays
+abbrev pub HasBodyOn : {B : Type 0} → List (Terms B) → List Bool → List (Option ℕ) → ℕ → ℕ → Type 0
+HasBodyOn xs weekdays winners source w =
+    RunsOn weekdays w × ((i : ℕ) × (get_or winners w None ≡ Some i) × (body_at xs (Some source) ≡ body_at xs (Some i)))
+
 -- no span is added
 pub order-later : {first last : ℕ} (later ended : ℕ) (spans : List Span) → first ≤ later → last ≤ ended → AreInOrder first last spans →
     AreInOrder later ended spans
@@ -76,10 +81,16 @@ order-none first last = record {
   ended = λ s listed. absurd (Contains-none s listed);
 }
 
--- the spans before this place end before the week before this one, and no others do
+-- the span ends before the week before this one, or it doesn't
+abbrev Gone : ℕ → Span → Type 0
+Gone week s = ltb (s.last_week + 1) week ≡ true
+
+abbrev Late : ℕ → Span → Type 0
+Late week s = ltb (s.last_week + 1) week ≡ false
+
+-- the spans before this place do, and no others
 abbrev pub EndBefore : ℕ → List Span → ℕ → Type 0
-EndBefore week spans place =
-    IsPartitionPoint (λ (s : Span). ltb (s.last_week + 1) week ≡ true) (λ (s : Span). ltb (s.last_week + 1) week ≡ false) spans place
+EndBefore week spans place = IsPartitionPoint (Gone week) (Late week) spans place
 
 pub rises-for : (week : ℕ) (spans : List Span) → IsNonDecreasingBy (λ (s : Span). s.last_week) spans →
     IsPartitionedBy (λ (s : Span). ltb (s.last_week + 1) week) spans
@@ -141,8 +152,7 @@ module _ {B : Type 0} (xs : List (Terms B)) (c : CalendarParts) where
           (among : IsSourceAmong xs (drop ended spans) winner u.source)
           (wins : get_or p.winners weekday None ≡ Some winner)
           (dated : (n : ℕ) × (p.first ≤ n) × (n ≤ p.last) × (weekday_of n ≡ weekday))
-          (of_body : (w : ℕ) → RunsOn days w ↔ (RunsOn weekdays w × ((i : ℕ) × (get_or p.winners w None ≡ Some i)
-          × (body_at xs (Some u.source) ≡ body_at xs (Some i)))))
+          (of_body : (w : ℕ) → RunsOn days w ↔ HasBodyOn xs weekdays p.winners u.source w)
           (united : (w : ℕ) → RunsOn both w ↔ (RunsOn taken w ⊎ RunsOn days w)) where
         has-body : (b : B) × (body_at xs (Some u.source) ≡ Some b)
         has-body =
@@ -156,7 +166,7 @@ module _ {B : Type 0} (xs : List (Terms B)) (c : CalendarParts) where
             ap (body_at xs) (source_in-piece c p of.tiles of.listed n from upto ∙ is) ∙ sym one
 
         near : (s : Span) → Contains (drop ended spans) s → Contains spans s × (week_of p.first ≤ s.last_week + 1)
-        near s h = let (listed, late) = cut-rest spans ended point s h in (listed, ltb-false (s.last_week + 1) (week_of p.first) late)
+        near s h = let (listed, late) = cut-rest spans ended (Gone (week_of p.first)) (Late (week_of p.first)) point s h in (listed, ltb-false (s.last_week + 1) (week_of p.first) late)
 
         -- an earlier span that is near the new one, with its body, is one of those that were looked at
         old-source : (s : Span) → Contains spans s → AreNear s u → body_at xs (Some s.source) ≡ body_at xs (Some u.source) →
@@ -165,7 +175,7 @@ module _ {B : Type 0} (xs : List (Terms B)) (c : CalendarParts) where
             let in_near : Contains (drop ended spans) s = ⊎_elim
             (λ gone. absurd (omega (arith, close.reached, ltb-true (s.last_week + 1) (week_of p.first) gone.1)))
             (λ h. h.0)
-            (cut-cases spans ended point s in_s) in
+            (cut-cases spans ended (Gone (week_of p.first)) (Late (week_of p.first)) point s in_s) in
             ⊎_elim
             (λ h.
             let (t, in_t, is) = h in

@@ -122,7 +122,7 @@ module _ (form : Form) (window : Window) (spans : List Span) where
   pub runs-joined : {some other both : ℕ → Type 0} {xs ys : List Run} → ((i : ℕ) → some i → both i) → ((i : ℕ) → other i → both i) →
       ((i : ℕ) → both i → some i ⊎ other i) → ((i : ℕ) → some i → ¬ other i) → AreRunsOf form window spans some xs →
       AreRunsOf form window spans other ys → AreRunsOf form window spans both (xs ++ ys)
-  runs-joined {xs = xs} {ys = ys} one two either apart x y =
+  runs-joined {some = some} {xs = xs} {ys = ys} one two either apart x y =
       let cases = Contains-append_cases xs ys in
       let differ : (r t : Run) → Contains xs r → Contains ys t → r.source ≢ t.source =
       λ r t in_r in_t same. apart t.source (subst (λ i. some i) same (x.each r in_r).0) (y.each t in_t).0 in

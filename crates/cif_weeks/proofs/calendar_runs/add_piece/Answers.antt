@@ -1,7 +1,8 @@
 -- One weekday more: none of the piece (`order-later`), one that is taken, one without a winner, or a span for a body (`spans-more`).
-use Rattle.std.proofs.Common.{◌≡◌, inl, inr, ◌+◌, ◌<◌, ◌≤◌, ℕ, List, Bool, None, Some, map, get_or, drop, length, ltb}
+use Rattle.std.proofs.Common.{◌≡◌, ◌↔◌, inl, inr, ◌+◌, ◌<◌, ◌≤◌, ℕ, List, Bool, None, Some, map, get_or, drop, length, ltb}
 use Rattle.std.proofs.Common.{sym, ◌∙◌, ap, subst, refl, arith, rules, ⊎_elim}
 use Rattle.std.specs.Prelude.{Contains}
+use Rattle.std.specs.List.Sorted.{IsPartitionedBy}
 use Rattle.std.proofs.lemmas.Bool.{cases_lt}
 use Rattle.std.proofs.lemmas.List.{length-map}
 use Rattle.std.proofs.lemmas.List.Elements.{Contains-get_or}
@@ -11,11 +12,14 @@ use Rattle.cif_columns.specs.Day.{week_of, weekday_of}
 use Rattle.cif_columns.specs.DaysRun.{RunsOn}
 use Rattle.cif_calendar.proofs.Winning.{refuted}
 use Rattle.cif_calendar.specs.declared.key_calendar.Piece.{Piece}
+use Rattle.cif_calendar.specs.Source.{body_at}
 use Rattle.cif_weeks.specs.Steps.PieceSpans.{AreSpansBefore}
+use Rattle.cif_weeks.specs.Steps.Spans.{IsSourceAmong}
 use Rattle.cif_weeks.specs.declared.span.Span.{Span}
-use Rattle.cif_weeks.proofs.Cuts.{cut-rest}
-use Rattle.cif_weeks.proofs.PieceSpans.{EndBefore, IsPieceOf, order-later, order-more, piece-at, rises-for, span-below, spans-all, spans-known}
-use Rattle.cif_weeks.proofs.PieceSpans.{spans-more, winner-below}
+use Rattle.cif_weeks.proofs.Cuts.{Contains-drop}
+use Rattle.cif_weeks.proofs.PieceSpans.{EndBefore, HasBodyOn, order-later, order-more, piece-at, rises-for, span-below, spans-all, spans-known}
+use Rattle.cif_weeks.proofs.PieceSpans.{spans-more, winner-below, winner-body}
+use Rattle.cif_weeks.proofs.Growth.{has-below}
 use Rattle.cif_weeks.proofs.calendar_runs.add_piece.Goals as goal
 use Rattle.cif_weeks.proofs.calendar_runs.add_piece.Goals.{then-not-has-via-then-not-has, then-not-has-via-else-not-has+then-has}
 use Rattle.cif_weeks.proofs.calendar_runs.add_piece.Goals.{in-Some+in_ok-push, in_default}
@@ -75,10 +79,26 @@ source_of-source-requires-clause-position g c =
     (ap (λ v. get_or p.winners v None) (day ∙ sym c.from.ensures) ∙ c.in-Some.is))
 
 pub source_of-source-requires-clause-sources : goal.source_of-source-requires-clause-sources
-source_of-source-requires-clause-sources g c = ?
+source_of-source-requires-clause-sources g c = rw c.split_at.ensures.back (λ k d below.
+    let xs = map g.E.Entry.terms c.args.entries.now in
+    let spans = c.as_slice-in-Some.result.now in
+    let (number, from, within, is) = Contains-drop spans c.partition_point-ended.result
+    (get_or (drop c.partition_point-ended.result spans) k d) (Contains-get_or _ k d below) in
+    subst (λ v. (get_or (drop c.partition_point-ended.result spans) k d).source < v) (length-map c.args.entries.now g.E.Entry.terms)
+    (span-below xs c.args.calendar.now c.requires.sources c.loop-weekday.spans.items c.loop-weekday.invariant.are _
+    (subst (λ ss. Contains ss (get_or (drop c.partition_point-ended.result spans) k d)) c.as_slice-in-Some.ensures.value (number, within, is))))
 
 pub days_of-days-requires-clause-source : goal.days_of-days-requires-clause-source
-days_of-days-requires-clause-source g c = ?
+days_of-days-requires-clause-source g c =
+    let p = c.index-pieces-number.result in
+    let xs = map g.E.Entry.terms c.args.entries.now in
+    let (of, at) = piece-at c.args.calendar.now c.pieces.result.now c.args.number p c.pieces.ensures.pieces c.pieces.ensures.tiles
+    c.requires.number c.index-pieces-number.is in
+    let (n, from, upto, day) = (c.weekdays_of-weekdays.ensures c.loop-weekday.weekday).0 (c.has.ensures.0 c.if-not-has.false) in
+    let (b, has) = winner-body xs c.args.calendar.now c.requires.sources p of n c.in-Some.winner from upto
+    (ap (λ v. get_or p.winners v None) (day ∙ sym c.from.ensures) ∙ c.in-Some.is) in
+    subst (λ v. c.source_of-source.result < v) (length-map c.args.entries.now g.E.Entry.terms)
+    (has-below xs c.args.calendar.now c.requires.sources c.source_of-source.result b (c.source_of-source.ensures.body ∙ has))
 
 pub days_of-days-requires-clause-winners : goal.days_of-days-requires-clause-winners
 days_of-days-requires-clause-winners g c w i on is =
@@ -90,7 +110,51 @@ days_of-days-requires-clause-winners g c w i on is =
     (winner-below _ c.args.calendar.now c.requires.sources p of n i from upto (ap (λ v. get_or p.winners v None) day ∙ is))
 
 pub loop-weekday-preserved : goal.loop-weekday-preserved
-loop-weekday-preserved g c = ?
+loop-weekday-preserved g c =
+    let p = c.index-pieces-number.result in
+    let (of, at) = piece-at c.args.calendar.now c.pieces.result.now c.args.number p c.pieces.ensures.pieces c.pieces.ensures.tiles
+    c.requires.number c.index-pieces-number.is in
+    let l = c.loop-weekday.invariant in
+    let wins = λ (v : ℕ). get_or p.winners v None in
+    elim c.match-piece-from.branch [
+      | in-Some+in_ok-push w ↦
+          let xs = map g.E.Entry.terms c.args.entries.now in
+          let spans = c.loop-weekday.spans.items in
+          let weekday = c.loop-weekday.weekday in
+          let on : RunsOn c.weekdays_of-weekdays.result weekday = c.has.ensures.0 c.if-not-has.false in
+          let is : wins weekday ≡ Some w.in-Some.winner = ap wins (sym c.from.ensures) ∙ w.in-Some.is in
+          let point : EndBefore (week_of p.first) spans w.partition_point-ended.result = subst (λ ss. EndBefore (week_of p.first) ss
+          w.partition_point-ended.result) w.as_slice.ensures.value (subst (λ v. EndBefore v w.as_slice.result.now
+          w.partition_point-ended.result) c.week-week.ensures (IsPartitionPoint-from_clause
+          (λ (s : Span). ltb (s.last_week + 1) c.week-week.result) _ _ w.partition_point-ended.ensures.partitioned
+          (subst (λ ss. IsPartitionedBy (λ (s : Span). ltb (s.last_week + 1) c.week-week.result) ss) (sym w.as_slice.ensures.value)
+          (rises-for c.week-week.result spans l.order.rising)) (λ a r q k. search rules))) in
+          let back : w.split_at.result.1.now ≡ drop w.partition_point-ended.result spans =
+          w.split_at.ensures.back ∙ ap (drop w.partition_point-ended.result) w.as_slice-in-Some.ensures.value in
+          let e = w.between.ensures in
+          let of_body = subst (λ s. (v : ℕ) → RunsOn w.days_of-days.result v ↔ HasBodyOn xs c.weekdays_of-weekdays.result p.winners s v)
+          (sym e.source) w.days_of-days.ensures.runs in
+          rw (w.spans-is, w.taken-is, w.in_ok-push.ensures.items) (record {
+            are = spans-more xs c.args.calendar.now c.requires.sources p of spans c.loop-weekday.taken w.days_of-days.result
+                c.weekdays_of-weekdays.result w.union-taken.result w.between.result w.in-Some.winner weekday
+                w.partition_point-ended.result l.order point e.days e.first_week e.last_week e.letter
+                (ap (λ s. body_at xs (Some s)) e.source ∙ w.source_of-source.ensures.body)
+                (subst (λ ss. IsSourceAmong xs ss w.in-Some.winner w.between.result.source) back
+                (subst (λ s. IsSourceAmong xs w.split_at.result.1.now w.in-Some.winner s) (sym e.source) w.source_of-source.ensures.source))
+                is ((c.weekdays_of-weekdays.ensures weekday).0 on) of_body w.union-taken.ensures.runs l.are;
+            order = order-more (week_of p.first) (week_of p.last) spans w.between.result e.first_week e.last_week l.order;
+            done = done-more p.winners c.weekdays_of-weekdays.result c.loop-weekday.taken w.union-taken.result weekday l.done
+                (λ v on_v. (w.union-taken.ensures.runs v).1 (inl on_v))
+                (λ i on_i is_i. (w.union-taken.ensures.runs weekday).1 (inr ((w.days_of-days.ensures.runs weekday).1
+                (on, (w.in-Some.winner, is, w.source_of-source.ensures.body)))));
+          })
+      | in_default w ↦ rw (w.spans-is, w.taken-is) (record {
+        are = l.are;
+        order = l.order;
+        done = done-more p.winners c.weekdays_of-weekdays.result c.loop-weekday.taken c.loop-weekday.taken c.loop-weekday.weekday l.done
+            (λ v on. on) (λ i on is. let none : None ≡ Some i = sym w.in_default.is ∙ ap wins c.from.ensures ∙ is in absurd (cc));
+      })
+    ]
 
 pub returns : goal.returns
 returns g c piece at =
@@ -98,7 +162,7 @@ returns g c piece at =
     let (of, there) = piece-at c.args.calendar.now c.pieces.result.now c.args.number p c.pieces.ensures.pieces c.pieces.ensures.tiles
     c.requires.number c.index-pieces-number.is in
     let l = c.loop-weekday.invariant in
-    subst (λ (q : Piece). AreSpansBefore _ c.args.calendar.now (q.last + 1) c.loop-weekday.spans.items)
+    subst (λ (q : Piece). AreSpansBefore (map g.E.Entry.terms c.args.entries.now) c.args.calendar.now (q.last + 1) c.loop-weekday.spans.items)
     (same_Some p piece (sym there ∙ at)) (record {
       are = spans-all _ _ c.requires.sources p of _ c.weekdays_of-weekdays.result c.loop-weekday.taken
           (λ n from upto. (c.weekdays_of-weekdays.ensures (weekday_of n)).1 (n, from, upto, refl))
