@@ -1,5 +1,5 @@
 -- Records that have grown: on which days they apply, that they are aligned, and the change where one ends and another begins.
-use Rattle.std.proofs.Common.{◌≡◌, inl, inr, ⊎_elim, ℕ, ◌+◌, ◌-◌, ◌*◌, ◌<◌, ◌≤◌, arith, refl, sym, ◌∙◌, subst}
+use Rattle.std.proofs.Common.{◌≡◌, inl, inr, ⊎_elim, ℕ, ◌+◌, ◌-◌, ◌*◌, ◌<◌, ◌≤◌, arith, refl, sym, subst}
 use Rattle.std.proofs.lemmas.Bool.{cases_lt}
 use Rattle.cif_columns.specs.Day.{week_of, weekday_of}
 use Rattle.cif_columns.specs.DaysRun.{RunsOn}
@@ -75,12 +75,16 @@ module _ {B : Type 0} (window : Window) (on : ℕ → Type 0) (inside : (n : ℕ
         (λ sooner.
         let k = week - week_of r.first in
         let n = r.first + 7 * k in
-        let at : week_of n ≡ week = week_later r.first k ∙ (let sum : week_of r.first + (week - week_of r.first) ≡ week = omega arith in sum) in
-        (n, omega arith, omega arith, grown_runs n (record {
-          begun = omega arith;
-          unfinished = let less : n < r.last = day_rises_week n r.last (omega arith) in omega arith;
-          on_weekday = subst (RunsOn r.days) (sym (weekday_later r.first k)) grown_first.on_weekday;
-        })))
+        let at : week_of n ≡ week = omega (arith, week_later r.first k) in (
+          n,
+          omega arith,
+          omega arith,
+          grown_runs n (record {
+            begun = omega arith;
+            unfinished = let less : n < r.last = day_rises_week n r.last (omega arith) in omega arith;
+            on_weekday = subst (RunsOn r.days) (sym (weekday_later r.first k)) grown_first.on_weekday;
+          }),
+        ))
         (λ ended. (r.last, ended, upto, g.last_runs))
         (cases_lt week (week_of r.last))
 

@@ -19,7 +19,7 @@ pub mod AgreedDays
 pub mod Growth
 pub mod CalendarSources
 pub mod BodyRuns
+pub mod PieceRuns
 pub mod SpanRecords
 pub mod MemberRuns
-pub mod PieceRuns
 pub mod SpanRuns

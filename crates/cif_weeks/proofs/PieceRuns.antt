@@ -9,7 +9,7 @@ use Rattle.cif_calendar.specs.Terms.{Terms}
 use Rattle.cif_weeks.specs.Permanent.{Permanent}
 use Rattle.cif_weeks.specs.Runs.{AreCanonicalRuns, AreSources, IsRunOf, window_of}
 use Rattle.cif_weeks.specs.Steps.BodyRuns.{AreRunsOfSpans, HasBody}
-use Rattle.cif_weeks.specs.Steps.PieceSpans.{AreNear, AreSpansOn, body_in, named}
+use Rattle.cif_weeks.specs.Steps.PieceSpans.{AreSpansOn, body_in, named}
 use Rattle.cif_weeks.specs.Steps.Spans.{HasDay, IsAgreed, Shows}
 use Rattle.cif_weeks.specs.Window.{IsWithin}
 use Rattle.cif_weeks.specs.declared.form.Form.{Form}
