@@ -1,5 +1,5 @@
 -- Records that have grown: on which days they apply, that they are aligned, and the change where one ends and another begins.
-use Rattle.std.proofs.Common.{◌≡◌, inl, inr, ℕ, ◌+◌, ◌<◌, ◌≤◌, arith, refl, subst}
+use Rattle.std.proofs.Common.{◌≡◌, inl, inr, ⊎_elim, ℕ, ◌+◌, ◌-◌, ◌*◌, ◌<◌, ◌≤◌, arith, refl, sym, subst}
 use Rattle.std.proofs.lemmas.Bool.{cases_lt}
 use Rattle.cif_columns.specs.Day.{week_of, weekday_of}
 use Rattle.cif_columns.specs.DaysRun.{RunsOn}
@@ -12,7 +12,7 @@ use Rattle.cif_weeks.specs.Aligned.{IsAligned}
 use Rattle.cif_weeks.specs.Separate.{Change}
 use Rattle.cif_weeks.specs.Steps.WeekMasks.{IsMask}
 use Rattle.cif_weeks.specs.Steps.Growing.{Breaks, Fits, IsGrown}
-use Rattle.cif_weeks.proofs.WeekDays.{week_of-rises, day_rises_week, week_of-next}
+use Rattle.cif_weeks.proofs.WeekDays.{week_of-rises, day_rises_week, week_of-next, week_later, weekday_later}
 use Rattle.cif_weeks.proofs.Masks.{mask_runs}
 use Rattle.cif_weeks.proofs.Separate.{change-seven_days}
 
@@ -67,6 +67,26 @@ module _ {B : Type 0} (window : Window) (on : ℕ → Type 0) (inside : (n : ℕ
 
     pub grown_last : Applies r r.last
     grown_last = grown_applies r.last g.in_order (omega arith) g.last_runs
+
+    -- its body runs in a week near each from its first to the one after its last
+    pub grown_near : (week : ℕ) → week_of r.first ≤ week → week ≤ week_of r.last + 1 →
+        (n : ℕ) × (week_of n ≤ week) × (week ≤ week_of n + 1) × on n
+    grown_near week from upto = ⊎_elim
+        (λ sooner.
+        let k = week - week_of r.first in
+        let n = r.first + 7 * k in
+        let at : week_of n ≡ week = omega (arith, week_later r.first k) in (
+          n,
+          omega arith,
+          omega arith,
+          grown_runs n (record {
+            begun = omega arith;
+            unfinished = let less : n < r.last = day_rises_week n r.last (omega arith) in omega arith;
+            on_weekday = subst (RunsOn r.days) (sym (weekday_later r.first k)) grown_first.on_weekday;
+          }),
+        ))
+        (λ ended. (r.last, ended, upto, g.last_runs))
+        (cases_lt week (week_of r.last))
 
   -- a grown record is aligned
   pub grown_aligned : (form : Form) (r : Permanent B) → IsGrown form window on r → IsAligned form window r

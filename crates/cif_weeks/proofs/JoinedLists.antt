@@ -5,6 +5,7 @@ use Rattle.std.specs.List.{AllZip}
 use Rattle.std.proofs.lemmas.List.Elements.{All-append, All-map, Contains-get_or}
 use Rattle.std.proofs.lemmas.List.Kept.{AllPairs-cons}
 use Rattle.std.proofs.lemmas.Option.{same_Some}
+use Rattle.cif_calendar.proofs.Elements.{Contains-first, Contains-rest}
 
 module _ {X Y : Type 0} (f : X → Y) where
   -- the members of a list that is mapped
@@ -59,3 +60,20 @@ zip-at R [] vs z k u at = absurd (cc)
 zip-at R (w ∷ us) [] z k u at = absurd z
 zip-at R (w ∷ us) (v ∷ vs) z zero u at = (v, refl, subst (λ x. R x v) (same_Some w u at) z.0)
 zip-at R (w ∷ us) (v ∷ vs) z (suc k) u at = zip-at R us vs z.1 k u at
+
+-- where R holds, S does too
+pub zip-with : {X Y : Type 0} (R S : X → Y → Type 0) (us : List X) (vs : List Y) → ((u : X) (v : Y) → Contains us u → R u v → S u v) →
+    AllZip R us vs → AllZip S us vs
+zip-with R S [] [] also z = tt
+zip-with R S [] (v ∷ vs) also z = absurd z
+zip-with R S (u ∷ us) [] also z = absurd z
+zip-with R S (u ∷ us) (v ∷ vs) also z =
+    (also u v (Contains-first u us) z.0, zip-with R S us vs (λ w x listed. also w x (Contains-rest u us w listed)) z.1)
+
+-- the items of one list are mapped
+pub zip-map : {X Y Z : Type 0} (f : X → Z) (R : Z → Y → Type 0) (us : List X) (vs : List Y) → AllZip (λ u v. R (f u) v) us vs →
+    AllZip R (map f us) vs
+zip-map f R [] [] z = tt
+zip-map f R [] (v ∷ vs) z = absurd z
+zip-map f R (u ∷ us) [] z = absurd z
+zip-map f R (u ∷ us) (v ∷ vs) z = (z.0, zip-map f R us vs z.1)

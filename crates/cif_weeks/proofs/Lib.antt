@@ -16,11 +16,13 @@ pub mod Meeting
 pub mod MemberClash
 pub mod MemberRuns
 pub mod PermanentEntries
+pub mod PieceRuns
 pub mod PieceSpans
 pub mod RisingLists
 pub mod SameDays
 pub mod Separate
 pub mod SourcesIn
+pub mod SpanRecords
 pub mod SpanRuns
 pub mod Spans
 pub mod Unique

@@ -1,0 +1,195 @@
+-- The records of runs that are made from spans: one for each run, with the body at its source.
+use Rattle.std.proofs.Common.{◌≡◌, ℕ, ◌+◌, ◌<◌, ◌≤◌, List, [], ◌∷◌, Option, Some}
+use Rattle.std.proofs.Common.{arith, refl, sym, ◌∙◌, ap, subst, ⊎_elim}
+use Rattle.std.specs.Prelude.{AllPairs, Contains, slice_get}
+use Rattle.std.specs.List.{AllZip}
+use Rattle.std.proofs.lemmas.Bool.{cases_lt}
+use Rattle.std.proofs.lemmas.Option.{same_Some, slice_get_within, slice_get-get_or, get_or_from_slice_get}
+use Rattle.cif_columns.specs.Day.{week_of}
+use Rattle.cif_calendar.specs.Source.{body_at}
+use Rattle.cif_calendar.specs.Terms.{Terms}
+use Rattle.cif_calendar.proofs.Elements.{Contains-first, Contains-rest}
+use Rattle.cif_calendar.proofs.Positions.{at-contains, contains-at}
+use Rattle.cif_weeks.specs.Permanent.{Permanent}
+use Rattle.cif_weeks.specs.Runs.{record_of}
+use Rattle.cif_weeks.specs.Steps.BodyRuns.{AreRunsOfSpans, HasBody, IsSpansRun, dates_of}
+use Rattle.cif_weeks.specs.Steps.Growing.{Breaks, Fits, IsApartFrom, IsGrown}
+use Rattle.cif_weeks.specs.Steps.PieceSpans.{AreNear}
+use Rattle.cif_weeks.specs.Steps.Spans.{Leads, Shows}
+use Rattle.cif_weeks.specs.Window.{Window, IsWithin}
+use Rattle.cif_weeks.specs.declared.form.Form.{Form}
+use Rattle.cif_weeks.specs.declared.form.Form.TheVariants.{One, Two}
+use Rattle.cif_weeks.specs.declared.run.Run.{Run}
+use Rattle.cif_weeks.specs.declared.span.Span.{Span}
+use Rattle.cif_weeks.proofs.Grown.{grown_aligned, grown_applies, grown_change, grown_near, grown_runs}
+use Rattle.cif_weeks.proofs.JoinedLists.{zip-at, zip-back}
+use Rattle.cif_weeks.proofs.Meeting.{MeetsInOrder}
+
+-- a span with this body leads on day n, or one without a body
+pub record Shown {B : Type 0} (xs : List (Terms B)) (spans : List Span) (body : Option B) (n : ℕ) : Type 0 where
+  pub it : Span
+  pub listed : Contains spans it
+  pub leads : Leads spans n it
+  pub body_is : body_at xs (Some it.source) ≡ body
+
+-- The spans' days lie in the window. A span has a body exactly if there is one at its source, and of spans with one body those
+-- near each other have one source.
+pub record HaveBodies {B : Type 0} (xs : List (Terms B)) (window : Window) (spans : List Span) : Type 0 where
+  pub inside : (source n : ℕ) → Shows spans source n → IsWithin window n
+  pub has_body : (s : Span) → Contains spans s → (b : B) → body_at xs (Some s.source) ≡ Some b → HasBody s
+  pub body_of : (s : Span) → Contains spans s → HasBody s → (b : B) × (body_at xs (Some s.source) ≡ Some b)
+  pub one_source : (s t : Span) → Contains spans s → Contains spans t → AreNear s t →
+      body_at xs (Some s.source) ≡ body_at xs (Some t.source) → s.source ≡ t.source
+
+-- the run has the dates and the mask of permanent record r, whose body is at its source
+pub record IsBodysRun {B : Type 0} (xs : List (Terms B)) (run : Run) (r : Permanent B) : Type 0 where
+  pub dates : r ≡ record_of run r.body
+  pub body : body_at xs (Some run.source) ≡ Some r.body
+
+-- the record with another body
+abbrev with_body : {A B : Type 0} → Permanent A → B → Permanent B
+with_body r b = record { first = r.first; last = r.last; days = r.days; body = b }
+
+-- whether it has grown and what follows it are the same
+module _ {A B : Type 0} (window : Window) (on : ℕ → Type 0) (r : Permanent A) (b : B) where
+  fits-as : (form : Form) (week : ℕ) → Fits form window on r week → Fits form window on (with_body r b) week
+  fits-as One week h = h
+  fits-as Two week h = record { shows = h.shows; full = h.full }
+
+  breaks-as : (form : Form) → Breaks form window on r → Breaks form window on (with_body r b)
+  breaks-as One h = h
+  breaks-as Two h = h
+
+  grown-as : (form : Form) → IsGrown form window on r → IsGrown form window on (with_body r b)
+  grown-as form g = record {
+    seven = g.seven;
+    in_order = g.in_order;
+    first_runs = g.first_runs;
+    last_runs = g.last_runs;
+    earliest = g.earliest;
+    latest = g.latest;
+    used = g.used;
+    fits = λ week begun unfinished. fits-as form week (g.fits week begun unfinished);
+  }
+
+module _ {B : Type 0} (xs : List (Terms B)) (window : Window) (spans : List Span) (have : HaveBodies xs window spans)
+    (form : Form) (runs : List Run) (are : AreRunsOfSpans form window spans runs) where
+  -- where a span with a body leads, what leads has that body
+  pub one-body : (n : ℕ) (b : B) (o : Option B) → Shown xs spans (Some b) n → Shown xs spans o n → Some b ≡ o
+  one-body n b o s t =
+      let agreed = are.agreed s.it n s.listed (have.has_body s.it s.listed b s.body_is)
+      (record { it = s.it; listed = s.listed; is = refl; leads = s.leads }) in
+      sym s.body_is ∙ ap (λ v. body_at xs (Some v)) (agreed.agree s.it t.it s.listed t.listed s.leads t.leads) ∙ t.body_is
+
+  records-from : (some : List Run) → ((run : Run) → Contains some run → IsSpansRun form window spans run) →
+      (records : List (Permanent B)) × AllZip (IsBodysRun xs) some records
+  records-from [] each = ([], tt)
+  records-from (run ∷ some) each =
+      let e = each run (Contains-first run some) in
+      let (b, is) = have.body_of e.span e.listed e.has_body in
+      let (records, zip) = records-from some (λ s listed. each s (Contains-rest run some s listed)) in
+      let first : IsBodysRun xs run (record_of run b) = record {
+        dates = refl;
+        body = ap (λ v. body_at xs (Some v)) (sym e.source) ∙ is;
+      } in
+      (record_of run b ∷ records, (first, zip))
+
+  -- each run has its record
+  pub records-of : (records : List (Permanent B)) × AllZip (IsBodysRun xs) runs records
+  records-of = records-from runs are.each
+
+  -- a run that begins by the week after another, which begins before it, has the other's source if they have one body
+  same-source : (h i : Run) → Contains runs h → Contains runs i → h.first < i.first → week_of i.first ≤ week_of h.last + 1 →
+      body_at xs (Some h.source) ≡ body_at xs (Some i.source) → h.source ≡ i.source
+  same-source h i in_h in_i less upto same =
+      let (n, near, next, s) = grown_near window (Shows spans h.source) (have.inside h.source) form (dates_of h) (are.each h in_h).grown
+      (week_of i.first) (omega arith) upto in
+      let t = (are.each i in_i).grown.first_runs in
+      let at_source = λ (v : ℕ). body_at xs (Some v) in
+      sym s.is ∙ have.one_source s.it t.it s.listed t.listed (record {
+        reaches = omega (arith, s.leads.has.from, t.leads.has.upto);
+        reached = omega (arith, t.leads.has.from, s.leads.has.upto);
+      }) (ap at_source s.is ∙ same ∙ ap at_source (sym t.is)) ∙ t.is
+
+  module _ (records : List (Permanent B)) (zip : AllZip (IsBodysRun xs) runs records) where
+    grown-of : (run : Run) (r : Permanent B) → Contains runs run → IsBodysRun xs run r → IsGrown form window (Shows spans run.source) r
+    grown-of run r listed of = subst (λ s. IsGrown form window (Shows spans run.source) s) (sym of.dates)
+        (grown-as window (Shows spans run.source) (dates_of run) r.body form (are.each run listed).grown)
+
+    -- what is known of a record
+    record Stands (k : ℕ) (r : Permanent B) : Type 0 where
+      run : Run
+      at : slice_get runs k ≡ Some run
+      listed : Contains runs run
+      of : IsBodysRun xs run r
+      grown : IsGrown form window (Shows spans run.source) r
+
+    stands : (k : ℕ) (r : Permanent B) → slice_get records k ≡ Some r → Stands k r
+    stands k r at =
+        let (run, there, of) = zip-at (λ s run. IsBodysRun xs run s) records runs (zip-back (IsBodysRun xs) runs records zip) k r at in
+        let listed = contains-at runs k run there in
+        record { run = run; at = there; listed = listed; of = of; grown = grown-of run r listed of }
+
+    stands-in : (r : Permanent B) → Contains records r → (k : ℕ) × Stands k r
+    stands-in r listed = let (k, at) = at-contains records r listed in (k, stands k r at)
+
+    pair : (j k : ℕ) (r s : Permanent B) → j < k → slice_get records j ≡ Some r → slice_get records k ≡ Some s →
+        (r.first < s.first) × (r.body ≡ s.body → IsApartFrom form window r s)
+    pair j k r s less at_r at_s =
+        let h = stands j r at_r in
+        let i = stands k s at_s in
+        let rising = are.rising j k h.run less (slice_get_within runs k i.run i.at) in
+        let rises : h.run.first < i.run.first =
+        rw (get_or_from_slice_get runs j h.run h.run h.at, get_or_from_slice_get runs k i.run h.run i.at) at rising in
+        let first_r : r.first ≡ h.run.first = ap (λ (v : Permanent B). v.first) h.of.dates in
+        let first_s : s.first ≡ i.run.first = ap (λ (v : Permanent B). v.first) i.of.dates in
+        let last_r : r.last ≡ h.run.last = ap (λ (v : Permanent B). v.last) h.of.dates in (
+          omega arith,
+          λ same. ⊎_elim
+              (λ far. record { before = omega arith; change = λ next. absurd (omega arith) })
+              (λ near.
+              let sources = same-source h.run i.run h.listed i.listed rises near (h.of.body ∙ ap Some same ∙ sym i.of.body) in
+              let ends = are.apart h.run i.run h.listed i.listed sources rises in
+              let on = Shows spans h.run.source in
+              record {
+                before = omega (arith, ends.before);
+                change = λ next. grown_change window on (have.inside h.run.source) form r s h.grown
+                    (subst (λ v. Breaks form window on v) (sym h.of.dates)
+                    (breaks-as window on (dates_of h.run) r.body form (ends.breaks (omega arith))))
+                    (subst (λ v. IsGrown form window (Shows spans v) s) (sym sources) i.grown) next;
+              })
+              (cases_lt (week_of h.run.last + 1) (week_of i.run.first)),
+        )
+
+    -- the records rise by first day
+    pub records-rising : AllPairs (λ r s. r.first < s.first) records
+    records-rising i j d less below =
+        (pair i j _ _ less (slice_get-get_or records i d (omega arith)) (slice_get-get_or records j d below)).0
+
+    -- and they have the form, and say what the spans show
+    pub in-order : MeetsInOrder form window (λ b n. Shown xs spans (Some b) n) records
+    in-order = record {
+      one_body = λ n b c s t. same_Some b c (one-body n b (Some c) s t);
+      aligned = λ r listed.
+          let (k, h) = stands-in r listed in
+          grown_aligned window (Shows spans h.run.source) (have.inside h.run.source) form r h.grown;
+      apart = λ i j d less below.
+          (pair i j _ _ less (slice_get-get_or records i d (omega arith)) (slice_get-get_or records j d below)).1;
+      complete = λ n b within s.
+          let shows : Shows spans s.it.source n = record { it = s.it; listed = s.listed; is = refl; leads = s.leads } in
+          let w = are.complete s.it n s.listed (have.has_body s.it s.listed b s.body_is) shows in
+          let (k, at) = at-contains runs w.run w.listed in
+          let (r, there, of) = zip-at (IsBodysRun xs) runs records zip k w.run at in
+          record {
+            it = r;
+            listed = contains-at records k r there;
+            applies = grown_applies window (Shows spans w.run.source) (have.inside w.run.source) form r
+                (grown-of w.run r w.listed of) n (omega (arith, w.from, ap (λ (v : Permanent B). v.first) of.dates))
+                (omega (arith, w.upto, ap (λ (v : Permanent B). v.last) of.dates)) (subst (λ v. Shows spans v n) (sym w.is) shows);
+            body = same_Some r.body b (sym of.body ∙ ap (λ v. body_at xs (Some v)) w.is ∙ s.body_is);
+          };
+      sound = λ n r listed on.
+          let (k, h) = stands-in r listed in
+          let s = grown_runs window (Shows spans h.run.source) (have.inside h.run.source) form r h.grown n on in
+          record { it = s.it; listed = s.listed; leads = s.leads; body_is = ap (λ v. body_at xs (Some v)) s.is ∙ h.of.body };
+    }
