@@ -21,6 +21,7 @@ pub mod PieceSpans
 pub mod RisingLists
 pub mod SameDays
 pub mod Separate
+pub mod SourceRuns
 pub mod SourcesIn
 pub mod SpanRecords
 pub mod SpanRuns

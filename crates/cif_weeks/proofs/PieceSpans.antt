@@ -2,12 +2,14 @@
 use Rattle.std.proofs.Common.{◌≡◌, ◌⊎◌, inl, inr, ◌↔◌, ℕ, ◌+◌, ◌-◌, ◌<◌, ◌≤◌, Bool, true, false, List, [], ◌∷◌, ◌++◌, Option, None, Some, length}
 use Rattle.std.proofs.Common.{get_or, drop, ltb, ltb-true, ltb-false}
 use Rattle.std.proofs.Common.{arith, refl, sym, ◌∙◌, ap, subst, ⊎_elim}
-use Rattle.std.specs.Prelude.{Contains, slice_get}
+use Rattle.std.specs.Prelude.{Contains, IsPermutation, slice_get}
 use Rattle.std.specs.List.Sorted.{IsNonDecreasingBy, IsPartitionPoint, IsPartitionedBy}
 use Rattle.std.proofs.lemmas.Bool.{cases_lt}
 use Rattle.std.proofs.lemmas.List.Elements.{All-contains, Contains-append_left, Contains-get_or, Contains-push, Contains-push_cases}
-use Rattle.std.proofs.lemmas.List.Sorted.{IsNonDecreasingBy-push, IsNonDecreasingBy-short, IsPartitionedBy-ltb}
-use Rattle.std.proofs.lemmas.Option.{slice_get-get_or}
+use Rattle.std.proofs.lemmas.List.Sorted.{Contains-permutation, IsNonDecreasingBy-push, IsNonDecreasingBy-short}
+use Rattle.std.proofs.lemmas.List.Sorted.{IsPartitionedBy-ltb, IsPermutation-sym}
+use Rattle.std.proofs.lemmas.Option.{get_or_from_slice_get, slice_get-get_or, slice_get_within}
+use Rattle.std.proofs.lemmas.List.{drop_more}
 use Rattle.cif_columns.specs.Day.{week_of, weekday_of}
 use Rattle.cif_columns.specs.DaysRun.{RunsOn}
 use Rattle.cif_columns.specs.Stp.{letter}
@@ -43,6 +45,20 @@ piece-at c items number p same tiles below is =
       record { tiles = all; listed = listed; in_order = (tiles-ends c.pieces c.first (c.last + 1) p all listed).0 },
       slice_get-get_or c.pieces number p below ∙ ap Some (sym at),
     )
+
+-- what is read where no piece stands
+pub no-piece : Piece
+no-piece = record { first = 0; last = 0; winners = [] }
+
+-- the piece with this number begins where those before it end, and the next one after it
+pub tiles-next : (ps : List Piece) (number from to : ℕ) (p : Piece) → slice_get ps number ≡ Some p → Tiles (drop number ps) from to →
+    (p.first ≡ from) × Tiles (drop (number + 1) ps) (p.last + 1) to
+tiles-next ps number from to p at tiles =
+    let below = slice_get_within ps number p at in
+    let cut : drop number ps ≡ p ∷ drop (number + 1) ps =
+    drop_more ps number p below ∙ ap (λ q. q ∷ drop (number + 1) ps) (get_or_from_slice_get ps number p p at) in
+    let t = subst (λ qs. Tiles qs from to) cut tiles in
+    (t.0, t.2)
 
 -- a winner has the body of the entry at `source` on one of these weekdays
 abbrev pub HasBodyOn : {B : Type 0} → List (Terms B) → List Bool → List (Option ℕ) → ℕ → ℕ → Type 0
@@ -247,3 +263,19 @@ module _ {B : Type 0} (xs : List (Terms B)) (c : CalendarParts) where
     pub span-below : {known : ℕ → Type 0} (spans : List Span) → AreSpansOn xs c known spans → (s : Span) → Contains spans s →
         s.source < length xs
     span-below spans a s listed = let e = a.each s listed in has-below xs c sources s.source e.body e.has
+
+    -- before the first piece there is no span
+    pub spans-before_first : AreSpansBefore xs c c.first []
+    spans-before_first = record { are = spans-none; order = order-none (week_of c.first) (week_of c.first) }
+
+  -- the spans in another order
+  pub spans-sorted : {known : ℕ → Type 0} (spans sorted : List Span) → IsPermutation spans sorted → AreSpansOn xs c known spans →
+      AreSpansOn xs c known sorted
+  spans-sorted spans sorted p a =
+      let back = λ (s : Span). Contains-permutation sorted spans s (IsPermutation-sym spans sorted p) in
+      record {
+        each = λ s listed. a.each s (back s listed);
+        all = λ n b k runs.
+            let (s, listed, has, of) = a.all n b k runs in (s, Contains-permutation spans sorted s p listed, has, of);
+        one_source = λ s t in_s in_t. a.one_source s t (back s in_s) (back t in_t);
+      }

@@ -154,9 +154,9 @@ fn name_sources(runs: &mut [Run], calendar: &Calendar)
     ensures { runs.new ≡ map (named calendar.now) runs.old }
 {
     for place in 0..runs.len() {
-        if let Some(source) = calendar.source_on(runs[place].first) {
-            runs[place].source = source;
-        }
+        let run = runs[place];
+        let source = calendar.source_on(run.first).unwrap_or(run.source);
+        runs[place] = Run { source, ..run };
     }
 }
 
