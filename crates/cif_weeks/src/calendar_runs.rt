@@ -86,7 +86,9 @@ fn add_piece<E: Entry>(
             continue;
         }
         if let Some(winner) = piece.winners[usize::from(weekday)] {
-            let ended = spans.as_slice().partition_point(|span| span.last_week + 1 < week);
+            let ended = spans
+                .as_slice()
+                .partition_point(|span| span.last_week + 1 < week);
             let (_, near) = spans.as_slice().split_at(ended);
             let source = source_of(entries, near, winner);
             let days = days_of(entries, piece, weekdays, source);

@@ -1,6 +1,21 @@
 -- Steps to the runs of a calendar: the spans of its pieces. No public clause cites them.
-use Rattle.std.specs.Prelude.{◌≡◌, ℕ, ◌+◌, ◌<◌, ◌≤◌, List, Option, Some, None, Contains, length, slice_index_or, unwrap_or, nat_le,
-    if◌then◌else◌}
+use Rattle.std.specs.Prelude.{
+  ◌≡◌,
+  ℕ,
+  ◌+◌,
+  ◌<◌,
+  ◌≤◌,
+  List,
+  Option,
+  Some,
+  None,
+  Contains,
+  length,
+  slice_index_or,
+  unwrap_or,
+  nat_le,
+  if◌then◌else◌,
+}
 use Rattle.std.specs.List.Sorted.{IsNonDecreasingBy}
 use Rattle.cif_columns.specs.Day.{week_of}
 use Rattle.cif_columns.specs.Stp.{letter}
@@ -9,7 +24,6 @@ use Rattle.cif_calendar.specs.Calendar.{CalendarParts}
 use Rattle.cif_calendar.specs.Pieces.{source_at}
 use Rattle.cif_calendar.specs.Source.{body_at}
 use Rattle.cif_calendar.specs.Terms.{Terms}
-use Rattle.cif_calendar.specs.declared.key_calendar.Piece.{Piece}
 use Rattle.cif_weeks.specs.Steps.Spans.{HasDay}
 use Rattle.cif_weeks.specs.declared.run.Run.{Run}
 use Rattle.cif_weeks.specs.declared.span.Span.{Span}

@@ -1,5 +1,5 @@
 -- One weekday more: none of the piece (`order-later`), one that is taken, one without a winner, or a span for a body (`spans-more`).
-use Rattle.std.proofs.Common.{◌≡◌, ◌↔◌, inl, inr, ◌+◌, ◌<◌, ◌≤◌, ℕ, List, Bool, None, Some, map, get_or, drop, length, ltb}
+use Rattle.std.proofs.Common.{◌≡◌, ◌↔◌, inl, inr, ◌+◌, ◌<◌, ℕ, List, Bool, None, Some, map, get_or, drop, ltb}
 use Rattle.std.proofs.Common.{sym, ◌∙◌, ap, subst, refl, arith, rules, ⊎_elim}
 use Rattle.std.specs.Prelude.{Contains}
 use Rattle.std.specs.List.Sorted.{IsPartitionedBy}

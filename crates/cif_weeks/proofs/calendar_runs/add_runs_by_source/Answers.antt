@@ -1,7 +1,5 @@
 -- The runs of one source more (`runs-more`), and those of all after the sort.
-use Rattle.std.proofs.Common.{List, leb, get_or, length, drop, take, sym, ap, subst, arith, rules}
-use Rattle.std.specs.Prelude.{Contains}
-use Rattle.std.specs.List.Sorted.{IsPartitionPoint}
+use Rattle.std.proofs.Common.{leb, subst, arith, rules}
 use Rattle.std.proofs.lemmas.List.Sorted.{IsNonDecreasingBy-from_sort_by_key, IsPartitionPoint-from_clause, IsPartitionedBy-leb}
 use Rattle.cif_weeks.specs.declared.run.Run.{Run}
 use Rattle.cif_weeks.specs.declared.span.Span.{Span}
@@ -10,7 +8,7 @@ use Rattle.cif_weeks.specs.Steps.Spans.{IsDisputed, Shows}
 use Rattle.cif_weeks.specs.Window.{window_from}
 use Rattle.cif_weeks.proofs.SourceRuns.{EndsSource, count-some, other, own-order, rest-order, runs-all, runs-more, runs-none, shows-all}
 use Rattle.cif_weeks.proofs.SourceRuns.{undisputed, whole-rest}
-use Rattle.cif_weeks.proofs.SpanRuns.{AreRunsOf, runs-permuted, runs-sorted}
+use Rattle.cif_weeks.proofs.SpanRuns.{runs-permuted, runs-sorted}
 use Rattle.cif_weeks.proofs.calendar_runs.add_runs_by_source.Goals as goal
 use Rattle.cif_weeks.proofs.calendar_runs.add_runs_by_source.Goals.{After-partition_point-count}
 

@@ -1,5 +1,5 @@
 -- The runs of the sources that no span that is left has. What is left has all spans of its sources.
-use Rattle.std.proofs.Common.{◌≡◌, ◌≢◌, ℕ, length}
+use Rattle.std.proofs.Common.{◌≡◌, ◌≢◌, length}
 use Rattle.std.specs.Prelude.{Contains}
 use Rattle.cif_weeks.specs.Steps.PieceSpans.{AreBySource}
 use Rattle.cif_weeks.specs.Window.{window_from}

@@ -1,5 +1,5 @@
 -- One weekday more.
-use Rattle.std.proofs.Common.{◌≡◌, ◌⊎◌, inl, inr, ◌↔◌, ℕ, ◌+◌, ◌<◌, Bool, List, Option, None, Some, get_or, map, arith, sym, ◌∙◌, ap, subst, ⊎_elim}
+use Rattle.std.proofs.Common.{◌≡◌, ◌⊎◌, inl, inr, ◌↔◌, ℕ, ◌+◌, ◌<◌, Bool, List, None, Some, get_or, map, arith, sym, ◌∙◌, ap, subst, ⊎_elim}
 use Rattle.std.proofs.lemmas.Bool.{cases_lt}
 use Rattle.cif_columns.specs.DaysRun.{RunsOn}
 use Rattle.std.proofs.lemmas.Option.{same_Some}
@@ -46,9 +46,14 @@ loop-weekday-preserved g c =
           (λ v. (
             λ on. ⊎_elim inl (λ o. inr ((w.only.ensures.runs v).0 o)) ((w.union-days.ensures.runs v).0 on),
             λ h. (w.union-days.ensures.runs v).1 (⊎_elim inl (λ o. inr ((w.only.ensures.runs v).1 o)) h),
+          )) (
+            c.has.ensures.0 w.if-has.true,
+            (
+              w.in-Some.winner,
+              ap at (sym w.from.ensures) ∙ w.in-Some.is,
+              w.have_one_body.ensures.0 w.if-have_one_body.true,
+            ),
           ))
-          (c.has.ensures.0 w.if-has.true, (w.in-Some.winner, ap at (sym w.from.ensures) ∙ w.in-Some.is,
-          w.have_one_body.ensures.0 w.if-have_one_body.true)))
       | then-has+in-Some+else-have_one_body w ↦ rw w.days-is (same wins c.loop-weekday.weekday c.loop-weekday.days c.loop-weekday.invariant
           (λ h.
           let (i, is, one) = h.1 in

@@ -1,18 +1,15 @@
 -- The run at this place begins in the window, and takes its name (`mapped-more`); at the end all have theirs.
-use Rattle.std.proofs.Common.{◌≡◌, ◌+◌, ◌<◌, ◌≤◌, ℕ, List, [], ◌∷◌, ◌++◌, map, take, drop, set, get_or, length, refl, sym, ◌∙◌, ap, subst, arith}
+use Rattle.std.proofs.Common.{◌≡◌, ◌+◌, ◌<◌, ℕ, List, [], ◌∷◌, ◌++◌, map, take, drop, set, get_or, length, sym, ◌∙◌, ap, subst, arith}
 use Rattle.std.proofs.Common.{append_assoc}
 use Rattle.std.specs.Option.{unwrap_or}
-use Rattle.std.proofs.lemmas.List.{drop_all, drop_more, length-map, length-take-le, map-append, take_all, take_more, append-nil}
-use Rattle.std.proofs.lemmas.List.Elements.{Contains-get_or}
+use Rattle.std.proofs.lemmas.List.{drop_more, length-map, length-take-le, map-append, take_more}
 use Rattle.std.proofs.Math.Seq.{get_or-append_seam, set-append_seam}
 use Rattle.cif_calendar.specs.Pieces.{source_at}
 use Rattle.cif_weeks.specs.Steps.PieceSpans.{named}
-use Rattle.cif_weeks.specs.declared.run.Run.{Run}
 use Rattle.cif_weeks.proofs.calendar_runs.name_sources.Goals as goal
 
 module _ {X : Type 0} (f : X → X) (old now : List X) (i : ℕ) (x : X) (below : i < length old)
     (so_far : now ≡ map f (take i old) ++ drop i old) where
-
   cut : now ≡ map f (take i old) ++ get_or old i x ∷ drop (i + 1) old
   cut = so_far ∙ ap (λ ys. map f (take i old) ++ ys) (drop_more old i x below)
 

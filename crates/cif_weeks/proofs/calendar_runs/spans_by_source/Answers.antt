@@ -1,5 +1,5 @@
 -- The next piece begins where the spans so far end; after the last one all days are known.
-use Rattle.std.proofs.Common.{◌≡◌, ◌+◌, ◌<◌, ◌≤◌, ℕ, List, Some, map, drop, get_or, length, sym, ◌∙◌, ap, subst, refl, arith, rules}
+use Rattle.std.proofs.Common.{◌≡◌, ◌+◌, ◌<◌, List, map, get_or, length, sym, ap, subst, arith, rules}
 use Rattle.std.proofs.lemmas.List.{drop_all}
 use Rattle.std.proofs.lemmas.List.Sorted.{answers_always}
 use Rattle.std.proofs.lemmas.Option.{slice_get-get_or}
