@@ -9,7 +9,7 @@ pub returns-then-are_made-clause-runs : goal.returns-then-are_made-clause-runs
 returns-then-are_made-clause-runs g c k p =
     members-records g.E.Entry.key g.E.Entry.terms c.args.entries.now k c.args.members.now p c.args.form
     (window_from c.args.window.now.first c.args.window.now.last) c.runs_of_few.new.runs.items
-    (c.in_ok-are_made.ensures c.if-are_made.true)
+    ((rw c.if-are_made.true at c.in_ok-are_made.ensures))
 
 pub returns-in-Err-clause-fault : goal.returns-in-Err-clause-fault
 returns-in-Err-clause-fault g c = rw c.fault_of.ensures (λ k p.
