@@ -76,9 +76,6 @@ pub record AreLeft (spans left : List Span) (week : ℕ) : Type 0 where
   pub all : (s : Span) → Contains spans s → Contains left s ⊎ (s.last_week < week)
   pub order : IsNonDecreasingBy (λ s. s.first_week) left
 
-pub left-start : (spans : List Span) (week : ℕ) → IsNonDecreasingBy (λ (s : Span). s.first_week) spans → AreLeft spans spans week
-left-start spans week order = record { some = λ s listed. listed; all = λ s listed. inl listed; order = order }
-
 -- a list with a first element
 first-is : (left : List Span) (span : Span) → 1 ≤ length left → span ≡ get_or left 0 span →
     left ≡ span ∷ take (length left - 1) (drop 1 left)

@@ -38,6 +38,3 @@ module _ {B : Type 0} (xs : List (Terms B)) (c : CalendarParts) (sources : AreSo
 
   pub has-below : (i : ℕ) (b : B) → body_at xs (Some i) ≡ Some b → i < length xs
   has-below i b is = body-below i b (slice_get xs i) refl is
-
-  pub source-below : (n i : ℕ) → source_in c n ≡ Some i → i < length xs
-  source-below n i is = let b = source-body n i is in has-below i b.0 b.1

@@ -24,7 +24,7 @@ module _ {B : Type 0} {xs : List (Terms B)} {members : List ℕ} {window : Windo
       }
 
   -- the record of a span that leads is a winner
-  leads-winner : (n : ℕ) (s : Span) → Contains spans s → Leads spans n s →
+  pub leads-winner : (n : ℕ) (s : Span) → Contains spans s → Leads spans n s →
       (r : Terms B) × Wins (IsChosen xs members) n r × (r.body ≡ body_at xs (Some s.source))
   leads-winner n s listed leads =
       let m = a.each s listed in

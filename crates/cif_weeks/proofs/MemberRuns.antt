@@ -21,6 +21,7 @@ use Rattle.cif_weeks.specs.declared.form.Form.{Form}
 use Rattle.cif_weeks.specs.declared.run.Run.{Run}
 use Rattle.cif_weeks.specs.declared.span.Span.{Span}
 use Rattle.cif_weeks.proofs.JoinedLists.{zip-with}
+use Rattle.cif_weeks.proofs.MemberClash.{leads-winner}
 use Rattle.cif_weeks.proofs.Meeting.{have_form, say}
 use Rattle.cif_weeks.proofs.SpanRecords.{HaveBodies, IsBodysRun, Shown, in-order, one-body, records-of, records-rising}
 
@@ -144,19 +145,7 @@ module _ {B : Type 0} (xs : List (Terms B)) (members : List ℕ) (window : Windo
 
   leads-wins : (n : ℕ) (b : B) → Shown xs spans (Some b) n → BodyRuns (IsChosen xs members) n b
   leads-wins n b s =
-      let m = a.each s.it s.listed in
-      let (within, on) = (m.span.days n).0 s.leads.has in
-      record {
-        winner = m.terms;
-        wins = record {
-          listed = m.chosen;
-          applies = on;
-          least = λ t in_t on_t.
-              let (u, in_u, of, body) = a.all t n in_t within on_t in
-              rw (sym m.span.letter, sym of.letter) (s.leads.least u in_u ((of.days n).1 (within, on_t)));
-        };
-        body = m.body ∙ s.body_is;
-      }
+      let (r, wins, body) = leads-winner a n s.it s.listed s.leads in record { winner = r; wins = wins; body = body ∙ s.body_is }
 
   module _ (lawful : AreLawful (IsChosen xs members)) where
     -- a span has a body exactly if there is one at its source

@@ -22,16 +22,6 @@ AreSeparate-sym form window r s h = record {
 
 module _ {B : Type 0} (window : Window) (r s : Permanent B) where
   module _ (form : Form) (ordered_r : r.first ≤ r.last) (ordered_s : s.first ≤ s.last) where
-    pub separate-before : r.first ≤ s.first → AreSeparate form window r s → week_of r.last < week_of s.first
-    separate-before sooner h = elim (cases_lt (week_of r.last) (week_of s.first)) [
-      | inl before ↦ before
-      | inr meet ↦
-          let begun : week_of r.first ≤ week_of s.first = week_of-rises r.first s.first sooner in
-          let ended : week_of s.first ≤ week_of s.last = week_of-rises s.first s.last ordered_s in
-          absurd (h.apart (week_of s.first) (record { begun = begun; unfinished = meet })
-          (record { begun = omega arith; unfinished = ended }))
-    ]
-
     pub separate-from_before : week_of r.last < week_of s.first
         → (week_of s.first ≡ week_of r.last + 1 → Change form window r s) → AreSeparate form window r s
     separate-from_before before change =
