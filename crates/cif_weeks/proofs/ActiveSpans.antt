@@ -70,10 +70,10 @@ module _ {p q : List Span} {week until source : ℕ} {it : Weeks}
   agree-all a n begun unfinished on =
       let here = same n begun (omega (arith, h.upto)) in agreed-all here (a.agreed n begun unfinished (shows-some here on))
 
--- The spans that are left, in the order of their first weeks, are those that may not have ended by the week.
-pub record AreLeft (spans left : List Span) (week : ℕ) : Type 0 where
+-- The spans that are left, in the order of their first weeks, are those that may have a day from `week` to `last`.
+pub record AreLeft (spans left : List Span) (week last : ℕ) : Type 0 where
   pub some : (s : Span) → Contains left s → Contains spans s
-  pub all : (s : Span) → Contains spans s → Contains left s ⊎ (s.last_week < week)
+  pub all : (s : Span) → Contains spans s → Contains left s ⊎ ((n : ℕ) → HasDay s n → week ≤ week_of n → week_of n ≤ last → ⊥)
   pub order : IsNonDecreasingBy (λ s. s.first_week) left
 
 -- a list with a first element
@@ -82,11 +82,11 @@ first-is : (left : List Span) (span : Span) → 1 ≤ length left → span ≡ g
 first-is [] span some is = absurd (omega arith)
 first-is (s ∷ rest) span some is = rw (take_all (length (s ∷ rest) - 1) rest (omega arith)) (ap (λ v. v ∷ rest) (sym is))
 
-module _ {spans left : List Span} {week : ℕ} (h : AreLeft spans left week) where
-  pub left-later : (later : ℕ) → week ≤ later → AreLeft spans left later
+module _ {spans left : List Span} {week last : ℕ} (h : AreLeft spans left week last) where
+  pub left-later : (later : ℕ) → week ≤ later → AreLeft spans left later last
   left-later later upto = record {
     some = h.some;
-    all = λ s listed. ⊎_elim (λ here. inl here) (λ gone. inr (omega arith)) (h.all s listed);
+    all = λ s listed. ⊎_elim (λ here. inl here) (λ gone. inr (λ n has from. gone n has (omega (arith, from)))) (h.all s listed);
     order = h.order;
   }
 
@@ -95,15 +95,15 @@ module _ {spans left : List Span} {week : ℕ} (h : AreLeft spans left week) whe
     abbrev rest : List Span
     rest = take (length left - 1) (drop 1 left)
 
-    -- it has ended
-    pub left-fewer : span.last_week < week → AreLeft spans rest week
-    left-fewer ended =
+    -- it has no such day
+    pub left-fewer : ((n : ℕ) → HasDay span n → week ≤ week_of n → week_of n ≤ last → ⊥) → AreLeft spans rest week last
+    left-fewer none =
         let cons = first-is left span some is in
         record {
           some = λ s listed. h.some s (subst (λ v. Contains v s) (sym cons) (Contains-rest span rest s listed));
           all = λ s listed. ⊎_elim
               (λ here. ⊎_elim
-              (λ same. inr (subst (λ (v : Span). v.last_week < week) same ended))
+              (λ same. inr (subst (λ v. (n : ℕ) → HasDay v n → week ≤ week_of n → week_of n ≤ last → ⊥) same none))
               (λ later. inl later)
               (Contains-cases span rest s (subst (λ v. Contains v s) cons here)))
               (λ gone. inr gone)
@@ -113,27 +113,27 @@ module _ {spans left : List Span} {week : ℕ} (h : AreLeft spans left week) whe
         }
 
     -- before it begins there is no day
-    pub none-before : (n : ℕ) → week ≤ week_of n → week_of n < span.first_week → {source : ℕ} → ¬ Shows spans source n
-    none-before n from less on = ⊎_elim
+    pub none-before : (n : ℕ) → week ≤ week_of n → week_of n ≤ last → week_of n < span.first_week → {source : ℕ} → ¬ Shows spans source n
+    none-before n from upto less on = ⊎_elim
         (λ (k, below, at).
-        let upto = h.order 0 k on.it (omega arith) below in
+        let rises = h.order 0 k on.it (omega arith) below in
         let first = ap (λ (v : Span). v.first_week) (get_or_read_under left 0 (length left) span on.it is (omega arith) refl) in
         let here = ap (λ (v : Span). v.first_week) at in
         omega (arith, on.leads.has.from))
-        (λ gone. omega (arith, on.leads.has.upto))
+        (λ gone. gone n on.leads.has from upto)
         (h.all on.it on.listed)
 
-  -- after the last has ended there is none
-  pub none-after : length left < 1 → {source : ℕ} (n : ℕ) → Shows spans source n → week_of n < week
-  none-after none n on = ⊎_elim
-      (λ (k, below, is). absurd (omega arith))
-      (λ gone. omega (arith, on.leads.has.upto))
-      (h.all on.it on.listed)
+  -- where none is left there is none
+  pub none-after : length left < 1 → {source : ℕ} (n : ℕ) → week_of n ≤ last → Shows spans source n → week_of n < week
+  none-after none n upto on = ⊎_elim
+      (λ less. less)
+      (λ from. absurd (⊎_elim (λ (k, below, is). omega arith) (λ gone. gone n on.leads.has from upto) (h.all on.it on.listed)))
+      (cases_lt (week_of n) week)
 
   -- up to the week before the next one begins, those that have begun are all that count
-  pub begun-same : (count until : ℕ) → ((d : Span) → count < length left → until < (get_or left count d).first_week) → (n : ℕ) →
-      week ≤ week_of n → week_of n ≤ until → SameOn (take count left) spans n
-  begun-same count until next n from upto = record {
+  pub begun-same : (count until : ℕ) → until ≤ last → ((d : Span) → count < length left → until < (get_or left count d).first_week) →
+      (n : ℕ) → week ≤ week_of n → week_of n ≤ until → SameOn (take count left) spans n
+  begun-same count until within next n from upto = record {
     some = λ s listed.
         h.some s (subst (λ v. Contains v s) (take-append-drop count left) (Contains-append_left (take count left) _ s listed));
     all = λ s listed has. ⊎_elim
@@ -144,6 +144,6 @@ module _ {spans left : List Span} {week : ℕ} (h : AreLeft spans left week) whe
         let at : (get_or left k s).first_week ≡ s.first_week = ap (λ (v : Span). v.first_week) is in
         absurd (omega (arith, next s (omega arith), has.from)))
         (cases_lt k count))
-        (λ gone. absurd (omega (arith, has.upto)))
+        (λ gone. absurd (gone n has from (omega arith)))
         (h.all s listed);
   }

@@ -3,7 +3,7 @@ use Rattle.std.proofs.Common.{◌≡◌, ◌≢◌, ◌⊎◌, inl, inr, ◌↔�
 use Rattle.std.proofs.Common.{refl, sym, ◌∙◌, ap, subst, arith, ⊎_elim}
 use Rattle.std.specs.Prelude.{Contains}
 use Rattle.std.proofs.lemmas.Bool.{cases_lt}
-use Rattle.std.proofs.lemmas.List.{take_more}
+use Rattle.std.proofs.lemmas.List.{get_or_default, take_more}
 use Rattle.std.proofs.lemmas.List.Elements.{Contains-append_left, Contains-push, Contains-push_cases}
 use Rattle.cif_columns.specs.Day.{week_of, weekday_of}
 use Rattle.cif_columns.specs.DaysRun.{RunsOn}
@@ -152,6 +152,43 @@ module _ {spans : List Span} {source week : ℕ} {it : Weeks} where
   shown-agreed h = record {
     agreed = λ n begun unfinished s. h.agreed n begun unfinished
         (record { it = s.it; listed = s.listed; is = s.is; on = s.leads });
+  }
+
+-- one span alone leads on all its days
+module _ (spans : List Span) (span : Span) (one : length spans ≡ 1) (is : span ≡ get_or spans 0 span) where
+  alone : (s : Span) → Contains spans s → s ≡ span
+  alone s (k, below, at) =
+      sym at ∙ ap (λ j. get_or spans j s) (let first : k ≡ 0 = omega arith in first) ∙ get_or_default spans 0 s span (omega arith) ∙ sym is
+
+  pub alone-weeks : {source week until : ℕ} {it : Weeks} → span.source ≡ source → HaveOneMask (HasDay span) week until it →
+      HaveOneMask (Shows spans source) week until it
+  alone-weeks same h = record {
+    from = h.from;
+    upto = h.upto;
+    masks = λ v begun unfinished.
+        let m = h.masks v begun unfinished in
+        record {
+          seven = m.seven;
+          shows = λ n at s. m.shows n at (subst (λ t. HasDay t n) (alone s.it s.listed) s.leads.has);
+          only = λ w runs.
+              let (n, at, day, has) = m.only w runs in (
+                n,
+                at,
+                day,
+                record {
+                  it = span;
+                  listed = (0, omega arith, sym is);
+                  is = same;
+                  leads = record { has = has; least = λ t in_t on. omega (arith, ap (λ (u : Span). u.letter) (alone t in_t)) };
+                },
+              );
+        };
+  }
+
+  pub alone-agreed : {on : ℕ → Type 0} {week : ℕ} {it : Weeks} → AgreeOn spans on week it
+  alone-agreed = record {
+    agreed = λ n begun unfinished o.
+        record { agree = λ s t in_s in_t _ _. ap (λ (u : Span). u.source) (alone s in_s ∙ sym (alone t in_t)) };
   }
 
 -- span t is over a span, or is its rival: its letter is before the other's, or it is the same, and their sources differ

@@ -17,9 +17,6 @@ use cif_calendar::Window;
 use cif_columns::Day;
 use std::alloc::AllocError;
 
-/// No span has a later week than this one.
-const LAST_WEEK: u32 = 65_534;
-
 /// The day of the week, which a date of the window has.
 fn day_of(week: u32, weekday: u8) -> Day
     requires weekday { weekday < 7 }
@@ -78,6 +75,11 @@ fn weeks_shown(spans: &[Span], source: usize, week: u32, until: u32) -> Option<W
     ensures agreed { IfSome result (AgreeOn spans.now (Shows spans.now source) week) }
     ensures disputed { IfNone result ((n : ℕ) × (week_of n ≡ week) × IsDisputed spans.now n) }
 {
+    if let [span] = spans {
+        if span.source == source {
+            return Some(span.weeks_from(week, until));
+        }
+    }
     let mut days = no_days();
     let mut last = until;
     for span in spans {
@@ -134,6 +136,23 @@ fn grow(
     }))
 }
 
+/// The weeks, from the first to the last, in which spans have this source.
+fn weeks_of(spans: &[Span], source: usize) -> (u32, u32)
+    ensures weeks { (n : ℕ) → Shows spans.now source n →
+        (result.0 ≤ week_of n) × (week_of n ≤ result.1) }
+    ensures in_range { result.1 < 65535 }
+{
+    let mut first = u32::MAX;
+    let mut last = 0u32;
+    for span in spans {
+        if span.source == source {
+            first = first.min(span.first_week);
+            last = last.max(span.last_week);
+        }
+    }
+    (first, last)
+}
+
 /// How many of the spans, which are in the order of their first weeks, begin by the week.
 fn count_begun(spans: &[Span], week: u32) -> usize
     requires { IsNonDecreasingBy (λ s. s.first_week) spans.now }
@@ -167,25 +186,26 @@ pub(crate) fn add_body_runs(
         ((n : ℕ) × IsDisputed spans.now n)) }
 {
     window.last.fits();
+    let (first, last) = weeks_of(spans, source);
     let mut growing = None;
-    let mut week = 0;
+    let mut week = first;
     let mut left = spans;
     while let [span, after @ ..] = left {
-        if span.last_week < week {
+        let from = week.max(span.first_week);
+        if last.min(span.last_week) < from {
             left = after;
         } else {
-            week = week.max(span.first_week);
-            let count = count_begun(left, week);
+            let count = count_begun(left, from);
             let until = match left.get(count) {
-                Some(next) => next.first_week - 1,
-                None => LAST_WEEK,
+                Some(next) => last.min(next.first_week - 1),
+                None => last,
             };
-            let Some(weeks) = weeks_shown(&left[..count], source, week, until) else {
+            let Some(weeks) = weeks_shown(&left[..count], source, from, until) else {
                 return Ok(false);
             };
-            let last = weeks.last;
-            growing = grow(runs, growing, week, weeks, spans, source, window, form)?;
-            week = last + 1;
+            let next = weeks.last + 1;
+            growing = grow(runs, growing, from, weeks, spans, source, window, form)?;
+            week = next;
         }
     }
     if let Some(run) = growing {

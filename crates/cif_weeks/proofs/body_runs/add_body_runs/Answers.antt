@@ -1,6 +1,6 @@
 -- While spans are left: one has ended (`left-fewer`), or the weeks are done until the next begins (`mask-all`, `agree-all`). Then the
 -- runs are made (`body-none`, `body-put`).
-use Rattle.std.proofs.Common.{◌+◌, ◌<◌, ◌≤◌, ℕ, length, take, get_or, ap, arith, ⊎_elim}
+use Rattle.std.proofs.Common.{inl, refl, ◌+◌, ◌<◌, ◌≤◌, ℕ, length, take, get_or, ap, arith, ⊎_elim}
 use Rattle.std.proofs.lemmas.Bool.{cases_lt}
 use Rattle.std.proofs.lemmas.List.{length-take}
 use Rattle.cif_columns.specs.Day.{week_of}
@@ -13,15 +13,12 @@ use Rattle.cif_weeks.proofs.BodyRuns.{body-none, body-put, grown-idle}
 use Rattle.cif_weeks.proofs.body_runs.add_body_runs.Goals as goal
 use Rattle.cif_weeks.proofs.body_runs.add_body_runs.Goals.{Joined-get, in-Some, in-None}
 
-pub loop-left-preserved-then-span-week : goal.loop-left-preserved-then-span-week
-loop-left-preserved-then-span-week c =
-    let i = c.loop-left.invariant in
-    record {
-      grown = i.grown;
-      agreed = i.agreed;
-      left = left-fewer i.left c.span-item.result c.in-len1-up.len_at_least c.span-item.is c.if-span-week.true;
-      in_range = i.in_range;
-    }
+pub loop-left-init : goal.loop-left-init
+loop-left-init c = record {
+  grown = (refl, λ n less on. omega (arith, (c.weeks_of-first.ensures.weeks n on).0, less));
+  agreed = λ n less on. absurd (omega (arith, (c.weeks_of-first.ensures.weeks n on).0, less));
+  left = record { some = λ s listed. listed; all = λ s listed. inl listed; order = c.requires.order };
+}
 
 -- until then the next one doesn't begin
 until-below : (c : Joined-get) → (d : Span) → c.count_begun-count.result < length c.loop-left.left.now →
@@ -35,25 +32,33 @@ until-below c d below =
       | in-None w ↦ absurd (omega (arith, w.in-None.ensures.lookup.3))
     ]
 
--- that is no earlier than the week, and has a week after it
-until-in_range : (c : Joined-get) → (c.max-week.result ≤ c.match-get.until) × (c.match-get.until < 65535)
-until-in_range c = elim c.match-get.branch [
+-- these are weeks up to the last one
+until-within : (c : Joined-get) → (c.max-from.result ≤ c.match-get.until) × (c.match-get.until ≤ c.weeks_of-first.result.1)
+until-within c = elim c.match-get.branch [
   | in-Some w ↦
       let s = w.in-Some.next.now in
       let found = w.in-Some.ensures.lookup.3 in
       let later = c.count_begun-count.ensures.begun.1 c.count_begun-count.result s (omega arith) found.0 in
       let next = ap (λ (s : Span). s.first_week) (found.1 s) in
-      (omega arith, omega (arith, s.in_order, s.in_range))
-  | in-None w ↦
-      let s = c.span-item.result in
-      (omega (arith, c.max-week.ensures, s.in_order, s.in_range, c.if-span-week.false), omega arith)
+      (omega (arith, c.if-min-from.false), omega arith)
+  | in-None w ↦ (omega (arith, c.if-min-from.false), omega arith)
 ]
 
 -- so on each day of these weeks the spans that have begun are all that count
-same : (c : Joined-get) → (n : ℕ) → c.max-week.result ≤ week_of n → week_of n ≤ c.match-get.until →
+same : (c : Joined-get) → (n : ℕ) → c.max-from.result ≤ week_of n → week_of n ≤ c.match-get.until →
     SameOn (take c.count_begun-count.result c.loop-left.left.now) c.args.spans.now n
-same c = begun-same (left-later c.loop-left.invariant.left c.max-week.result (omega (arith, c.max-week.ensures)))
-    c.count_begun-count.result c.match-get.until (until-below c)
+same c = begun-same (left-later c.loop-left.invariant.left c.max-from.result (omega (arith, c.max-from.ensures)))
+    c.count_begun-count.result c.match-get.until (until-within c).1 (until-below c)
+
+pub loop-left-preserved-then-min-from : goal.loop-left-preserved-then-min-from
+loop-left-preserved-then-min-from c =
+    let i = c.loop-left.invariant in
+    record {
+      grown = i.grown;
+      agreed = i.agreed;
+      left = left-fewer i.left c.span-item.result c.in-len1-up.len_at_least c.span-item.is
+          (λ n has from upto. omega (arith, has.from, has.upto, c.if-min-from.true, c.max-from.ensures));
+    }
 
 pub slice_bounds-weeks_shown-end : goal.slice_bounds-weeks_shown-end
 slice_bounds-weeks_shown-end c =
@@ -64,7 +69,7 @@ pub returns-in_default-weeks_shown : goal.returns-in_default-weeks_shown
 returns-in_default-weeks_shown c =
     let j = (goal.at.returns-in_default-weeks_shown c).Joined-get in
     let (n, at, disputed) = c.in_default-weeks_shown.ensures.disputed in
-    (n, disputed-all (same j n (omega arith) (omega (arith, (until-in_range j).0))) disputed)
+    (n, disputed-all (same j n (omega arith) (omega (arith, (until-within j).0))) disputed)
 
 pub grow-requires-clause-weeks : goal.grow-requires-clause-weeks
 grow-requires-clause-weeks c = mask-all (same (goal.at.grow-requires-clause-weeks c).Joined-get) c.in-Some-weeks_shown.ensures.weeks
@@ -75,29 +80,29 @@ loop-left-preserved c =
     let a = c.args in
     let i = c.loop-left.invariant in
     let shown = c.in-Some-weeks_shown.ensures in
-    let later = c.max-week.ensures in
-    let none = λ (n : ℕ) (from : c.loop-left.week ≤ week_of n) (less : week_of n < c.max-week.result).
-    none-before i.left c.span-item.result c.in-len1-up.len_at_least c.span-item.is n from (omega arith) in
+    let later = c.max-from.ensures in
+    let none = λ (n : ℕ) (from : c.loop-left.week ≤ week_of n) (less : week_of n < c.max-from.result)
+    (shows : Shows a.spans.now a.source n). none-before i.left c.span-item.result c.in-len1-up.len_at_least c.span-item.is n from
+    (c.weeks_of-first.ensures.weeks n shows).1 (omega arith) shows in
     record {
       grown = c.in_ok-growing.ensures a.runs.now.items (grown-idle a.form (window_from a.window.now.first a.window.now.last)
-          (Shows a.spans.now a.source) a.source c.loop-left.week c.max-week.result a.runs.now.items c.loop-left.runs.items
+          (Shows a.spans.now a.source) a.source c.loop-left.week c.max-from.result a.runs.now.items c.loop-left.runs.items
           c.loop-left.growing (omega arith) (λ n from less. none n from less) i.grown);
       agreed = λ n less shows. ⊎_elim
           (λ before. i.agreed n before shows)
           (λ from. ⊎_elim
           (λ idle. absurd (none n from idle shows))
           (λ begun. agree-all (same j) shown.weeks shown.agreed n begun (omega arith) shows)
-          (cases_lt (week_of n) c.max-week.result))
+          (cases_lt (week_of n) c.max-from.result))
           (cases_lt (week_of n) c.loop-left.week);
       left = left-later i.left (c.in-Some-weeks_shown.weeks.last + 1) (omega (arith, shown.weeks.from));
-      in_range = omega (arith, shown.weeks.upto, (until-in_range j).1);
     }
 
 pub returns-in_ok-push : goal.returns-in_ok-push
 returns-in_ok-push c =
     let a = c.args in
     let i = c.loop-left.invariant in
-    let over = λ (n : ℕ) (shows : Shows a.spans.now a.source n). none-after i.left c.in_default.len_below n shows in
+    let over = λ (n : ℕ) (shows : Shows a.spans.now a.source n). none-after i.left c.in_default.len_below n (c.weeks_of-first.ensures.weeks n shows).1 shows in
     rw c.in_ok-push.ensures.items (body-put a.form (window_from a.window.now.first a.window.now.last) a.spans.now a.source
     c.loop-left.week over (λ n shows. i.agreed n (over n shows) shows) a.runs.now.items c.loop-left.runs.items c.in-Some-growing.run'
     (rw c.in-Some-growing.is at i.grown))
@@ -106,6 +111,6 @@ pub returns-in_default-growing : goal.returns-in_default-growing
 returns-in_default-growing c =
     let a = c.args in
     let i = c.loop-left.invariant in
-    let over = λ (n : ℕ) (shows : Shows a.spans.now a.source n). none-after i.left c.in_default.len_below n shows in
+    let over = λ (n : ℕ) (shows : Shows a.spans.now a.source n). none-after i.left c.in_default.len_below n (c.weeks_of-first.ensures.weeks n shows).1 shows in
     body-none a.form (window_from a.window.now.first a.window.now.last) a.spans.now a.source c.loop-left.week over
     (λ n shows. i.agreed n (over n shows) shows) a.runs.now.items c.loop-left.runs.items (rw c.in_default-growing.is at i.grown)

@@ -13,8 +13,7 @@ invariant-loop-left l = record {
   grown : AreGrownTo l.form (window_from l.window.first l.window.last) (Shows l.spans l.source) l.source l.week l.initial.runs.items
       l.runs.items l.growing;
   agreed : (n : ℕ) → week_of n < l.week → Shows l.spans l.source n → IsAgreed l.spans n;
-  left : AreLeft l.spans l.left l.week;
-  in_range : l.week < 65536;
+  left : AreLeft l.spans l.left l.week l.last;
 }
 
 abbrev pub decreases-loop-left : goal.decreases-loop-left

@@ -1,25 +1,33 @@
--- A span with this source is one more that may lead.
+-- A span alone leads wherever it is (`alone-weeks`); else each span with this source is one more that may lead.
 use Rattle.std.proofs.Common.{sym, arith}
 use Rattle.std.proofs.lemmas.List.{take_all}
-use Rattle.cif_weeks.proofs.Spans.{take_next, some-more, some-same, agree-more, shown-weeks, shown-agreed}
+use Rattle.cif_weeks.proofs.Spans.{alone-agreed, alone-weeks, take_next, some-more, some-same, agree-more, shown-weeks, shown-agreed}
 use Rattle.cif_weeks.proofs.body_runs.weeks_shown.Goals as goal
-use Rattle.cif_weeks.proofs.body_runs.weeks_shown.Goals.{then-span-source+in_ok-weeks, else-span-source}
+use Rattle.cif_weeks.proofs.body_runs.weeks_shown.Goals.{then-span-source-2+in_ok-weeks, else-span-source-2}
+
+pub returns-then-span-source-clause-weeks : goal.returns-then-span-source-clause-weeks
+returns-then-span-source-clause-weeks c = alone-weeks c.args.spans.now c.span-item.result
+    (omega (arith, c.in-len1.len_at_least, c.in-len1.len_below)) c.span-item.is c.if-span-source.true c.weeks_from.ensures
+
+pub returns-then-span-source-clause-agreed : goal.returns-then-span-source-clause-agreed
+returns-then-span-source-clause-agreed c = alone-agreed c.args.spans.now c.span-item.result
+    (omega (arith, c.in-len1.len_at_least, c.in-len1.len_below)) c.span-item.is
 
 pub loop-span-preserved : goal.loop-span-preserved
 loop-span-preserved c =
     let l = c.loop-span.invariant in
-    let t = c.span-item.result in
-    let next = take_next c.args.spans.now c.loop-span.span-index t c.loop-span-test.true c.span-item.is in
-    elim c.if-span-source.branch [
-      | then-span-source+in_ok-weeks w ↦
+    let t = c.span-item-in-loop-span.result in
+    let next = take_next c.args.spans.now c.loop-span.span-index t c.loop-span-test.true c.span-item-in-loop-span.is in
+    elim c.if-span-source-2.branch [
+      | then-span-source-2+in_ok-weeks w ↦
           let e = w.in_ok-weeks.ensures in
           let u = w.union-days.ensures in
           rw (next, w.days-is, w.last-is) (record {
-            weeks = some-more t l.weeks w.if-span-source.true e.weeks u.width u.runs;
+            weeks = some-more t l.weeks w.if-span-source-2.true e.weeks u.width u.runs;
             agreed = agree-more t l.agreed e.weeks.upto
-                (λ _. (e.agreed (c.loop-span.span-index, c.loop-span-test.true, sym c.span-item.is)).agreed);
+                (λ _. (e.agreed (c.loop-span.span-index, c.loop-span-test.true, sym c.span-item-in-loop-span.is)).agreed);
           })
-      | else-span-source w ↦
+      | else-span-source-2 w ↦
           rw (next, w.days-is, w.last-is) (record {
             weeks = some-same t l.weeks (λ same. omega arith) l.weeks.from (omega arith);
             agreed = agree-more t l.agreed (omega arith) (λ same. absurd (omega arith));

@@ -1,0 +1,33 @@
+-- One span more: if it has this source, the weeks reach to its own.
+use Rattle.std.proofs.Common.{⊎_elim, arith}
+use Rattle.std.proofs.lemmas.List.{take_all}
+use Rattle.cif_weeks.proofs.Spans.{take_next, old_or_new}
+use Rattle.cif_weeks.proofs.body_runs.weeks_of.Goals as goal
+use Rattle.cif_weeks.proofs.body_runs.weeks_of.Goals.{then-span-source, else-span-source}
+
+pub loop-span-preserved : goal.loop-span-preserved
+loop-span-preserved c =
+    let l = c.loop-span.invariant in
+    let t = c.span-item.result in
+    let next = take_next c.args.spans.now c.loop-span.span-index t c.loop-span-test.true c.span-item.is in
+    elim c.if-span-source.branch [
+      | then-span-source w ↦ record {
+        weeks = rw next (λ n h. ⊎_elim
+            (λ old. let k = l.weeks n old in (omega arith, omega arith))
+            (λ new. let has = new.1 in (omega arith, omega arith))
+            (old_or_new t n h));
+        in_range = omega arith;
+      }
+      | else-span-source w ↦ record {
+        weeks = rw (next, w.first-is, w.last-is) (λ n h. ⊎_elim
+            (λ old. l.weeks n old)
+            (λ new. absurd (w.if-span-source.false new.0))
+            (old_or_new t n h));
+        in_range = omega arith;
+      }
+    ]
+
+pub returns-clause-weeks : goal.returns-clause-weeks
+returns-clause-weeks c n s =
+    rw (take_all c.loop-span.span-index c.args.spans.now c.loop-span-test.false) at c.loop-span.invariant.weeks n
+    (record { it = s.it; listed = s.listed; is = s.is; on = s.leads.has })
