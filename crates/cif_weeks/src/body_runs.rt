@@ -32,14 +32,14 @@ fn day_of(week: u32, weekday: u8) -> Day
 /// The week, and those after it up to `until` in which the span leads on the same weekdays. `None` if
 /// a span with another body leads on one of these dates too.
 fn weeks_led(spans: &[Span], span: &Span, week: u32, until: u32) -> Option<Weeks>
+    requires listed { Contains spans.now span.now }
     requires in_order { week ≤ until }
     requires in_range { until < 65536 }
     ensures weeks { IfSome result
         (HaveOneMask (λ n. Leads spans.now n span.now) week until) }
-    ensures agreed { Contains spans.now span.now → IfSome result
+    ensures agreed { IfSome result
         (AgreeOn spans.now (λ n. Leads spans.now n span.now) week) }
-    ensures disputed { Contains spans.now span.now → IfNone result
-        ((n : ℕ) × (week_of n ≡ week) × IsDisputed spans.now n) }
+    ensures disputed { IfNone result ((n : ℕ) × (week_of n ≡ week) × IsDisputed spans.now n) }
 {
     let own = span.weeks_from(week, until);
     let mut last = own.last;

@@ -50,11 +50,11 @@ pub returns-in-None-clause-agreed : goal.returns-in-None-clause-agreed
 returns-in-None-clause-agreed c =
     let l = rw (take_all c.loop-other.other-index c.args.spans.now c.loop-other-test.false) at c.loop-other.invariant in
     led-agreed c.weeks_from-own.ensures l.over c.fits.ensures c.minus-days.ensures l.rivals
-    (λ w both. c.in-None.ensures.none w ((c.intersection.ensures.runs w).1 both))
+    (λ w both. c.in-None.ensures.none w ((c.intersection.ensures.runs w).1 both)) c.requires.listed
 
 pub returns-in-Some-clause-disputed : goal.returns-in-Some-clause-disputed
-returns-in-Some-clause-disputed c listed =
+returns-in-Some-clause-disputed c =
     let l = rw (take_all c.loop-other.other-index c.args.spans.now c.loop-other-test.false) at c.loop-other.invariant in
     let both = (c.intersection.ensures.runs c.in-Some.field-0).0 c.in-Some.ensures.found.runs in
     led-disputed (led-weeks c.weeks_from-own.ensures l.over c.fits.ensures c.minus-days.ensures) l.rivals c.in-Some.field-0
-    both.0 both.1 listed
+    both.0 both.1 c.requires.listed

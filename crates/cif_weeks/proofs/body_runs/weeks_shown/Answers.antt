@@ -25,7 +25,7 @@ loop-span-preserved c =
           rw (next, w.days-is, w.last-is) (record {
             weeks = some-more t l.weeks w.if-span-source-2.true e.weeks u.width u.runs;
             agreed = agree-more t l.agreed e.weeks.upto
-                (λ _. (e.agreed (c.loop-span.span-index, c.loop-span-test.true, sym c.span-item-in-loop-span.is)).agreed);
+                (λ _. e.agreed.agreed);
           })
       | else-span-source-2 w ↦
           rw (next, w.days-is, w.last-is) (record {
