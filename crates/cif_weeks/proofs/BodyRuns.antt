@@ -1,8 +1,9 @@
 -- The runs of one body, week by week: weeks without a day of it, a run that begins, and one that goes on.
-use Rattle.std.proofs.Common.{◌≡◌, ◌⊎◌, ℕ, ◌+◌, ◌-◌, ◌*◌, ◌<◌, ◌≤◌, Bool, List, [], ◌∷◌, ◌++◌, Option, None, Some}
-use Rattle.std.proofs.Common.{length, refl, sym, ◌∙◌, ap, subst, arith, ⊎_elim, append_assoc}
+use Rattle.std.proofs.Common.{◌≡◌, ◌⊎◌, ℕ, ◌+◌, ◌-◌, ◌*◌, ◌<◌, ◌≤◌, Bool, List, [], ◌∷◌, ◌++◌, get_or}
+use Rattle.std.proofs.Common.{length, length-append, refl, sym, ◌∙◌, ap, subst, arith, ⊎_elim, append_assoc}
 use Rattle.std.specs.Prelude.{◌↔◌, reverse}
 use Rattle.std.proofs.lemmas.List.{append-nil, reverse-append, reverse-reverse}
+use Rattle.std.proofs.Math.Seq.{get_or-append_seam}
 use Rattle.std.proofs.lemmas.Bool.{cases_lt}
 use Rattle.cif_columns.specs.Day.{IsDay, week_of, weekday_of}
 use Rattle.cif_columns.specs.DaysRun.{RunsOn, IsFirstOf, IsLastOf}
@@ -42,13 +43,6 @@ module _ (form : Form) (window : Window) (on : ℕ → Type 0) (source : ℕ) wh
     breaks,
     before,
   )
-
-  pub grown-idle : (limit later : ℕ) (old runs : List Run) (growing : Option Run) → limit ≤ later →
-      ((n : ℕ) → limit ≤ week_of n → week_of n < later → ¬ on n) → AreGrownTo form window on source limit old runs growing →
-      AreGrownTo form window on source later old runs growing
-  grown-idle limit later old runs None upto none (are, before) = (are, body-idle limit later [] upto none before)
-  grown-idle limit later old runs (Some run) upto none (before, are, body) =
-      (before, are, body-idle limit later (run ∷ before) upto none body)
 
   -- what is before a run doesn't depend on how it ends
   pub breaks-first : (run other : Run) (before : List Run) → run.first ≡ other.first → BreaksBefore form window on run before →
@@ -153,23 +147,19 @@ module _ (form : Form) (window : Window) (on : ℕ → Type 0) (source : ℕ) wh
             (grown_more window on inside form (dates_of run) (week_of run.last) days both n refl grown
             (subst (λ v. IsMask on v days) (sym next) here) agree seven union (subst (λ v. IsLastDay v days n) (sym next) is_end))
 
-        -- what is found after these weeks: the run that grows has them, or it is put to the runs, and one begins
-        pub grow-longer : (old runs : List Run) (run : Run) (both : List Bool) → AreGrownTo form window on source week old runs (Some run) →
+        -- what is found after these weeks: the run has them too
+        pub grow-longer : (before : List Run) (run : Run) (both : List Bool) → AreBodyRuns form window on source week (run ∷ before) →
             week_of run.last + 1 ≡ week → ((v : ℕ) → v + 1 ≡ week → MasksAgree form window v run.days days) → length both ≡ 7 →
             ((w : ℕ) → RunsOn both w ↔ (RunsOn run.days w ⊎ RunsOn days w)) →
-            AreGrownTo form window on source (last + 1) old runs
-            (Some (record { first = run.first; last = end; days = both; source = run.source }))
-        grow-longer old runs run both (before, are, (latest, breaks, rest)) next agree seven union =
+            AreBodyRuns form window on source (last + 1) (record { first = run.first; last = end; days = both; source = run.source } ∷ before)
+        grow-longer before run both (latest, breaks, rest) next agree seven union =
             let it : Run = record { first = run.first; last = end; days = both; source = run.source } in (
-              before,
-              are,
-              (
-                latest-of it refl latest.source_is (longer-grown run both latest.grown next (agree (week_of run.last) next) seven union),
-                breaks-first run it before refl breaks,
-                rest,
-              ),
+              latest-of it refl latest.source_is (longer-grown run both latest.grown next (agree (week_of run.last) next) seven union),
+              breaks-first run it before refl breaks,
+              rest,
             )
 
+        -- or another begins
         module _ (first : ℕ) (first_at : first + 4 ≡ week * 7 + f) where
           abbrev it-begins : Run
           it-begins = record { first = first; last = end; days = days; source = source }
@@ -177,53 +167,62 @@ module _ (form : Form) (window : Window) (on : ℕ → Type 0) (source : ℕ) wh
           begins-in : week ≡ week_of first
           begins-in = let f_below = below f is_first.runs in omega arith
 
-          pub grow-first : (old runs : List Run) → AreGrownTo form window on source week old runs None →
-              AreGrownTo form window on source (last + 1) old runs (Some it-begins)
-          grow-first old runs (are, none) = (
-            [],
-            are ∙ sym (append-nil old),
-            (
-              latest-of it-begins refl refl (new-grown first first_at),
-              tt,
-              subst (λ v. AreBodyRuns form window on source v []) begins-in none,
-            ),
+          pub grow-first : AreBodyRuns form window on source week [] → AreBodyRuns form window on source (last + 1) (it-begins ∷ [])
+          grow-first none = (
+            latest-of it-begins refl refl (new-grown first first_at),
+            tt,
+            subst (λ v. AreBodyRuns form window on source v []) begins-in none,
           )
 
-          pub grow-next : (old runs : List Run) (run : Run) → AreGrownTo form window on source week old runs (Some run) →
+          pub grow-next : (before : List Run) (run : Run) → AreBodyRuns form window on source week (run ∷ before) →
               (week_of run.last + 1 ≡ week → MasksDiffer form window (week_of run.last) run.days days) →
-              AreGrownTo form window on source (last + 1) old (runs ++ run ∷ []) (Some it-begins)
-          grow-next old runs run (before, are, (latest, breaks, rest)) differ = (
-            run ∷ before,
-            ap (λ v. v ++ run ∷ []) are ∙ append_assoc old (reverse before) (run ∷ [])
-                ∙ ap (λ v. old ++ v) (sym (reverse-append (run ∷ []) before)),
-            (
-              latest-of it-begins refl refl (new-grown first first_at),
-              λ next.
-                  let adjoins : week_of run.last + 1 ≡ week = sym next ∙ sym begins-in in
-                  breaks_differ window on inside form (dates_of run) days latest.grown
-                  (subst (λ v. IsMask on v days) (sym adjoins) here) (differ adjoins),
-              subst (λ v. AreBodyRuns form window on source v (run ∷ before)) begins-in (latest, breaks, rest),
-            ),
+              AreBodyRuns form window on source (last + 1) (it-begins ∷ run ∷ before)
+          grow-next before run (latest, breaks, rest) differ = (
+            latest-of it-begins refl refl (new-grown first first_at),
+            λ next.
+                let adjoins : week_of run.last + 1 ≡ week = sym next ∙ sym begins-in in
+                breaks_differ window on inside form (dates_of run) days latest.grown
+                (subst (λ v. IsMask on v days) (sym adjoins) here) (differ adjoins),
+            subst (λ v. AreBodyRuns form window on source v (run ∷ before)) begins-in (latest, breaks, rest),
           )
 
--- after the last week the run that still grows, if there is one, is put to the runs
-module _ (form : Form) (window : Window) (spans : List Span) (source limit : ℕ) (over : (n : ℕ) → Shows spans source n → week_of n < limit)
-    (agreed : (n : ℕ) → Shows spans source n → IsAgreed spans n) (old runs : List Run) where
-  pub body-none : AreGrownTo form window (Shows spans source) source limit old runs None →
-      (added : List Run) × (runs ≡ old ++ added) × AreRunsOfBody form window spans source added
-  body-none (are, none) =
-      ([], are ∙ sym (append-nil old), record { limit = limit; over = over; body_runs = none; agreed = agreed })
+-- a run that is pushed is the latest
+pub made-more : (old made : List Run) (run : Run) → (old ++ reverse made) ++ run ∷ [] ≡ old ++ reverse (run ∷ made)
+made-more old made run = append_assoc old (reverse made) (run ∷ []) ∙ ap (λ v. old ++ v) (sym (reverse-append (run ∷ []) made))
 
-  pub body-put : (run : Run) → AreGrownTo form window (Shows spans source) source limit old runs (Some run) →
-      (added : List Run) × (runs ++ run ∷ [] ≡ old ++ added) × AreRunsOfBody form window spans source added
-  body-put run (before, are, body) = (
-    reverse before ++ run ∷ [],
-    ap (λ v. v ++ run ∷ []) are ∙ append_assoc old (reverse before) (run ∷ []),
-    record {
-      limit = limit;
-      over = over;
-      body_runs = subst (AreBodyRuns form window (Shows spans source) source limit)
-          (sym (reverse-append (reverse before) (run ∷ []) ∙ ap (λ v. run ∷ v) (reverse-reverse before))) body;
-      agreed = agreed;
-    },
-  )
+-- the last run of the list, where one is made, is the latest
+pub last-made : (old runs made : List Run) (place : ℕ) (run : Run) → runs ≡ old ++ reverse made → length old < length runs →
+    place + 1 ≡ length runs → run ≡ get_or runs place run →
+    (before : List Run) × (made ≡ run ∷ before) × (runs ≡ (old ++ reverse before) ++ run ∷ []) × (place ≡ length (old ++ reverse before))
+last-made old runs [] place run are some at is = absurd (omega (arith, ap length (are ∙ append-nil old)))
+last-made old runs (r ∷ before) place run are some at is =
+    let cut : runs ≡ (old ++ reverse before) ++ r ∷ [] = are ∙ sym (made-more old before r) in
+    let long = ap length cut ∙ length-append (old ++ reverse before) (r ∷ []) in
+    let here : place ≡ length (old ++ reverse before) = omega (arith, long) in
+    let same : run ≡ r = is ∙ ap (λ ys. get_or ys place run) cut ∙ ap (λ k. get_or ((old ++ reverse before) ++ r ∷ []) k run) here
+    ∙ get_or-append_seam (old ++ reverse before) r [] run in
+    (before, ap (λ v. v ∷ before) (sym same), cut ∙ ap (λ v. (old ++ reverse before) ++ v ∷ []) (sym same), here)
+
+-- where the list is no longer than the old one, none is made
+pub none-made : (old runs made : List Run) → runs ≡ old ++ reverse made → length runs ≤ length old → made ≡ []
+none-made old runs [] are upto = refl
+none-made old runs (r ∷ before) are upto =
+    let long = ap length (are ∙ sym (made-more old before r)) ∙ length-append (old ++ reverse before) (r ∷ [])
+    ∙ ap (λ n. n + 1) (length-append old (reverse before)) in
+    absurd (omega (arith, long))
+
+-- after the last week they are all the body's runs
+pub body-made : (form : Form) (window : Window) (spans : List Span) (source limit : ℕ) → ((n : ℕ) → Shows spans source n → week_of n < limit) →
+    ((n : ℕ) → Shows spans source n → IsAgreed spans n) → (old runs : List Run) →
+    AreGrownTo form window (Shows spans source) source limit old runs →
+    (added : List Run) × (runs ≡ old ++ added) × AreRunsOfBody form window spans source added
+body-made form window spans source limit over agreed old runs (made, are, body) = (
+  reverse made,
+  are,
+  record {
+    limit = limit;
+    over = over;
+    body_runs = subst (AreBodyRuns form window (Shows spans source) source limit) (sym (reverse-reverse made)) body;
+    agreed = agreed;
+  },
+)

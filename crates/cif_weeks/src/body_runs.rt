@@ -92,48 +92,52 @@ fn weeks_shown(spans: &[Span], source: usize, week: u32, until: u32) -> Option<W
     Some(Weeks { days, last })
 }
 
-/// Gives the run that grows the next weeks, in which the spans show the body at `source`. If they
-/// don't join it, it is added to the runs, and another begins. The result is the run that grows now.
+/// Adds the next weeks, in which the spans show the body at `source`, to its runs, which are those from
+/// `start` on. The last of them goes on if they join it; else another begins.
 fn grow(
     runs: &mut Vec<Run>,
-    growing: Option<Run>,
+    start: usize,
     week: u32,
     weeks: Weeks,
     spans: &[Span],
     source: usize,
     window: &Window,
     form: Form,
-) -> Result<Option<Run>, AllocError>
+) -> Result<(), AllocError>
     requires inside { (n : ℕ) → Shows spans.now source n →
         IsWithin (window_from window.now.first window.now.last) n }
     requires in_range { IsDay window.now.last }
     requires weeks { HaveOneMask (Shows spans.now source) week weeks.last weeks }
-    ensures { IfOk result (λ grown. (old : List Run) →
+    ensures { IfOk result (λ _. (old : List Run) → length old ≡ start →
         AreGrownTo form (window_from window.now.first window.now.last) (Shows spans.now source) source
-        week old runs.old.items growing →
+        week old runs.old.items →
         AreGrownTo form (window_from window.now.first window.now.last) (Shows spans.now source) source
-        (weeks.last + 1) old runs.new.items grown) }
+        (weeks.last + 1) old runs.new.items) }
 {
     let Some(first_weekday) = weeks.days.first() else {
-        return Ok(growing);
+        return Ok(());
     };
     let Some(last_weekday) = weeks.days.last() else {
-        return Ok(growing);
+        return Ok(());
     };
     let last = day_of(weeks.last, last_weekday);
-    if let Some(run) = growing {
+    if start < runs.len() {
+        let place = runs.len() - 1;
+        let run = runs[place];
+        run.last.fits();
         if run.last.week() + 1 == week && agree(form, window, week, run.days, weeks.days) {
             let days = run.days.union(weeks.days);
-            return Ok(Some(Run { last, days, ..run }));
+            runs[place] = Run { last, days, ..run };
+            return Ok(());
         }
-        runs.push(run)?;
     }
-    Ok(Some(Run {
+    runs.push(Run {
         first: day_of(week, first_weekday),
         last,
         days: weeks.days,
         source,
-    }))
+    })?;
+    Ok(())
 }
 
 /// The weeks, from the first to the last, in which spans have this source.
@@ -187,7 +191,7 @@ pub(crate) fn add_body_runs(
 {
     window.last.fits();
     let (first, last) = weeks_of(spans, source);
-    let mut growing = None;
+    let start = runs.len();
     let mut week = first;
     let mut left = spans;
     while let [span, after @ ..] = left {
@@ -204,12 +208,9 @@ pub(crate) fn add_body_runs(
                 return Ok(false);
             };
             let next = weeks.last + 1;
-            growing = grow(runs, growing, from, weeks, spans, source, window, form)?;
+            grow(runs, start, from, weeks, spans, source, window, form)?;
             week = next;
         }
-    }
-    if let Some(run) = growing {
-        runs.push(run)?;
     }
     Ok(true)
 }

@@ -34,11 +34,9 @@ AreBodyRuns form window on source limit [] = (n : ℕ) → week_of n < limit →
 AreBodyRuns form window on source limit (run ∷ before) = IsLatest form window on source limit run
     × BreaksBefore form window on run before × AreBodyRuns form window on source (week_of run.first) before
 
--- The runs of these days in the weeks before `limit` are those in the list after the old ones, and the one that still grows.
-abbrev pub AreGrownTo : Form → Window → (ℕ → Type 0) → ℕ → ℕ → List Run → List Run → Option Run → Type 0
-AreGrownTo form window on source limit old runs None = (runs ≡ old) × AreBodyRuns form window on source limit []
-AreGrownTo form window on source limit old runs (Some run) =
-    (before : List Run) × (runs ≡ old ++ reverse before) × AreBodyRuns form window on source limit (run ∷ before)
+-- The runs after the old ones are those of these days in the weeks before `limit`.
+abbrev pub AreGrownTo : Form → Window → (ℕ → Type 0) → ℕ → ℕ → List Run → List Run → Type 0
+AreGrownTo form window on source limit old runs = (made : List Run) × (runs ≡ old ++ reverse made) × AreBodyRuns form window on source limit made
 
 -- The runs are those of all days on which the source is shown, and the spans agree on these days.
 pub record AreRunsOfBody (form : Form) (window : Window) (spans : List Span) (source : ℕ) (runs : List Run) : Type 0 where

@@ -1,6 +1,6 @@
 -- While spans are left: one has ended (`left-fewer`), or the weeks are done until the next begins (`mask-all`, `agree-all`). Then the
--- runs are made (`body-none`, `body-put`).
-use Rattle.std.proofs.Common.{inl, refl, ◌+◌, ◌<◌, ◌≤◌, ℕ, length, take, get_or, ap, arith, ⊎_elim}
+-- runs are made (`body-made`).
+use Rattle.std.proofs.Common.{inl, [], sym, ◌∙◌, ◌+◌, ◌<◌, ◌≤◌, ℕ, length, take, get_or, ap, arith, ⊎_elim}
 use Rattle.std.proofs.lemmas.Bool.{cases_lt}
 use Rattle.std.proofs.lemmas.List.{length-take}
 use Rattle.cif_columns.specs.Day.{week_of}
@@ -9,13 +9,14 @@ use Rattle.cif_weeks.specs.Steps.Spans.{Shows}
 use Rattle.cif_weeks.specs.declared.span.Span.{Span}
 use Rattle.cif_weeks.proofs.ActiveSpans.{SameOn, agree-all, begun-same, disputed-all, left-fewer, left-later, mask-all}
 use Rattle.cif_weeks.proofs.ActiveSpans.{none-after, none-before}
-use Rattle.cif_weeks.proofs.BodyRuns.{body-none, body-put, grown-idle}
+use Rattle.std.proofs.lemmas.List.{append-nil}
+use Rattle.cif_weeks.proofs.BodyRuns.{body-idle, body-made}
 use Rattle.cif_weeks.proofs.body_runs.add_body_runs.Goals as goal
 use Rattle.cif_weeks.proofs.body_runs.add_body_runs.Goals.{Joined-get, in-Some, in-None}
 
 pub loop-left-init : goal.loop-left-init
 loop-left-init c = record {
-  grown = (refl, λ n less on. omega (arith, (c.weeks_of-first.ensures.weeks n on).0, less));
+  grown = ([], sym (append-nil c.args.runs.now.items), λ n less on. omega (arith, (c.weeks_of-first.ensures.weeks n on).0, less));
   agreed = λ n less on. absurd (omega (arith, (c.weeks_of-first.ensures.weeks n on).0, less));
   left = record { some = λ s listed. listed; all = λ s listed. inl listed; order = c.requires.order };
 }
@@ -85,9 +86,12 @@ loop-left-preserved c =
     (shows : Shows a.spans.now a.source n). none-before i.left c.span-item.result c.in-len1-up.len_at_least c.span-item.is n from
     (c.weeks_of-first.ensures.weeks n shows).1 (omega arith) shows in
     record {
-      grown = c.in_ok-growing.ensures a.runs.now.items (grown-idle a.form (window_from a.window.now.first a.window.now.last)
-          (Shows a.spans.now a.source) a.source c.loop-left.week c.max-from.result a.runs.now.items c.loop-left.runs.items
-          c.loop-left.growing (omega arith) (λ n from less. none n from less) i.grown);
+      grown = c.in_ok-grow.ensures a.runs.now.items (sym (c.len-start.ensures ∙ a.runs.now.ok.0)) (
+        i.grown.0,
+        i.grown.1,
+        body-idle a.form (window_from a.window.now.first a.window.now.last) (Shows a.spans.now a.source) a.source c.loop-left.week
+            c.max-from.result i.grown.0 (omega arith) (λ n from less. none n from less) i.grown.2,
+      );
       agreed = λ n less shows. ⊎_elim
           (λ before. i.agreed n before shows)
           (λ from. ⊎_elim
@@ -98,19 +102,11 @@ loop-left-preserved c =
       left = left-later i.left (c.in-Some-weeks_shown.weeks.last + 1) (omega (arith, shown.weeks.from));
     }
 
-pub returns-in_ok-push : goal.returns-in_ok-push
-returns-in_ok-push c =
+pub returns : goal.returns
+returns c =
     let a = c.args in
     let i = c.loop-left.invariant in
-    let over = λ (n : ℕ) (shows : Shows a.spans.now a.source n). none-after i.left c.in_default.len_below n (c.weeks_of-first.ensures.weeks n shows).1 shows in
-    rw c.in_ok-push.ensures.items (body-put a.form (window_from a.window.now.first a.window.now.last) a.spans.now a.source
-    c.loop-left.week over (λ n shows. i.agreed n (over n shows) shows) a.runs.now.items c.loop-left.runs.items c.in-Some-growing.run'
-    (rw c.in-Some-growing.is at i.grown))
-
-pub returns-in_default-growing : goal.returns-in_default-growing
-returns-in_default-growing c =
-    let a = c.args in
-    let i = c.loop-left.invariant in
-    let over = λ (n : ℕ) (shows : Shows a.spans.now a.source n). none-after i.left c.in_default.len_below n (c.weeks_of-first.ensures.weeks n shows).1 shows in
-    body-none a.form (window_from a.window.now.first a.window.now.last) a.spans.now a.source c.loop-left.week over
-    (λ n shows. i.agreed n (over n shows) shows) a.runs.now.items c.loop-left.runs.items (rw c.in_default-growing.is at i.grown)
+    let over = λ (n : ℕ) (shows : Shows a.spans.now a.source n). none-after i.left c.in_default.len_below n
+    (c.weeks_of-first.ensures.weeks n shows).1 shows in
+    body-made a.form (window_from a.window.now.first a.window.now.last) a.spans.now a.source c.loop-left.week over
+    (λ n shows. i.agreed n (over n shows) shows) a.runs.now.items c.loop-left.runs.items i.grown

@@ -1,31 +1,50 @@
--- Weeks without a day change nothing (`grown-idle`); else the run goes on in them (`grow-longer`), or one begins (`grow-first`,
+-- Weeks without a day change nothing (`body-idle`); else the run goes on in them (`grow-longer`), or one begins (`grow-first`,
 -- `grow-next`).
-use Rattle.std.proofs.Common.{◌+◌, sym, ◌∙◌, ap, arith, refl}
+use Rattle.std.proofs.Common.{◌≡◌, ◌+◌, ◌-◌, ◌<◌, [], ◌∷◌, ◌++◌, List, length, reverse, set, sym, ◌∙◌, ap, subst, arith, refl}
+use Rattle.std.proofs.Math.Seq.{set-append_seam}
 use Rattle.cif_columns.specs.Day.{week_of, weekday_of}
 use Rattle.cif_weeks.specs.Window.{window_from}
+use Rattle.cif_weeks.specs.Steps.BodyRuns.{AreBodyRuns}
 use Rattle.cif_weeks.specs.Steps.Spans.{Shows}
-use Rattle.cif_weeks.proofs.BodyRuns.{grown-idle, first-date, last-date, grow-longer, grow-first, grow-next}
+use Rattle.cif_weeks.specs.declared.run.Run.{Run}
+use Rattle.cif_weeks.proofs.BodyRuns.{body-idle, first-date, last-date, last-made, made-more, none-made}
+use Rattle.cif_weeks.proofs.BodyRuns.{grow-longer, grow-first, grow-next}
 use Rattle.cif_weeks.proofs.body_runs.grow.Goals as goal
-use Rattle.cif_weeks.proofs.body_runs.grow.Goals.{in-Some-growing+else-week+in_ok-push, in_default-growing}
+use Rattle.cif_weeks.proofs.body_runs.grow.Goals.{then-start-len+else-week, else-start-len}
 use Rattle.cif_weeks.proofs.body_runs.grow.Goals.{else-week-via-then-week+else-agree, else-week-via-else-week}
 
 pub returns-in_default : goal.returns-in_default
-returns-in_default c old h =
+returns-in_default c old start (made, are, body) =
     let a = c.args in
-    let r = c.requires in
-    grown-idle a.form (window_from a.window.now.first a.window.now.last) (Shows a.spans.now a.source) a.source a.week (a.weeks.last + 1) old
-    a.runs.now.items a.growing (omega (arith, r.weeks.from))
-    (λ n from less on. c.in_default.ensures.none (weekday_of n) ((r.weeks.masks (week_of n) from (omega arith)).shows n refl on)) h
+    let r = c.requires in (
+      made,
+      are,
+      body-idle a.form (window_from a.window.now.first a.window.now.last) (Shows a.spans.now a.source) a.source a.week (a.weeks.last + 1) made
+          (omega (arith, r.weeks.from))
+          (λ n from less on.
+          c.in_default.ensures.none (weekday_of n) ((r.weeks.masks (week_of n) from (omega arith)).shows n refl on))
+          body,
+    )
 
 pub returns-then-agree : goal.returns-then-agree
-returns-then-agree c old h =
+returns-then-agree c old start (made, are, body) =
     let a = c.args in
     let r = c.requires in
-    grow-longer a.form (window_from a.window.now.first a.window.now.last) (Shows a.spans.now a.source) a.source r.inside a.week a.weeks.last
-    a.weeks r.weeks c.in-Some.first_weekday c.in-Some-last.last_weekday c.in-Some.ensures.found c.in-Some-last.ensures.found
-    c.day_of-last.result c.day_of-last.ensures old a.runs.now.items c.in-Some-growing.run' c.union-days.result
-    (rw c.in-Some-growing.is at h) (ap (λ v. v + 1) (sym c.week.ensures) ∙ c.if-week.true) c.if-agree.ensures c.union-days.ensures.width
-    c.union-days.ensures.runs
+    let window = window_from a.window.now.first a.window.now.last in
+    let run = c.index-run.result.now in
+    let place = c.len-place.result - 1 in
+    let some : length old < length a.runs.now.items = omega (arith, c.if-start-len.true, c.len.ensures, a.runs.now.ok.0) in
+    let long : place + 1 ≡ length a.runs.now.items = omega (arith, c.len-place.ensures, a.runs.now.ok.0) in
+    let (before, is, cut, at) = last-made old a.runs.now.items made place run are some long c.index-run.ensures in
+    let it : Run = record { first = run.first; last = c.day_of-last.result; days = c.union-days.result; source = run.source } in (
+      it ∷ before,
+      ap (λ ys. set ys place it) cut ∙ ap (λ k. set ((old ++ reverse before) ++ run ∷ []) k it) at
+          ∙ set-append_seam (old ++ reverse before) run [] it ∙ made-more old before it,
+      grow-longer a.form window (Shows a.spans.now a.source) a.source r.inside a.week a.weeks.last a.weeks r.weeks c.in-Some.first_weekday
+          c.in-Some-last.last_weekday c.in-Some.ensures.found c.in-Some-last.ensures.found c.day_of-last.result c.day_of-last.ensures before
+          run c.union-days.result (subst (AreBodyRuns a.form window (Shows a.spans.now a.source) a.source a.week) is body)
+          (ap (λ v. v + 1) (sym c.week.ensures) ∙ c.if-week.true) c.if-agree.ensures c.union-days.ensures.width c.union-days.ensures.runs,
+    )
 
 pub day_of-last-requires-clause-in_range : goal.day_of-last-requires-clause-in_range
 day_of-last-requires-clause-in_range c =
@@ -42,21 +61,33 @@ day_of-requires-clause-in_range c =
     a.weeks r.weeks c.in-Some.first_weekday c.in-Some-last.last_weekday c.in-Some.ensures.found c.in-Some-last.ensures.found r.in_range
 
 pub returns : goal.returns
-returns c old h =
+returns c old start (made, are, body) =
     let a = c.args in
     let r = c.requires in
     let window = window_from a.window.now.first a.window.now.last in
-    elim c.match-growing.branch [
-      | in_default-growing w ↦ rw w.runs-is (grow-first a.form window (Shows a.spans.now a.source) a.source r.inside a.week
-          a.weeks.last a.weeks r.weeks c.in-Some.first_weekday c.in-Some-last.last_weekday c.in-Some.ensures.found
-          c.in-Some-last.ensures.found c.day_of-last.result c.day_of-last.ensures c.day_of.result c.day_of.ensures old a.runs.now.items
-          (rw w.in_default-growing.is at h))
-      | in-Some-growing+else-week+in_ok-push w ↦ rw (w.runs-is, w.in_ok-push.ensures.items) (grow-next a.form window
-          (Shows a.spans.now a.source) a.source r.inside a.week a.weeks.last a.weeks r.weeks c.in-Some.first_weekday
-          c.in-Some-last.last_weekday c.in-Some.ensures.found c.in-Some-last.ensures.found c.day_of-last.result c.day_of-last.ensures
-          c.day_of.result c.day_of.ensures old a.runs.now.items w.in-Some-growing.run' (rw w.in-Some-growing.is at h)
-          (λ next. elim w.else-week.branch [
-            | else-week-via-then-week+else-agree v ↦ v.if-agree.ensures _ next
-            | else-week-via-else-week v ↦ absurd (v.if-week.false (ap (λ n. n + 1) w.week.ensures ∙ next))
-          ]))
-    ]
+    let it : Run = record { first = c.day_of.result; last = c.day_of-last.result; days = a.weeks.days; source = a.source } in (
+      it ∷ made,
+      rw (c.in_ok-push.ensures.items, are) (made-more old made it),
+      elim c.if-start-len.branch [
+        | then-start-len+else-week w ↦
+            let run = w.index-run.result.now in
+            let some : length old < length a.runs.now.items = omega (arith, w.if-start-len.true, c.len.ensures, a.runs.now.ok.0) in
+            let long : (w.len-place.result - 1) + 1 ≡ length a.runs.now.items = omega (arith, w.len-place.ensures, a.runs.now.ok.0) in
+            let (before, is, cut, at) = last-made old a.runs.now.items made (w.len-place.result - 1) run are some long w.index-run.ensures in
+            rw is (grow-next a.form window (Shows a.spans.now a.source) a.source r.inside a.week a.weeks.last a.weeks r.weeks
+            c.in-Some.first_weekday c.in-Some-last.last_weekday c.in-Some.ensures.found c.in-Some-last.ensures.found c.day_of-last.result
+            c.day_of-last.ensures c.day_of.result c.day_of.ensures before run
+            (subst (AreBodyRuns a.form window (Shows a.spans.now a.source) a.source a.week) is body)
+            (λ next. elim w.else-week.branch [
+              | else-week-via-then-week+else-agree v ↦ v.if-agree.ensures _ next
+              | else-week-via-else-week v ↦ absurd (v.if-week.false (ap (λ n. n + 1) w.week.ensures ∙ next))
+            ]))
+        | else-start-len w ↦
+            let none : made ≡ [] = none-made old a.runs.now.items made are
+            (omega (arith, w.if-start-len.false, c.len.ensures, a.runs.now.ok.0)) in
+            rw none (grow-first a.form window (Shows a.spans.now a.source) a.source r.inside a.week a.weeks.last a.weeks r.weeks
+            c.in-Some.first_weekday c.in-Some-last.last_weekday c.in-Some.ensures.found c.in-Some-last.ensures.found c.day_of-last.result
+            c.day_of-last.ensures c.day_of.result c.day_of.ensures
+            (subst (AreBodyRuns a.form window (Shows a.spans.now a.source) a.source a.week) none body))
+      ],
+    )
