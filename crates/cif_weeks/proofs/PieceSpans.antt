@@ -1,7 +1,7 @@
 -- The spans of a calendar's pieces: one span more, one piece more, and all of them by their sources.
-use Rattle.std.proofs.Common.{◌≡◌, ◌⊎◌, inl, inr, ◌↔◌, ℕ, ◌+◌, ◌-◌, ◌<◌, ◌≤◌, Bool, true, false, List, [], ◌∷◌, ◌++◌, Option, None, Some, length}
+use Rattle.std.proofs.Common.{◌≡◌, ◌⊎◌, inl, inr, ◌↔◌, ℕ, ◌+◌, ◌-◌, ◌<◌, ◌≤◌, Bool, true, false, List, [], ◌∷◌, ◌++◌, None, Some, length}
 use Rattle.std.proofs.Common.{get_or, drop, ltb, ltb-true, ltb-false}
-use Rattle.std.proofs.Common.{arith, sym, ◌∙◌, ap, subst, ⊎_elim}
+use Rattle.std.proofs.Common.{arith, refl, sym, ◌∙◌, ap, subst, ⊎_elim}
 use Rattle.std.specs.Prelude.{Contains, IsPermutation, slice_get}
 use Rattle.std.specs.List.Sorted.{IsNonDecreasingBy, IsPartitionPoint, IsPartitionedBy}
 use Rattle.std.proofs.lemmas.Bool.{cases_lt}
@@ -21,7 +21,8 @@ use Rattle.cif_calendar.specs.Terms.{Terms}
 use Rattle.cif_calendar.specs.declared.key_calendar.Piece.{Piece}
 use Rattle.cif_calendar.proofs.PieceLists.{tiles-ends}
 use Rattle.cif_weeks.specs.Runs.{AreSources}
-use Rattle.cif_weeks.specs.Steps.PieceSpans.{AreInOrder, AreNear, AreSpansBefore, AreSpansOn, IsPieceSpan, body_in, source_in}
+use Rattle.cif_weeks.specs.Steps.PieceSpans.{AreInOrder, AreNear, AreSpansBefore, AreSpansOn, HasBodyOn, HasDate, IsPieceSpan}
+use Rattle.cif_weeks.specs.Steps.PieceSpans.{body_in, source_in}
 use Rattle.cif_weeks.specs.Steps.Spans.{HasDay, IsSourceAmong}
 use Rattle.cif_weeks.specs.declared.span.Span.{Span}
 use Rattle.cif_weeks.proofs.Cuts.{cut-cases, cut-rest}
@@ -59,11 +60,6 @@ tiles-next ps number from to p at tiles =
     drop_more ps number p below ∙ ap (λ q. q ∷ drop (number + 1) ps) (get_or_from_slice_get ps number p p at) in
     let t = subst (λ qs. Tiles qs from to) cut tiles in
     (t.0, t.2)
-
--- a winner has the body of the entry at `source` on one of these weekdays
-abbrev pub HasBodyOn : {B : Type 0} → List (Terms B) → List Bool → List (Option ℕ) → ℕ → ℕ → Type 0
-HasBodyOn xs weekdays winners source w =
-    RunsOn weekdays w × ((i : ℕ) × (get_or winners w None ≡ Some i) × (body_at xs (Some source) ≡ body_at xs (Some i)))
 
 -- no span is added
 pub order-later : {first last : ℕ} (later ended : ℕ) (spans : List Span) → first ≤ later → last ≤ ended → AreInOrder first last spans →
@@ -160,15 +156,15 @@ module _ {B : Type 0} (xs : List (Terms B)) (c : CalendarParts) where
       winner-body n i from upto is = source-body xs c sources n i (source_in-piece c p of.tiles of.listed n from upto ∙ is)
 
       -- one span more
-      module _ (spans : List Span) (taken days weekdays both : List Bool) (u : Span) (winner weekday ended : ℕ)
+      module _ (spans : List Span) (taken days both : List Bool) (u : Span) (winner weekday ended : ℕ)
           (order : AreInOrder (week_of p.first) (week_of p.last) spans) (point : EndBefore (week_of p.first) spans ended)
           (own : (n : ℕ) → HasDay u n ↔ ((p.first ≤ n) × (n ≤ p.last) × RunsOn days (weekday_of n)))
           (begins : u.first_week ≡ week_of p.first) (ends : u.last_week ≡ week_of p.last) (is_P : u.letter ≡ letter P)
           (same : body_at xs (Some u.source) ≡ body_at xs (Some winner))
           (among : IsSourceAmong xs (drop ended spans) winner u.source)
           (wins : get_or p.winners weekday None ≡ Some winner)
-          (dated : (n : ℕ) × (p.first ≤ n) × (n ≤ p.last) × (weekday_of n ≡ weekday))
-          (of_body : (w : ℕ) → RunsOn days w ↔ HasBodyOn xs weekdays p.winners u.source w)
+          (dated : HasDate p weekday)
+          (of_body : (w : ℕ) → RunsOn days w ↔ HasBodyOn xs p u.source w)
           (united : (w : ℕ) → RunsOn both w ↔ (RunsOn taken w ⊎ RunsOn days w)) where
         has-body : (b : B) × (body_at xs (Some u.source) ≡ Some b)
         has-body =
@@ -243,17 +239,16 @@ module _ {B : Type 0} (xs : List (Terms B)) (c : CalendarParts) where
         }
 
       -- all weekdays that have a winner are taken
-      pub spans-all : (spans : List Span) (weekdays taken : List Bool) →
-          ((n : ℕ) → p.first ≤ n → n ≤ p.last → RunsOn weekdays (weekday_of n)) →
-          ((w i : ℕ) → w < 7 → RunsOn weekdays w → get_or p.winners w None ≡ Some i → RunsOn taken w) →
+      pub spans-all : (spans : List Span) (taken : List Bool) →
+          ((w i : ℕ) → w < 7 → HasDate p w → get_or p.winners w None ≡ Some i → RunsOn taken w) →
           AreSpansOn xs c (KnownIn p taken) spans → AreSpansOn xs c (λ n. n < p.last + 1) spans
-      spans-all spans weekdays taken dated done a = spans-known spans
+      spans-all spans taken done a = spans-known spans
           (λ n b before runs. ⊎_elim
           (λ earlier. inl earlier)
           (λ from.
           let upto : n ≤ p.last = omega arith in
           let (i, is, has) = piece-body n b from upto runs in
-          inr (from, upto, done (weekday_of n) i (omega arith) (dated n from upto) is))
+          inr (from, upto, done (weekday_of n) i (omega arith) (n, from, upto, refl) is))
           (cases_lt n p.first)) a
 
       -- the source of a span is the position of an entry

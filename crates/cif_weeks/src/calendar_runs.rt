@@ -1,14 +1,13 @@
 //! The canonical runs of a calendar, body by body, from the spans of its pieces.
 
 ghost use Rattle.std.specs.Prelude.{◌≡◌, ◌<◌, ◌≤◌, ◌+◌, ◌↔◌, ℕ, All, Contains, IfOk, List, None, Some, length};
-ghost use Rattle.std.specs.Prelude.{map, slice_get, slice_index_or, []};
-ghost use Rattle.cif_columns.specs.Day.{weekday_of};
+ghost use Rattle.std.specs.Prelude.{map, slice_get, slice_index_or, [], IsTrue};
 ghost use Rattle.cif_columns.specs.DaysRun.{RunsOn};
 ghost use Rattle.cif_calendar.specs.declared.key_calendar.Piece.{Piece};
-ghost use Rattle.cif_calendar.specs.Source.{body_at};
 ghost use Rattle.cif_weeks.specs.Runs.{AreCanonicalRuns, AreSources, window_of};
 ghost use Rattle.cif_weeks.specs.Steps.BodyRuns.{AreRunsOfSpans, HasBody};
-ghost use Rattle.cif_weeks.specs.Steps.PieceSpans.{AreBySource, AreSpansBefore, AreSpansOn, named};
+ghost use Rattle.cif_weeks.specs.Steps.PieceSpans.{AreBySource, AreSpansBefore, AreSpansOn};
+ghost use Rattle.cif_weeks.specs.Steps.PieceSpans.{HasBodyOn, HasDate, named};
 ghost use Rattle.cif_weeks.specs.Steps.Spans.{IsAgreed, Shows};
 ghost use Rattle.cif_weeks.specs.Window.{IsWithin, window_from};
 ghost use Rattle.cif_weeks.specs.declared.run.Run.{Run};
@@ -23,35 +22,25 @@ use cif_calendar::{Calendar, Entry, Piece, Window};
 use cif_columns::DaysRun;
 use std::alloc::{AllocError, Global};
 
-/// The weekdays of the piece's dates.
-fn weekdays_of(piece: &Piece) -> DaysRun
-    requires { piece.now.first ≤ piece.now.last }
-    ensures { (w : ℕ) → RunsOn result w ↔
-        ((n : ℕ) × (piece.now.first ≤ n) × (n ≤ piece.now.last) × (weekday_of n ≡ w)) }
+/// Whether the piece has a date of the weekday.
+fn has_date(piece: &Piece, weekday: u8) -> bool
+    requires { weekday < 7 }
+    ensures { IsTrue result ↔ HasDate piece.now weekday }
 {
-    let (first, last) = (piece.first.weekday(), piece.last.weekday());
-    if piece.first.number() + 6 <= piece.last.number() {
-        DaysRun::between(0, 7)
-    } else if first <= last {
-        DaysRun::between(first, last + 1)
-    } else {
-        DaysRun::between(first, 7).union(DaysRun::between(0, last + 1))
-    }
+    let days_on = (weekday + 7 - piece.first.weekday()) % 7;
+    piece.first.number() + u16::from(days_on) <= piece.last.number()
 }
 
-/// Those of the weekdays on which the piece's winners have the body of the entry at `source`.
-fn days_of<E: Entry>(entries: &[E], piece: &Piece, weekdays: DaysRun, source: usize) -> DaysRun
+/// The weekdays on which the piece's winners have the body of the entry at `source`.
+fn days_of<E: Entry>(entries: &[E], piece: &Piece, source: usize) -> DaysRun
     requires source { source < length entries.now }
-    requires winners { (w i : ℕ) → RunsOn weekdays w →
+    requires winners { (w i : ℕ) → HasDate piece.now w →
         slice_index_or piece.now.winners w None ≡ Some i → i < length entries.now }
-    ensures runs { (w : ℕ) → RunsOn result w ↔ (RunsOn weekdays w × ((i : ℕ) ×
-        (slice_index_or piece.now.winners w None ≡ Some i) ×
-        (body_at (map E.terms entries.now) (Some source)
-        ≡ body_at (map E.terms entries.now) (Some i)))) }
+    ensures { (w : ℕ) → RunsOn result w ↔ HasBodyOn (map E.terms entries.now) piece.now source w }
 {
     let mut days = no_days();
     for weekday in 0..7u8 {
-        if weekdays.has(weekday) {
+        if has_date(piece, weekday) {
             if let Some(winner) = piece.winners[usize::from(weekday)] {
                 if have_one_body(entries, source, winner) {
                     days = days.union(DaysRun::only(weekday));
@@ -79,10 +68,9 @@ fn add_piece<E: Entry>(
 {
     let piece = &calendar.pieces()[number];
     let week = piece.first.week();
-    let weekdays = weekdays_of(piece);
     let mut taken = no_days();
     for weekday in 0..7u8 {
-        if !weekdays.has(weekday) || taken.has(weekday) {
+        if taken.has(weekday) || !has_date(piece, weekday) {
             continue;
         }
         if let Some(winner) = piece.winners[usize::from(weekday)] {
@@ -91,7 +79,7 @@ fn add_piece<E: Entry>(
                 .partition_point(|span| span.last_week + 1 < week);
             let (_, near) = spans.as_slice().split_at(ended);
             let source = source_of(entries, near, winner);
-            let days = days_of(entries, piece, weekdays, source);
+            let days = days_of(entries, piece, source);
             spans.push(Span::between(piece.first, piece.last, days, b'P', source))?;
             taken = taken.union(days);
         }

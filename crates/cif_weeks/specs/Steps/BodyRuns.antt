@@ -1,5 +1,5 @@
 -- Steps to the runs of few records: those of one body, week by week. No public clause cites them.
-use Rattle.std.specs.Prelude.{◌≡◌, ◌≢◌, ℕ, ◌+◌, ◌<◌, ◌≤◌, ◌++◌, List, [], ◌∷◌, Option, None, Some, AllPairs, Contains, reverse}
+use Rattle.std.specs.Prelude.{◌≡◌, ◌≢◌, ℕ, ◌+◌, ◌<◌, ◌≤◌, ◌++◌, List, [], ◌∷◌, AllPairs, Contains, reverse}
 use Rattle.cif_columns.specs.Stp.{letter}
 use Rattle.cif_columns.specs.declared.stp.Stp.TheVariants.{C}
 use Rattle.cif_columns.specs.Day.{week_of}

@@ -17,13 +17,14 @@ use Rattle.std.specs.Prelude.{
   if◌then◌else◌,
 }
 use Rattle.std.specs.List.Sorted.{IsNonDecreasingBy}
-use Rattle.cif_columns.specs.Day.{week_of}
+use Rattle.cif_columns.specs.Day.{week_of, weekday_of}
 use Rattle.cif_columns.specs.Stp.{letter}
 use Rattle.cif_columns.specs.declared.stp.Stp.TheVariants.{P}
 use Rattle.cif_calendar.specs.Calendar.{CalendarParts}
 use Rattle.cif_calendar.specs.Pieces.{source_at}
 use Rattle.cif_calendar.specs.Source.{body_at}
 use Rattle.cif_calendar.specs.Terms.{Terms}
+use Rattle.cif_calendar.specs.declared.key_calendar.Piece.{Piece}
 use Rattle.cif_weeks.specs.Steps.Spans.{HasDay}
 use Rattle.cif_weeks.specs.declared.run.Run.{Run}
 use Rattle.cif_weeks.specs.declared.span.Span.{Span}
@@ -35,6 +36,15 @@ source_in c n = if nat_le c.first n then (if nat_le n c.last then source_at c.pi
 -- the body that runs on day n, and none outside the window
 abbrev pub body_in : {B : Type 0} → List (Terms B) → CalendarParts → ℕ → Option B
 body_in xs c n = body_at xs (source_in c n)
+
+-- the piece has a date of the weekday
+abbrev pub HasDate : Piece → ℕ → Type 0
+HasDate p weekday = (n : ℕ) × (p.first ≤ n) × (n ≤ p.last) × (weekday_of n ≡ weekday)
+
+-- on the piece's dates of the weekday the body of the entry at `source` runs
+abbrev pub HasBodyOn : {B : Type 0} → List (Terms B) → Piece → ℕ → ℕ → Type 0
+HasBodyOn xs p source weekday = HasDate p weekday
+    × ((i : ℕ) × (slice_index_or p.winners weekday None ≡ Some i) × (body_at xs (Some source) ≡ body_at xs (Some i)))
 
 -- a span of the calendar: the body at its source runs on its days
 pub record IsPieceSpan {B : Type 0} (xs : List (Terms B)) (c : CalendarParts) (s : Span) : Type 0 where

@@ -1,6 +1,6 @@
 -- Weeks without a day change nothing (`body-idle`); else the run goes on in them (`grow-longer`), or one begins (`grow-first`,
 -- `grow-next`).
-use Rattle.std.proofs.Common.{◌≡◌, ◌+◌, ◌-◌, ◌<◌, [], ◌∷◌, ◌++◌, List, length, reverse, set, sym, ◌∙◌, ap, subst, arith, refl}
+use Rattle.std.proofs.Common.{◌≡◌, ◌+◌, ◌-◌, ◌<◌, [], ◌∷◌, ◌++◌, length, reverse, set, sym, ◌∙◌, ap, subst, arith, refl}
 use Rattle.std.proofs.Math.Seq.{set-append_seam}
 use Rattle.cif_columns.specs.Day.{week_of, weekday_of}
 use Rattle.cif_weeks.specs.Window.{window_from}

@@ -1,5 +1,5 @@
 -- A span alone leads wherever it is (`alone-weeks`); else each span with this source is one more that may lead.
-use Rattle.std.proofs.Common.{sym, arith}
+use Rattle.std.proofs.Common.{arith}
 use Rattle.std.proofs.lemmas.List.{take_all}
 use Rattle.cif_weeks.proofs.Spans.{alone-agreed, alone-weeks, take_next, some-more, some-same, agree-more, shown-weeks, shown-agreed}
 use Rattle.cif_weeks.proofs.body_runs.weeks_shown.Goals as goal

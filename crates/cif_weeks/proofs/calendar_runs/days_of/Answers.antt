@@ -5,10 +5,10 @@ use Rattle.cif_columns.specs.DaysRun.{RunsOn}
 use Rattle.std.proofs.lemmas.Option.{same_Some}
 use Rattle.cif_calendar.specs.Source.{body_at}
 use Rattle.cif_calendar.proofs.Winning.{refuted}
-use Rattle.cif_weeks.proofs.PieceSpans.{HasBodyOn}
+use Rattle.cif_weeks.specs.Steps.PieceSpans.{HasBodyOn}
 use Rattle.cif_weeks.proofs.calendar_runs.days_of.Goals as goal
-use Rattle.cif_weeks.proofs.calendar_runs.days_of.Goals.{then-has+in-Some+then-have_one_body, then-has+in-Some+else-have_one_body}
-use Rattle.cif_weeks.proofs.calendar_runs.days_of.Goals.{then-has+in_default, else-has}
+use Rattle.cif_weeks.proofs.calendar_runs.days_of.Goals.{then-has_date+in-Some+then-have_one_body, then-has_date+in-Some+else-have_one_body}
+use Rattle.cif_weeks.proofs.calendar_runs.days_of.Goals.{then-has_date+in_default, else-has_date}
 
 module _ (Has : ℕ → Type 0) (weekday : ℕ) where
   -- the weekday has it
@@ -39,30 +39,30 @@ module _ (Has : ℕ → Type 0) (weekday : ℕ) where
 pub loop-weekday-preserved : goal.loop-weekday-preserved
 loop-weekday-preserved g c =
     let at = λ (v : ℕ). get_or c.args.piece.now.winners v None in
-    let wins = HasBodyOn (map g.E.Entry.terms c.args.entries.now) c.args.weekdays c.args.piece.now.winners c.args.source in
-    elim c.if-has.branch [
-      | then-has+in-Some+then-have_one_body w ↦ rw w.days-is (more wins c.loop-weekday.weekday c.loop-weekday.days w.union-days.result
+    let wins = HasBodyOn (map g.E.Entry.terms c.args.entries.now) c.args.piece.now c.args.source in
+    elim c.if-has_date.branch [
+      | then-has_date+in-Some+then-have_one_body w ↦ rw w.days-is (more wins c.loop-weekday.weekday c.loop-weekday.days w.union-days.result
           c.loop-weekday.invariant
           (λ v. (
             λ on. ⊎_elim inl (λ o. inr ((w.only.ensures.runs v).0 o)) ((w.union-days.ensures.runs v).0 on),
             λ h. (w.union-days.ensures.runs v).1 (⊎_elim inl (λ o. inr ((w.only.ensures.runs v).1 o)) h),
           )) (
-            c.has.ensures.0 w.if-has.true,
+            c.has_date.ensures.0 w.if-has_date.true,
             (
               w.in-Some.winner,
               ap at (sym w.from.ensures) ∙ w.in-Some.is,
               w.have_one_body.ensures.0 w.if-have_one_body.true,
             ),
           ))
-      | then-has+in-Some+else-have_one_body w ↦ rw w.days-is (same wins c.loop-weekday.weekday c.loop-weekday.days c.loop-weekday.invariant
+      | then-has_date+in-Some+else-have_one_body w ↦ rw w.days-is (same wins c.loop-weekday.weekday c.loop-weekday.days c.loop-weekday.invariant
           (λ h.
           let (i, is, one) = h.1 in
           let it : w.in-Some.winner ≡ i = same_Some _ _ (sym w.in-Some.is ∙ ap at w.from.ensures ∙ is) in
           refuted _ w.have_one_body.ensures w.if-have_one_body.false (one ∙ ap (λ v. body_at (map g.E.Entry.terms c.args.entries.now) (Some v)) (sym it))))
-      | then-has+in_default w ↦ rw w.days-is (same wins c.loop-weekday.weekday c.loop-weekday.days c.loop-weekday.invariant
+      | then-has_date+in_default w ↦ rw w.days-is (same wins c.loop-weekday.weekday c.loop-weekday.days c.loop-weekday.invariant
           (λ h.
           let (i, is, one) = h.1 in
           let none : None ≡ Some i = sym w.in_default.is ∙ ap at w.from.ensures ∙ is in absurd (cc)))
-      | else-has w ↦ rw w.days-is (same wins c.loop-weekday.weekday c.loop-weekday.days c.loop-weekday.invariant
-          (λ h. refuted _ c.has.ensures w.if-has.false h.0))
+      | else-has_date w ↦ rw w.days-is (same wins c.loop-weekday.weekday c.loop-weekday.days c.loop-weekday.invariant
+          (λ h. refuted _ c.has_date.ensures w.if-has_date.false h.0))
     ]
