@@ -151,7 +151,8 @@ module _ (form : Form) (window : Window) (on : ℕ → Type 0) (source : ℕ) wh
         pub grow-longer : (before : List Run) (run : Run) (both : List Bool) → AreBodyRuns form window on source week (run ∷ before) →
             week_of run.last + 1 ≡ week → ((v : ℕ) → v + 1 ≡ week → MasksAgree form window v run.days days) → length both ≡ 7 →
             ((w : ℕ) → RunsOn both w ↔ (RunsOn run.days w ⊎ RunsOn days w)) →
-            AreBodyRuns form window on source (last + 1) (record { first = run.first; last = end; days = both; source = run.source } ∷ before)
+            AreBodyRuns form window on source (last + 1)
+            (record { first = run.first; last = end; days = both; source = run.source } ∷ before)
         grow-longer before run both (latest, breaks, rest) next agree seven union =
             let it : Run = record { first = run.first; last = end; days = both; source = run.source } in (
               latest-of it refl latest.source_is (longer-grown run both latest.grown next (agree (week_of run.last) next) seven union),
@@ -212,7 +213,8 @@ none-made old runs (r ∷ before) are upto =
     absurd (omega (arith, long))
 
 -- after the last week they are all the body's runs
-pub body-made : (form : Form) (window : Window) (spans : List Span) (source limit : ℕ) → ((n : ℕ) → Shows spans source n → week_of n < limit) →
+pub body-made : (form : Form) (window : Window) (spans : List Span) (source limit : ℕ) →
+    ((n : ℕ) → Shows spans source n → week_of n < limit) →
     ((n : ℕ) → Shows spans source n → IsAgreed spans n) → (old runs : List Run) →
     AreGrownTo form window (Shows spans source) source limit old runs →
     (added : List Run) × (runs ≡ old ++ added) × AreRunsOfBody form window spans source added

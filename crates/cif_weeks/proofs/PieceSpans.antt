@@ -178,7 +178,9 @@ module _ {B : Type 0} (xs : List (Terms B)) (c : CalendarParts) where
             ap (body_at xs) (source_in-piece c p of.tiles of.listed n from upto ∙ is) ∙ sym one
 
         near : (s : Span) → Contains (drop ended spans) s → Contains spans s × (week_of p.first ≤ s.last_week + 1)
-        near s h = let (listed, late) = cut-rest spans ended (Gone (week_of p.first)) (Late (week_of p.first)) point s h in (listed, ltb-false (s.last_week + 1) (week_of p.first) late)
+        near s h =
+            let (listed, late) = cut-rest spans ended (Gone (week_of p.first)) (Late (week_of p.first)) point s h in
+            (listed, ltb-false (s.last_week + 1) (week_of p.first) late)
 
         -- an earlier span that is near the new one, with its body, is one of those that were looked at
         old-source : (s : Span) → Contains spans s → AreNear s u → body_at xs (Some s.source) ≡ body_at xs (Some u.source) →
@@ -198,8 +200,8 @@ module _ {B : Type 0} (xs : List (Terms B)) (c : CalendarParts) where
               reaches = omega (arith, order.begun s in_s);
               reached = omega (arith, order.begun t there);
             }) (one ∙ ap (λ v. body_at xs (Some v)) (sym is)) ∙ is)
-            (λ h. absurd (All-contains (λ (v : Span). (body_at xs (Some v.source) ≡ body_at xs (Some winner)) → ⊥) (drop ended spans) s h.1 in_near
-            (one ∙ same)))
+            (λ h. absurd (All-contains (λ (v : Span). (body_at xs (Some v.source) ≡ body_at xs (Some winner)) → ⊥) (drop ended spans) s
+            h.1 in_near (one ∙ same)))
             among
 
         pub spans-more : AreSpansOn xs c (KnownIn p taken) spans → AreSpansOn xs c (KnownIn p both) (spans ++ u ∷ [])

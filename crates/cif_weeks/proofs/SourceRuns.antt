@@ -76,7 +76,8 @@ module _ (left : List Span) (span : Span) (count : ℕ) (order : AreBySource lef
       let at = get_or-take count left k d (omega arith) in
       let next = get_or-take count left (k + 1) d sooner in
       let same : (get_or left k d).source ≡ (get_or left (k + 1) d).source =
-      (own (get_or left k d) (take-contains left count (get_or left k d) k (omega arith) (omega arith) (get_or_default left k _ d (omega arith)))).1
+      (own (get_or left k d) (take-contains left count (get_or left k d) k (omega arith) (omega arith)
+      (get_or_default left k _ d (omega arith)))).1
       ∙ sym (own (get_or left (k + 1) d) (take-contains left count (get_or left (k + 1) d) (k + 1) sooner below
       (get_or_default left (k + 1) _ d below))).1 in
       omega (arith, order.weeks k d below same, ap (λ (v : Span). v.first_week) at, ap (λ (v : Span). v.first_week) next))
@@ -161,7 +162,8 @@ module _ (form : Form) (window : Window) (spans : List Span) where
   }
 
   -- at the end none is
-  pub runs-all : (left : List Span) (runs : List Run) → All HasBody spans → length left < 1 → AreRunsOf form window spans (HasNot left) runs →
+  pub runs-all : (left : List Span) (runs : List Run) → All HasBody spans → length left < 1 →
+      AreRunsOf form window spans (HasNot left) runs →
       AreRunsOf form window spans (HasSource spans) runs
   runs-all left runs bodied none h =
       record {
@@ -183,9 +185,10 @@ pair-order s week t later h = (grind (arith, nat_tests), λ same. grind (arith, 
 pub by-source : (spans : List Span) → ((k : ℕ) (d : Span) → k + 1 < length spans →
     is_lt (ordering_then (nat_cmp (get_or spans (k + 1) d).source (get_or spans k d).source)
     (nat_cmp (get_or spans (k + 1) d).first_week (get_or spans k d).first_week)) ≡ false) → AreBySource spans
-by-source spans sorted = record {
-  sources = IsNonDecreasingBy-from_all_adjacent (λ (s : Span). s.source) spans (λ k d within. (pair-order (get_or spans k d).source (get_or spans k d).first_week (get_or spans (k + 1) d).source
-      (get_or spans (k + 1) d).first_week (sorted k d within)).0);
-  weeks = λ k d within. (pair-order (get_or spans k d).source (get_or spans k d).first_week (get_or spans (k + 1) d).source
-      (get_or spans (k + 1) d).first_week (sorted k d within)).1;
-}
+by-source spans sorted =
+    let order = λ (k : ℕ) (d : Span) (within : k + 1 < length spans). pair-order (get_or spans k d).source (get_or spans k d).first_week
+    (get_or spans (k + 1) d).source (get_or spans (k + 1) d).first_week (sorted k d within) in
+    record {
+      sources = IsNonDecreasingBy-from_all_adjacent (λ (s : Span). s.source) spans (λ k d within. (order k d within).0);
+      weeks = λ k d within. (order k d within).1;
+    }

@@ -36,7 +36,8 @@ AreBodyRuns form window on source limit (run ∷ before) = IsLatest form window 
 
 -- The runs after the old ones are those of these days in the weeks before `limit`.
 abbrev pub AreGrownTo : Form → Window → (ℕ → Type 0) → ℕ → ℕ → List Run → List Run → Type 0
-AreGrownTo form window on source limit old runs = (made : List Run) × (runs ≡ old ++ reverse made) × AreBodyRuns form window on source limit made
+AreGrownTo form window on source limit old runs =
+    (made : List Run) × (runs ≡ old ++ reverse made) × AreBodyRuns form window on source limit made
 
 -- The runs are those of all days on which the source is shown, and the spans agree on these days.
 pub record AreRunsOfBody (form : Form) (window : Window) (spans : List Span) (source : ℕ) (runs : List Run) : Type 0 where

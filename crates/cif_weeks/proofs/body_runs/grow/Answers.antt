@@ -19,8 +19,8 @@ returns-in_default c old start (made, are, body) =
     let r = c.requires in (
       made,
       are,
-      body-idle a.form (window_from a.window.now.first a.window.now.last) (Shows a.spans.now a.source) a.source a.week (a.weeks.last + 1) made
-          (omega (arith, r.weeks.from))
+      body-idle a.form (window_from a.window.now.first a.window.now.last) (Shows a.spans.now a.source) a.source a.week (a.weeks.last + 1)
+          made (omega (arith, r.weeks.from))
           (λ n from less on.
           c.in_default.ensures.none (weekday_of n) ((r.weeks.masks (week_of n) from (omega arith)).shows n refl on))
           body,
@@ -73,7 +73,7 @@ returns c old start (made, are, body) =
             let run = w.index-run.result.now in
             let some : length old < length a.runs.now.items = omega (arith, w.if-start-len.true, c.len.ensures, a.runs.now.ok.0) in
             let long : (w.len-place.result - 1) + 1 ≡ length a.runs.now.items = omega (arith, w.len-place.ensures, a.runs.now.ok.0) in
-            let (before, is, cut, at) = last-made old a.runs.now.items made (w.len-place.result - 1) run are some long w.index-run.ensures in
+            let (before, is, cut, at) = last-made old a.runs.now.items made _ run are some long w.index-run.ensures in
             rw is (grow-next a.form window (Shows a.spans.now a.source) a.source r.inside a.week a.weeks.last a.weeks r.weeks
             c.in-Some.first_weekday c.in-Some-last.last_weekday c.in-Some.ensures.found c.in-Some-last.ensures.found c.day_of-last.result
             c.day_of-last.ensures c.day_of.result c.day_of.ensures before run

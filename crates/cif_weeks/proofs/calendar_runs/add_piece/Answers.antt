@@ -81,7 +81,8 @@ source_of-source-requires-clause-sources g c = rw c.split_at.ensures.back (λ k 
     (get_or (drop c.partition_point-ended.result spans) k d) (Contains-get_or _ k d below) in
     subst (λ v. (get_or (drop c.partition_point-ended.result spans) k d).source < v) (length-map c.args.entries.now g.E.Entry.terms)
     (span-below xs c.args.calendar.now c.requires.sources c.loop-weekday.spans.items c.loop-weekday.invariant.are _
-    (subst (λ ss. Contains ss (get_or (drop c.partition_point-ended.result spans) k d)) c.as_slice-in-Some.ensures.value (number, within, is))))
+    (subst (λ ss. Contains ss (get_or (drop c.partition_point-ended.result spans) k d)) c.as_slice-in-Some.ensures.value
+    (number, within, is))))
 
 pub days_of-days-requires-clause-source : goal.days_of-days-requires-clause-source
 days_of-days-requires-clause-source g c =
@@ -156,9 +157,10 @@ returns g c piece at =
     let (of, there) = piece-at c.args.calendar.now c.pieces.result.now c.args.number p c.pieces.ensures.pieces c.pieces.ensures.tiles
     c.requires.number c.index-pieces-number.is in
     let l = c.loop-weekday.invariant in
-    subst (λ (q : Piece). AreSpansBefore (map g.E.Entry.terms c.args.entries.now) c.args.calendar.now (q.last + 1) c.loop-weekday.spans.items)
+    let spans = c.loop-weekday.spans.items in
+    subst (λ (q : Piece). AreSpansBefore (map g.E.Entry.terms c.args.entries.now) c.args.calendar.now (q.last + 1) spans)
     (same_Some p piece (sym there ∙ at)) (record {
-      are = spans-all _ _ c.requires.sources p of _ c.loop-weekday.taken (λ w i below. l.done w i (omega (arith, c.loop-weekday-test.false)))
-          l.are;
+      are = spans-all _ _ c.requires.sources p of _ c.loop-weekday.taken
+          (λ w i below. l.done w i (omega (arith, c.loop-weekday-test.false))) l.are;
       order = order-later (week_of (p.last + 1)) (week_of (p.last + 1)) _ (omega (arith, of.in_order)) (omega arith) l.order;
     })

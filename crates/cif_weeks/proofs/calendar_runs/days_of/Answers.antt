@@ -54,11 +54,13 @@ loop-weekday-preserved g c =
               w.have_one_body.ensures.0 w.if-have_one_body.true,
             ),
           ))
-      | then-has_date+in-Some+else-have_one_body w ↦ rw w.days-is (same wins c.loop-weekday.weekday c.loop-weekday.days c.loop-weekday.invariant
+      | then-has_date+in-Some+else-have_one_body w ↦ rw w.days-is (same wins c.loop-weekday.weekday c.loop-weekday.days
+          c.loop-weekday.invariant
           (λ h.
           let (i, is, one) = h.1 in
           let it : w.in-Some.winner ≡ i = same_Some _ _ (sym w.in-Some.is ∙ ap at w.from.ensures ∙ is) in
-          refuted _ w.have_one_body.ensures w.if-have_one_body.false (one ∙ ap (λ v. body_at (map g.E.Entry.terms c.args.entries.now) (Some v)) (sym it))))
+          refuted _ w.have_one_body.ensures w.if-have_one_body.false
+          (one ∙ ap (λ v. body_at (map g.E.Entry.terms c.args.entries.now) (Some v)) (sym it))))
       | then-has_date+in_default w ↦ rw w.days-is (same wins c.loop-weekday.weekday c.loop-weekday.days c.loop-weekday.invariant
           (λ h.
           let (i, is, one) = h.1 in

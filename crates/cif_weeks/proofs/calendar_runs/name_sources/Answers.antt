@@ -24,12 +24,13 @@ module _ {X : Type 0} (f : X → X) (old now : List X) (i : ℕ) (x : X) (below 
 
   -- it is mapped too
   mapped-more : x ≡ get_or now i x → set now i (f x) ≡ map f (take (i + 1) old) ++ drop (i + 1) old
-  mapped-more is = ap (λ ys. set ys i (f x)) cut
-      ∙ subst (λ n. set (map f (take i old) ++ get_or old i x ∷ drop (i + 1) old) n (f x) ≡ map f (take i old) ++ f x ∷ drop (i + 1) old) place
-      (set-append_seam (map f (take i old)) (get_or old i x) (drop (i + 1) old) (f x))
-      ∙ sym (ap (λ ys. ys ++ drop (i + 1) old)
-      (ap (map f) (take_more old i x below) ∙ map-append f (take i old) (get_or old i x ∷ []) ∙ ap (λ y. map f (take i old) ++ f y ∷ []) (sym (is ∙ at-place)))
-      ∙ append_assoc (map f (take i old)) (f x ∷ []) (drop (i + 1) old))
+  mapped-more is =
+      let front = map f (take i old) in
+      let rest = drop (i + 1) old in
+      let longer : map f (take (i + 1) old) ≡ front ++ f x ∷ [] = ap (map f) (take_more old i x below)
+      ∙ map-append f (take i old) (get_or old i x ∷ []) ∙ ap (λ y. front ++ f y ∷ []) (sym (is ∙ at-place)) in
+      ap (λ ys. set ys i (f x)) cut ∙ subst (λ n. set (front ++ get_or old i x ∷ rest) n (f x) ≡ front ++ f x ∷ rest) place
+      (set-append_seam front (get_or old i x) rest (f x)) ∙ sym (ap (λ ys. ys ++ rest) longer ∙ append_assoc front (f x ∷ []) rest)
 
 pub loop-place-preserved : goal.loop-place-preserved
 loop-place-preserved c =

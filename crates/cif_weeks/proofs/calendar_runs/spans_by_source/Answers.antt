@@ -23,13 +23,15 @@ pub add_piece-requires-clause-spans : goal.add_piece-requires-clause-spans
 add_piece-requires-clause-spans g c piece at =
     let i = c.loop-number.invariant in
     let (begins, _) = tiles-next c.args.calendar.now.pieces c.loop-number.number i.limit (c.args.calendar.now.last + 1) piece at i.tiles in
-    subst (λ v. AreSpansBefore (map g.E.Entry.terms c.args.entries.now) c.args.calendar.now v c.loop-number.spans.items) (sym begins) i.before
+    subst (λ v. AreSpansBefore (map g.E.Entry.terms c.args.entries.now) c.args.calendar.now v c.loop-number.spans.items) (sym begins)
+    i.before
 
 pub loop-number-preserved : goal.loop-number-preserved
 loop-number-preserved g c =
     let i = c.loop-number.invariant in
     let pieces = c.args.calendar.now.pieces in
-    let below : c.loop-number.number < length pieces = omega (arith, c.loop-number-test.true, ap length c.pieces-number-end.ensures.pieces) in
+    let below : c.loop-number.number < length pieces =
+    omega (arith, c.loop-number-test.true, ap length c.pieces-number-end.ensures.pieces) in
     let at = slice_get-get_or pieces c.loop-number.number no-piece below in
     let piece = get_or pieces c.loop-number.number no-piece in
     record {
