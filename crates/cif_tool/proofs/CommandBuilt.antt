@@ -1,23 +1,29 @@
 -- A command that is built call by call is the one that the definition says.
-use Rattle.std.proofs.Common.{◌≡◌, ◌∙◌, Some, codes, true, false, refl, ap, ap₂, ◌||◌}
+use Rattle.std.proofs.Common.{◌≡◌, ◌∙◌, ℕ, ◌+◌, ◌<◌, List, drop, get_or, length, Some, true, false, refl, sym, ap, ap₂, ◌||◌}
+use Rattle.std.proofs.lemmas.List.{at_drop_more}
 use Rattle.std.specs.Borrow.{Bor}
-use Rattle.clap.specs.Words.{AddsArg, AddsSubcommand, App, Rule, Text, app_of, is_simple, is_simple_and_free, new_app, rule_of}
+use Rattle.clap.specs.Words.{AddsArg, AddsSubcommand, App, Text, app_of, is_simple, is_simple_and_free, new_app, rule_of}
 use Rattle.clap.specs.Words.{with_rule, with_subcommand}
 use Rattle.clap.specs.Simple.{app_of_fields}
 use Rattle.clap.specs.declared.Command.{Command}
 use Rattle.clap.specs.declared.builder.arg.Arg.{Arg}
 use Rattle.clap.specs.declared.Command.TheViews.{out-Command}
-use Rattle.cif_tool.specs.CommandLine.{Choice, IsCommand, cif, program, with_dates, with_extract_commands, with_train_commands}
+use Rattle.cif_tool.specs.CommandLine.{IsCommand, argument, cif, program, subcommand, taking, with_subcommands}
+use Rattle.cif_tool.specs.declared.command_line.Argument.{Argument}
+use Rattle.cif_tool.specs.declared.command_line.Argument.TheVariants.{Verbose}
+use Rattle.cif_tool.specs.declared.command_line.Choices.{Choices}
+use Rattle.cif_tool.specs.declared.command_line.Subcommand.{Subcommand}
+use Rattle.cif_tool.specs.declared.command_line.Subcommand.TheVariants.{Normalise}
 
 -- `clap` says exactly what it makes of the command's words
-pub is_simple_cif : (forms formats : Choice) → is_simple (cif forms formats) ≡ true
+pub is_simple_cif : (choices : Choices) → is_simple (cif choices) ≡ true
 unfolding cif
-is_simple_cif forms formats = refl
+is_simple_cif choices = refl
 
 -- and which kinds of error they have
-pub is_free_cif : (forms formats : Choice) → is_simple_and_free (cif forms formats) ≡ true
+pub is_free_cif : (choices : Choices) → is_simple_and_free (cif choices) ≡ true
 unfolding cif
-is_free_cif forms formats = refl
+is_free_cif choices = refl
 
 abbrev telling : App → App
 telling a = record a { top = record a.top { has_version = true } }
@@ -26,50 +32,47 @@ abbrev requiring : App → App
 requiring a = record a { top = record a.top { subcommand_required = true } }
 
 -- the program's own settings, in the order of their calls
-pub program_made : (name : Text) (version about after : Bor Text) (new named versioned told more requires : Command)
+pub program_made : (name : Text) (version about after : Bor Text) (new versioned told more requires named : Command)
     → app_of new ≡ new_app name → (out-Command new).has_globals ≡ false
-    → out-Command named ≡ record (out-Command new) { bin_name = (out-Command named).bin_name }
-    → out-Command versioned ≡ record (out-Command named) { version = Some version }
+    → out-Command versioned ≡ record (out-Command new) { version = Some version }
     → out-Command told ≡ record (out-Command versioned) { about = Some about }
     → out-Command more ≡ record (out-Command told) { after_help = Some after }
-    → out-Command requires ≡ record (out-Command more) { subcommand_required = true } → IsCommand (program name) requires
-program_made name version about after new named versioned told more requires made none n v a m r = record {
-  app = ap app_of_fields r
-      ∙ ap requiring (ap app_of_fields m ∙ (ap app_of_fields a ∙ (ap app_of_fields v ∙ ap telling (ap app_of_fields n ∙ made))));
-  local = ap (λ f. f.has_globals) r ∙ ap (λ f. f.has_globals) m ∙ ap (λ f. f.has_globals) a ∙ ap (λ f. f.has_globals) v
-      ∙ ap (λ f. f.has_globals) n ∙ none;
+    → out-Command requires ≡ record (out-Command more) { subcommand_required = true }
+    → out-Command named ≡ record (out-Command requires) { bin_name = (out-Command named).bin_name } → IsCommand (program name) named
+program_made name version about after new versioned told more requires named made none v a m r n = record {
+  app = ap app_of_fields n ∙ (ap app_of_fields r
+      ∙ ap requiring (ap app_of_fields m ∙ (ap app_of_fields a ∙ (ap app_of_fields v ∙ ap telling made))));
+  local = ap (λ f. f.has_globals) n ∙ ap (λ f. f.has_globals) r ∙ ap (λ f. f.has_globals) m ∙ ap (λ f. f.has_globals) a
+      ∙ ap (λ f. f.has_globals) v ∙ none;
 }
 
--- a command is built as itself
-pub itself_made : (c : Command) → (out-Command c).has_globals ≡ false → IsCommand (app_of c) c
-itself_made c none = record { app = refl; local = none }
-
--- one more subcommand
-pub subcommand_added : (a s : App) (old sub new : Command) → IsCommand a old → IsCommand s sub → AddsSubcommand old sub new
-    → IsCommand (with_subcommand a s.top) new
-subcommand_added a s old sub new is_old is_sub added = record {
-  app = added.shape is_sub.local ∙ ap₂ with_subcommand is_old.app (ap (λ (x : App). x.top) is_sub.app);
-  local = added.globals ∙ ap₂ (λ x y. x || y) is_old.local is_sub.local;
-}
+-- with the rest of what it is to take, the command is the whole
+pub record IsTaking (choices : Choices) (whole : App) (rest : List Argument) (c : Command) : Type 0 where
+  pub app : taking choices (app_of c) rest ≡ whole
+  pub local : (out-Command c).has_globals ≡ false
 
 -- one more argument
-pub argument_added : (a : App) (r : Rule) (old : Command) (x : Arg) (new : Command) → IsCommand a old → rule_of x ≡ r → x.global ≡ false
-    → AddsArg old x new → IsCommand (with_rule a r) new
-argument_added a r old x new is_old rule local added = record {
-  app = added.shape local ∙ ap₂ with_rule is_old.app rule;
-  local = added.globals ∙ ap₂ (λ x y. x || y) is_old.local local;
+pub argument_taken : (choices : Choices) (whole : App) (xs : List Argument) (i : ℕ) → i < length xs → (old : Command) (r : Arg)
+    (new : Command) → IsTaking choices whole (drop i xs) old → rule_of r ≡ argument choices (get_or xs i Verbose) → r.global ≡ false
+    → AddsArg old r new → IsTaking choices whole (drop (i + 1) xs) new
+argument_taken choices whole xs i below old r new is rule local added = record {
+  app = ap (λ (a : App). taking choices a (drop (i + 1) xs)) (added.shape local ∙ ap (with_rule (app_of old)) rule)
+      ∙ (sym (at_drop_more (taking choices (app_of old)) xs i Verbose below) ∙ is.app);
+  local = added.globals ∙ ap₂ (λ x y. x || y) is.local local;
 }
 
--- the program with its subcommands
-pub commands_added : (forms formats : Choice) (made more all : Command) → IsCommand (program (codes "cif")) made
-    → IsCommand (with_extract_commands forms (app_of made)) more → IsCommand (with_train_commands forms formats (app_of more)) all
-    → IsCommand (cif forms formats) all
-unfolding cif
-commands_added forms formats made more all is_made is_more is_all = record {
-  app = is_all.app ∙ ap (with_train_commands forms formats) (is_more.app ∙ ap (with_extract_commands forms) is_made.app);
-  local = is_all.local;
-}
+-- with the rest of its subcommands, the command is the whole
+pub record IsGrowing (choices : Choices) (whole : App) (rest : List Subcommand) (c : Command) : Type 0 where
+  pub app : with_subcommands choices (app_of c) rest ≡ whole
+  pub local : (out-Command c).has_globals ≡ false
 
--- the options for a narrower window
-pub dates_added : (a : App) (old new : Command) → IsCommand a old → IsCommand (with_dates (app_of old)) new → IsCommand (with_dates a) new
-dates_added a old new is_old is_new = record { app = is_new.app ∙ ap with_dates is_old.app; local = is_new.local }
+-- one more subcommand
+pub subcommand_added : (choices : Choices) (whole : App) (xs : List Subcommand) (i : ℕ) → i < length xs → (old sub new : Command)
+    → IsGrowing choices whole (drop i xs) old → IsCommand (subcommand choices (get_or xs i Normalise)) sub → AddsSubcommand old sub new
+    → IsGrowing choices whole (drop (i + 1) xs) new
+subcommand_added choices whole xs i below old sub new is is_sub added = record {
+  app = ap (λ (a : App). with_subcommands choices a (drop (i + 1) xs))
+      (added.shape is_sub.local ∙ ap (λ (s : App). with_subcommand (app_of old) s.top) is_sub.app)
+      ∙ (sym (at_drop_more (with_subcommands choices (app_of old)) xs i Normalise below) ∙ is.app);
+  local = added.globals ∙ ap₂ (λ x y. x || y) is.local is_sub.local;
+}

@@ -119,7 +119,7 @@ pub enters_own : (forms formats : Choice) (words : List Text) → faults_of form
     → IsSomeAnd (chosen forms formats words) IsTaken
 unfolding cif chosen faults_of
 enters_own forms formats words e =
-    takes_own IsTaken (cif forms formats) words refl refl (
+    takes_own IsTaken (cif (record { forms = forms; formats = formats })) words refl refl (
       λ name on is ws h. inl refl,
       (
         λ name on is ws h. inr (inl refl),

@@ -7,12 +7,14 @@ use Rattle.clap.specs.declared.Command.{Command}
 use Rattle.clap.specs.declared.Command.TheViews.{out-Command}
 use Rattle.clap.specs.declared.builder.ArgAction.TheVariants.{SetTrue}
 use Rattle.clap.specs.declared.builder.ValueParser.TheVariants.{Names}
+use Rattle.cif_tool.specs.declared.command_line.Argument.{Argument}
+use Rattle.cif_tool.specs.declared.command_line.Argument.TheVariants.{Verbose, File, Left, Right, Uid, Date, From, To, Common, Stops}
+use Rattle.cif_tool.specs.declared.command_line.Argument.TheVariants.{Form, Format}
+use Rattle.cif_tool.specs.declared.command_line.Choices.{Choices}
+use Rattle.cif_tool.specs.declared.command_line.Subcommand.{Subcommand}
+use Rattle.cif_tool.specs.declared.command_line.Subcommand.TheVariants.{Normalise, Check, Compare, Diff, Day, Train, Explain, Clashes}
 
--- a word that may be left out
-abbrev pub optional : Text → Rule
-optional id = new_rule id
-
--- a word that may not
+-- a word that may not be left out
 abbrev pub required : Text → Rule
 required id = record (new_rule id) { required = true }
 
@@ -23,10 +25,6 @@ option id = record (new_rule id) { long = Some id; value_names = 1 }
 -- an option without one: `--ID`
 abbrev pub flag : Text → Rule
 flag id = record (new_rule id) { long = Some id; action = Some SetTrue }
-
--- `-v` or `--verbose`
-abbrev pub verbose : Rule
-verbose = record (flag (codes "verbose")) { short = Some 118 }
 
 -- where the program keeps the words that name a form, or a format: a command line borrows them
 abbrev pub Choice : Type 0
@@ -39,77 +37,80 @@ AreForms forms = map (λ word. word.now) forms.now ≡ codes "1" ∷ codes "2" �
 abbrev pub AreFormats : Choice → Type 0
 AreFormats formats = map (λ word. word.now) formats.now ≡ codes "text" ∷ codes "tsv" ∷ []
 
--- `--form FORM`, which is one of these words, and `2` where it is left out
-abbrev pub form_option : Choice → Rule
-form_option forms = record (option (codes "form")) { parser = Some (Names forms); defaults = codes "2" ∷ [] }
+-- an option whose value is one of these words, and the default where it is left out
+abbrev pub one_of : Rule → Choice → Text → Rule
+one_of rule words default = record rule { parser = Some (Names words); defaults = default ∷ [] }
 
--- `--format FORMAT`, which is one of these words, and `text` where it is left out
-abbrev pub format_option : Choice → Rule
-format_option formats = record (option (codes "format")) { parser = Some (Names formats); defaults = codes "text" ∷ [] }
+-- what a subcommand can take
+abbrev pub argument : Choices → Argument → Rule
+argument choices Verbose = record (flag (codes "verbose")) { short = Some 118 }
+argument choices File = new_rule (codes "FILE")
+argument choices Left = required (codes "LEFT")
+argument choices Right = required (codes "RIGHT")
+argument choices Uid = required (codes "UID")
+argument choices Date = required (codes "YYMMDD")
+argument choices From = option (codes "from")
+argument choices To = option (codes "to")
+argument choices Common = flag (codes "common")
+argument choices Stops = flag (codes "stops")
+argument choices Form = one_of (option (codes "form")) choices.forms (codes "2")
+argument choices Format = one_of (option (codes "format")) choices.formats (codes "text")
 
--- a subcommand with `--verbose`
-abbrev pub subcommand : Text → App
-subcommand name = with_rule (new_app name) verbose
-
--- `--from YYMMDD` and `--to YYMMDD` too
-abbrev pub with_dates : App → App
-with_dates a = with_rule (with_rule a (option (codes "from"))) (option (codes "to"))
+-- a subcommand that takes these arguments too
+abbrev pub taking : Choices → App → List Argument → App
+taking choices a [] = a
+taking choices a (r ∷ rs) = taking choices (with_rule a (argument choices r)) rs
 
 -- `cif NAME [-v] [--from YYMMDD] [--to YYMMDD] [--form FORM] [FILE]`
-abbrev pub canonical : Text → Choice → App
-canonical name forms = with_rule (with_dates (with_rule (subcommand name) (optional (codes "FILE")))) (form_option forms)
+abbrev pub canonical : List Argument
+canonical = Verbose ∷ File ∷ From ∷ To ∷ Form ∷ []
 
 -- `cif NAME [-v] [--from YYMMDD] [--to YYMMDD] [--common] LEFT RIGHT`
-abbrev pub of_two_files : Text → App
-of_two_files name =
-    with_rule (with_dates (with_rule (with_rule (subcommand name) (required (codes "LEFT"))) (required (codes "RIGHT"))))
-    (flag (codes "common"))
+abbrev pub two_files : List Argument
+two_files = Verbose ∷ Left ∷ Right ∷ From ∷ To ∷ Common ∷ []
 
 -- `cif day [-v] [--stops] [--format FORMAT] YYMMDD [FILE]`
-abbrev pub day : Choice → App
-day formats =
-    with_rule (with_rule (with_rule (with_rule (subcommand (codes "day")) (required (codes "YYMMDD"))) (optional (codes "FILE")))
-    (flag (codes "stops"))) (format_option formats)
+abbrev pub day : List Argument
+day = Verbose ∷ Date ∷ File ∷ Stops ∷ Format ∷ []
 
 -- `cif train [-v] [--from YYMMDD] [--to YYMMDD] [--form FORM] [--stops] [--format FORMAT] UID [FILE]`
-abbrev pub train : Choice → Choice → App
-train forms formats =
-    with_rule (with_rule (with_rule (with_dates
-    (with_rule (with_rule (subcommand (codes "train")) (required (codes "UID"))) (optional (codes "FILE"))))
-    (form_option forms)) (flag (codes "stops"))) (format_option formats)
+abbrev pub train : List Argument
+train = Verbose ∷ Uid ∷ File ∷ From ∷ To ∷ Form ∷ Stops ∷ Format ∷ []
 
 -- `cif explain [-v] [--format FORMAT] UID YYMMDD [FILE]`
-abbrev pub explain : Choice → App
-explain formats =
-    with_rule (with_rule (with_rule (with_rule (subcommand (codes "explain")) (required (codes "UID"))) (required (codes "YYMMDD")))
-    (optional (codes "FILE"))) (format_option formats)
+abbrev pub explain : List Argument
+explain = Verbose ∷ Uid ∷ Date ∷ File ∷ Format ∷ []
 
 -- `cif clashes [-v] [--from YYMMDD] [--to YYMMDD] [FILE]`
-abbrev pub clashes : App
-clashes = with_dates (with_rule (subcommand (codes "clashes")) (optional (codes "FILE")))
+abbrev pub clashes : List Argument
+clashes = Verbose ∷ File ∷ From ∷ To ∷ []
+
+-- the subcommands, by what they take
+abbrev pub subcommand : Choices → Subcommand → App
+subcommand choices Normalise = taking choices (new_app (codes "normalise")) canonical
+subcommand choices Check = taking choices (new_app (codes "check")) canonical
+subcommand choices Compare = taking choices (new_app (codes "compare")) two_files
+subcommand choices Diff = taking choices (new_app (codes "diff")) two_files
+subcommand choices Day = taking choices (new_app (codes "day")) day
+subcommand choices Train = taking choices (new_app (codes "train")) train
+subcommand choices Explain = taking choices (new_app (codes "explain")) explain
+subcommand choices Clashes = taking choices (new_app (codes "clashes")) clashes
+
+-- a program with these subcommands too
+abbrev pub with_subcommands : Choices → App → List Subcommand → App
+with_subcommands choices a [] = a
+with_subcommands choices a (s ∷ ss) = with_subcommands choices (with_subcommand a (subcommand choices s).top) ss
 
 -- a program that tells its version and wants a subcommand
 abbrev pub program : Text → App
 program name = let made = new_app name in record made { top = record made.top { has_version = true; subcommand_required = true } }
 
--- with the subcommands about whole extracts
-abbrev pub with_extract_commands : Choice → App → App
-with_extract_commands forms a = with_subcommand (with_subcommand (with_subcommand (with_subcommand a
-    (canonical (codes "normalise") forms).top)
-    (canonical (codes "check") forms).top)
-    (of_two_files (codes "compare")).top)
-    (of_two_files (codes "diff")).top
-
--- with the subcommands about trains, dates and clashes
-abbrev pub with_train_commands : Choice → Choice → App → App
-with_train_commands forms formats a =
-    with_subcommand
-    (with_subcommand (with_subcommand (with_subcommand a (day formats).top) (train forms formats).top) (explain formats).top)
-    clashes.top
-
 -- the program `cif` with its eight subcommands
-unfoldable pub cif : Choice → Choice → App
-cif forms formats = with_train_commands forms formats (with_extract_commands forms (program (codes "cif")))
+abbrev pub subcommands : List Subcommand
+subcommands = Normalise ∷ Check ∷ Compare ∷ Diff ∷ Day ∷ Train ∷ Explain ∷ Clashes ∷ []
+
+unfoldable pub cif : Choices → App
+cif choices = with_subcommands choices (program (codes "cif")) subcommands
 
 -- the command is built as `a` says, and no argument is global
 pub record IsCommand (a : App) (c : Command) : Type 0 where
@@ -118,8 +119,8 @@ pub record IsCommand (a : App) (c : Command) : Type 0 where
 
 -- the subcommand that `clap` enters at these words, with its matches
 unfoldable pub chosen : Choice → Choice → List Text → Option (Text × List Row)
-chosen forms formats words = subcommand_of (cif forms formats) words
+chosen forms formats words = subcommand_of (cif (record { forms = forms; formats = formats })) words
 
 -- the kinds of error that `clap` may give at these words; none where it takes them
 unfoldable pub faults_of : Choice → Choice → List Text → Kinds
-faults_of forms formats words = fault_of (cif forms formats) words
+faults_of forms formats words = fault_of (cif (record { forms = forms; formats = formats })) words

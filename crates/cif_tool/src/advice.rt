@@ -2,9 +2,10 @@
 //! and changes nothing of it.
 use crate::clash_lines::ClashLines;
 use crate::devices::{AgainInput, ExtractInput, LONGEST, LineAgain, START, line_again};
+use crate::job::JobFault;
 use crate::program::escape;
 use crate::refused_columns::{RefusedColumns, columns_refused};
-use crate::words::{mistaken_date, mistaken_uid};
+use crate::words::mistaken_word;
 use arrayvec::ArrayString;
 use cif_canon::explain_view;
 use cif_columns::{Day, LINE_WIDTH, MAX_LINES, Refusal, Sink, Source, Uid, WriteDevice, as_text};
@@ -173,27 +174,20 @@ fn extract_again<R: Files + Input>(alloc: Global, input: &ExtractInput<'_, R>) -
     read_extract(alloc, &mut Source::new(again), MAX_LINES).ok()
 }
 
-/// Says which date of the words is mistaken.
-pub(crate) fn advise_on_date<W: WriteDevice>(
+/// Says which of the words is mistaken, and what it must be.
+pub(crate) fn advise_on_word<W: WriteDevice>(
     alloc: Global,
     words: &[String],
+    fault: &JobFault,
     errors: &mut Sink<W>,
 ) {
-    if let Some(word) = mistaken_date(alloc, words) {
-        tell(
-            errors,
-            &["'", word, "': must be a valid date as six digits, YYMMDD"],
-        );
-    }
-}
-
-/// Says which UID of the words is mistaken.
-pub(crate) fn advise_on_uid<W: WriteDevice>(alloc: Global, words: &[String], errors: &mut Sink<W>) {
-    if let Some(word) = mistaken_uid(alloc, words) {
-        tell(
-            errors,
-            &["'", word, "': must be six printable ASCII characters"],
-        );
+    let must = match fault {
+        JobFault::BadDate => "': must be a valid date as six digits, YYMMDD",
+        JobFault::BadUid => "': must be six printable ASCII characters",
+        JobFault::Usage(_) | JobFault::OneInput | JobFault::Memory => return,
+    };
+    if let Some(word) = mistaken_word(alloc, words, fault) {
+        tell(errors, &["'", word, must]);
     }
 }
 

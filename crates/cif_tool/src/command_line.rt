@@ -1,39 +1,123 @@
 //! The command line of `cif`.
 ghost use Rattle.std.specs.Prelude.{◌≡◌, IfOk, codes, false, map, string_bytes};
-ghost use Rattle.clap.specs.Words.{App, FailsBy, app_of, rule_of, subcommand_rows_of, with_subcommand};
+ghost use Rattle.clap.specs.Words.{FailsBy, app_of, new_app, rule_of, subcommand_rows_of};
 ghost use Rattle.clap.specs.declared.Command.TheViews.{out-Command};
-ghost use Rattle.cif_tool.specs.CommandLine.{IsCommand, canonical, chosen, cif, clashes, day};
-ghost use Rattle.cif_tool.specs.CommandLine.{explain, faults_of, flag, form_option, format_option};
-ghost use Rattle.cif_tool.specs.CommandLine.{of_two_files, option, optional, program, required};
-ghost use Rattle.cif_tool.specs.CommandLine.{subcommand, train, with_dates, with_extract_commands};
-ghost use Rattle.cif_tool.specs.CommandLine.{with_train_commands};
+ghost use Rattle.cif_tool.specs.CommandLine.{IsCommand, argument, chosen, cif, faults_of};
+ghost use Rattle.cif_tool.specs.CommandLine.{flag, one_of, option, program, required, subcommand};
+ghost use Rattle.cif_tool.specs.CommandLine.{taking, with_subcommands};
 
 use crate::help;
 use clap::{Arg, ArgAction, ArgMatches, Command};
 use std::alloc::{AllocError, Global};
 
-/// A word that may be left out.
-fn optional<'a>(alloc: Global, id: &'a str, help: &'a str) -> Arg<'a>
-    ensures rule { rule_of result ≡ optional id.entry.now }
-    ensures local { result.global ≡ false }
-{
-    Arg::new(alloc, id).help(help)
+/// What a subcommand can take.
+#[derive(Clone, Copy)]
+enum Argument {
+    Verbose,
+    File,
+    Left,
+    Right,
+    Uid,
+    Date,
+    From,
+    To,
+    Common,
+    Stops,
+    Form,
+    Format,
 }
 
-/// A word that may not.
+/// What `normalise` and `check` take.
+const CANONICAL: [Argument; 5] = [
+    Argument::Verbose,
+    Argument::File,
+    Argument::From,
+    Argument::To,
+    Argument::Form,
+];
+
+/// What `compare` and `diff` take.
+const TWO_FILES: [Argument; 6] = [
+    Argument::Verbose,
+    Argument::Left,
+    Argument::Right,
+    Argument::From,
+    Argument::To,
+    Argument::Common,
+];
+
+const DAY: [Argument; 5] = [
+    Argument::Verbose,
+    Argument::Date,
+    Argument::File,
+    Argument::Stops,
+    Argument::Format,
+];
+
+const TRAIN: [Argument; 8] = [
+    Argument::Verbose,
+    Argument::Uid,
+    Argument::File,
+    Argument::From,
+    Argument::To,
+    Argument::Form,
+    Argument::Stops,
+    Argument::Format,
+];
+
+const EXPLAIN: [Argument; 5] = [
+    Argument::Verbose,
+    Argument::Uid,
+    Argument::Date,
+    Argument::File,
+    Argument::Format,
+];
+
+const CLASHES: [Argument; 4] = [
+    Argument::Verbose,
+    Argument::File,
+    Argument::From,
+    Argument::To,
+];
+
+/// The words that name a form, and those that name a format.
+#[derive(Clone, Copy)]
+struct Choices<'a> {
+    forms: &'a [&'a str],
+    formats: &'a [&'a str],
+}
+
+/// A subcommand.
+#[derive(Clone, Copy)]
+enum Subcommand {
+    Normalise,
+    Check,
+    Compare,
+    Diff,
+    Day,
+    Train,
+    Explain,
+    Clashes,
+}
+
+/// All subcommands, in the order of the help.
+const SUBCOMMANDS: [Subcommand; 8] = [
+    Subcommand::Normalise,
+    Subcommand::Check,
+    Subcommand::Compare,
+    Subcommand::Diff,
+    Subcommand::Day,
+    Subcommand::Train,
+    Subcommand::Explain,
+    Subcommand::Clashes,
+];
+
+/// A word that may not be left out.
 fn required<'a>(alloc: Global, id: &'a str, help: &'a str) -> Arg<'a>
     ensures rule { rule_of result ≡ required id.entry.now }
     ensures local { result.global ≡ false }
 {
     Arg::new(alloc, id).required(true).help(help)
-}
-
-/// `--ID YYMMDD`.
-fn date_option<'a>(alloc: Global, id: &'a str, help: &'a str) -> Arg<'a>
-    ensures rule { rule_of result ≡ option id.entry.now }
-    ensures local { result.global ≡ false }
-{
-    Arg::new(alloc, id).long(id).value_name("YYMMDD").help(help)
 }
 
 /// `--ID`.
@@ -47,215 +131,174 @@ fn flag<'a>(alloc: Global, id: &'a str, help: &'a str) -> Arg<'a>
         .help(help)
 }
 
-/// The subcommand of this name, with `--verbose`.
-fn subcommand<'a>(
-    alloc: Global,
-    name: &'a str,
-    about: &'a str,
-    more: &'a str,
-) -> Result<Command<'a>, AllocError>
-    ensures { IfOk result (IsCommand (subcommand name.entry.now)) }
-{
-    let verbose = flag(alloc, "verbose", help::VERBOSE).short('v');
-    Command::new(alloc, name)
-        .about(about)
-        .after_help(more)
-        .arg(verbose)
-}
-
-/// `--form FORM`, which is one of the two words.
-fn form_option<'a>(alloc: Global, forms: &'a [&'a str]) -> Arg<'a>
-    ensures rule { rule_of result ≡ form_option forms.entry }
+/// `--ID VALUE`.
+fn option<'a>(alloc: Global, id: &'a str, value: &'a str, help: &'a str) -> Arg<'a>
+    ensures rule { rule_of result ≡ option id.entry.now }
     ensures local { result.global ≡ false }
 {
-    Arg::new(alloc, "form")
-        .long("form")
-        .value_name("FORM")
-        .value_parser(forms)
-        .default_value("2")
-        .help(help::FORM)
+    Arg::new(alloc, id).long(id).value_name(value).help(help)
 }
 
-/// `--format FORMAT`, which is one of the two words.
-fn format_option<'a>(alloc: Global, formats: &'a [&'a str]) -> Arg<'a>
-    ensures rule { rule_of result ≡ format_option formats.entry }
+/// The option, whose value is one of the words.
+fn one_of<'a>(option: Arg<'a>, words: &'a [&'a str], default: &'a str) -> Arg<'a>
+    ensures rule { rule_of result ≡ one_of (rule_of option.entry) words.entry default.entry.now }
+    ensures local { result.global ≡ option.entry.global }
+{
+    option.value_parser(words).default_value(default)
+}
+
+/// The argument.
+fn arg_of<'a>(alloc: Global, which: Argument, choices: &Choices<'a>) -> Arg<'a>
+    ensures rule { rule_of result ≡ argument choices.now which }
     ensures local { result.global ≡ false }
 {
-    Arg::new(alloc, "format")
-        .long("format")
-        .value_name("FORMAT")
-        .value_parser(formats)
-        .default_value("text")
-        .help(help::FORMAT)
+    match which {
+        Argument::Verbose => flag(alloc, "verbose", help::VERBOSE).short('v'),
+        Argument::File => Arg::new(alloc, "FILE").help(help::FILE),
+        Argument::Left => required(alloc, "LEFT", help::LEFT),
+        Argument::Right => required(alloc, "RIGHT", help::RIGHT),
+        Argument::Uid => required(alloc, "UID", help::UID),
+        Argument::Date => required(alloc, "YYMMDD", help::DATE),
+        Argument::From => option(alloc, "from", "YYMMDD", help::FROM),
+        Argument::To => option(alloc, "to", "YYMMDD", help::TO),
+        Argument::Common => flag(alloc, "common", help::COMMON),
+        Argument::Stops => flag(alloc, "stops", help::STOPS),
+        Argument::Form => one_of(
+            option(alloc, "form", "FORM", help::FORM),
+            choices.forms,
+            "2",
+        ),
+        Argument::Format => one_of(
+            option(alloc, "format", "FORMAT", help::FORMAT),
+            choices.formats,
+            "text",
+        ),
+    }
 }
 
-/// The command, with the options for a narrower window.
-fn with_dates<'a>(alloc: Global, command: Command<'a>) -> Result<Command<'a>, AllocError>
-    requires { (out-Command command).has_globals ≡ false }
-    ensures { IfOk result (IsCommand (with_dates (app_of command.entry))) }
-{
-    command
-        .arg(date_option(alloc, "from", help::FROM))?
-        .arg(date_option(alloc, "to", help::TO))
-}
-
-/// `normalise` or `check`: what makes the canonical extract of a file.
-fn canonical<'a>(
+/// The subcommand of this name, which takes these arguments.
+fn taking<'a>(
     alloc: Global,
     name: &'a str,
     about: &'a str,
     more: &'a str,
-    forms: &'a [&'a str],
+    arguments: &[Argument],
+    choices: &Choices<'a>,
 ) -> Result<Command<'a>, AllocError>
-    ensures { IfOk result (IsCommand (canonical name.entry.now forms.entry)) }
+    ensures { IfOk result
+        (IsCommand (taking choices.now (new_app name.entry.now) arguments.now)) }
 {
-    let command = subcommand(alloc, name, about, more)?.arg(optional(alloc, "FILE", help::FILE))?;
-    with_dates(alloc, command)?.arg(form_option(alloc, forms))
+    let mut command = Command::new(alloc, name).about(about).after_help(more);
+    for which in arguments {
+        command = command.arg(arg_of(alloc, *which, choices))?;
+    }
+    Ok(command)
 }
 
-/// `compare` or `diff`, which take two files.
-fn of_two_files<'a>(
+/// The subcommand.
+fn command_of<'a>(
     alloc: Global,
-    name: &'a str,
-    about: &'a str,
-    more: &'a str,
+    which: Subcommand,
+    choices: &Choices<'a>,
 ) -> Result<Command<'a>, AllocError>
-    ensures { IfOk result (IsCommand (of_two_files name.entry.now)) }
+    ensures { IfOk result (IsCommand (subcommand choices.now which)) }
 {
-    let command = subcommand(alloc, name, about, more)?
-        .arg(required(alloc, "LEFT", help::LEFT))?
-        .arg(required(alloc, "RIGHT", help::RIGHT))?;
-    with_dates(alloc, command)?.arg(flag(alloc, "common", help::COMMON))
-}
-
-/// `day`, which takes a date.
-fn day<'a>(alloc: Global, formats: &'a [&'a str]) -> Result<Command<'a>, AllocError>
-    ensures { IfOk result (IsCommand (day formats.entry)) }
-{
-    subcommand(alloc, "day", help::DAY, help::DAY_MORE)?
-        .arg(required(alloc, "YYMMDD", help::DATE))?
-        .arg(optional(alloc, "FILE", help::FILE))?
-        .arg(flag(alloc, "stops", help::STOPS))?
-        .arg(format_option(alloc, formats))
-}
-
-/// `train`, which takes a UID.
-fn train<'a>(
-    alloc: Global,
-    forms: &'a [&'a str],
-    formats: &'a [&'a str],
-) -> Result<Command<'a>, AllocError>
-    ensures { IfOk result (IsCommand (train forms.entry formats.entry)) }
-{
-    let command = subcommand(alloc, "train", help::TRAIN, help::TRAIN_MORE)?
-        .arg(required(alloc, "UID", help::UID))?
-        .arg(optional(alloc, "FILE", help::FILE))?;
-    with_dates(alloc, command)?
-        .arg(form_option(alloc, forms))?
-        .arg(flag(alloc, "stops", help::STOPS))?
-        .arg(format_option(alloc, formats))
-}
-
-/// `explain`, which takes a UID and a date.
-fn explain<'a>(alloc: Global, formats: &'a [&'a str]) -> Result<Command<'a>, AllocError>
-    ensures { IfOk result (IsCommand (explain formats.entry)) }
-{
-    subcommand(alloc, "explain", help::EXPLAIN, help::EXPLAIN_MORE)?
-        .arg(required(alloc, "UID", help::UID))?
-        .arg(required(alloc, "YYMMDD", help::DATE))?
-        .arg(optional(alloc, "FILE", help::FILE))?
-        .arg(format_option(alloc, formats))
-}
-
-/// `clashes`, which lists all clashes of a file.
-fn clashes<'a>(alloc: Global) -> Result<Command<'a>, AllocError>
-    ensures { IfOk result (IsCommand clashes) }
-{
-    let command = subcommand(alloc, "clashes", help::CLASHES, help::CLASHES_MORE)?.arg(optional(
-        alloc,
-        "FILE",
-        help::FILE,
-    ))?;
-    with_dates(alloc, command)
+    match which {
+        Subcommand::Normalise => taking(
+            alloc,
+            "normalise",
+            help::NORMALISE,
+            help::NORMALISE_MORE,
+            &CANONICAL,
+            choices,
+        ),
+        Subcommand::Check => taking(
+            alloc,
+            "check",
+            help::CHECK,
+            help::CHECK_MORE,
+            &CANONICAL,
+            choices,
+        ),
+        Subcommand::Compare => taking(
+            alloc,
+            "compare",
+            help::COMPARE,
+            help::COMPARE_MORE,
+            &TWO_FILES,
+            choices,
+        ),
+        Subcommand::Diff => taking(
+            alloc,
+            "diff",
+            help::DIFF,
+            help::DIFF_MORE,
+            &TWO_FILES,
+            choices,
+        ),
+        Subcommand::Day => taking(alloc, "day", help::DAY, help::DAY_MORE, &DAY, choices),
+        Subcommand::Train => taking(
+            alloc,
+            "train",
+            help::TRAIN,
+            help::TRAIN_MORE,
+            &TRAIN,
+            choices,
+        ),
+        Subcommand::Explain => taking(
+            alloc,
+            "explain",
+            help::EXPLAIN,
+            help::EXPLAIN_MORE,
+            &EXPLAIN,
+            choices,
+        ),
+        Subcommand::Clashes => taking(
+            alloc,
+            "clashes",
+            help::CLASHES,
+            help::CLASHES_MORE,
+            &CLASHES,
+            choices,
+        ),
+    }
 }
 
 /// The program without its subcommands.
 fn program<'a>(alloc: Global) -> Result<Command<'a>, AllocError>
     ensures { IfOk result (IsCommand (program (codes "cif"))) }
 {
-    Ok(
-        Command::new(alloc, "cif")
-            .bin_name("cif")?
-            .version("0.1.0")
-            .about(help::CIF)
-            .after_help(help::CIF_MORE)
-            .subcommand_required(true),
-    )
+    Command::new(alloc, "cif")
+        .version("0.1.0")
+        .about(help::CIF)
+        .after_help(help::CIF_MORE)
+        .subcommand_required(true)
+        .bin_name("cif")
 }
 
-/// The command with one more subcommand, if this could be built.
-fn with_one<'a>(
-    command: Command<'a>,
-    subcommand: Result<Command<'a>, AllocError>,
-) -> Result<Command<'a>, AllocError>
-    ensures { (a s : App) → IsCommand a command.entry → IfOk subcommand.entry (IsCommand s) →
-        IfOk result (IsCommand (with_subcommand a s.top)) }
-{
-    command.subcommand(subcommand?)
-}
-
-/// The command, with the subcommands about whole extracts.
-fn with_extract_commands<'a>(
+/// The command, with these subcommands too.
+fn with_subcommands<'a>(
     alloc: Global,
     command: Command<'a>,
-    forms: &'a [&'a str],
+    subcommands: &[Subcommand],
+    choices: &Choices<'a>,
 ) -> Result<Command<'a>, AllocError>
     requires { (out-Command command).has_globals ≡ false }
-    ensures { IfOk result (IsCommand (with_extract_commands forms.entry (app_of command.entry))) }
+    ensures { IfOk result
+        (IsCommand (with_subcommands choices.now (app_of command.entry) subcommands.now)) }
 {
-    let normalise = canonical(
-        alloc,
-        "normalise",
-        help::NORMALISE,
-        help::NORMALISE_MORE,
-        forms,
-    );
-    let command = with_one(command, normalise)?;
-    let check = canonical(alloc, "check", help::CHECK, help::CHECK_MORE, forms);
-    let command = with_one(command, check)?;
-    let compare = of_two_files(alloc, "compare", help::COMPARE, help::COMPARE_MORE);
-    let command = with_one(command, compare)?;
-    let diff = of_two_files(alloc, "diff", help::DIFF, help::DIFF_MORE);
-    with_one(command, diff)
+    let mut command = command;
+    for which in subcommands {
+        command = command.subcommand(command_of(alloc, *which, choices)?)?;
+    }
+    Ok(command)
 }
 
-/// The command, with the subcommands about trains, dates and clashes.
-fn with_train_commands<'a>(
-    alloc: Global,
-    command: Command<'a>,
-    forms: &'a [&'a str],
-    formats: &'a [&'a str],
-) -> Result<Command<'a>, AllocError>
-    requires { (out-Command command).has_globals ≡ false }
-    ensures { IfOk result (IsCommand
-        (with_train_commands forms.entry formats.entry (app_of command.entry))) }
+/// The command line of `cif`.
+fn cif_command<'a>(alloc: Global, choices: &Choices<'a>) -> Result<Command<'a>, AllocError>
+    ensures { IfOk result (IsCommand (cif choices.now)) }
 {
-    let command = with_one(command, day(alloc, formats))?;
-    let command = with_one(command, train(alloc, forms, formats))?;
-    let command = with_one(command, explain(alloc, formats))?;
-    with_one(command, clashes(alloc))
-}
-
-/// The command line of `cif`, with the words that name a form, and a format.
-fn cif_command<'a>(
-    alloc: Global,
-    forms: &'a [&'a str],
-    formats: &'a [&'a str],
-) -> Result<Command<'a>, AllocError>
-    ensures { IfOk result (IsCommand (cif forms.entry formats.entry)) }
-{
-    let command = with_extract_commands(alloc, program(alloc)?, forms)?;
-    with_train_commands(alloc, command, forms, formats)
+    with_subcommands(alloc, program(alloc)?, &SUBCOMMANDS, choices)
 }
 
 /// The matches that `clap` gives for the words, of which the first is the program's name.
@@ -270,5 +313,5 @@ pub(crate) fn matches_of<'a>(
     ensures kinds { FailsBy
         (faults_of forms.entry formats.entry (map string_bytes words.entry.now)) result }
 {
-    cif_command(alloc, forms, formats)?.try_get_matches_from(words)
+    cif_command(alloc, &Choices { forms, formats })?.try_get_matches_from(words)
 }

@@ -12,7 +12,7 @@ use clap::error::ErrorKind;
 use std::alloc::{AllocError, Global};
 
 /// What a call of `cif` asks for. A file that isn't named is the standard input, and so is `-`.
-#[derive(Debug, Drop)]
+#[derive(Drop)]
 pub enum Job {
     /// To write the canonical extract.
     Normalise {
@@ -96,7 +96,7 @@ impl Job {
 const LONGEST_LINE: usize = 44;
 
 /// Why a call of `cif` asks for nothing.
-#[derive(Debug, Drop)]
+#[derive(Drop)]
 pub enum JobFault {
     /// A usage error, or a request for help or for the version. `clap` has its text.
     Usage(clap::Error),

@@ -1,6 +1,6 @@
 //! From the words of the process to its status. No clause says what is done here: the rows of `tests/`
 //! show it on the built program.
-use crate::advice::{advise, advise_on_date, advise_on_uid, tell_failure, tell_window};
+use crate::advice::{advise, advise_on_word, tell_failure, tell_window};
 use crate::answers::answer;
 use crate::devices::{ExtractInput, Output};
 use crate::job::{Job, JobFault};
@@ -69,13 +69,8 @@ fn advise_on_words<R: Env + AllocGlobal, W: WriteDevice>(
     fault: &JobFault,
     errors: &mut Sink<W>,
 ) {
-    let Ok(words) = words_of(rt) else {
-        return;
-    };
-    match fault {
-        JobFault::BadDate => advise_on_date(rt.alloc(), words.as_slice(), errors),
-        JobFault::BadUid => advise_on_uid(rt.alloc(), words.as_slice(), errors),
-        JobFault::Usage(_) | JobFault::OneInput | JobFault::Memory => {}
+    if let Ok(words) = words_of(rt) {
+        advise_on_word(rt.alloc(), words.as_slice(), fault, errors);
     }
 }
 
@@ -86,11 +81,14 @@ fn words_of<R: Env + AllocGlobal>(rt: &R) -> io::Result<Vec<String>> {
 
 /// Whether `--verbose` is among the options.
 fn is_verbose(words: &[String]) -> bool {
-    words
-        .iter()
-        .map(|word| word.as_str())
-        .take_while(|word| *word != "--")
-        .any(|word| word == "-v" || word == "--verbose")
+    for word in words {
+        match word.as_str() {
+            "-v" | "--verbose" => return true,
+            "--" => return false,
+            _ => {}
+        }
+    }
+    false
 }
 
 /// Answers the job on the standard output, and returns the status to exit with.
@@ -231,7 +229,12 @@ pub(crate) fn escaped_words(alloc: Global, words: &[String]) -> Result<Vec<Strin
 
 /// Whether a word has a control character.
 pub(crate) fn have_control(words: &[String]) -> bool {
-    words
-        .iter()
-        .any(|word| word.as_str().chars().any(|c| c.is_control()))
+    for word in words {
+        for c in word.as_str().chars() {
+            if c.is_control() {
+                return true;
+            }
+        }
+    }
+    false
 }

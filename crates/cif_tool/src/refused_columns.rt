@@ -2,7 +2,7 @@
 use cif_columns::{Day, PublicTime, Refusal, WorkTime};
 
 /// Columns of a line for which a reason can refuse it.
-#[derive(Clone, Copy, Debug)]
+#[derive(Clone, Copy)]
 pub(crate) struct RefusedColumns {
     /// The first two letters of the lines that it is about; none: of all.
     kind: &'static str,
@@ -259,11 +259,12 @@ pub(crate) fn columns_refused(line: &[u8], why: Refusal) -> Option<RefusedColumn
     if why == Refusal::BadByte {
         return bad_byte(line);
     }
-    TABLE
-        .iter()
-        .filter(|refused| refused.why == why && line.starts_with(refused.kind.as_bytes()))
-        .find(|refused| is_refused(refused, line))
-        .copied()
+    for refused in &TABLE {
+        if refused.why == why && is_refused(refused, line) {
+            return Some(*refused);
+        }
+    }
+    None
 }
 
 /// The column of the first byte that isn't printable.
@@ -279,8 +280,11 @@ fn bad_byte(line: &[u8]) -> Option<RefusedColumns> {
     })
 }
 
-/// Whether what stands in the columns is refused.
+/// Whether what stands in the columns of the line is refused.
 fn is_refused(refused: &RefusedColumns, line: &[u8]) -> bool {
+    if !line.starts_with(refused.kind.as_bytes()) {
+        return false;
+    }
     let Some(columns) = line.get(refused.first.saturating_sub(1)..refused.last) else {
         return false;
     };

@@ -48,30 +48,30 @@ pub fn job_of(alloc: Global, words: Vec<String>) -> Result<Job, JobFault>
     }
 }
 
-/// The first word that should name a date and doesn't.
+/// The first word that should name a date, or the UID, and doesn't: which, `fault` says.
 #[inline(never)]
-pub(crate) fn mistaken_date<'a>(alloc: Global, words: &'a [String]) -> Option<&'a str> {
+pub(crate) fn mistaken_word<'a>(
+    alloc: Global,
+    words: &'a [String],
+    fault: &JobFault,
+) -> Option<&'a str> {
     let matches = matches_of(alloc, FORMS.as_slice(), FORMATS.as_slice(), words).ok()?;
     let (_, inner) = matches.subcommand()?;
+    match fault {
+        JobFault::BadUid => word_of(inner, "UID"),
+        _ => mistaken_date(inner),
+    }
+}
+
+/// The first word that should name a date and doesn't.
+fn mistaken_date<'a>(matches: &ArgMatches<'a>) -> Option<&'a str> {
     for id in ["YYMMDD", "from", "to"] {
-        if let Some(word) = word_of(inner, id)
-            && day_of_word(word).is_none()
-        {
-            return Some(word);
+        match word_of(matches, id) {
+            Some(word) if day_of_word(word).is_none() => return Some(word),
+            _ => {}
         }
     }
     None
-}
-
-/// The word that should name a UID and doesn't.
-#[inline(never)]
-pub(crate) fn mistaken_uid<'a>(alloc: Global, words: &'a [String]) -> Option<&'a str> {
-    let matches = matches_of(alloc, FORMS.as_slice(), FORMATS.as_slice(), words).ok()?;
-    let (_, inner) = matches.subcommand()?;
-    match word_of(inner, "UID") {
-        Some(word) if uid_of_word(word).is_none() => Some(word),
-        _ => None,
-    }
 }
 
 /// Why `clap` gives no matches.

@@ -1,10 +1,12 @@
--- The program, then its subcommands (`commands_added`).
-use Rattle.std.proofs.lemmas.Result.{IfOk-weaker}
-use Rattle.cif_tool.proofs.CommandBuilt.{commands_added}
+-- The program, then its subcommands.
+use Rattle.std.proofs.Common.{subst}
+use Rattle.std.specs.Prelude.{IfOk}
+use Rattle.clap.specs.Words.{App}
+use Rattle.cif_tool.specs.CommandLine.{IsCommand, cif, subcommands, with_subcommands}
 use Rattle.cif_tool.proofs.command_line.cif_command.Goals as goal
 
 pub returns : goal.returns
+unfolding cif
 returns c =
-    IfOk-weaker c.with_train_commands.result _ _
-    (λ r added. commands_added _ _ _ _ r c.in_ok-program.ensures c.in_ok-command.ensures added)
-    c.with_train_commands.ensures
+    subst (λ (a : App). IfOk c.with_subcommands.result (IsCommand (with_subcommands c.args.choices.now a subcommands)))
+    c.in_ok-program.ensures.app c.with_subcommands.ensures

@@ -12,7 +12,7 @@ returns-clause-ok c =
     let made = c.in_ok-cif_command.ensures.app in
     let parse = c.try_get_matches_from in
     IfOk-weaker parse.result _ _
-    (λ m h. (h (ap is_simple made ∙ is_simple_cif _ _)).1 ∙ ap (λ (a : App). subcommand_of a (map string_bytes c.args.words.now)) made)
+    (λ m h. (h (ap is_simple made ∙ is_simple_cif _)).1 ∙ ap (λ (a : App). subcommand_of a (map string_bytes c.args.words.now)) made)
     parse.ensures.matches
 
 pub returns-clause-kinds : goal.returns-clause-kinds
@@ -21,4 +21,4 @@ returns-clause-kinds c =
     let made = c.in_ok-cif_command.ensures.app in
     let parse = c.try_get_matches_from in
     subst (λ (a : App). FailsBy (fault_of a (map string_bytes c.args.words.now)) parse.result) made
-    (parse.ensures.kinds (ap is_simple_and_free made ∙ is_free_cif _ _))
+    (parse.ensures.kinds (ap is_simple_and_free made ∙ is_free_cif _))

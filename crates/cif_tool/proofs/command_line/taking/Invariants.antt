@@ -1,0 +1,10 @@
+-- With the arguments that are left, the command takes all.
+use Rattle.std.proofs.Common.{drop}
+use Rattle.clap.specs.Words.{new_app}
+use Rattle.cif_tool.specs.CommandLine.{taking}
+use Rattle.cif_tool.proofs.CommandBuilt.{IsTaking}
+use Rattle.cif_tool.proofs.command_line.taking.Given as goal
+
+abbrev pub invariant-loop-which : goal.invariant-loop-which
+invariant-loop-which l =
+    IsTaking l.choices (taking l.choices (new_app l.name) l.arguments) (drop l.which-index l.arguments) l.command
