@@ -1,6 +1,7 @@
 -- Positions in the order of their keys.
 use Rattle.std.proofs.Common.{◌≡◌, ℕ, ◌+◌, ◌<◌, List, true, false, length, get_or}
-use Rattle.std.proofs.Common.{refl, sym, arith}
+use Rattle.std.proofs.Common.{refl, sym, arith, map, subst}
+use Rattle.std.proofs.lemmas.Option.{slice_get_within}
 use Rattle.std.specs.Prelude.{Contains, All}
 use Rattle.std.specs.List.{range_with_len}
 use Rattle.std.specs.Ordering.{is_gt, is_lt, is_le, ordering_reverse}
@@ -9,7 +10,9 @@ use Rattle.std.specs.declared.cmp.Ordering.TheVariants.{Less, Equal, Greater}
 use Rattle.std.proofs.lemmas.List.{length-map}
 use Rattle.std.proofs.lemmas.List.FromFn.{length-range_with_len, get_or-range_with_len}
 use Rattle.cif_calendar.specs.Terms.{Terms}
-use Rattle.cif_calendar.specs.Keys.{keyed}
+use Rattle.cif_calendar.specs.Keys.{IsFirstClashOf, keyed}
+use Rattle.cif_weeks.specs.Window.{Window}
+use Rattle.cif_canon.specs.Steps.Records.{IsClashAt}
 use Rattle.cif_calendar.proofs.Winning.{terms_at}
 use Rattle.cif_canon.specs.Steps.Turns.{HasKey}
 
@@ -43,3 +46,15 @@ module _ {E K B : Type 0} (key : E → K) (terms : E → Terms B) where
 
   pub within-entries : (es : List E) (i : ℕ) → i < length (keyed key terms es) → i < length es
   within-entries es i h = let e : length (keyed key terms es) ≡ length es = length-map es (λ x. (key x, terms x)) in omega arith
+
+-- the entry with a clash, by the value that stands at its position
+module _ {X K B : Type 0} (entry : X → K × Terms B) (xs : List X) (cmp : K → K → Ordering) (window : Window) (member day : ℕ)
+    (h : IsClashAt cmp (map entry xs) window member day) where
+  pub clash-within : member < length xs
+  clash-within = omega (arith, slice_get_within (map entry xs) member h.entry h.at, length-map xs entry)
+
+  pub clash-of : (x : X) → x ≡ get_or xs member x → IsFirstClashOf cmp (map entry xs) window.first window.last (entry x).0 day
+  clash-of x is =
+      let at = terms_at entry xs member x clash-within is in
+      let same : h.entry ≡ entry x = cc (at, h.at) in
+      subst (λ (e : K × Terms B). IsFirstClashOf cmp (map entry xs) window.first window.last e.0 day) same h.clash
