@@ -12,7 +12,9 @@ use Rattle.std.proofs.lemmas.List.FromFn.{length-range_with_len, get_or-range_wi
 use Rattle.cif_calendar.specs.Terms.{Terms}
 use Rattle.cif_calendar.specs.Keys.{IsFirstClashOf, keyed}
 use Rattle.cif_weeks.specs.Window.{Window}
-use Rattle.cif_canon.specs.Steps.Records.{IsClashAt}
+use Rattle.cif_canon.specs.Steps.Records.{IsClashAt, IsRecordsFault}
+use Rattle.cif_canon.specs.declared.records.RecordsFault.{RecordsFault}
+use Rattle.cif_canon.specs.declared.records.RecordsFault.TheVariants.{Clash}
 use Rattle.cif_calendar.proofs.Winning.{terms_at}
 use Rattle.cif_canon.specs.Steps.Turns.{HasKey}
 
@@ -48,13 +50,16 @@ module _ {E K B : Type 0} (key : E → K) (terms : E → Terms B) where
   within-entries es i h = let e : length (keyed key terms es) ≡ length es = length-map es (λ x. (key x, terms x)) in omega arith
 
 -- the entry with a clash, by the value that stands at its position
-module _ {X K B : Type 0} (entry : X → K × Terms B) (xs : List X) (cmp : K → K → Ordering) (window : Window) (member day : ℕ)
-    (h : IsClashAt cmp (map entry xs) window member day) where
+module _ {X K B : Type 0} (entry : X → K × Terms B) (xs : List X) (cmp : K → K → Ordering) (window : Window) (fault : RecordsFault)
+    (h : IsRecordsFault cmp (map entry xs) window fault) (member day : ℕ) (is : fault ≡ Clash member day) where
+  at-clash : IsClashAt cmp (map entry xs) window member day
+  at-clash = subst (IsRecordsFault cmp (map entry xs) window) is h
+
   pub clash-within : member < length xs
-  clash-within = omega (arith, slice_get_within (map entry xs) member h.entry h.at, length-map xs entry)
+  clash-within = omega (arith, slice_get_within (map entry xs) member at-clash.entry at-clash.at, length-map xs entry)
 
   pub clash-of : (x : X) → x ≡ get_or xs member x → IsFirstClashOf cmp (map entry xs) window.first window.last (entry x).0 day
-  clash-of x is =
-      let at = terms_at entry xs member x clash-within is in
-      let same : h.entry ≡ entry x = cc (at, h.at) in
-      subst (λ (e : K × Terms B). IsFirstClashOf cmp (map entry xs) window.first window.last e.0 day) same h.clash
+  clash-of x same =
+      let at = terms_at entry xs member x clash-within same in
+      let e : at-clash.entry ≡ entry x = cc (at, at-clash.at) in
+      subst (λ (e : K × Terms B). IsFirstClashOf cmp (map entry xs) window.first window.last e.0 day) e at-clash.clash
