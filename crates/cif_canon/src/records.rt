@@ -22,7 +22,7 @@ use cif_weeks::{Form, Run, runs_in_room, runs_of_few};
 use std::alloc::{AllocError, Global};
 
 /// The runs of an extract's canonical records in a form, by kind, each rising by key and first date.
-#[derive(Debug, Drop)]
+#[derive(Drop)]
 pub(crate) struct ExtractRuns {
     pub(crate) associations: Vec<Run>,
     pub(crate) schedules: Vec<Run>,
@@ -123,7 +123,7 @@ fn schedule_fault(extract: &Extract, fault: RecordsFault) -> Fault
 }
 
 /// Why there are no canonical records.
-#[derive(Clone, Copy, Debug, PartialEq, Eq)]
+#[derive(Clone, Copy)]
 pub(crate) enum RecordsFault {
     /// Two winners of the day have different bodies. Their key is that of the entry at `member`.
     Clash { member: usize, day: Day },
@@ -154,7 +154,7 @@ fn fault_of(fault: CalendarFault, member: usize) -> RecordsFault
 
 /// The pieces of a key's calendar and the runs of its canonical records. Those of the next key take
 /// their room.
-#[derive(Debug, Drop)]
+#[derive(Drop)]
 struct KeyRoom {
     pieces: Vec<Piece>,
     runs: Vec<Run>,

@@ -3,8 +3,11 @@ use Rattle.std.proofs.Common.{◌∙◌, ap, sym, subst}
 use Rattle.std.specs.Option.{option_copied}
 use Rattle.cif_columns.specs.Sink.{Writes}
 use Rattle.cif_weeks.specs.Runs.{record_of}
-use Rattle.cif_canon.proofs.RunTexts.{run-text}
+use Rattle.cif_canon.proofs.RunTexts.{record-within, run-text}
 use Rattle.cif_canon.proofs.canonical_form.write_run.Goals as goal
+
+pub bounds-entries-run : goal.bounds-entries-run
+bounds-entries-run g c = record-within (λ e. (g.E.Entry.key e, g.E.Entry.terms e)) c.args.entries.now c.args.run.now c.requires.record
 
 pub returns : goal.returns
 returns g c =

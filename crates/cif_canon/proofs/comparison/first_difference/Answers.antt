@@ -1,9 +1,10 @@
 -- The fronts of both rests are the positions of one key (`ComparedKeys`), of which its calendars tell (`ComparedCalendars`).
-use Rattle.std.proofs.Common.{◌<◌, ℕ, List, length, sym, subst, arith}
+use Rattle.std.proofs.Common.{◌<◌, ◌∙◌, ℕ, List, length, sym, subst, arith}
 use Rattle.std.specs.Prelude.{All}
-use Rattle.std.proofs.lemmas.List.Elements.{All-drop}
+use Rattle.std.proofs.lemmas.List.Elements.{All-drop, All-take}
 use Rattle.cif_calendar.specs.Keys.{keyed}
 use Rattle.cif_calendar.proofs.FirstClash.{same_key-cmp}
+use Rattle.cif_weeks.proofs.CalendarSources.{calendar_sources}
 use Rattle.cif_canon.specs.Steps.Turns.{AreFrom, IsFront}
 use Rattle.cif_canon.proofs.ComparedCalendars.{alike-on, clear-positions, differ-on}
 use Rattle.cif_canon.proofs.ComparedKeys.{AreAlikeBefore, AreFronts, alike-nothing, are-fronts}
@@ -66,6 +67,16 @@ fronts g c =
     (same_key-cmp g.E.Key.PartialEq.eq cmp g.met.E.Key.Ord.matches_eq g.met.E.Entry.same_key) xs ys c.args.window.now.first
     c.args.window.now.last l r c.loop-entry.invariant.alike (g.E.Entry.key c.in-Some.entry.now) c.in-Some.ensures.some _ _ left right)
 
+pub clear_calendar-requires-clause-within : goal.clear_calendar-requires-clause-within
+clear_calendar-requires-clause-within g c =
+    subst (λ (is : List ℕ). All (λ i. i < length c.args.left.now) is) (sym c.split_at.ensures.front)
+    (All-take (λ i. i < length c.args.left.now) _ _ c.loop-entry.invariant.left_within)
+
+pub clear_calendar-requires-in-Some-clause-within : goal.clear_calendar-requires-in-Some-clause-within
+clear_calendar-requires-in-Some-clause-within g c =
+    subst (λ (is : List ℕ). All (λ i. i < length c.args.right.now) is) (sym c.split_at-in-Some.ensures.front)
+    (All-take (λ i. i < length c.args.right.now) _ _ c.loop-entry.invariant.right_within)
+
 pub clear_calendar-requires-clause-clear : goal.clear_calendar-requires-clause-clear
 clear_calendar-requires-clause-clear g c =
     let here = (goal.at.clear_calendar-requires-clause-clear g c).After-split_at-in-Some in
@@ -79,6 +90,14 @@ clear_calendar-requires-in-Some-clause-clear g c =
     let k = g.E.Entry.key c.in-Some.entry.now in
     clear-positions g.E.Entry.key g.E.Entry.terms c.args.right.now k c.split_at-in-Some.result.0.now (fronts g here).right
     c.args.window.now.first c.args.window.now.last (c.requires.right.key k)
+
+pub first_day-requires : goal.first_day-requires
+first_day-requires g c = record {
+  first = c.in_ok-other.ensures.first_is ∙ sym c.in_ok-one.ensures.first_is;
+  last = c.in_ok-other.ensures.last_is ∙ sym c.in_ok-one.ensures.last_is;
+  left = calendar_sources _ _ _ _ _ c.in_ok-one.ensures;
+  right = calendar_sources _ _ _ _ _ c.in_ok-other.ensures;
+}
 
 pub returns-in-Some-first_day-clause-some : goal.returns-in-Some-first_day-clause-some
 returns-in-Some-first_day-clause-some g c =

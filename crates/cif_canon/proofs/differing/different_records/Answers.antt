@@ -1,12 +1,13 @@
 -- The fronts of both rests are the positions of one key (`ComparedKeys`), whose differences go behind the others (`found-key`).
-use Rattle.std.proofs.Common.{◌<◌, ℕ, List, [], length, sym, subst}
+use Rattle.std.proofs.Common.{◌<◌, ◌∙◌, ℕ, List, [], length, sym, subst}
 use Rattle.std.specs.Prelude.{All}
 use Rattle.std.proofs.lemmas.List.{nil_from_length}
-use Rattle.std.proofs.lemmas.List.Elements.{All-drop}
+use Rattle.std.proofs.lemmas.List.Elements.{All-drop, All-take}
 use Rattle.cif_calendar.specs.Keys.{keyed}
 use Rattle.cif_calendar.proofs.FirstClash.{same_key-cmp}
 use Rattle.cif_weeks.specs.declared.run.Run.{Run}
 use Rattle.cif_weeks.specs.Window.{window_from}
+use Rattle.cif_weeks.proofs.CalendarSources.{calendar_sources}
 use Rattle.cif_canon.specs.Steps.Turns.{AreFrom, IsFront}
 use Rattle.cif_canon.specs.declared.listed_differences.Sided.{Sided}
 use Rattle.cif_canon.proofs.ComparedCalendars.{clear-positions}
@@ -78,6 +79,16 @@ fronts g c =
     c.args.window.now.last l r (AreTold window xs ys found.found) found.passed (g.E.Entry.key c.in-Some.entry.now)
     c.in-Some.ensures.some _ _ left right)
 
+pub clear_calendar-requires-clause-within : goal.clear_calendar-requires-clause-within
+clear_calendar-requires-clause-within g c =
+    subst (λ (is : List ℕ). All (λ i. i < length c.args.left.now) is) (sym c.split_at.ensures.front)
+    (All-take (λ i. i < length c.args.left.now) _ _ c.loop-entry.invariant.left_within)
+
+pub clear_calendar-requires-in-Some-clause-within : goal.clear_calendar-requires-in-Some-clause-within
+clear_calendar-requires-in-Some-clause-within g c =
+    subst (λ (is : List ℕ). All (λ i. i < length c.args.right.now) is) (sym c.split_at-in-Some.ensures.front)
+    (All-take (λ i. i < length c.args.right.now) _ _ c.loop-entry.invariant.right_within)
+
 pub clear_calendar-requires-clause-clear : goal.clear_calendar-requires-clause-clear
 clear_calendar-requires-clause-clear g c =
     let here = (goal.at.clear_calendar-requires-clause-clear g c).After-split_at-in-Some in
@@ -91,6 +102,14 @@ clear_calendar-requires-in-Some-clause-clear g c =
     let k = g.E.Entry.key c.in-Some.entry.now in
     clear-positions g.E.Entry.key g.E.Entry.terms c.args.right.now k c.split_at-in-Some.result.0.now (fronts g here).right
     c.args.window.now.first c.args.window.now.last (c.requires.right.key k)
+
+pub push_differences-requires : goal.push_differences-requires
+push_differences-requires g c = record {
+  first = c.in_ok-other.ensures.first_is ∙ sym c.in_ok-one.ensures.first_is;
+  last = c.in_ok-other.ensures.last_is ∙ sym c.in_ok-one.ensures.last_is;
+  left = calendar_sources _ _ _ _ _ c.in_ok-one.ensures;
+  right = calendar_sources _ _ _ _ _ c.in_ok-other.ensures;
+}
 
 pub loop-entry-smaller : goal.loop-entry-smaller
 loop-entry-smaller g c = (fronts g (goal.at.loop-entry-smaller g c).After-split_at-in-Some).smaller
