@@ -41,12 +41,7 @@ pub(crate) fn push_calendar<E: Entry>(
 }
 
 /// Appends what the calendar of the members and its runs say.
-fn push_dates<E: Entry>(
-    alloc: Global,
-    out: &mut Output,
-    entries: &[E],
-    calendar: &Calendar,
-)
+fn push_dates<E: Entry>(alloc: Global, out: &mut Output, entries: &[E], calendar: &Calendar)
     requires { AreSources (map E.terms entries.now) calendar.now }
 {
     push_window(out, calendar.window());
