@@ -84,7 +84,3 @@ returns-in-None g c d a b =
     (λ late. by_pieces g (goal.at.returns-in-None g c).After-first_in_pieces None c.in_default.ensures d late
     (omega (arith, b, ends, c.window-window.ensures.last)))
     (before-or-from d c.loop-day.first)
-
-pub first_in_pieces-requires-clause-in_order : goal.first_in_pieces-requires-clause-in_order
-first_in_pieces-requires-clause-in_order g c =
-    c.earlier-last.ensures.latest c.loop-day.first c.piece_on-piece.ensures.upto c.piece_on-peer.ensures.upto

@@ -1,7 +1,6 @@
 -- The runs of either side are what was found, and they go behind the others.
-use Rattle.std.proofs.Common.{List, subst, sym}
-use Rattle.cif_weeks.specs.declared.run.Run.{Run}
-use Rattle.cif_canon.specs.Steps.OnlySides.{AreAppendedRuns, AreRisingRuns}
+use Rattle.std.proofs.Common.{subst, sym}
+use Rattle.cif_canon.specs.Steps.OnlySides.{AreRisingRuns}
 use Rattle.cif_canon.proofs.differing.push_only.Goals as goal
 
 pub only_runs-requires-2 : goal.only_runs-requires-2

@@ -1,10 +1,7 @@
 -- Of known bytes (`known_so`): what they spell, narrowed, has a form to count (`counted-text`), or is to blame (`known-canon_fault`).
-use Rattle.std.proofs.Common.{subst}
 use Rattle.cif_columns.specs.Source.{reader_of}
 use Rattle.cif_columns.proofs.GivenLinesLaws.{known_so}
 use Rattle.cif_extract.specs.ExtractParts.{extract_parts}
-use Rattle.cif_canon.specs.Fault.{IsCanonFault}
-use Rattle.cif_canon.proofs.HandedFaults.{handed-read}
 use Rattle.cif_canon.proofs.Normalising.{counted-text, known-accepted, known-canon_accepted, known-canon_fault}
 use Rattle.cif_canon.proofs.normal_form.check_keeping.Goals as goal
 
@@ -30,10 +27,3 @@ returns-clause-ok g c =
     known_so _ _ _ (λ bytes spelled.
     counted-text c.args.max_lines c.args.asked.now bytes c.args.form (extract_parts c.in_ok-extract.extract) spelled c.in_ok-canon.field-0
     (rw c.insert-extract.ensures.value at c.in_ok-canon.ensures.ok) c.counts-2.result c.counts-2.ensures) c.in_ok-extract.ensures.ok
-
-pub returns-in_err-canon-clause-source : goal.returns-in_err-canon-clause-source
-returns-in_err-canon-clause-source g c =
-    let call = c.from_residual-in_err-canon in
-    let x = extract_parts c.insert-extract.result.now in
-    handed-read _ _ _ call.result c.in_err-canon.field-0.0 call.ensures.1 (λ read. subst (IsCanonFault x) read c.in_err-canon.ensures.fault)
-    c.in_ok-extract.ensures.source

@@ -1,10 +1,9 @@
 -- The text has to be named, the canonical form's: of known bytes `Normalising` says it is that, written whole or as a prefix.
-use Rattle.std.proofs.Common.{◌≢◌, subst, sym}
+use Rattle.std.proofs.Common.{subst}
 use Rattle.cif_columns.specs.Source.{reader_of}
 use Rattle.cif_columns.proofs.GivenLinesLaws.{known_so}
 use Rattle.cif_extract.specs.ExtractParts.{extract_parts}
-use Rattle.cif_extract.specs.declared.fault.Fault.TheVariants.{Read}
-use Rattle.cif_canon.proofs.HandedFaults.{at-fault, handed-read}
+use Rattle.cif_canon.proofs.HandedFaults.{at-fault}
 use Rattle.cif_canon.specs.Fault.{IsCanonFault, IsOfCheck}
 use Rattle.cif_canon.proofs.Normalising.{fails-silently, fault-writes, known-accepted, known-canon_accepted, known-canon_fault}
 use Rattle.cif_canon.proofs.Normalising.{normalises-prefix, normalises-whole}
@@ -65,16 +64,3 @@ returns-clause-normal g c = (
       c.in_ok-canon.canon (rw c.insert-extract.ensures.value at c.in_ok-canon.ensures.ok) c.counts.result c.counts.ensures)
       c.in_ok-extract.ensures.ok,
 )
-
-pub returns-in_err-canon-clause-source : goal.returns-in_err-canon-clause-source
-returns-in_err-canon-clause-source g c =
-    let call = c.from_residual-in_err-canon in
-    let x = extract_parts c.insert-extract.result.now in
-    handed-read _ _ _ call.result c.in_err-canon.field-0.0 call.ensures.1 (λ read. subst (IsCanonFault x) read c.in_err-canon.ensures.fault)
-    c.in_ok-extract.ensures.source
-
-pub returns-in_err-write-clause-source : goal.returns-in_err-write-clause-source
-returns-in_err-write-clause-source g c =
-    let call = c.from_residual-in_err-write in
-    handed-read _ _ _ call.result c.in_err-write.field-0.0 call.ensures.1
-    (subst (λ f. f ≢ Read) (sym c.in_err-write.ensures.fault) (λ is. cc)) c.in_ok-extract.ensures.source

@@ -4,7 +4,7 @@ use Rattle.std.specs.Prelude.{All}
 use Rattle.std.proofs.lemmas.Result.{err_from_is_err_and}
 use Rattle.std.proofs.lemmas.List.{nil_from_length}
 use Rattle.std.proofs.lemmas.Bool.{eqb-true}
-use Rattle.std.proofs.lemmas.List.Elements.{All-drop, All-take}
+use Rattle.std.proofs.lemmas.List.Elements.{All-drop}
 use Rattle.cif_calendar.specs.Keys.{keyed}
 use Rattle.cif_calendar.proofs.FirstClash.{same_key-cmp}
 use Rattle.cif_calendar.proofs.Positions.{AreLawful-of_key}
@@ -60,13 +60,3 @@ returns-clause-records g c =
     (AreLawful-of_key g.E.Entry.key g.E.Entry.terms g.met.E.Entry.cancelled c.args.entries.now) c.loop-rest.all.items
     (subst (λ (rest : List ℕ). IsMade g.E.Key.Ord.cmp c.args.form window es c.loop-rest.all.items rest)
     (nil_from_length c.loop-rest.rest.now (eqb-true _ _ (sym c.loop-rest-test.ensures))) c.loop-rest.invariant.made)
-
-pub look_ahead-requires : goal.look_ahead-requires
-look_ahead-requires g c = All-take (λ i. i < length c.args.entries.now) _ _ c.loop-rest.invariant.within
-
-pub runs_of_key-requires : goal.runs_of_key-requires
-runs_of_key-requires g c = record {
-  within = subst (λ (is : List ℕ). All (λ i. i < length c.args.entries.now) is) (sym c.split_at.ensures.front)
-      (All-take (λ i. i < length c.args.entries.now) _ _ c.loop-rest.invariant.within);
-  some = subst (λ n. 0 < n) (sym c.split_at.ensures.front_len) c.count_of_first_key.ensures.some;
-}
