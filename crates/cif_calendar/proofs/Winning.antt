@@ -187,6 +187,11 @@ module _ {B : Type 0} (xs : List (Terms B)) (members : List ℕ) where
     stands = λ ms ns d h k. stands-kept _ _ _ (chosen-union xs ms ns) d one (λ s c on. absurd (k.none s c on)) h;
   }
 
+  pub combines-nobody : (other : Standing) → Combines xs members Nobody other other
+  combines-nobody other = record {
+    stands = λ ms ns d h k. stands-kept _ _ _ (union-swap _ _ _ (chosen-union xs ms ns)) d other (λ s c on. absurd (h.none s c on)) k;
+  }
+
   -- where those who lead have one letter
   module _ (n : ℕ) where
     pub disputed_combines : (k : ℕ) (other : Standing) → IsRank xs members (Disputed k) n → IsRank xs members other n →

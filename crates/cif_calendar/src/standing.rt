@@ -21,7 +21,7 @@ use crate::key_calendar::CalendarFault;
 use cif_columns::{Day, DaysRun};
 
 /// Who leads among the members that were looked at.
-#[derive(Clone, Copy, Debug, PartialEq, Eq)]
+#[derive(Clone, Copy)]
 pub(crate) enum Standing {
     /// None of them applies.
     Nobody,
@@ -132,7 +132,6 @@ fn rank<E: Entry>(entries: &[E], members: &[usize], standing: Standing) -> u8
 
 /// Who leads on a date where two sets of members are looked at together, one or the other of which
 /// each standing tells of. `alike` has what is known of their bodies.
-#[tactic(auto, using(crate::proofs::Winning::combines_first, crate::proofs::Winning::combines_second))]
 pub(crate) fn combine<E: Entry>(
     entries: &[E],
     members: &[usize],
@@ -160,7 +159,6 @@ pub(crate) fn combine<E: Entry>(
 }
 
 /// The same, where those who lead have one letter.
-#[tactic(auto, using(crate::proofs::Winning::disputed_combines))]
 fn level<E: Entry>(
     entries: &[E],
     members: &[usize],

@@ -17,7 +17,7 @@ const FEW: usize = 16;
 
 /// Dates on each of which the same members apply as on the others of its weekday. A stretch begins
 /// on the day after the one before it in a list, and the first with the window.
-#[derive(Clone, Copy, Debug, PartialEq, Eq)]
+#[derive(Clone, Copy)]
 pub(crate) struct Stretch {
     /// The last date.
     pub(crate) last: Day,
@@ -135,8 +135,39 @@ fn behind(stretches: &[Stretch], day: Day) -> &[Stretch]
     }
 }
 
-/// The stretches of the members in `part`, the first of which has this number. Few are all looked at
-/// for each; the stretches of many are made from those of both halves.
+/// The stretches of the few members in `part`, the first of which has this number: all of them are
+/// looked at for each stretch.
+fn stretches_of_few<E: Entry>(
+    alloc: Global,
+    entries: &[E],
+    members: &[usize],
+    alike: &mut [Option<usize>],
+    number: usize,
+    part: &[usize],
+    window: &Window,
+) -> Result<Vec<Stretch>, AllocError>
+    requires positions { All (λ i. i < length entries.now) members.now }
+    requires alike { AreAlike (map E.terms entries.now) members.now alike.old }
+    requires part { IsPart members.now number part.now }
+    ensures alike { AreAlike (map E.terms entries.now) members.now alike.new }
+    ensures stretches { IfOk result
+        (λ made. AreStretchesOf (map E.terms entries.now) members.now part.now window.now made.items) }
+{
+    let mut stretches = Vec::new(alloc);
+    let mut first = window.first;
+    loop {
+        let stretch = stretch_from(entries, members, alike, number, part, first, window.last);
+        let next = stretch.last.next_up_to(window.last);
+        stretches.push(stretch)?;
+        match next {
+            Some(next) => first = next,
+            None => return Ok(stretches),
+        }
+    }
+}
+
+/// The stretches of the members in `part`, the first of which has this number. Those of many are made
+/// from those of both halves.
 pub(crate) fn stretches_of<E: Entry>(
     alloc: Global,
     entries: &[E],
@@ -154,17 +185,7 @@ pub(crate) fn stretches_of<E: Entry>(
         (λ made. AreStretchesOf (map E.terms entries.now) members.now part.now window.now made.items) }
 {
     if part.len() <= FEW {
-        let mut stretches = Vec::new(alloc);
-        let mut first = window.first;
-        loop {
-            let stretch = stretch_from(entries, members, alike, number, part, first, window.last);
-            let next = stretch.last.next_up_to(window.last);
-            stretches.push(stretch)?;
-            match next {
-                Some(next) => first = next,
-                None => return Ok(stretches),
-            }
-        }
+        return stretches_of_few(alloc, entries, members, alike, number, part, window);
     }
     let half = part.len() / 2;
     let (first_half, second_half) = part.split_at(half);

@@ -1,7 +1,21 @@
 -- Of one letter: two leaders agree or differ (`leaders_agree`, `leaders_differ`), and who is disputed stays so.
 use Rattle.std.proofs.Common.{map}
-use Rattle.cif_calendar.proofs.Winning.{refuted, combines_disputed, leaders_agree, leaders_differ}
+use Rattle.cif_calendar.proofs.Winning.{combines_disputed, combines-nobody, disputed_combines, leaders_agree, leaders_differ}
+use Rattle.cif_calendar.proofs.Winning.{nobody-combines, refuted}
+use Rattle.cif_calendar.specs.declared.standing.Standing.TheVariants.{Leader}
 use Rattle.cif_calendar.proofs.standing.level.Goals as goal
+
+pub returns-in-Nobody-clause-stands : goal.returns-in-Nobody-clause-stands
+returns-in-Nobody-clause-stands g c n is also =
+    rw c.in-Nobody.is (combines-nobody (map g.E.Entry.terms c.args.entries.now) c.args.members.now c.args.other)
+
+pub returns-in-Disputed-clause-stands : goal.returns-in-Disputed-clause-stands
+returns-in-Disputed-clause-stands g c n is also = rw c.in-Disputed.is (disputed_combines (map g.E.Entry.terms c.args.entries.now)
+    c.args.members.now n c.in-Disputed.field-0 c.args.other (rw c.in-Disputed.is at is) also)
+
+pub returns-in-Nobody-other-clause-stands : goal.returns-in-Nobody-other-clause-stands
+returns-in-Nobody-other-clause-stands g c n is also = rw (c.in-Leader.is, c.in-Nobody-other.is)
+    (nobody-combines (map g.E.Entry.terms c.args.entries.now) c.args.members.now (Leader c.in-Leader.leader))
 
 pub returns-in-Disputed-other-clause-stands : goal.returns-in-Disputed-other-clause-stands
 returns-in-Disputed-other-clause-stands g c n is also = rw (c.in-Leader.is, c.in-Disputed-other.is)

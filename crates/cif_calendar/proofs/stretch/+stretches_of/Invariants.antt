@@ -1,8 +1,6 @@
--- The part gets shorter. In the first loop the stretches so far are those of the days before `first`, and what is left of the window gets
--- shorter. In the second the stretches of both halves are merged so far, and those left get fewer.
-use Rattle.std.proofs.Common.{◌≤◌, ◌+◌, ◌-◌, length, map, take, drop}
+-- The part gets shorter. The stretches of both halves are merged so far, and those left get fewer.
+use Rattle.std.proofs.Common.{◌+◌, length, map, take, drop}
 use Rattle.cif_calendar.specs.Steps.Standing.{AreAlike}
-use Rattle.cif_calendar.specs.Steps.Stretches.{AreStretches}
 use Rattle.cif_calendar.proofs.Stretches.{AreMerged}
 use Rattle.cif_calendar.proofs.stretch.+stretches_of.Given as goal
 
@@ -18,14 +16,3 @@ invariant-loop-left g l = record {
 
 abbrev pub decreases-loop-left : goal.decreases-loop-left
 decreases-loop-left g l = length l.left + length l.right
-
-abbrev pub invariant-loop-stretches : goal.invariant-loop-stretches
-invariant-loop-stretches g l = record {
-  from : l.window.first ≤ l.first;
-  upto : l.first ≤ l.window.last;
-  alike : AreAlike (map g.E.Entry.terms l.entries) l.members l.alike;
-  stretches : AreStretches (map g.E.Entry.terms l.entries) l.members l.part (l.window.last + 1) l.window.first l.first l.stretches.items;
-}
-
-abbrev pub decreases-loop-stretches : goal.decreases-loop-stretches
-decreases-loop-stretches g l = l.window.last - l.first

@@ -1,0 +1,16 @@
+-- The stretches so far are those of the days before `first`, and what is left of the window gets shorter.
+use Rattle.std.proofs.Common.{◌≤◌, ◌+◌, ◌-◌, map}
+use Rattle.cif_calendar.specs.Steps.Standing.{AreAlike}
+use Rattle.cif_calendar.specs.Steps.Stretches.{AreStretches}
+use Rattle.cif_calendar.proofs.stretch.stretches_of_few.Given as goal
+
+abbrev pub invariant-loop-stretches : goal.invariant-loop-stretches
+invariant-loop-stretches g l = record {
+  from : l.window.first ≤ l.first;
+  upto : l.first ≤ l.window.last;
+  alike : AreAlike (map g.E.Entry.terms l.entries) l.members l.alike;
+  stretches : AreStretches (map g.E.Entry.terms l.entries) l.members l.part (l.window.last + 1) l.window.first l.first l.stretches.items;
+}
+
+abbrev pub decreases-loop-stretches : goal.decreases-loop-stretches
+decreases-loop-stretches g l = l.window.last - l.first
