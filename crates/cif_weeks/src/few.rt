@@ -1,7 +1,7 @@
 //! The canonical runs of few records, body by body and without a calendar.
 
 ghost use Rattle.std.specs.Prelude.{◌≡◌, ◌≢◌, ◌<◌, ◌≤◌, ◌↔◌, ◌⊎◌, [], All, IfOk, IsTrue, MatchBool};
-ghost use Rattle.std.specs.Prelude.{ℕ, Some, length, map};
+ghost use Rattle.std.specs.Prelude.{◌∷◌, ℕ, Some, length, map};
 ghost use Rattle.std.specs.List.Sorted.{IsNonDecreasingBy};
 ghost use Rattle.cif_calendar.specs.Source.{body_at};
 ghost use Rattle.cif_weeks.specs.MemberRuns.{AreRunsOfMembers, HaveClash};
@@ -91,15 +91,20 @@ pub(crate) fn source_of<E: Entry>(entries: &[E], spans: &[Span], position: usize
     position
 }
 
-/// The spans of the members that apply in the window, in the order of their first weeks.
-fn spans_of<E: Entry>(entries: &[E], members: &[usize], window: &Window) -> ArrayVec<Span, FEW>
+/// Adds the spans of the members that apply in the window, in the order of their first weeks.
+fn add_spans<E: Entry>(
+    spans: &mut ArrayVec<Span, FEW>,
+    entries: &[E],
+    members: &[usize],
+    window: &Window,
+)
+    requires none { spans.old.items ≡ [] }
     requires positions { All (λ i. i < length entries.now) members.now }
     requires few { length members.now ≤ 8 }
     ensures spans { AreSpansOf (map E.terms entries.now) members.now
-        (window_from window.now.first window.now.last) result.items }
-    ensures order { IsNonDecreasingBy (λ s. s.first_week) result.items }
+        (window_from window.now.first window.now.last) spans.new.items }
+    ensures order { IsNonDecreasingBy (λ s. s.first_week) spans.new.items }
 {
-    let mut spans = ArrayVec::new();
     for position in members {
         let source = source_of(entries, spans.as_slice(), *position);
         if let Some(span) = Span::of(&entries[*position], source, window) {
@@ -109,7 +114,31 @@ fn spans_of<E: Entry>(entries: &[E], members: &[usize], window: &Window) -> Arra
     spans
         .as_mut_slice()
         .sort_unstable_by_key(|span| span.first_week);
-    spans
+}
+
+/// Makes the runs of one record, rising by first date.
+fn add_runs_of_one<E: Entry>(
+    runs: &mut Vec<Run>,
+    entries: &[E],
+    position: usize,
+    window: &Window,
+    form: Form,
+) -> Result<bool, AllocError>
+    requires none { runs.old.items ≡ [] }
+    requires position { position < length entries.now }
+    ensures { IfOk result (λ made. MatchBool made
+        (AreRunsOfMembers form (map E.terms entries.now) (position ∷ [])
+        (window_from window.now.first window.now.last) runs.new.items)
+        (HaveClash (map E.terms entries.now) (position ∷ [])
+        (window_from window.now.first window.now.last))) }
+{
+    let Some(span) = Span::of(&entries[position], position, window) else {
+        return Ok(true);
+    };
+    if span.letter == b'C' {
+        return Ok(true);
+    }
+    add_body_runs(runs, &[span], position, window, form)
 }
 
 /// Makes the runs of the canonical records that say what runs by the entries at `members`, rising by
@@ -136,6 +165,10 @@ pub fn runs_of_few<E: Entry>(
         return Ok(false);
     }
     runs.clear();
-    let spans = spans_of(entries, members, window);
+    if let [position] = members {
+        return add_runs_of_one(runs, entries, *position, window, form);
+    }
+    let mut spans = ArrayVec::new();
+    add_spans(&mut spans, entries, members, window);
     add_all_runs(runs, spans.as_slice(), window, form)
 }

@@ -10,8 +10,8 @@ use Rattle.std.proofs.lemmas.Option.{slice_get-map, slice_get_read}
 use Rattle.cif_weeks.specs.declared.span.Span.{Span}
 use Rattle.cif_weeks.proofs.MemberClash.{spans-permuted}
 use Rattle.cif_weeks.proofs.MemberRuns.{spans-more, spans-same}
-use Rattle.cif_weeks.proofs.few.spans_of.Goals as goal
-use Rattle.cif_weeks.proofs.few.spans_of.Goals.{in-Some, in_default}
+use Rattle.cif_weeks.proofs.few.add_spans.Goals as goal
+use Rattle.cif_weeks.proofs.few.add_spans.Goals.{in-Some, in_default}
 
 pub source_of-source-requires-clause-sources : goal.source_of-source-requires-clause-sources
 source_of-source-requires-clause-sources g c =
