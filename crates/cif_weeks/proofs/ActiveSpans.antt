@@ -1,11 +1,10 @@
--- The spans that may not have ended by a week. On the days of some weeks those of them that have begun are all that count.
+-- The spans that may not have ended by a week. On the days of these weeks they are all that count.
 use Rattle.std.proofs.Common.{◌≡◌, ◌⊎◌, inl, inr, ℕ, ◌-◌, ◌<◌, ◌≤◌, List, [], ◌∷◌, length, take, drop, get_or}
-use Rattle.std.proofs.Common.{refl, sym, ◌∙◌, ap, subst, arith, ⊎_elim}
+use Rattle.std.proofs.Common.{refl, sym, ap, subst, arith, ⊎_elim}
 use Rattle.std.specs.Prelude.{Contains}
 use Rattle.std.specs.List.Sorted.{IsNonDecreasingBy}
 use Rattle.std.proofs.lemmas.Bool.{cases_lt}
-use Rattle.std.proofs.lemmas.List.{get_or-take, get_or_read_under, length-take, take-append-drop, take_all}
-use Rattle.std.proofs.lemmas.List.Elements.{Contains-append_left}
+use Rattle.std.proofs.lemmas.List.{get_or_read_under, take_all}
 use Rattle.std.proofs.lemmas.List.Sorted.{IsNonDecreasingBy-drop}
 use Rattle.cif_columns.specs.Day.{week_of}
 use Rattle.cif_calendar.proofs.Elements.{Contains-cases, Contains-rest}
@@ -130,20 +129,9 @@ module _ {spans left : List Span} {week last : ℕ} (h : AreLeft spans left week
       (λ from. absurd (⊎_elim (λ (k, below, is). omega arith) (λ gone. gone n on.leads.has from upto) (h.all on.it on.listed)))
       (cases_lt (week_of n) week)
 
-  -- up to the week before the next one begins, those that have begun are all that count
-  pub begun-same : (count until : ℕ) → until ≤ last → ((d : Span) → count < length left → until < (get_or left count d).first_week) →
-      (n : ℕ) → week ≤ week_of n → week_of n ≤ until → SameOn (take count left) spans n
-  begun-same count until within next n from upto = record {
-    some = λ s listed.
-        h.some s (subst (λ v. Contains v s) (take-append-drop count left) (Contains-append_left (take count left) _ s listed));
-    all = λ s listed has. ⊎_elim
-        (λ (k, below, is). ⊎_elim
-        (λ less. (k, (let long = length-take count left in omega arith), get_or-take count left k s less ∙ is))
-        (λ later.
-        let rises = h.order count k s later below in
-        let at : (get_or left k s).first_week ≡ s.first_week = ap (λ (v : Span). v.first_week) is in
-        absurd (omega (arith, next s (omega arith), has.from)))
-        (cases_lt k count))
-        (λ gone. absurd (gone n has from (omega arith)))
-        (h.all s listed);
+  -- on such a day those that are left are all that count
+  pub left-same : (n : ℕ) → week ≤ week_of n → week_of n ≤ last → SameOn left spans n
+  left-same n from upto = record {
+    some = h.some;
+    all = λ s listed has. ⊎_elim (λ here. here) (λ gone. absurd (gone n has from upto)) (h.all s listed);
   }

@@ -3,7 +3,8 @@ use Rattle.std.proofs.Common.{◌≡◌, ◌≢◌, ◌⊎◌, inl, inr, ◌↔�
 use Rattle.std.proofs.Common.{refl, sym, ◌∙◌, ap, subst, arith, ⊎_elim}
 use Rattle.std.specs.Prelude.{Contains}
 use Rattle.std.proofs.lemmas.Bool.{cases_lt}
-use Rattle.std.proofs.lemmas.List.{get_or_default, take_more}
+use Rattle.std.specs.List.Sorted.{IsNonDecreasingBy}
+use Rattle.std.proofs.lemmas.List.{get_or-take, get_or_default, get_or_read_under, length-take, take-append-drop, take_all, take_more}
 use Rattle.std.proofs.lemmas.List.Elements.{Contains-append_left, Contains-push, Contains-push_cases}
 use Rattle.cif_columns.specs.Day.{week_of, weekday_of}
 use Rattle.cif_columns.specs.DaysRun.{RunsOn}
@@ -128,6 +129,58 @@ module _ {Is : Span → Type 0} {On : Span → ℕ → Type 0} {p : List Span} (
           (λ new. k new.0 n begun unfinished new.1)
           (old_or_new n has);
     }
+
+-- the spans from number k on begin after week `last`
+abbrev pub AreLater : List Span → ℕ → ℕ → Type 0
+AreLater spans k last = (s : Span) → Contains spans s → Contains (take k spans) s ⊎ (last < s.first_week)
+
+pub later-none : (spans : List Span) (k last : ℕ) → length spans ≤ k → AreLater spans k last
+later-none spans k last all s listed = inl (subst (λ v. Contains v s) (sym (take_all k spans all)) listed)
+
+pub later-rest : (spans : List Span) (k last : ℕ) (t : Span) → IsNonDecreasingBy (λ s. s.first_week) spans → k < length spans
+    → t ≡ get_or spans k t → last < t.first_week → AreLater spans k last
+later-rest spans k last t order below is after s (j, within, at) = ⊎_elim
+    (λ less. inl (j, (let long = length-take k spans in omega arith), get_or-take k spans j s less ∙ at))
+    (λ from.
+    let rises = order k j s from within in
+    let first = ap (λ (v : Span). v.first_week) (get_or_read_under spans k (length spans) t s is below refl) in
+    let here = ap (λ (v : Span). v.first_week) at in
+    inr (omega arith))
+    (cases_lt j k)
+
+-- so they have no day in the weeks up to then
+module _ {Is : Span → Type 0} {On : Span → ℕ → Type 0} (has : (s : Span) (n : ℕ) → On s n → HasDay s n) (spans : List Span) (k last : ℕ)
+    (later : AreLater spans k last) where
+  some-first : (n : ℕ) → week_of n ≤ last → SomeOf Is On spans n → SomeOf Is On (take k spans) n
+  some-first n upto s = record {
+    it = s.it;
+    listed = ⊎_elim (λ first. first) (λ after. absurd (omega (arith, (has s.it n s.on).from))) (later s.it s.listed);
+    is = s.is;
+    on = s.on;
+  }
+
+  pub some-all : {week until : ℕ} {days : List Bool}
+      → HaveOneMask (SomeOf Is On (take k spans)) week until (record { days = days; last = last })
+      → HaveOneMask (SomeOf Is On spans) week until (record { days = days; last = last })
+  some-all h = record {
+    from = h.from;
+    upto = h.upto;
+    masks = λ v begun unfinished.
+        let m = h.masks v begun unfinished in
+        record {
+          seven = m.seven;
+          shows = λ n at s. m.shows n at (some-first n (omega arith) s);
+          only = λ w runs.
+              let (n, at, day, s) = m.only w runs in
+              let listed = subst (λ p. Contains p s.it) (take-append-drop k spans) (Contains-append_left (take k spans) _ s.it s.listed) in
+              (n, at, day, record { it = s.it; listed = listed; is = s.is; on = s.on });
+        };
+  }
+
+  pub some-agreed : {p : List Span} {week : ℕ} {days : List Bool}
+      → AgreeOn p (SomeOf Is On (take k spans)) week (record { days = days; last = last })
+      → AgreeOn p (SomeOf Is On spans) week (record { days = days; last = last })
+  some-agreed a = record { agreed = λ n begun unfinished s. a.agreed n begun unfinished (some-first n unfinished s) }
 
 -- the days on which a source is shown are those on which one of its spans leads
 module _ {spans : List Span} {source week : ℕ} {it : Weeks} where

@@ -3,7 +3,7 @@
 
 ghost use Rattle.std.specs.Prelude.{◌≡◌, ◌≢◌, ◌<◌, ◌≤◌, ◌+◌, ◌*◌, ◌++◌, Contains, IfNone, IfOk};
 ghost use Rattle.std.specs.Prelude.{IfSome, MatchBool, ℕ, List, length};
-ghost use Rattle.std.specs.List.Sorted.{IsNonDecreasingBy, IsPartitionPoint};
+ghost use Rattle.std.specs.List.Sorted.{IsNonDecreasingBy};
 ghost use Rattle.cif_columns.specs.Day.{IsDay, week_of};
 ghost use Rattle.cif_weeks.specs.Steps.BodyRuns.{AreGrownTo, AreRunsOfBody};
 ghost use Rattle.cif_weeks.specs.Steps.Spans.{AgreeOn, HaveOneMask, IsDisputed, Leads, Shows};
@@ -30,9 +30,11 @@ fn day_of(week: u32, weekday: u8) -> Day
 }
 
 /// The week, and those after it up to `until` in which the span leads on the same weekdays. `None` if
-/// a span with another body leads on one of these dates too.
+/// a span with another body leads on one of these dates too. The spans are in the order of their first
+/// weeks; those that begin later aren't looked at.
 fn weeks_led(spans: &[Span], span: &Span, week: u32, until: u32) -> Option<Weeks>
     requires listed { Contains spans.now span.now }
+    requires order { IsNonDecreasingBy (λ s. s.first_week) spans.now }
     requires in_order { week ≤ until }
     requires in_range { until < 65536 }
     ensures weeks { IfSome result
@@ -47,6 +49,9 @@ fn weeks_led(spans: &[Span], span: &Span, week: u32, until: u32) -> Option<Weeks
     let mut rivals = no_days();
     let letter = span.letter;
     for other in spans {
+        if last < other.first_week {
+            break;
+        }
         let other_letter = other.letter;
         if other_letter < letter {
             let weeks = other.weeks_from(week, last);
@@ -69,6 +74,7 @@ fn weeks_led(spans: &[Span], span: &Span, week: u32, until: u32) -> Option<Weeks
 /// The week, and those after it up to `until` in which the body at `source` is shown on the same
 /// weekdays. `None` if another body leads on one of these dates too.
 fn weeks_shown(spans: &[Span], source: usize, week: u32, until: u32) -> Option<Weeks>
+    requires order { IsNonDecreasingBy (λ s. s.first_week) spans.now }
     requires in_order { week ≤ until }
     requires in_range { until < 65536 }
     ensures weeks { IfSome result (HaveOneMask (Shows spans.now source) week until) }
@@ -83,6 +89,9 @@ fn weeks_shown(spans: &[Span], source: usize, week: u32, until: u32) -> Option<W
     let mut days = no_days();
     let mut last = until;
     for span in spans {
+        if last < span.first_week {
+            break;
+        }
         if span.source == source {
             let weeks = weeks_led(spans, span, week, last)?;
             days = days.union(weeks.days);
@@ -157,21 +166,6 @@ fn weeks_of(spans: &[Span], source: usize) -> (u32, u32)
     (first, last)
 }
 
-/// How many of the spans, which are in the order of their first weeks, begin by the week.
-fn count_begun(spans: &[Span], week: u32) -> usize
-    requires { IsNonDecreasingBy (λ s. s.first_week) spans.now }
-    ensures begun { IsPartitionPoint (λ s. s.first_week ≤ week) (λ s. week < s.first_week)
-        spans.now result }
-    ensures count { result ≤ length spans.now }
-{
-    for (count, span) in spans.iter().enumerate() {
-        if week < span.first_week {
-            return count;
-        }
-    }
-    spans.len()
-}
-
 /// Adds the runs of the body at `source`. The spans are in the order of their first weeks. `false` if
 /// another body leads on one of its dates too.
 pub(crate) fn add_body_runs(
@@ -199,12 +193,7 @@ pub(crate) fn add_body_runs(
         if last.min(span.last_week) < from {
             left = after;
         } else {
-            let count = count_begun(left, from);
-            let until = match left.get(count) {
-                Some(next) => last.min(next.first_week - 1),
-                None => last,
-            };
-            let Some(weeks) = weeks_shown(&left[..count], source, from, until) else {
+            let Some(weeks) = weeks_shown(left, source, from, last) else {
                 return Ok(false);
             };
             let next = weeks.last + 1;

@@ -1,18 +1,16 @@
--- While spans are left: one has ended (`left-fewer`), or the weeks are done until the next begins (`mask-all`, `agree-all`). Then the
--- runs are made (`body-made`).
-use Rattle.std.proofs.Common.{inl, [], sym, ◌∙◌, ◌+◌, ◌<◌, ◌≤◌, ℕ, length, take, get_or, ap, arith, ⊎_elim}
+-- While spans are left: one has ended (`left-fewer`), or weeks are done in which they have one mask (`mask-all`, `agree-all`). Then
+-- the runs are made (`body-made`).
+use Rattle.std.proofs.Common.{inl, [], sym, ◌∙◌, ◌+◌, ◌<◌, ◌≤◌, ℕ, arith, ⊎_elim}
 use Rattle.std.proofs.lemmas.Bool.{cases_lt}
-use Rattle.std.proofs.lemmas.List.{length-take}
 use Rattle.cif_columns.specs.Day.{week_of}
 use Rattle.cif_weeks.specs.Window.{window_from}
 use Rattle.cif_weeks.specs.Steps.Spans.{Shows}
-use Rattle.cif_weeks.specs.declared.span.Span.{Span}
-use Rattle.cif_weeks.proofs.ActiveSpans.{SameOn, agree-all, begun-same, disputed-all, left-fewer, left-later, mask-all}
+use Rattle.cif_weeks.proofs.ActiveSpans.{SameOn, agree-all, disputed-all, left-fewer, left-later, left-same, mask-all}
 use Rattle.cif_weeks.proofs.ActiveSpans.{none-after, none-before}
 use Rattle.std.proofs.lemmas.List.{append-nil}
 use Rattle.cif_weeks.proofs.BodyRuns.{body-idle, body-made}
 use Rattle.cif_weeks.proofs.body_runs.add_body_runs.Goals as goal
-use Rattle.cif_weeks.proofs.body_runs.add_body_runs.Goals.{Joined-get, in-Some, in-None}
+use Rattle.cif_weeks.proofs.body_runs.add_body_runs.Goals.{Else-min-from}
 
 pub loop-left-init : goal.loop-left-init
 loop-left-init c = record {
@@ -20,36 +18,6 @@ loop-left-init c = record {
   agreed = λ n less on. absurd (omega (arith, (c.weeks_of-first.ensures.weeks n on).0, less));
   left = record { some = λ s listed. listed; all = λ s listed. inl listed; order = c.requires.order };
 }
-
--- until then the next one doesn't begin
-until-below : (c : Joined-get) → (d : Span) → c.count_begun-count.result < length c.loop-left.left.now →
-    c.match-get.until < (get_or c.loop-left.left.now c.count_begun-count.result d).first_week
-until-below c d below =
-    let later = c.count_begun-count.ensures.begun.1 c.count_begun-count.result d (omega arith) below in
-    elim c.match-get.branch [
-      | in-Some w ↦
-          let next = ap (λ (s : Span). s.first_week) (w.in-Some.ensures.lookup.3.1 d) in
-          omega arith
-      | in-None w ↦ absurd (omega (arith, w.in-None.ensures.lookup.3))
-    ]
-
--- these are weeks up to the last one
-until-within : (c : Joined-get) → (c.max-from.result ≤ c.match-get.until) × (c.match-get.until ≤ c.weeks_of-first.result.1)
-until-within c = elim c.match-get.branch [
-  | in-Some w ↦
-      let s = w.in-Some.next.now in
-      let found = w.in-Some.ensures.lookup.3 in
-      let later = c.count_begun-count.ensures.begun.1 c.count_begun-count.result s (omega arith) found.0 in
-      let next = ap (λ (s : Span). s.first_week) (found.1 s) in
-      (omega (arith, c.if-min-from.false), omega arith)
-  | in-None w ↦ (omega (arith, c.if-min-from.false), omega arith)
-]
-
--- so on each day of these weeks the spans that have begun are all that count
-same : (c : Joined-get) → (n : ℕ) → c.max-from.result ≤ week_of n → week_of n ≤ c.match-get.until →
-    SameOn (take c.count_begun-count.result c.loop-left.left.now) c.args.spans.now n
-same c = begun-same (left-later c.loop-left.invariant.left c.max-from.result (omega (arith, c.max-from.ensures)))
-    c.count_begun-count.result c.match-get.until (until-within c).1 (until-below c)
 
 pub loop-left-preserved-then-min-from : goal.loop-left-preserved-then-min-from
 loop-left-preserved-then-min-from c =
@@ -61,26 +29,26 @@ loop-left-preserved-then-min-from c =
           (λ n has from upto. omega (arith, has.from, has.upto, c.if-min-from.true, c.max-from.ensures));
     }
 
-pub slice_bounds-weeks_shown-end : goal.slice_bounds-weeks_shown-end
-slice_bounds-weeks_shown-end c =
-    let long = length-take c.count_begun-count.result c.loop-left.left.now in
-    omega (arith, c.count_begun-count.ensures.count)
+-- in these weeks the spans that are left are all that count
+same : (c : Else-min-from) → (n : ℕ) → c.max-from.result ≤ week_of n → week_of n ≤ c.weeks_of-first.result.1 →
+    SameOn c.loop-left.left.now c.args.spans.now n
+same c = left-same (left-later c.loop-left.invariant.left c.max-from.result (omega (arith, c.max-from.ensures)))
 
 pub returns-in_default-weeks_shown : goal.returns-in_default-weeks_shown
 returns-in_default-weeks_shown c =
-    let j = (goal.at.returns-in_default-weeks_shown c).Joined-get in
+    let j = (goal.at.returns-in_default-weeks_shown c).Else-min-from in
     let (n, at, disputed) = c.in_default-weeks_shown.ensures.disputed in
-    (n, disputed-all (same j n (omega arith) (omega (arith, (until-within j).0))) disputed)
+    (n, disputed-all (same j n (omega arith) (omega (arith, c.if-min-from.false))) disputed)
 
 pub grow-requires-clause-weeks : goal.grow-requires-clause-weeks
-grow-requires-clause-weeks c = mask-all (same (goal.at.grow-requires-clause-weeks c).Joined-get) c.in-Some-weeks_shown.ensures.weeks
+grow-requires-clause-weeks c = mask-all (same (goal.at.grow-requires-clause-weeks c).Else-min-from) c.in-Some.ensures.weeks
 
 pub loop-left-preserved : goal.loop-left-preserved
 loop-left-preserved c =
-    let j = (goal.at.loop-left-preserved c).Joined-get in
+    let j = (goal.at.loop-left-preserved c).Else-min-from in
     let a = c.args in
     let i = c.loop-left.invariant in
-    let shown = c.in-Some-weeks_shown.ensures in
+    let shown = c.in-Some.ensures in
     let later = c.max-from.ensures in
     let none = λ (n : ℕ) (from : c.loop-left.week ≤ week_of n) (less : week_of n < c.max-from.result)
     (shows : Shows a.spans.now a.source n). none-before i.left c.span-item.result c.in-len1-up.len_at_least c.span-item.is n from
@@ -99,7 +67,7 @@ loop-left-preserved c =
           (λ begun. agree-all (same j) shown.weeks shown.agreed n begun (omega arith) shows)
           (cases_lt (week_of n) c.max-from.result))
           (cases_lt (week_of n) c.loop-left.week);
-      left = left-later i.left (c.in-Some-weeks_shown.weeks.last + 1) (omega (arith, shown.weeks.from));
+      left = left-later i.left (c.in-Some.weeks.last + 1) (omega (arith, shown.weeks.from));
     }
 
 pub returns : goal.returns

@@ -1,8 +1,9 @@
--- A span is over this one, or its rival, or neither.
+-- A span is over this one, or its rival, or neither. Those that aren't looked at have no day in these weeks (`some-all`).
 use Rattle.std.proofs.Common.{arith}
-use Rattle.std.proofs.lemmas.List.{take_all}
-use Rattle.cif_weeks.proofs.Spans.{take_next, some-more, some-same, led-weeks, led-agreed, led-disputed}
+use Rattle.cif_weeks.proofs.Spans.{AreLater, later-none, later-rest, take_next, some-all, some-more, some-same}
+use Rattle.cif_weeks.proofs.Spans.{led-weeks, led-agreed, led-disputed}
 use Rattle.cif_weeks.proofs.body_runs.weeks_led.Goals as goal
+use Rattle.cif_weeks.proofs.body_runs.weeks_led.Goals.{After-fits, else-loop-other-test, then-loop-other-test+then-last-other}
 use Rattle.cif_weeks.proofs.body_runs.weeks_led.Goals.{then-other_letter-letter}
 use Rattle.cif_weeks.proofs.body_runs.weeks_led.Goals.{else-other_letter-letter+then-other_letter-letter-2+then-other-span}
 use Rattle.cif_weeks.proofs.body_runs.weeks_led.Goals.{else-other_letter-letter+else-other_letter-letter-2}
@@ -41,20 +42,31 @@ loop-other-preserved c =
           })
     ]
 
+-- those that weren't looked at begin later
+later : (c : After-fits) → AreLater c.args.spans.now c.loop-other.other-index c.loop-other.last
+later c = elim c.loop-other-test.branch [
+  | else-loop-other-test w ↦ later-none c.args.spans.now c.loop-other.other-index c.loop-other.last (omega (arith, w.loop-other-test.false))
+  | then-loop-other-test+then-last-other w ↦ later-rest c.args.spans.now c.loop-other.other-index c.loop-other.last w.other-item.result
+      c.requires.order w.loop-other-test.true w.other-item.is w.if-last-other.true
+]
+
 pub returns-in-None-clause-weeks : goal.returns-in-None-clause-weeks
 returns-in-None-clause-weeks c =
-    let l = rw (take_all c.loop-other.other-index c.args.spans.now c.loop-other-test.false) at c.loop-other.invariant in
-    led-weeks c.weeks_from-own.ensures l.over c.fits.ensures c.minus-days.ensures
+    let here = (goal.at.returns-in-None-clause-weeks c).After-fits in
+    led-weeks c.weeks_from-own.ensures (some-all (λ s n on. on) c.args.spans.now _ _ (later here) c.loop-other.invariant.over) c.fits.ensures
+    c.minus-days.ensures
 
 pub returns-in-None-clause-agreed : goal.returns-in-None-clause-agreed
 returns-in-None-clause-agreed c =
-    let l = rw (take_all c.loop-other.other-index c.args.spans.now c.loop-other-test.false) at c.loop-other.invariant in
-    led-agreed c.weeks_from-own.ensures l.over c.fits.ensures c.minus-days.ensures l.rivals
+    let here = (goal.at.returns-in-None-clause-agreed c).After-fits in
+    led-agreed c.weeks_from-own.ensures (some-all (λ s n on. on) c.args.spans.now _ _ (later here) c.loop-other.invariant.over) c.fits.ensures
+    c.minus-days.ensures (some-all (λ s n on. on) c.args.spans.now _ _ (later here) c.loop-other.invariant.rivals)
     (λ w both. c.in-None.ensures.none w ((c.intersection.ensures.runs w).1 both)) c.requires.listed
 
 pub returns-in-Some-clause-disputed : goal.returns-in-Some-clause-disputed
 returns-in-Some-clause-disputed c =
-    let l = rw (take_all c.loop-other.other-index c.args.spans.now c.loop-other-test.false) at c.loop-other.invariant in
+    let here = (goal.at.returns-in-Some-clause-disputed c).After-fits in
     let both = (c.intersection.ensures.runs c.in-Some.field-0).0 c.in-Some.ensures.found.runs in
-    led-disputed (led-weeks c.weeks_from-own.ensures l.over c.fits.ensures c.minus-days.ensures) l.rivals c.in-Some.field-0
-    both.0 both.1 c.requires.listed
+    led-disputed (led-weeks c.weeks_from-own.ensures (some-all (λ s n on. on) c.args.spans.now _ _ (later here) c.loop-other.invariant.over) c.fits.ensures
+    c.minus-days.ensures) (some-all (λ s n on. on) c.args.spans.now _ _ (later here) c.loop-other.invariant.rivals) c.in-Some.field-0 both.0 both.1
+    c.requires.listed

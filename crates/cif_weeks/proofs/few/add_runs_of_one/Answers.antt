@@ -1,5 +1,5 @@
 -- The runs of one span (`runs-of_one`, `runs-of_idle`), or of none, are those of the member.
-use Rattle.std.proofs.Common.{◌≡◌, ◌∷◌, ◌++◌, [], List, map, subst, sym, ap, ◌∙◌}
+use Rattle.std.proofs.Common.{◌∷◌, ◌++◌, [], List, map, subst, sym, ap, ◌∙◌}
 use Rattle.std.proofs.lemmas.Result.{IfOk-weaker}
 use Rattle.cif_calendar.proofs.Positions.{AreLawful-chosen}
 use Rattle.cif_calendar.proofs.Winning.{terms_at}
