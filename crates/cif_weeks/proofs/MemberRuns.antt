@@ -1,7 +1,7 @@
 -- The spans of members, and from their runs the members' canonical records.
-use Rattle.std.proofs.Common.{◌≡◌, ◌≢◌, ◌⊎◌, inl, inr, ℕ, Bool, false, true, List, [], ◌∷◌, ◌++◌, Option, None, Some}
+use Rattle.std.proofs.Common.{◌≡◌, ◌≢◌, ◌⊎◌, inl, inr, ℕ, false, true, List, [], ◌∷◌, ◌++◌, Option, None, Some}
 use Rattle.std.proofs.Common.{arith, refl, sym, ◌∙◌, ap, subst, ⊎_elim}
-use Rattle.std.specs.Prelude.{Contains, MatchBool, slice_get}
+use Rattle.std.specs.Prelude.{Contains, slice_get}
 use Rattle.std.specs.Option.{is_some, option_and_then}
 use Rattle.std.proofs.lemmas.List.Elements.{All-contains, Contains-append_left, Contains-push, Contains-push_cases}
 use Rattle.std.proofs.lemmas.Option.{same_Some}
@@ -23,7 +23,6 @@ use Rattle.cif_weeks.specs.declared.span.Span.{Span}
 use Rattle.cif_weeks.proofs.JoinedLists.{zip-with}
 use Rattle.cif_weeks.proofs.MemberClash.{leads-winner}
 use Rattle.cif_weeks.proofs.Meeting.{have_form, say}
-use Rattle.cif_weeks.proofs.RisingLists.{Contains-none}
 use Rattle.cif_weeks.proofs.SpanRecords.{HaveBodies, IsBodysRun, Shown, in-order, one-body, records-of, records-rising}
 
 -- one member more, at this position, and the spans before it
@@ -115,27 +114,6 @@ module _ {B : Type 0} (xs : List (Terms B)) (members : List ℕ) (window : Windo
           (source-cases t in_t))
           (source-cases s in_s);
     }
-
--- the spans of one member
-module _ {B : Type 0} (xs : List (Terms B)) (window : Window) (position : ℕ) (r : Terms B) (at : slice_get xs position ≡ Some r) where
-  spans-none : AreSpansOf xs [] window []
-  spans-none = record {
-    each = λ s listed. absurd (Contains-none s listed);
-    all = λ t n chosen. absurd (Contains-none chosen.position chosen.member);
-    one_source = λ s t in_s. absurd (Contains-none s in_s);
-  }
-
-  pub spans-of_one : (span : Span) → IsSpanOf window r span → span.source ≡ position → AreSpansOf xs (position ∷ []) window (span ∷ [])
-  spans-of_one span of is = spans-more xs [] window [] spans-none position r at span of (ap (λ i. body_at xs (Some i)) is)
-      (inr (is, λ k d below. absurd (omega arith)))
-
-  pub spans-of_idle : ((n : ℕ) → IsWithin window n → ¬ Applies r n) → AreSpansOf xs (position ∷ []) window []
-  spans-of_idle = spans-same xs [] window [] spans-none position r at
-
--- what both sides of a test say, said otherwise
-pub either : {P Q R S : Type 0} (made : Bool) → (P → R) → (Q → S) → MatchBool made P Q → MatchBool made R S
-either true f g h = f h
-either false f g h = g h
 
 is-C : (s : Stp) → letter s ≡ letter C → s ≡ C
 is-C C same = refl

@@ -17,7 +17,8 @@ use Rattle.cif_weeks.specs.Steps.BodyRuns.{AreRunsOfBody, HasBody, HasSource}
 use Rattle.cif_weeks.specs.Steps.PieceSpans.{AreBySource}
 use Rattle.cif_weeks.specs.Steps.Spans.{IsAgreed, IsDisputed, Shows}
 use Rattle.cif_weeks.proofs.Cuts.{Contains-take, cut-cases, cut-first, cut-rest, take-contains}
-use Rattle.cif_weeks.proofs.SpanRuns.{AreRunsOf, runs-empty, runs-joined, runs-of_body, runs-over}
+use Rattle.cif_weeks.proofs.RisingLists.{Contains-none}
+use Rattle.cif_weeks.proofs.SpanRuns.{AreRunsOf, runs-joined, runs-of_body, runs-over}
 use Rattle.cif_weeks.proofs.WeekDays.{same_or_other}
 
 -- the source isn't after this one, or it is
@@ -152,7 +153,13 @@ module _ (left : List Span) (span : Span) (count : ℕ) (order : AreBySource lef
 module _ (form : Form) (window : Window) (spans : List Span) where
   -- at first all are left
   pub runs-none : AreRunsOf form window spans (HasNot spans) []
-  runs-none = runs-empty form window spans (λ i n none shows. none shows.it shows.listed shows.is)
+  runs-none = record {
+    each = λ r listed. absurd (Contains-none r listed);
+    once = λ i j d less within. absurd (omega arith);
+    apart = λ r s in_r. absurd (Contains-none r in_r);
+    complete = λ i n none shows. absurd (none shows.it shows.listed shows.is);
+    agreed = λ i n none shows. absurd (none shows.it shows.listed shows.is);
+  }
 
   -- at the end none is
   pub runs-all : (left : List Span) (runs : List Run) → All HasBody spans → length left < 1 →

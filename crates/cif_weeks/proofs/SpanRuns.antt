@@ -1,7 +1,6 @@
 -- The runs of few records: those of one source after another.
 use Rattle.std.proofs.Common.{◌≡◌, ◌≢◌, ◌⊎◌, inl, inr, ℕ, ◌+◌, ◌<◌, ◌≤◌, ◌==◌, Bool, false, List, [], ◌∷◌, ◌++◌, reverse, get_or}
-use Rattle.std.proofs.Common.{◌-◌, length, arith, refl, sym, ◌∙◌, ap, subst, ⊎_elim}
-use Rattle.std.proofs.lemmas.List.{get_or-reverse, length-reverse, reverse-reverse}
+use Rattle.std.proofs.Common.{arith, refl, sym, ◌∙◌, ap, subst, ⊎_elim}
 use Rattle.std.specs.Prelude.{All, AllPairs, Contains, IsPermutation}
 use Rattle.std.specs.List.Sorted.{IsNonDecreasingBy}
 use Rattle.std.proofs.lemmas.Bool.{cases_lt}
@@ -119,31 +118,6 @@ module _ (form : Form) (window : Window) (spans : List Span) where
           agreed = λ i n is shows. h.agreed n (subst (λ v. Shows spans v n) (sym is) shows);
         })
 
-    -- they rise by first date
-    pub body-rising : (added : List Run) → AreRunsOfBody form window spans source added → IsNonDecreasingBy (λ (r : Run). r.first) added
-    body-rising added h i j d upto below =
-        let xs = reverse added in
-        let long = length-reverse added in
-        let at = λ (k : ℕ) (within : k < length xs).
-        ap (λ ys. (get_or ys k d).first) (sym (reverse-reverse added)) ∙ ap (λ (r : Run). r.first) (get_or-reverse xs k d within) in
-        ⊎_elim
-        (λ less.
-        let near = body_apart h.limit xs h.body_runs (length xs - 1 - j) (length xs - 1 - i) d (omega arith) (omega arith) in
-        let b = (body_run h.limit xs h.body_runs (get_or xs (length xs - 1 - i) d) (Contains-get_or xs _ d (omega arith))).2 in
-        omega (arith, near.before, b.grown.in_order, at i (omega arith), at j (omega arith)))
-        (λ same. let e : i ≡ j = omega arith in omega (arith, ap (λ k. (get_or added k d).first) e))
-        (cases_lt i j)
-
-  -- no runs, where none of the sources is shown
-  pub runs-empty : {sources : ℕ → Type 0} → ((i n : ℕ) → sources i → ¬ Shows spans i n) → AreRunsOf form window spans sources []
-  runs-empty none = record {
-    each = λ r listed. absurd (Contains-none r listed);
-    once = λ i j d less within. absurd (omega arith);
-    apart = λ r s in_r. absurd (Contains-none r in_r);
-    complete = λ i n of shows. absurd (none i n of shows);
-    agreed = λ i n of shows. absurd (none i n of shows);
-  }
-
   -- the runs of some sources and of others
   pub runs-joined : {some other both : ℕ → Type 0} {xs ys : List Run} → ((i : ℕ) → some i → both i) → ((i : ℕ) → other i → both i) →
       ((i : ℕ) → both i → some i ⊎ other i) → ((i : ℕ) → some i → ¬ other i) → AreRunsOf form window spans some xs →
@@ -223,27 +197,6 @@ module _ (form : Form) (window : Window) (spans : List Span) where
     complete = λ s n listed body. h.complete s.source n (s, listed, body, refl);
     agreed = λ s n listed body. h.agreed s.source n (s, listed, body, refl);
   }
-
--- no runs, without a span
-pub runs-of_none : (form : Form) (window : Window) → AreRunsOfSpans form window [] []
-runs-of_none form window = runs-sorted form window [] (λ i j d upto below. absurd (omega arith))
-    (runs-empty form window [] (λ i n (s, listed, body, is) shows. Contains-none s listed))
-
--- the runs of one span
-module _ (form : Form) (window : Window) (s : Span) where
-  none-yet : AreRunsOf form window (s ∷ []) (HasSource []) []
-  none-yet = runs-empty form window (s ∷ []) (λ i n (t, listed, body, is) shows. Contains-none t listed)
-
-  -- none, if it has no body
-  pub runs-of_idle : ¬ HasBody s → AreRunsOfSpans form window (s ∷ []) []
-  runs-of_idle idle = runs-sorted form window (s ∷ []) (λ i j d upto below. absurd (omega arith))
-      (runs-skipped form window (s ∷ []) [] s none-yet (λ body. absurd (idle body)))
-
-  pub runs-of_one : (added : List Run) → HasBody s → AreRunsOfBody form window (s ∷ []) s.source added →
-      AreRunsOfSpans form window (s ∷ []) added
-  runs-of_one added body runs = runs-sorted form window (s ∷ []) (body-rising form window (s ∷ []) s.source added runs)
-      (runs-added form window (s ∷ []) [] s none-yet body (λ k d below. absurd (omega arith))
-      (runs-of_body form window (s ∷ []) s.source added runs))
 
 -- the same runs, of other spans that show these sources on the same days
 pub runs-over : (form : Form) (window : Window) (p q : List Span) {sources : ℕ → Type 0} {runs : List Run} →

@@ -1,7 +1,7 @@
 //! The canonical runs of few records, body by body and without a calendar.
 
 ghost use Rattle.std.specs.Prelude.{◌≡◌, ◌≢◌, ◌<◌, ◌≤◌, ◌↔◌, ◌⊎◌, [], All, IfOk, IsTrue, MatchBool};
-ghost use Rattle.std.specs.Prelude.{◌∷◌, ℕ, Some, length, map};
+ghost use Rattle.std.specs.Prelude.{ℕ, Some, length, map};
 ghost use Rattle.std.specs.List.Sorted.{IsNonDecreasingBy};
 ghost use Rattle.cif_calendar.specs.Source.{body_at};
 ghost use Rattle.cif_weeks.specs.MemberRuns.{AreRunsOfMembers, HaveClash};
@@ -116,31 +116,6 @@ fn add_spans<E: Entry>(
         .sort_unstable_by_key(|span| span.first_week);
 }
 
-/// Makes the runs of one record, rising by first date.
-fn add_runs_of_one<E: Entry>(
-    runs: &mut Vec<Run>,
-    entries: &[E],
-    position: usize,
-    window: &Window,
-    form: Form,
-) -> Result<bool, AllocError>
-    requires none { runs.old.items ≡ [] }
-    requires position { position < length entries.now }
-    ensures { IfOk result (λ made. MatchBool made
-        (AreRunsOfMembers form (map E.terms entries.now) (position ∷ [])
-        (window_from window.now.first window.now.last) runs.new.items)
-        (HaveClash (map E.terms entries.now) (position ∷ [])
-        (window_from window.now.first window.now.last))) }
-{
-    let Some(span) = Span::of(&entries[position], position, window) else {
-        return Ok(true);
-    };
-    if span.letter == b'C' {
-        return Ok(true);
-    }
-    add_body_runs(runs, &[span], position, window, form)
-}
-
 /// Makes the runs of the canonical records that say what runs by the entries at `members`, rising by
 /// first date, in place of those that the list has. `false` if there are more than eight members, or
 /// two winners of a date of the window have different bodies: a calendar tells then.
@@ -165,9 +140,6 @@ pub fn runs_of_few<E: Entry>(
         return Ok(false);
     }
     runs.clear();
-    if let [position] = members {
-        return add_runs_of_one(runs, entries, *position, window, form);
-    }
     let mut spans = ArrayVec::new();
     add_spans(&mut spans, entries, members, window);
     add_all_runs(runs, spans.as_slice(), window, form)
