@@ -1,6 +1,6 @@
 -- The six digits that name a day, and the day that six digits name.
 use Rattle.std.proofs.Common.{◌≡◌, ℕ, ◌<◌, List, [], ◌∷◌, length, get_or}
-use Rattle.std.proofs.Common.{Option, Some, None, refl, ◌∙◌, arith, rules}
+use Rattle.std.proofs.Common.{Option, Some, None, IfSome, refl, sym, ◌∙◌, arith, rules}
 use Rattle.std.proofs.lemmas.Slice.Eq.{text_from_reads}
 use Rattle.jiff_core.proofs.CalendarLemmas.{days_in_month_bounds}
 use Rattle.cif_columns.specs.Day.{IsDated, StandsInYymmdd, StandsInDdmmyy, day_number, day_from, yymmdd_in, ddmmyy_in}
@@ -81,3 +81,13 @@ stands-ddmmyy_in columns n width h =
     ∷ get_or columns 1 0 ∷ [] in
     let s = stands-yymmdd_in turned n refl h in
     record { yy = s.yy; month = s.month; day = s.day; spelled = six columns width ∙ cc s.spelled; dated = s.dated }
+
+-- ---- a reading answers what is found
+
+pub yymmdd_found : (day : Option ℕ) (columns : List ℕ) → length columns ≡ 6 → day ≡ yymmdd_in columns → IfSome day (StandsInYymmdd columns)
+yymmdd_found None columns width is = tt
+yymmdd_found (Some n) columns width is = stands-yymmdd_in columns n width (sym is)
+
+pub ddmmyy_found : (day : Option ℕ) (columns : List ℕ) → length columns ≡ 6 → day ≡ ddmmyy_in columns → IfSome day (StandsInDdmmyy columns)
+ddmmyy_found None columns width is = tt
+ddmmyy_found (Some n) columns width is = stands-ddmmyy_in columns n width (sym is)

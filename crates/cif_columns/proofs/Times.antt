@@ -1,6 +1,7 @@
 -- What the form of a time says of its columns, and that the tests of it are right.
 use Rattle.std.proofs.Common.{Bool, ◌&&◌, ◌||◌, ◌≡◌, ℕ, ◌+◌, ◌-◌, ◌*◌, ◌/◌, ◌%◌, ◌<◌, ◌≤◌, ◌⊎◌, inl, inr, true, false, nat_eq, nat_lt}
 use Rattle.std.proofs.Common.{List, [], ◌∷◌, length, get_or, replicate, Some, None, refl, sym, ap, arith, rules, cond, subst}
+use Rattle.std.proofs.lemmas.Bool.{and_parts, eqb-true, ltb-true}
 use Rattle.std.proofs.lemmas.Bool.Decides.{nat_tests}
 use Rattle.std.proofs.lemmas.List.Elements.{All-nil, All-cons, All-append, All-replicate}
 use Rattle.std.proofs.lemmas.Slice.Eq.{text_from_reads}
@@ -26,21 +27,20 @@ pair_of a b la ha lb hb =
 -- columns that pass the test are an hour and a minute
 pub hour_minute : (a b c d : ℕ) → is_clock a b c d ≡ true → IsHourMinute (a ∷ b ∷ c ∷ d ∷ [])
 hour_minute a b c d h =
-    let in_a : is_ascii_digit a ≡ true = grind (arith, nat_tests) in
-    let in_b : is_ascii_digit b ≡ true = grind (arith, nat_tests) in
-    let in_c : is_ascii_digit c ≡ true = grind (arith, nat_tests) in
-    let in_d : is_ascii_digit d ≡ true = grind (arith, nat_tests) in
-    let below : nat_lt ((a - 48) * 10 + (b - 48)) 24 ≡ true = grind (arith, nat_tests) in
-    let minutes : nat_lt ((c - 48) * 10 + (d - 48)) 60 ≡ true = grind (arith, nat_tests) in
-    let da = digit_in a in_a in
-    let db = digit_in b in_b in
-    let dc = digit_in c in_c in
-    let dd = digit_in d in_d in
+    let p = and_parts _ _ h in
+    let q = and_parts _ _ p.0 in
+    let r = and_parts _ _ q.0 in
+    let s = and_parts _ _ r.0 in
+    let t = and_parts _ _ s.0 in
+    let da = digit_in a t.0 in
+    let db = digit_in b t.1 in
+    let dc = digit_in c s.1 in
+    let dd = digit_in d r.1 in
     record {
       hour = (a - 48) * 10 + (b - 48);
       minute = (c - 48) * 10 + (d - 48);
-      hour_in = grind (arith, nat_tests);
-      minute_in = grind (arith, nat_tests);
+      hour_in = ltb-true _ _ q.1;
+      minute_in = ltb-true _ _ p.1;
       spelled = cc (pair_of a b da.0 da.1 db.0 db.1, pair_of c d dc.0 dc.1 dd.0 dd.1);
     }
 
@@ -62,9 +62,8 @@ is_clock-digits hour minute h m =
 blank_is : (columns : List ℕ) → is_blank columns ≡ true → columns ≡ replicate (length columns) 32
 blank_is [] h = refl
 blank_is (c ∷ columns) h =
-    let here : c ≡ 32 = grind (arith, nat_tests) in
-    let rest : is_blank columns ≡ true = grind (arith, nat_tests) in
-    cc (here, blank_is columns rest)
+    let p : (nat_eq c 32 ≡ true) × (is_blank columns ≡ true) = and_parts _ _ h in
+    cc (eqb-true c 32 p.0, blank_is columns p.1)
 
 four : (xs : List ℕ) → length xs ≡ 4 → xs ≡ get_or xs 0 0 ∷ get_or xs 1 0 ∷ get_or xs 2 0 ∷ get_or xs 3 0 ∷ []
 four xs h = text_from_reads xs _ h (search rules)

@@ -1,6 +1,11 @@
--- Facts of the rows of a table, one after another.
+-- Facts of the rows of a table, and of the steps that put them, one after another.
+use Rattle.std.proofs.Common.{◌≡◌, ◌∙◌, ℕ, List, ◌++◌, ap}
 
 infixr 5 ◌&◌
 -- a fact, and those of the rows behind it
 pub ◌&◌ : {A B : Type 0} → A → B → A × B
 a & b = (a, b)
+
+-- a step that puts columns, with the columns before it known
+pub put : {old mid new : List ℕ} (part : List ℕ) → new ≡ mid ++ part → mid ≡ old → new ≡ old ++ part
+put part is before = is ∙ ap (λ (l : List ℕ). l ++ part) before

@@ -1,6 +1,10 @@
-use Rattle.std.proofs.Common.{sym}
+use Rattle.std.proofs.Common.{◌-◌, sym, arith}
+use Rattle.std.proofs.lemmas.Nat.{and_le_l}
 use Rattle.cif_columns.proofs.Flags.{runs-without}
 use Rattle.cif_columns.proofs.days_run.DaysRun.minus.Goals as goal
+
+pub invariant_of-result : goal.invariant_of-result
+invariant_of-result c = omega (arith, c.self.invariant, and_le_l c.self.inside.bits (255 - c.other.inside.bits))
 
 pub returns : goal.returns
 returns c w = rw (sym c.self.view_is, sym c.other.view_is) (runs-without c.self.inside.bits c.other.inside.bits w c.other.invariant)

@@ -1,4 +1,4 @@
--- The last two exits of six: the first reason is found past those checks that went well, which are rewritten one by one.
+-- The last two exits of six, and the end: the first reason is found past those checks that went well, which are rewritten one by one.
 use Rattle.std.proofs.lemmas.Result.{err_from_is_err_and}
 use Rattle.cif_records.specs.Stop.{stop_refusal}
 use Rattle.cif_records.proofs.Judging.{judged_err}
@@ -32,3 +32,16 @@ returns-in_err-public_time_at-2 c =
       c.in_err-public_time_at-2.ensures,
       p.2,
     ))
+
+pub returns : goal.returns
+unfolding stop_refusal
+returns c =
+    let identity = c.in_ok-check_identity.ensures in
+    let arrival = c.in_ok-work_time_at.ensures in
+    let departure = c.in_ok-work_time_at-2.ensures in
+    let pass = c.in_ok-work_time_at-3.ensures in
+    let public_arrival = c.in_ok-public_time_at.ensures in
+    let public_departure = c.in_ok-public_time_at-2.ensures in (
+      rw (identity.0, arrival.0, departure.0, pass.0, public_arrival.0, public_departure.0),
+      (identity.1, arrival.1, departure.1, pass.1, public_arrival.1, public_departure.1),
+    )
