@@ -1,5 +1,5 @@
 -- Two lists are compared key by key, over their positions in the order of their keys.
-use Rattle.std.proofs.Common.{◌≡◌, ◌⊎◌, inl, inr, ℕ, zero, suc, ◌+◌, ◌-◌, ◌<◌, ◌≤◌, List, [], take, drop, length, refl, sym, ap, ◌∙◌}
+use Rattle.std.proofs.Common.{◌≡◌, ◌⊎◌, inl, inr, ℕ, zero, suc, ◌+◌, ◌-◌, ◌<◌, ◌≤◌, List, [], ◌∷◌, take, drop, length, refl, sym, ap, ◌∙◌}
 use Rattle.std.proofs.Common.{⊎_elim, arith, subst, true≢false}
 use Rattle.std.specs.Prelude.{Contains, Option, Some, None, false}
 use Rattle.std.specs.Cmp.{IsTotalOrder, tied_itself}
@@ -12,6 +12,7 @@ use Rattle.std.proofs.lemmas.List.Elements.{All-contains}
 use Rattle.std.proofs.lemmas.List.Elements.{Contains-append_right, Contains-append_cases}
 use Rattle.cif_calendar.specs.Terms.{Terms}
 use Rattle.cif_calendar.specs.Keys.{of_key, ArePositionsOf}
+use Rattle.cif_calendar.specs.Meaning.{EntriesSayTheSame}
 use Rattle.cif_calendar.specs.Runs.{Runs}
 use Rattle.cif_calendar.proofs.Positions.{at-contains}
 use Rattle.cif_weeks.proofs.RisingLists.{Contains-none, not_less}
@@ -163,6 +164,13 @@ module _ {K B : Type 0} (cmp : K → K → Ordering) where
     -- nobody is left where there are no positions
     pub nobody : (k : K) → IsLeft xs [] ys [] k → ⊥
     nobody k = ⊎_elim (λ any. Contains-none any.position any.member) (λ any. Contains-none any.position any.member)
+
+    -- and then the lists say the same of all keys
+    pub all-alike : (l r : List ℕ) → AreAlikeBefore xs ys first last l r → length l ≡ 0 → length r ≡ 0 →
+        EntriesSayTheSame xs ys first last
+    all-alike [] [] a none_l none_r = record { same = λ k d o from upto. a.told k (nobody k) d from upto o }
+    all-alike (i ∷ l) r a none_l none_r = absurd (omega (arith, none_l))
+    all-alike [] (i ∷ r) a none_l none_r = absurd (omega (arith, none_r))
 
     module _ (l r : List ℕ) (Told : K → Type 0) (a : ArePassed xs ys l r Told) (k : K) (f : IsFirstOfBoth cmp xs l ys r k) where
       -- a key before this one isn't left

@@ -97,6 +97,16 @@ placed-same p q place key terms =
     ap (λ n. placed_at n p.key p.terms) place
     ∙ (ap (λ k. placed_at q.place k p.terms) key ∙ ap (λ t. placed_at q.place q.key t) terms)
 
+-- without entries looked at there is no record
+pub placed-nothing : {K B : Type 0} (train_of : K → List ℕ) (entries : List (K × Terms B)) (u : List ℕ) (d : ℕ) →
+    ArePlacedBelow train_of entries u d 0 []
+placed-nothing train_of entries u d = record {
+  found = All-nil _;
+  below = All-nil _;
+  all = λ p is below. absurd (omega (arith, below));
+  rising = λ i j d less within. absurd (omega (arith, within));
+}
+
 module _ {K B : Type 0} (train_of : K → List ℕ) (entries : List (K × Terms B)) (u : List ℕ) (d : ℕ) where
   one-place : (p q : Placed K B) → IsPlaced train_of entries u d p → IsPlaced train_of entries u d q → p.place ≡ q.place → p ≡ q
   one-place p q of_p of_q place =

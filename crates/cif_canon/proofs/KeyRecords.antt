@@ -1,13 +1,10 @@
 -- The runs of a key's calendar are those of the key's canonical records.
-use Rattle.std.proofs.Common.{◌≡◌, ℕ, ◌<◌, ◌≤◌, List, [], ◌∷◌, Some, length, get_or, map, refl, sym, ◌∙◌, ap, subst, arith}
-use Rattle.std.specs.Prelude.{All, Contains, IsNone, slice_get, ◌↔◌}
+use Rattle.std.proofs.Common.{◌≡◌, ℕ, List, [], ◌∷◌, Some, map, sym, ◌∙◌, ap, subst}
+use Rattle.std.specs.Prelude.{All, Contains, IsNone, ◌↔◌}
 use Rattle.std.specs.List.{AllZip}
 use Rattle.std.specs.Option.{option_and_then}
-use Rattle.std.proofs.lemmas.List.Elements.{All-head, All-tail, Contains-get_or}
-use Rattle.std.proofs.lemmas.Option.{slice_get-map}
-use Rattle.std.specs.Prelude.{option_map}
+use Rattle.std.proofs.lemmas.List.Elements.{All-head, All-tail}
 use Rattle.cif_columns.specs.declared.stp.Stp.TheVariants.{C}
-use Rattle.std.proofs.lemmas.Option.{same_Some, slice_get-get_or}
 use Rattle.cif_calendar.specs.Terms.{SameRecords, Terms}
 use Rattle.cif_calendar.specs.Calendar.{CalendarParts, IsCalendar, IsFault, body_on}
 use Rattle.cif_calendar.specs.declared.key_calendar.CalendarFault.{CalendarFault}
@@ -21,7 +18,7 @@ use Rattle.cif_weeks.specs.Canonical.{with_key}
 use Rattle.cif_weeks.specs.HaveForm.{HaveForm}
 use Rattle.cif_weeks.specs.MemberRuns.{AreRunsOfMembers, IsMembersRun}
 use Rattle.cif_weeks.specs.Permanent.{Permanent}
-use Rattle.cif_weeks.specs.Runs.{IsRunOf as IsCalendarRun, AreCanonicalRuns, record_of, window_of}
+use Rattle.cif_weeks.specs.Runs.{IsRunOf as IsCalendarRun, AreCanonicalRuns, window_of}
 use Rattle.cif_weeks.specs.Window.{Window, IsWithin, window_from}
 use Rattle.cif_weeks.specs.declared.form.Form.{Form}
 use Rattle.cif_weeks.specs.declared.run.Run.{Run}

@@ -3,9 +3,12 @@ use Rattle.std.proofs.Common.{◌≡◌, ◌≢◌, ◌≤◌, ℕ, List, [], Op
 use Rattle.std.specs.Prelude.{IfSome, IsErrAnd}
 use Rattle.cif_calendar.proofs.FirstClash.{first_clash-clear}
 use Rattle.cif_columns.specs.Sink.{HasFailed}
+use Rattle.cif_columns.specs.Source.{HasReadOn}
 use Rattle.cif_columns.specs.declared.sink.Sink.{Sink}
+use Rattle.cif_columns.specs.declared.source.Source.{Source}
 use Rattle.cif_columns.proofs.GivenLinesLaws.{known_so}
 use Rattle.cif_extract.specs.ExtractParts.{ExtractParts}
+use Rattle.cif_extract.specs.ReadFault.{FaultReads}
 use Rattle.cif_extract.specs.declared.fault.Clash.{Clash}
 use Rattle.cif_extract.specs.declared.fault.Clash.TheVariants.{Association, Train}
 use Rattle.cif_extract.specs.declared.fault.Fault.{Fault}
@@ -15,7 +18,7 @@ use Rattle.cif_weeks.specs.declared.form.Form.{Form}
 use Rattle.cif_canon.specs.Accepted.{IsAcceptedWithin, IsClearExtract, SpellsNarrowed}
 use Rattle.cif_canon.specs.Asked.{AskedDatesAreWithin, IsNarrowed, IsNarrowingFault, window_asked}
 use Rattle.cif_canon.specs.Canon.{CanonParts, IsCanonOf}
-use Rattle.cif_canon.specs.Fault.{IsCanonFault, IsDeviceOrMemory, IsFirstClashIn, IsNormaliseFault}
+use Rattle.cif_canon.specs.Fault.{IsCanonFault, IsDeviceOrMemory, IsFirstClashIn, IsNormaliseFault, IsOfCheck, IsOfNormalise}
 use Rattle.cif_canon.specs.Normalised.{FaultWrites, IsNormalised, Normalises}
 use Rattle.cif_canon.specs.declared.asked.Asked.{Asked}
 use Rattle.cif_canon.specs.declared.canonical_form.Counts.{Counts}
@@ -123,16 +126,16 @@ pub fault-writes : {W A : Type 0} (contents : W → Option (List ℕ)) (errors :
 fault-writes contents errors text old new result f failed write h =
     subst (FaultWrites contents errors text old new) (sym (failed ∙ ap Err write)) h
 
+unsaid : (bytes : Option (List ℕ)) → IfSome bytes (λ known. Unit {0})
+unsaid (Some known) = tt
+unsaid None = tt
+
 -- a fault before anything is written
 module _ {W : Type 0} (contents : W → Option (List ℕ)) (errors : W → Option ℕ) (start : Option (List ℕ)) (form : Form) (asked : Asked)
     (max : ℕ) (old : Sink W) where
   abbrev IsSilent : Result Counts Fault → Type 0
   IsSilent result = (text : List ℕ) × FaultWrites contents errors text old old result
       × IfSome start (λ bytes. Normalises form asked max bytes text result)
-
-  unsaid : (bytes : Option (List ℕ)) → IfSome bytes (λ known. Unit {0})
-  unsaid (Some known) = tt
-  unsaid None = tt
 
   silent : (f : Fault) → f ≢ fault.Write → IsSilent (Err f)
   silent (fault.Refused line why) other = ([], refl, unsaid start)
@@ -168,3 +171,53 @@ module _ (max : ℕ) (asked : Asked) (start after : Option (List ℕ)) {A : Type
     pub known-canon_accepted : IfSome start (λ bytes. (y : ExtractParts) → IsAcceptedWithin max asked y bytes →
         IfErr result IsDeviceOrMemory)
     known-canon_accepted = known-accepted (known_so start _ _ (λ bytes spelled. canon-fault max asked bytes after x spelled f h) s)
+
+-- ---- a fault of the canonical form says nothing of devices
+
+pub canon-of_check : (max : ℕ) (x : ExtractParts) (f : Fault) → IsCanonFault x f → IsOfCheck max f × IsOfNormalise max f
+canon-of_check max x (fault.Refused line why) h = absurd h
+canon-of_check max x (fault.Ambiguous clash) h = (tt, tt)
+canon-of_check max x fault.WindowsDiffer h = absurd h
+canon-of_check max x fault.OutsideWindow h = absurd h
+canon-of_check max x fault.WindowReversed h = absurd h
+canon-of_check max x fault.Read h = absurd h
+canon-of_check max x fault.Write h = absurd h
+canon-of_check max x fault.Memory h = (tt, tt)
+
+pub canon-reads : {R A : Type 0} (errors : R → Option ℕ) (old new : Source R) (x : ExtractParts) (result : Result A Fault) (f : Fault) →
+    result ≡ Err f → IsCanonFault x f → HasReadOn errors old new → FaultReads errors old new result
+canon-reads {A = A} errors old new x result f is h read = subst (FaultReads errors old new) (sym is) (reads f h)
+  where
+    reads : (f : Fault) → IsCanonFault x f → FaultReads {A = A} errors old new (Err f)
+    reads (fault.Refused line why) h = read
+    reads (fault.Ambiguous clash) h = read
+    reads fault.WindowsDiffer h = read
+    reads fault.OutsideWindow h = read
+    reads fault.WindowReversed h = read
+    reads fault.Read h = absurd h
+    reads fault.Write h = read
+    reads fault.Memory h = read
+
+-- ---- nor does a failure to write
+
+module _ (max : ℕ) (asked : Asked) (start after : Option (List ℕ)) {A : Type 0} (result : Result A Fault)
+    (is : result ≡ Err fault.Write) where
+  pub write-fault : IfSome start (λ bytes. IfErr result (IsNormaliseFault max asked bytes after))
+  write-fault =
+      subst (λ (r : Result A Fault). IfSome start (λ bytes. IfErr r (IsNormaliseFault max asked bytes after))) (sym is) (unsaid start)
+
+  pub write-accepted : IfSome start (λ bytes. (x : ExtractParts) → IsAcceptedWithin max asked x bytes → IfErr result IsDeviceOrMemory)
+  write-accepted =
+      subst (λ (r : Result A Fault). IfSome start (λ bytes. (x : ExtractParts) → IsAcceptedWithin max asked x bytes →
+      IfErr r IsDeviceOrMemory)) (sym is) (whatever start)
+    where
+      whatever : (start : Option (List ℕ)) → IfSome start (λ bytes. (x : ExtractParts) → IsAcceptedWithin max asked x bytes → Unit {0})
+      whatever (Some bytes) = λ x accepted. tt
+      whatever None = tt
+
+  pub write-answers : IfErr result (IsOfNormalise max)
+  write-answers = subst (λ (r : Result A Fault). IfErr r (IsOfNormalise max)) (sym is) tt
+
+  pub write-reads : {R : Type 0} (errors : R → Option ℕ) (old new : Source R) → HasReadOn errors old new →
+      FaultReads errors old new result
+  write-reads errors old new read = subst (FaultReads errors old new) (sym is) read

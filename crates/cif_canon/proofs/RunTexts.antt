@@ -1,9 +1,9 @@
 -- What is written of a run is the text of its record.
-use Rattle.std.proofs.Common.{◌≡◌, ℕ, ◌<◌, List, Option, None, Some, map, length, get_or, refl, sym, ap, ◌∙◌, arith}
+use Rattle.std.proofs.Common.{◌≡◌, ℕ, ◌<◌, ◌≤◌, List, Option, None, Some, map, length, get_or, refl, sym, ap, ◌∙◌, arith, subst}
 use Rattle.std.specs.Prelude.{slice_get}
 use Rattle.std.specs.Option.{option_and_then, option_map}
 use Rattle.std.proofs.lemmas.List.{length-map}
-use Rattle.std.proofs.lemmas.Option.{slice_get_within}
+use Rattle.std.proofs.lemmas.Option.{same_Some, slice_get_within}
 use Rattle.cif_calendar.specs.Terms.{Terms}
 use Rattle.cif_calendar.proofs.Winning.{terms_at}
 use Rattle.cif_weeks.specs.Permanent.{Permanent}
@@ -35,3 +35,27 @@ pub run-text : {X K B : Type 0} (entry : X → K × Terms B) (xs : List X) (run 
 run-text entry xs run x b text h is body =
     ap (text_if text)
     (record-of_entry (map entry xs) run (entry x) b (terms_at entry xs run.source x (record-within entry xs run h) is) body)
+
+-- the value that stands at the source of a run with a record has a body
+pub has-body : {X K B : Type 0} (entry : X → K × Terms B) (xs : List X) (run : Run) (x : X) → HasRecord (map entry xs) run →
+    x ≡ get_or xs run.source x → (entry x).1.body ≡ None → ⊥
+has-body {X} {K} {B} entry xs run x h is none =
+    let e : record_at (map entry xs) run ≡ None =
+    ap (option_and_then (λ (e : K × Terms B). option_map (λ b. (e.0, record_of run b)) e.1.body))
+    (terms_at entry xs run.source x (record-within entry xs run h) is)
+    ∙ ap (option_map (λ b. ((entry x).0, record_of run b))) none in
+    let it = h.is in
+    cc
+
+-- a run with a record doesn't end before it begins
+pub dates-in_order : {K B : Type 0} (entries : List (K × Terms B)) (run : Run) → HasRecord entries run → run.first ≤ run.last
+dates-in_order {K} {B} entries run h = of-entry (slice_get entries run.source) h.is
+  where
+    of-body : (k : K) (o : Option B) → option_map (λ b. (k, record_of run b)) o ≡ Some h.it → run.first ≤ run.last
+    of-body k None e = absurd (cc)
+    of-body k (Some b) e = subst (λ (it : K × Permanent B). it.1.first ≤ it.1.last) (sym (same_Some _ _ e)) h.in_order
+
+    of-entry : (o : Option (K × Terms B)) →
+        option_and_then (λ (e : K × Terms B). option_map (λ b. (e.0, record_of run b)) e.1.body) o ≡ Some h.it → run.first ≤ run.last
+    of-entry None e = absurd (cc)
+    of-entry (Some entry) e = of-body entry.0 entry.1.body e

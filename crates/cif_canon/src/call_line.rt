@@ -1,14 +1,15 @@
 //! The lines of a train's calls.
-ghost use Rattle.std.specs.Prelude.{◌≡◌, ◌+◌, ◌≤◌, ◌++◌, false};
+ghost use Rattle.std.specs.Prelude.{◌≡◌, ◌+◌, ◌≤◌, ◌++◌, ◌∷◌, false, length, map};
 ghost use Rattle.std.specs.List.{flat_map};
 ghost use Rattle.arrayvec.specs.ArrayString.{array_string_len};
+ghost use Rattle.cif_columns.specs.Line.{ArePrintable};
 ghost use Rattle.cif_columns.specs.Sink.{Writes, sink_failed};
 ghost use Rattle.cif_canon.specs.Calls.{call_text, calls_text, origin_fields, stop_fields};
 ghost use Rattle.cif_canon.specs.Calls.{terminus_fields};
 ghost use Rattle.cif_canon.specs.Fields.{line_of};
-ghost use Rattle.cif_canon.specs.Steps.Fields.{row_lines};
+ghost use Rattle.cif_canon.specs.Steps.Fields.{AreFields, row_lines, width};
 
-use crate::layout::{Format, LONGEST, Layout, push_field, started};
+use crate::layout::{Format, LONGEST, Layout, push_fields, started};
 use arrayvec::ArrayString;
 use cif_columns::{Sink, WriteDevice, WriteFault};
 use cif_extract::{Body, Call, Calls};
@@ -21,64 +22,86 @@ const NO_PUBLIC_TIME: &[u8] = b"    ";
 
 const NO_TRACK: &[u8] = b"   ";
 
+/// The line of a call of this kind, with these fields.
+fn call_line(format: Format, kind: &[u8], fields: &[&[u8]]) -> ArrayString<LONGEST>
+    requires kind { ArePrintable kind.now }
+    requires fields { AreFields (map (λ field. field.now) fields.now) }
+    requires room { length kind.now + width (map (λ field. field.now) fields.now) + 1 ≤ LONGEST }
+    ensures { result.bytes ≡ line_of format (kind.now ∷ map (λ field. field.now) fields.now) }
+{
+    let mut line = started(format, kind);
+    push_fields(&mut line, format, fields);
+    line.push_str("\n");
+    line
+}
+
 /// The line of an origin.
 fn origin_line(format: Format, origin: &Origin) -> ArrayString<LONGEST>
     ensures { result.bytes ≡ line_of format (origin_fields origin.now) }
 {
-    let mut line = started(format, b"LO");
-    push_field(&mut line, format, &origin.location.write());
-    push_field(&mut line, format, &origin.suffix.write());
-    push_field(&mut line, format, NO_WORK_TIME);
-    push_field(&mut line, format, &origin.departure.write());
-    push_field(&mut line, format, NO_WORK_TIME);
-    push_field(&mut line, format, NO_PUBLIC_TIME);
-    push_field(&mut line, format, &origin.public_departure.write());
-    push_field(&mut line, format, &origin.platform.write());
-    push_field(&mut line, format, NO_TRACK);
-    push_field(&mut line, format, &origin.line.write());
-    push_field(&mut line, format, &origin.activities.write());
-    line.push_str("\n");
-    line
+    call_line(
+        format,
+        b"LO",
+        &[
+            &origin.location.write(),
+            &origin.suffix.write(),
+            NO_WORK_TIME,
+            &origin.departure.write(),
+            NO_WORK_TIME,
+            NO_PUBLIC_TIME,
+            &origin.public_departure.write(),
+            &origin.platform.write(),
+            NO_TRACK,
+            &origin.line.write(),
+            &origin.activities.write(),
+        ],
+    )
 }
 
 /// The line of a location on the way.
 fn stop_line(format: Format, stop: &Stop) -> ArrayString<LONGEST>
     ensures { result.bytes ≡ line_of format (stop_fields stop.now) }
 {
-    let mut line = started(format, b"LI");
-    push_field(&mut line, format, &stop.location.write());
-    push_field(&mut line, format, &stop.suffix.write());
-    push_field(&mut line, format, &stop.arrival.write());
-    push_field(&mut line, format, &stop.departure.write());
-    push_field(&mut line, format, &stop.pass.write());
-    push_field(&mut line, format, &stop.public_arrival.write());
-    push_field(&mut line, format, &stop.public_departure.write());
-    push_field(&mut line, format, &stop.platform.write());
-    push_field(&mut line, format, &stop.path.write());
-    push_field(&mut line, format, &stop.line.write());
-    push_field(&mut line, format, &stop.activities.write());
-    line.push_str("\n");
-    line
+    call_line(
+        format,
+        b"LI",
+        &[
+            &stop.location.write(),
+            &stop.suffix.write(),
+            &stop.arrival.write(),
+            &stop.departure.write(),
+            &stop.pass.write(),
+            &stop.public_arrival.write(),
+            &stop.public_departure.write(),
+            &stop.platform.write(),
+            &stop.path.write(),
+            &stop.line.write(),
+            &stop.activities.write(),
+        ],
+    )
 }
 
 /// The line of a terminus.
 fn terminus_line(format: Format, terminus: &Terminus) -> ArrayString<LONGEST>
     ensures { result.bytes ≡ line_of format (terminus_fields terminus.now) }
 {
-    let mut line = started(format, b"LT");
-    push_field(&mut line, format, &terminus.location.write());
-    push_field(&mut line, format, &terminus.suffix.write());
-    push_field(&mut line, format, &terminus.arrival.write());
-    push_field(&mut line, format, NO_WORK_TIME);
-    push_field(&mut line, format, NO_WORK_TIME);
-    push_field(&mut line, format, &terminus.public_arrival.write());
-    push_field(&mut line, format, NO_PUBLIC_TIME);
-    push_field(&mut line, format, &terminus.platform.write());
-    push_field(&mut line, format, &terminus.path.write());
-    push_field(&mut line, format, NO_TRACK);
-    push_field(&mut line, format, &terminus.activities.write());
-    line.push_str("\n");
-    line
+    call_line(
+        format,
+        b"LT",
+        &[
+            &terminus.location.write(),
+            &terminus.suffix.write(),
+            &terminus.arrival.write(),
+            NO_WORK_TIME,
+            NO_WORK_TIME,
+            &terminus.public_arrival.write(),
+            NO_PUBLIC_TIME,
+            &terminus.platform.write(),
+            &terminus.path.write(),
+            NO_TRACK,
+            &terminus.activities.write(),
+        ],
+    )
 }
 
 /// Appends what stands before a call's line, and the line.

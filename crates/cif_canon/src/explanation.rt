@@ -17,8 +17,8 @@ ghost use Rattle.cif_canon.specs.declared.layout.Format.TheVariants.{Text};
 use crate::asked::check_within;
 use crate::explained::{ExplainedEntry, Mark, Marked, marked_records};
 use crate::layout::{
-    ASSOCIATION, Format, LONGEST, Layout, heading, push_association, push_field, push_left_out,
-    push_no_association, push_no_train, push_train, started,
+    ASSOCIATION, Format, LONGEST, Layout, heading, push_association, push_field, push_fields,
+    push_left_out, push_no_association, push_no_train, push_train, started,
 };
 use arrayvec::ArrayString;
 use cif_calendar::Entry;
@@ -123,10 +123,16 @@ fn push_terms<E: Entry>(line: &mut ArrayString<LONGEST>, format: Format, entry: 
     ensures text { line.new.bytes ≡ line.old.bytes ++ after format (terms_fields (E.terms entry.now)) }
     ensures len { array_string_len line.new ≤ array_string_len line.old + 24 }
 {
-    push_field(line, format, &[entry.letter().write()]);
-    push_field(line, format, &entry.first().to_yymmdd());
-    push_field(line, format, &entry.last().to_yymmdd());
-    push_field(line, format, &entry.days().write());
+    push_fields(
+        line,
+        format,
+        &[
+            &[entry.letter().write()],
+            &entry.first().to_yymmdd(),
+            &entry.last().to_yymmdd(),
+            &entry.days().write(),
+        ],
+    );
 }
 
 /// Appends the fields of a key.
@@ -135,12 +141,17 @@ fn push_key(line: &mut ArrayString<LONGEST>, format: Format, key: &AssocKey)
     ensures text { line.new.bytes ≡ line.old.bytes ++ after format (said_of_association format key.now None) }
     ensures len { array_string_len line.new ≤ array_string_len line.old + 30 }
 {
-    push_field(line, format, &key.base.write());
-    push_field(line, format, &key.associated.write());
+    push_fields(line, format, &[&key.base.write(), &key.associated.write()]);
     push_left_out(line, format, "\t\t");
-    push_field(line, format, &key.location.write());
-    push_field(line, format, &key.base_suffix.write());
-    push_field(line, format, &key.associated_suffix.write());
+    push_fields(
+        line,
+        format,
+        &[
+            &key.location.write(),
+            &key.base_suffix.write(),
+            &key.associated_suffix.write(),
+        ],
+    );
     push_left_out(line, format, "\t\t");
 }
 

@@ -1,10 +1,10 @@
 //! How the views lay out what they list: fields, as text or as the rows of a table.
-ghost use Rattle.std.specs.Prelude.{◌≡◌, ◌≤◌, ◌+◌, ◌++◌, ◌∷◌, [], length, replicate};
+ghost use Rattle.std.specs.Prelude.{◌≡◌, ◌≤◌, ◌+◌, ◌++◌, ◌∷◌, [], length, map, replicate};
 ghost use Rattle.arrayvec.specs.ArrayString.{array_string_len};
 ghost use Rattle.cif_columns.specs.Line.{ArePrintable};
 ghost use Rattle.cif_weeks.specs.Runs.{record_of};
 ghost use Rattle.cif_canon.specs.Fields.{fields_text, left_out, separator, shown};
-ghost use Rattle.cif_canon.specs.Steps.Fields.{after};
+ghost use Rattle.cif_canon.specs.Steps.Fields.{AreFields, after, width};
 ghost use Rattle.cif_canon.specs.Views.{call_names_if, heading, association_fields};
 ghost use Rattle.cif_canon.specs.Views.{association_line, journey_fields, location_fields};
 ghost use Rattle.cif_canon.specs.Views.{no_association, no_call, no_train, place_fields};
@@ -117,8 +117,11 @@ pub(crate) fn schedule_row(format: Format, run: &Run, body: &Body) -> ArrayStrin
     ensures len { array_string_len result + 1 ≤ LONGEST }
 {
     let mut row = started(format, &run.first.to_yymmdd());
-    push_field(&mut row, format, &run.last.to_yymmdd());
-    push_field(&mut row, format, &run.days.write());
+    push_fields(
+        &mut row,
+        format,
+        &[&run.last.to_yymmdd(), &run.days.write()],
+    );
     push_journey(&mut row, format, body);
     row
 }
@@ -134,15 +137,21 @@ pub(crate) fn push_association(
     ensures text { line.new.bytes ≡ line.old.bytes ++ after format (association_fields (key.now, body.now)) }
     ensures len { array_string_len line.new ≤ array_string_len line.old + 35 }
 {
-    push_field(line, format, &key.base.write());
-    push_field(line, format, &key.associated.write());
-    push_field(line, format, &body.category.write());
-    push_field(line, format, &body.date_indicator.write());
-    push_field(line, format, &key.location.write());
-    push_field(line, format, &key.base_suffix.write());
-    push_field(line, format, &key.associated_suffix.write());
-    push_field(line, format, &body.diagram.write());
-    push_field(line, format, &body.kind.write());
+    push_fields(
+        line,
+        format,
+        &[
+            &key.base.write(),
+            &key.associated.write(),
+            &body.category.write(),
+            &body.date_indicator.write(),
+            &key.location.write(),
+            &key.base_suffix.write(),
+            &key.associated_suffix.write(),
+            &body.diagram.write(),
+            &body.kind.write(),
+        ],
+    );
 }
 
 /// Appends the fields of a train that runs.
@@ -271,6 +280,19 @@ pub(crate) fn started(format: Format, columns: &[u8]) -> ArrayString<LONGEST>
     let mut line = ArrayString::new();
     line.push_str(shown(format, columns));
     line
+}
+
+/// Appends fields, a space or a tab before each.
+pub(crate) fn push_fields(line: &mut ArrayString<LONGEST>, format: Format, fields: &[&[u8]])
+    requires fields { AreFields (map (λ field. field.now) fields.now) }
+    requires room { array_string_len line.old + width (map (λ field. field.now) fields.now) ≤ LONGEST }
+    ensures text { line.new.bytes ≡ line.old.bytes ++ after format (map (λ field. field.now) fields.now) }
+    ensures len { array_string_len line.new
+        ≤ array_string_len line.old + width (map (λ field. field.now) fields.now) }
+{
+    for field in fields {
+        push_field(line, format, field);
+    }
 }
 
 /// Appends a space or a tab, and a field.

@@ -3,7 +3,7 @@ use Rattle.std.proofs.Common.{◌<◌, List, ℕ, length, sym, subst}
 use Rattle.std.specs.Prelude.{All}
 use Rattle.std.proofs.lemmas.List.{nil_from_length}
 use Rattle.std.proofs.lemmas.Bool.{eqb-true}
-use Rattle.std.proofs.lemmas.List.Elements.{All-drop}
+use Rattle.std.proofs.lemmas.List.Elements.{All-drop, All-take}
 use Rattle.cif_calendar.specs.Keys.{keyed}
 use Rattle.cif_calendar.proofs.FirstClash.{same_key-cmp}
 use Rattle.cif_canon.proofs.FoundClashes.{AreAddedSoFar, added-all, added-key, added-nothing}
@@ -24,6 +24,20 @@ loop-rest-init g c =
           (λ i below. c.in_ok-positions.ensures.whole i (within-entries g.E.Entry.key g.E.Entry.terms c.args.entries.now i below))
           c.in_ok-positions.ensures.rising);
     }
+
+pub count_of_first_key-requires-clause-within : goal.count_of_first_key-requires-clause-within
+count_of_first_key-requires-clause-within g c = c.loop-rest.invariant.within
+
+pub count_of_first_key-requires-clause-rising : goal.count_of_first_key-requires-clause-rising
+count_of_first_key-requires-clause-rising g c = c.loop-rest.invariant.added.searched.rising
+
+pub split_at-requires : goal.split_at-requires
+split_at-requires g c = c.count_of_first_key.ensures.front.upto
+
+pub add_clash_of_key-requires-clause-within : goal.add_clash_of_key-requires-clause-within
+add_clash_of_key-requires-clause-within g c =
+    subst (λ (front : List ℕ). All (λ i. i < length c.args.entries.now) front) (sym c.split_at.ensures.front)
+    (All-take (λ i. i < length c.args.entries.now) _ _ c.loop-rest.invariant.within)
 
 pub loop-rest-preserved : goal.loop-rest-preserved
 loop-rest-preserved g c =

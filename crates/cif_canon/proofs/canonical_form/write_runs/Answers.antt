@@ -1,5 +1,6 @@
 -- The text is a fold over runs: one more goes behind it (`item_written`), a failure leaves a prefix; each run has a record.
 use Rattle.std.proofs.Common.{◌∙◌, sym, subst}
+use Rattle.std.proofs.lemmas.List.Elements.{All-drop, All-take}
 use Rattle.cif_calendar.specs.Keys.{keyed}
 use Rattle.cif_columns.proofs.WrittenTexts.{item_failed, item_written, writes_err, written_nothing}
 use Rattle.cif_canon.specs.Steps.Texts.{HasRecord, run_text}
@@ -25,3 +26,11 @@ pub write_run-requires-clause-record : goal.write_run-requires-clause-record
 write_run-requires-clause-record g c =
     subst (HasRecord (keyed g.E.Entry.key g.E.Entry.terms c.args.entries.now)) (sym c.index-runs-at.is)
     (c.requires c.loop-at.at c.index-runs-at.result c.loop-at-test.true)
+
+pub look_ahead-requires : goal.look_ahead-requires
+look_ahead-requires g c =
+    let Has = HasRecord (keyed g.E.Entry.key g.E.Entry.terms c.args.entries.now) in
+    All-take Has _ _ (All-drop Has c.loop-at.at c.args.runs.now c.requires)
+
+pub write_run-requires-clause-going : goal.write_run-requires-clause-going
+write_run-requires-clause-going g c = c.loop-at.invariant.going

@@ -38,6 +38,10 @@ first_in_pieces-requires-clause-right g c =
     c.piece_on-peer.ensures.listed c.requires.right c.loop-day.first c.earlier-last.result c.piece_on-peer.ensures.from
     c.earlier-last.ensures.other (omega (arith, c.requires.first, c.loop-day.invariant.from))
 
+pub first_in_pieces-requires-clause-in_order : goal.first_in_pieces-requires-clause-in_order
+first_in_pieces-requires-clause-in_order g c =
+    c.earlier-last.ensures.latest c.loop-day.first c.piece_on-piece.ensures.upto c.piece_on-peer.ensures.upto
+
 -- what is found by the two pieces is found of the calendars
 by_pieces : (g : Over) (c : After-first_in_pieces g) (found : Option ℕ) →
     let xs = map g.E.Entry.terms c.args.left.now in
@@ -61,6 +65,13 @@ returns-in-Some g c =
     found-on (λ d. body_on xs c.args.one.now d ≡ body_on ys c.args.other.now d) c.args.one.now.first c.loop-day.first last.result
     c.args.one.now.last c.in-Some.day c.loop-day.invariant.from (omega (arith, ends, last.ensures.one)) c.loop-day.invariant.alike
     (by_pieces g (goal.at.returns-in-Some g c).After-first_in_pieces (Some c.in-Some.day) c.in-Some.ensures)
+
+pub loop-day-smaller : goal.loop-day-smaller
+loop-day-smaller g c =
+    let far = c.earlier-last.ensures.latest c.loop-day.first c.piece_on-piece.ensures.upto c.piece_on-peer.ensures.upto in
+    let below = c.in-Some-next_up_to.ensures.0 in
+    let next = c.in-Some-next_up_to.ensures.1 in
+    omega (arith, far, below, next, c.window-window.ensures.last)
 
 pub loop-day-preserved : goal.loop-day-preserved
 loop-day-preserved g c =

@@ -7,7 +7,7 @@ use Rattle.cif_calendar.proofs.FirstClash.{same_key-cmp}
 use Rattle.cif_weeks.proofs.CalendarSources.{calendar_sources}
 use Rattle.cif_canon.specs.Steps.Turns.{AreFrom, IsFront}
 use Rattle.cif_canon.proofs.ComparedCalendars.{alike-on, clear-positions, differ-on}
-use Rattle.cif_canon.proofs.ComparedKeys.{AreAlikeBefore, AreFronts, alike-nothing, are-fronts}
+use Rattle.cif_canon.proofs.ComparedKeys.{AreAlikeBefore, AreFronts, all-alike, alike-nothing, are-fronts}
 use Rattle.cif_canon.proofs.KeyPositions.{within-entries}
 use Rattle.cif_canon.proofs.comparison.first_difference.Given.{Over}
 use Rattle.cif_canon.proofs.comparison.first_difference.Goals as goal
@@ -37,6 +37,33 @@ loop-entry-init g c =
           (λ i below. c.in_ok-right_positions.ensures.whole i
           (within-entries g.E.Entry.key g.E.Entry.terms c.args.right.now i below))));
     }
+
+pub first_entry-requires : goal.first_entry-requires
+first_entry-requires g c =
+    let before = c.loop-entry.invariant in record {
+      left = before.left_within;
+      right = before.right_within;
+      left_rising = before.alike.left_rising;
+      right_rising = before.alike.right_rising;
+    }
+
+pub count_of_key-requires-clause-within : goal.count_of_key-requires-clause-within
+count_of_key-requires-clause-within g c = c.loop-entry.invariant.left_within
+
+pub count_of_key-requires-clause-rising : goal.count_of_key-requires-clause-rising
+count_of_key-requires-clause-rising g c = c.loop-entry.invariant.alike.left_rising
+
+pub count_of_key-requires-in-Some-clause-within : goal.count_of_key-requires-in-Some-clause-within
+count_of_key-requires-in-Some-clause-within g c = c.loop-entry.invariant.right_within
+
+pub count_of_key-requires-in-Some-clause-rising : goal.count_of_key-requires-in-Some-clause-rising
+count_of_key-requires-in-Some-clause-rising g c = c.loop-entry.invariant.alike.right_rising
+
+pub split_at-requires : goal.split_at-requires
+split_at-requires g c = c.count_of_key.ensures.upto
+
+pub split_at-requires-in-Some : goal.split_at-requires-in-Some
+split_at-requires-in-Some g c = c.count_of_key-in-Some.ensures.upto
 
 pub count_of_key-requires-clause-from : goal.count_of_key-requires-clause-from
 count_of_key-requires-clause-from g c =
@@ -138,3 +165,9 @@ loop-entry-preserved g c =
           c.args.window.now.first c.args.window.now.last c.in_ok-one.one c.in_ok-other.other c.in_ok-one.ensures
           c.in_ok-other.ensures d from upto (c.in_default-first_day.ensures d (omega (arith, from, is)) (omega (arith, upto, ends))));
     }
+
+pub returns-clause-none : goal.returns-clause-none
+returns-clause-none g c =
+    let same = same_key-cmp g.E.Key.PartialEq.eq g.E.Key.Ord.cmp g.met.E.Key.Ord.matches_eq g.met.E.Entry.same_key in
+    let none = c.in_default.ensures.none in
+    all-alike g.E.Key.Ord.cmp g.met.E.Key.Ord.total same _ _ _ _ _ _ c.loop-entry.invariant.alike none.0 none.1

@@ -47,6 +47,33 @@ loop-entry-init g c =
           (within-entries g.E.Entry.key g.E.Entry.terms c.args.right.now i below)))));
     }
 
+pub first_entry-requires : goal.first_entry-requires
+first_entry-requires g c =
+    let before = c.loop-entry.invariant in record {
+      left = before.left_within;
+      right = before.right_within;
+      left_rising = before.found.passed.left_rising;
+      right_rising = before.found.passed.right_rising;
+    }
+
+pub count_of_key-requires-clause-within : goal.count_of_key-requires-clause-within
+count_of_key-requires-clause-within g c = c.loop-entry.invariant.left_within
+
+pub count_of_key-requires-clause-rising : goal.count_of_key-requires-clause-rising
+count_of_key-requires-clause-rising g c = c.loop-entry.invariant.found.passed.left_rising
+
+pub count_of_key-requires-in-Some-clause-within : goal.count_of_key-requires-in-Some-clause-within
+count_of_key-requires-in-Some-clause-within g c = c.loop-entry.invariant.right_within
+
+pub count_of_key-requires-in-Some-clause-rising : goal.count_of_key-requires-in-Some-clause-rising
+count_of_key-requires-in-Some-clause-rising g c = c.loop-entry.invariant.found.passed.right_rising
+
+pub split_at-requires : goal.split_at-requires
+split_at-requires g c = c.count_of_key.ensures.upto
+
+pub split_at-requires-in-Some : goal.split_at-requires-in-Some
+split_at-requires-in-Some g c = c.count_of_key-in-Some.ensures.upto
+
 pub count_of_key-requires-clause-from : goal.count_of_key-requires-clause-from
 count_of_key-requires-clause-from g c =
     subst (AreFrom g.E.Key.Ord.cmp (keyed g.E.Entry.key g.E.Entry.terms c.args.left.now) c.loop-entry.left_rest.now) (sym c.key.ensures)

@@ -43,6 +43,13 @@ only_winners-winners-requires-clause-right g c =
     c.piece_on-peer.ensures.listed c.requires.right c.loop-pieces.first c.earlier-last.result c.piece_on-peer.ensures.from
     c.earlier-last.ensures.other (omega (arith, c.requires.first, c.loop-pieces.invariant.from))
 
+pub loop-pieces-smaller : goal.loop-pieces-smaller
+loop-pieces-smaller g c =
+    let far = c.earlier-last.ensures.latest c.loop-pieces.first c.piece_on-piece.ensures.upto c.piece_on-peer.ensures.upto in
+    let below = c.in-Some.ensures.0 in
+    let next = c.in-Some.ensures.1 in
+    omega (arith, far, below, next, c.window-window.ensures.last)
+
 pub loop-pieces-preserved : goal.loop-pieces-preserved
 loop-pieces-preserved g c =
     let far = c.earlier-last.ensures.latest c.loop-pieces.first c.piece_on-piece.ensures.upto c.piece_on-peer.ensures.upto in

@@ -1,19 +1,8 @@
--- Fields are appended one by one: they are rewritten from the last on, for `pushed-after`.
-use Rattle.std.proofs.Common.{[], ◌∷◌}
-use Rattle.cif_canon.proofs.ViewLines.{pushed-after}
+-- What is written of each field is named.
 use Rattle.cif_canon.proofs.layout.push_association.Goals as goal
 
 pub returns-clause-text : goal.returns-clause-text
 returns-clause-text c = rw (
-  c.push_field-9.ensures.text,
-  c.push_field-8.ensures.text,
-  c.push_field-7.ensures.text,
-  c.push_field-6.ensures.text,
-  c.push_field-5.ensures.text,
-  c.push_field-4.ensures.text,
-  c.push_field-3.ensures.text,
-  c.push_field-2.ensures.text,
-  c.push_field.ensures.text,
   c.write.ensures.columns,
   c.write-2.ensures.columns,
   c.write-3.ensures.columns,
@@ -23,5 +12,4 @@ returns-clause-text c = rw (
   c.write-7.ensures.columns,
   c.write-8.ensures.columns,
   c.write-9.ensures.columns,
-)
-    (pushed-after c.args.format _ (_ ∷ _ ∷ _ ∷ _ ∷ _ ∷ _ ∷ _ ∷ _ ∷ _ ∷ []))
+) at c.push_fields.ensures.text

@@ -28,3 +28,6 @@ write_sided_run-requires-clause-record g c =
     subst (HasSidedRecord (keyed g.E.Entry.key g.E.Entry.terms c.args.left.now) (keyed g.E.Entry.key g.E.Entry.terms c.args.right.now))
     (sym c.run-item.is)
     (c.requires c.loop-run.run-index c.run-item.result c.loop-run-test.true)
+
+pub write_sided_run-requires-clause-going : goal.write_sided_run-requires-clause-going
+write_sided_run-requires-clause-going g c = c.loop-run.invariant.going

@@ -2,6 +2,9 @@
 use Rattle.cif_columns.specs.Source.{reader_of}
 use Rattle.cif_columns.proofs.GivenLinesLaws.{known_so}
 use Rattle.cif_extract.specs.ExtractParts.{extract_parts}
+use Rattle.cif_canon.specs.Fault.{IsOfCheck}
+use Rattle.cif_canon.proofs.HandedFaults.{at-fault, hands}
+use Rattle.cif_canon.proofs.Normalising.{canon-of_check, canon-reads}
 use Rattle.cif_canon.proofs.Normalising.{counted-text, known-accepted, known-canon_accepted, known-canon_fault}
 use Rattle.cif_canon.proofs.normal_form.check_keeping.Goals as goal
 
@@ -27,3 +30,15 @@ returns-clause-ok g c =
     known_so _ _ _ (λ bytes spelled.
     counted-text c.args.max_lines c.args.asked.now bytes c.args.form (extract_parts c.in_ok-extract.extract) spelled c.in_ok-canon.field-0
     (rw c.insert-extract.ensures.value at c.in_ok-canon.ensures.ok) c.counts-2.result c.counts-2.ensures) c.in_ok-extract.ensures.ok
+
+pub returns-in_err-canon-clause-answers : goal.returns-in_err-canon-clause-answers
+returns-in_err-canon-clause-answers g c =
+    let f = c.in_err-canon.field-0.0 in
+    hands c.from_residual-in_err-canon.result f c.from_residual-in_err-canon.ensures.1 (IsOfCheck c.args.max_lines)
+    (canon-of_check c.args.max_lines (extract_parts c.insert-extract.result.now) f c.in_err-canon.ensures.fault).0
+
+pub returns-in_err-canon-clause-source : goal.returns-in_err-canon-clause-source
+returns-in_err-canon-clause-source g c =
+    let call = c.from_residual-in_err-canon in
+    canon-reads g.R.ReadDevice.read_errors _ _ (extract_parts c.insert-extract.result.now) call.result _
+    (at-fault call.result _ call.ensures.1) c.in_err-canon.ensures.fault c.in_ok-extract.ensures.source

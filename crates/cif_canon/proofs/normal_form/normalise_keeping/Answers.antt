@@ -1,12 +1,14 @@
 -- The text has to be named, the canonical form's: of known bytes `Normalising` says it is that, written whole or as a prefix.
-use Rattle.std.proofs.Common.{subst}
+use Rattle.std.proofs.Common.{◌∙◌, Err, None, ap, subst}
 use Rattle.cif_columns.specs.Source.{reader_of}
 use Rattle.cif_columns.proofs.GivenLinesLaws.{known_so}
 use Rattle.cif_extract.specs.ExtractParts.{extract_parts}
-use Rattle.cif_canon.proofs.HandedFaults.{at-fault}
-use Rattle.cif_canon.specs.Fault.{IsCanonFault, IsOfCheck}
+use Rattle.cif_canon.proofs.HandedFaults.{at-fault, hands}
+use Rattle.cif_canon.specs.Fault.{IsCanonFault, IsOfCheck, IsOfNormalise}
+use Rattle.cif_canon.proofs.Normalising.{canon-of_check, canon-reads}
 use Rattle.cif_canon.proofs.Normalising.{fails-silently, fault-writes, known-accepted, known-canon_accepted, known-canon_fault}
-use Rattle.cif_canon.proofs.Normalising.{normalises-prefix, normalises-whole}
+use Rattle.cif_canon.proofs.Normalising.{normalises-prefix, normalises-whole, write-accepted, write-answers, write-fault}
+use Rattle.cif_canon.proofs.Normalising.{write-reads}
 use Rattle.cif_canon.proofs.normal_form.normalise_keeping.Goals as goal
 
 pub returns-in_err-extract-clause-normal : goal.returns-in_err-extract-clause-normal
@@ -64,3 +66,39 @@ returns-clause-normal g c = (
       c.in_ok-canon.canon (rw c.insert-extract.ensures.value at c.in_ok-canon.ensures.ok) c.counts.result c.counts.ensures)
       c.in_ok-extract.ensures.ok,
 )
+
+pub returns-in_err-canon-clause-answers : goal.returns-in_err-canon-clause-answers
+returns-in_err-canon-clause-answers g c =
+    let f = c.in_err-canon.field-0.0 in
+    hands c.from_residual-in_err-canon.result f c.from_residual-in_err-canon.ensures.1 (IsOfNormalise c.args.max_lines)
+    (canon-of_check c.args.max_lines (extract_parts c.insert-extract.result.now) f c.in_err-canon.ensures.fault).1
+
+pub returns-in_err-canon-clause-source : goal.returns-in_err-canon-clause-source
+returns-in_err-canon-clause-source g c =
+    let call = c.from_residual-in_err-canon in
+    canon-reads g.R.ReadDevice.read_errors _ _ (extract_parts c.insert-extract.result.now) call.result _
+    (at-fault call.result _ call.ensures.1) c.in_err-canon.ensures.fault c.in_ok-extract.ensures.source
+
+pub returns-in_err-write-clause-fault : goal.returns-in_err-write-clause-fault
+returns-in_err-write-clause-fault g c =
+    let call = c.from_residual-in_err-write in
+    let is = at-fault call.result _ call.ensures.1 ∙ ap Err c.in_err-write.ensures.fault in
+    write-fault c.args.max_lines c.args.asked.now _ (g.R.Read.remaining (reader_of c.read_narrowed.new.source)) call.result is
+
+pub returns-in_err-write-clause-accepted : goal.returns-in_err-write-clause-accepted
+returns-in_err-write-clause-accepted g c =
+    let call = c.from_residual-in_err-write in
+    let is = at-fault call.result _ call.ensures.1 ∙ ap Err c.in_err-write.ensures.fault in
+    write-accepted c.args.max_lines c.args.asked.now _ (g.R.Read.remaining (reader_of c.read_narrowed.new.source)) call.result is
+
+pub returns-in_err-write-clause-answers : goal.returns-in_err-write-clause-answers
+returns-in_err-write-clause-answers g c =
+    let call = c.from_residual-in_err-write in
+    let is = at-fault call.result _ call.ensures.1 ∙ ap Err c.in_err-write.ensures.fault in
+    write-answers c.args.max_lines c.args.asked.now None None call.result is
+
+pub returns-in_err-write-clause-source : goal.returns-in_err-write-clause-source
+returns-in_err-write-clause-source g c =
+    let call = c.from_residual-in_err-write in
+    let is = at-fault call.result _ call.ensures.1 ∙ ap Err c.in_err-write.ensures.fault in
+    write-reads c.args.max_lines c.args.asked.now None None call.result is g.R.ReadDevice.read_errors _ _ c.in_ok-extract.ensures.source

@@ -1,10 +1,10 @@
 -- Key by key (`MadeRecords`): the first run of positions is all of a key, whose records go behind, or whose clash is first.
-use Rattle.std.proofs.Common.{◌<◌, List, ℕ, [], length, sym, subst}
+use Rattle.std.proofs.Common.{◌≡◌, ◌<◌, ◌-◌, ◌∙◌, List, ℕ, [], ap, arith, length, sym, subst}
 use Rattle.std.specs.Prelude.{All}
 use Rattle.std.proofs.lemmas.Result.{err_from_is_err_and}
-use Rattle.std.proofs.lemmas.List.{nil_from_length}
+use Rattle.std.proofs.lemmas.List.{length-drop, length-take-le, nil_from_length}
 use Rattle.std.proofs.lemmas.Bool.{eqb-true}
-use Rattle.std.proofs.lemmas.List.Elements.{All-drop}
+use Rattle.std.proofs.lemmas.List.Elements.{All-drop, All-take}
 use Rattle.cif_calendar.specs.Keys.{keyed}
 use Rattle.cif_calendar.proofs.FirstClash.{same_key-cmp}
 use Rattle.cif_calendar.proofs.Positions.{AreLawful-of_key}
@@ -27,6 +27,37 @@ loop-rest-init g c =
           (λ i below. c.in_ok-positions.ensures.whole i (within-entries g.E.Entry.key g.E.Entry.terms c.args.entries.now i below))
           c.in_ok-positions.ensures.rising));
     }
+
+pub look_ahead-requires : goal.look_ahead-requires
+look_ahead-requires g c = All-take (λ i. i < length c.args.entries.now) _ _ c.loop-rest.invariant.within
+
+pub count_of_first_key-requires-clause-within : goal.count_of_first_key-requires-clause-within
+count_of_first_key-requires-clause-within g c = c.loop-rest.invariant.within
+
+pub count_of_first_key-requires-clause-rising : goal.count_of_first_key-requires-clause-rising
+count_of_first_key-requires-clause-rising g c = c.loop-rest.invariant.made.rising
+
+pub split_at-requires : goal.split_at-requires
+split_at-requires g c = c.count_of_first_key.ensures.front.upto
+
+pub runs_of_key-requires-clause-within : goal.runs_of_key-requires-clause-within
+runs_of_key-requires-clause-within g c =
+    subst (λ (front : List ℕ). All (λ i. i < length c.args.entries.now) front) (sym c.split_at.ensures.front)
+    (All-take (λ i. i < length c.args.entries.now) _ _ c.loop-rest.invariant.within)
+
+pub runs_of_key-requires-clause-some : goal.runs_of_key-requires-clause-some
+runs_of_key-requires-clause-some g c =
+    let first = c.count_of_first_key.ensures in
+    let front : length c.split_at.result.0.now ≡ c.count_of_first_key.result =
+    ap length c.split_at.ensures.front ∙ length-take-le c.count_of_first_key.result c.loop-rest.rest.now first.front.upto in
+    omega (arith, front, first.some)
+
+pub loop-rest-smaller : goal.loop-rest-smaller
+loop-rest-smaller g c =
+    let first = c.count_of_first_key.ensures in
+    let later : length c.split_at.result.1.now ≡ length c.loop-rest.rest.now - c.count_of_first_key.result =
+    ap length c.split_at.ensures.back ∙ length-drop c.count_of_first_key.result c.loop-rest.rest.now in
+    omega (arith, later, first.some, first.front.upto)
 
 pub loop-rest-preserved : goal.loop-rest-preserved
 loop-rest-preserved g c =
