@@ -16,7 +16,7 @@ use cif_columns::{Line, Refusal, columns_at};
 
 /// The kinds of record of the CIF End User Specification that this profile knows, by the
 /// identities in columns 1 and 2.
-#[derive(Clone, Copy, Debug, PartialEq, Eq)]
+#[derive(Clone, Copy, Debug, PartialEq, Eq, Hash)]
 pub enum Kind {
     /// `HD`, the header.
     Hd,
