@@ -133,11 +133,6 @@ returns-in-Err-clause-only g c =
 pub returns-in-Err-clause-ok : goal.returns-in-Err-clause-ok
 returns-in-Err-clause-ok g c = of_any _ _ (λ bytes. tt)
 
-pub returns-in_err-is_line-clause-ok : goal.returns-in_err-is_line-clause-ok
-returns-in_err-is_line-clause-ok g c =
-    let p = err_from_is_err_and c.from_residual.result c.from_residual.ensures.1 in
-    rw p.1 (of_any _ _ (λ bytes. tt))
-
 pub returns-else-is_line-clause-ok : goal.returns-else-is_line-clause-ok
 returns-else-is_line-clause-ok g c =
     let (ls, so_far, come, read_on) = c.loop-columns.invariant in
