@@ -130,19 +130,30 @@ returns-in-Err-clause-only g c =
     only_fault (g.R.Read.remaining c.args.source.now.reader) c.args.max_lines (g.R.Read.remaining c.read_line.new.source.reader)
     (Err c.at_line.result) c.at_line.result refl (returns-in-Err-clause-fault g c)
 
-pub returns-else-is_line-clause-only : goal.returns-else-is_line-clause-only
-returns-else-is_line-clause-only g c =
+pub returns-in-Err-clause-ok : goal.returns-in-Err-clause-ok
+returns-in-Err-clause-ok g c = of_any _ _ (λ bytes. tt)
+
+pub returns-else-is_line-clause-ok : goal.returns-else-is_line-clause-ok
+returns-else-is_line-clause-ok g c =
+    let (ls, so_far, come, read_on) = c.loop-columns.invariant in
+    let next = rw c.if-is_line.false at c.in_ok-is_line.ensures in
+    let all = reading_ends g.R.Read.remaining _ _ _ _ ls so_far c.read_line.new.self c.read_line.new.source next.answer in
+    whole_result (g.R.Read.remaining c.args.source.now.reader) c.args.max_lines ls (progress_of c.loop-columns.reading) c.finish.result all
+    come c.finish.ensures.ok
+
+pub returns-else-is_line-clause-fault : goal.returns-else-is_line-clause-fault
+returns-else-is_line-clause-fault g c =
     let (ls, so_far, come, read_on) = c.loop-columns.invariant in
     let next = rw c.if-is_line.false at c.in_ok-is_line.ensures in
     let all = reading_ends g.R.Read.remaining _ _ _ _ ls so_far c.read_line.new.self c.read_line.new.source next.answer in
     let number : c.line_number-else-is_line.result ≡ length ls = c.line_number-else-is_line.ensures ∙ next.ended refl ∙ so_far.counted in
-    let start = g.R.Read.remaining c.args.source.now.reader in
-    let after = g.R.Read.remaining c.read_line.new.source.reader in
-    only_read start c.args.max_lines after c.finish.result
-    (whole_result start c.args.max_lines ls (progress_of c.loop-columns.reading) c.finish.result all come c.finish.ensures.ok)
-    (unfinished_result start after c.args.max_lines ls (progress_of c.loop-columns.reading) c.line_number-else-is_line.result
-    c.finish.result all
-    come number c.finish.ensures.truncated)
+    unfinished_result (g.R.Read.remaining c.args.source.now.reader) (g.R.Read.remaining c.read_line.new.source.reader) c.args.max_lines ls
+    (progress_of c.loop-columns.reading) c.line_number-else-is_line.result c.finish.result all come number c.finish.ensures.truncated
+
+pub returns-else-is_line-clause-only : goal.returns-else-is_line-clause-only
+returns-else-is_line-clause-only g c =
+    only_read (g.R.Read.remaining c.args.source.now.reader) c.args.max_lines (g.R.Read.remaining c.read_line.new.source.reader)
+    c.finish.result (returns-else-is_line-clause-ok g c) (returns-else-is_line-clause-fault g c)
 
 pub returns-in_err-is_line-clause-answers : goal.returns-in_err-is_line-clause-answers
 returns-in_err-is_line-clause-answers g c =
