@@ -1,7 +1,7 @@
--- As one of the longest writers it names its 21 texts twice more: that each fits, and that its columns were put (`put`).
+-- That each row fits is said field by field: as one of the longest writers it names its 21 texts once more.
 use Rattle.std.proofs.Common.{codes, refl}
 use Rattle.cif_columns.proofs.PrintableBytes.{printable_fact}
-use Rattle.cif_records.proofs.Rows.{◌&◌, put}
+use Rattle.cif_records.proofs.Rows.{◌&◌}
 use Rattle.cif_records.proofs.change.ChangeLayout.put_rows.Goals as goal
 
 pub returns-clause-fits : goal.returns-clause-fits
@@ -12,14 +12,3 @@ returns-clause-fits c =
     & c.put_on-12.ensures.fits & c.put_on-13.ensures.fits & c.put_on-14.ensures.fits & c.put_on-15.ensures.fits
     & c.put_on-16.ensures.fits & c.put_on-17.ensures.fits & c.put_on-18.ensures.fits & c.put_on-19.ensures.fits
     & c.put_on-20.ensures.fits & c.put_on-21.ensures.fits & tt & tt
-
-pub returns-clause-columns : goal.returns-clause-columns
-returns-clause-columns c =
-    put _ c.put_spare.ensures.columns (put _ c.put_on-21.ensures.columns (put _ c.put_on-20.ensures.columns
-    (put _ c.put_on-19.ensures.columns (put _ c.put_on-18.ensures.columns (put _ c.put_on-17.ensures.columns
-    (put _ c.put_on-16.ensures.columns (put _ c.put_on-15.ensures.columns (put _ c.put_on-14.ensures.columns
-    (put _ c.put_on-13.ensures.columns (put _ c.put_on-12.ensures.columns (put _ c.put_on-11.ensures.columns
-    (put _ c.put_on-10.ensures.columns (put _ c.put_on-9.ensures.columns (put _ c.put_on-8.ensures.columns
-    (put _ c.put_on-7.ensures.columns (put _ c.put_on-6.ensures.columns (put _ c.put_on-5.ensures.columns
-    (put _ c.put_on-4.ensures.columns (put _ c.put_on-3.ensures.columns (put _ c.put_on-2.ensures.columns
-    (put _ c.put_on.ensures.columns (put _ c.put_columns.ensures.columns c.requires))))))))))))))))))))))
