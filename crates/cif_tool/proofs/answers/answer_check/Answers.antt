@@ -7,7 +7,7 @@ use Rattle.cif_canon.specs.Counts.{counts_line}
 use Rattle.cif_canon.specs.Fault.{IsOfCheck}
 use Rattle.cif_columns.specs.declared.line_reader.TheConstants.{MAX_LINES}
 use Rattle.cif_tool.proofs.Answered.{fails-silently, fails-to-write, flushed, only-write}
-use Rattle.cif_tool.proofs.BothRead.{read-on}
+use Rattle.cif_canon.proofs.BothRead.{read-on}
 use Rattle.cif_tool.proofs.KnownAnswers.{check-answer}
 use Rattle.cif_tool.proofs.answers.answer_check.Goals as goal
 

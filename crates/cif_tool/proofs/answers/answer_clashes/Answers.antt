@@ -10,7 +10,7 @@ use Rattle.cif_canon.proofs.HandedFaults.{at-fault, hands, known-fault}
 use Rattle.cif_tool.specs.Answer.{IsClashesRefusal}
 use Rattle.cif_tool.specs.Status.{listed_status}
 use Rattle.cif_tool.proofs.Answered.{fails-silently, fails-to-write, flushed, only-write}
-use Rattle.cif_tool.proofs.BothRead.{read-on}
+use Rattle.cif_canon.proofs.BothRead.{read-on}
 use Rattle.cif_tool.proofs.KnownAnswers.{clashes-answer}
 use Rattle.cif_tool.proofs.answers.answer_clashes.Goals as goal
 

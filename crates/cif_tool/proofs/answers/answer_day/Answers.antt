@@ -8,7 +8,7 @@ use Rattle.cif_canon.specs.Views.{IsDayFault}
 use Rattle.cif_canon.proofs.HandedFaults.{at-fault, hands, known-fault}
 use Rattle.cif_tool.specs.Answer.{IsDayRefusal}
 use Rattle.cif_tool.proofs.Answered.{fails, flushed, only-write, written-then}
-use Rattle.cif_tool.proofs.BothRead.{read-on}
+use Rattle.cif_canon.proofs.BothRead.{read-on}
 use Rattle.cif_tool.proofs.KnownAnswers.{day-answer}
 use Rattle.cif_tool.proofs.answers.answer_day.Goals as goal
 

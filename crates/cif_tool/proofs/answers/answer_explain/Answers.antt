@@ -8,7 +8,7 @@ use Rattle.cif_canon.specs.Explanation.{IsExplanationFault}
 use Rattle.cif_canon.proofs.HandedFaults.{at-fault, hands, known-fault}
 use Rattle.cif_tool.specs.Answer.{IsExplainRefusal}
 use Rattle.cif_tool.proofs.Answered.{fails, flushed, only-write, written-then}
-use Rattle.cif_tool.proofs.BothRead.{read-on}
+use Rattle.cif_canon.proofs.BothRead.{read-on}
 use Rattle.cif_tool.proofs.KnownAnswers.{explain-answer}
 use Rattle.cif_tool.proofs.answers.answer_explain.Goals as goal
 

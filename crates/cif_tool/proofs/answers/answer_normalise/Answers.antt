@@ -4,7 +4,7 @@ use Rattle.cif_extract.specs.declared.fault.Fault.TheVariants.{Read}
 use Rattle.cif_canon.proofs.HandedFaults.{at-fault}
 use Rattle.cif_canon.specs.declared.canonical_form.Counts.{Counts}
 use Rattle.cif_tool.proofs.Answered.{fails, flushed, only-write}
-use Rattle.cif_tool.proofs.BothRead.{read-on}
+use Rattle.cif_canon.proofs.BothRead.{read-on}
 use Rattle.cif_tool.proofs.KnownAnswers.{normalise-answer, normalise-failed}
 use Rattle.cif_tool.proofs.answers.answer_normalise.Goals as goal
 

@@ -8,7 +8,7 @@ use Rattle.cif_canon.specs.Fault.{IsNormaliseFault, IsOfCheck}
 use Rattle.cif_canon.specs.Views.{IsTrainFault}
 use Rattle.cif_canon.proofs.HandedFaults.{at-fault, hands, known-fault}
 use Rattle.cif_tool.proofs.Answered.{fails, fails-silently, flushed, only-write, written-then}
-use Rattle.cif_tool.proofs.BothRead.{read-on}
+use Rattle.cif_canon.proofs.BothRead.{read-on}
 use Rattle.cif_tool.proofs.KnownAnswers.{train-answer}
 use Rattle.cif_tool.proofs.TrainFaults.{train-fault}
 use Rattle.cif_tool.proofs.answers.answer_train.Goals as goal
