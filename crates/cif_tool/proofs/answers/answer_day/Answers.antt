@@ -48,7 +48,8 @@ pub returns-in_err-day_listing-clause-source : goal.returns-in_err-day_listing-c
 returns-in_err-day_listing-clause-source g c =
     let call = c.from_residual-in_err-day_listing in
     read-on _ _ _ call.result (hands call.result c.in_err-day_listing.field-0.0 call.ensures.1 (λ f. f ≢ Read)
-    (λ read. (subst (IsDayFault (extract_parts c.in_ok-extract.extract) c.args.day) read c.in_err-day_listing.ensures.fault).1)) c.in_ok-extract.ensures.device
+    (λ read. (subst (IsDayFault (extract_parts c.in_ok-extract.extract) c.args.day) read
+    c.in_err-day_listing.ensures.fault).1)) c.in_ok-extract.ensures.device
 
 pub returns-clause-source : goal.returns-clause-source
 returns-clause-source g c =

@@ -49,7 +49,8 @@ pub returns-in_err-explain_listing-clause-source : goal.returns-in_err-explain_l
 returns-in_err-explain_listing-clause-source g c =
     let call = c.from_residual-in_err-explain_listing in
     read-on _ _ _ call.result (hands call.result c.in_err-explain_listing.field-0.0 call.ensures.1 (λ f. f ≢ Read)
-    (λ read. (subst (IsExplanationFault (extract_parts c.in_ok-extract.extract) c.args.day) read c.in_err-explain_listing.ensures.fault))) c.in_ok-extract.ensures.device
+    (λ read. (subst (IsExplanationFault (extract_parts c.in_ok-extract.extract) c.args.day) read
+    c.in_err-explain_listing.ensures.fault))) c.in_ok-extract.ensures.device
 
 pub returns-clause-source : goal.returns-clause-source
 returns-clause-source g c =

@@ -49,7 +49,8 @@ pub returns-in_err-train_listing-clause-source : goal.returns-in_err-train_listi
 returns-in_err-train_listing-clause-source g c =
     let call = c.from_residual-in_err-train_listing in
     read-on _ _ _ call.result (hands call.result c.in_err-train_listing.field-0.0 call.ensures.1 (λ f. f ≢ Read)
-    (λ read. subst (IsTrainFault (extract_parts c.in_ok-extract.extract)) read c.in_err-train_listing.ensures.fault)) c.in_ok-extract.ensures.source
+    (λ read. subst (IsTrainFault (extract_parts c.in_ok-extract.extract)) read
+    c.in_err-train_listing.ensures.fault)) c.in_ok-extract.ensures.source
 
 pub returns-clause-source : goal.returns-clause-source
 returns-clause-source g c =
