@@ -1,3 +1,4 @@
+pub mod BothRead
 pub mod CallTexts
 pub mod CanonForm
 pub mod CanonTexts

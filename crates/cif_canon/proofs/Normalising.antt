@@ -3,12 +3,9 @@ use Rattle.std.proofs.Common.{◌≡◌, ◌≢◌, ◌≤◌, ℕ, List, [], Op
 use Rattle.std.specs.Prelude.{IfSome, IsErrAnd}
 use Rattle.cif_calendar.proofs.FirstClash.{first_clash-clear}
 use Rattle.cif_columns.specs.Sink.{HasFailed}
-use Rattle.cif_columns.specs.Source.{HasReadOn}
 use Rattle.cif_columns.specs.declared.sink.Sink.{Sink}
-use Rattle.cif_columns.specs.declared.source.Source.{Source}
 use Rattle.cif_columns.proofs.GivenLinesLaws.{known_so}
 use Rattle.cif_extract.specs.ExtractParts.{ExtractParts}
-use Rattle.cif_extract.specs.ReadFault.{FaultReads}
 use Rattle.cif_extract.specs.declared.fault.Clash.{Clash}
 use Rattle.cif_extract.specs.declared.fault.Clash.TheVariants.{Association, Train}
 use Rattle.cif_extract.specs.declared.fault.Fault.{Fault}
@@ -184,20 +181,6 @@ canon-of_check max x fault.Read h = absurd h
 canon-of_check max x fault.Write h = absurd h
 canon-of_check max x fault.Memory h = (tt, tt)
 
-pub canon-reads : {R A : Type 0} (errors : R → Option ℕ) (old new : Source R) (x : ExtractParts) (result : Result A Fault) (f : Fault) →
-    result ≡ Err f → IsCanonFault x f → HasReadOn errors old new → FaultReads errors old new result
-canon-reads {A = A} errors old new x result f is h read = subst (FaultReads errors old new) (sym is) (reads f h)
-  where
-    reads : (f : Fault) → IsCanonFault x f → FaultReads {A = A} errors old new (Err f)
-    reads (fault.Refused line why) h = read
-    reads (fault.Ambiguous clash) h = read
-    reads fault.WindowsDiffer h = read
-    reads fault.OutsideWindow h = read
-    reads fault.WindowReversed h = read
-    reads fault.Read h = absurd h
-    reads fault.Write h = read
-    reads fault.Memory h = read
-
 -- ---- nor does a failure to write
 
 module _ (max : ℕ) (asked : Asked) (start after : Option (List ℕ)) {A : Type 0} (result : Result A Fault)
@@ -217,7 +200,3 @@ module _ (max : ℕ) (asked : Asked) (start after : Option (List ℕ)) {A : Type
 
   pub write-answers : IfErr result (IsOfNormalise max)
   write-answers = subst (λ (r : Result A Fault). IfErr r (IsOfNormalise max)) (sym is) tt
-
-  pub write-reads : {R : Type 0} (errors : R → Option ℕ) (old new : Source R) → HasReadOn errors old new →
-      FaultReads errors old new result
-  write-reads errors old new read = subst (FaultReads errors old new) (sym is) read

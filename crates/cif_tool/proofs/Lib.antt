@@ -1,5 +1,4 @@
 pub mod Answered
-pub mod BothRead
 pub mod CommandBuilt
 pub mod Each
 pub mod FirstFault

@@ -176,92 +176,92 @@ fn arg_of<'a>(alloc: Global, which: Argument, choices: &Choices<'a>) -> Arg<'a>
     }
 }
 
-/// The subcommand of this name, which takes these arguments.
-fn taking<'a>(
-    alloc: Global,
+/// What a subcommand is called, what help says of it, and what it takes.
+#[derive(Clone, Copy)]
+struct Parts<'a> {
     name: &'a str,
     about: &'a str,
     more: &'a str,
-    arguments: &[Argument],
+    arguments: &'a [Argument],
+}
+
+impl Subcommand {
+    ghost use Rattle.cif_tool.specs.declared.command_line.Choices.{Choices};
+
+    /// Its parts.
+    fn parts(self) -> Parts<'static>
+        ensures { (choices : Choices) → subcommand choices self
+            ≡ taking choices (new_app result.name.now) result.arguments.now }
+    {
+        match self {
+            Subcommand::Normalise => Parts {
+                name: "normalise",
+                about: help::NORMALISE,
+                more: help::NORMALISE_MORE,
+                arguments: &CANONICAL,
+            },
+            Subcommand::Check => Parts {
+                name: "check",
+                about: help::CHECK,
+                more: help::CHECK_MORE,
+                arguments: &CANONICAL,
+            },
+            Subcommand::Compare => Parts {
+                name: "compare",
+                about: help::COMPARE,
+                more: help::COMPARE_MORE,
+                arguments: &TWO_FILES,
+            },
+            Subcommand::Diff => Parts {
+                name: "diff",
+                about: help::DIFF,
+                more: help::DIFF_MORE,
+                arguments: &TWO_FILES,
+            },
+            Subcommand::Day => Parts {
+                name: "day",
+                about: help::DAY,
+                more: help::DAY_MORE,
+                arguments: &DAY,
+            },
+            Subcommand::Train => Parts {
+                name: "train",
+                about: help::TRAIN,
+                more: help::TRAIN_MORE,
+                arguments: &TRAIN,
+            },
+            Subcommand::Explain => Parts {
+                name: "explain",
+                about: help::EXPLAIN,
+                more: help::EXPLAIN_MORE,
+                arguments: &EXPLAIN,
+            },
+            Subcommand::Clashes => Parts {
+                name: "clashes",
+                about: help::CLASHES,
+                more: help::CLASHES_MORE,
+                arguments: &CLASHES,
+            },
+        }
+    }
+}
+
+/// The subcommand of these parts.
+fn taking<'a>(
+    alloc: Global,
+    parts: Parts<'a>,
     choices: &Choices<'a>,
 ) -> Result<Command<'a>, AllocError>
     ensures { IfOk result
-        (IsCommand (taking choices.now (new_app name.entry.now) arguments.now)) }
+        (IsCommand (taking choices.now (new_app parts.entry.name.now) parts.entry.arguments.now)) }
 {
-    let mut command = Command::new(alloc, name).about(about).after_help(more);
-    for which in arguments {
+    let mut command = Command::new(alloc, parts.name)
+        .about(parts.about)
+        .after_help(parts.more);
+    for which in parts.arguments {
         command = command.arg(arg_of(alloc, *which, choices))?;
     }
     Ok(command)
-}
-
-/// The subcommand.
-fn command_of<'a>(
-    alloc: Global,
-    which: Subcommand,
-    choices: &Choices<'a>,
-) -> Result<Command<'a>, AllocError>
-    ensures { IfOk result (IsCommand (subcommand choices.now which)) }
-{
-    match which {
-        Subcommand::Normalise => taking(
-            alloc,
-            "normalise",
-            help::NORMALISE,
-            help::NORMALISE_MORE,
-            &CANONICAL,
-            choices,
-        ),
-        Subcommand::Check => taking(
-            alloc,
-            "check",
-            help::CHECK,
-            help::CHECK_MORE,
-            &CANONICAL,
-            choices,
-        ),
-        Subcommand::Compare => taking(
-            alloc,
-            "compare",
-            help::COMPARE,
-            help::COMPARE_MORE,
-            &TWO_FILES,
-            choices,
-        ),
-        Subcommand::Diff => taking(
-            alloc,
-            "diff",
-            help::DIFF,
-            help::DIFF_MORE,
-            &TWO_FILES,
-            choices,
-        ),
-        Subcommand::Day => taking(alloc, "day", help::DAY, help::DAY_MORE, &DAY, choices),
-        Subcommand::Train => taking(
-            alloc,
-            "train",
-            help::TRAIN,
-            help::TRAIN_MORE,
-            &TRAIN,
-            choices,
-        ),
-        Subcommand::Explain => taking(
-            alloc,
-            "explain",
-            help::EXPLAIN,
-            help::EXPLAIN_MORE,
-            &EXPLAIN,
-            choices,
-        ),
-        Subcommand::Clashes => taking(
-            alloc,
-            "clashes",
-            help::CLASHES,
-            help::CLASHES_MORE,
-            &CLASHES,
-            choices,
-        ),
-    }
 }
 
 /// The program without its subcommands.
@@ -289,7 +289,7 @@ fn with_subcommands<'a>(
 {
     let mut command = command;
     for which in subcommands {
-        command = command.subcommand(command_of(alloc, *which, choices)?)?;
+        command = command.subcommand(taking(alloc, which.parts(), choices)?)?;
     }
     Ok(command)
 }

@@ -13,7 +13,7 @@ use std::alloc::{AllocError, Global};
 use std::env::Env;
 use std::io::{BufWriter, ErrorKind, Printer};
 use std::rt::Files;
-use std::{env, io};
+use std::{env, io, mem};
 
 /// The bytes of output that are gathered before they are written.
 const OUTPUT_BUFFER: usize = 65_536;
@@ -144,15 +144,16 @@ fn answered<'a, R: Files + Input + Print + AllocGlobal>(
         Ok(output) => output,
         Err(fault) => return (Err(fault), None),
     };
-    let answer = answer(rt.alloc(), job, left, right, &mut Sink::new(&mut output));
+    let answer = answer(rt.alloc(), job, left, right, &mut output);
     (answer, failure_of(output))
 }
 
 /// The error that a write of the output ended with, of which nothing more is written: a `BufWriter`
 /// that is dropped writes what it holds, also after a failure.
-fn failure_of<R: Print>(output: BufWriter<Output<Printer<'_, R>>>) -> Option<io::Error> {
-    let (output, _) = output.into_parts();
-    output.failure()
+fn failure_of<R: Print>(output: Sink<BufWriter<Output<Printer<'_, R>>>>) -> Option<io::Error> {
+    let failure = output.writer().get_ref().failure();
+    mem::forget(output);
+    failure
 }
 
 /// Says why the words ask for nothing: help and the version on the standard output, all else on
@@ -163,7 +164,7 @@ fn explained<R: Print + AllocGlobal, W: WriteDevice>(
     errors: &mut Sink<W>,
 ) -> Result<u8, Fault> {
     let mut output = buffered_output(rt)?;
-    let answer = fault.explain(rt.alloc(), &mut Sink::new(&mut output), errors);
+    let answer = fault.explain(rt.alloc(), &mut output, errors);
     let _ = failure_of(output);
     answer
 }
@@ -186,9 +187,9 @@ fn escaped<R: Env + AllocGlobal>(rt: &R, fault: JobFault) -> JobFault {
 /// The standard output behind a buffer.
 fn buffered_output<R: Print + AllocGlobal>(
     rt: &R,
-) -> Result<BufWriter<Output<Printer<'_, R>>>, Fault> {
+) -> Result<Sink<BufWriter<Output<Printer<'_, R>>>>, Fault> {
     match BufWriter::with_capacity(rt.alloc(), OUTPUT_BUFFER, Output::new(io::writer(rt))) {
-        Ok(output) => Ok(output),
+        Ok(output) => Ok(Sink::new(output)),
         Err(_) => Err(Fault::Memory),
     }
 }

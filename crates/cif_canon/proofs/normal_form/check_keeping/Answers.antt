@@ -1,10 +1,13 @@
 -- Of known bytes (`known_so`): what they spell, narrowed, has a form to count (`counted-text`), or is to blame (`known-canon_fault`).
+use Rattle.std.proofs.Common.{◌≢◌, subst}
 use Rattle.cif_columns.specs.Source.{reader_of}
 use Rattle.cif_columns.proofs.GivenLinesLaws.{known_so}
 use Rattle.cif_extract.specs.ExtractParts.{extract_parts}
-use Rattle.cif_canon.specs.Fault.{IsOfCheck}
-use Rattle.cif_canon.proofs.HandedFaults.{at-fault, hands}
-use Rattle.cif_canon.proofs.Normalising.{canon-of_check, canon-reads}
+use Rattle.cif_extract.specs.declared.fault.Fault.TheVariants.{Read}
+use Rattle.cif_canon.specs.Fault.{IsCanonFault, IsOfCheck}
+use Rattle.cif_canon.proofs.BothRead.{read-on}
+use Rattle.cif_canon.proofs.HandedFaults.{hands}
+use Rattle.cif_canon.proofs.Normalising.{canon-of_check}
 use Rattle.cif_canon.proofs.Normalising.{counted-text, known-accepted, known-canon_accepted, known-canon_fault}
 use Rattle.cif_canon.proofs.normal_form.check_keeping.Goals as goal
 
@@ -40,5 +43,6 @@ returns-in_err-canon-clause-answers g c =
 pub returns-in_err-canon-clause-source : goal.returns-in_err-canon-clause-source
 returns-in_err-canon-clause-source g c =
     let call = c.from_residual-in_err-canon in
-    canon-reads g.R.ReadDevice.read_errors _ _ (extract_parts c.insert-extract.result.now) call.result _
-    (at-fault call.result _ call.ensures.1) c.in_err-canon.ensures.fault c.in_ok-extract.ensures.source
+    read-on _ _ _ call.result (hands call.result c.in_err-canon.field-0.0 call.ensures.1 (λ f. f ≢ Read)
+    (λ read. subst (IsCanonFault (extract_parts c.insert-extract.result.now)) read c.in_err-canon.ensures.fault))
+    c.in_ok-extract.ensures.source

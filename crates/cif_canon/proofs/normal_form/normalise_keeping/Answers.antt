@@ -1,14 +1,15 @@
 -- The text has to be named, the canonical form's: of known bytes `Normalising` says it is that, written whole or as a prefix.
-use Rattle.std.proofs.Common.{◌∙◌, Err, None, ap, subst}
+use Rattle.std.proofs.Common.{◌≢◌, ◌∙◌, Err, None, ap, subst, sym}
 use Rattle.cif_columns.specs.Source.{reader_of}
 use Rattle.cif_columns.proofs.GivenLinesLaws.{known_so}
 use Rattle.cif_extract.specs.ExtractParts.{extract_parts}
+use Rattle.cif_extract.specs.declared.fault.Fault.TheVariants.{Read}
+use Rattle.cif_canon.proofs.BothRead.{read-on}
 use Rattle.cif_canon.proofs.HandedFaults.{at-fault, hands}
 use Rattle.cif_canon.specs.Fault.{IsCanonFault, IsOfCheck, IsOfNormalise}
-use Rattle.cif_canon.proofs.Normalising.{canon-of_check, canon-reads}
+use Rattle.cif_canon.proofs.Normalising.{canon-of_check}
 use Rattle.cif_canon.proofs.Normalising.{fails-silently, fault-writes, known-accepted, known-canon_accepted, known-canon_fault}
 use Rattle.cif_canon.proofs.Normalising.{normalises-prefix, normalises-whole, write-accepted, write-answers, write-fault}
-use Rattle.cif_canon.proofs.Normalising.{write-reads}
 use Rattle.cif_canon.proofs.normal_form.normalise_keeping.Goals as goal
 
 pub returns-in_err-extract-clause-normal : goal.returns-in_err-extract-clause-normal
@@ -76,8 +77,9 @@ returns-in_err-canon-clause-answers g c =
 pub returns-in_err-canon-clause-source : goal.returns-in_err-canon-clause-source
 returns-in_err-canon-clause-source g c =
     let call = c.from_residual-in_err-canon in
-    canon-reads g.R.ReadDevice.read_errors _ _ (extract_parts c.insert-extract.result.now) call.result _
-    (at-fault call.result _ call.ensures.1) c.in_err-canon.ensures.fault c.in_ok-extract.ensures.source
+    read-on _ _ _ call.result (hands call.result c.in_err-canon.field-0.0 call.ensures.1 (λ f. f ≢ Read)
+    (λ read. subst (IsCanonFault (extract_parts c.insert-extract.result.now)) read c.in_err-canon.ensures.fault))
+    c.in_ok-extract.ensures.source
 
 pub returns-in_err-write-clause-fault : goal.returns-in_err-write-clause-fault
 returns-in_err-write-clause-fault g c =
@@ -100,5 +102,5 @@ returns-in_err-write-clause-answers g c =
 pub returns-in_err-write-clause-source : goal.returns-in_err-write-clause-source
 returns-in_err-write-clause-source g c =
     let call = c.from_residual-in_err-write in
-    let is = at-fault call.result _ call.ensures.1 ∙ ap Err c.in_err-write.ensures.fault in
-    write-reads c.args.max_lines c.args.asked.now None None call.result is g.R.ReadDevice.read_errors _ _ c.in_ok-extract.ensures.source
+    read-on _ _ _ call.result (hands call.result c.in_err-write.field-0.0 call.ensures.1 (λ f. f ≢ Read)
+    (subst (λ f. f ≢ Read) (sym c.in_err-write.ensures.fault) (λ is. cc))) c.in_ok-extract.ensures.source

@@ -1,7 +1,12 @@
 -- Of known bytes (`known_so`): what they spell is narrowed, or the window that was asked for is to blame (`known-narrowing`).
+use Rattle.std.proofs.Common.{◌≢◌, subst}
 use Rattle.cif_columns.specs.Source.{reader_of}
 use Rattle.cif_columns.proofs.GivenLinesLaws.{known_so}
 use Rattle.cif_extract.specs.ExtractParts.{extract_parts}
+use Rattle.cif_extract.specs.declared.fault.Fault.TheVariants.{Read}
+use Rattle.cif_canon.specs.Asked.{IsNarrowingFault}
+use Rattle.cif_canon.proofs.BothRead.{read-on}
+use Rattle.cif_canon.proofs.HandedFaults.{hands}
 use Rattle.cif_canon.proofs.Normalising.{known-narrowing, spells-narrowed}
 use Rattle.cif_canon.proofs.normal_form.read_narrowed.Goals as goal
 
@@ -16,3 +21,10 @@ returns-clause-ok g c =
     known_so _ _ _ (λ bytes spelled.
     spells-narrowed c.args.max_lines c.args.asked.now bytes (extract_parts c.in_ok-extract.extract) _ spelled c.in_ok-narrow.ensures.ok)
     c.in_ok-extract.ensures.ok
+
+pub returns-in_err-narrow-clause-source : goal.returns-in_err-narrow-clause-source
+returns-in_err-narrow-clause-source g c =
+    let call = c.from_residual-in_err-narrow in
+    read-on _ _ _ call.result (hands call.result c.in_err-narrow.field-0.0 call.ensures.1 (λ f. f ≢ Read)
+    (λ read. subst (IsNarrowingFault c.args.asked.now c.in_ok-extract.extract.header) read c.in_err-narrow.ensures.fault))
+    c.in_ok-extract.ensures.device

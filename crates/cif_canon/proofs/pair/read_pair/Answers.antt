@@ -4,7 +4,9 @@ use Rattle.cif_columns.proofs.GivenLinesLaws.{known_so}
 use Rattle.cif_columns.specs.declared.line_reader.TheConstants.{MAX_LINES}
 use Rattle.cif_extract.specs.ExtractParts.{extract_parts}
 use Rattle.cif_extract.specs.ReadFault.{IsOfReading}
-use Rattle.cif_extract.specs.declared.fault.Fault.TheVariants.{Write}
+use Rattle.cif_extract.specs.declared.fault.Fault.TheVariants.{Read, Write}
+use Rattle.cif_canon.specs.Asked.{IsNarrowingFault}
+use Rattle.cif_canon.proofs.BothRead.{both-read}
 use Rattle.cif_canon.proofs.HandedFaults.{hands}
 use Rattle.cif_canon.specs.Pair.{IsCompareRefusal}
 use Rattle.cif_canon.proofs.ReadPairs.{are-narrowed, spelled-refused}
@@ -60,3 +62,27 @@ pub returns-in_err-right-clause-silent : goal.returns-in_err-right-clause-silent
 returns-in_err-right-clause-silent g c =
     hands c.from_residual-in_err-right.result c.in_err-right.field-0.0 c.from_residual-in_err-right.ensures.1 (λ f. f ≢ Write)
     (λ write. subst (IsOfReading MAX_LINES) write c.in_err-right.ensures.answers)
+
+pub returns-in_err-narrow-clause-silent : goal.returns-in_err-narrow-clause-silent
+returns-in_err-narrow-clause-silent g c =
+    hands c.from_residual-in_err-narrow.result c.in_err-narrow.field-0.0 c.from_residual-in_err-narrow.ensures.1 (λ f. f ≢ Write)
+    (λ write. subst (IsNarrowingFault c.asked_of_both-asked.result c.in_ok-left.left.header) write c.in_err-narrow.ensures.fault)
+
+pub returns-in_err-narrow-clause-sources : goal.returns-in_err-narrow-clause-sources
+returns-in_err-narrow-clause-sources g c =
+    let call = c.from_residual-in_err-narrow in
+    both-read _ _ _ _ _ call.result (inr (c.in_ok-left.ensures.device, c.in_ok-right.ensures.device))
+    (hands call.result c.in_err-narrow.field-0.0 call.ensures.1 (λ f. f ≢ Read)
+    (λ read. subst (IsNarrowingFault c.asked_of_both-asked.result c.in_ok-left.left.header) read c.in_err-narrow.ensures.fault))
+
+pub returns-in_err-narrow-2-clause-silent : goal.returns-in_err-narrow-2-clause-silent
+returns-in_err-narrow-2-clause-silent g c =
+    hands c.from_residual-in_err-narrow-2.result c.in_err-narrow-2.field-0.0 c.from_residual-in_err-narrow-2.ensures.1 (λ f. f ≢ Write)
+    (λ write. subst (IsNarrowingFault c.asked_of_both-asked.result c.in_ok-right.right.header) write c.in_err-narrow-2.ensures.fault)
+
+pub returns-in_err-narrow-2-clause-sources : goal.returns-in_err-narrow-2-clause-sources
+returns-in_err-narrow-2-clause-sources g c =
+    let call = c.from_residual-in_err-narrow-2 in
+    both-read _ _ _ _ _ call.result (inr (c.in_ok-left.ensures.device, c.in_ok-right.ensures.device))
+    (hands call.result c.in_err-narrow-2.field-0.0 call.ensures.1 (λ f. f ≢ Read)
+    (λ read. subst (IsNarrowingFault c.asked_of_both-asked.result c.in_ok-right.right.header) read c.in_err-narrow-2.ensures.fault))

@@ -4,12 +4,13 @@ use Rattle.std.proofs.lemmas.Result.{IfOk-weaker}
 use Rattle.cif_columns.specs.Source.{reader_of}
 use Rattle.cif_columns.proofs.GivenLinesLaws.{known_so}
 use Rattle.cif_extract.specs.ExtractParts.{extract_parts}
-use Rattle.cif_extract.specs.declared.fault.Fault.TheVariants.{Write}
+use Rattle.cif_extract.specs.declared.fault.Fault.TheVariants.{Read, Write}
 use Rattle.cif_canon.specs.Clashes.{clashes_text}
-use Rattle.cif_canon.proofs.HandedFaults.{at-fault, known-fault}
+use Rattle.cif_canon.proofs.HandedFaults.{at-fault, hands, known-fault}
 use Rattle.cif_tool.specs.Answer.{IsClashesRefusal}
 use Rattle.cif_tool.specs.Status.{listed_status}
 use Rattle.cif_tool.proofs.Answered.{fails-silently, fails-to-write, flushed, only-write}
+use Rattle.cif_canon.proofs.BothRead.{read-on}
 use Rattle.cif_tool.proofs.KnownAnswers.{clashes-answer}
 use Rattle.cif_tool.proofs.answers.answer_clashes.Goals as goal
 
@@ -71,3 +72,20 @@ returns-clause-fault g c =
     known_so _ _ _ (λ bytes spelled.
     only-write (IsClashesRefusal c.args.asked.now bytes after) c.flushed.result c.flushed.ensures.fault
     (inr (extract_parts c.in_ok-extract.extract, spelled, inr (inr refl)))) c.in_ok-extract.ensures.ok
+
+pub returns-in_err-found-clause-source : goal.returns-in_err-found-clause-source
+returns-in_err-found-clause-source g c =
+    let call = c.from_residual-in_err-found in
+    read-on _ _ _ call.result (hands call.result c.in_err-found.field-0.0 call.ensures.1 (λ f. f ≢ Read)
+    (subst (λ f. f ≢ Read) (sym c.in_err-found.ensures.fault) (λ is. cc))) c.in_ok-extract.ensures.device
+
+pub returns-in_err-write-clause-source : goal.returns-in_err-write-clause-source
+returns-in_err-write-clause-source g c =
+    let call = c.from_residual-in_err-write in
+    read-on _ _ _ call.result (hands call.result c.in_err-write.field-0.0 call.ensures.1 (λ f. f ≢ Read)
+    (subst (λ f. f ≢ Read) (sym c.in_err-write.ensures.fault) (λ is. cc))) c.in_ok-extract.ensures.device
+
+pub returns-clause-source : goal.returns-clause-source
+returns-clause-source g c =
+    read-on _ _ _ c.flushed.result (only-write (λ f. f ≢ Read) c.flushed.result c.flushed.ensures.fault (λ is. cc))
+    c.in_ok-extract.ensures.device

@@ -7,7 +7,7 @@ use Rattle.cif_canon.specs.Comparison.{IsCompareFault, comparison_line}
 use Rattle.cif_canon.proofs.HandedFaults.{at-fault, hands}
 use Rattle.cif_tool.specs.Status.{outcome_of}
 use Rattle.cif_tool.proofs.Answered.{fails-silently, fails-to-write, flushed, only-write}
-use Rattle.cif_tool.proofs.BothRead.{both-read}
+use Rattle.cif_canon.proofs.BothRead.{both-read}
 use Rattle.cif_tool.proofs.KnownAnswers.{compare-answer, compare-refused}
 use Rattle.cif_tool.proofs.answers.answer_compare.Goals as goal
 

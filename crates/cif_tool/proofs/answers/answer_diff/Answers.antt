@@ -8,7 +8,7 @@ use Rattle.cif_canon.specs.Differences.{differences_text}
 use Rattle.cif_canon.proofs.HandedFaults.{at-fault, hands}
 use Rattle.cif_tool.specs.Status.{listed_status}
 use Rattle.cif_tool.proofs.Answered.{fails-silently, fails-to-write, flushed, only-write}
-use Rattle.cif_tool.proofs.BothRead.{both-read}
+use Rattle.cif_canon.proofs.BothRead.{both-read}
 use Rattle.cif_tool.proofs.KnownAnswers.{diff-answer, compare-refused}
 use Rattle.cif_tool.proofs.answers.answer_diff.Goals as goal
 

@@ -1,11 +1,14 @@
 -- The text has to be named: that of the view, flushed or a prefix; of known bytes `explain-answer` says that it answers.
-use Rattle.std.proofs.Common.{inr}
+use Rattle.std.proofs.Common.{◌≢◌, inr, subst}
 use Rattle.cif_columns.specs.Source.{reader_of}
 use Rattle.cif_columns.proofs.GivenLinesLaws.{known_so}
 use Rattle.cif_extract.specs.ExtractParts.{extract_parts}
-use Rattle.cif_canon.proofs.HandedFaults.{at-fault, known-fault}
+use Rattle.cif_extract.specs.declared.fault.Fault.TheVariants.{Read}
+use Rattle.cif_canon.specs.Explanation.{IsExplanationFault}
+use Rattle.cif_canon.proofs.HandedFaults.{at-fault, hands, known-fault}
 use Rattle.cif_tool.specs.Answer.{IsExplainRefusal}
 use Rattle.cif_tool.proofs.Answered.{fails, flushed, only-write, written-then}
+use Rattle.cif_canon.proofs.BothRead.{read-on}
 use Rattle.cif_tool.proofs.KnownAnswers.{explain-answer}
 use Rattle.cif_tool.proofs.answers.answer_explain.Goals as goal
 
@@ -41,3 +44,15 @@ returns-clause-fault g c =
     known_so _ _ _ (λ bytes spelled.
     only-write (IsExplainRefusal c.args.day bytes after) c.flushed.result c.flushed.ensures.fault
     (inr (extract_parts c.in_ok-extract.extract, spelled, c.in_ok-explain_listing.ensures.view.2.within))) c.in_ok-extract.ensures.ok
+
+pub returns-in_err-explain_listing-clause-source : goal.returns-in_err-explain_listing-clause-source
+returns-in_err-explain_listing-clause-source g c =
+    let call = c.from_residual-in_err-explain_listing in
+    read-on _ _ _ call.result (hands call.result c.in_err-explain_listing.field-0.0 call.ensures.1 (λ f. f ≢ Read)
+    (λ read. (subst (IsExplanationFault (extract_parts c.in_ok-extract.extract) c.args.day) read
+    c.in_err-explain_listing.ensures.fault))) c.in_ok-extract.ensures.device
+
+pub returns-clause-source : goal.returns-clause-source
+returns-clause-source g c =
+    read-on _ _ _ c.flushed.result (only-write (λ f. f ≢ Read) c.flushed.result c.flushed.ensures.fault (λ is. cc))
+    c.in_ok-extract.ensures.device

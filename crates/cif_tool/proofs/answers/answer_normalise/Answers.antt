@@ -1,7 +1,10 @@
 -- The text has to be named: what `normalise` wrote, flushed or a prefix; of known bytes `normalise-answer` says that it answers.
+use Rattle.std.proofs.Common.{◌≢◌}
+use Rattle.cif_extract.specs.declared.fault.Fault.TheVariants.{Read}
 use Rattle.cif_canon.proofs.HandedFaults.{at-fault}
 use Rattle.cif_canon.specs.declared.canonical_form.Counts.{Counts}
-use Rattle.cif_tool.proofs.Answered.{fails, flushed}
+use Rattle.cif_tool.proofs.Answered.{fails, flushed, only-write}
+use Rattle.cif_canon.proofs.BothRead.{read-on}
 use Rattle.cif_tool.proofs.KnownAnswers.{normalise-answer, normalise-failed}
 use Rattle.cif_tool.proofs.answers.answer_normalise.Goals as goal
 
@@ -19,3 +22,8 @@ returns-clause-answer g c =
     flushed _ _ _ _ made.0 0 c.normalise_keeping.new.sink c.flushed.new.sink c.flushed.result made.1 c.flushed.ensures.writes
     c.flushed.ensures.ok c.flushed.ensures.fault
     (normalise-answer _ c.args.form c.args.asked.now c.in_ok-normalise_keeping.field-0 made.0 made.2)
+
+pub returns-clause-source : goal.returns-clause-source
+returns-clause-source g c =
+    read-on _ _ _ c.flushed.result (only-write (λ f. f ≢ Read) c.flushed.result c.flushed.ensures.fault (λ is. cc))
+    c.in_ok-normalise_keeping.ensures.source

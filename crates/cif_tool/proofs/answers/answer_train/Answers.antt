@@ -1,11 +1,14 @@
 -- The text is that of the view of what was narrowed (`train-answer`); the view's faults are of known bytes (`train-fault`).
-use Rattle.std.proofs.Common.{subst}
+use Rattle.std.proofs.Common.{◌≢◌, subst}
 use Rattle.cif_columns.specs.Source.{reader_of}
 use Rattle.cif_columns.specs.declared.line_reader.TheConstants.{MAX_LINES}
 use Rattle.cif_extract.specs.ExtractParts.{extract_parts}
+use Rattle.cif_extract.specs.declared.fault.Fault.TheVariants.{Read}
 use Rattle.cif_canon.specs.Fault.{IsNormaliseFault, IsOfCheck}
-use Rattle.cif_canon.proofs.HandedFaults.{at-fault, known-fault}
-use Rattle.cif_tool.proofs.Answered.{fails, fails-silently, flushed, written-then}
+use Rattle.cif_canon.specs.Views.{IsTrainFault}
+use Rattle.cif_canon.proofs.HandedFaults.{at-fault, hands, known-fault}
+use Rattle.cif_tool.proofs.Answered.{fails, fails-silently, flushed, only-write, written-then}
+use Rattle.cif_canon.proofs.BothRead.{read-on}
 use Rattle.cif_tool.proofs.KnownAnswers.{train-answer}
 use Rattle.cif_tool.proofs.TrainFaults.{train-fault}
 use Rattle.cif_tool.proofs.answers.answer_train.Goals as goal
@@ -41,3 +44,15 @@ returns-clause-answer g c =
     c.flushed.ensures.ok c.flushed.ensures.fault
     (train-answer _ c.args.asked.now (extract_parts c.in_ok-extract.extract) c.in_ok-extract.ensures.ok c.args.layout c.args.form
     c.args.uid.now made.0 made.2)
+
+pub returns-in_err-train_listing-clause-source : goal.returns-in_err-train_listing-clause-source
+returns-in_err-train_listing-clause-source g c =
+    let call = c.from_residual-in_err-train_listing in
+    read-on _ _ _ call.result (hands call.result c.in_err-train_listing.field-0.0 call.ensures.1 (λ f. f ≢ Read)
+    (λ read. subst (IsTrainFault (extract_parts c.in_ok-extract.extract)) read
+    c.in_err-train_listing.ensures.fault)) c.in_ok-extract.ensures.source
+
+pub returns-clause-source : goal.returns-clause-source
+returns-clause-source g c =
+    read-on _ _ _ c.flushed.result (only-write (λ f. f ≢ Read) c.flushed.result c.flushed.ensures.fault (λ is. cc))
+    c.in_ok-extract.ensures.source

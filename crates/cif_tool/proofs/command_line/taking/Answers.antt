@@ -9,7 +9,7 @@ use Rattle.cif_tool.proofs.command_line.taking.Goals as goal
 
 pub loop-which-init : goal.loop-which-init
 loop-which-init c = record {
-  app = ap (λ (a : App). taking c.args.choices.now a c.args.arguments.now)
+  app = ap (λ (a : App). taking c.args.choices.now a c.args.parts.arguments.now)
       (ap app_of_fields c.after_help-command.ensures ∙ ap app_of_fields c.about.ensures ∙ c.new.ensures.app);
   local = ap (λ f. f.has_globals) c.after_help-command.ensures ∙ ap (λ f. f.has_globals) c.about.ensures ∙ c.new.ensures.local;
 }

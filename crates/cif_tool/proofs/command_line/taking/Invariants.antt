@@ -7,4 +7,5 @@ use Rattle.cif_tool.proofs.command_line.taking.Given as goal
 
 abbrev pub invariant-loop-which : goal.invariant-loop-which
 invariant-loop-which l =
-    IsTaking l.choices (taking l.choices (new_app l.name) l.arguments) (drop l.which-index l.arguments) l.command
+    IsTaking l.choices (taking l.choices (new_app l.parts.name.now) l.parts.arguments.now) (drop l.which-index l.parts.arguments.now)
+    l.command

@@ -8,7 +8,7 @@ use Rattle.cif_extract.specs.declared.fault.Fault.TheVariants as fault
 use Rattle.cif_canon.specs.Pair.{ReadsBoth}
 
 module _ {R B : Type 0} (errors : R → Option ℕ) where
-  read-on : (old new : Source R) (result : Result B Fault) → IfErr result (λ f. f ≢ fault.Read) → HasReadOn errors old new →
+  pub read-on : (old new : Source R) (result : Result B Fault) → IfErr result (λ f. f ≢ fault.Read) → HasReadOn errors old new →
       FaultReads errors old new result
   read-on old new (Ok answer) other h = h
   read-on old new (Err (fault.Refused line why)) other h = h
