@@ -1,6 +1,6 @@
 -- A span alone leads wherever it is (`alone-weeks`); else each span with this source is one more that may lead.
 use Rattle.std.proofs.Common.{arith}
-use Rattle.cif_weeks.proofs.Spans.{later-none, later-rest, alone-agreed, alone-weeks, take_next, some-all, some-more, some-same}
+use Rattle.cif_weeks.proofs.Spans.{AreLater, later-none, later-rest, alone-agreed, alone-weeks, take_next, some-all, some-more, some-same}
 use Rattle.cif_weeks.proofs.Spans.{some-agreed, agree-more, shown-weeks, shown-agreed}
 use Rattle.cif_weeks.proofs.body_runs.weeks_shown.Goals as goal
 use Rattle.cif_weeks.proofs.body_runs.weeks_shown.Goals.{else-loop-span-test, then-loop-span-test+then-last-span}
@@ -36,17 +36,25 @@ loop-span-preserved c =
     ]
 
 pub returns-clause-weeks : goal.returns-clause-weeks
-returns-clause-weeks c = shown-weeks (some-all (λ s n leads. leads.has) c.args.spans.now c.loop-span.span-index c.loop-span.last (elim c.loop-span-test.branch [
-  | else-loop-span-test w ↦ later-none c.args.spans.now c.loop-span.span-index c.loop-span.last (omega (arith, w.loop-span-test.false))
-  | then-loop-span-test+then-last-span w ↦ later-rest c.args.spans.now c.loop-span.span-index c.loop-span.last
-      w.span-item-in-loop-span.result c.requires.order w.loop-span-test.true w.span-item-in-loop-span.is w.if-last-span.true
-])
-    c.loop-span.invariant.weeks)
+returns-clause-weeks c =
+    let spans = c.args.spans.now in
+    let index = c.loop-span.span-index in
+    let last = c.loop-span.last in
+    let later : AreLater spans index last = elim c.loop-span-test.branch [
+      | else-loop-span-test w ↦ later-none spans index last (omega (arith, w.loop-span-test.false))
+      | then-loop-span-test+then-last-span w ↦ later-rest spans index last w.span-item-in-loop-span.result c.requires.order
+          w.loop-span-test.true w.span-item-in-loop-span.is w.if-last-span.true
+    ] in
+    shown-weeks (some-all (λ s n leads. leads.has) spans index last later c.loop-span.invariant.weeks)
 
 pub returns-clause-agreed : goal.returns-clause-agreed
-returns-clause-agreed c = shown-agreed (some-agreed (λ s n leads. leads.has) c.args.spans.now c.loop-span.span-index c.loop-span.last (elim c.loop-span-test.branch [
-  | else-loop-span-test w ↦ later-none c.args.spans.now c.loop-span.span-index c.loop-span.last (omega (arith, w.loop-span-test.false))
-  | then-loop-span-test+then-last-span w ↦ later-rest c.args.spans.now c.loop-span.span-index c.loop-span.last
-      w.span-item-in-loop-span.result c.requires.order w.loop-span-test.true w.span-item-in-loop-span.is w.if-last-span.true
-])
-    c.loop-span.invariant.agreed)
+returns-clause-agreed c =
+    let spans = c.args.spans.now in
+    let index = c.loop-span.span-index in
+    let last = c.loop-span.last in
+    let later : AreLater spans index last = elim c.loop-span-test.branch [
+      | else-loop-span-test w ↦ later-none spans index last (omega (arith, w.loop-span-test.false))
+      | then-loop-span-test+then-last-span w ↦ later-rest spans index last w.span-item-in-loop-span.result c.requires.order
+          w.loop-span-test.true w.span-item-in-loop-span.is w.if-last-span.true
+    ] in
+    shown-agreed (some-agreed (λ s n leads. leads.has) spans index last later c.loop-span.invariant.agreed)
