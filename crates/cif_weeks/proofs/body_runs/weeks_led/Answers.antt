@@ -65,8 +65,9 @@ returns-in-None-clause-agreed c =
 
 pub returns-in-Some-clause-disputed : goal.returns-in-Some-clause-disputed
 returns-in-Some-clause-disputed c =
-    let here = (goal.at.returns-in-Some-clause-disputed c).After-fits in
+    let after = later (goal.at.returns-in-Some-clause-disputed c).After-fits in
     let both = (c.intersection.ensures.runs c.in-Some.field-0).0 c.in-Some.ensures.found.runs in
-    led-disputed (led-weeks c.weeks_from-own.ensures (some-all (λ s n on. on) c.args.spans.now _ _ (later here) c.loop-other.invariant.over) c.fits.ensures
-    c.minus-days.ensures) (some-all (λ s n on. on) c.args.spans.now _ _ (later here) c.loop-other.invariant.rivals) c.in-Some.field-0 both.0 both.1
+    let over = some-all (λ s n on. on) c.args.spans.now _ _ after c.loop-other.invariant.over in
+    led-disputed (led-weeks c.weeks_from-own.ensures over c.fits.ensures c.minus-days.ensures)
+    (some-all (λ s n on. on) c.args.spans.now _ _ after c.loop-other.invariant.rivals) c.in-Some.field-0 both.0 both.1
     c.requires.listed
