@@ -52,15 +52,15 @@ later c = elim c.loop-other-test.branch [
 
 pub returns-in-None-clause-weeks : goal.returns-in-None-clause-weeks
 returns-in-None-clause-weeks c =
-    let here = (goal.at.returns-in-None-clause-weeks c).After-fits in
-    led-weeks c.weeks_from-own.ensures (some-all (λ s n on. on) c.args.spans.now _ _ (later here) c.loop-other.invariant.over) c.fits.ensures
-    c.minus-days.ensures
+    let after = later (goal.at.returns-in-None-clause-weeks c).After-fits in
+    led-weeks c.weeks_from-own.ensures (some-all (λ s n on. on) c.args.spans.now _ _ after c.loop-other.invariant.over)
+    c.fits.ensures c.minus-days.ensures
 
 pub returns-in-None-clause-agreed : goal.returns-in-None-clause-agreed
 returns-in-None-clause-agreed c =
-    let here = (goal.at.returns-in-None-clause-agreed c).After-fits in
-    led-agreed c.weeks_from-own.ensures (some-all (λ s n on. on) c.args.spans.now _ _ (later here) c.loop-other.invariant.over) c.fits.ensures
-    c.minus-days.ensures (some-all (λ s n on. on) c.args.spans.now _ _ (later here) c.loop-other.invariant.rivals)
+    let after = later (goal.at.returns-in-None-clause-agreed c).After-fits in
+    led-agreed c.weeks_from-own.ensures (some-all (λ s n on. on) c.args.spans.now _ _ after c.loop-other.invariant.over)
+    c.fits.ensures c.minus-days.ensures (some-all (λ s n on. on) c.args.spans.now _ _ after c.loop-other.invariant.rivals)
     (λ w both. c.in-None.ensures.none w ((c.intersection.ensures.runs w).1 both)) c.requires.listed
 
 pub returns-in-Some-clause-disputed : goal.returns-in-Some-clause-disputed
