@@ -192,8 +192,7 @@ impl Association {
         ensures fits { AllFit
             (association_rows key.now first last days letter (option_copied body.entry)) }
     {
-        line.put_columns(b"AA");
-        line.put_columns(b"N");
+        line.put_columns(b"AAN");
         key.base.put_on(line);
         key.associated.put_on(line);
         first.put_on(line);
@@ -242,10 +241,7 @@ fn put_category(body: Option<&AssocBody>, line: &mut LineBuilder)
             body.category.put_on(line);
             body.date_indicator.put_on(line);
         }
-        None => {
-            line.put_spare::<2>();
-            line.put_spare::<1>();
-        }
+        None => line.put_spare::<3>(),
     }
 }
 
@@ -264,10 +260,7 @@ fn put_kinds(body: Option<&AssocBody>, line: &mut LineBuilder)
             body.diagram.put_on(line);
             body.kind.put_on(line);
         }
-        None => {
-            line.put_spare::<1>();
-            line.put_spare::<1>();
-        }
+        None => line.put_spare::<2>(),
     }
 }
 

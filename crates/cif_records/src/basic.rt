@@ -190,8 +190,7 @@ impl Basic {
         ensures width { length line.new ≡ 29 }
         ensures fits { AllFit (basic_front uid.now first last days) }
     {
-        line.put_columns(b"BS");
-        line.put_columns(b"N");
+        line.put_columns(b"BSN");
         uid.put_on(line);
         first.put_on(line);
         last.put_on(line);
