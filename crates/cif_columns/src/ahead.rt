@@ -54,15 +54,14 @@ impl Ahead {
         &self.buf[self.start..self.end]
     }
 
-    /// Moves the held bytes, which are few, to the front.
+    /// Moves the held bytes to the front.
     fn to_front(&mut self)
-        requires { length (held_bytes self.old) < LONGEST_LINE }
         ensures bytes { held_bytes self.new ≡ held_bytes self.old }
         ensures start { self.new.start ≡ 0 }
         ensures end { self.new.end ≡ length (held_bytes self.old) }
     {
         let len = self.end - self.start;
-        move_to_front(&mut self.buf, self.start, len);
+        self.buf.copy_within(self.start..self.end, 0);
         self.start = 0;
         self.end = len;
     }
@@ -183,17 +182,6 @@ impl Ahead {
             }
         }
     }
-}
-
-/// Moves `len` bytes from `from` to the front.
-fn move_to_front(buf: &mut [u8], from: usize, len: usize)
-    requires few { len < LONGEST_LINE }
-    requires within { from + len ≤ length buf.old }
-    ensures { take len buf.new ≡ take len (drop from buf.old) }
-{
-    let mut few = [0; LONGEST_LINE];
-    few[..len].copy_from_slice(&buf[from..from + len]);
-    buf[..len].copy_from_slice(&few[..len]);
 }
 
 /// Reads once to what stands from `at` on.

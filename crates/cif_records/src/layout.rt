@@ -1,6 +1,6 @@
 //! What the kinds of record have in common: a table, and the checks of columns.
-ghost use Rattle.std.specs.Prelude.{◌≡◌, [], ◌≤◌, ◌+◌, ℕ, List, None, Option, Some, IsTrue, IfOk};
-ghost use Rattle.std.specs.Prelude.{true, codes};
+ghost use Rattle.std.specs.Prelude.{◌≡◌, [], ◌∷◌, ◌≤◌, ◌+◌, ℕ, List, None, Option, Some, IsTrue};
+ghost use Rattle.std.specs.Prelude.{IfOk, true, codes};
 ghost use Rattle.cif_columns.specs.Day.{ddmmyy_in, yymmdd_in};
 ghost use Rattle.cif_columns.specs.Field.{AllFit, AllStandIn, Row, StandsIn, is_whole_from};
 ghost use Rattle.cif_columns.specs.Field.{plain_line, columns, columns_from, date, indicator};
@@ -8,7 +8,7 @@ ghost use Rattle.cif_columns.specs.Field.{public_time, weekdays, working_time};
 ghost use Rattle.cif_columns.specs.LineBuilder.{put_all};
 ghost use Rattle.cif_columns.specs.declared.refusal.Refusal.{Refusal};
 ghost use Rattle.cif_records.specs.Bodies.{has_body};
-ghost use Rattle.cif_records.specs.Checks.{IsJudged, full_refusal, identity_refusal};
+ghost use Rattle.cif_records.specs.Checks.{IsJudged, first_of, full_refusal, identity_refusal};
 ghost use Rattle.cif_records.specs.Checks.{transaction_refusal, date_refusal, dates_refusal};
 ghost use Rattle.cif_records.specs.Checks.{header_date_refusal, last_date_refusal};
 ghost use Rattle.cif_records.specs.Checks.{bank_holiday_refusal, days_refusal, letter_refusal};
@@ -252,6 +252,25 @@ pub(crate) fn public_time_at(line: &Line, at: usize) -> Result<PublicTime, Refus
 pub(crate) struct EndTimes {
     pub(crate) working: WorkTime,
     pub(crate) public: PublicTime,
+}
+
+/// The times in columns 11 to 19 of a line whose columns 1 and 2 are these letters: the working time,
+/// and then the public one.
+pub(crate) fn end_times(line: &Line, letters: &[u8; 2]) -> Result<EndTimes, Refusal>
+    ensures { IsJudged
+        (first_of (identity_refusal letters.now line.now
+        ∷ work_time_refusal (columns 11 15 line.now)
+        ∷ public_time_refusal (columns 16 19 line.now)
+        ∷ []))
+        (λ times. (columns 1 2 line.now ≡ letters.now)
+        × StandsIn (columns 11 15 line.now) (working_time times.working)
+        × StandsIn (columns 16 19 line.now) (public_time times.public)) result }
+{
+    check_identity(line, letters)?;
+    Ok(EndTimes {
+        working: work_time_at(line, 11)?,
+        public: public_time_at(line, 16)?,
+    })
 }
 
 /// The indicator in column 80.

@@ -4,7 +4,7 @@ ghost use Rattle.cif_columns.specs.Field.{plain_line};
 ghost use Rattle.cif_records.specs.Checks.{IsJudged};
 
 use crate::Record;
-use crate::layout::{self, EndTimes, Layout, check_identity, public_time_at, work_time_at};
+use crate::layout::{self, EndTimes, Layout, end_times};
 use cif_columns::{
     Activities, Field, Line, LineBuilder, PlainTest, PublicTime, Refusal, Text, WorkTime,
     activities_at, text_at,
@@ -63,11 +63,7 @@ impl Layout for Terminus {
 
     #[tactic(auto, unfolding(crate::specs::Terminus::terminus_refusal))]
     fn check(line: &Line) -> Result<EndTimes, Refusal> {
-        check_identity(line, b"LT")?;
-        Ok(EndTimes {
-            working: work_time_at(line, 11)?,
-            public: public_time_at(line, 16)?,
-        })
+        end_times(line, b"LT")
     }
 
     fn with(line: &Line, times: EndTimes) -> Terminus {
