@@ -2,21 +2,21 @@
 use Rattle.std.proofs.Common.{◌≡◌, ◌≤◌, length, ap, ◌∙◌, arith}
 use Rattle.cif_columns.specs.Activities.{AreCodes, packed}
 use Rattle.cif_columns.specs.Text.{left_justified}
-use Rattle.cif_columns.proofs.Codes.{codes_in-codes_columns, stands-codes_columns, printable-packed, length-packed}
+use Rattle.cif_columns.proofs.Codes.{codes_in-codes_columns, stands-codes_columns, elements-packed, printable-packed, length-packed}
 use Rattle.cif_columns.proofs.activities.Activities.write.Goals as goal
 
 pub left_justified-requires : goal.left_justified-requires
 left_justified-requires c =
-    let written : c.as_slice-2.result.now ≡ packed c.self.inside.codes.items =
-    c.as_slice-2.ensures.value ∙ c.columns_of-columns.ensures ∙ ap packed c.as_slice.ensures.value in
-    let fits : length c.as_slice-2.result.now ≤ 12 =
+    let written : c.as_flattened.result.now ≡ packed c.self.inside.codes.items =
+    c.as_flattened.ensures.value ∙ elements-packed c.as_slice.result.now ∙ ap packed c.as_slice.ensures.value in
+    let fits : length c.as_flattened.result.now ≤ 12 =
     rw written (omega (arith, c.self.invariant.few, length-packed _ c.self.invariant.each)) in
     (omega arith, (fits, rw written (printable-packed _ c.self.invariant.each)))
 
 pub returns-clause-columns : goal.returns-clause-columns
 returns-clause-columns c =
     c.left_justified.ensures.columns
-    ∙ ap (left_justified 12) (c.as_slice-2.ensures.value ∙ c.columns_of-columns.ensures)
+    ∙ ap (left_justified 12) (c.as_flattened.ensures.value ∙ elements-packed c.as_slice.result.now)
     ∙ ap (λ codes. left_justified 12 (packed codes)) (c.as_slice.ensures.value ∙ c.self.view_is)
 
 pub returns-clause-stands : goal.returns-clause-stands

@@ -1,5 +1,5 @@
 -- Two dates are written over columns 49 to 60: `Windows` says what stands where then, for each fact that the type keeps.
-use Rattle.std.proofs.Common.{◌≡◌, ℕ, List, ◌++◌, length, ap, subst, sym, ◌∙◌}
+use Rattle.std.proofs.Common.{ℕ, List, ◌++◌, length, ap, subst, sym, ◌∙◌}
 use Rattle.cif_columns.specs.Day.{ddmmyy_in}
 use Rattle.cif_columns.specs.DayDigits.{ddmmyy_of}
 use Rattle.cif_columns.specs.Line.{ArePrintable}
