@@ -116,6 +116,9 @@ module _ {B : Type 0} (xs : List (Terms B)) (members : List ℕ) (from last : �
     inside : l.to ≤ last
     inside = omega (arith, both.0.in_order, both.0.upto)
 
+    pub stretch-laid : (end : ℕ) × IsStretch xs members members end first s
+    stretch-laid = (last + 1, rw (l.next inside) both.0)
+
     -- its piece is laid too
     pub laid-more : (next : ℕ) (qs : List Piece) (p : Piece) → (s.last < last → next ≡ s.last + 1) → qs ≡ ps ++ p ∷ [] →
         (p.first ≡ first) × (p.last ≡ s.last) × IsPiece xs members p → AreLaid xs members from last next (drop (k + 1) ss) qs

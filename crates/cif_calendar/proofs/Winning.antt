@@ -2,17 +2,17 @@
 use Rattle.std.proofs.Common.{◌≡◌, ℕ, ◌<◌, ◌≤◌, List, [], ◌∷◌, ◌++◌, Option, Some, Bool, false, length, get_or, map, ap, subst, sym, ◌∙◌}
 use Rattle.std.proofs.Common.{arith, refl, ⊎_elim, inl, inr}
 use Rattle.std.proofs.lemmas.Bool.{false≢true}
-use Rattle.std.specs.Prelude.{IsTrue, slice_get, ◌⊎◌}
-use Rattle.std.proofs.lemmas.List.Elements.{Contains-append_left, Contains-append_right, Contains-append_cases}
+use Rattle.std.specs.Prelude.{IsSome, IsTrue, slice_get, ◌⊎◌}
+use Rattle.std.proofs.lemmas.List.Elements.{Contains-append_left, Contains-append_right, Contains-append_cases, Contains-get_or}
 use Rattle.std.specs.Option.{option_map, option_and_then}
-use Rattle.std.proofs.lemmas.Option.{same_Some, slice_get-map, slice_get_read}
+use Rattle.std.proofs.lemmas.Option.{same_Some, slice_get-get_or, slice_get-map, slice_get_read}
 use Rattle.cif_columns.specs.Stp.{letter}
 use Rattle.cif_columns.specs.declared.stp.Stp.{Stp}
 use Rattle.cif_columns.specs.declared.stp.Stp.TheVariants.{P, N, O, C}
 use Rattle.cif_calendar.specs.Terms.{Terms, Records}
 use Rattle.cif_calendar.specs.Applies.{Applies}
 use Rattle.cif_calendar.specs.Wins.{Wins}
-use Rattle.cif_calendar.specs.Source.{IsChosen, body_at}
+use Rattle.cif_calendar.specs.Source.{IsChosen, IsWinnerAt, body_at}
 use Rattle.cif_calendar.specs.Steps.Standing.{Combines, IsDisputed, IsRank, Leads, NoneApplies, Stands, StandsAt}
 use Rattle.cif_calendar.specs.declared.standing.Standing.{Standing}
 use Rattle.cif_calendar.specs.declared.standing.Standing.TheVariants.{Nobody, Leader, Disputed}
@@ -246,3 +246,14 @@ module _ {B : Type 0} (xs : List (Terms B)) (members : List ℕ) where
     record { position = i; member = member; at = at },
     record { wins = one-wins xs i r at d on; undisputed = λ s w. ap (λ (q : Terms B). q.body) (one-chosen xs i r at s w.listed) },
   )
+
+  -- the position of a leader with a body is a source
+  pub winner-at : (d k : ℕ) (t : Terms B) → k < length members → StandsAt xs members k t → IsSome t.body →
+      Stands xs members (IsChosen xs members) d (Leader k) → IsWinnerAt xs members d (get_or members k 0)
+  winner-at d k t below at some (s, is, leads) = record {
+    member = Contains-get_or members k 0 below;
+    winner = s;
+    at = rw (same_Some (get_or members k 0) is.position (sym (slice_get-get_or members k 0 below) ∙ is.member)) is.at;
+    wins = leads.wins;
+    runs = subst IsSome (sym (body-at k t at) ∙ body-at k s is) some;
+  }

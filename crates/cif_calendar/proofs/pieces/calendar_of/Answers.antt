@@ -1,23 +1,24 @@
 -- One piece more is laid (`laid-more`), all are the calendar (`laid-all`), and a clash is the window's first (`laid-fault`).
-use Rattle.std.proofs.Common.{◌≡◌, ◌<◌, ◌+◌, ◌∙◌, ap, drop, map, subst, sym, Err}
+use Rattle.std.proofs.Common.{◌≡◌, ◌<◌, ◌+◌, ◌∙◌, ap, map, subst, sym, Err}
 use Rattle.std.proofs.lemmas.List.{drop_all}
 use Rattle.std.proofs.lemmas.Result.{err_from_is_err_and}
 use Rattle.cif_calendar.specs.Calendar.{IsAnswer}
-use Rattle.cif_calendar.proofs.LaidPieces.{laid-all, laid-fault, laid-more, laid-none}
+use Rattle.cif_calendar.proofs.LaidPieces.{laid-all, laid-fault, laid-more, laid-none, stretch-laid}
 use Rattle.cif_calendar.proofs.pieces.calendar_of.Goals as goal
 use Rattle.cif_calendar.proofs.pieces.calendar_of.Goals.{in-Some, in_default-next_up_to}
 
 pub loop-stretch-init : goal.loop-stretch-init
-loop-stretch-init g c = rw c.clear.ensures.items (laid-none (map g.E.Entry.terms c.args.entries.now) c.args.members.now c.args.window.first
-    c.args.window.last c.args.stretches.now c.requires.stretches)
+loop-stretch-init g c = rw c.clear.ensures.items (laid-none _ _ _ _ c.args.stretches.now c.requires.stretches)
+
+pub judge-requires-clause-stretch : goal.judge-requires-clause-stretch
+judge-requires-clause-stretch g c =
+    stretch-laid _ _ _ _ _ _ c.args.stretches.now _ _ c.loop-stretch-test.true c.stretch-item.is c.loop-stretch.invariant
 
 pub returns-in_err-judge : goal.returns-in_err-judge
 returns-in_err-judge g c = let p = err_from_is_err_and c.from_residual.result c.from_residual.ensures.1 in
-    let xs = map g.E.Entry.terms c.args.entries.now in
-    subst (IsAnswer xs c.args.members.now c.args.window.first c.args.window.last) (sym (p.1 ∙ ap Err p.2))
-    (laid-fault xs c.args.members.now c.args.window.first c.args.window.last c.loop-stretch.first c.loop-stretch.stretch-index
-    c.args.stretches.now c.stretch-item.result _ c.loop-stretch-test.true c.stretch-item.is c.loop-stretch.invariant _
-    c.in_err-judge.ensures.fault)
+    subst (IsAnswer (map g.E.Entry.terms c.args.entries.now) c.args.members.now c.args.window.first c.args.window.last)
+    (sym (p.1 ∙ ap Err p.2)) (laid-fault _ _ _ _ _ _ c.args.stretches.now _ _ c.loop-stretch-test.true c.stretch-item.is
+    c.loop-stretch.invariant _ c.in_err-judge.ensures.fault)
 
 pub loop-stretch-preserved : goal.loop-stretch-preserved
 loop-stretch-preserved g c =
@@ -25,12 +26,9 @@ loop-stretch-preserved g c =
     λ less. elim c.match-next_up_to.branch [
       | in-Some w ↦ w.first-is ∙ w.in-Some.ensures.1
       | in_default-next_up_to w ↦ absurd (w.in_default-next_up_to.ensures less)
-    ] in laid-more (map g.E.Entry.terms c.args.entries.now) c.args.members.now c.args.window.first c.args.window.last c.loop-stretch.first
-    c.loop-stretch.stretch-index c.args.stretches.now c.stretch-item.result c.loop-stretch.pieces.items c.loop-stretch-test.true
-    c.stretch-item.is c.loop-stretch.invariant c.match-next_up_to.first c.push.new.self.items _ next c.in-Ok.ensures.items
-    c.in_ok-judge.ensures.piece
+    ] in laid-more _ _ _ _ _ _ c.args.stretches.now _ _ c.loop-stretch-test.true c.stretch-item.is c.loop-stretch.invariant
+    c.match-next_up_to.first c.push.new.self.items _ next c.in-Ok.ensures.items c.in_ok-judge.ensures.piece
 
 pub returns : goal.returns
-returns g c = rw c.new.ensures (laid-all (map g.E.Entry.terms c.args.entries.now) c.args.members.now c.args.window.first c.args.window.last
-    c.loop-stretch.first (drop c.loop-stretch.stretch-index c.args.stretches.now) c.loop-stretch.pieces.items c.loop-stretch.invariant
+returns g c = rw c.new.ensures (laid-all _ _ _ _ _ _ _ c.loop-stretch.invariant
     (drop_all c.loop-stretch.stretch-index c.args.stretches.now c.loop-stretch-test.false))

@@ -5,14 +5,12 @@ use Rattle.cif_calendar.proofs.Winning.{combines_first, combines_second}
 use Rattle.cif_calendar.proofs.standing.combine.Goals as goal
 
 pub returns-then-rank_of_one-rank_of_other-clause-stands : goal.returns-then-rank_of_one-rank_of_other-clause-stands
-returns-then-rank_of_one-rank_of_other-clause-stands g c = combines_first (map g.E.Entry.terms c.args.entries.now) c.args.members.now
-    c.args.one c.args.other c.rank-rank_of_one.result c.rank-rank_of_other.result c.rank-rank_of_one.ensures
-    c.rank-rank_of_other.ensures c.if-rank_of_one-rank_of_other.true
+returns-then-rank_of_one-rank_of_other-clause-stands g c = combines_first _ _ c.args.one c.args.other
+    c.rank-rank_of_one.result _ c.rank-rank_of_one.ensures c.rank-rank_of_other.ensures c.if-rank_of_one-rank_of_other.true
 
 pub returns-then-rank_of_other-rank_of_one-clause-stands : goal.returns-then-rank_of_other-rank_of_one-clause-stands
-returns-then-rank_of_other-rank_of_one-clause-stands g c = combines_second (map g.E.Entry.terms c.args.entries.now) c.args.members.now
-    c.args.one c.args.other c.rank-rank_of_one.result c.rank-rank_of_other.result c.rank-rank_of_one.ensures
-    c.rank-rank_of_other.ensures c.if-rank_of_other-rank_of_one.true
+returns-then-rank_of_other-rank_of_one-clause-stands g c = combines_second _ _ c.args.one c.args.other
+    c.rank-rank_of_one.result _ c.rank-rank_of_one.ensures c.rank-rank_of_other.ensures c.if-rank_of_other-rank_of_one.true
 
 pub returns-else-rank_of_other-rank_of_one-clause-stands : goal.returns-else-rank_of_other-rank_of_one-clause-stands
 returns-else-rank_of_other-rank_of_one-clause-stands g c =

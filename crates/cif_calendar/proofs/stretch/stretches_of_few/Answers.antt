@@ -1,5 +1,5 @@
 -- One stretch more (`stretches-push`).
-use Rattle.std.proofs.Common.{arith, ◌+◌, map}
+use Rattle.std.proofs.Common.{arith, ◌+◌}
 use Rattle.cif_calendar.proofs.Stretches.{stretches-push}
 use Rattle.cif_calendar.proofs.stretch.stretches_of_few.Goals as goal
 
@@ -8,14 +8,12 @@ loop-stretches-preserved g c = let is = c.stretch_from-stretch.ensures in record
   from = omega (arith, c.in-Some.ensures, is.stretch.in_order);
   upto = omega (arith, c.in-Some.ensures);
   alike = is.alike;
-  stretches = rw c.in_ok-push.ensures.items (stretches-push (map g.E.Entry.terms c.args.entries.now) c.args.members.now c.args.part.now
-      (c.args.window.now.last + 1) c.args.window.now.first c.loop-stretches.first c.in-Some.next c.loop-stretches.stretches.items
-      c.stretch_from-stretch.result c.in-Some.ensures.1 is.stretch c.loop-stretches.invariant.stretches);
+  stretches = rw c.in_ok-push.ensures.items (stretches-push _ _ _ _ c.args.window.now.first _ _
+      c.loop-stretches.stretches.items _ c.in-Some.ensures.1 is.stretch c.loop-stretches.invariant.stretches);
 }
 
 pub returns-in-None-clause-stretches : goal.returns-in-None-clause-stretches
 returns-in-None-clause-stretches g c = let is = c.stretch_from-stretch.ensures in
-    rw c.in_ok-push.ensures.items (stretches-push (map g.E.Entry.terms c.args.entries.now) c.args.members.now c.args.part.now
-    (c.args.window.now.last + 1) c.args.window.now.first c.loop-stretches.first (c.args.window.now.last + 1)
+    rw c.in_ok-push.ensures.items (stretches-push _ _ _ _ c.args.window.now.first _ (c.args.window.now.last + 1)
     c.loop-stretches.stretches.items c.stretch_from-stretch.result (omega (arith, c.in-None.ensures, is.stretch.upto)) is.stretch
     c.loop-stretches.invariant.stretches)

@@ -47,18 +47,14 @@ returns-then-agree c old start (made, are, body) =
     )
 
 pub day_of-last-requires-clause-in_range : goal.day_of-last-requires-clause-in_range
-day_of-last-requires-clause-in_range c =
-    let a = c.args in
-    let r = c.requires in
-    last-date a.form (window_from a.window.now.first a.window.now.last) (Shows a.spans.now a.source) a.source r.inside a.week a.weeks.last
-    a.weeks r.weeks c.in-Some.first_weekday c.in-Some-last.last_weekday c.in-Some.ensures.found c.in-Some-last.ensures.found r.in_range
+day_of-last-requires-clause-in_range c = let r = c.requires in
+    last-date c.args.form _ (Shows c.args.spans.now c.args.source) c.args.source r.inside c.args.week c.args.weeks.last c.args.weeks r.weeks
+    _ _ c.in-Some.ensures.found c.in-Some-last.ensures.found r.in_range
 
 pub day_of-requires-clause-in_range : goal.day_of-requires-clause-in_range
-day_of-requires-clause-in_range c =
-    let a = c.args in
-    let r = c.requires in
-    first-date a.form (window_from a.window.now.first a.window.now.last) (Shows a.spans.now a.source) a.source r.inside a.week a.weeks.last
-    a.weeks r.weeks c.in-Some.first_weekday c.in-Some-last.last_weekday c.in-Some.ensures.found c.in-Some-last.ensures.found r.in_range
+day_of-requires-clause-in_range c = let r = c.requires in
+    first-date c.args.form _ (Shows c.args.spans.now c.args.source) c.args.source r.inside c.args.week c.args.weeks.last c.args.weeks r.weeks
+    _ _ c.in-Some.ensures.found c.in-Some-last.ensures.found r.in_range
 
 pub returns : goal.returns
 returns c old start (made, are, body) =

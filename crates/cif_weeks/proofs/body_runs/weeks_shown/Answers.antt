@@ -35,8 +35,8 @@ loop-span-preserved c =
           })
     ]
 
-pub returns-clause-weeks : goal.returns-clause-weeks
-returns-clause-weeks c =
+pub returns : goal.returns
+returns c =
     let spans = c.args.spans.now in
     let index = c.loop-span.span-index in
     let last = c.loop-span.last in
@@ -45,16 +45,8 @@ returns-clause-weeks c =
       | then-loop-span-test+then-last-span w ↦ later-rest spans index last w.span-item-in-loop-span.result c.requires.order
           w.loop-span-test.true w.span-item-in-loop-span.is w.if-last-span.true
     ] in
-    shown-weeks (some-all (λ s n leads. leads.has) spans index last later c.loop-span.invariant.weeks)
-
-pub returns-clause-agreed : goal.returns-clause-agreed
-returns-clause-agreed c =
-    let spans = c.args.spans.now in
-    let index = c.loop-span.span-index in
-    let last = c.loop-span.last in
-    let later : AreLater spans index last = elim c.loop-span-test.branch [
-      | else-loop-span-test w ↦ later-none spans index last (omega (arith, w.loop-span-test.false))
-      | then-loop-span-test+then-last-span w ↦ later-rest spans index last w.span-item-in-loop-span.result c.requires.order
-          w.loop-span-test.true w.span-item-in-loop-span.is w.if-last-span.true
-    ] in
-    shown-agreed (some-agreed (λ s n leads. leads.has) spans index last later c.loop-span.invariant.agreed)
+    record {
+      weeks = shown-weeks (some-all (λ s n leads. leads.has) spans index last later c.loop-span.invariant.weeks);
+      agreed = shown-agreed (some-agreed (λ s n leads. leads.has) spans index last later c.loop-span.invariant.agreed);
+      disputed = tt;
+    }

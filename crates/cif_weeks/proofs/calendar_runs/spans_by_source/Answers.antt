@@ -15,8 +15,7 @@ pub loop-number-init : goal.loop-number-init
 loop-number-init g c = record {
   limit = c.args.calendar.now.first;
   tiles = rw c.pieces-number-end.ensures.pieces at c.pieces-number-end.ensures.tiles;
-  before = rw c.new-spans.ensures.items
-      (spans-before_first (map g.E.Entry.terms c.args.entries.now) c.args.calendar.now c.requires.sources);
+  before = rw c.new-spans.ensures.items (spans-before_first _ _ c.requires.sources);
 }
 
 pub add_piece-requires-clause-spans : goal.add_piece-requires-clause-spans

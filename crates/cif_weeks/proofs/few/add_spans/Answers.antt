@@ -1,12 +1,11 @@
 -- One member more, which has a span (`spans-more`) or none (`spans-same`).
-use Rattle.std.proofs.Common.{◌≡◌, ◌<◌, ℕ, List, Some, map, length, get_or, refl, ◌∙◌, ap, subst, rules, arith, length-append}
-use Rattle.std.specs.Prelude.{option_map, slice_get}
+use Rattle.std.proofs.Common.{◌≡◌, ◌<◌, ℕ, List, length, get_or, ◌∙◌, ap, subst, rules, arith, length-append}
 use Rattle.std.specs.List.{refill}
 use Rattle.std.proofs.lemmas.List.{take_all, take_more}
 use Rattle.std.proofs.lemmas.List.Sorted.{IsNonDecreasingBy-from_sort_by_key}
 use Rattle.std.proofs.Math.Seq.{take-append_seam}
 use Rattle.std.proofs.lemmas.List.Elements.{All-contains, All-take, Contains-get_or}
-use Rattle.std.proofs.lemmas.Option.{slice_get-map, slice_get_read}
+use Rattle.cif_calendar.proofs.Winning.{terms_at}
 use Rattle.cif_weeks.specs.declared.span.Span.{Span}
 use Rattle.cif_weeks.proofs.MemberClash.{spans-permuted}
 use Rattle.cif_weeks.proofs.MemberRuns.{spans-more, spans-same}
@@ -21,11 +20,9 @@ source_of-source-requires-clause-sources g c =
 
 pub loop-position-preserved : goal.loop-position-preserved
 loop-position-preserved g c =
-    let terms = g.E.Entry.terms in
     let i = c.loop-position.position-index in
-    let at : slice_get (map g.E.Entry.terms c.args.entries.now) (get_or c.args.members.now c.loop-position.position-index 0)
-    ≡ Some (g.E.Entry.terms c.index-entries-position.result) = slice_get-map terms c.args.entries.now _ ∙ ap (option_map terms)
-    (slice_get_read _ _ _ _ refl (c.requires.positions i 0 c.loop-position-test.true) c.index-entries-position.is) in
+    let at = terms_at g.E.Entry.terms c.args.entries.now (get_or c.args.members.now i 0) c.index-entries-position.result
+    (c.requires.positions i 0 c.loop-position-test.true) c.index-entries-position.is in
     let are = c.loop-position.invariant.are in
     let of = c.source_of-source.ensures in
     rw (take_more c.args.members.now i 0 c.loop-position-test.true) (elim c.match-of.branch [
