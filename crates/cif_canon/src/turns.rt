@@ -63,8 +63,7 @@ fn sort_turns<K: Ord + Drop>(turns: &mut Vec<Turn<K>>) -> Result<(), AllocError>
     if turns.is_sorted_by(|one, other| one.key.cmp(&other.key).is_le()) {
         return Ok(());
     }
-    turns.sort_by(|one, other| one.key.cmp(&other.key))?;
-    Ok(())
+    turns.sort_by(|one, other| one.key.cmp(&other.key))
 }
 
 /// The positions of the turns.

@@ -7,7 +7,7 @@ use Rattle.cif_calendar.proofs.FirstClash.{same_key-cmp}
 use Rattle.cif_weeks.proofs.CalendarSources.{calendar_sources}
 use Rattle.cif_canon.specs.Steps.Turns.{AreAllByKey, AreFrom, IsFront}
 use Rattle.cif_canon.proofs.ComparedCalendars.{alike-on, clear-positions, differ-on}
-use Rattle.cif_canon.proofs.ComparedKeys.{AreAlikeBefore, AreFronts, all-alike, alike-nothing, are-fronts}
+use Rattle.cif_canon.proofs.ComparedKeys.{AreFronts, all-alike, alike-nothing, are-fronts}
 use Rattle.cif_canon.proofs.KeyPositions.{all-within}
 use Rattle.cif_canon.proofs.comparison.first_difference.Given.{Over}
 use Rattle.cif_canon.proofs.comparison.first_difference.Goals as goal
