@@ -27,15 +27,16 @@ loop-entry-init g c =
     let xs = keyed key terms c.args.left.now in
     let ys = keyed key terms c.args.right.now in
     let same = same_key-cmp g.E.Key.PartialEq.eq cmp g.met.E.Key.Ord.matches_eq g.met.E.Entry.same_key in
+    let l = c.as_slice-left_rest.result.now in
+    let r = c.as_slice-right_rest.result.now in
     let left = subst (AreAllByKey cmp xs) (sym c.as_slice-left_rest.ensures.value) c.in_ok-left_positions.ensures in
     let right = subst (AreAllByKey cmp ys) (sym c.as_slice-right_rest.ensures.value) c.in_ok-right_positions.ensures in
     let window = window_from c.args.window.now.first c.args.window.now.last in
+    let none = found-first cmp g.met.E.Key.Ord.total same window xs ys l r left right in
     record {
       left_within = all-within key terms c.args.left.now _ left.within;
       right_within = all-within key terms c.args.right.now _ right.within;
-      found =
-          subst (λ (runs : List (Sided Run)).
-          AreFound cmp window xs ys c.as_slice-left_rest.result.now c.as_slice-right_rest.result.now runs) (sym c.new-found.ensures.items) (found-first cmp g.met.E.Key.Ord.total same window xs ys _ _ left right);
+      found = subst (λ (runs : List (Sided Run)). AreFound cmp window xs ys l r runs) (sym c.new-found.ensures.items) none;
     }
 
 pub first_entry-requires : goal.first_entry-requires
