@@ -17,7 +17,7 @@ use Rattle.cif_calendar.specs.Runs.{Runs}
 use Rattle.cif_calendar.proofs.Positions.{at-contains}
 use Rattle.cif_weeks.proofs.RisingLists.{Contains-none, not_less}
 use Rattle.cif_canon.specs.Comparison.{IsFirstDifference, RunsAlike, RunsDiffer}
-use Rattle.cif_canon.specs.Steps.Turns.{AnyHasKey, HasKey, IsFirstOfBoth, IsFront, IsRising}
+use Rattle.cif_canon.specs.Steps.Turns.{AnyHasKey, AreAllByKey, HasKey, IsFirstOfBoth, IsFront, IsRising}
 use Rattle.cif_canon.proofs.KeyTurns.{one-key, rising-after}
 
 module _ {K B : Type 0} (cmp : K → K → Ordering) where
@@ -130,35 +130,33 @@ module _ {K B : Type 0} (cmp : K → K → Ordering) where
     one-way es fs k none other d (Some b) h = absurd (none h.winner h.wins.listed)
 
     -- at first all positions are left
-    pub passed-nothing : (l r : List ℕ) → IsRising cmp xs l → IsRising cmp ys r → ((i : ℕ) → i < length xs → Contains l i) →
-        ((i : ℕ) → i < length ys → Contains r i) → (Told : K → Type 0) →
+    pub passed-nothing : (l r : List ℕ) → AreAllByKey cmp xs l → AreAllByKey cmp ys r → (Told : K → Type 0) →
         ((k : K) → ((t : Terms B) → of_key xs k t → ⊥) → ((t : Terms B) → of_key ys k t → ⊥) → Told k) → ArePassed xs ys l r Told
-    passed-nothing l r up vp whole_l whole_r Told idle = record {
-      left_rising = up;
-      right_rising = vp;
-      left_passed = λ i j has. inl (whole_l i (slice_get_within xs i (j, has.terms) has.at));
-      right_passed = λ i j has. inl (whole_r i (slice_get_within ys i (j, has.terms) has.at));
+    passed-nothing l r left right Told idle = record {
+      left_rising = left.rising;
+      right_rising = right.rising;
+      left_passed = λ i j has. inl (left.whole i (slice_get_within xs i (j, has.terms) has.at));
+      right_passed = λ i j has. inl (right.whole i (slice_get_within ys i (j, has.terms) has.at));
       told = λ k none. idle k
           (λ t in'.
           let (i, at) = at-contains xs (k, t) in' in
           none (inl (record {
             position = i;
-            member = whole_l i (slice_get_within xs i (k, t) at);
+            member = left.whole i (slice_get_within xs i (k, t) at);
             has = record { terms = t; at = at };
           })))
           (λ t in'.
           let (i, at) = at-contains ys (k, t) in' in
           none (inr (record {
             position = i;
-            member = whole_r i (slice_get_within ys i (k, t) at);
+            member = right.whole i (slice_get_within ys i (k, t) at);
             has = record { terms = t; at = at };
           })));
     }
 
-    pub alike-nothing : (l r : List ℕ) → IsRising cmp xs l → IsRising cmp ys r → ((i : ℕ) → i < length xs → Contains l i) →
-        ((i : ℕ) → i < length ys → Contains r i) → AreAlikeBefore xs ys first last l r
-    alike-nothing l r up vp whole_l whole_r =
-        passed-nothing l r up vp whole_l whole_r (λ k. (d : ℕ) → first ≤ d → d ≤ last → RunsAlike xs ys k d)
+    pub alike-nothing : (l r : List ℕ) → AreAllByKey cmp xs l → AreAllByKey cmp ys r → AreAlikeBefore xs ys first last l r
+    alike-nothing l r left right =
+        passed-nothing l r left right (λ k. (d : ℕ) → first ≤ d → d ≤ last → RunsAlike xs ys k d)
         (λ k no_x no_y d from upto o. (one-way xs ys k no_x no_y d o, one-way ys xs k no_y no_x d o))
 
     -- nobody is left where there are no positions

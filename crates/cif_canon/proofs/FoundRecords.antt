@@ -1,5 +1,5 @@
 -- The differences of two lists are found key by key.
-use Rattle.std.proofs.Common.{◌≡◌, ◌≢◌, ◌⊎◌, inl, inr, ℕ, ◌<◌, List, [], ◌∷◌, ◌++◌, Option, None, Some, drop, length}
+use Rattle.std.proofs.Common.{◌≡◌, ◌≢◌, ◌⊎◌, inl, inr, ℕ, ◌<◌, List, [], ◌∷◌, ◌++◌, Option, None, Some, drop}
 use Rattle.std.proofs.Common.{refl, sym, ap, ◌∙◌, subst, arith, ⊎_elim, get_or}
 use Rattle.std.specs.Prelude.{AllPairs, Contains, ◌↔◌, if◌then◌else◌}
 use Rattle.std.specs.List.{AllZip}
@@ -27,7 +27,7 @@ use Rattle.cif_weeks.proofs.RisingLists.{Contains-none, not_less}
 use Rattle.cif_canon.specs.Differences.{ComesBefore, OnlySays, RunsApplied, SaysNothing, TurnInto, is_side, of_side}
 use Rattle.cif_canon.specs.Steps.OnlySides.{AreDifferentRuns, AreMergedRuns, IsSidedRunOf, RunComesBefore}
 use Rattle.cif_canon.specs.Steps.Records.{IsRunOf}
-use Rattle.cif_canon.specs.Steps.Turns.{IsFirstOfBoth, IsFront, IsRising}
+use Rattle.cif_canon.specs.Steps.Turns.{AreAllByKey, IsFirstOfBoth, IsFront}
 use Rattle.cif_canon.specs.declared.listed_differences.Side.{Side}
 use Rattle.cif_canon.specs.declared.listed_differences.Side.TheVariants.{Left, Right}
 use Rattle.cif_canon.specs.declared.listed_differences.Sided.{Sided}
@@ -318,11 +318,11 @@ told-idle {K} {B} window xs ys k no_x no_y = record {
   idle es none d (Some b) = (λ e. absurd (cc), λ h. absurd (none h.winner h.wins.listed))
 
 pub found-first : {K B : Type 0} (cmp : K → K → Ordering) (total : IsTotalOrder cmp) (same : (j k : K) → cmp j k ≡ Equal → j ≡ k)
-    (window : Window) (xs ys : List (K × Terms B)) (l r : List ℕ) → IsRising cmp xs l → IsRising cmp ys r →
-    ((i : ℕ) → i < length xs → Contains l i) → ((i : ℕ) → i < length ys → Contains r i) → AreFound cmp window xs ys l r []
-found-first cmp total same window xs ys l r up vp whole_l whole_r =
+    (window : Window) (xs ys : List (K × Terms B)) (l r : List ℕ) → AreAllByKey cmp xs l → AreAllByKey cmp ys r →
+    AreFound cmp window xs ys l r []
+found-first cmp total same window xs ys l r left right =
     found-nothing cmp window xs ys l r
-    (passed-nothing cmp total same xs ys window.first window.last l r up vp whole_l whole_r (AreTold window xs ys [])
+    (passed-nothing cmp total same xs ys window.first window.last l r left right (AreTold window xs ys [])
     (λ k no_x no_y. told-idle window xs ys k no_x no_y))
 
 -- ---- of all keys

@@ -49,6 +49,10 @@ module _ {E K B : Type 0} (key : E → K) (terms : E → Terms B) where
   pub within-entries : (es : List E) (i : ℕ) → i < length (keyed key terms es) → i < length es
   within-entries es i h = let e : length (keyed key terms es) ≡ length es = length-map es (λ x. (key x, terms x)) in omega arith
 
+  pub all-within : (es : List E) (positions : List ℕ) → All (λ i. i < length (keyed key terms es)) positions
+      → All (λ i. i < length es) positions
+  all-within es positions h k d below = within-entries es (get_or positions k d) (h k d below)
+
 -- the entry with a clash, by the value that stands at its position
 module _ {X K B : Type 0} (entry : X → K × Terms B) (xs : List X) (cmp : K → K → Ordering) (window : Window) (fault : RecordsFault)
     (h : IsRecordsFault cmp (map entry xs) window fault) (member day : ℕ) (is : fault ≡ Clash member day) where

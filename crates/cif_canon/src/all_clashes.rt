@@ -42,8 +42,7 @@ fn found_clashes(alloc: Global, extract: &Extract) -> Result<Vec<Clash>, AllocEr
     let window = window_of(extract);
     let none = Vec::new(alloc);
     let found = add_clashes(alloc, none, extract.associations.as_slice(), &window)?;
-    let all = add_clashes(alloc, found, extract.schedules.as_slice(), &window)?;
-    Ok(all)
+    add_clashes(alloc, found, extract.schedules.as_slice(), &window)
 }
 
 /// An entry whose clashes have names.

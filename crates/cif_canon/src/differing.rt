@@ -169,8 +169,7 @@ fn push_only<E: Entry>(
 {
     let lefts = only_runs(alloc, left, one, right, other)?;
     let rights = only_runs(alloc, right, other, left, one)?;
-    push_merged(found, lefts.as_slice(), rights.as_slice())?;
-    Ok(())
+    push_merged(found, lefts.as_slice(), rights.as_slice())
 }
 
 /// Appends the runs of what only one of a key's two calendars says.
@@ -346,6 +345,5 @@ pub(crate) fn only_runs<E: Entry>(
     ensures rising { IfOk result (λ runs. AreRisingRuns runs.items) }
 {
     let only = only_calendar(alloc, entries, one, others, other)?;
-    let found = runs(alloc, entries, &only, Form::Two)?;
-    Ok(found)
+    runs(alloc, entries, &only, Form::Two)
 }

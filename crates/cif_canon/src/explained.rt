@@ -20,7 +20,7 @@ use std::alloc::{AllocError, Global};
 use std::cmp::Ordering;
 
 /// What becomes of a record on a day on which it applies.
-#[derive(Clone, Copy, Debug, PartialEq, Eq)]
+#[derive(Clone, Copy)]
 pub enum Mark {
     /// It wins, and no record with another body does.
     Wins,
@@ -182,7 +182,7 @@ fn records_on<'a, E: ExplainedEntry>(
         (map (placed_of E.key E.terms) applying.items)) }
 {
     let mut applying = applying_records(alloc, entries, uid, day)?;
-    applying.sort_by(|one, other| order(one, other))?;
+    applying.sort_by(order)?;
     Ok(applying)
 }
 

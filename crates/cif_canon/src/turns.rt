@@ -1,10 +1,10 @@
 //! The positions of entries in the order of their keys.
-ghost use Rattle.std.specs.Prelude.{◌≡◌, ℕ, ◌<◌, All, Contains, length, map};
+ghost use Rattle.std.specs.Prelude.{◌≡◌, ◌<◌, All, length, map};
 ghost use Rattle.std.specs.Prelude.{IfNone, IfOk, IfSome, OnOk};
 ghost use Rattle.std.specs.List.Sorted.{IsPermutation};
 ghost use Rattle.cif_calendar.specs.Keys.{keyed};
-ghost use Rattle.cif_canon.specs.Steps.Turns.{AreFrom, IsFirstOfBoth, AreOfFirstKey, IsFront};
-ghost use Rattle.cif_canon.specs.Steps.Turns.{AreRisingTurns, IsRising, turns_from};
+ghost use Rattle.cif_canon.specs.Steps.Turns.{AreAllByKey, AreFrom, AreOfFirstKey};
+ghost use Rattle.cif_canon.specs.Steps.Turns.{AreRisingTurns, IsFirstOfBoth, IsFront, IsRising, turns_from};
 
 use cif_calendar::Entry;
 use cif_columns::Uid;
@@ -63,8 +63,7 @@ fn sort_turns<K: Ord + Drop>(turns: &mut Vec<Turn<K>>) -> Result<(), AllocError>
     if turns.is_sorted_by(|one, other| one.key.cmp(&other.key).is_le()) {
         return Ok(());
     }
-    turns.sort_by(|one, other| one.key.cmp(&other.key))?;
-    Ok(())
+    turns.sort_by(|one, other| one.key.cmp(&other.key))
 }
 
 /// The positions of the turns.
@@ -81,16 +80,12 @@ pub(crate) fn positions_by_key<E: CopiedKey>(
 ) -> Result<Vec<usize>, AllocError>
 where
     E::Key: Drop,
-    ensures within { IfOk result (λ positions. All (λ i. i < length entries.now) positions.items) }
-    ensures whole { IfOk result (λ positions. (i : ℕ) → i < length entries.now →
-        Contains positions.items i) }
-    ensures rising { IfOk result (λ positions.
-        IsRising E.Key.cmp (keyed E.key E.terms entries.now) positions.items) }
+    ensures { IfOk result (λ positions.
+        AreAllByKey E.Key.cmp (keyed E.key E.terms entries.now) positions.items) }
 {
     let mut turns = turns_of(alloc, entries)?;
     sort_turns(&mut turns)?;
-    let positions = positions_of(alloc, turns.as_slice())?;
-    Ok(positions)
+    positions_of(alloc, turns.as_slice())
 }
 
 /// How many of the positions, from the first on, are of entries with one key. The positions are in

@@ -50,6 +50,12 @@ pub record IsFirstOfBoth {K B : Type 0} (cmp : K → K → Ordering) (xs : List 
   pub left_from : AreFrom cmp xs left key
   pub right_from : AreFrom cmp ys right key
 
+-- the positions of all entries, in the order of their keys
+pub record AreAllByKey {K B : Type 0} (cmp : K → K → Ordering) (entries : List (K × Terms B)) (positions : List ℕ) : Type 0 where
+  pub within : All (λ i. i < length entries) positions
+  pub whole : (i : ℕ) → i < length entries → Contains positions i
+  pub rising : IsRising cmp entries positions
+
 -- entries with these keys, from this position on
 abbrev pub turns_from : {K : Type 0} → ℕ → List K → List (Turn K)
 turns_from n [] = []

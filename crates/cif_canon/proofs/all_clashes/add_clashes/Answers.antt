@@ -7,7 +7,7 @@ use Rattle.std.proofs.lemmas.List.Elements.{All-drop, All-take}
 use Rattle.cif_calendar.specs.Keys.{keyed}
 use Rattle.cif_calendar.proofs.FirstClash.{same_key-cmp}
 use Rattle.cif_canon.proofs.FoundClashes.{AreAddedSoFar, added-all, added-key, added-nothing}
-use Rattle.cif_canon.proofs.KeyPositions.{within-entries}
+use Rattle.cif_canon.proofs.KeyPositions.{all-within}
 use Rattle.cif_canon.proofs.all_clashes.add_clashes.Goals as goal
 
 pub loop-rest-init : goal.loop-rest-init
@@ -15,14 +15,13 @@ loop-rest-init g c =
     let es = keyed g.E.Entry.key g.E.Entry.terms c.args.entries.now in
     let window = c.args.window.now in record {
       within = subst (λ (rest : List ℕ). All (λ i. i < length c.args.entries.now) rest) (sym c.as_slice-rest.ensures.value)
-          c.in_ok-positions.ensures.within;
+          (all-within g.E.Entry.key g.E.Entry.terms c.args.entries.now c.in_ok-positions.positions.items c.in_ok-positions.ensures.within);
       added = subst (λ (rest : List ℕ). AreAddedSoFar g.E.Key.Ord.cmp es window.first window.last g.E.NamedClash.clash_of
           c.args.known.items c.args.known.items rest)
           (sym c.as_slice-rest.ensures.value)
           (added-nothing g.E.Key.Ord.cmp es window.first window.last g.E.NamedClash.clash_of c.args.known.items
           c.in_ok-positions.positions.items
-          (λ i below. c.in_ok-positions.ensures.whole i (within-entries g.E.Entry.key g.E.Entry.terms c.args.entries.now i below))
-          c.in_ok-positions.ensures.rising);
+          c.in_ok-positions.ensures.whole c.in_ok-positions.ensures.rising);
     }
 
 pub count_of_first_key-requires-clause-within : goal.count_of_first_key-requires-clause-within

@@ -5,37 +5,28 @@ use Rattle.std.proofs.lemmas.List.Elements.{All-drop, All-take}
 use Rattle.cif_calendar.specs.Keys.{keyed}
 use Rattle.cif_calendar.proofs.FirstClash.{same_key-cmp}
 use Rattle.cif_weeks.proofs.CalendarSources.{calendar_sources}
-use Rattle.cif_canon.specs.Steps.Turns.{AreFrom, IsFront}
+use Rattle.cif_canon.specs.Steps.Turns.{AreAllByKey, AreFrom, IsFront}
 use Rattle.cif_canon.proofs.ComparedCalendars.{alike-on, clear-positions, differ-on}
-use Rattle.cif_canon.proofs.ComparedKeys.{AreAlikeBefore, AreFronts, all-alike, alike-nothing, are-fronts}
-use Rattle.cif_canon.proofs.KeyPositions.{within-entries}
+use Rattle.cif_canon.proofs.ComparedKeys.{AreFronts, all-alike, alike-nothing, are-fronts}
+use Rattle.cif_canon.proofs.KeyPositions.{all-within}
 use Rattle.cif_canon.proofs.comparison.first_difference.Given.{Over}
 use Rattle.cif_canon.proofs.comparison.first_difference.Goals as goal
 use Rattle.cif_canon.proofs.comparison.first_difference.Goals.{After-split_at-in-Some}
 
 pub loop-entry-init : goal.loop-entry-init
 loop-entry-init g c =
-    let xs = keyed g.E.Entry.key g.E.Entry.terms c.args.left.now in
-    let ys = keyed g.E.Entry.key g.E.Entry.terms c.args.right.now in
-    let first = c.args.window.now.first in
-    let last = c.args.window.now.last in
-    let same = same_key-cmp g.E.Key.PartialEq.eq g.E.Key.Ord.cmp g.met.E.Key.Ord.matches_eq g.met.E.Entry.same_key in
+    let cmp = g.E.Key.Ord.cmp in
+    let key = g.E.Entry.key in
+    let terms = g.E.Entry.terms in
+    let xs = keyed key terms c.args.left.now in
+    let ys = keyed key terms c.args.right.now in
+    let same = same_key-cmp g.E.Key.PartialEq.eq cmp g.met.E.Key.Ord.matches_eq g.met.E.Entry.same_key in
+    let left = subst (AreAllByKey cmp xs) (sym c.as_slice-left_rest.ensures.value) c.in_ok-left_positions.ensures in
+    let right = subst (AreAllByKey cmp ys) (sym c.as_slice-right_rest.ensures.value) c.in_ok-right_positions.ensures in
     record {
-      left_within = subst (λ (is : List ℕ). All (λ i. i < length c.args.left.now) is) (sym c.as_slice-left_rest.ensures.value)
-          c.in_ok-left_positions.ensures.within;
-      right_within = subst (λ (is : List ℕ). All (λ i. i < length c.args.right.now) is) (sym c.as_slice-right_rest.ensures.value)
-          c.in_ok-right_positions.ensures.within;
-      alike =
-          subst (λ (l : List ℕ). AreAlikeBefore g.E.Key.Ord.cmp xs ys first last l c.as_slice-right_rest.result.now)
-          (sym c.as_slice-left_rest.ensures.value)
-          (subst (λ (r : List ℕ). AreAlikeBefore g.E.Key.Ord.cmp xs ys first last c.in_ok-left_positions.left_positions.items r)
-          (sym c.as_slice-right_rest.ensures.value)
-          (alike-nothing g.E.Key.Ord.cmp g.met.E.Key.Ord.total same xs ys first last c.in_ok-left_positions.left_positions.items
-          c.in_ok-right_positions.right_positions.items c.in_ok-left_positions.ensures.rising c.in_ok-right_positions.ensures.rising
-          (λ i below. c.in_ok-left_positions.ensures.whole i
-          (within-entries g.E.Entry.key g.E.Entry.terms c.args.left.now i below))
-          (λ i below. c.in_ok-right_positions.ensures.whole i
-          (within-entries g.E.Entry.key g.E.Entry.terms c.args.right.now i below))));
+      left_within = all-within key terms c.args.left.now _ left.within;
+      right_within = all-within key terms c.args.right.now _ right.within;
+      alike = alike-nothing cmp g.met.E.Key.Ord.total same xs ys c.args.window.now.first c.args.window.now.last _ _ left right;
     }
 
 pub first_entry-requires : goal.first_entry-requires

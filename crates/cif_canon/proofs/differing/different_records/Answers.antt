@@ -8,13 +8,13 @@ use Rattle.cif_calendar.proofs.FirstClash.{same_key-cmp}
 use Rattle.cif_weeks.specs.declared.run.Run.{Run}
 use Rattle.cif_weeks.specs.Window.{window_from}
 use Rattle.cif_weeks.proofs.CalendarSources.{calendar_sources}
-use Rattle.cif_canon.specs.Steps.Turns.{AreFrom, IsFront}
+use Rattle.cif_canon.specs.Steps.Turns.{AreAllByKey, AreFrom, IsFront}
 use Rattle.cif_canon.specs.declared.listed_differences.Sided.{Sided}
 use Rattle.cif_canon.proofs.ComparedCalendars.{clear-positions}
 use Rattle.cif_canon.proofs.ComparedKeys.{AreTurns, turns}
 use Rattle.cif_canon.proofs.FoundRecords.{AreFound, AreTold, found-all, found-first, found-key}
 use Rattle.cif_canon.proofs.KeyDifferences.{key-only, key-told}
-use Rattle.cif_canon.proofs.KeyPositions.{within-entries}
+use Rattle.cif_canon.proofs.KeyPositions.{all-within}
 use Rattle.cif_canon.proofs.differing.different_records.Given.{Over}
 use Rattle.cif_canon.proofs.differing.different_records.Goals as goal
 use Rattle.cif_canon.proofs.differing.different_records.Goals.{After-split_at-in-Some}
@@ -22,29 +22,21 @@ use Rattle.cif_canon.proofs.differing.different_records.Goals.{After-split_at-in
 pub loop-entry-init : goal.loop-entry-init
 loop-entry-init g c =
     let cmp = g.E.Key.Ord.cmp in
-    let xs = keyed g.E.Entry.key g.E.Entry.terms c.args.left.now in
-    let ys = keyed g.E.Entry.key g.E.Entry.terms c.args.right.now in
+    let key = g.E.Entry.key in
+    let terms = g.E.Entry.terms in
+    let xs = keyed key terms c.args.left.now in
+    let ys = keyed key terms c.args.right.now in
+    let same = same_key-cmp g.E.Key.PartialEq.eq cmp g.met.E.Key.Ord.matches_eq g.met.E.Entry.same_key in
+    let l = c.as_slice-left_rest.result.now in
+    let r = c.as_slice-right_rest.result.now in
+    let left = subst (AreAllByKey cmp xs) (sym c.as_slice-left_rest.ensures.value) c.in_ok-left_positions.ensures in
+    let right = subst (AreAllByKey cmp ys) (sym c.as_slice-right_rest.ensures.value) c.in_ok-right_positions.ensures in
     let window = window_from c.args.window.now.first c.args.window.now.last in
-    let same = same_key-cmp g.E.Key.PartialEq.eq g.E.Key.Ord.cmp g.met.E.Key.Ord.matches_eq g.met.E.Entry.same_key in
+    let none = found-first cmp g.met.E.Key.Ord.total same window xs ys l r left right in
     record {
-      left_within = subst (λ (is : List ℕ). All (λ i. i < length c.args.left.now) is) (sym c.as_slice-left_rest.ensures.value)
-          c.in_ok-left_positions.ensures.within;
-      right_within = subst (λ (is : List ℕ). All (λ i. i < length c.args.right.now) is) (sym c.as_slice-right_rest.ensures.value)
-          c.in_ok-right_positions.ensures.within;
-      found =
-          subst (λ (l : List ℕ). AreFound cmp window xs ys l c.as_slice-right_rest.result.now c.new-found.result.items)
-          (sym c.as_slice-left_rest.ensures.value)
-          (subst (λ (r : List ℕ). AreFound cmp window xs ys c.in_ok-left_positions.left_positions.items r c.new-found.result.items)
-          (sym c.as_slice-right_rest.ensures.value)
-          (subst (λ (runs : List (Sided Run)).
-          AreFound cmp window xs ys c.in_ok-left_positions.left_positions.items c.in_ok-right_positions.right_positions.items runs)
-          (sym c.new-found.ensures.items)
-          (found-first cmp g.met.E.Key.Ord.total same window xs ys c.in_ok-left_positions.left_positions.items
-          c.in_ok-right_positions.right_positions.items c.in_ok-left_positions.ensures.rising c.in_ok-right_positions.ensures.rising
-          (λ i below. c.in_ok-left_positions.ensures.whole i
-          (within-entries g.E.Entry.key g.E.Entry.terms c.args.left.now i below))
-          (λ i below. c.in_ok-right_positions.ensures.whole i
-          (within-entries g.E.Entry.key g.E.Entry.terms c.args.right.now i below)))));
+      left_within = all-within key terms c.args.left.now _ left.within;
+      right_within = all-within key terms c.args.right.now _ right.within;
+      found = subst (λ (runs : List (Sided Run)). AreFound cmp window xs ys l r runs) (sym c.new-found.ensures.items) none;
     }
 
 pub first_entry-requires : goal.first_entry-requires

@@ -1,5 +1,6 @@
 -- What is left of the calendar's sources are sources, and its runs those of what only it says (`only-runs`).
 use Rattle.std.proofs.Common.{map}
+use Rattle.std.proofs.lemmas.Result.{IfOk-weaker}
 use Rattle.cif_canon.proofs.OnlyRuns.{only-runs, only-sources, rising-runs}
 use Rattle.cif_canon.proofs.differing.only_runs.Goals as goal
 
@@ -11,11 +12,10 @@ runs-requires g c =
 
 pub returns-clause-runs : goal.returns-clause-runs
 returns-clause-runs g c =
-    only-runs (map g.E.Entry.terms c.args.entries.now) c.args.one.now (map g.E.Entry.terms c.args.others.now) c.args.other.now
-    c.in_ok-only.only c.in_ok-only.ensures c.in_ok-found.found.items c.in_ok-found.ensures
+    IfOk-weaker c.runs.result _ _ (λ found are. only-runs (map g.E.Entry.terms c.args.entries.now) c.args.one.now
+    (map g.E.Entry.terms c.args.others.now) c.args.other.now c.in_ok-only.only c.in_ok-only.ensures found.items are) c.runs.ensures
 
 pub returns-clause-rising : goal.returns-clause-rising
 returns-clause-rising g c =
-    let runs = c.in_ok-found.ensures in
-    rising-runs (map g.E.Entry.terms c.args.entries.now) c.in_ok-only.only c.in_ok-found.found.items runs.records runs.runs_of
-    runs.meets.rising
+    IfOk-weaker c.runs.result _ _ (λ found are. rising-runs (map g.E.Entry.terms c.args.entries.now) c.in_ok-only.only found.items
+    are.records are.runs_of are.meets.rising) c.runs.ensures

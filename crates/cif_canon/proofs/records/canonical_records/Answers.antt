@@ -10,7 +10,7 @@ use Rattle.cif_calendar.proofs.FirstClash.{same_key-cmp}
 use Rattle.cif_calendar.proofs.Positions.{AreLawful-of_key}
 use Rattle.cif_weeks.specs.declared.run.Run.{Run}
 use Rattle.cif_weeks.specs.Window.{window_from}
-use Rattle.cif_canon.proofs.KeyPositions.{within-entries}
+use Rattle.cif_canon.proofs.KeyPositions.{all-within}
 use Rattle.cif_canon.proofs.MadeRecords.{IsMade, made-nothing, made-key, made-fault, made-all}
 use Rattle.cif_canon.proofs.records.canonical_records.Goals as goal
 
@@ -19,13 +19,12 @@ loop-rest-init g c =
     let es = keyed g.E.Entry.key g.E.Entry.terms c.args.entries.now in
     let window = window_from c.args.window.first c.args.window.last in record {
       within = subst (λ (rest : List ℕ). All (λ i. i < length c.args.entries.now) rest) (sym c.as_slice-rest.ensures.value)
-          c.in_ok-positions.ensures.within;
+          (all-within g.E.Entry.key g.E.Entry.terms c.args.entries.now c.in_ok-positions.positions.items c.in_ok-positions.ensures.within);
       made = subst (λ (runs : List Run). IsMade g.E.Key.Ord.cmp c.args.form window es runs c.as_slice-rest.result.now)
           (sym c.new-all.ensures.items)
           (subst (λ (rest : List ℕ). IsMade g.E.Key.Ord.cmp c.args.form window es [] rest) (sym c.as_slice-rest.ensures.value)
           (made-nothing g.E.Key.Ord.cmp c.args.form window es c.in_ok-positions.positions.items
-          (λ i below. c.in_ok-positions.ensures.whole i (within-entries g.E.Entry.key g.E.Entry.terms c.args.entries.now i below))
-          c.in_ok-positions.ensures.rising));
+          c.in_ok-positions.ensures.whole c.in_ok-positions.ensures.rising));
     }
 
 pub look_ahead-requires : goal.look_ahead-requires

@@ -4,52 +4,50 @@ use Rattle.std.specs.Prelude.{Contains}
 use Rattle.std.specs.List.{range_with_len}
 use Rattle.std.specs.List.Sorted.{IsPermutation}
 use Rattle.std.proofs.lemmas.List.{length-map}
+use Rattle.std.proofs.lemmas.Result.{IfOk-weaker}
 use Rattle.std.proofs.lemmas.List.Elements.{All-same}
 use Rattle.std.proofs.lemmas.List.Sorted.{All-permutation, Contains-permutation, IsPermutation-map}
 use Rattle.cif_calendar.specs.Keys.{keyed}
-use Rattle.cif_canon.specs.Steps.Turns.{IsRising}
+use Rattle.cif_canon.specs.Steps.Turns.{AreAllByKey, IsRising}
 use Rattle.cif_canon.proofs.KeyPositions.{range-within, range-whole}
 use Rattle.cif_canon.proofs.SortedTurns.{IsTurnOf, rising-from_turns, turns-positions, turns_of_entries}
 use Rattle.cif_canon.proofs.turns.positions_by_key.Given.{Over}
 use Rattle.cif_canon.proofs.turns.positions_by_key.Goals as goal
-use Rattle.cif_canon.proofs.turns.positions_by_key.Goals.{In_ok-positions}
+use Rattle.cif_canon.proofs.turns.positions_by_key.Goals.{In_ok-sort_turns}
 
--- the positions are those of the sorted turns
-there : (g : Over) (c : In_ok-positions g)
-    → c.in_ok-positions.positions.items ≡ map (λ t. t.position) c.sort_turns.new.turns.items
-there g c = c.in_ok-positions.ensures ∙ ap (map (λ t. t.position)) c.as_slice.ensures.value
-
--- and those of the turns before are the numbers of the entries
-range : (g : Over) (c : In_ok-positions g)
-    → map (λ t. t.position) c.in_ok-turns.turns.items ≡ range_with_len 0 (length c.args.entries.now)
+-- the positions of the turns before they are sorted are the numbers of the entries
+range : (g : Over) (c : In_ok-sort_turns g)
+    → map (λ t. t.position) c.in_ok-turns.turns.items
+    ≡ range_with_len 0 (length (keyed g.E.Entry.key g.E.Entry.terms c.args.entries.now))
 range g c =
-    ap (map (λ t. t.position)) c.in_ok-turns.ensures ∙ turns-positions 0 (map g.E.Entry.key c.args.entries.now)
-    ∙ ap (range_with_len 0) (length-map c.args.entries.now g.E.Entry.key)
+    let es = c.args.entries.now in
+    ap (map (λ t. t.position)) c.in_ok-turns.ensures ∙ turns-positions 0 (map g.E.Entry.key es)
+    ∙ ap (range_with_len 0) (length-map es g.E.Entry.key ∙ sym (length-map es (λ x. (g.E.Entry.key x, g.E.Entry.terms x))))
 
-shuffled : (g : Over) (c : In_ok-positions g)
+shuffled : (g : Over) (c : In_ok-sort_turns g)
     → IsPermutation (map (λ t. t.position) c.in_ok-turns.turns.items) (map (λ t. t.position) c.sort_turns.new.turns.items)
 shuffled g c = IsPermutation-map (λ t. t.position) _ _ c.in_ok-sort_turns.ensures.all
 
-pub returns-clause-within : goal.returns-clause-within
-returns-clause-within g c =
-    let at = (goal.at.returns-clause-within g c).In_ok-positions in
-    let P : ℕ → Type 0 = λ i. i < length c.args.entries.now in
-    All-same P _ _ (there g at) (All-permutation P _ _ (shuffled g at) (All-same P _ _ (range g at) (range-within _)))
-
-pub returns-clause-whole : goal.returns-clause-whole
-returns-clause-whole g c i h =
-    let at = (goal.at.returns-clause-whole g c).In_ok-positions in
-    subst (λ (xs : List ℕ). Contains xs i) (sym (there g at))
-    (Contains-permutation _ _ i (shuffled g at) (subst (λ (xs : List ℕ). Contains xs i) (sym (range g at)) (range-whole _ i h)))
-
-pub returns-clause-rising : goal.returns-clause-rising
-returns-clause-rising g c =
-    let at = (goal.at.returns-clause-rising g c).In_ok-positions in
+made : (g : Over) (c : In_ok-sort_turns g) (ps : List ℕ) → ps ≡ map (λ t. t.position) c.sort_turns.new.turns.items
+    → AreAllByKey g.E.Key.Ord.cmp (keyed g.E.Entry.key g.E.Entry.terms c.args.entries.now) ps
+made g c ps there =
     let es = c.args.entries.now in
     let key = g.E.Entry.key in
     let terms = g.E.Entry.terms in
-    subst (λ (xs : List ℕ). IsRising g.E.Key.Ord.cmp (keyed key terms es) xs) (sym (there g at))
-    (rising-from_turns key terms g.E.Key.Ord.cmp es _
-    (All-permutation (IsTurnOf key terms es) _ _ c.in_ok-sort_turns.ensures.all
-    (All-same (IsTurnOf key terms es) _ _ c.in_ok-turns.ensures (turns_of_entries key terms es)))
-    c.in_ok-sort_turns.ensures.rising)
+    let n = length (keyed key terms es) in
+    let P : ℕ → Type 0 = λ i. i < n in
+    record {
+      within = All-same P _ _ there (All-permutation P _ _ (shuffled g c) (All-same P _ _ (range g c) (range-within n)));
+      whole = λ i h. subst (λ (xs : List ℕ). Contains xs i) (sym there)
+          (Contains-permutation _ _ i (shuffled g c) (subst (λ (xs : List ℕ). Contains xs i) (sym (range g c)) (range-whole n i h)));
+      rising = subst (λ (xs : List ℕ). IsRising g.E.Key.Ord.cmp (keyed key terms es) xs) (sym there)
+          (rising-from_turns key terms g.E.Key.Ord.cmp es _
+          (All-permutation (IsTurnOf key terms es) _ _ c.in_ok-sort_turns.ensures.all
+          (All-same (IsTurnOf key terms es) _ _ c.in_ok-turns.ensures (turns_of_entries key terms es)))
+          c.in_ok-sort_turns.ensures.rising);
+    }
+
+pub returns : goal.returns
+returns g c =
+    IfOk-weaker c.positions_of.result _ _ (λ positions is. made g (goal.at.returns g c).In_ok-sort_turns positions.items
+    (is ∙ ap (map (λ t. t.position)) c.as_slice.ensures.value)) c.positions_of.ensures
