@@ -108,8 +108,8 @@ fn named_job(alloc: Global, name: &str, matches: &ArgMatches<'_>) -> Result<Job,
     match name {
         "normalise" => normalise_job(alloc, matches),
         "check" => check_job(alloc, matches),
-        "compare" => compare_job(alloc, matches),
-        "diff" => diff_job(alloc, matches),
+        "compare" => two_files_job(alloc, matches, false),
+        "diff" => two_files_job(alloc, matches, true),
         "day" => day_job(alloc, matches),
         "train" => train_job(alloc, matches),
         "explain" => explain_job(alloc, matches),
@@ -140,36 +140,33 @@ fn check_job(alloc: Global, matches: &ArgMatches<'_>) -> Result<Job, JobFault>
     })
 }
 
-/// What `compare` asks for.
-fn compare_job(alloc: Global, matches: &ArgMatches<'_>) -> Result<Job, JobFault>
+/// What `compare` asks for, or `diff`.
+fn two_files_job(alloc: Global, matches: &ArgMatches<'_>, is_diff: bool) -> Result<Job, JobFault>
     requires left { HasWord (codes "LEFT") (rows_of (found_of matches.now)) }
     requires right { HasWord (codes "RIGHT") (rows_of (found_of matches.now)) }
-    ensures { IsJobOf (codes "compare", rows_of (found_of matches.now)) result }
+    ensures compare { is_diff ≡ false → IsJobOf (codes "compare", rows_of (found_of matches.now)) result }
+    ensures diff { is_diff ≡ true → IsJobOf (codes "diff", rows_of (found_of matches.now)) result }
 {
     let asked = asked_of(matches)?;
     let (left, right) = two_inputs(matches)?;
-    Ok(Job::Compare {
-        asked,
-        common: has_flag(matches, "common"),
-        left: String::from_str(alloc, left)?,
-        right: String::from_str(alloc, right)?,
-    })
-}
-
-/// What `diff` asks for.
-fn diff_job(alloc: Global, matches: &ArgMatches<'_>) -> Result<Job, JobFault>
-    requires left { HasWord (codes "LEFT") (rows_of (found_of matches.now)) }
-    requires right { HasWord (codes "RIGHT") (rows_of (found_of matches.now)) }
-    ensures { IsJobOf (codes "diff", rows_of (found_of matches.now)) result }
-{
-    let asked = asked_of(matches)?;
-    let (left, right) = two_inputs(matches)?;
-    Ok(Job::Diff {
-        asked,
-        common: has_flag(matches, "common"),
-        left: String::from_str(alloc, left)?,
-        right: String::from_str(alloc, right)?,
-    })
+    let common = has_flag(matches, "common");
+    let left = String::from_str(alloc, left)?;
+    let right = String::from_str(alloc, right)?;
+    if is_diff {
+        Ok(Job::Diff {
+            asked,
+            common,
+            left,
+            right,
+        })
+    } else {
+        Ok(Job::Compare {
+            asked,
+            common,
+            left,
+            right,
+        })
+    }
 }
 
 /// What `day` asks for.
