@@ -18,7 +18,7 @@ pub(crate) struct ClashLines<'a, W> {
     /// The mark of the line, as far as it has come.
     mark: ArrayVec<u8, 6>,
     /// Whether a line was marked so.
-    found: bool,
+    pub(crate) found: bool,
 }
 
 impl<'a, W: WriteDevice> ClashLines<'a, W> {
@@ -30,11 +30,6 @@ impl<'a, W: WriteDevice> ClashLines<'a, W> {
             mark: ArrayVec::new(),
             found: false,
         }
-    }
-
-    /// Whether a line was marked as a clash.
-    pub(crate) fn found(&self) -> bool {
-        self.found
     }
 
     /// Takes the next byte. That the lines can't be handed on changes nothing.
