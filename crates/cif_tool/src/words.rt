@@ -106,8 +106,8 @@ fn named_job(alloc: Global, name: &str, matches: &ArgMatches<'_>) -> Result<Job,
     ensures { IsJobOf (name.now, rows_of (found_of matches.now)) result }
 {
     match name {
-        "normalise" => normalise_job(alloc, matches),
-        "check" => check_job(alloc, matches),
+        "normalise" => canonical_job(alloc, matches, false),
+        "check" => canonical_job(alloc, matches, true),
         "compare" => two_files_job(alloc, matches, false),
         "diff" => two_files_job(alloc, matches, true),
         "day" => day_job(alloc, matches),
@@ -118,26 +118,19 @@ fn named_job(alloc: Global, name: &str, matches: &ArgMatches<'_>) -> Result<Job,
     }
 }
 
-/// What `normalise` asks for.
-fn normalise_job(alloc: Global, matches: &ArgMatches<'_>) -> Result<Job, JobFault>
-    ensures { IsJobOf (codes "normalise", rows_of (found_of matches.now)) result }
+/// What `normalise` asks for, or `check`.
+fn canonical_job(alloc: Global, matches: &ArgMatches<'_>, is_check: bool) -> Result<Job, JobFault>
+    ensures normalise { is_check ≡ false → IsJobOf (codes "normalise", rows_of (found_of matches.now)) result }
+    ensures check { is_check ≡ true → IsJobOf (codes "check", rows_of (found_of matches.now)) result }
 {
-    Ok(Job::Normalise {
-        asked: asked_of(matches)?,
-        form: form_of(matches),
-        file: file_of(alloc, matches)?,
-    })
-}
-
-/// What `check` asks for.
-fn check_job(alloc: Global, matches: &ArgMatches<'_>) -> Result<Job, JobFault>
-    ensures { IsJobOf (codes "check", rows_of (found_of matches.now)) result }
-{
-    Ok(Job::Check {
-        asked: asked_of(matches)?,
-        form: form_of(matches),
-        file: file_of(alloc, matches)?,
-    })
+    let asked = asked_of(matches)?;
+    let form = form_of(matches);
+    let file = file_of(alloc, matches)?;
+    if is_check {
+        Ok(Job::Check { file, asked, form })
+    } else {
+        Ok(Job::Normalise { file, asked, form })
+    }
 }
 
 /// What `compare` asks for, or `diff`.
