@@ -44,7 +44,7 @@ pub(crate) fn advise<R: Files + Input, W: WriteDevice>(
         Fault::Refused { line, why } => tell_refusal(last_read(left, right), *line, *why, errors),
         Fault::Read => {
             let input = last_read(left, right);
-            tell_failure(alloc, input.side(), input.name(), input.failure(), errors);
+            tell_failure(alloc, input.side(), input.name(), input.failure, errors);
         }
         Fault::OutsideWindow => {
             tell_window(left, errors);
@@ -73,16 +73,16 @@ fn last_read<'a, 'b, R: Files + Input>(
     if right.is_touched() { right } else { left }
 }
 
-/// Says what wasn't read or written, and why if the system told it.
+/// Says what wasn't read or written, and why if the system told it, by the number of the error.
 pub(crate) fn tell_failure<W: WriteDevice>(
     alloc: Global,
     side: &str,
     name: &str,
-    failure: Option<io::Error>,
+    failure: Option<i32>,
     errors: &mut Sink<W>,
 ) {
     let reason = match failure {
-        Some(error) => error.to_string(alloc).ok(),
+        Some(number) => io::Error::from_raw_os_error(number).to_string(alloc).ok(),
         None => None,
     };
     match reason {
@@ -125,15 +125,9 @@ fn tell_clash<R: Files + Input, W: WriteDevice>(
     let Some(extract) = extract_again(alloc, input) else {
         return false;
     };
-    let mut lines = ClashLines::new(errors, input.side(), input.name());
-    let _ = explain_view(
-        alloc,
-        &extract,
-        uid_of(clash),
-        day_of(clash),
-        &mut Sink::new(&mut lines),
-    );
-    lines.found()
+    let mut lines = Sink::new(ClashLines::new(errors, input.side(), input.name()));
+    let _ = explain_view(alloc, &extract, uid_of(clash), day_of(clash), &mut lines);
+    lines.writer().found
 }
 
 /// Says how to list the records that clash.
@@ -208,7 +202,7 @@ fn tell_refusal<R: Files + Input, W: WriteDevice>(
 ) {
     tell_input(errors, input.side(), input.name());
     if number == 1 {
-        if let Some(format) = format_of(input.start()) {
+        if let Some(format) = format_of(input.start.as_slice()) {
             tell(errors, &["the input looks like ", format]);
             return;
         }
@@ -233,19 +227,32 @@ fn tell_limit<W: WriteDevice>(errors: &mut Sink<W>) {
     );
 }
 
+/// How files begin that are no extracts, and what each is.
+static BEGINNINGS: [(&[u8], &str); 8] = [
+    (b"\x1F\x8B", "gzip: decompress it first"),
+    (b"PK\x03\x04", "a zip archive: extract it first"),
+    (
+        b"\xEF\xBB\xBF",
+        "text with a byte order mark: remove its first three bytes",
+    ),
+    (b"\xFF\xFE", "UTF-16: convert it to ASCII first"),
+    (b"\xFE\xFF", "UTF-16: convert it to ASCII first"),
+    (b"{", "JSON: take the feed in the CIF format"),
+    (b"[", "JSON: take the feed in the CIF format"),
+    (
+        b"/!!",
+        "a derived file: remove its comment lines, which begin with /!!",
+    ),
+];
+
 /// What an input that begins so looks like, where that is no extract.
 fn format_of(start: &[u8]) -> Option<&'static str> {
-    match start {
-        [0x1F, 0x8B, ..] => Some("gzip: decompress it first"),
-        [b'P', b'K', 3, 4, ..] => Some("a zip archive: extract it first"),
-        [0xEF, 0xBB, 0xBF, ..] => Some("text with a byte order mark: remove its first three bytes"),
-        [0xFF, 0xFE, ..] | [0xFE, 0xFF, ..] => Some("UTF-16: convert it to ASCII first"),
-        [b'{', ..] | [b'[', ..] => Some("JSON: take the feed in the CIF format"),
-        [b'/', b'!', b'!', ..] => Some(
-            "a derived file: remove its comment lines, which begin with /!!",
-        ),
-        _ => None,
+    for (beginning, format) in &BEGINNINGS {
+        if start.starts_with(beginning) {
+            return Some(format);
+        }
     }
+    None
 }
 
 /// The line of this number, if it is still known: of a file, or the first of the standard input.
@@ -256,7 +263,7 @@ fn refused_line<R: Files + Input>(input: &ExtractInput<'_, R>, number: u64) -> O
     if number != 1 {
         return None;
     }
-    let mut line = line_again(&mut input.start(), number)?;
+    let mut line = line_again(&mut input.start.as_slice(), number)?;
     line.is_whole = line.length < START;
     Some(line)
 }

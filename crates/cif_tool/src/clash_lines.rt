@@ -18,7 +18,7 @@ pub(crate) struct ClashLines<'a, W> {
     /// The mark of the line, as far as it has come.
     mark: ArrayVec<u8, 6>,
     /// Whether a line was marked so.
-    found: bool,
+    pub(crate) found: bool,
 }
 
 impl<'a, W: WriteDevice> ClashLines<'a, W> {
@@ -32,24 +32,20 @@ impl<'a, W: WriteDevice> ClashLines<'a, W> {
         }
     }
 
-    /// Whether a line was marked as a clash.
-    pub(crate) fn found(&self) -> bool {
-        self.found
-    }
-
     /// Takes the next byte. That the lines can't be handed on changes nothing.
     fn take(&mut self, byte: u8) {
-        if self.mark.try_push(byte).is_ok() {
-            if self.mark.as_slice() == MARK.as_slice() {
+        let is_new = self.mark.try_push(byte).is_ok();
+        if self.mark.as_slice() == MARK.as_slice() {
+            if is_new {
                 if !self.found {
                     tell_input(self.errors, self.side, self.name);
                 }
                 self.found = true;
                 let _ = self.errors.write_all(b"  ");
                 let _ = self.errors.write_all(MARK);
+            } else {
+                let _ = self.errors.write_all(&[byte]);
             }
-        } else if self.mark.as_slice() == MARK.as_slice() {
-            let _ = self.errors.write_all(&[byte]);
         }
         if byte == b'\n' {
             self.mark.clear();

@@ -2,7 +2,7 @@
 ghost use Rattle.std.specs.Prelude.{◌≡◌, IfOk, codes, false, map, string_bytes};
 ghost use Rattle.clap.specs.Words.{FailsBy, app_of, new_app, rule_of, subcommand_rows_of};
 ghost use Rattle.clap.specs.declared.Command.TheViews.{out-Command};
-ghost use Rattle.cif_tool.specs.CommandLine.{IsCommand, argument, chosen, cif, faults_of};
+ghost use Rattle.cif_tool.specs.CommandLine.{IsCommand, argument, chosen, faults_of};
 ghost use Rattle.cif_tool.specs.CommandLine.{flag, one_of, option, program, required, subcommand};
 ghost use Rattle.cif_tool.specs.CommandLine.{taking, with_subcommands};
 
@@ -294,13 +294,6 @@ fn with_subcommands<'a>(
     Ok(command)
 }
 
-/// The command line of `cif`.
-fn cif_command<'a>(alloc: Global, choices: &Choices<'a>) -> Result<Command<'a>, AllocError>
-    ensures { IfOk result (IsCommand (cif choices.now)) }
-{
-    with_subcommands(alloc, program(alloc)?, &SUBCOMMANDS, choices)
-}
-
 /// The matches that `clap` gives for the words, of which the first is the program's name.
 pub(crate) fn matches_of<'a>(
     alloc: Global,
@@ -313,5 +306,7 @@ pub(crate) fn matches_of<'a>(
     ensures kinds { FailsBy
         (faults_of forms.entry formats.entry (map string_bytes words.entry.now)) result }
 {
-    cif_command(alloc, &Choices { forms, formats })?.try_get_matches_from(words)
+    let choices = Choices { forms, formats };
+    let command = with_subcommands(alloc, program(alloc)?, &SUBCOMMANDS, &choices)?;
+    command.try_get_matches_from(words)
 }

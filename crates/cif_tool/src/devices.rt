@@ -20,9 +20,9 @@ pub(crate) struct ExtractInput<'a, R: Files + Input> {
     name: &'a str,
     device: Device<'a, R>,
     /// What was read first, up to the length of a line with its ending.
-    start: ArrayVec<u8, START>,
+    pub(crate) start: ArrayVec<u8, START>,
     /// The system's number of the error that a read ended with.
-    failure: Option<i32>,
+    pub(crate) failure: Option<i32>,
 }
 
 #[derive(Drop)]
@@ -69,20 +69,10 @@ impl<'a, R: Files + Input> ExtractInput<'a, R> {
         }
     }
 
-    /// What was read first, up to the length of a line with its ending.
-    pub(crate) fn start(&self) -> &[u8] {
-        self.start.as_slice()
-    }
-
     /// The header, if what was read begins with one.
     pub(crate) fn header(&self) -> Option<Header> {
-        let columns = <[u8; LINE_WIDTH]>::try_from(self.start.as_slice().get(..LINE_WIDTH)?).ok()?;
-        Header::read(&Line::of(columns)?).ok()
-    }
-
-    /// The error that a read ended with.
-    pub(crate) fn failure(&self) -> Option<io::Error> {
-        Some(io::Error::from_raw_os_error(self.failure?))
+        let columns = self.start.as_slice().first_chunk::<LINE_WIDTH>()?;
+        Header::read(&Line::of(*columns)?).ok()
     }
 
     /// The file, to be read again from its beginning: none where the input isn't a file that allows
@@ -124,11 +114,8 @@ impl<R: Files + Input> Read for ExtractInput<'_, R> {
     fn read(&mut self, buf: &mut [u8]) -> io::Result<usize> {
         match self.device.read(buf) {
             Ok(count) => {
-                for byte in buf.iter().take(count) {
-                    if self.start.try_push(*byte).is_err() {
-                        break;
-                    }
-                }
+                let kept = count.min(self.start.remaining_capacity());
+                let _ = self.start.try_extend_from_slice(&buf[..kept]);
                 Ok(count)
             }
             Err(error) => {
@@ -167,7 +154,7 @@ impl<F: Read + Drop> ReadDevice for AgainInput<F> {
 #[derive(Drop)]
 pub(crate) struct Output<W> {
     writer: W,
-    failure: Option<i32>,
+    pub(crate) failure: Option<i32>,
 }
 
 impl<W: Write> Output<W> {
@@ -176,11 +163,6 @@ impl<W: Write> Output<W> {
             writer,
             failure: None,
         }
-    }
-
-    /// The error that a write ended with.
-    pub(crate) fn failure(&self) -> Option<io::Error> {
-        Some(io::Error::from_raw_os_error(self.failure?))
     }
 }
 

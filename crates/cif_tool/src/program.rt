@@ -11,7 +11,7 @@ use cif_columns::{Sink, Source, WriteDevice};
 use cif_extract::Fault;
 use std::alloc::{AllocError, Global};
 use std::env::Env;
-use std::io::{BufWriter, ErrorKind, Printer};
+use std::io::{BufWriter, ErrorKind, Write};
 use std::rt::Files;
 use std::{env, io, mem};
 
@@ -54,7 +54,8 @@ fn asked<R: Env + Files + Input + Print + AllocGlobal, W: WriteDevice>(
             } else {
                 fault
             };
-            let status = end(&explained(rt, &fault, errors), errors);
+            let answer = explained(rt.alloc(), &fault, io::writer(rt), errors);
+            let status = end(&answer, errors);
             if verbose {
                 advise_on_words(rt, &fault, errors);
             }
@@ -106,7 +107,7 @@ fn done<R: Files + Input + Print + AllocGlobal, W: WriteDevice>(
     };
     let mut left = Source::new(ExtractInput::of(rt, side, file));
     let mut right = Source::new(ExtractInput::of(rt, right_side, right_file));
-    let (answer, failure) = answered(rt, job, &mut left, &mut right);
+    let (answer, failure) = answered(rt.alloc(), job, &mut left, &mut right, io::writer(rt));
     let status = end(&answer, errors);
     if verbose {
         advise_on_answer(rt, &answer, failure, left.reader(), right.reader(), errors);
@@ -114,11 +115,11 @@ fn done<R: Files + Input + Print + AllocGlobal, W: WriteDevice>(
     status
 }
 
-/// Says more of the answer, or of its fault: `failure` is the error that a write ended with.
+/// Says more of the answer, or of its fault: `failure` is the system's number of the error that a write ended with.
 fn advise_on_answer<R: Files + Input + AllocGlobal, W: WriteDevice>(
     rt: &R,
     answer: &Result<u8, Fault>,
-    failure: Option<io::Error>,
+    failure: Option<i32>,
     left: &ExtractInput<'_, R>,
     right: &ExtractInput<'_, R>,
     errors: &mut Sink<W>,
@@ -133,38 +134,40 @@ fn advise_on_answer<R: Files + Input + AllocGlobal, W: WriteDevice>(
     }
 }
 
-/// Answers the job on the standard output. With the answer comes the error that a write ended with.
-fn answered<'a, R: Files + Input + Print + AllocGlobal>(
-    rt: &R,
+/// Writes what the job's command answers to the output. With the answer comes the system's number of the error that a
+/// write ended with.
+fn answered<'a, R: Files + Input, W: Write + Drop>(
+    alloc: Global,
     job: &Job,
     left: &mut Source<ExtractInput<'a, R>>,
     right: &mut Source<ExtractInput<'a, R>>,
-) -> (Result<u8, Fault>, Option<io::Error>) {
-    let mut output = match buffered_output(rt) {
+    output: W,
+) -> (Result<u8, Fault>, Option<i32>) {
+    let mut output = match buffered(alloc, output) {
         Ok(output) => output,
         Err(fault) => return (Err(fault), None),
     };
-    let answer = answer(rt.alloc(), job, left, right, &mut output);
+    let answer = answer(alloc, job, left, right, &mut output);
     (answer, failure_of(output))
 }
 
-/// The error that a write of the output ended with, of which nothing more is written: a `BufWriter`
-/// that is dropped writes what it holds, also after a failure.
-fn failure_of<R: Print>(output: Sink<BufWriter<Output<Printer<'_, R>>>>) -> Option<io::Error> {
-    let failure = output.writer().get_ref().failure();
+/// The number of the error that a write of the output ended with, of which nothing more is written: a
+/// `BufWriter` that is dropped writes what it holds, also after a failure.
+fn failure_of<W: Write + Drop>(output: Sink<BufWriter<Output<W>>>) -> Option<i32> {
+    let failure = output.writer().get_ref().failure;
     mem::forget(output);
     failure
 }
 
-/// Says why the words ask for nothing: help and the version on the standard output, all else on
-/// `errors`.
-fn explained<R: Print + AllocGlobal, W: WriteDevice>(
-    rt: &R,
+/// Says why the words ask for nothing: help and the version on the output, all else on `errors`.
+fn explained<O: Write + Drop, W: WriteDevice>(
+    alloc: Global,
     fault: &JobFault,
+    output: O,
     errors: &mut Sink<W>,
 ) -> Result<u8, Fault> {
-    let mut output = buffered_output(rt)?;
-    let answer = fault.explain(rt.alloc(), &mut output, errors);
+    let mut output = buffered(alloc, output)?;
+    let answer = fault.explain(alloc, &mut output, errors);
     let _ = failure_of(output);
     answer
 }
@@ -184,11 +187,12 @@ fn escaped<R: Env + AllocGlobal>(rt: &R, fault: JobFault) -> JobFault {
     }
 }
 
-/// The standard output behind a buffer.
-fn buffered_output<R: Print + AllocGlobal>(
-    rt: &R,
-) -> Result<Sink<BufWriter<Output<Printer<'_, R>>>>, Fault> {
-    match BufWriter::with_capacity(rt.alloc(), OUTPUT_BUFFER, Output::new(io::writer(rt))) {
+/// The output behind a buffer.
+fn buffered<W: Write + Drop>(
+    alloc: Global,
+    output: W,
+) -> Result<Sink<BufWriter<Output<W>>>, Fault> {
+    match BufWriter::with_capacity(alloc, OUTPUT_BUFFER, Output::new(output)) {
         Ok(output) => Ok(Sink::new(output)),
         Err(_) => Err(Fault::Memory),
     }

@@ -269,15 +269,20 @@ pub(crate) fn columns_refused(line: &[u8], why: Refusal) -> Option<RefusedColumn
 
 /// The column of the first byte that isn't printable.
 fn bad_byte(line: &[u8]) -> Option<RefusedColumns> {
-    let before = line.iter().position(|byte| !(0x20..=0x7E).contains(byte))?;
-    let column = before.checked_add(1)?;
-    Some(RefusedColumns {
-        kind: "",
-        why: Refusal::BadByte,
-        first: column,
-        last: column,
-        what: "a byte is 0x20 to 0x7E",
-    })
+    let mut column: usize = 0;
+    for byte in line {
+        column = column.saturating_add(1);
+        if !(0x20..=0x7E).contains(byte) {
+            return Some(RefusedColumns {
+                kind: "",
+                why: Refusal::BadByte,
+                first: column,
+                last: column,
+                what: "a byte is 0x20 to 0x7E",
+            });
+        }
+    }
+    None
 }
 
 /// Whether what stands in the columns of the line is refused.

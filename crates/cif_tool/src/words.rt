@@ -106,10 +106,10 @@ fn named_job(alloc: Global, name: &str, matches: &ArgMatches<'_>) -> Result<Job,
     ensures { IsJobOf (name.now, rows_of (found_of matches.now)) result }
 {
     match name {
-        "normalise" => normalise_job(alloc, matches),
-        "check" => check_job(alloc, matches),
-        "compare" => compare_job(alloc, matches),
-        "diff" => diff_job(alloc, matches),
+        "normalise" => canonical_job(alloc, matches, false),
+        "check" => canonical_job(alloc, matches, true),
+        "compare" => two_files_job(alloc, matches, false),
+        "diff" => two_files_job(alloc, matches, true),
         "day" => day_job(alloc, matches),
         "train" => train_job(alloc, matches),
         "explain" => explain_job(alloc, matches),
@@ -118,58 +118,48 @@ fn named_job(alloc: Global, name: &str, matches: &ArgMatches<'_>) -> Result<Job,
     }
 }
 
-/// What `normalise` asks for.
-fn normalise_job(alloc: Global, matches: &ArgMatches<'_>) -> Result<Job, JobFault>
-    ensures { IsJobOf (codes "normalise", rows_of (found_of matches.now)) result }
+/// What `normalise` asks for, or `check`.
+fn canonical_job(alloc: Global, matches: &ArgMatches<'_>, is_check: bool) -> Result<Job, JobFault>
+    ensures normalise { is_check ≡ false → IsJobOf (codes "normalise", rows_of (found_of matches.now)) result }
+    ensures check { is_check ≡ true → IsJobOf (codes "check", rows_of (found_of matches.now)) result }
 {
-    Ok(Job::Normalise {
-        asked: asked_of(matches)?,
-        form: form_of(matches),
-        file: file_of(alloc, matches)?,
-    })
+    let asked = asked_of(matches)?;
+    let form = form_of(matches);
+    let file = file_of(alloc, matches)?;
+    if is_check {
+        Ok(Job::Check { file, asked, form })
+    } else {
+        Ok(Job::Normalise { file, asked, form })
+    }
 }
 
-/// What `check` asks for.
-fn check_job(alloc: Global, matches: &ArgMatches<'_>) -> Result<Job, JobFault>
-    ensures { IsJobOf (codes "check", rows_of (found_of matches.now)) result }
-{
-    Ok(Job::Check {
-        asked: asked_of(matches)?,
-        form: form_of(matches),
-        file: file_of(alloc, matches)?,
-    })
-}
-
-/// What `compare` asks for.
-fn compare_job(alloc: Global, matches: &ArgMatches<'_>) -> Result<Job, JobFault>
+/// What `compare` asks for, or `diff`.
+fn two_files_job(alloc: Global, matches: &ArgMatches<'_>, is_diff: bool) -> Result<Job, JobFault>
     requires left { HasWord (codes "LEFT") (rows_of (found_of matches.now)) }
     requires right { HasWord (codes "RIGHT") (rows_of (found_of matches.now)) }
-    ensures { IsJobOf (codes "compare", rows_of (found_of matches.now)) result }
+    ensures compare { is_diff ≡ false → IsJobOf (codes "compare", rows_of (found_of matches.now)) result }
+    ensures diff { is_diff ≡ true → IsJobOf (codes "diff", rows_of (found_of matches.now)) result }
 {
     let asked = asked_of(matches)?;
     let (left, right) = two_inputs(matches)?;
-    Ok(Job::Compare {
-        asked,
-        common: has_flag(matches, "common"),
-        left: String::from_str(alloc, left)?,
-        right: String::from_str(alloc, right)?,
-    })
-}
-
-/// What `diff` asks for.
-fn diff_job(alloc: Global, matches: &ArgMatches<'_>) -> Result<Job, JobFault>
-    requires left { HasWord (codes "LEFT") (rows_of (found_of matches.now)) }
-    requires right { HasWord (codes "RIGHT") (rows_of (found_of matches.now)) }
-    ensures { IsJobOf (codes "diff", rows_of (found_of matches.now)) result }
-{
-    let asked = asked_of(matches)?;
-    let (left, right) = two_inputs(matches)?;
-    Ok(Job::Diff {
-        asked,
-        common: has_flag(matches, "common"),
-        left: String::from_str(alloc, left)?,
-        right: String::from_str(alloc, right)?,
-    })
+    let common = has_flag(matches, "common");
+    let left = String::from_str(alloc, left)?;
+    let right = String::from_str(alloc, right)?;
+    if is_diff {
+        Ok(Job::Diff {
+            asked,
+            common,
+            left,
+            right,
+        })
+    } else {
+        Ok(Job::Compare {
+            asked,
+            common,
+            left,
+            right,
+        })
+    }
 }
 
 /// What `day` asks for.
