@@ -48,13 +48,13 @@ returns-then-agree c old start (made, are, body) =
 
 pub day_of-last-requires-clause-in_range : goal.day_of-last-requires-clause-in_range
 day_of-last-requires-clause-in_range c = let r = c.requires in
-    last-date c.args.form _ (Shows c.args.spans.now c.args.source) c.args.source r.inside c.args.week c.args.weeks.last c.args.weeks r.weeks
-    _ _ c.in-Some.ensures.found c.in-Some-last.ensures.found r.in_range
+    last-date c.args.form _ (Shows c.args.spans.now c.args.source) c.args.source r.inside c.args.week c.args.weeks.last c.args.weeks
+    r.weeks _ _ c.in-Some.ensures.found c.in-Some-last.ensures.found r.in_range
 
 pub day_of-requires-clause-in_range : goal.day_of-requires-clause-in_range
 day_of-requires-clause-in_range c = let r = c.requires in
-    first-date c.args.form _ (Shows c.args.spans.now c.args.source) c.args.source r.inside c.args.week c.args.weeks.last c.args.weeks r.weeks
-    _ _ c.in-Some.ensures.found c.in-Some-last.ensures.found r.in_range
+    first-date c.args.form _ (Shows c.args.spans.now c.args.source) c.args.source r.inside c.args.week c.args.weeks.last c.args.weeks
+    r.weeks _ _ c.in-Some.ensures.found c.in-Some-last.ensures.found r.in_range
 
 pub returns : goal.returns
 returns c old start (made, are, body) =
