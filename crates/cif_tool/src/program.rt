@@ -115,7 +115,8 @@ fn done<R: Files + Input + Print + AllocGlobal, W: WriteDevice>(
     status
 }
 
-/// Says more of the answer, or of its fault: `failure` is the system's number of the error that a write ended with.
+/// Says more of the answer, or of its fault: `failure` is the system's number of the error that a
+/// write ended with.
 fn advise_on_answer<R: Files + Input + AllocGlobal, W: WriteDevice>(
     rt: &R,
     answer: &Result<u8, Fault>,
@@ -134,8 +135,8 @@ fn advise_on_answer<R: Files + Input + AllocGlobal, W: WriteDevice>(
     }
 }
 
-/// Writes what the job's command answers to the output. With the answer comes the system's number of the error that a
-/// write ended with.
+/// Answers the job on the output. With the answer comes the system's number of the error that a write
+/// ended with.
 fn answered<'a, R: Files + Input, W: Write + Drop>(
     alloc: Global,
     job: &Job,
