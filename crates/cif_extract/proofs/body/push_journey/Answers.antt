@@ -1,5 +1,5 @@
 -- One line more stands behind those so far (`more_by`), and the table of a call behind those of the calls so far (`calls_more`).
-use Rattle.std.proofs.Common.{[], ◌∷◌, List, ap, map, subst, sym, take}
+use Rattle.std.proofs.Common.{[], ◌∷◌, List, map, subst, sym, take}
 use Rattle.std.proofs.lemmas.List.{map-append, take_all}
 use Rattle.std.proofs.lemmas.Result.{on_ok_weaker}
 use Rattle.cif_records.specs.Record.{record_table}
