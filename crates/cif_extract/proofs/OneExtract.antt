@@ -37,9 +37,9 @@ Stops P (r ∷ records) = P r → ⊥
 -- records are parted in one way only into those of which P holds and a rest that begins otherwise
 parted : (P : Record → Type 0) (a b c d : List Record) → Each P a → Stops P b → Each P c → Stops P d → a ++ b ≡ c ++ d → (a ≡ c) × (b ≡ d)
 parted P [] b [] d ea sb ec sd e = (refl, e)
-parted P [] [] (r ∷ c) d ea sb ec sd e = absurd (cc)
+parted P [] [] (r ∷ c) d ea sb ec sd e = cc
 parted P [] (q ∷ b) (r ∷ c) d ea sb ec sd e = absurd (sb (let same : r ≡ q = cc in subst P same ec.0))
-parted P (r ∷ a) b [] [] ea sb ec sd e = absurd (cc)
+parted P (r ∷ a) b [] [] ea sb ec sd e = cc
 parted P (r ∷ a) b [] (q ∷ d) ea sb ec sd e = absurd (sd (let same : r ≡ q = cc in subst P same ea.0))
 parted P (r ∷ a) b (q ∷ c) d ea sb ec sd e =
     let heads : r ≡ q = cc in
@@ -58,8 +58,8 @@ each_map P f h (x ∷ xs) = (h x, each_map P f h xs)
 
 same_values : {A : Type 0} (f : A → Record) → ((x y : A) → f x ≡ f y → x ≡ y) → (xs ys : List A) → map f xs ≡ map f ys → xs ≡ ys
 same_values f one [] [] e = refl
-same_values f one [] (y ∷ ys) e = absurd (cc)
-same_values f one (x ∷ xs) [] e = absurd (cc)
+same_values f one [] (y ∷ ys) e = cc
+same_values f one (x ∷ xs) [] e = cc
 same_values f one (x ∷ xs) (y ∷ ys) e =
     let heads : f x ≡ f y = cc in
     let tails : map f xs ≡ map f ys = cc in
@@ -80,8 +80,8 @@ one_association x y e = cc
 
 one_call : (x y : Call) → call_record x ≡ call_record y → x ≡ y
 one_call (At x) (At y) e = cc
-one_call (At x) (Turn y) e = absurd (cc)
-one_call (Turn x) (At y) e = absurd (cc)
+one_call (At x) (Turn y) e = cc
+one_call (Turn x) (At y) e = cc
 one_call (Turn x) (Turn y) e = cc
 
 call_isnt : (kind : Kind) → (kind ≡ Bs ⊎ kind ≡ Lt) → (c : Call) → Isnt kind (call_record c)
@@ -111,9 +111,9 @@ NoExtra journey = Stops (Is Bx) journey
 one_extra : (x y : Option Extra) (a b : List Record) → NoExtra a → NoExtra b → extra_records x ++ a ≡ extra_records y ++ b →
     (x ≡ y) × (a ≡ b)
 one_extra None None a b p q e = (refl, e)
-one_extra None (Some y) [] b p q e = absurd (cc)
+one_extra None (Some y) [] b p q e = cc
 one_extra None (Some y) (r ∷ a) b p q e = absurd (p (let same : r ≡ of.Extra y = cc in ap kind_of same))
-one_extra (Some x) None a [] p q e = absurd (cc)
+one_extra (Some x) None a [] p q e = cc
 one_extra (Some x) None a (r ∷ b) p q e = absurd (q (let same : r ≡ of.Extra x = cc in ap kind_of same))
 one_extra (Some x) (Some y) a b p q e = (cc, cc)
 
