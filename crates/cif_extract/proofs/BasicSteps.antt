@@ -1,5 +1,5 @@
 -- What a BS comes to, and an LT.
-use Rattle.std.proofs.Common.{◌≡◌, ℕ, List, [], ◌∷◌, ◌++◌, Option, None, Some, Result, Ok, Err, false, is_some, ap, refl, sym, ◌∙◌}
+use Rattle.std.proofs.Common.{◌≡◌, ℕ, List, [], ◌∷◌, ◌++◌, Option, None, Some, Result, Ok, Err, false, is_some, ap, sym, ◌∙◌}
 use Rattle.std.proofs.Common.{subst}
 use Rattle.cif_columns.specs.Field.{AllStandIn, plain_line}
 use Rattle.cif_columns.specs.declared.refusal.Refusal.{Refusal}
@@ -25,11 +25,11 @@ module _ (p : Progress) (b : Basic) (t : BasicTerms) (terms : t ≡ terms_of b) 
   begun_none None e none s is =
       ap (λ (x : Schedule). record p { place = at.Cancelled; schedules = p.schedules ++ (x ∷ []); opened = None })
       (subst (λ (u : BasicTerms). (none : false ≡ has_body u.letter) → s ≡ schedule_of u None none) terms is e)
-  begun_none (Some d) e none s is = cc
+  begun_none (Some d) e none s is = absurd (cc)
 
   pub begun_some : (d : Option Detail) (e : is_some d ≡ has_body b.letter) (detail : Detail) → d ≡ Some detail →
       record p { place = at.Basic; opened = Some t; lines = plain_line (detail_table detail) ∷ [] } ≡ begun p b d e
-  begun_some None e detail some = cc
+  begun_some None e detail some = absurd (cc)
   begun_some (Some d) e detail some =
       let same : detail ≡ d = cc in
       ap (λ (x : Detail). record p { place = at.Basic; opened = Some t; lines = plain_line (detail_table x) ∷ [] }) same
@@ -45,17 +45,14 @@ keepable_some b d line e plain again = rw e (subst (λ l. AllStandIn l (detail_t
 
 -- the last line of a schedule is there now
 module _ (before now : Progress) (t : Terminus) (is : now ≡ record before { lines = kept before.opened before.lines (of.Terminus t) }) where
-  terminus_some : (o : BasicTerms) → now.opened ≡ Some o →
-      record now { place = at.Schedules; opened = None; schedules = closed now.schedules (Some o) now.lines } ≡ step before (of.Terminus t)
-  terminus_some o some =
-      let there : before.opened ≡ Some o = ap (λ (n : Progress). n.opened) (sym is) ∙ some in
-      ap (λ (n : Progress). record n { place = at.Schedules; opened = None; schedules = closed n.schedules (Some o) n.lines }) is
-      ∙ rw there refl
+  terminus : (opened : Option BasicTerms) → now.opened ≡ opened →
+      record now { place = at.Schedules; opened = None; schedules = closed now.schedules opened now.lines } ≡ step before (of.Terminus t)
+  terminus opened e =
+      ap (λ o. record now { place = at.Schedules; opened = None; schedules = closed now.schedules o now.lines }) (sym e)
+      ∙ ap (λ (n : Progress). record n { place = at.Schedules; opened = None; schedules = closed n.schedules n.opened n.lines }) is
 
   pub terminus_none : now.opened ≡ None → record now { place = at.Schedules; opened = None } ≡ step before (of.Terminus t)
-  terminus_none none =
-      let there : before.opened ≡ None = ap (λ (n : Progress). n.opened) (sym is) ∙ none in
-      ap (λ (n : Progress). record n { place = at.Schedules; opened = None }) is ∙ rw there refl
+  terminus_none = terminus None
 
   -- and closing the schedule is the step
   pub closing : (o : BasicTerms) (after : Progress) (refusal : Option Refusal) (line : List ℕ) (result : Result Unit TakeFault) →
@@ -63,6 +60,6 @@ module _ (before now : Progress) (t : Terminus) (is : now ≡ record before { li
       IsClosed (record now { place = at.Schedules; opened = None }) o result after → refusal ≡ None → SpellsRecord line (of.Terminus t) →
       IsKeepable (of.Terminus t) → IsTaken refusal line before result after
   closing o after refusal line (Ok done) some closed fine spells keepable =
-      (fine, (of.Terminus t, spells, keepable, closed ∙ terminus_some o some))
+      (fine, (of.Terminus t, spells, keepable, closed ∙ terminus (Some o) some))
   closing o after refusal line (Err (untaken.Refused why)) some closed fine spells keepable = absurd closed
   closing o after refusal line (Err untaken.Memory) some closed fine spells keepable = tt

@@ -1,19 +1,14 @@
 -- How the lines of a body are put together.
-use Rattle.std.proofs.Common.{◌≡◌, ℕ, ◌+◌, ◌<◌, List, [], ◌∷◌, ◌++◌, length, map, take, get_or, Option, Some, None, sym, ◌∙◌, ap, subst}
+use Rattle.std.proofs.Common.{◌≡◌, ℕ, ◌+◌, ◌<◌, List, [], ◌∷◌, ◌++◌, length, map, take, get_or, sym, ◌∙◌, ap, subst}
 use Rattle.std.proofs.Common.{append_assoc}
 use Rattle.std.proofs.lemmas.List.{map-append, take_more}
 use Rattle.cif_columns.specs.Field.{Row, AllStandIn, plain_line}
 use Rattle.cif_extract.specs.Body.{KeepAll, KeepBody, KeepMore, kept_tables}
-use Rattle.cif_extract.specs.BodyParts.{BodyParts, extra_records}
+use Rattle.cif_extract.specs.BodyParts.{BodyParts, extra_records, journey_records}
 use Rattle.cif_extract.specs.Call.{call_record}
 use Rattle.cif_extract.specs.declared.call.Call.{Call}
 use Rattle.cif_records.specs.Detail.{detail_table}
 use Rattle.cif_records.specs.Record.{record_table}
-use Rattle.cif_records.specs.declared.detail.Detail.{Detail}
-use Rattle.cif_records.specs.declared.extra.Extra.{Extra}
-use Rattle.cif_records.specs.declared.origin.Origin.{Origin}
-use Rattle.cif_records.specs.declared.record.Record.TheVariants as of
-use Rattle.cif_records.specs.declared.terminus.Terminus.{Terminus}
 
 -- a line more
 pub keep_last : (lines : List (List ℕ)) (tables : List (List Row)) (line : List ℕ) (table : List Row) → KeepAll lines tables
@@ -44,25 +39,11 @@ calls_more calls i call within is =
     ∙ ap (map record_table) (sym (map-append call_record (take i calls) (call ∷ [])))
     ∙ ap (λ cs. map record_table (map call_record cs)) (sym e)
 
-module _ (detail : Detail) (origin : Origin) (calls : List Call) (terminus : Terminus) where
-  whole_tables : (extra : Option Extra)
-      → ((((detail_table detail ∷ []) ++ map record_table (extra_records extra)) ++ record_table (of.Origin origin) ∷ [])
-      ++ map record_table (map call_record calls)) ++ record_table (of.Terminus terminus) ∷ []
-      ≡ kept_tables detail (extra_records extra ++ (of.Origin origin ∷ (map call_record calls ++ (of.Terminus terminus ∷ []))))
-  whole_tables None =
-      ap (λ t. detail_table detail ∷ record_table (of.Origin origin) ∷ t)
-      (sym (map-append record_table (map call_record calls) (of.Terminus terminus ∷ [])))
-  whole_tables (Some extra) =
-      ap (λ t. detail_table detail ∷ record_table (of.Extra extra) ∷ record_table (of.Origin origin) ∷ t)
-      (sym (map-append record_table (map call_record calls) (of.Terminus terminus ∷ [])))
-
--- the lines of the five parts, one after another
-pub whole_body : (p : BodyParts) (a b c d e : List (List ℕ))
-    → KeepMore [] a (detail_table p.detail ∷ [])
-    → KeepMore a b (map record_table (extra_records p.extra))
-    → KeepMore b c (record_table (of.Origin p.origin) ∷ [])
-    → KeepMore c d (map record_table (map call_record p.calls))
-    → KeepMore d e (record_table (of.Terminus p.terminus) ∷ [])
-    → KeepBody e p
-whole_body p a b c d e m n o q r =
-    subst (KeepAll e) (whole_tables p.detail p.origin p.calls p.terminus p.extra) (r _ (q _ (o _ (n _ (m [] tt)))))
+-- the lines of the detail and further details, and then of the journey
+pub whole_body : (p : BodyParts) (empty first all : List (List ℕ)) → empty ≡ []
+    → KeepMore empty first (kept_tables p.detail (extra_records p.extra))
+    → KeepMore first all (map record_table (journey_records p.origin p.calls p.terminus)) → KeepBody all p
+whole_body p empty first all none m n =
+    let journey = journey_records p.origin p.calls p.terminus in
+    subst (λ tables. KeepAll all (detail_table p.detail ∷ tables)) (sym (map-append record_table (extra_records p.extra) journey))
+    (n _ (m [] (subst (λ lines. KeepAll lines []) (sym none) tt)))

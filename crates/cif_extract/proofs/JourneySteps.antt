@@ -115,7 +115,7 @@ module _ (records : List Record) (p : Progress) (t : Terminus) where
       let same : terms_of b ≡ o = cc in
       (keeps_some h b x origin calls own again opened, opened.runs ∙ ap (λ (u : BasicTerms). has_body u.letter) same))
       (λ (c : IsCancelled p h.earlier b). let none : None ≡ Some o = sym c.opened ∙ some in cc) or
-  keeps_journey _ e is h o some again = cc
+  keeps_journey _ e is h o some again = absurd (cc)
 
 pub keeps_body : (records : List Record) (p : Progress) (t : Terminus) → p.place ≡ at.Journey → HasRead records p → (o : BasicTerms) →
     p.opened ≡ Some o → Again (of.Terminus t) → KeepSomeBody (kept p.opened p.lines (of.Terminus t)) × (true ≡ has_body o.letter)

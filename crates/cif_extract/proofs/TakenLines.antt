@@ -42,7 +42,7 @@ module _ (p : Progress) where
   pub step_extra : (r : Record) → record_kind r ≡ Bx → AllStandIn (plain_line (record_table r)) (record_table r) →
       IsStep (after_extra p.place) r
   step_extra (of.Extra x) h stands = (stands, refl)
-  step_extra _ h stands = cc
+  step_extra _ h stands = absurd (cc)
 
 -- a plain line of a location on the way, where one may stand
 pub plain_stop : (p after : Progress) (line : List ℕ) → GoesOnPlainly p.place line → after ≡ keeping p line →
@@ -63,7 +63,7 @@ plain_stop p after line h is = (
 -- a record of this kind is a last location
 pub is_terminus : (r : Record) → record_kind r ≡ Lt → (t : Terminus) × (r ≡ of.Terminus t)
 is_terminus (of.Terminus x) h = (x, refl)
-is_terminus _ h = cc
+is_terminus _ h = absurd (cc)
 
 -- the kind of what a line spells, where it is known
 pub kind_here : (line : List ℕ) (r : Record) (kind : Kind) → SpellsRecord line r → kind_in line ≡ Some kind → record_kind r ≡ kind

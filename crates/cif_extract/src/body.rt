@@ -1,9 +1,8 @@
 //! What runs on a schedule's dates.
-ghost use Rattle.std.specs.Prelude.{◌≡◌, ◌↔◌, IfOk, IfSome, IsTrue, Some, is_some, map, option_copied};
-ghost use Rattle.cif_extract.specs.Body.{KeepAll, KeepJourney, KeepMore, KeepSomeBody, is_extra, parts_in};
-ghost use Rattle.cif_extract.specs.BodyParts.{body_records, extra_records};
+ghost use Rattle.std.specs.Prelude.{◌≡◌, ◌↔◌, IfOk, IfSome, IsTrue, OnOk, Some, is_some, map, option_copied};
+ghost use Rattle.cif_extract.specs.Body.{KeepAll, KeepJourney, KeepMore, KeepSomeBody, is_extra, kept_tables, parts_in};
+ghost use Rattle.cif_extract.specs.BodyParts.{body_records, extra_records, journey_records};
 ghost use Rattle.cif_columns.specs.Field.{AllFit, AllStandIn, plain_line};
-ghost use Rattle.cif_extract.specs.Call.{call_record};
 ghost use Rattle.cif_extract.specs.Texts.{AllTablesFit};
 ghost use Rattle.cif_records.specs.Detail.{detail_rows, detail_table};
 ghost use Rattle.cif_records.specs.Extra.{SpellsExtra};
@@ -35,26 +34,33 @@ impl Model for Body {
     ghost invariant = { λ b. KeepSomeBody b.lines };
 }
 
-/// Appends the plain line of the BX, if there is one.
-fn push_extra(lines: &mut Lines, extra: Option<&Extra>) -> Result<(), AllocError>
-    ensures { IfOk result (λ _. KeepMore lines.old lines.new
-        (map record_table (extra_records (option_copied extra.entry)))) }
+/// Appends the plain line of the detail and that of the BX, if there is one.
+fn push_detail(lines: &mut Lines, detail: &Detail, extra: Option<&Extra>) -> Result<(), AllocError>
+    ensures { OnOk result (KeepMore lines.old lines.new
+        (kept_tables detail.now (extra_records (option_copied extra.entry)))) }
 {
-    if let Some(extra) = extra {
-        lines.push(&extra.write())?;
+    lines.push(&detail.write())?;
+    match extra {
+        Some(extra) => lines.push(&extra.write()),
+        None => Ok(()),
     }
-    Ok(())
 }
 
-/// Appends the plain lines of the calls.
-fn push_calls(lines: &mut Lines, calls: &[Call]) -> Result<(), AllocError>
-    ensures { IfOk result (λ _. KeepMore lines.old lines.new
-        (map record_table (map call_record calls.now))) }
+/// Appends the plain lines of the journey, from LO to LT.
+fn push_journey(
+    lines: &mut Lines,
+    origin: &Origin,
+    calls: &[Call],
+    terminus: &Terminus,
+) -> Result<(), AllocError>
+    ensures { OnOk result (KeepMore lines.old lines.new
+        (map record_table (journey_records origin.now calls.now terminus.now))) }
 {
+    lines.push(&origin.write())?;
     for call in calls {
         lines.push(&call.write())?;
     }
-    Ok(())
+    lines.push(&terminus.write())
 }
 
 impl Body {
@@ -79,11 +85,8 @@ impl Body {
     {
         let count = 3 + usize::from(extra.is_some()) + calls.len();
         let mut lines = Lines::with_capacity(alloc, count)?;
-        lines.push(&detail.write())?;
-        push_extra(&mut lines, extra)?;
-        lines.push(&origin.write())?;
-        push_calls(&mut lines, calls)?;
-        lines.push(&terminus.write())?;
+        push_detail(&mut lines, detail, extra)?;
+        push_journey(&mut lines, origin, calls, terminus)?;
         Ok(Body { lines })
     }
 

@@ -54,9 +54,9 @@ pub fn read_extract<R: ReadDevice>(
         if let Some(columns) = lines.columns_ahead()
             && reading.goes_on_plainly(columns)
         {
-            if reading.take_plain_stop(columns).is_err() {
+            let Ok(()) = reading.take_plain_stop(columns) else {
                 return Err(Fault::Memory);
-            }
+            };
             lines.pass_line();
             continue;
         }
@@ -164,10 +164,6 @@ impl Reading {
             (fault ≡ Fault.Refused (lines + 1) Refusal.Truncated)
             × IsUnfinished (progress_of self)) }
     {
-        let truncated = Fault::Refused {
-            line: lines + 1,
-            why: Refusal::Truncated,
-        };
         let Reading {
             place,
             header,
@@ -177,18 +173,18 @@ impl Reading {
             opened: _,
             lines: _,
         } = self;
-        if !matches!(place, Place::Ended) {
-            return Err(truncated);
-        }
         match header {
-            Some(header) => Ok(Extract {
+            Some(header) if matches!(place, Place::Ended) => Ok(Extract {
                 header,
                 tiplocs,
                 associations,
                 schedules,
             }),
-            // No extract ends without a header: this is never so.
-            None => Err(truncated),
+            // No extract ends without a header.
+            _ => Err(Fault::Refused {
+                line: lines + 1,
+                why: Refusal::Truncated,
+            }),
         }
     }
 

@@ -1,6 +1,6 @@
 -- The invariant names the lines so far: one more (`come_more`), one refused (`at_line`) and the end are said of them all.
 use Rattle.std.proofs.Common.{◌≡◌, ◌+◌, ◌<◌, ◌≤◌, length, ℕ, List, [], ◌++◌, ◌∷◌, Err, IfErr, IfSome, Ok, Option, Result, Some}
-use Rattle.std.proofs.Common.{◌∙◌, None, OnOk, ap, arith, false, is_err, refl, rules, subst, sym}
+use Rattle.std.proofs.Common.{◌∙◌, None, ap, arith, refl, rules, subst, sym}
 use Rattle.std.proofs.lemmas.Result.{err_from_is_err_and}
 use Rattle.cif_columns.proofs.GivenLinesLaws.{known_so, nothing_left, reading_ends, reading_faults, reading_line}
 use Rattle.cif_columns.proofs.PassedLines.{next_passed}
@@ -29,11 +29,6 @@ of_any : (start : Option (List ℕ)) (P : List ℕ → Type 0) → ((bytes : Lis
 of_any None P h = tt
 of_any (Some bytes) P h = h bytes
 
--- what holds where a call succeeds, of one that has
-of_success : {T E P : Type 0} (r : Result T E) → is_err r ≡ false → OnOk r P → P
-of_success (Ok x) fine h = h
-of_success (Err e) fine h = absurd (cc)
-
 pub loop-columns-preserved-in-loop-columns : goal.loop-columns-preserved-in-loop-columns
 loop-columns-preserved-in-loop-columns g c =
     let (ls, so_far, come, read_on) = c.loop-columns.invariant in
@@ -49,20 +44,20 @@ loop-columns-preserved-in-loop-columns g c =
           next.limit_now more,
       come_more c.args.max_lines ls columns plain.is_line room (progress_of c.loop-columns.reading) come
           (progress_of c.take_plain_stop.new.self)
-          (of_success c.take_plain_stop.result (sym c.is_err.ensures.value ∙ c.if-is_err.false) c.take_plain_stop.ensures),
+          c.in-Ok.ensures,
       read_on,
     )
 
-pub returns-then-is_err-clause-ok : goal.returns-then-is_err-clause-ok
-returns-then-is_err-clause-ok g c = of_any _ _ (λ bytes. tt)
+pub returns-in_default-clause-ok : goal.returns-in_default-clause-ok
+returns-in_default-clause-ok g c = of_any _ _ (λ bytes. tt)
 
-pub returns-then-is_err-clause-fault : goal.returns-then-is_err-clause-fault
-returns-then-is_err-clause-fault g c = of_any _ _ (λ bytes. tt)
+pub returns-in_default-clause-fault : goal.returns-in_default-clause-fault
+returns-in_default-clause-fault g c = of_any _ _ (λ bytes. tt)
 
-pub returns-then-is_err-clause-only : goal.returns-then-is_err-clause-only
-returns-then-is_err-clause-only g c =
+pub returns-in_default-clause-only : goal.returns-in_default-clause-only
+returns-in_default-clause-only g c =
     only_fault (g.R.Read.remaining c.args.source.now.reader) c.args.max_lines (g.R.Read.remaining c.loop-columns.source.reader)
-    (Err Memory) Memory refl (returns-then-is_err-clause-fault g c)
+    (Err Memory) Memory refl (returns-in_default-clause-fault g c)
 
 pub loop-columns-preserved : goal.loop-columns-preserved
 loop-columns-preserved g c =
@@ -77,7 +72,7 @@ loop-columns-preserved g c =
       reading_line g.R.Read.remaining _ _ _ _ ls so_far c.read_line.new.self c.read_line.new.source line next.answer next.past_now
           next.limit_now more,
       come_more c.args.max_lines ls line c.take.ensures.line room (progress_of c.loop-columns.reading) come (progress_of c.take.new.self)
-          c.in-Ok.ensures.taken,
+          c.in-Ok-take.ensures.taken,
       read_on_both _ _ _ _ read_on (next.device so_far.reads_on),
     )
 

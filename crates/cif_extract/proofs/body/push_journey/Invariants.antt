@@ -1,9 +1,9 @@
--- Whatever tables the lines kept before, they keep these and then those of the calls so far.
+-- Whatever tables the lines kept when the loop began, they keep these and then those of the calls so far.
 use Rattle.std.proofs.Common.{map, take}
 use Rattle.cif_records.specs.Record.{record_table}
 use Rattle.cif_extract.specs.Body.{KeepMore}
 use Rattle.cif_extract.specs.Call.{call_record}
-use Rattle.cif_extract.proofs.body.push_calls.Given as goal
+use Rattle.cif_extract.proofs.body.push_journey.Given as goal
 
 -- the lines of the calls so far stand behind those that were there
 abbrev pub invariant-loop-call : goal.invariant-loop-call
