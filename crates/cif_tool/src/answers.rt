@@ -10,7 +10,7 @@ ghost use Rattle.cif_tool.specs.Answer.{Answers, IsCheckAnswer, IsClashesAnswer,
 ghost use Rattle.cif_tool.specs.Answer.{IsCompareAnswer, IsDayAnswer, IsDayRefusal, IsDiffAnswer};
 ghost use Rattle.cif_tool.specs.Answer.{IsExplainAnswer, IsExplainRefusal, IsHandedOn, IsJobAnswer};
 ghost use Rattle.cif_tool.specs.Answer.{IsJobFault, IsNormaliseAnswer, IsTrainAnswer, OfBoth, OfInput};
-ghost use Rattle.cif_tool.specs.Answer.{ReadsInputs};
+ghost use Rattle.cif_tool.specs.Answer.{HandsOn, ReadsInputs};
 
 use crate::job::Job;
 use crate::status::{DONE, listed, outcome};
@@ -122,9 +122,7 @@ pub fn answer_diff<R: ReadDevice, W: WriteDevice>(
 {
     let (left, right) = read_pair(alloc, left, right, asked, common)?;
     let found = differences(alloc, &left, &right)?;
-    let status = listed(found.is_empty());
-    found.write(sink)?;
-    flushed(sink, status)
+    answered(found.write(sink), sink, listed(found.is_empty()))
 }
 
 /// Writes what runs on the day, in this layout, and answers status 0.
@@ -144,8 +142,7 @@ pub fn answer_day<R: ReadDevice, W: WriteDevice>(
     ensures handed_on { IsHandedOn W.holds_nothing sink.new result }
 {
     let extract = read_extract(alloc, source, MAX_LINES)?;
-    day_listing(alloc, &extract, day, sink, layout)?;
-    flushed(sink, DONE)
+    answered(day_listing(alloc, &extract, day, sink, layout), sink, DONE)
 }
 
 /// Writes when the train runs, in this layout, and answers status 0.
@@ -168,8 +165,11 @@ pub fn answer_train<R: ReadDevice, W: WriteDevice>(
     ensures handed_on { IsHandedOn W.holds_nothing sink.new result }
 {
     let extract = read_narrowed(alloc, source, MAX_LINES, asked)?;
-    train_listing(alloc, &extract, uid, sink, form, layout)?;
-    flushed(sink, DONE)
+    answered(
+        train_listing(alloc, &extract, uid, sink, form, layout),
+        sink,
+        DONE,
+    )
 }
 
 /// Writes why the train runs on the day, or doesn't, in this format, and answers status 0.
@@ -190,8 +190,11 @@ pub fn answer_explain<R: ReadDevice, W: WriteDevice>(
     ensures handed_on { IsHandedOn W.holds_nothing sink.new result }
 {
     let extract = read_extract(alloc, source, MAX_LINES)?;
-    explain_listing(alloc, &extract, uid, day, sink, format)?;
-    flushed(sink, DONE)
+    answered(
+        explain_listing(alloc, &extract, uid, day, sink, format),
+        sink,
+        DONE,
+    )
 }
 
 /// Writes all clashes, and answers 0 where there is none, else 1.
@@ -212,8 +215,19 @@ pub fn answer_clashes<R: ReadDevice, W: WriteDevice>(
     let mut extract = read_extract(alloc, source, MAX_LINES)?;
     narrow(&mut extract, asked)?;
     let found = clashes(alloc, &extract)?;
-    let status = listed(found.is_empty());
-    found.write(sink)?;
+    answered(found.write(sink), sink, listed(found.is_empty()))
+}
+
+/// Answers this status, if all was written, once it is handed on.
+fn answered<W: WriteDevice>(
+    written: Result<(), Fault>,
+    sink: &mut Sink<W>,
+    status: u8,
+) -> Result<u8, Fault>
+    ensures hands { HandsOn W.contents W.write_errors status written sink.old sink.new result }
+    ensures handed_on { IsHandedOn W.holds_nothing sink.new result }
+{
+    written?;
     flushed(sink, status)
 }
 
