@@ -1,6 +1,7 @@
 -- What a command owes its sink, by the calls that it makes.
 use Rattle.std.proofs.Common.{◌≡◌, ◌≢◌, ℕ, List, [], Option, Result, Ok, Err, IfOk, IfErr, refl, sym, subst, append-nil, ap, ◌∙◌}
-use Rattle.std.proofs.lemmas.Result.{IfOk-weaker}
+use Rattle.std.specs.Prelude.{IsErrAnd, MatchResult}
+use Rattle.std.proofs.lemmas.Result.{IfOk-weaker, err_from_is_err_and}
 use Rattle.cif_columns.specs.Sink.{HasFailed, HasWritten, Writes}
 use Rattle.cif_columns.specs.declared.sink.Sink.{Sink}
 use Rattle.cif_columns.proofs.WrittenTexts.{failed_second, written_both}
@@ -127,6 +128,16 @@ module _ {W : Type 0} (contents : W → Option (List ℕ)) (errors : W → Optio
         HandsOn contents errors status written mid new result → Answers contents errors P old new result
     handed A (Ok done) mid new result w p h = flushed mid new result w h.0 h.1 h.2 p
     handed A (Err f) mid new result w p h = subst (λ s. Answers contents errors P old s result) (sym h.1) (fails A mid result f h.0 w p)
+
+  -- a failure to write, told as a fault
+  pub told-as : (A E : Type 0) (text : List ℕ) (old new : Sink W) (written : Result A E) (told : Result A Fault) →
+      MatchResult written (λ x. told ≡ Ok x) (λ e. IsErrAnd told (λ f. f ≡ fault.Write)) → Writes contents errors text old new written →
+      Writes contents errors text old new told × IfErr told (λ f. f ≡ fault.Write)
+  told-as A E text old new (Ok x) told is h =
+      subst (λ r. Writes contents errors text old new r × IfErr r (λ f. f ≡ fault.Write)) (sym is) (h, tt)
+  told-as A E text old new (Err e) told is h =
+      let (f, at, write) = err_from_is_err_and told is in
+      subst (λ r. Writes contents errors text old new r × IfErr r (λ f. f ≡ fault.Write)) (sym at) (h, write)
 
   -- a failure to write, or to hand on
   pub only-fails : (A : Type 0) (Q : Fault → Type 0) (status : ℕ) (written : Result A Fault) (mid new : Sink W)

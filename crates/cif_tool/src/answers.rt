@@ -96,8 +96,8 @@ pub fn answer_compare<R: ReadDevice, W: WriteDevice>(
 {
     let (left, right) = read_pair(alloc, left, right, asked, common)?;
     let comparison = compare(alloc, &left, &right)?;
-    write_comparison(&comparison, sink)?;
-    flushed(sink, outcome(&comparison))
+    let written = write_comparison(&comparison, sink).map_err(Fault::from);
+    answered(written, sink, outcome(&comparison))
 }
 
 /// Writes in what the extracts of two sources differ, and answers 0 where they don't, else 1. The
