@@ -1,11 +1,8 @@
 //! What each command answers, for any devices, and which of them a job asks for.
-ghost use Rattle.std.specs.Prelude.{◌≡◌, [], IfErr, IfOk};
 ghost use Rattle.cif_canon.specs.Fault.{IsNormaliseFault};
 ghost use Rattle.cif_canon.specs.Pair.{FaultOfBoth, ReadsBoth};
-ghost use Rattle.cif_columns.specs.Sink.{Writes};
 ghost use Rattle.cif_columns.specs.declared.line_reader.TheConstants.{MAX_LINES};
 ghost use Rattle.cif_extract.specs.ReadFault.{FaultOf, FaultReads, LeavesNothing};
-ghost use Rattle.cif_extract.specs.declared.fault.Fault.TheVariants.{Write};
 ghost use Rattle.cif_tool.specs.Answer.{Answers, IsCheckAnswer, IsClashesAnswer, IsClashesRefusal};
 ghost use Rattle.cif_tool.specs.Answer.{IsCompareAnswer, IsDayAnswer, IsDayRefusal, IsDiffAnswer};
 ghost use Rattle.cif_tool.specs.Answer.{IsExplainAnswer, IsExplainRefusal, IsHandedOn, IsJobAnswer};
@@ -46,7 +43,7 @@ pub fn answer_normalise<R: ReadDevice, W: WriteDevice>(
     normalise_keeping(alloc, source, sink, MAX_LINES, asked, form, &mut kept)?;
     // The process ends after this: the system takes back the memory of all bodies at once.
     mem::forget(kept);
-    flushed(sink, DONE)
+    answered(Ok(()), sink, DONE)
 }
 
 /// Writes how many records the canonical extract of what the source gives has, and answers
@@ -70,8 +67,8 @@ pub fn answer_check<R: ReadDevice, W: WriteDevice>(
     let mut kept = None;
     let counts = check_keeping(alloc, source, MAX_LINES, asked, form, &mut kept)?;
     mem::forget(kept);
-    write_counts(&counts, sink)?;
-    flushed(sink, DONE)
+    let written = write_counts(&counts, sink).map_err(Fault::from);
+    answered(written, sink, DONE)
 }
 
 /// Writes how the extracts of two sources compare, and answers 0 where they say the same, else 1.
@@ -228,16 +225,6 @@ fn answered<W: WriteDevice>(
     ensures handed_on { IsHandedOn W.holds_nothing sink.new result }
 {
     written?;
-    flushed(sink, status)
-}
-
-/// Answers this status, once what was written is handed on.
-fn flushed<W: WriteDevice>(sink: &mut Sink<W>, status: u8) -> Result<u8, Fault>
-    ensures writes { Writes W.contents W.write_errors [] sink.old sink.new result }
-    ensures ok { IfOk result (λ answered. answered ≡ status) }
-    ensures fault { IfErr result (λ fault. fault ≡ Write) }
-    ensures handed_on { IsHandedOn W.holds_nothing sink.new result }
-{
     sink.flush()?;
     Ok(status)
 }
