@@ -1,23 +1,26 @@
 -- What a command owes its sink, by the calls that it makes.
 use Rattle.std.proofs.Common.{◌≡◌, ◌≢◌, ℕ, List, [], Option, Result, Ok, Err, IfOk, IfErr, refl, sym, subst, append-nil, ap, ◌∙◌}
+use Rattle.std.specs.Prelude.{IsErrAnd, MatchResult}
+use Rattle.std.proofs.lemmas.Result.{IfOk-weaker, err_from_is_err_and}
 use Rattle.cif_columns.specs.Sink.{HasFailed, HasWritten, Writes}
 use Rattle.cif_columns.specs.declared.sink.Sink.{Sink}
 use Rattle.cif_columns.proofs.WrittenTexts.{failed_second, written_both}
 use Rattle.cif_extract.specs.declared.fault.Fault.{Fault}
 use Rattle.cif_extract.specs.declared.fault.Fault.TheVariants as fault
 use Rattle.cif_canon.specs.Normalised.{FaultWrites, IfWritten}
-use Rattle.cif_tool.specs.Answer.{Answers, IfAnswered}
+use Rattle.cif_tool.specs.Answer.{Answers, HandsOn, IfAnswered}
 
 -- what holds where a text was written, and what follows from it
-pub written-then : (A B P : Type 0) (Q : Type 0) (f : Fault) → (P → Q) → IfWritten {A = A} (Err f) P → IfWritten {A = B} (Err f) Q
-written-then A B P Q (fault.Refused line why) so h = tt
-written-then A B P Q (fault.Ambiguous clash) so h = tt
-written-then A B P Q fault.WindowsDiffer so h = tt
-written-then A B P Q fault.OutsideWindow so h = tt
-written-then A B P Q fault.WindowReversed so h = tt
-written-then A B P Q fault.Read so h = tt
-written-then A B P Q fault.Write so h = so h
-written-then A B P Q fault.Memory so h = tt
+pub written-then : (A P Q : Type 0) (written : Result A Fault) → (P → Q) → IfWritten written P → IfWritten written Q
+written-then A P Q (Ok done) so h = so h
+written-then A P Q (Err (fault.Refused line why)) so h = tt
+written-then A P Q (Err (fault.Ambiguous clash)) so h = tt
+written-then A P Q (Err fault.WindowsDiffer) so h = tt
+written-then A P Q (Err fault.OutsideWindow) so h = tt
+written-then A P Q (Err fault.WindowReversed) so h = tt
+written-then A P Q (Err fault.Read) so h = tt
+written-then A P Q (Err fault.Write) so h = so h
+written-then A P Q (Err fault.Memory) so h = tt
 
 -- a fault that is Write alone
 pub only-write : {A : Type 0} (P : Fault → Type 0) (result : Result A Fault) → IfErr result (λ f. f ≡ fault.Write) → P fault.Write →
@@ -109,3 +112,43 @@ module _ {W : Type 0} (contents : W → Option (List ℕ)) (errors : W → Optio
     flushed mid new (Err f) h w ok err p =
         fails-to-write new (Err f) f refl err
         (subst (λ t. HasFailed contents errors t old new) (append-nil text) (failed_second contents errors text [] old mid new h w)) p
+
+    -- a call that fails only by Write writes the text, which is then handed on
+    pub handed-text : (A : Type 0) (s : ℕ) (written : Result A Fault) (mid new : Sink W) (result : Result ℕ Fault) → s ≡ status →
+        Writes contents errors text old mid written → IfErr written (λ f. f ≡ fault.Write) → P text status →
+        HandsOn contents errors s written mid new result → Answers contents errors P old new result
+    handed-text A s (Ok done) mid new result same w is p h =
+        flushed mid new result w h.0 (IfOk-weaker result _ _ (λ x e. e ∙ same) h.1) h.2 p
+    handed-text A s (Err f) mid new result same w is p h =
+        subst (λ x. Answers contents errors P old x result) (sym h.1) (fails-to-write mid result f h.0 is w p)
+
+    -- a call writes the text, which is then handed on
+    pub handed : (A : Type 0) (written : Result A Fault) (mid new : Sink W) (result : Result ℕ Fault) →
+        FaultWrites contents errors text old mid written → IfWritten written (P text status) →
+        HandsOn contents errors status written mid new result → Answers contents errors P old new result
+    handed A (Ok done) mid new result w p h = flushed mid new result w h.0 h.1 h.2 p
+    handed A (Err f) mid new result w p h = subst (λ s. Answers contents errors P old s result) (sym h.1) (fails A mid result f h.0 w p)
+
+  -- a failure to write, told as a fault
+  pub told-as : (A E : Type 0) (text : List ℕ) (old new : Sink W) (written : Result A E) (told : Result A Fault) →
+      MatchResult written (λ x. told ≡ Ok x) (λ e. IsErrAnd told (λ f. f ≡ fault.Write)) → Writes contents errors text old new written →
+      Writes contents errors text old new told × IfErr told (λ f. f ≡ fault.Write)
+  told-as A E text old new (Ok x) told is h =
+      subst (λ r. Writes contents errors text old new r × IfErr r (λ f. f ≡ fault.Write)) (sym is) (h, tt)
+  told-as A E text old new (Err e) told is h =
+      let (f, at, write) = err_from_is_err_and told is in
+      subst (λ r. Writes contents errors text old new r × IfErr r (λ f. f ≡ fault.Write)) (sym at) (h, write)
+
+  -- a failure to write, or to hand on
+  pub only-fails : (A : Type 0) (Q : Fault → Type 0) (status : ℕ) (written : Result A Fault) (mid new : Sink W)
+      (result : Result ℕ Fault) → IfErr written (λ f. f ≡ fault.Write) → Q fault.Write →
+      HandsOn contents errors status written mid new result → IfErr result Q
+  only-fails A Q status (Ok done) mid new result is q h = only-write Q result h.2 q
+  only-fails A Q status (Err f) mid new result is q h = subst (λ r. IfErr r Q) (sym h.0) (subst Q (sym is) q)
+
+  -- what is said of the writing's fault, and of a failure to hand the text on
+  pub handed-fault : (A : Type 0) (P Q : Fault → Type 0) (status : ℕ) (written : Result A Fault) (mid new : Sink W)
+      (result : Result ℕ Fault) → ((f : Fault) → P f → Q f) → IfErr written P → IfWritten written (P fault.Write) →
+      HandsOn contents errors status written mid new result → IfErr result Q
+  handed-fault A P Q status (Ok done) mid new result so e w h = only-write Q result h.2 (so fault.Write w)
+  handed-fault A P Q status (Err f) mid new result so e w h = subst (λ r. IfErr r Q) (sym h.0) (so f e)

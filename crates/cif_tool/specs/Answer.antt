@@ -1,6 +1,6 @@
 -- What the commands answer: a text on the output, and a status.
-use Rattle.std.specs.Prelude.{◌≡◌, ◌⊎◌, ⊤, ℕ, Bool, List, Option, IfSome, Result, Ok, Err, []}
-use Rattle.cif_columns.specs.Sink.{writer_of}
+use Rattle.std.specs.Prelude.{◌≡◌, ◌⊎◌, ⊤, ℕ, Bool, List, Option, IfSome, Result, Ok, Err, IfOk, IfErr, []}
+use Rattle.cif_columns.specs.Sink.{Writes, writer_of}
 use Rattle.cif_columns.specs.Source.{reader_of}
 use Rattle.cif_columns.specs.declared.line_reader.TheConstants.{MAX_LINES}
 use Rattle.cif_columns.specs.declared.sink.Sink.{Sink}
@@ -193,3 +193,10 @@ IsJobFault remaining (Explain uid day file format) source source_new right right
     FaultOf remaining (IsExplainRefusal day) source source_new result
 IsJobFault remaining (Clashes file asked) source source_new right right_new result =
     FaultOf remaining (IsClashesRefusal asked) source source_new result
+
+-- this status, once what was written is handed on; a fault of the writing is the answer
+abbrev pub HandsOn : {W A : Type 0} → (W → Option (List ℕ)) → (W → Option ℕ) → ℕ → Result A Fault → Sink W → Sink W → Result ℕ Fault →
+    Type 0
+HandsOn contents errors status (Ok done) old new result =
+    Writes contents errors [] old new result × IfOk result (λ answered. answered ≡ status) × IfErr result (λ fault. fault ≡ Write)
+HandsOn contents errors status (Err fault) old new result = (result ≡ Err fault) × (new ≡ old)

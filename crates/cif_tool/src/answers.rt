@@ -1,16 +1,13 @@
 //! What each command answers, for any devices, and which of them a job asks for.
-ghost use Rattle.std.specs.Prelude.{◌≡◌, [], IfErr, IfOk};
 ghost use Rattle.cif_canon.specs.Fault.{IsNormaliseFault};
 ghost use Rattle.cif_canon.specs.Pair.{FaultOfBoth, ReadsBoth};
-ghost use Rattle.cif_columns.specs.Sink.{Writes};
 ghost use Rattle.cif_columns.specs.declared.line_reader.TheConstants.{MAX_LINES};
 ghost use Rattle.cif_extract.specs.ReadFault.{FaultOf, FaultReads, LeavesNothing};
-ghost use Rattle.cif_extract.specs.declared.fault.Fault.TheVariants.{Write};
 ghost use Rattle.cif_tool.specs.Answer.{Answers, IsCheckAnswer, IsClashesAnswer, IsClashesRefusal};
 ghost use Rattle.cif_tool.specs.Answer.{IsCompareAnswer, IsDayAnswer, IsDayRefusal, IsDiffAnswer};
 ghost use Rattle.cif_tool.specs.Answer.{IsExplainAnswer, IsExplainRefusal, IsHandedOn, IsJobAnswer};
 ghost use Rattle.cif_tool.specs.Answer.{IsJobFault, IsNormaliseAnswer, IsTrainAnswer, OfBoth, OfInput};
-ghost use Rattle.cif_tool.specs.Answer.{ReadsInputs};
+ghost use Rattle.cif_tool.specs.Answer.{HandsOn, ReadsInputs};
 
 use crate::job::Job;
 use crate::status::{DONE, listed, outcome};
@@ -46,7 +43,7 @@ pub fn answer_normalise<R: ReadDevice, W: WriteDevice>(
     normalise_keeping(alloc, source, sink, MAX_LINES, asked, form, &mut kept)?;
     // The process ends after this: the system takes back the memory of all bodies at once.
     mem::forget(kept);
-    flushed(sink, DONE)
+    answered(Ok(()), sink, DONE)
 }
 
 /// Writes how many records the canonical extract of what the source gives has, and answers
@@ -70,8 +67,8 @@ pub fn answer_check<R: ReadDevice, W: WriteDevice>(
     let mut kept = None;
     let counts = check_keeping(alloc, source, MAX_LINES, asked, form, &mut kept)?;
     mem::forget(kept);
-    write_counts(&counts, sink)?;
-    flushed(sink, DONE)
+    let written = write_counts(&counts, sink).map_err(Fault::from);
+    answered(written, sink, DONE)
 }
 
 /// Writes how the extracts of two sources compare, and answers 0 where they say the same, else 1.
@@ -96,8 +93,8 @@ pub fn answer_compare<R: ReadDevice, W: WriteDevice>(
 {
     let (left, right) = read_pair(alloc, left, right, asked, common)?;
     let comparison = compare(alloc, &left, &right)?;
-    write_comparison(&comparison, sink)?;
-    flushed(sink, outcome(&comparison))
+    let written = write_comparison(&comparison, sink).map_err(Fault::from);
+    answered(written, sink, outcome(&comparison))
 }
 
 /// Writes in what the extracts of two sources differ, and answers 0 where they don't, else 1. The
@@ -122,9 +119,7 @@ pub fn answer_diff<R: ReadDevice, W: WriteDevice>(
 {
     let (left, right) = read_pair(alloc, left, right, asked, common)?;
     let found = differences(alloc, &left, &right)?;
-    let status = listed(found.is_empty());
-    found.write(sink)?;
-    flushed(sink, status)
+    answered(found.write(sink), sink, listed(found.is_empty()))
 }
 
 /// Writes what runs on the day, in this layout, and answers status 0.
@@ -144,8 +139,7 @@ pub fn answer_day<R: ReadDevice, W: WriteDevice>(
     ensures handed_on { IsHandedOn W.holds_nothing sink.new result }
 {
     let extract = read_extract(alloc, source, MAX_LINES)?;
-    day_listing(alloc, &extract, day, sink, layout)?;
-    flushed(sink, DONE)
+    answered(day_listing(alloc, &extract, day, sink, layout), sink, DONE)
 }
 
 /// Writes when the train runs, in this layout, and answers status 0.
@@ -168,8 +162,11 @@ pub fn answer_train<R: ReadDevice, W: WriteDevice>(
     ensures handed_on { IsHandedOn W.holds_nothing sink.new result }
 {
     let extract = read_narrowed(alloc, source, MAX_LINES, asked)?;
-    train_listing(alloc, &extract, uid, sink, form, layout)?;
-    flushed(sink, DONE)
+    answered(
+        train_listing(alloc, &extract, uid, sink, form, layout),
+        sink,
+        DONE,
+    )
 }
 
 /// Writes why the train runs on the day, or doesn't, in this format, and answers status 0.
@@ -190,8 +187,11 @@ pub fn answer_explain<R: ReadDevice, W: WriteDevice>(
     ensures handed_on { IsHandedOn W.holds_nothing sink.new result }
 {
     let extract = read_extract(alloc, source, MAX_LINES)?;
-    explain_listing(alloc, &extract, uid, day, sink, format)?;
-    flushed(sink, DONE)
+    answered(
+        explain_listing(alloc, &extract, uid, day, sink, format),
+        sink,
+        DONE,
+    )
 }
 
 /// Writes all clashes, and answers 0 where there is none, else 1.
@@ -212,18 +212,19 @@ pub fn answer_clashes<R: ReadDevice, W: WriteDevice>(
     let mut extract = read_extract(alloc, source, MAX_LINES)?;
     narrow(&mut extract, asked)?;
     let found = clashes(alloc, &extract)?;
-    let status = listed(found.is_empty());
-    found.write(sink)?;
-    flushed(sink, status)
+    answered(found.write(sink), sink, listed(found.is_empty()))
 }
 
-/// Answers this status, once what was written is handed on.
-fn flushed<W: WriteDevice>(sink: &mut Sink<W>, status: u8) -> Result<u8, Fault>
-    ensures writes { Writes W.contents W.write_errors [] sink.old sink.new result }
-    ensures ok { IfOk result (λ answered. answered ≡ status) }
-    ensures fault { IfErr result (λ fault. fault ≡ Write) }
+/// Answers this status, if all was written, once it is handed on.
+fn answered<W: WriteDevice>(
+    written: Result<(), Fault>,
+    sink: &mut Sink<W>,
+    status: u8,
+) -> Result<u8, Fault>
+    ensures hands { HandsOn W.contents W.write_errors status written sink.old sink.new result }
     ensures handed_on { IsHandedOn W.holds_nothing sink.new result }
 {
+    written?;
     sink.flush()?;
     Ok(status)
 }

@@ -279,7 +279,7 @@ fn program<'a>(alloc: Global) -> Result<Command<'a>, AllocError>
 /// The command, with these subcommands too.
 fn with_subcommands<'a>(
     alloc: Global,
-    command: Command<'a>,
+    mut command: Command<'a>,
     subcommands: &[Subcommand],
     choices: &Choices<'a>,
 ) -> Result<Command<'a>, AllocError>
@@ -287,7 +287,6 @@ fn with_subcommands<'a>(
     ensures { IfOk result
         (IsCommand (with_subcommands choices.now (app_of command.entry) subcommands.now)) }
 {
-    let mut command = command;
     for which in subcommands {
         command = command.subcommand(taking(alloc, which.parts(), choices)?)?;
     }

@@ -1,12 +1,13 @@
 -- The text has to be named: the line of the counts, flushed or a prefix; of known bytes `check-answer` says that it answers.
-use Rattle.std.proofs.Common.{◌≢◌, subst}
-use Rattle.std.proofs.lemmas.Result.{err_from_is_err_and}
-use Rattle.cif_extract.specs.declared.fault.Fault.TheVariants.{Read, Write}
-use Rattle.cif_canon.proofs.HandedFaults.{at-fault, hands}
+use Rattle.std.proofs.Common.{◌≢◌, refl, subst}
+use Rattle.cif_extract.specs.declared.fault.Fault.TheVariants.{Read}
+use Rattle.cif_canon.proofs.HandedFaults.{at-fault}
 use Rattle.cif_canon.specs.Counts.{counts_line}
-use Rattle.cif_canon.specs.Fault.{IsOfCheck}
+use Rattle.cif_canon.specs.Fault.{IsNormaliseFault, IsOfCheck}
+use Rattle.cif_columns.specs.Source.{reader_of}
+use Rattle.cif_columns.proofs.GivenLinesLaws.{known_so}
 use Rattle.cif_columns.specs.declared.line_reader.TheConstants.{MAX_LINES}
-use Rattle.cif_tool.proofs.Answered.{fails-silently, fails-to-write, flushed, only-write}
+use Rattle.cif_tool.proofs.Answered.{fails-silently, handed-text, only-fails, told-as}
 use Rattle.cif_canon.proofs.BothRead.{read-on}
 use Rattle.cif_tool.proofs.KnownAnswers.{check-answer}
 use Rattle.cif_tool.proofs.answers.answer_check.Goals as goal
@@ -17,27 +18,27 @@ returns-in_err-counts-clause-answer g c =
     fails-silently _ _ _ c.args.sink.now c.from_residual.result f (at-fault c.from_residual.result f c.from_residual.ensures.1)
     (λ write. subst (IsOfCheck MAX_LINES) write c.in_err-counts.ensures.answers)
 
-pub returns-in_err-write_counts-clause-answer : goal.returns-in_err-write_counts-clause-answer
-returns-in_err-write_counts-clause-answer g c =
-    let p = err_from_is_err_and c.from_residual-in_err-write_counts.result c.from_residual-in_err-write_counts.ensures.1 in
-    let counts = c.in_ok-counts.counts in
-    fails-to-write _ _ _ _ (counts_line counts) 0 c.write_counts.new.sink c.from_residual-in_err-write_counts.result p.0 p.1 p.2
-    c.in_err-write_counts.ensures
-    (check-answer _ c.args.form c.args.asked.now counts c.in_ok-counts.ensures.ok)
-
 pub returns-clause-answer : goal.returns-clause-answer
 returns-clause-answer g c =
+    let call = c.map_err-written in
+    let told = told-as _ _ _ _ _ _ _ c.write_counts.result call.result call.ensures.cases c.write_counts.ensures in
     let counts = c.in_ok-counts.counts in
-    flushed _ _ _ _ (counts_line counts) 0 c.write_counts.new.sink c.flushed.new.sink c.flushed.result c.in_ok-write_counts.ensures
-    c.flushed.ensures.writes c.flushed.ensures.ok c.flushed.ensures.fault
-    (check-answer _ c.args.form c.args.asked.now counts c.in_ok-counts.ensures.ok)
+    handed-text _ _ _ _ (counts_line counts) 0 _ 0 call.result c.write_counts.new.sink c.answered.new.sink c.answered.result refl
+    told.0 told.1 (check-answer _ c.args.form c.args.asked.now counts c.in_ok-counts.ensures.ok) c.answered.ensures.hands
 
-pub returns-in_err-write_counts-clause-source : goal.returns-in_err-write_counts-clause-source
-returns-in_err-write_counts-clause-source g c =
-    let call = c.from_residual-in_err-write_counts in
-    read-on _ _ _ call.result (hands call.result Write call.ensures.1 (λ f. f ≢ Read) (λ is. cc)) c.in_ok-counts.ensures.source
+pub returns-clause-fault : goal.returns-clause-fault
+returns-clause-fault g c =
+    let after = g.R.Read.remaining (reader_of c.check_keeping.new.source) in
+    let call = c.map_err-written in
+    let told = told-as _ _ _ _ _ _ _ c.write_counts.result call.result call.ensures.cases c.write_counts.ensures in
+    known_so _ _ _ (λ bytes is.
+    only-fails _ _ _ (IsNormaliseFault MAX_LINES c.args.asked.now bytes after) 0 call.result c.write_counts.new.sink
+    c.answered.new.sink c.answered.result told.1 tt c.answered.ensures.hands) c.in_ok-counts.ensures.ok
 
 pub returns-clause-source : goal.returns-clause-source
 returns-clause-source g c =
-    read-on _ _ _ c.flushed.result (only-write (λ f. f ≢ Read) c.flushed.result c.flushed.ensures.fault (λ is. cc))
-    c.in_ok-counts.ensures.source
+    let call = c.map_err-written in
+    let told = told-as _ _ _ _ _ _ _ c.write_counts.result call.result call.ensures.cases c.write_counts.ensures in
+    read-on _ _ _ c.answered.result
+    (only-fails _ _ _ (λ f. f ≢ Read) 0 call.result c.write_counts.new.sink c.answered.new.sink c.answered.result told.1 (λ is. cc)
+    c.answered.ensures.hands) c.in_ok-counts.ensures.source

@@ -1,6 +1,5 @@
 -- The text is that of all clashes of what was narrowed (`clashes-answer`); each call's faults are of known bytes.
-use Rattle.std.proofs.Common.{◌≢◌, ◌∙◌, inl, inr, refl, subst, sym}
-use Rattle.std.proofs.lemmas.Result.{IfOk-weaker}
+use Rattle.std.proofs.Common.{◌≢◌, inl, inr, refl, subst, sym}
 use Rattle.cif_columns.specs.Source.{reader_of}
 use Rattle.cif_columns.proofs.GivenLinesLaws.{known_so}
 use Rattle.cif_extract.specs.ExtractParts.{extract_parts}
@@ -9,7 +8,7 @@ use Rattle.cif_canon.specs.Clashes.{clashes_text}
 use Rattle.cif_canon.proofs.HandedFaults.{at-fault, hands, known-fault}
 use Rattle.cif_tool.specs.Answer.{IsClashesRefusal}
 use Rattle.cif_tool.specs.Status.{listed_status}
-use Rattle.cif_tool.proofs.Answered.{fails-silently, fails-to-write, flushed, only-write}
+use Rattle.cif_tool.proofs.Answered.{fails-silently, handed-text, only-fails}
 use Rattle.cif_canon.proofs.BothRead.{read-on}
 use Rattle.cif_tool.proofs.KnownAnswers.{clashes-answer}
 use Rattle.cif_tool.proofs.answers.answer_clashes.Goals as goal
@@ -37,41 +36,23 @@ returns-in_err-found-clause-fault g c =
     (λ bytes spelled. inr (extract_parts c.in_ok-extract.extract, spelled, inr (inl c.in_err-found.ensures.fault)))
     c.in_ok-extract.ensures.ok
 
-pub returns-in_err-write-clause-answer : goal.returns-in_err-write-clause-answer
-returns-in_err-write-clause-answer g c =
-    let call = c.from_residual-in_err-write in
-    let f = c.in_err-write.field-0.0 in
-    let made = c.in_ok-found.found in
-    let none = c.is_empty.result in
-    fails-to-write _ _ _ _ (clashes_text made) (listed_status none) c.write.new.sink call.result f
-    (at-fault call.result f call.ensures.1) c.in_err-write.ensures.fault c.in_err-write.ensures.writes
-    (clashes-answer _ (extract_parts c.in_ok-extract.extract) c.in_ok-extract.ensures.ok c.args.asked.now
-    (extract_parts c.narrow.new.extract) made none c.in_ok-narrow.ensures.ok c.in_ok-found.ensures.all c.is_empty.ensures)
-
-pub returns-in_err-write-clause-fault : goal.returns-in_err-write-clause-fault
-returns-in_err-write-clause-fault g c =
-    let after = g.R.Read.remaining (reader_of c.read_extract.new.source) in
-    known-fault c.from_residual-in_err-write.result c.in_err-write.field-0.0 c.from_residual-in_err-write.ensures.1 _ _
-    (λ bytes. IsClashesRefusal c.args.asked.now bytes after)
-    (λ bytes spelled. inr (extract_parts c.in_ok-extract.extract, spelled, inr (inr c.in_err-write.ensures.fault)))
-    c.in_ok-extract.ensures.ok
-
 pub returns-clause-answer : goal.returns-clause-answer
 returns-clause-answer g c =
     let made = c.in_ok-found.found in
     let none = c.is_empty.result in
-    flushed _ _ _ _ (clashes_text made) (listed_status none) c.write.new.sink c.flushed.new.sink c.flushed.result
-    c.in_ok-write.ensures.writes c.flushed.ensures.writes
-    (IfOk-weaker c.flushed.result _ _ (λ status is. is ∙ c.listed-status.ensures) c.flushed.ensures.ok) c.flushed.ensures.fault
+    handed-text _ _ _ _ (clashes_text made) (listed_status none) _ c.listed.result c.write.result c.write.new.sink
+    c.answered.new.sink c.answered.result c.listed.ensures c.write.ensures.writes c.write.ensures.fault
     (clashes-answer _ (extract_parts c.in_ok-extract.extract) c.in_ok-extract.ensures.ok c.args.asked.now
     (extract_parts c.narrow.new.extract) made none c.in_ok-narrow.ensures.ok c.in_ok-found.ensures.all c.is_empty.ensures)
+    c.answered.ensures.hands
 
 pub returns-clause-fault : goal.returns-clause-fault
 returns-clause-fault g c =
     let after = g.R.Read.remaining (reader_of c.read_extract.new.source) in
     known_so _ _ _ (λ bytes spelled.
-    only-write (IsClashesRefusal c.args.asked.now bytes after) c.flushed.result c.flushed.ensures.fault
-    (inr (extract_parts c.in_ok-extract.extract, spelled, inr (inr refl)))) c.in_ok-extract.ensures.ok
+    only-fails _ _ _ (IsClashesRefusal c.args.asked.now bytes after) c.listed.result c.write.result c.write.new.sink
+    c.answered.new.sink c.answered.result c.write.ensures.fault
+    (inr (extract_parts c.in_ok-extract.extract, spelled, inr (inr refl))) c.answered.ensures.hands) c.in_ok-extract.ensures.ok
 
 pub returns-in_err-found-clause-source : goal.returns-in_err-found-clause-source
 returns-in_err-found-clause-source g c =
@@ -79,13 +60,8 @@ returns-in_err-found-clause-source g c =
     read-on _ _ _ call.result (hands call.result c.in_err-found.field-0.0 call.ensures.1 (λ f. f ≢ Read)
     (subst (λ f. f ≢ Read) (sym c.in_err-found.ensures.fault) (λ is. cc))) c.in_ok-extract.ensures.device
 
-pub returns-in_err-write-clause-source : goal.returns-in_err-write-clause-source
-returns-in_err-write-clause-source g c =
-    let call = c.from_residual-in_err-write in
-    read-on _ _ _ call.result (hands call.result c.in_err-write.field-0.0 call.ensures.1 (λ f. f ≢ Read)
-    (subst (λ f. f ≢ Read) (sym c.in_err-write.ensures.fault) (λ is. cc))) c.in_ok-extract.ensures.device
-
 pub returns-clause-source : goal.returns-clause-source
 returns-clause-source g c =
-    read-on _ _ _ c.flushed.result (only-write (λ f. f ≢ Read) c.flushed.result c.flushed.ensures.fault (λ is. cc))
-    c.in_ok-extract.ensures.device
+    read-on _ _ _ c.answered.result
+    (only-fails _ _ _ (λ f. f ≢ Read) c.listed.result c.write.result c.write.new.sink c.answered.new.sink c.answered.result
+    c.write.ensures.fault (λ is. cc) c.answered.ensures.hands) c.in_ok-extract.ensures.device

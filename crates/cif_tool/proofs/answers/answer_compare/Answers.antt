@@ -1,12 +1,11 @@
 -- A fault after both are read is told by `compare-refused`, and the text by `compare-answer`; `both-read` says what became of the sources.
-use Rattle.std.proofs.Common.{◌≢◌, ◌∙◌, inl, inr, refl, subst}
-use Rattle.std.proofs.lemmas.Result.{IfOk-weaker, err_from_is_err_and}
+use Rattle.std.proofs.Common.{◌≢◌, inl, inr, refl, subst}
 use Rattle.cif_extract.specs.ExtractParts.{extract_parts}
 use Rattle.cif_extract.specs.declared.fault.Fault.TheVariants.{Read, Write}
 use Rattle.cif_canon.specs.Comparison.{IsCompareFault, comparison_line}
 use Rattle.cif_canon.proofs.HandedFaults.{at-fault, hands}
 use Rattle.cif_tool.specs.Status.{outcome_of}
-use Rattle.cif_tool.proofs.Answered.{fails-silently, fails-to-write, flushed, only-write}
+use Rattle.cif_tool.proofs.Answered.{fails-silently, handed-text, only-fails, told-as}
 use Rattle.cif_canon.proofs.BothRead.{both-read}
 use Rattle.cif_tool.proofs.KnownAnswers.{compare-answer, compare-refused}
 use Rattle.cif_tool.proofs.answers.answer_compare.Goals as goal
@@ -42,42 +41,29 @@ returns-in_err-comparison-clause-sources g c =
     (hands call.result c.in_err-comparison.field-0.0 call.ensures.1 (λ f. f ≢ Read)
     (λ read. subst (IsCompareFault x y) read c.in_err-comparison.ensures.fault))
 
-pub returns-in_err-write_comparison-clause-answer : goal.returns-in_err-write_comparison-clause-answer
-returns-in_err-write_comparison-clause-answer g c =
-    let call = c.from_residual-in_err-write_comparison in
-    let p = err_from_is_err_and call.result call.ensures.1 in
-    let made = c.in_ok-comparison.comparison in
-    fails-to-write _ _ _ _ (comparison_line made) (outcome_of made) c.write_comparison.new.sink call.result p.0 p.1 p.2
-    c.in_err-write_comparison.ensures
-    (compare-answer c.args.asked.now c.args.common _ _ (extract_parts c.in_ok-left.left) (extract_parts c.in_ok-left.right)
-    c.in_ok-left.ensures.ok made c.in_ok-comparison.ensures.ok)
-
-pub returns-in_err-write_comparison-clause-fault : goal.returns-in_err-write_comparison-clause-fault
-returns-in_err-write_comparison-clause-fault g c =
-    let call = c.from_residual-in_err-write_comparison in
-    compare-refused c.args.asked.now c.args.common _ _ (extract_parts c.in_ok-left.left) (extract_parts c.in_ok-left.right)
-    c.in_ok-left.ensures.ok _ _ _ call.result Write (hands call.result Write call.ensures.1) (inr refl)
-
-pub returns-in_err-write_comparison-clause-sources : goal.returns-in_err-write_comparison-clause-sources
-returns-in_err-write_comparison-clause-sources g c =
-    let call = c.from_residual-in_err-write_comparison in
-    both-read _ _ _ _ _ call.result c.in_ok-left.ensures.sources (hands call.result Write call.ensures.1 (λ f. f ≢ Read) (λ is. cc))
-
 pub returns-clause-answer : goal.returns-clause-answer
 returns-clause-answer g c =
+    let call = c.map_err-written in
+    let told = told-as _ _ _ _ _ _ _ c.write_comparison.result call.result call.ensures.cases c.write_comparison.ensures in
     let made = c.in_ok-comparison.comparison in
-    flushed _ _ _ _ (comparison_line made) (outcome_of made) c.write_comparison.new.sink c.flushed.new.sink c.flushed.result
-    c.in_ok-write_comparison.ensures c.flushed.ensures.writes
-    (IfOk-weaker c.flushed.result _ _ (λ status is. is ∙ c.outcome.ensures) c.flushed.ensures.ok) c.flushed.ensures.fault
+    handed-text _ _ _ _ (comparison_line made) (outcome_of made) _ c.outcome.result call.result c.write_comparison.new.sink
+    c.answered.new.sink c.answered.result c.outcome.ensures told.0 told.1
     (compare-answer c.args.asked.now c.args.common _ _ (extract_parts c.in_ok-left.left) (extract_parts c.in_ok-left.right)
-    c.in_ok-left.ensures.ok made c.in_ok-comparison.ensures.ok)
+    c.in_ok-left.ensures.ok made c.in_ok-comparison.ensures.ok) c.answered.ensures.hands
 
 pub returns-clause-fault : goal.returns-clause-fault
 returns-clause-fault g c =
+    let call = c.map_err-written in
+    let told = told-as _ _ _ _ _ _ _ c.write_comparison.result call.result call.ensures.cases c.write_comparison.ensures in
     compare-refused c.args.asked.now c.args.common _ _ (extract_parts c.in_ok-left.left) (extract_parts c.in_ok-left.right)
-    c.in_ok-left.ensures.ok _ _ _ c.flushed.result Write (λ P. only-write P c.flushed.result c.flushed.ensures.fault) (inr refl)
+    c.in_ok-left.ensures.ok _ _ _ c.answered.result Write
+    (λ P q. only-fails _ _ _ P c.outcome.result call.result c.write_comparison.new.sink c.answered.new.sink c.answered.result told.1 q
+    c.answered.ensures.hands) (inr refl)
 
 pub returns-clause-sources : goal.returns-clause-sources
 returns-clause-sources g c =
-    both-read _ _ _ _ _ c.flushed.result c.in_ok-left.ensures.sources
-    (only-write (λ f. f ≢ Read) c.flushed.result c.flushed.ensures.fault (λ is. cc))
+    let call = c.map_err-written in
+    let told = told-as _ _ _ _ _ _ _ c.write_comparison.result call.result call.ensures.cases c.write_comparison.ensures in
+    both-read _ _ _ _ _ c.answered.result c.in_ok-left.ensures.sources
+    (only-fails _ _ _ (λ f. f ≢ Read) c.outcome.result call.result c.write_comparison.new.sink c.answered.new.sink c.answered.result
+    told.1 (λ is. cc) c.answered.ensures.hands)

@@ -1,13 +1,12 @@
 -- A fault after both are read is told by `compare-refused`, and the text by `diff-answer`; `both-read` says what became of the sources.
-use Rattle.std.proofs.Common.{◌≢◌, ◌∙◌, inl, inr, refl, subst, sym}
-use Rattle.std.proofs.lemmas.Result.{IfOk-weaker}
+use Rattle.std.proofs.Common.{◌≢◌, inl, inr, refl, subst}
 use Rattle.cif_extract.specs.ExtractParts.{extract_parts}
 use Rattle.cif_extract.specs.declared.fault.Fault.TheVariants.{Read, Write}
 use Rattle.cif_canon.specs.Comparison.{IsCompareFault}
 use Rattle.cif_canon.specs.Differences.{differences_text}
 use Rattle.cif_canon.proofs.HandedFaults.{at-fault, hands}
 use Rattle.cif_tool.specs.Status.{listed_status}
-use Rattle.cif_tool.proofs.Answered.{fails-silently, fails-to-write, flushed, only-write}
+use Rattle.cif_tool.proofs.Answered.{fails-silently, handed-text, only-fails}
 use Rattle.cif_canon.proofs.BothRead.{both-read}
 use Rattle.cif_tool.proofs.KnownAnswers.{diff-answer, compare-refused}
 use Rattle.cif_tool.proofs.answers.answer_diff.Goals as goal
@@ -43,47 +42,24 @@ returns-in_err-found-clause-sources g c =
     (hands call.result c.in_err-found.field-0.0 call.ensures.1 (λ f. f ≢ Read)
     (λ read. subst (IsCompareFault x y) read c.in_err-found.ensures.fault))
 
-pub returns-in_err-write-clause-answer : goal.returns-in_err-write-clause-answer
-returns-in_err-write-clause-answer g c =
-    let call = c.from_residual-in_err-write in
-    let f = c.in_err-write.field-0.0 in
-    let made = c.in_ok-found.found in
-    let none = c.is_empty.result in
-    fails-to-write _ _ _ _ (differences_text made) (listed_status none) c.write.new.sink call.result f
-    (at-fault call.result f call.ensures.1) c.in_err-write.ensures.fault c.in_err-write.ensures.writes
-    (diff-answer c.args.asked.now c.args.common _ _ (extract_parts c.in_ok-left.left) (extract_parts c.in_ok-left.right)
-    c.in_ok-left.ensures.ok made none c.in_ok-found.ensures.ok c.is_empty.ensures)
-
-pub returns-in_err-write-clause-fault : goal.returns-in_err-write-clause-fault
-returns-in_err-write-clause-fault g c =
-    let call = c.from_residual-in_err-write in
-    let f = c.in_err-write.field-0.0 in
-    compare-refused c.args.asked.now c.args.common _ _ (extract_parts c.in_ok-left.left) (extract_parts c.in_ok-left.right)
-    c.in_ok-left.ensures.ok _ _ _ call.result f (hands call.result f call.ensures.1) (inr c.in_err-write.ensures.fault)
-
-pub returns-in_err-write-clause-sources : goal.returns-in_err-write-clause-sources
-returns-in_err-write-clause-sources g c =
-    let call = c.from_residual-in_err-write in
-    both-read _ _ _ _ _ call.result c.in_ok-left.ensures.sources
-    (hands call.result c.in_err-write.field-0.0 call.ensures.1 (λ f. f ≢ Read)
-    (subst (λ f. f ≢ Read) (sym c.in_err-write.ensures.fault) (λ is. cc)))
-
 pub returns-clause-answer : goal.returns-clause-answer
 returns-clause-answer g c =
     let made = c.in_ok-found.found in
     let none = c.is_empty.result in
-    flushed _ _ _ _ (differences_text made) (listed_status none) c.write.new.sink c.flushed.new.sink c.flushed.result
-    c.in_ok-write.ensures.writes c.flushed.ensures.writes
-    (IfOk-weaker c.flushed.result _ _ (λ status is. is ∙ c.listed-status.ensures) c.flushed.ensures.ok) c.flushed.ensures.fault
+    handed-text _ _ _ _ (differences_text made) (listed_status none) _ c.listed.result c.write.result c.write.new.sink
+    c.answered.new.sink c.answered.result c.listed.ensures c.write.ensures.writes c.write.ensures.fault
     (diff-answer c.args.asked.now c.args.common _ _ (extract_parts c.in_ok-left.left) (extract_parts c.in_ok-left.right)
-    c.in_ok-left.ensures.ok made none c.in_ok-found.ensures.ok c.is_empty.ensures)
+    c.in_ok-left.ensures.ok made none c.in_ok-found.ensures.ok c.is_empty.ensures) c.answered.ensures.hands
 
 pub returns-clause-fault : goal.returns-clause-fault
 returns-clause-fault g c =
     compare-refused c.args.asked.now c.args.common _ _ (extract_parts c.in_ok-left.left) (extract_parts c.in_ok-left.right)
-    c.in_ok-left.ensures.ok _ _ _ c.flushed.result Write (λ P. only-write P c.flushed.result c.flushed.ensures.fault) (inr refl)
+    c.in_ok-left.ensures.ok _ _ _ c.answered.result Write
+    (λ P q. only-fails _ _ _ P c.listed.result c.write.result c.write.new.sink c.answered.new.sink c.answered.result c.write.ensures.fault q
+    c.answered.ensures.hands) (inr refl)
 
 pub returns-clause-sources : goal.returns-clause-sources
 returns-clause-sources g c =
-    both-read _ _ _ _ _ c.flushed.result c.in_ok-left.ensures.sources
-    (only-write (λ f. f ≢ Read) c.flushed.result c.flushed.ensures.fault (λ is. cc))
+    both-read _ _ _ _ _ c.answered.result c.in_ok-left.ensures.sources
+    (only-fails _ _ _ (λ f. f ≢ Read) c.listed.result c.write.result c.write.new.sink c.answered.new.sink c.answered.result
+    c.write.ensures.fault (λ is. cc) c.answered.ensures.hands)

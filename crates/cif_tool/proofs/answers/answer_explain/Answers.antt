@@ -5,54 +5,36 @@ use Rattle.cif_columns.proofs.GivenLinesLaws.{known_so}
 use Rattle.cif_extract.specs.ExtractParts.{extract_parts}
 use Rattle.cif_extract.specs.declared.fault.Fault.TheVariants.{Read}
 use Rattle.cif_canon.specs.Explanation.{IsExplanationFault}
-use Rattle.cif_canon.proofs.HandedFaults.{at-fault, hands, known-fault}
 use Rattle.cif_tool.specs.Answer.{IsExplainRefusal}
-use Rattle.cif_tool.proofs.Answered.{fails, flushed, only-write, written-then}
+use Rattle.cif_tool.proofs.Answered.{handed, handed-fault, written-then}
 use Rattle.cif_canon.proofs.BothRead.{read-on}
 use Rattle.cif_tool.proofs.KnownAnswers.{explain-answer}
 use Rattle.cif_tool.proofs.answers.answer_explain.Goals as goal
 
-pub returns-in_err-explain_listing-clause-answer : goal.returns-in_err-explain_listing-clause-answer
-returns-in_err-explain_listing-clause-answer g c =
-    let call = c.from_residual-in_err-explain_listing in
-    let f = c.in_err-explain_listing.field-0.0 in
-    let made = c.in_err-explain_listing.ensures.view in
-    let x = extract_parts c.in_ok-extract.extract in
-    fails _ _ _ _ made.0 0 (Unit {0}) c.explain_listing.new.sink call.result f (at-fault call.result f call.ensures.1) made.1
-    (written-then (Unit {0}) (Unit {0}) _ _ f
-    (λ view. explain-answer _ x c.in_ok-extract.ensures.ok c.args.format c.args.uid.now c.args.day made.0 view) made.2)
-
-pub returns-in_err-explain_listing-clause-fault : goal.returns-in_err-explain_listing-clause-fault
-returns-in_err-explain_listing-clause-fault g c =
-    let after = g.R.Read.remaining (reader_of c.read_extract.new.source) in
-    known-fault c.from_residual-in_err-explain_listing.result c.in_err-explain_listing.field-0.0
-    c.from_residual-in_err-explain_listing.ensures.1 _ _ (λ bytes. IsExplainRefusal c.args.day bytes after)
-    (λ bytes spelled. inr (extract_parts c.in_ok-extract.extract, spelled, c.in_err-explain_listing.ensures.fault))
-    c.in_ok-extract.ensures.ok
-
 pub returns-clause-answer : goal.returns-clause-answer
 returns-clause-answer g c =
-    let made = c.in_ok-explain_listing.ensures.view in
+    let call = c.explain_listing in
+    let view = call.ensures.view in
     let x = extract_parts c.in_ok-extract.extract in
-    flushed _ _ _ _ made.0 0 c.explain_listing.new.sink c.flushed.new.sink c.flushed.result made.1 c.flushed.ensures.writes
-    c.flushed.ensures.ok c.flushed.ensures.fault
-    (explain-answer _ x c.in_ok-extract.ensures.ok c.args.format c.args.uid.now c.args.day made.0 made.2)
+    handed _ _ _ _ view.0 0 _ call.result call.new.sink c.answered.new.sink c.answered.result view.1
+    (written-then _ _ _ call.result (explain-answer _ x c.in_ok-extract.ensures.ok c.args.format c.args.uid.now c.args.day view.0) view.2)
+    c.answered.ensures.hands
 
 pub returns-clause-fault : goal.returns-clause-fault
 returns-clause-fault g c =
     let after = g.R.Read.remaining (reader_of c.read_extract.new.source) in
+    let x = extract_parts c.in_ok-extract.extract in
+    let call = c.explain_listing in
     known_so _ _ _ (λ bytes spelled.
-    only-write (IsExplainRefusal c.args.day bytes after) c.flushed.result c.flushed.ensures.fault
-    (inr (extract_parts c.in_ok-extract.extract, spelled, c.in_ok-explain_listing.ensures.view.2.within))) c.in_ok-extract.ensures.ok
-
-pub returns-in_err-explain_listing-clause-source : goal.returns-in_err-explain_listing-clause-source
-returns-in_err-explain_listing-clause-source g c =
-    let call = c.from_residual-in_err-explain_listing in
-    read-on _ _ _ call.result (hands call.result c.in_err-explain_listing.field-0.0 call.ensures.1 (λ f. f ≢ Read)
-    (λ read. (subst (IsExplanationFault (extract_parts c.in_ok-extract.extract) c.args.day) read
-    c.in_err-explain_listing.ensures.fault))) c.in_ok-extract.ensures.device
+    handed-fault _ _ _ (IsExplanationFault x c.args.day) (IsExplainRefusal c.args.day bytes after) 0 call.result call.new.sink
+    c.answered.new.sink c.answered.result (λ f is. inr (x, spelled, is)) call.ensures.fault
+    (written-then _ _ _ call.result (λ view. view.within) call.ensures.view.2) c.answered.ensures.hands) c.in_ok-extract.ensures.ok
 
 pub returns-clause-source : goal.returns-clause-source
 returns-clause-source g c =
-    read-on _ _ _ c.flushed.result (only-write (λ f. f ≢ Read) c.flushed.result c.flushed.ensures.fault (λ is. cc))
-    c.in_ok-extract.ensures.device
+    let x = extract_parts c.in_ok-extract.extract in
+    let call = c.explain_listing in
+    read-on _ _ _ c.answered.result
+    (handed-fault _ _ _ (IsExplanationFault x c.args.day) (λ f. f ≢ Read) 0 call.result call.new.sink c.answered.new.sink c.answered.result
+    (λ f is read. subst (IsExplanationFault x c.args.day) read is) call.ensures.fault
+    (written-then _ _ _ call.result (λ view. view.within) call.ensures.view.2) c.answered.ensures.hands) c.in_ok-extract.ensures.device

@@ -1,6 +1,10 @@
 -- The text has to be named: what `normalise` wrote, flushed or a prefix; of known bytes `normalise-answer` says that it answers.
 use Rattle.std.proofs.Common.{◌≢◌}
+use Rattle.cif_columns.specs.Source.{reader_of}
+use Rattle.cif_columns.specs.declared.line_reader.TheConstants.{MAX_LINES}
+use Rattle.cif_columns.proofs.GivenLinesLaws.{known_so}
 use Rattle.cif_extract.specs.declared.fault.Fault.TheVariants.{Read}
+use Rattle.cif_canon.specs.Fault.{IsNormaliseFault}
 use Rattle.cif_canon.proofs.HandedFaults.{at-fault}
 use Rattle.cif_canon.specs.declared.canonical_form.Counts.{Counts}
 use Rattle.cif_tool.proofs.Answered.{fails, flushed, only-write}
@@ -19,11 +23,17 @@ returns-in_err-normalise_keeping-clause-answer g c =
 pub returns-clause-answer : goal.returns-clause-answer
 returns-clause-answer g c =
     let made = c.in_ok-normalise_keeping.ensures.normal in
-    flushed _ _ _ _ made.0 0 c.normalise_keeping.new.sink c.flushed.new.sink c.flushed.result made.1 c.flushed.ensures.writes
-    c.flushed.ensures.ok c.flushed.ensures.fault
+    let hands = c.answered.ensures.hands in
+    flushed _ _ _ _ made.0 0 c.normalise_keeping.new.sink c.answered.new.sink c.answered.result made.1 hands.0 hands.1 hands.2
     (normalise-answer _ c.args.form c.args.asked.now c.in_ok-normalise_keeping.field-0 made.0 made.2)
+
+pub returns-clause-fault : goal.returns-clause-fault
+returns-clause-fault g c =
+    let after = g.R.Read.remaining (reader_of c.normalise_keeping.new.source) in
+    known_so _ _ _ (λ bytes is. only-write (IsNormaliseFault MAX_LINES c.args.asked.now bytes after) c.answered.result
+    c.answered.ensures.hands.2 tt) c.in_ok-normalise_keeping.ensures.normal.2
 
 pub returns-clause-source : goal.returns-clause-source
 returns-clause-source g c =
-    read-on _ _ _ c.flushed.result (only-write (λ f. f ≢ Read) c.flushed.result c.flushed.ensures.fault (λ is. cc))
+    read-on _ _ _ c.answered.result (only-write (λ f. f ≢ Read) c.answered.result c.answered.ensures.hands.2 (λ is. cc))
     c.in_ok-normalise_keeping.ensures.source

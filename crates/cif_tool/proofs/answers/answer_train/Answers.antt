@@ -1,13 +1,14 @@
 -- The text is that of the view of what was narrowed (`train-answer`); the view's faults are of known bytes (`train-fault`).
 use Rattle.std.proofs.Common.{◌≢◌, subst}
 use Rattle.cif_columns.specs.Source.{reader_of}
+use Rattle.cif_columns.proofs.GivenLinesLaws.{known_so}
 use Rattle.cif_columns.specs.declared.line_reader.TheConstants.{MAX_LINES}
 use Rattle.cif_extract.specs.ExtractParts.{extract_parts}
 use Rattle.cif_extract.specs.declared.fault.Fault.TheVariants.{Read}
 use Rattle.cif_canon.specs.Fault.{IsNormaliseFault, IsOfCheck}
 use Rattle.cif_canon.specs.Views.{IsTrainFault}
-use Rattle.cif_canon.proofs.HandedFaults.{at-fault, hands, known-fault}
-use Rattle.cif_tool.proofs.Answered.{fails, fails-silently, flushed, only-write, written-then}
+use Rattle.cif_canon.proofs.HandedFaults.{at-fault}
+use Rattle.cif_tool.proofs.Answered.{fails-silently, handed, handed-fault, written-then}
 use Rattle.cif_canon.proofs.BothRead.{read-on}
 use Rattle.cif_tool.proofs.KnownAnswers.{train-answer}
 use Rattle.cif_tool.proofs.TrainFaults.{train-fault}
@@ -19,40 +20,29 @@ returns-in_err-extract-clause-answer g c =
     fails-silently _ _ _ c.args.sink.now c.from_residual.result f (at-fault c.from_residual.result f c.from_residual.ensures.1)
     (λ write. subst (IsOfCheck MAX_LINES) write c.in_err-extract.ensures.answers)
 
-pub returns-in_err-train_listing-clause-answer : goal.returns-in_err-train_listing-clause-answer
-returns-in_err-train_listing-clause-answer g c =
-    let call = c.from_residual-in_err-train_listing in
-    let f = c.in_err-train_listing.field-0.0 in
-    let made = c.in_err-train_listing.ensures.view in
-    fails _ _ _ _ made.0 0 (Unit {0}) c.train_listing.new.sink call.result f (at-fault call.result f call.ensures.1) made.1
-    (written-then (Unit {0}) (Unit {0}) _ _ f (train-answer _ c.args.asked.now (extract_parts c.in_ok-extract.extract)
-    c.in_ok-extract.ensures.ok c.args.layout c.args.form c.args.uid.now made.0) made.2)
-
-pub returns-in_err-train_listing-clause-fault : goal.returns-in_err-train_listing-clause-fault
-returns-in_err-train_listing-clause-fault g c =
-    let after = g.R.Read.remaining (reader_of c.read_narrowed.new.source) in
-    let f = c.in_err-train_listing.field-0.0 in
-    known-fault c.from_residual-in_err-train_listing.result f c.from_residual-in_err-train_listing.ensures.1 _ _
-    (λ bytes. IsNormaliseFault MAX_LINES c.args.asked.now bytes after) (λ bytes spelled.
-    train-fault MAX_LINES c.args.asked.now bytes after (extract_parts c.in_ok-extract.extract) spelled f
-    c.in_err-train_listing.ensures.fault) c.in_ok-extract.ensures.ok
-
 pub returns-clause-answer : goal.returns-clause-answer
 returns-clause-answer g c =
-    let made = c.in_ok-train_listing.ensures.view in
-    flushed _ _ _ _ made.0 0 c.train_listing.new.sink c.flushed.new.sink c.flushed.result made.1 c.flushed.ensures.writes
-    c.flushed.ensures.ok c.flushed.ensures.fault
-    (train-answer _ c.args.asked.now (extract_parts c.in_ok-extract.extract) c.in_ok-extract.ensures.ok c.args.layout c.args.form
-    c.args.uid.now made.0 made.2)
+    let call = c.train_listing in
+    let view = call.ensures.view in
+    handed _ _ _ _ view.0 0 _ call.result call.new.sink c.answered.new.sink c.answered.result view.1
+    (written-then _ _ _ call.result (train-answer _ c.args.asked.now (extract_parts c.in_ok-extract.extract) c.in_ok-extract.ensures.ok
+    c.args.layout c.args.form c.args.uid.now view.0) view.2) c.answered.ensures.hands
 
-pub returns-in_err-train_listing-clause-source : goal.returns-in_err-train_listing-clause-source
-returns-in_err-train_listing-clause-source g c =
-    let call = c.from_residual-in_err-train_listing in
-    read-on _ _ _ call.result (hands call.result c.in_err-train_listing.field-0.0 call.ensures.1 (λ f. f ≢ Read)
-    (λ read. subst (IsTrainFault (extract_parts c.in_ok-extract.extract)) read
-    c.in_err-train_listing.ensures.fault)) c.in_ok-extract.ensures.source
+pub returns-clause-fault : goal.returns-clause-fault
+returns-clause-fault g c =
+    let after = g.R.Read.remaining (reader_of c.read_narrowed.new.source) in
+    let x = extract_parts c.in_ok-extract.extract in
+    let call = c.train_listing in
+    known_so _ _ _ (λ bytes spelled.
+    handed-fault _ _ _ (IsTrainFault x) (IsNormaliseFault MAX_LINES c.args.asked.now bytes after) 0 call.result call.new.sink
+    c.answered.new.sink c.answered.result (train-fault MAX_LINES c.args.asked.now bytes after x spelled) call.ensures.fault
+    (written-then _ _ _ call.result (λ view. tt) call.ensures.view.2) c.answered.ensures.hands) c.in_ok-extract.ensures.ok
 
 pub returns-clause-source : goal.returns-clause-source
 returns-clause-source g c =
-    read-on _ _ _ c.flushed.result (only-write (λ f. f ≢ Read) c.flushed.result c.flushed.ensures.fault (λ is. cc))
-    c.in_ok-extract.ensures.source
+    let x = extract_parts c.in_ok-extract.extract in
+    let call = c.train_listing in
+    read-on _ _ _ c.answered.result
+    (handed-fault _ _ _ (IsTrainFault x) (λ f. f ≢ Read) 0 call.result call.new.sink c.answered.new.sink c.answered.result
+    (λ f is read. subst (IsTrainFault x) read is) call.ensures.fault
+    (written-then _ _ _ call.result (λ view. tt) call.ensures.view.2) c.answered.ensures.hands) c.in_ok-extract.ensures.source
