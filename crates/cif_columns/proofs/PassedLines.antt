@@ -1,11 +1,11 @@
 -- A line that is passed where it is ahead is the next line, as `read_line` gives it, from any source.
-use Rattle.std.proofs.Common.{◌≡◌, ℕ, ◌+◌, ◌<◌, true, false, cond, nat_eq, nat_lt, List, length, take, drop, Ok, Some, Option, sym, ap, ◌∙◌}
+use Rattle.std.proofs.Common.{Bool, ◌≡◌, ℕ, ◌+◌, ◌<◌, true, false, cond, nat_eq, nat_lt, List, length, take, drop, Ok, Some, Option, sym, ap, ◌∙◌}
 use Rattle.std.proofs.Common.{arith, eq-eqb, Err, get_or, length-take, subst, rules, IfSome}
 use Rattle.std.proofs.KnownBytes.{Keeps-refl}
 use Rattle.std.proofs.lemmas.Bool.Decides.{nat_tests}
 use Rattle.std.specs.List.{list_all, position_or_len}
 use Rattle.std.specs.Str.Lines.{strip_carriage_return}
-use Rattle.cif_columns.specs.Ahead.{Finds, known_left}
+use Rattle.cif_columns.specs.Ahead.{Decides, Finds, known_left}
 use Rattle.cif_columns.specs.FirstLine.{after_content, first_line, first_content, has_line_feed, is_decided, is_line_feed}
 use Rattle.cif_columns.specs.FirstLine.{is_printable, line_of}
 use Rattle.cif_columns.specs.Line.{ArePrintable, IsLine}
@@ -51,6 +51,16 @@ module _ (bytes : List ℕ) (wide : 80 < length bytes) (printable : ArePrintable
 
   pub after_is : drop 81 bytes ≡ after_content bytes
   after_is = ap (λ n. drop (n + 1) bytes) (sym at_80)
+
+-- they decide what stands first in what is held, where that isn't one too many
+pub taken : (is_full : Bool) (bytes held line : List ℕ) → is_full ≡ false → bytes ≡ held → line ≡ take 80 bytes
+    → ArePrintable (take 80 bytes) → 80 < length bytes → get_or bytes 80 0 ≡ 10
+    → Decides is_full held (Next line) (drop 81 held) × (is_decided is_full held ≡ true)
+taken is_full bytes held line room same is printable wide feed =
+    rw (room, is, ← same) (
+      (first_is bytes wide printable feed, after_is bytes wide printable feed, has_feed bytes wide printable feed),
+      decided bytes wide printable feed,
+    )
 
 module _ {R : Type 0} (remaining : R → Option (List ℕ)) (errors : R → Option ℕ) (old new : LineReader) (source : Source R) (line : List ℕ)
     (ahead : AreAhead old line) (printable : ArePrintable line) (passed : HasPassed old new) where
