@@ -1,6 +1,6 @@
 -- A line that is passed where it is ahead is the next line, as `read_line` gives it, from any source.
-use Rattle.std.proofs.Common.{Bool, ◌≡◌, ℕ, ◌+◌, ◌<◌, true, false, cond, nat_eq, nat_lt, List, length, take, drop, Ok, Some, Option, sym, ap, ◌∙◌}
-use Rattle.std.proofs.Common.{arith, eq-eqb, Err, get_or, length-take, subst, rules, IfSome}
+use Rattle.std.proofs.Common.{◌≡◌, ℕ, ◌+◌, ◌<◌, true, false, cond, nat_eq, nat_lt, List, length, take, drop, Ok, Some, Option, sym, ap, ◌∙◌}
+use Rattle.std.proofs.Common.{Bool, arith, eq-eqb, Err, get_or, length-take, subst, rules, IfSome}
 use Rattle.std.proofs.KnownBytes.{Keeps-refl}
 use Rattle.std.proofs.lemmas.Bool.Decides.{nat_tests}
 use Rattle.std.specs.List.{list_all, position_or_len}

@@ -2,7 +2,6 @@
 use Rattle.std.proofs.Common.{◌∙◌, ◌<◌, Some, length, arith, sym, ap}
 use Rattle.std.proofs.lemmas.Grind.{common_steps}
 use Rattle.cif_columns.specs.Ahead.{held_bytes}
-use Rattle.cif_columns.specs.FirstLine.{line_of}
 use Rattle.cif_columns.proofs.HeldBytes.{range_none}
 use Rattle.cif_columns.proofs.DecidedLines.{last_line, last_after}
 use Rattle.cif_columns.proofs.ahead.Ahead.last.Goals as goal
@@ -11,15 +10,12 @@ pub returns-in-Ok-clause-found : goal.returns-in-Ok-clause-found
 returns-in-Ok-clause-found c =
     let this = c.args.self.now in
     let some : 0 < length (held_bytes this) = grind (arith, common_steps) in
-    let line = last_line c.args.is_full (held_bytes this) c.requires some in (
-      some,
-      line ∙ ap line_of (sym c.as_slice-held.ensures) ∙ sym c.in-Ok.ensures,
-      ap Some (range_none this.buf this.end ∙ sym (last_after c.args.is_full (held_bytes this) c.requires)),
-    )
+    let line = last_line c.args.is_full (held_bytes this) c.requires some ∙ sym (rw c.as_slice-held.ensures at c.in-Ok.ensures) in
+    (some, line, ap Some (range_none this.buf this.end ∙ sym (last_after c.args.is_full (held_bytes this) c.requires)))
 
 pub returns-in-Err-clause-found : goal.returns-in-Err-clause-found
 returns-in-Err-clause-found c =
     let this = c.args.self.now in
     let some : 0 < length (held_bytes this) = grind (arith, common_steps) in
     let line = last_line c.args.is_full (held_bytes this) c.requires some in
-    (some, line ∙ ap line_of (sym c.as_slice-held.ensures) ∙ sym c.in-Err.ensures)
+    (some, line ∙ sym (rw c.as_slice-held.ensures at c.in-Err.ensures))
