@@ -9,9 +9,11 @@ use Rattle.cif_columns.specs.Ahead.{Decides, Finds, known_left}
 use Rattle.cif_columns.specs.FirstLine.{after_content, first_line, first_content, has_line_feed, is_decided, is_line_feed}
 use Rattle.cif_columns.specs.FirstLine.{is_printable, line_of}
 use Rattle.cif_columns.specs.Line.{ArePrintable, IsLine}
-use Rattle.cif_columns.specs.LineReader.{AreAhead, HasPassed, IsNext, given, held, limit}
+use Rattle.cif_columns.specs.LineReader.{AreAhead, HasPassed, IsNext, given, held, limit, past}
+use Rattle.cif_columns.specs.Source.{HasReadOn}
 use Rattle.cif_columns.specs.declared.ahead.Found.TheVariants.{Next}
 use Rattle.cif_columns.specs.declared.line_reader.LineReader.{LineReader}
+use Rattle.cif_columns.specs.declared.line_reader.Past.TheVariants.{Reading}
 use Rattle.cif_columns.specs.declared.refusal.Refusal.TheVariants.{BadLength, BadByte}
 use Rattle.cif_columns.specs.declared.source.Source.{Source}
 use Rattle.cif_columns.proofs.FeedPlaces.{place-printable}
@@ -62,6 +64,28 @@ taken is_full bytes held line room same is printable wide feed =
       decided bytes wide printable feed,
     )
 
+-- a call that finds a line, where nothing was answered before
+pub gives_line : {R : Type 0} {remaining : R → Option (List ℕ)} {errors : R → Option ℕ} {old new : LineReader} {from to : Source R}
+    {line : List ℕ} → past old ≡ Reading → past new ≡ Reading → limit new ≡ limit old → given new ≡ given old + 1
+    → IfSome (known_left remaining old.ahead from)
+    (λ bytes. Finds (nat_eq (given old) (limit old)) bytes (Next line) (known_left remaining new.ahead to))
+    → HasReadOn errors from to → IsNext remaining errors old from (Ok (Some line)) new to
+gives_line {old = old} reading past_now limit_now counted found device = record {
+  answer = λ _. line_answered (limit old) (given old) old.counted _ _ _ found;
+  device = λ _. device;
+  undecided = λ _ e. absurd (cc);
+  endless = λ _ e. absurd (cc);
+  fault = λ _. tt;
+  past_now = past_now;
+  again = λ e. absurd (e reading);
+  still = λ e. absurd (e reading);
+  unread = λ e. absurd (e reading);
+  limit_now = limit_now;
+  counted = counted;
+  ended = λ e. absurd (cc);
+  refused = tt;
+}
+
 module _ {R : Type 0} (remaining : R → Option (List ℕ)) (errors : R → Option ℕ) (old new : LineReader) (source : Source R) (line : List ℕ)
     (ahead : AreAhead old line) (printable : ArePrintable line) (passed : HasPassed old new) where
   not_full : nat_eq (given old) (limit old) ≡ false
@@ -82,19 +106,4 @@ module _ {R : Type 0} (remaining : R → Option (List ℕ)) (errors : R → Opti
       ))
 
   pub next_passed : IsNext remaining errors old source (Ok (Some line)) new source
-  next_passed = record {
-    answer = λ _. line_answered (limit old) (given old) old.counted (known_left remaining old.ahead source)
-        (known_left remaining new.ahead source) line found;
-    device = λ _. search rules;
-    undecided = λ _ e. absurd (cc);
-    endless = λ _ e. absurd (cc);
-    fault = λ _. tt;
-    past_now = passed.past_now ∙ ahead.reading;
-    again = λ e. absurd (e ahead.reading);
-    still = λ e. absurd (e ahead.reading);
-    unread = λ e. absurd (e ahead.reading);
-    limit_now = passed.limit_now;
-    counted = passed.counted;
-    ended = λ e. absurd (cc);
-    refused = tt;
-  }
+  next_passed = gives_line ahead.reading (passed.past_now ∙ ahead.reading) passed.limit_now passed.counted found (search rules)
