@@ -1,17 +1,19 @@
 -- A line that is passed where it is ahead is the next line, as `read_line` gives it, from any source.
 use Rattle.std.proofs.Common.{◌≡◌, ℕ, ◌+◌, ◌<◌, true, false, cond, nat_eq, nat_lt, List, length, take, drop, Ok, Some, Option, sym, ap, ◌∙◌}
-use Rattle.std.proofs.Common.{arith, eq-eqb, Err, get_or, length-take, subst, rules, IfSome}
+use Rattle.std.proofs.Common.{Bool, arith, eq-eqb, Err, get_or, length-take, subst, rules, IfSome}
 use Rattle.std.proofs.KnownBytes.{Keeps-refl}
 use Rattle.std.proofs.lemmas.Bool.Decides.{nat_tests}
 use Rattle.std.specs.List.{list_all, position_or_len}
 use Rattle.std.specs.Str.Lines.{strip_carriage_return}
-use Rattle.cif_columns.specs.Ahead.{Finds, known_left}
+use Rattle.cif_columns.specs.Ahead.{Decides, Finds, known_left}
 use Rattle.cif_columns.specs.FirstLine.{after_content, first_line, first_content, has_line_feed, is_decided, is_line_feed}
 use Rattle.cif_columns.specs.FirstLine.{is_printable, line_of}
 use Rattle.cif_columns.specs.Line.{ArePrintable, IsLine}
-use Rattle.cif_columns.specs.LineReader.{AreAhead, HasPassed, IsNext, given, held, limit}
+use Rattle.cif_columns.specs.LineReader.{AreAhead, HasPassed, IsNext, given, held, limit, past}
+use Rattle.cif_columns.specs.Source.{HasReadOn}
 use Rattle.cif_columns.specs.declared.ahead.Found.TheVariants.{Next}
 use Rattle.cif_columns.specs.declared.line_reader.LineReader.{LineReader}
+use Rattle.cif_columns.specs.declared.line_reader.Past.TheVariants.{Reading}
 use Rattle.cif_columns.specs.declared.refusal.Refusal.TheVariants.{BadLength, BadByte}
 use Rattle.cif_columns.specs.declared.source.Source.{Source}
 use Rattle.cif_columns.proofs.FeedPlaces.{place-printable}
@@ -52,6 +54,38 @@ module _ (bytes : List ℕ) (wide : 80 < length bytes) (printable : ArePrintable
   pub after_is : drop 81 bytes ≡ after_content bytes
   after_is = ap (λ n. drop (n + 1) bytes) (sym at_80)
 
+-- they decide what stands first in what is held, where that isn't one too many
+pub taken : (is_full : Bool) (bytes held line : List ℕ) → is_full ≡ false → bytes ≡ held → line ≡ take 80 bytes
+    → ArePrintable (take 80 bytes) → 80 < length bytes → get_or bytes 80 0 ≡ 10
+    → Decides is_full held (Next line) (drop 81 held) × (is_decided is_full held ≡ true)
+taken is_full bytes held line room same is printable wide feed =
+    rw (room, is, ← same) (
+      (first_is bytes wide printable feed, after_is bytes wide printable feed, has_feed bytes wide printable feed),
+      decided bytes wide printable feed,
+    )
+
+-- a call that finds a line, where nothing was answered before
+pub gives_line : {R : Type 0} {remaining : R → Option (List ℕ)} {errors : R → Option ℕ} {old new : LineReader} {from to : Source R}
+    {line : List ℕ} → past old ≡ Reading → past new ≡ Reading → limit new ≡ limit old → given new ≡ given old + 1
+    → IfSome (known_left remaining old.ahead from)
+    (λ bytes. Finds (nat_eq (given old) (limit old)) bytes (Next line) (known_left remaining new.ahead to))
+    → HasReadOn errors from to → IsNext remaining errors old from (Ok (Some line)) new to
+gives_line {old = old} reading past_now limit_now counted found device = record {
+  answer = λ _. line_answered (limit old) (given old) old.counted _ _ _ found;
+  device = λ _. device;
+  undecided = λ _ e. absurd (cc);
+  endless = λ _ e. absurd (cc);
+  fault = λ _. tt;
+  past_now = past_now;
+  again = λ e. absurd (e reading);
+  still = λ e. absurd (e reading);
+  unread = λ e. absurd (e reading);
+  limit_now = limit_now;
+  counted = counted;
+  ended = λ e. absurd (cc);
+  refused = tt;
+}
+
 module _ {R : Type 0} (remaining : R → Option (List ℕ)) (errors : R → Option ℕ) (old new : LineReader) (source : Source R) (line : List ℕ)
     (ahead : AreAhead old line) (printable : ArePrintable line) (passed : HasPassed old new) where
   not_full : nat_eq (given old) (limit old) ≡ false
@@ -72,19 +106,4 @@ module _ {R : Type 0} (remaining : R → Option (List ℕ)) (errors : R → Opti
       ))
 
   pub next_passed : IsNext remaining errors old source (Ok (Some line)) new source
-  next_passed = record {
-    answer = λ _. line_answered (limit old) (given old) old.counted (known_left remaining old.ahead source)
-        (known_left remaining new.ahead source) line found;
-    device = λ _. search rules;
-    undecided = λ _ e. absurd (cc);
-    endless = λ _ e. absurd (cc);
-    fault = λ _. tt;
-    past_now = passed.past_now ∙ ahead.reading;
-    again = λ e. absurd (e ahead.reading);
-    still = λ e. absurd (e ahead.reading);
-    unread = λ e. absurd (e ahead.reading);
-    limit_now = passed.limit_now;
-    counted = passed.counted;
-    ended = λ e. absurd (cc);
-    refused = tt;
-  }
+  next_passed = gives_line ahead.reading (passed.past_now ∙ ahead.reading) passed.limit_now passed.counted found (search rules)

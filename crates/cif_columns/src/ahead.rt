@@ -3,10 +3,11 @@ ghost use Rattle.std.specs.Prelude.{◌≡◌, ◌+◌, ◌<◌, ◌≤◌, [], 
 ghost use Rattle.std.specs.Prelude.{IfSome, IfNone, IsSome, IsTrue, IsOk, length, take, drop, true};
 ghost use Rattle.std.specs.Prelude.{false, slice_index, min};
 ghost use Rattle.std.specs.Io.KnownBytes.{Keeps, Consumes, IsAtEnd};
-ghost use Rattle.std.specs.List.{list_all, position, position_or_len};
+ghost use Rattle.std.specs.List.{position, position_or_len};
 ghost use Rattle.std.specs.Str.Lines.{strip_carriage_return};
-ghost use Rattle.cif_columns.specs.FirstLine.{is_decided, is_line_feed, is_printable};
+ghost use Rattle.cif_columns.specs.FirstLine.{is_decided, is_line_feed};
 ghost use Rattle.cif_columns.specs.FirstLine.{has_line_feed, line_of, first_line, after_content};
+ghost use Rattle.cif_columns.specs.Line.{ArePrintable};
 ghost use Rattle.cif_columns.specs.Source.{Reads, reader_of, source_failed};
 ghost use Rattle.cif_columns.specs.declared.ahead.TheConstants.{AHEAD, LONGEST_LINE};
 
@@ -99,7 +100,7 @@ impl Ahead {
         ensures within { IsTrue result → 81 ≤ length (held_bytes self.now) }
         ensures not_full { IsTrue result → is_full ≡ false }
     {
-        !is_full && first_line_with_feed(self.as_slice(), line)
+        !is_full && take_line_with_feed(self.as_slice(), line)
     }
 
     /// The first 80 of the held bytes, if a line feed follows them.
@@ -144,10 +145,11 @@ impl Ahead {
         ensures found { Finds is_full (held_bytes self.old) result (Some (held_bytes self.new)) }
         ensures going { result ≢ Found.Failed }
     {
-        if self.as_slice().is_empty() {
+        let held = self.as_slice();
+        if held.is_empty() {
             return Found::End;
         }
-        match line_of_content(self.as_slice()) {
+        match line_of_content(held) {
             Ok(line) => {
                 self.start = self.end;
                 Found::Next(line)
@@ -245,26 +247,12 @@ pub(crate) fn first_line_of(bytes: &[u8], is_full: bool) -> Option<FirstLine>
     Some(FirstLine { line, taken: 0 })
 }
 
-/// Makes it the first line of the bytes, if that is 80 bytes and a line feed, and tells whether it
-/// did. It answers nothing that `first_line_of` doesn't: nearly all lines are so, and it copies them
-/// once.
-#[tactic(auto, unfolding(crate::specs::FirstLine::first_line, crate::specs::FirstLine::is_decided))]
-pub(crate) fn first_line_with_feed(bytes: &[u8], line: &mut Line) -> bool
-    ensures line { IsTrue result → first_line false bytes.now ≡ Ok line.new }
-    ensures decided { IsTrue result → is_decided false bytes.now ≡ true }
-    ensures within { IsTrue result → 81 ≤ length bytes.now }
-    ensures rest { IsTrue result → drop 81 bytes.now ≡ after_content bytes.now }
-    ensures ended { IsTrue result → has_line_feed bytes.now ≡ true }
-{
-    take_line_with_feed(bytes, line)
-}
-
 /// Makes it the line that 80 bytes and a line feed are, if they are one.
 fn take_line_with_feed(bytes: &[u8], line: &mut Line) -> bool
     ensures line { IsTrue result → line.new ≡ take 80 bytes.now }
-    ensures printable { IsTrue result → IsTrue (list_all is_printable (take 80 bytes.now)) }
-    ensures length { IsTrue result → 80 < length bytes.now }
-    ensures ended { IsTrue result → position_or_len is_line_feed bytes.now ≡ 80 }
+    ensures printable { IsTrue result → ArePrintable (take 80 bytes.now) }
+    ensures within { IsTrue result → 80 < length bytes.now }
+    ensures feed { IsTrue result → slice_index bytes.now 80 ≡ 10 }
 {
     match columns_with_feed(bytes) {
         Some(columns) => line.replace(columns),
@@ -316,6 +304,8 @@ fn stripped(bytes: &[u8]) -> &[u8]
 pub(crate) fn line_of_content(content: &[u8]) -> Result<Line, Refusal>
     ensures { result ≡ line_of content.now }
 {
-    let bytes = content.as_array::<LINE_WIDTH>().ok_or(Refusal::BadLength)?;
-    Line::of(*bytes).ok_or(Refusal::BadByte)
+    match content.as_array::<LINE_WIDTH>() {
+        Some(columns) => Line::of(*columns).ok_or(Refusal::BadByte),
+        None => Err(Refusal::BadLength),
+    }
 }

@@ -1,6 +1,7 @@
 -- Two spaces are passed over (`codes_past`): the goal says it of the rest as the loop has it, which a search goes through.
 use Rattle.std.proofs.Common.{ℕ, ◌+◌, ◌-◌, ◌*◌, ◌≤◌, List, ◌++◌, length, take, drop, ap, ◌∙◌, arith}
 use Rattle.std.proofs.lemmas.List.{length-take}
+use Rattle.std.proofs.lemmas.Grind.{common_steps}
 use Rattle.cif_columns.proofs.Codes.{codes_past}
 use Rattle.cif_columns.proofs.activities.codes_of.Goals as goal
 
@@ -16,3 +17,6 @@ loop-rest-preserved c =
       all = now.all ∙ ap (λ (x : List (List ℕ)). codes ++ x) (codes_past rest c.in-len2-up.len_at_least c.if-not-a-b.false);
       room = shorter (2 * length codes) rest now.room;
     }
+
+pub loop-rest-preserved-then-not-a-b : goal.loop-rest-preserved-then-not-a-b
+loop-rest-preserved-then-not-a-b c = record { all = grind (arith, common_steps); room = grind (arith, common_steps) }

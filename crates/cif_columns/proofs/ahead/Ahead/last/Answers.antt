@@ -10,12 +10,12 @@ pub returns-in-Ok-clause-found : goal.returns-in-Ok-clause-found
 returns-in-Ok-clause-found c =
     let this = c.args.self.now in
     let some : 0 < length (held_bytes this) = grind (arith, common_steps) in
-    let line = last_line c.args.is_full (held_bytes this) c.requires some in
-    (some, line ∙ cc, ap Some (range_none this.buf this.end ∙ sym (last_after c.args.is_full (held_bytes this) c.requires)))
+    let line = last_line c.args.is_full (held_bytes this) c.requires some ∙ sym (rw c.as_slice-held.ensures at c.in-Ok.ensures) in
+    (some, line, ap Some (range_none this.buf this.end ∙ sym (last_after c.args.is_full (held_bytes this) c.requires)))
 
 pub returns-in-Err-clause-found : goal.returns-in-Err-clause-found
 returns-in-Err-clause-found c =
     let this = c.args.self.now in
     let some : 0 < length (held_bytes this) = grind (arith, common_steps) in
     let line = last_line c.args.is_full (held_bytes this) c.requires some in
-    (some, line ∙ cc)
+    (some, line ∙ sym (rw c.as_slice-held.ensures at c.in-Err.ensures))
