@@ -11,10 +11,7 @@ use Rattle.jiff_core.proofs.CalendarLemmas.{day_count-lt_year, days_from_civil-d
 use Rattle.jiff_core.proofs.CalendarLemmas.{day_count-next_year, day_count-last_of_year, days_in_month_bounds}
 use Rattle.cif_columns.specs.Day.{IsDay, IsDated, StandsInYymmdd, StandsInDdmmyy, year_of}
 use Rattle.cif_columns.specs.DayDigits.{CalendarDate, next_date, date_of, yymmdd_of, ddmmyy_of}
-use Rattle.cif_columns.proofs.Dates.{number_is_day, one_yymmdd, one_ddmmyy}
-
-day_count-1960 : day_count (pos 1960) 1 1 ≡ 4_368_300
-day_count-1960 = day_count-early (pos 1960) 11959 1 1 refl (omega arith) (omega arith) (omega arith)
+use Rattle.cif_columns.proofs.Dates.{day_count-1960, number_is_day, one_yymmdd, one_ddmmyy}
 
 day_count-2059 : day_count (pos 2059) 12 31 ≡ 4_404_824
 day_count-2059 = omega (

@@ -5,7 +5,7 @@ use Rattle.std.proofs.Common.{length-take, ltb-false}
 use Rattle.std.proofs.lemmas.Grind.{common_steps}
 use Rattle.std.proofs.lemmas.Bool.Decides.{nat_tests}
 use Rattle.std.proofs.lemmas.Option.{cond_some}
-use Rattle.std.proofs.lemmas.Bool.{ltb-true}
+use Rattle.std.proofs.lemmas.Bool.{and_parts, ltb-true}
 use Rattle.std.specs.List.{position_or_len, position, list_all}
 use Rattle.cif_columns.specs.FirstLine.{is_line_feed, is_printable}
 
@@ -39,10 +39,6 @@ place-append_out (x ∷ xs) ys h = at (not (is_line_feed x)) (place-append_out x
         → length (x ∷ xs) ≤ cond b (1 + place (xs ++ ys)) 0
     at true more h = omega (arith, more (omega arith))
     at false more h = absurd (omega arith)
-
-and_parts : (a b : Bool) → (a && b) ≡ true → (a ≡ true) × (b ≡ true)
-and_parts true b h = (refl, h)
-and_parts false b h = absurd (cc)
 
 -- no printable byte is a line feed
 printable_no_feed : (x : ℕ) → is_printable x ≡ true → not (is_line_feed x) ≡ true

@@ -3,7 +3,7 @@ use Rattle.std.proofs.Common.{◌≡◌, ℕ, suc, ◌+◌, ◌-◌, ◌<◌, �
 use Rattle.std.proofs.Common.{drop, get_or, Option, None, Some, IfSome, Ok, Err, refl, sym, ap, ◌∙◌, subst, arith, append_assoc}
 use Rattle.std.proofs.Common.{take-append-drop, ltb-false, drop_of_length-le, drop-cons}
 use Rattle.std.proofs.lemmas.Bool.Decides.{nat_tests}
-use Rattle.std.proofs.lemmas.Bool.{ltb-true}
+use Rattle.std.proofs.lemmas.Bool.{eqb-true, ltb-true}
 use Rattle.std.proofs.lemmas.List.{nil_from_length}
 use Rattle.std.proofs.lemmas.List.Sums.{fails_before_first, passes_at_first, split_at_first}
 use Rattle.std.specs.List.{slice_index, list_all, before_first, after_first}
@@ -40,16 +40,13 @@ last_return l e =
     let here : drop last l ≡ 13 ∷ [] = drop-cons l last 0 below ∙ ap (λ x. x ∷ drop (suc last) l) e ∙ ap (λ t. 13 ∷ t) none in
     sym (take-append-drop last l) ∙ ap (λ t. take last l ++ t) here
 
-is_equal : (x y : ℕ) → nat_eq x y ≡ true → x ≡ y
-is_equal x y h = grind (arith, nat_tests)
-
 -- what loses a carriage return at its end had it there
 stripped : (part line : List ℕ) → strip_carriage_return part ≡ line → (part ≡ line) ⊎ (part ≡ line ++ 13 ∷ [])
 stripped part line is = at (nat_eq (slice_index part (length part - 1)) 13) refl is
   where
     at : (r : Bool) → r ≡ nat_eq (slice_index part (length part - 1)) 13 → cond r (take (length part - 1) part) part ≡ line
         → (part ≡ line) ⊎ (part ≡ line ++ 13 ∷ [])
-    at true w is = inr (last_return part (is_equal _ 13 (sym w)) ∙ ap (λ l. l ++ 13 ∷ []) is)
+    at true w is = inr (last_return part (eqb-true _ 13 (sym w)) ∙ ap (λ l. l ++ 13 ∷ []) is)
     at false w is = inl is
 
 stands : (bytes line : List ℕ) → first_content bytes ≡ line → StandsFirst bytes line (after_content bytes)
@@ -61,7 +58,7 @@ stands bytes line is = at (has_line_feed bytes) refl is
         let before = before_first is_line_feed bytes in
         let after = after_first is_line_feed bytes in
         let below : place bytes < length bytes = ltb-true (place bytes) (length bytes) (sym e) in
-        let feed : get_or bytes (place bytes) 0 ≡ 10 = is_equal _ 10 (passes_at_first is_line_feed bytes 0 below) in
+        let feed : get_or bytes (place bytes) 0 ≡ 10 = eqb-true _ 10 (passes_at_first is_line_feed bytes 0 below) in
         let parts : bytes ≡ before ++ 10 ∷ after = split_at_first is_line_feed bytes 0 below ∙ ap (λ x. before ++ (x ∷ after)) feed in
         ⊎_elim
         (λ alone. inl (parts ∙ ap (λ l. l ++ 10 ∷ after) alone))
@@ -80,7 +77,7 @@ line_ok content line is = at (nat_eq (length content) 80) (list_all is_printable
         → cond w (cond p (Ok content) (Err BadByte)) (Err BadLength) ≡ Ok line → (content ≡ line) × IsLine line
     at true true ew ep is =
         let same : content ≡ line = cc in
-        (same, subst IsLine same (record { width = is_equal _ 80 (sym ew); printable = printable_fact content (sym ep) }))
+        (same, subst IsLine same (record { width = eqb-true _ 80 (sym ew); printable = printable_fact content (sym ep) }))
     at true false ew ep is = absurd (cc)
     at false p ew ep is = absurd (cc)
 
@@ -94,7 +91,7 @@ line_err max number within content why is = at (nat_eq (length content) 80) (lis
     at true false ew ep is =
         let same : BadByte ≡ why = cc in
         let bad : ¬ _ = λ good. false_true (ep ∙ printable_true content good) in
-        subst (HasLineReason max number content) same (within, is_equal _ 80 (sym ew), bad)
+        subst (HasLineReason max number content) same (within, eqb-true _ 80 (sym ew), bad)
       where
         false_true : false ≡ true → ⊥
         false_true h = absurd (cc)

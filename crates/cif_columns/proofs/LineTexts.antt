@@ -1,8 +1,8 @@
 -- The texts of lines and the lines in them determine each other.
 use Rattle.std.proofs.Common.{◌≡◌, ℕ, List, [], ◌∷◌, ◌++◌, All, map, take, length, get_or, refl, sym, ◌∙◌, ap, arith}
-use Rattle.std.proofs.Common.{length-append, subst}
+use Rattle.std.proofs.Common.{◌<◌, length-append, subst}
 use Rattle.std.specs.List.{flat_map}
-use Rattle.std.proofs.lemmas.List.{length-take, map-append}
+use Rattle.std.proofs.lemmas.List.{get_or-map, length-map, length-take, map-append}
 use Rattle.std.proofs.lemmas.List.Elements.{All-append, All-cons, All-map, All-nil, All-tail}
 use Rattle.std.proofs.lemmas.List.Folds.{flat_map-map}
 use Rattle.std.proofs.Math.Seq.{take-append_seam}
@@ -40,6 +40,15 @@ line_in_text text h =
 -- so the lines in texts are lines
 pub are_lines : (texts : List (List ℕ)) → All IsLineText texts → All IsLine (lines_in texts)
 are_lines texts h = All-map IsLine (take 80) texts (λ k d below. line_in_text (get_or texts k d) (h k d below))
+
+-- the line at a place
+pub place_in_texts : (texts lines : List (List ℕ)) (at : ℕ) → lines_in texts ≡ lines → at < length lines → at < length texts
+place_in_texts texts lines at is below = omega (arith, below, ap length is, length-map texts (take 80))
+
+pub line_in : (texts lines : List (List ℕ)) (at : ℕ) (d : List ℕ) → lines_in texts ≡ lines → at < length lines
+    → take 80 (get_or texts at d) ≡ get_or lines at []
+line_in texts lines at d is below =
+    sym (get_or-map (take 80) texts at d [] (place_in_texts texts lines at is below)) ∙ ap (λ l. get_or l at []) is
 
 -- a text more is a line more
 pub lines_more : (old new : List (List ℕ)) (text line : List ℕ) → new ≡ old ++ (text ∷ []) → take 80 text ≡ line

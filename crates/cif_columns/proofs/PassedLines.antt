@@ -1,6 +1,6 @@
 -- A line that is passed where it is ahead is the next line, as `read_line` gives it, from any source.
 use Rattle.std.proofs.Common.{◌≡◌, ℕ, ◌+◌, ◌<◌, true, false, cond, nat_eq, nat_lt, List, length, take, drop, Ok, Some, Option, sym, ap, ◌∙◌}
-use Rattle.std.proofs.Common.{Bool, arith, eq-eqb, Err, get_or, length-take, subst, rules, IfSome}
+use Rattle.std.proofs.Common.{Bool, arith, eq-eqb, Err, get_or, length-take, subst, rules, IfSome, Result}
 use Rattle.std.proofs.KnownBytes.{Keeps-refl}
 use Rattle.std.proofs.lemmas.Bool.Decides.{nat_tests}
 use Rattle.std.specs.List.{list_all, position_or_len}
@@ -9,11 +9,16 @@ use Rattle.cif_columns.specs.Ahead.{Decides, Finds, known_left}
 use Rattle.cif_columns.specs.FirstLine.{after_content, first_line, first_content, has_line_feed, is_decided, is_line_feed}
 use Rattle.cif_columns.specs.FirstLine.{is_printable, line_of}
 use Rattle.cif_columns.specs.Line.{ArePrintable, IsLine}
-use Rattle.cif_columns.specs.LineReader.{AreAhead, HasPassed, IsNext, given, held, limit, past}
+use Rattle.cif_columns.specs.Contents.{DecidesNothing}
+use Rattle.cif_columns.specs.LineReader.{Answers, AreAhead, HasPassed, IsNext, IsNextFault, LineReads, given, held, limit, past}
 use Rattle.cif_columns.specs.Source.{HasReadOn}
 use Rattle.cif_columns.specs.declared.ahead.Found.TheVariants.{Next}
 use Rattle.cif_columns.specs.declared.line_reader.LineReader.{LineReader}
-use Rattle.cif_columns.specs.declared.line_reader.Past.TheVariants.{Reading}
+use Rattle.cif_columns.specs.declared.line_reader.Past.TheVariants.{Reading, Faulted}
+use Rattle.cif_columns.specs.declared.line.Line.{Line}
+use Rattle.cif_columns.specs.declared.refusal.LineFault.{LineFault}
+use Rattle.cif_columns.specs.declared.refusal.LineFault.TheVariants.{Read, Refused}
+use Rattle.cif_columns.specs.declared.refusal.Refusal.{Refusal}
 use Rattle.cif_columns.specs.declared.refusal.Refusal.TheVariants.{BadLength, BadByte}
 use Rattle.cif_columns.specs.declared.source.Source.{Source}
 use Rattle.cif_columns.proofs.FeedPlaces.{place-printable}
@@ -55,13 +60,14 @@ module _ (bytes : List ℕ) (wide : 80 < length bytes) (printable : ArePrintable
   after_is = ap (λ n. drop (n + 1) bytes) (sym at_80)
 
 -- they decide what stands first in what is held, where that isn't one too many
-pub taken : (is_full : Bool) (bytes held line : List ℕ) → is_full ≡ false → bytes ≡ held → line ≡ take 80 bytes
-    → ArePrintable (take 80 bytes) → 80 < length bytes → get_or bytes 80 0 ≡ 10
+pub taken : (is_full : Bool) (held line columns : List ℕ) → is_full ≡ false → line ≡ columns → columns ≡ take 80 held
+    → ArePrintable columns → 80 < length held → get_or held 80 0 ≡ 10
     → Decides is_full held (Next line) (drop 81 held) × (is_decided is_full held ≡ true)
-taken is_full bytes held line room same is printable wide feed =
-    rw (room, is, ← same) (
-      (first_is bytes wide printable feed, after_is bytes wide printable feed, has_feed bytes wide printable feed),
-      decided bytes wide printable feed,
+taken is_full held line columns room same is printable wide feed =
+    let first = subst ArePrintable is printable in
+    rw (room, same, is) (
+      (first_is held wide first feed, after_is held wide first feed, has_feed held wide first feed),
+      decided held wide first feed,
     )
 
 -- a call that finds a line, where nothing was answered before
@@ -85,6 +91,35 @@ gives_line {old = old} reading past_now limit_now counted found device = record 
   ended = λ e. absurd (cc);
   refused = tt;
 }
+
+pub refused_not_read : {number : ℕ} {why : Refusal} {P : Type 0} → Refused number why ≡ Read → P
+refused_not_read e = absurd (cc)
+
+-- a call that finds a fault, where nothing was answered before
+pub gives_fault : {R : Type 0} {remaining : R → Option (List ℕ)} {errors : R → Option ℕ} {old new : LineReader} {from to : Source R}
+    {fault : LineFault} → past old ≡ Reading → past new ≡ Faulted fault → limit new ≡ limit old → given new ≡ given old
+    → IfSome (known_left remaining old.ahead from)
+    (λ bytes. Answers (limit old) (given old) bytes (Err fault) (known_left remaining new.ahead to))
+    → LineReads {A = Option Line} errors from to (Err fault) → (fault ≡ Read → DecidesNothing (limit old) (given old) (held new))
+    → IsNextFault (given old) fault → IsNext remaining errors old from (Err fault) new to
+gives_fault {fault = fault} reading past_now limit_now counted answer device undecided next = record {
+  answer = λ _. answer;
+  device = λ _. device;
+  undecided = λ _ e. undecided (same e);
+  endless = λ _ e. absurd (cc);
+  fault = λ _. next;
+  past_now = past_now;
+  again = λ e. absurd (e reading);
+  still = λ e. absurd (e reading);
+  unread = λ e. absurd (e reading);
+  limit_now = limit_now;
+  counted = tt;
+  ended = λ e. absurd (cc);
+  refused = counted;
+}
+  where
+    same : ◌≡◌ {A = Result (Option Line) LineFault} (Err fault) (Err Read) → fault ≡ Read
+    same e = cc
 
 module _ {R : Type 0} (remaining : R → Option (List ℕ)) (errors : R → Option ℕ) (old new : LineReader) (source : Source R) (line : List ℕ)
     (ahead : AreAhead old line) (printable : ArePrintable line) (passed : HasPassed old new) where

@@ -1,7 +1,6 @@
 -- What stands in the columns of a line fits them.
-use Rattle.std.proofs.Common.{◌≡◌, ◌≤◌, ℕ, ◌+◌, ◌-◌, ◌&&◌, ◌==◌, Bool, true, nat_eq, List, [], ◌∷◌, length, subst, arith}
-use Rattle.std.proofs.lemmas.Bool.{and_parts}
-use Rattle.std.proofs.lemmas.Bool.Decides.{nat_tests}
+use Rattle.std.proofs.Common.{◌≡◌, ◌≤◌, ℕ, ◌+◌, ◌-◌, ◌&&◌, ◌==◌, Bool, true, List, [], ◌∷◌, length, subst, arith}
+use Rattle.std.proofs.lemmas.Bool.{and_parts, eqb-true}
 use Rattle.cif_columns.specs.Activities.{AreCodes}
 use Rattle.cif_columns.specs.Field.{AllFit, AllStandIn, FieldValue, Fits, Row, StandsIn, columns, is_whole_from, width_of}
 use Rattle.cif_columns.specs.Field.{exactly, text, activity_codes, working_time, public_time, date, weekdays, indicator, spare}
@@ -29,9 +28,6 @@ abbrev pub have_widths : List Row → Bool
 have_widths [] = true
 have_widths (r ∷ rows) = has_width (width_of r) r.value && have_widths rows
 
-same_number : (a b : ℕ) → nat_eq a b ≡ true → a ≡ b
-same_number a b h = grind (arith, nat_tests)
-
 module _ (line : List ℕ) (is_line : IsLine line) where
   -- a value that stands in columns of a line fits them
   fits_there : (from to : ℕ) → 1 ≤ from → from ≤ to → to ≤ 80 → (value : FieldValue) → has_width (to + 1 - from) value ≡ true
@@ -40,21 +36,21 @@ module _ (line : List ℕ) (is_line : IsLine line) where
   fits_there from to start some within (text value) h s = fits-text_at from to line is_line start some within value s
   fits_there from to start some within (activity_codes codes) h s =
       let c = columns from to line in
-      let wide : to + 1 - from ≡ 12 = same_number (to + 1 - from) 12 h in
+      let wide : to + 1 - from ≡ 12 = eqb-true (to + 1 - from) 12 h in
       let long : length c ≡ 12 = omega (arith, wide, length-columns from to line is_line start some within) in
       let plain = printable-columns from to line is_line start some within in
       (wide, subst AreCodes (codes_in-stands c codes s) (are_codes-codes_in c long plain))
   fits_there from to start some within (working_time time) h s =
-      let wide : to + 1 - from ≡ 5 = same_number (to + 1 - from) 5 h in
+      let wide : to + 1 - from ≡ 5 = eqb-true (to + 1 - from) 5 h in
       let long : length (columns from to line) ≡ 5 = omega (arith, wide, length-columns from to line is_line start some within) in
       (wide, subst (λ c. length c ≡ 5) s.same long, subst IsWorkTime s.same s.form)
   fits_there from to start some within (public_time time) h s =
-      let wide : to + 1 - from ≡ 4 = same_number (to + 1 - from) 4 h in
+      let wide : to + 1 - from ≡ 4 = eqb-true (to + 1 - from) 4 h in
       let long : length (columns from to line) ≡ 4 = omega (arith, wide, length-columns from to line is_line start some within) in
       (wide, subst (λ c. length c ≡ 4) s.same long, subst IsPublicTime s.same s.form)
-  fits_there from to start some within (date day) h s = (same_number (to + 1 - from) 6 h, is_day-yymmdd (columns from to line) day s)
-  fits_there from to start some within (weekdays days) h s = (same_number (to + 1 - from) 7 h, s.week)
-  fits_there from to start some within (indicator stp) h s = same_number (to + 1 - from) 1 h
+  fits_there from to start some within (date day) h s = (eqb-true (to + 1 - from) 6 h, is_day-yymmdd (columns from to line) day s)
+  fits_there from to start some within (weekdays days) h s = (eqb-true (to + 1 - from) 7 h, s.week)
+  fits_there from to start some within (indicator stp) h s = eqb-true (to + 1 - from) 1 h
   fits_there from to start some within spare h s = tt
 
   -- the rows of a table from this column on

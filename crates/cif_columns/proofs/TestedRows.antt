@@ -1,8 +1,7 @@
 -- A line that passes a test spells each table that the test asks for, and is its plain line.
 use Rattle.std.proofs.Common.{◌≡◌, ℕ, ◌+◌, ◌-◌, ◌<◌, ◌≤◌, ◌⊎◌, inl, inr, true, nat_eq, nat_le, List, [], ◌∷◌}
 use Rattle.std.proofs.Common.{length, get_or, refl, sym, ap, subst, ◌∙◌, arith, rules, replicate, codes}
-use Rattle.std.proofs.lemmas.Bool.{and_parts, false≢true, or_cases}
-use Rattle.std.proofs.lemmas.Bool.Decides.{nat_tests}
+use Rattle.std.proofs.lemmas.Bool.{and_parts, eqb-true, false≢true, leb-true, or_cases}
 use Rattle.std.proofs.lemmas.List.{ext_get_or, length-replicate}
 use Rattle.std.proofs.lemmas.Slice.Eq.{text_from_reads}
 use Rattle.cif_columns.specs.Activities.{codes_in, packed}
@@ -24,24 +23,11 @@ use Rattle.cif_columns.proofs.PlainColumns.{plain_already, whole-within}
 use Rattle.cif_columns.proofs.TestedTexts.{text_part}
 use Rattle.cif_columns.proofs.TestedTimes.{InOrSpace, IsClockOrBlank, public_passes, work_passes}
 use Rattle.cif_columns.proofs.Texts.{is_text_of}
-use Rattle.cif_columns.proofs.Times.{public-stands, work-stands}
-
-four : (xs : List ℕ) → length xs ≡ 4 → xs ≡ get_or xs 0 0 ∷ get_or xs 1 0 ∷ get_or xs 2 0 ∷ get_or xs 3 0 ∷ []
-four xs h = text_from_reads xs _ h (search rules)
-
-five : (xs : List ℕ) → length xs ≡ 5 → xs ≡ get_or xs 0 0 ∷ get_or xs 1 0 ∷ get_or xs 2 0 ∷ get_or xs 3 0 ∷ get_or xs 4 0 ∷ []
-five xs h = text_from_reads xs _ h (search rules)
+use Rattle.cif_columns.proofs.Times.{five, four, public-stands, work-stands}
 
 twelve : (xs : List ℕ) → length xs ≡ 12 → xs ≡ get_or xs 0 0 ∷ get_or xs 1 0 ∷ get_or xs 2 0 ∷ get_or xs 3 0 ∷ get_or xs 4 0
     ∷ get_or xs 5 0 ∷ get_or xs 6 0 ∷ get_or xs 7 0 ∷ get_or xs 8 0 ∷ get_or xs 9 0 ∷ get_or xs 10 0 ∷ get_or xs 11 0 ∷ []
 twelve xs h = text_from_reads xs _ h (search rules)
-
--- what tests of numbers say
-same_number : (a b : ℕ) → nat_eq a b ≡ true → a ≡ b
-same_number a b h = grind (arith, nat_tests)
-
-at_most : (a b : ℕ) → nat_le a b ≡ true → a ≤ b
-at_most a b h = grind (arith, nat_tests)
 
 -- the parts of two lists that are one
 cons_parts : (p q : Row) (ps qs : List Row) → p ∷ ps ≡ q ∷ qs → (p ≡ q) × (ps ≡ qs)
@@ -225,16 +211,16 @@ module _ (t : PlainTest) (line : List ℕ) (wide : length line ≡ 80) (fits : P
       × IsPlain from to (read_value (columns from to line) value) line
   value_there from to (exactly value) start some within h =
       let a = and_parts (nat_eq (length value) (to + 1 - from)) (asks_bytes t from to value) h in
-      (bytes_part from to value start some within (same_number (length value) (to + 1 - from) a.0) a.1, tt)
+      (bytes_part from to value start some within (eqb-true (length value) (to + 1 - from) a.0) a.1, tt)
   value_there from to (text value) start some within h =
       (is_text_of (columns from to line), text_at from to start some within (or_cases _ _ h))
   value_there from to (activity_codes codes) start some within h =
       let a2 = and_parts _ _ h in
       let a1 = and_parts _ _ a2.0 in
       let a0 = and_parts _ _ a1.0 in
-      let end = same_number to (from + 11) a0.0 in
+      let end = eqb-true to (from + 11) a0.0 in
       let long : length (columns from to line) ≡ 12 = omega (arith, end, width line from to wide start some within) in
-      (stands-codes_in 6 (columns from to line) long, activity_part from to start end (at_most to 64 a0.1) a1.1 a2.1)
+      (stands-codes_in 6 (columns from to line) long, activity_part from to start end (leb-true to 64 a0.1) a1.1 a2.1)
   value_there from to (working_time time) start some within h =
       let a5 = and_parts _ _ h in
       let a4 = and_parts _ _ a5.0 in
@@ -242,11 +228,11 @@ module _ (t : PlainTest) (line : List ℕ) (wide : length line ≡ 80) (fits : P
       let a2 = and_parts _ _ a3.0 in
       let a1 = and_parts _ _ a2.0 in
       let a0 = and_parts _ _ a1.0 in
-      (work_part from to start (same_number to (from + 4) a0.0) (at_most to 33 a0.1) a1.1 a2.1 a3.1 a4.1 a5.1, tt)
+      (work_part from to start (eqb-true to (from + 4) a0.0) (leb-true to 33 a0.1) a1.1 a2.1 a3.1 a4.1 a5.1, tt)
   value_there from to (public_time time) start some within h =
       let a1 = and_parts _ _ h in
       let a0 = and_parts _ _ a1.0 in
-      (public_part from to start (same_number to (from + 3) a0.0) (at_most to 33 a0.1) a1.1, tt)
+      (public_part from to start (eqb-true to (from + 3) a0.0) (leb-true to 33 a0.1) a1.1, tt)
   value_there from to (date day) start some within h = absurd (false≢true h)
   value_there from to (weekdays days) start some within h = absurd (false≢true h)
   value_there from to (indicator stp) start some within h = absurd (false≢true h)

@@ -1,7 +1,7 @@
 -- What the form of a time says of its columns, and that the tests of it are right.
 use Rattle.std.proofs.Common.{Bool, ◌&&◌, ◌||◌, ◌≡◌, ℕ, ◌+◌, ◌-◌, ◌*◌, ◌/◌, ◌%◌, ◌<◌, ◌≤◌, ◌⊎◌, inl, inr, true, false, nat_eq, nat_lt}
 use Rattle.std.proofs.Common.{List, [], ◌∷◌, length, get_or, replicate, Some, None, refl, sym, ap, arith, rules, cond, subst}
-use Rattle.std.proofs.lemmas.Bool.{and_parts, eqb-true, ltb-true}
+use Rattle.std.proofs.lemmas.Bool.{and_from, and_parts, eqb-true, ltb-true, or_right}
 use Rattle.std.proofs.lemmas.Bool.Decides.{nat_tests}
 use Rattle.std.proofs.lemmas.List.Elements.{All-nil, All-cons, All-append, All-replicate}
 use Rattle.std.proofs.lemmas.Slice.Eq.{text_from_reads}
@@ -65,15 +65,11 @@ blank_is (c ∷ columns) h =
     let p : (nat_eq c 32 ≡ true) × (is_blank columns ≡ true) = and_parts _ _ h in
     cc (eqb-true c 32 p.0, blank_is columns p.1)
 
-four : (xs : List ℕ) → length xs ≡ 4 → xs ≡ get_or xs 0 0 ∷ get_or xs 1 0 ∷ get_or xs 2 0 ∷ get_or xs 3 0 ∷ []
+pub four : (xs : List ℕ) → length xs ≡ 4 → xs ≡ get_or xs 0 0 ∷ get_or xs 1 0 ∷ get_or xs 2 0 ∷ get_or xs 3 0 ∷ []
 four xs h = text_from_reads xs _ h (search rules)
 
-five : (xs : List ℕ) → length xs ≡ 5 → xs ≡ get_or xs 0 0 ∷ get_or xs 1 0 ∷ get_or xs 2 0 ∷ get_or xs 3 0 ∷ get_or xs 4 0 ∷ []
+pub five : (xs : List ℕ) → length xs ≡ 5 → xs ≡ get_or xs 0 0 ∷ get_or xs 1 0 ∷ get_or xs 2 0 ∷ get_or xs 3 0 ∷ get_or xs 4 0 ∷ []
 five xs h = text_from_reads xs _ h (search rules)
-
-or_true : (a b : Bool) → b ≡ true → a || b ≡ true
-or_true true b h = refl
-or_true false b h = h
 
 chosen_at : (b : Bool) (columns time : List ℕ) → b ≡ true → columns ≡ time → cond b (Some columns) None ≡ Some time
 chosen_at true columns time h same = ap Some same
@@ -93,10 +89,6 @@ mark_is half h = mark_at (nat_eq half 32) half refl h
 mark_passes : (half : ℕ) → (half ≡ 32) ⊎ (half ≡ 72) → nat_eq half 32 || nat_eq half 72 ≡ true
 mark_passes half (inl e) = rw e
 mark_passes half (inr e) = rw e
-
-and_true : (a b : Bool) → a ≡ true → b ≡ true → a && b ≡ true
-and_true true b h k = k
-and_true false b h k = cc
 
 -- ---- public times
 
@@ -118,7 +110,7 @@ public-stands columns width h =
 public_passes : (columns : List ℕ) → public.IsPublicTime columns → public.is_public_time columns ≡ true
 public_passes columns (inl blank) = rw blank
 public_passes columns (inr clock) =
-    rw clock.spelled (or_true _ _ (is_clock-digits clock.hour clock.minute clock.hour_in clock.minute_in))
+    rw clock.spelled (or_right _ _ (is_clock-digits clock.hour clock.minute clock.hour_in clock.minute_in))
 
 -- what stands in columns is found there
 pub public_time_in-stands : (columns time : List ℕ) → public.StandsIn columns time → public.public_time_in columns ≡ Some time
@@ -152,7 +144,7 @@ work_passes columns (inl blank) = rw blank
 work_passes columns (inr timed) =
     let time = timed.time in
     rw (timed.spelled, time.spelled)
-    (or_true _ _ (and_true _ _ (is_clock-digits time.hour time.minute time.hour_in time.minute_in) (mark_passes timed.half timed.mark)))
+    (or_right _ _ (and_from _ _ (is_clock-digits time.hour time.minute time.hour_in time.minute_in) (mark_passes timed.half timed.mark)))
 
 -- what stands in columns is found there
 pub work_time_in-stands : (columns time : List ℕ) → work.StandsIn columns time → work.work_time_in columns ≡ Some time

@@ -1,13 +1,12 @@
 //! The bytes that are read ahead of the lines, and the line that stands first in them.
-ghost use Rattle.std.specs.Prelude.{◌≡◌, ◌+◌, ◌<◌, ◌≤◌, [], ◌≢◌, ◌↔◌, Some, Ok, IfOk, OnErr};
+ghost use Rattle.std.specs.Prelude.{◌≡◌, ◌<◌, ◌≤◌, [], ◌≢◌, ◌↔◌, Some, Ok, OnErr};
 ghost use Rattle.std.specs.Prelude.{IfSome, IfNone, IsSome, IsTrue, IsOk, length, take, drop, true};
 ghost use Rattle.std.specs.Prelude.{false, slice_index, min};
-ghost use Rattle.std.specs.Io.KnownBytes.{Keeps, Consumes, IsAtEnd};
+ghost use Rattle.std.specs.Io.KnownBytes.{Keeps, IsAtEnd};
 ghost use Rattle.std.specs.List.{position, position_or_len};
 ghost use Rattle.std.specs.Str.Lines.{strip_carriage_return};
 ghost use Rattle.cif_columns.specs.FirstLine.{is_decided, is_line_feed};
 ghost use Rattle.cif_columns.specs.FirstLine.{has_line_feed, line_of, first_line, after_content};
-ghost use Rattle.cif_columns.specs.Line.{ArePrintable};
 ghost use Rattle.cif_columns.specs.Source.{Reads, reader_of, source_failed};
 ghost use Rattle.cif_columns.specs.declared.ahead.TheConstants.{AHEAD, LONGEST_LINE};
 
@@ -55,19 +54,7 @@ impl Ahead {
         &self.buf[self.start..self.end]
     }
 
-    /// Moves the held bytes to the front.
-    fn to_front(&mut self)
-        ensures bytes { held_bytes self.new ≡ held_bytes self.old }
-        ensures start { self.new.start ≡ 0 }
-        ensures end { self.new.end ≡ length (held_bytes self.old) }
-    {
-        let len = self.end - self.start;
-        self.buf.copy_within(self.start..self.end, 0);
-        self.start = 0;
-        self.end = len;
-    }
-
-    /// Reads once, and returns whether any bytes came.
+    /// Moves the held bytes to the front, reads once behind them, and returns whether any bytes came.
     fn fill<R: ReadDevice>(&mut self, source: &mut Source<R>) -> Result<bool, ReadFault>
         requires { length (held_bytes self.old) < LONGEST_LINE }
         ensures bytes { Keeps (known_left R.remaining self.old source.old)
@@ -79,10 +66,17 @@ impl Ahead {
         ensures err { OnErr result (held_bytes self.new ≡ held_bytes self.old) }
         ensures device { Reads R.read_errors source.old source.new result }
     {
-        self.to_front();
-        let n = read_after(source, &mut self.buf, self.end)?;
-        self.end += n;
-        Ok(n > 0)
+        let len = self.end - self.start;
+        self.buf.copy_within(self.start..self.end, 0);
+        self.start = 0;
+        self.end = len;
+        match source.read(&mut self.buf[len..]) {
+            Ok(n) => {
+                self.end += n;
+                Ok(n > 0)
+            }
+            Err(fault) => Err(fault),
+        }
     }
 }
 
@@ -100,7 +94,10 @@ impl Ahead {
         ensures within { IsTrue result → 81 ≤ length (held_bytes self.now) }
         ensures not_full { IsTrue result → is_full ≡ false }
     {
-        !is_full && take_line_with_feed(self.as_slice(), line)
+        match self.columns_with_feed() {
+            Some(columns) => !is_full && line.replace(columns),
+            None => false,
+        }
     }
 
     /// The first 80 of the held bytes, if a line feed follows them.
@@ -110,7 +107,11 @@ impl Ahead {
         ensures within { IfSome result (λ _. 80 < length (held_bytes self.now)) }
         ensures feed { IfSome result (λ _. slice_index (held_bytes self.now) 80 ≡ 10) }
     {
-        columns_with_feed(self.as_slice())
+        let held = self.as_slice();
+        if held.len() <= LINE_WIDTH || held[LINE_WIDTH] != b'\n' {
+            return None;
+        }
+        held.first_chunk::<LINE_WIDTH>()
     }
 
     /// Passes over 80 bytes and a line feed.
@@ -129,7 +130,7 @@ impl Ahead {
         ensures none { IfNone result (is_decided is_full (held_bytes self.old) ≡ false) }
         ensures kept { IfNone result (held_bytes self.new ≡ held_bytes self.old) }
     {
-        let FirstLine { line, taken } = first_line_of(self.as_slice(), is_full)?;
+        let (line, taken) = first_line_of(self.as_slice(), is_full)?;
         match line {
             Ok(line) => {
                 self.start += taken;
@@ -186,91 +187,34 @@ impl Ahead {
     }
 }
 
-/// Reads once to what stands from `at` on.
-fn read_after<R: ReadDevice>(
-    source: &mut Source<R>,
-    buf: &mut [u8],
-    at: usize,
-) -> Result<usize, ReadFault>
-    requires { at < length buf.old }
-    ensures front { take at buf.new ≡ take at buf.old }
-    ensures fits { IfOk result (λ n. at + n ≤ length buf.new) }
-    ensures bytes { IfOk result (λ n. Consumes (R.remaining (reader_of source.old))
-        (R.remaining (reader_of source.new)) (take n (drop at buf.new))) }
-    ensures end { IfOk result (λ n. n ≡ 0 → IsAtEnd (R.remaining (reader_of source.new))) }
-    ensures err { OnErr result (Keeps (R.remaining (reader_of source.old))
-        (R.remaining (reader_of source.new))) }
-    ensures device { Reads R.read_errors source.old source.new result }
-{
-    source.read(&mut buf[at..])
-}
-
 /// How many bytes a line takes at most, with its ending: a carriage return and a line feed. With so
 /// many bytes and no line feed the first line is too long, whatever follows.
 pub(crate) const LONGEST_LINE: usize = LINE_WIDTH + 2;
 
-/// A decided line and how many bytes it takes with its ending, or why it is none; then `taken` says
-/// nothing.
-pub(crate) struct FirstLine {
-    pub(crate) line: Result<Line, Refusal>,
-    pub(crate) taken: usize,
-}
-
-/// The first line of the bytes, where whatever follows them it is known.
+/// The first line of the bytes and how many of them it takes with its ending, or why it is none, where
+/// that is known whatever follows them.
 #[tactic(auto, unfolding(crate::specs::FirstLine::first_line, crate::specs::FirstLine::is_decided))]
-pub(crate) fn first_line_of(bytes: &[u8], is_full: bool) -> Option<FirstLine>
+fn first_line_of(bytes: &[u8], is_full: bool) -> Option<(Result<Line, Refusal>, usize)>
     ensures decided { IsSome result ↔ IsTrue (is_decided is_full bytes.now) }
-    ensures line { IfSome result (λ first. first.line ≡ first_line is_full bytes.now) }
-    ensures within { IfSome result (λ first. first.taken ≤ length bytes.now) }
-    ensures rest { IfSome result (λ first. IsOk first.line
-        → drop first.taken bytes.now ≡ after_content bytes.now) }
-    ensures ended { IfSome result (λ first. IsOk first.line → IsTrue (has_line_feed bytes.now)) }
+    ensures line { IfSome result (λ first. first.0 ≡ first_line is_full bytes.now) }
+    ensures within { IfSome result (λ first. first.1 ≤ length bytes.now) }
+    ensures rest { IfSome result (λ first. IsOk first.0
+        → drop first.1 bytes.now ≡ after_content bytes.now) }
+    ensures ended { IfSome result (λ first. IsOk first.0 → IsTrue (has_line_feed bytes.now)) }
 {
     if is_full {
         if bytes.is_empty() {
             return None;
         }
-        let line = Err(Refusal::TooManyLines);
-        return Some(FirstLine { line, taken: 0 });
+        return Some((Err(Refusal::TooManyLines), 0));
     }
     if let Some(at) = line_feed(bytes) {
-        let line = line_of_content(stripped(&bytes[..at]));
-        return Some(FirstLine {
-            line,
-            taken: at + 1,
-        });
+        return Some((line_of_content(stripped(&bytes[..at])), at + 1));
     }
     if bytes.len() < LONGEST_LINE {
         return None;
     }
-    let line = Err(Refusal::BadLength);
-    Some(FirstLine { line, taken: 0 })
-}
-
-/// Makes it the line that 80 bytes and a line feed are, if they are one.
-fn take_line_with_feed(bytes: &[u8], line: &mut Line) -> bool
-    ensures line { IsTrue result → line.new ≡ take 80 bytes.now }
-    ensures printable { IsTrue result → ArePrintable (take 80 bytes.now) }
-    ensures within { IsTrue result → 80 < length bytes.now }
-    ensures feed { IsTrue result → slice_index bytes.now 80 ≡ 10 }
-{
-    match columns_with_feed(bytes) {
-        Some(columns) => line.replace(columns),
-        None => false,
-    }
-}
-
-/// The first 80 bytes, if a line feed follows them.
-#[inline(always)]
-pub(crate) fn columns_with_feed(bytes: &[u8]) -> Option<&[u8; LINE_WIDTH]>
-    ensures columns { IfSome result (λ columns. columns.now ≡ take 80 bytes.now) }
-    ensures within { IfSome result (λ _. 80 < length bytes.now) }
-    ensures feed { IfSome result (λ _. slice_index bytes.now 80 ≡ 10) }
-{
-    if bytes.len() <= LINE_WIDTH || bytes[LINE_WIDTH] != b'\n' {
-        return None;
-    }
-    bytes.first_chunk::<LINE_WIDTH>()
+    Some((Err(Refusal::BadLength), 0))
 }
 
 /// Where the first line feed is, if it is among the bytes of a line of the greatest length.

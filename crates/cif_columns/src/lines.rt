@@ -49,9 +49,7 @@ impl Lines {
     pub fn of(alloc: Global, lines: &LineSlice<'_>) -> Result<Lines, AllocError>
         ensures { IfOk result (λ copy. copy ≡ lines.now) }
     {
-        let from = lines.texts();
-        let mut texts = Vec::with_capacity(alloc, from.len())?;
-        texts.extend_from_slice(from)?;
+        let texts = Vec::from_slice(alloc, lines.texts)?;
         Ok(Lines { texts })
     }
 
@@ -118,21 +116,9 @@ impl<'a> LineSlice<'a> {
         requires { at < length self.now }
         ensures { result ≡ slice_index_or self.now at [] }
     {
-        let text = self.text_at(at);
-        match text.first_chunk::<LINE_WIDTH>() {
+        let texts = self.texts;
+        match texts[at].first_chunk::<LINE_WIDTH>() {
             Some(columns) => Line::of_printable(columns),
-            None => unreachable!(),
-        }
-    }
-
-    /// The text of the line at this place.
-    fn text_at(&self, at: usize) -> &'a [u8; LINE_TEXT_WIDTH]
-        requires { at < length self.now }
-        ensures line { take 80 result.now ≡ slice_index_or self.now at [] }
-        ensures text { IsLineText result.now }
-    {
-        match self.texts.get(at) {
-            Some(text) => text,
             None => unreachable!(),
         }
     }
@@ -170,14 +156,6 @@ impl<'a> LineSlice<'a> {
         ensures { result.now ≡ lines_text self.now }
     {
         self.texts.as_flattened()
-    }
-
-    /// The texts of the lines.
-    pub(crate) fn texts(&self) -> &'a [[u8; LINE_TEXT_WIDTH]]
-        ensures lines { lines_in result.now ≡ self.now }
-        ensures texts { All IsLineText result.now }
-    {
-        self.texts
     }
 
     /// Whether these are the same lines.

@@ -80,20 +80,18 @@ impl<'a> Read for TrialReader<'a> {
         ensures calls { read_calls self.new ≡ min (read_calls self.old + 1) (2 ^ 64 - 1) }
     {
         self.calls = self.calls.saturating_add(1);
-        if buf.is_empty() {
-            return Ok(0);
-        }
-        let at = match self.end {
-            _ if self.at < self.bytes.len() => self.at,
-            End::Stop => return Ok(0),
-            End::Fail => {
-                self.failures = self.failures.saturating_add(1);
-                return Err(io::ErrorKind::Other.into());
+        if self.at == self.bytes.len() && !buf.is_empty() {
+            match self.end {
+                End::Stop => {}
+                End::Fail => {
+                    self.failures = self.failures.saturating_add(1);
+                    return Err(io::ErrorKind::Other.into());
+                }
+                End::Again(place) => self.at = place,
             }
-            End::Again(place) => place,
-        };
-        let n = give(&self.bytes[at..], self.step, buf);
-        self.at = at + n;
+        }
+        let n = give(&self.bytes[self.at..], self.step, buf);
+        self.at += n;
         Ok(n)
     }
 }
@@ -199,15 +197,17 @@ impl Write for TrialWriter {
     {
         self.calls = self.calls.saturating_add(1);
         let n = buf.len().min(self.takes - self.len);
-        if n == 0 && !buf.is_empty() {
-            self.failures = self.failures.saturating_add(1);
-            if !self.zero {
-                return Err(io::ErrorKind::Other.into());
-            }
+        if n > 0 || buf.is_empty() {
+            self.kept[self.len..self.len + n].copy_from_slice(&buf[..n]);
+            self.len += n;
+            return Ok(n);
         }
-        self.kept[self.len..self.len + n].copy_from_slice(&buf[..n]);
-        self.len += n;
-        Ok(n)
+        self.failures = self.failures.saturating_add(1);
+        if self.zero {
+            Ok(0)
+        } else {
+            Err(io::ErrorKind::Other.into())
+        }
     }
 
     fn flush(&mut self) -> io::Result<()>

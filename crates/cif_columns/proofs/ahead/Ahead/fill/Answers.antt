@@ -1,24 +1,52 @@
--- Moving and reading change the buffer: by `held_grows` what is held is what was held, and then the piece that was read.
-use Rattle.std.proofs.Common.{◌≡◌, Bool, Result, take, drop, ltb-false, arith, ap, true}
+-- Moving and reading change the buffer: by `held_grown` what is held is what was held, and then the piece that was read.
+use Rattle.std.proofs.Common.{◌≡◌, ◌-◌, Bool, Result, drop, ltb-false, arith, ap, true, false, length-drop, length-take}
+use Rattle.std.proofs.lemmas.Bool.{ltb-true}
 use Rattle.std.specs.Result.{result_unwrap_or}
-use Rattle.cif_columns.proofs.HeldBytes.{read_keeps, held_grows, held_stays}
+use Rattle.cif_columns.proofs.HeldBytes.{held_grown, held_kept, held_more, held_same, keeps_held, read_keeps}
 use Rattle.cif_columns.proofs.ahead.Ahead.fill.Goals as goal
-use Rattle.cif_columns.specs.Ahead.{held_bytes}
 
-pub returns-clause-bytes : goal.returns-clause-bytes
-returns-clause-bytes g c =
-    let moved = c.to_front.new.self in
-    let read = c.in_ok-n.ensures in
-    let grown = held_grows (held_bytes c.args.self.now) moved.buf c.read_after.new.buf moved.start moved.end c.in_ok-n.n
-    c.to_front.ensures.start c.to_front.ensures.bytes read.front in
-    read_keeps _ _ _ _ _ grown read.bytes
+pub returns-in-Ok-clause-bytes : goal.returns-in-Ok-clause-bytes
+returns-in-Ok-clause-bytes g c =
+    let this = c.args.self.now in
+    let copied = c.copy_within.ensures in
+    read_keeps _ _ _ _ _ (held_grown this.buf c.copy_within.new.self c.read.new.buf this.start this.end
+    (16384 - (this.end - this.start)) copied.after copied.len this.ordered (omega arith) c.in-Ok.n c.in-Ok.ensures.bound.0)
+    c.in-Ok.ensures.bytes.0
 
-pub returns-clause-end : goal.returns-clause-end
-returns-clause-end g c none =
-    let moved = c.to_front.new.self in
-    let read = c.in_ok-n.ensures in
-    let grown = held_grows (held_bytes c.args.self.now) moved.buf c.read_after.new.buf moved.start moved.end c.in_ok-n.n
-    c.to_front.ensures.start c.to_front.ensures.bytes read.front in
-    let is_false = ap (λ (r : Result Bool _). result_unwrap_or r true) none in
-    let zero : c.in_ok-n.n ≡ 0 = omega (arith, ltb-false 0 c.in_ok-n.n is_false) in
-    (held_stays _ _ _ grown (ap (λ k. take k (drop moved.end c.read_after.new.buf)) zero), read.end zero)
+pub returns-in-Ok-clause-more : goal.returns-in-Ok-clause-more
+returns-in-Ok-clause-more g c some =
+    let this = c.args.self.now in
+    let copied = c.copy_within.ensures in
+    held_more this.buf c.copy_within.new.self c.read.new.buf this.start this.end (16384 - (this.end - this.start)) copied.after copied.len
+    this.ordered (omega arith) c.in-Ok.n c.in-Ok.ensures.bound.0
+    (ltb-true 0 c.in-Ok.n (ap (λ (r : Result Bool _). result_unwrap_or r false) some))
+
+pub returns-in-Ok-clause-end : goal.returns-in-Ok-clause-end
+returns-in-Ok-clause-end g c none =
+    let this = c.args.self.now in
+    let copied = c.copy_within.ensures in
+    let len = this.end - this.start in
+    let zero : c.in-Ok.n ≡ 0 =
+    omega (arith, ltb-false 0 c.in-Ok.n (ap (λ (r : Result Bool _). result_unwrap_or r true) none)) in (
+      held_same this.buf c.copy_within.new.self c.read.new.buf this.start this.end (16384 - len) copied.after copied.len this.ordered
+          (omega arith) c.in-Ok.n zero,
+      c.in-Ok.ensures.bytes.1 zero (omega (
+        arith,
+        c.requires,
+        copied.len,
+        length-take len (drop this.start this.buf),
+        length-drop this.start this.buf,
+        length-take (16384 - len) (drop len c.copy_within.new.self),
+        length-drop len c.copy_within.new.self,
+      )),
+    )
+
+pub returns-in-Err-clause-err : goal.returns-in-Err-clause-err
+returns-in-Err-clause-err g c =
+    let this = c.args.self.now in
+    let copied = c.copy_within.ensures in
+    held_kept this.buf c.copy_within.new.self c.read.new.buf this.start this.end (16384 - (this.end - this.start)) copied.after copied.len
+    this.ordered (omega arith)
+
+pub returns-in-Err-clause-bytes : goal.returns-in-Err-clause-bytes
+returns-in-Err-clause-bytes g c = keeps_held _ _ _ _ (returns-in-Err-clause-err g c) c.in-Err.ensures.bytes
