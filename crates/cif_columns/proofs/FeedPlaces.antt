@@ -1,7 +1,6 @@
 -- Where the first line feed of bytes stands, in a prefix of them and in more of them.
 use Rattle.std.proofs.Common.{◌≡◌, ℕ, zero, suc, ◌+◌, ◌<◌, ◌≤◌, min, Bool, true, false, not, cond, nat_lt, List, [], ◌∷◌, ◌++◌, length}
-use Rattle.std.proofs.Common.{take, refl, sym, ap, ◌∙◌, arith, get_or, Option, Some, None, IfSome, IfNone, eq-eqb}
-use Rattle.std.proofs.Common.{length-take, ltb-false}
+use Rattle.std.proofs.Common.{take, refl, sym, ap, ◌∙◌, arith, get_or, Option, Some, None, IfSome, IfNone, eq-eqb, length-take, ltb-false}
 use Rattle.std.proofs.lemmas.Grind.{common_steps}
 use Rattle.std.proofs.lemmas.Bool.Decides.{nat_tests}
 use Rattle.std.proofs.lemmas.Option.{cond_some}

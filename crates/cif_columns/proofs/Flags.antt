@@ -1,7 +1,6 @@
 -- Which weekdays are in a set that is kept as the bits of a number.
-use Rattle.std.proofs.Common.{◌≡◌, ◌≢◌, ℕ, zero, suc, ◌+◌, ◌-◌, ◌*◌, ◌/◌, ◌%◌, ◌^◌, ◌<◌, ◌≤◌, Bool, true, false, cond, nat_eq}
-use Rattle.std.proofs.Common.{Some, List, [], ◌∷◌}
-use Rattle.std.proofs.Common.{length, get_or, refl, sym, subst, ap, ◌∙◌, arith, inl, inr, ⊎_elim}
+use Rattle.std.proofs.Common.{◌≡◌, ◌≢◌, ℕ, zero, suc, ◌+◌, ◌-◌, ◌*◌, ◌/◌, ◌%◌, ◌^◌, ◌<◌, ◌≤◌, Bool, true, false, cond, nat_eq, Some, List}
+use Rattle.std.proofs.Common.{[], ◌∷◌, length, get_or, refl, sym, subst, ap, ◌∙◌, arith, inl, inr, ⊎_elim}
 use Rattle.std.specs.Prelude.{◌↔◌, ◌⊎◌, slice_get, IsTrue}
 use Rattle.std.specs.Int.{bit_at, trailing_zeros, leading_zeros, w8}
 use Rattle.std.specs.Int.RustNames.{bit_or}

@@ -92,7 +92,8 @@ gives_line {old = old} reading past_now limit_now counted found device = record 
   refused = tt;
 }
 
-pub refused_not_read : {number : ℕ} {why : Refusal} {P : Type 0} → Refused number why ≡ Read → P
+pub refused_not_read : {number : ℕ} {why : Refusal} {P : Type 0}
+    → ◌≡◌ {A = Result (Option Line) LineFault} (Err (Refused number why)) (Err Read) → P
 refused_not_read e = absurd (cc)
 
 -- a call that finds a fault, where nothing was answered before
@@ -100,12 +101,13 @@ pub gives_fault : {R : Type 0} {remaining : R → Option (List ℕ)} {errors : R
     {fault : LineFault} → past old ≡ Reading → past new ≡ Faulted fault → limit new ≡ limit old → given new ≡ given old
     → IfSome (known_left remaining old.ahead from)
     (λ bytes. Answers (limit old) (given old) bytes (Err fault) (known_left remaining new.ahead to))
-    → LineReads {A = Option Line} errors from to (Err fault) → (fault ≡ Read → DecidesNothing (limit old) (given old) (held new))
+    → LineReads {A = Option Line} errors from to (Err fault)
+    → (◌≡◌ {A = Result (Option Line) LineFault} (Err fault) (Err Read) → DecidesNothing (limit old) (given old) (held new))
     → IsNextFault (given old) fault → IsNext remaining errors old from (Err fault) new to
-gives_fault {fault = fault} reading past_now limit_now counted answer device undecided next = record {
+gives_fault reading past_now limit_now counted answer device undecided next = record {
   answer = λ _. answer;
   device = λ _. device;
-  undecided = λ _ e. undecided (same e);
+  undecided = λ _. undecided;
   endless = λ _ e. absurd (cc);
   fault = λ _. next;
   past_now = past_now;
@@ -117,9 +119,6 @@ gives_fault {fault = fault} reading past_now limit_now counted answer device und
   ended = λ e. absurd (cc);
   refused = counted;
 }
-  where
-    same : ◌≡◌ {A = Result (Option Line) LineFault} (Err fault) (Err Read) → fault ≡ Read
-    same e = cc
 
 module _ {R : Type 0} (remaining : R → Option (List ℕ)) (errors : R → Option ℕ) (old new : LineReader) (source : Source R) (line : List ℕ)
     (ahead : AreAhead old line) (printable : ArePrintable line) (passed : HasPassed old new) where

@@ -1,7 +1,6 @@
 -- A plain line is a line, a line feed ends it, and what a line says fits its columns.
 use Rattle.std.proofs.Common.{◌≡◌, ℕ, ◌+◌, ◌-◌, ◌%◌, ◌<◌, ◌≤◌, Bool, true, false, cond, nat_eq, List, [], ◌∷◌, ◌++◌, length, map, replicate}
-use Rattle.std.proofs.Common.{drop, length-take}
-use Rattle.std.proofs.Common.{All, append_assoc, get_or, refl, ap, ◌∙◌, arith, subst, length-append}
+use Rattle.std.proofs.Common.{drop, length-take, All, append_assoc, get_or, refl, ap, ◌∙◌, arith, subst, length-append}
 use Rattle.std.proofs.lemmas.Bool.Decides.{nat_tests}
 use Rattle.std.proofs.lemmas.List.{length-drop, get_or_append_left, get_or-append_right}
 use Rattle.std.proofs.lemmas.List.Elements.{All-nil, All-cons, All-append, All-replicate, All-head, All-tail, All-take, All-drop}

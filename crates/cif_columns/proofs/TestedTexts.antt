@@ -7,8 +7,7 @@ use Rattle.cif_columns.specs.Field.{columns}
 use Rattle.cif_columns.specs.Text.{left_justified, text_of}
 use Rattle.cif_columns.proofs.PlainColumns.{IsPlainText, plain-blank, plain-text}
 use Rattle.cif_columns.specs.declared.plain_test.PlainTest.{PlainTest}
-use Rattle.cif_columns.specs.PlainTest.{Passes}
-use Rattle.cif_columns.specs.PlainTest.{are}
+use Rattle.cif_columns.specs.PlainTest.{Passes, are}
 use Rattle.cif_columns.proofs.ColumnReads.{asked_at, blank_from_reads, read, spaces_on, width}
 
 -- columns in which a space is always followed by a space

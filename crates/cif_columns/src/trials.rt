@@ -90,7 +90,9 @@ impl<'a> Read for TrialReader<'a> {
                 End::Again(place) => self.at = place,
             }
         }
-        let n = give(&self.bytes[self.at..], self.step, buf);
+        let rest = &self.bytes[self.at..];
+        let n = rest.len().min(buf.len()).min(self.step);
+        buf[..n].copy_from_slice(&rest[..n]);
         self.at += n;
         Ok(n)
     }
@@ -111,19 +113,6 @@ impl<'a> ReadDevice for TrialReader<'a> {
     {
         self.read(buf)
     }
-}
-
-/// Copies a piece of at most `step` bytes to the front of `buf`, and returns its length.
-fn give(rest: &[u8], step: usize, buf: &mut [u8]) -> usize
-    requires { 0 < step }
-    ensures within { result ≤ length rest.now }
-    ensures bound { result ≤ length buf.new }
-    ensures given { take result buf.new ≡ take result rest.now }
-    ensures none { result ≡ 0 → 0 < length buf.new → length rest.now ≡ 0 }
-{
-    let n = rest.len().min(buf.len()).min(step);
-    buf[..n].copy_from_slice(&rest[..n]);
-    n
 }
 
 /// The most bytes that a `TrialWriter` can keep.

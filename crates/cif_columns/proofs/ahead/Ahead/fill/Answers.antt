@@ -1,8 +1,10 @@
 -- Moving and reading change the buffer: by `held_grown` what is held is what was held, and then the piece that was read.
-use Rattle.std.proofs.Common.{◌≡◌, ◌-◌, Bool, Result, drop, ltb-false, arith, ap, true, false, length-drop, length-take}
+use Rattle.std.proofs.Common.{◌≡◌, ◌-◌, Bool, Result, [], drop, ltb-false, arith, ap, sym, ◌∙◌, true, false, append-nil, length-drop}
+use Rattle.std.proofs.Common.{length-take}
+use Rattle.std.proofs.KnownBytes.{Consumes-kept, Consumes-nil}
 use Rattle.std.proofs.lemmas.Bool.{ltb-true}
 use Rattle.std.specs.Result.{result_unwrap_or}
-use Rattle.cif_columns.proofs.HeldBytes.{held_grown, held_kept, held_more, held_same, keeps_held, read_keeps}
+use Rattle.cif_columns.proofs.HeldBytes.{held_grown, held_kept, held_more, held_same, read_keeps}
 use Rattle.cif_columns.proofs.ahead.Ahead.fill.Goals as goal
 
 pub returns-in-Ok-clause-bytes : goal.returns-in-Ok-clause-bytes
@@ -49,4 +51,6 @@ returns-in-Err-clause-err g c =
     this.ordered (omega arith)
 
 pub returns-in-Err-clause-bytes : goal.returns-in-Err-clause-bytes
-returns-in-Err-clause-bytes g c = keeps_held _ _ _ _ (returns-in-Err-clause-err g c) c.in-Err.ensures.bytes
+returns-in-Err-clause-bytes g c =
+    let kept = Consumes-kept _ _ _ [] (Consumes-nil _) c.in-Err.ensures.bytes in
+    read_keeps _ _ _ _ [] (returns-in-Err-clause-err g c ∙ sym (append-nil _)) kept

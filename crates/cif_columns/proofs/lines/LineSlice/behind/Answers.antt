@@ -1,9 +1,8 @@
 -- The lines are a map over the texts, and what is dropped of the one is dropped of the other (`drop-map`).
-use Rattle.std.proofs.Common.{◌≤◌, ◌-◌, ap, arith, drop, length, sym, ◌∙◌}
+use Rattle.std.proofs.Common.{◌≤◌, ◌-◌, ap, arith, drop, length, sym, ◌∙◌, take}
 use Rattle.std.proofs.lemmas.List.{drop-map, length-drop, take_all}
 use Rattle.std.proofs.lemmas.List.Elements.{All-drop, All-take}
 use Rattle.cif_columns.specs.Lines.{IsLineText, lines_in}
-use Rattle.std.proofs.Common.{take}
 use Rattle.cif_columns.proofs.lines.LineSlice.behind.Goals as goal
 
 pub invariant_of-result : goal.invariant_of-result
