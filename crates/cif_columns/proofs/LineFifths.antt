@@ -5,50 +5,67 @@ use Rattle.cif_columns.proofs.EachOfFifths.{each_of_fifths, from_column}
 use Rattle.cif_columns.specs.PlainTest.{IsFollowed, IsFollowedOver, IsInRange, IsTimed, Passes}
 use Rattle.cif_columns.specs.declared.plain_test.PlainTest.{PlainTest}
 
--- what the test asks of one of the first 64 columns, and of one of the first 32
+-- what the test asks of one of the first 64 columns
 abbrev pub MeetsFollowed : PlainTest → List ℕ → ℕ → Type 0
 MeetsFollowed t line k = IsInRange t line k × IsFollowed t line k × IsFollowedOver t line k
 
-abbrev pub MeetsTimed : PlainTest → List ℕ → ℕ → Type 0
-MeetsTimed t line k = IsInRange t line k × IsFollowed t line k × IsFollowedOver t line k × IsTimed t line k
-
 -- what it asks of the columns that one step looks at
 pub record AreMet (t : PlainTest) (line : List ℕ) (k : ℕ) : Type 0 where
-  pub first : MeetsTimed t line k
-  pub second : MeetsTimed t line (16 + k)
+  pub first : MeetsFollowed t line k
+  pub first_timed : IsTimed t line k
+  pub second : MeetsFollowed t line (16 + k)
+  pub second_timed : IsTimed t line (16 + k)
   pub third : MeetsFollowed t line (32 + k)
   pub fourth : MeetsFollowed t line (48 + k)
   pub before_fifth : IsFollowed t line (63 + k)
   pub fifth : IsInRange t line (64 + k)
 
--- six tests that all have to answer false
-pub none_of_six : (a b c d e f : Bool) (t : PlainTest) (line : List ℕ) (k : ℕ)
-    → ((a ≡ false) ↔ MeetsTimed t line k) → ((b ≡ false) ↔ MeetsTimed t line (16 + k))
-    → ((c ≡ false) ↔ MeetsFollowed t line (32 + k)) → ((d ≡ false) ↔ MeetsFollowed t line (48 + k))
-    → ((e ≡ false) ↔ IsFollowed t line (63 + k)) → ((f ≡ false) ↔ IsInRange t line (64 + k))
-    → (a || b || c || d || e || f ≡ false) ↔ AreMet t line k
-none_of_six a b c d e f t line k p q r s u v = (
+-- three tests that all have to answer false
+pub none_of_three : (a b c : Bool) {A B C : Type 0} → ((a ≡ false) ↔ A) → ((b ≡ false) ↔ B) → ((c ≡ false) ↔ C)
+    → (a || b || c ≡ false) ↔ (A × B × C)
+none_of_three a b c p q r = (
   (λ none.
-      let n5 = or_parts (a || b || c || d || e) f none in
+      let n2 = or_parts (a || b) c none in
+      let n1 = or_parts a b n2.0 in
+      (p.0 n1.0, q.0 n1.1, r.0 n2.1)),
+  (λ met. or_from (a || b) c (or_from a b (p.1 met.0) (q.1 met.1)) (r.1 met.2)),
+)
+
+-- eight tests that all have to answer false
+pub none_of_eight : (a b c d e f g h : Bool) (t : PlainTest) (line : List ℕ) (k : ℕ)
+    → ((a ≡ false) ↔ MeetsFollowed t line k) → ((b ≡ false) ↔ IsTimed t line k)
+    → ((c ≡ false) ↔ MeetsFollowed t line (16 + k)) → ((d ≡ false) ↔ IsTimed t line (16 + k))
+    → ((e ≡ false) ↔ MeetsFollowed t line (32 + k)) → ((f ≡ false) ↔ MeetsFollowed t line (48 + k))
+    → ((g ≡ false) ↔ IsFollowed t line (63 + k)) → ((h ≡ false) ↔ IsInRange t line (64 + k))
+    → (a || b || c || d || e || f || g || h ≡ false) ↔ AreMet t line k
+none_of_eight a b c d e f g h t line k p q r s u v w x = (
+  (λ none.
+      let n7 = or_parts (a || b || c || d || e || f || g) h none in
+      let n6 = or_parts (a || b || c || d || e || f) g n7.0 in
+      let n5 = or_parts (a || b || c || d || e) f n6.0 in
       let n4 = or_parts (a || b || c || d) e n5.0 in
       let n3 = or_parts (a || b || c) d n4.0 in
       let n2 = or_parts (a || b) c n3.0 in
       let n1 = or_parts a b n2.0 in
       record {
         first = p.0 n1.0;
-        second = q.0 n1.1;
-        third = r.0 n2.1;
-        fourth = s.0 n3.1;
-        before_fifth = u.0 n4.1;
-        fifth = v.0 n5.1;
+        first_timed = q.0 n1.1;
+        second = r.0 n2.1;
+        second_timed = s.0 n3.1;
+        third = u.0 n4.1;
+        fourth = v.0 n5.1;
+        before_fifth = w.0 n6.1;
+        fifth = x.0 n7.1;
       }),
   (λ met.
-      or_from (a || b || c || d || e) f
+      or_from (a || b || c || d || e || f || g) h
+      (or_from (a || b || c || d || e || f) g
+      (or_from (a || b || c || d || e) f
       (or_from (a || b || c || d) e
       (or_from (a || b || c) d
       (or_from (a || b) c
-      (or_from a b (p.1 met.first) (q.1 met.second))
-      (r.1 met.third)) (s.1 met.fourth)) (u.1 met.before_fifth)) (v.1 met.fifth)),
+      (or_from a b (p.1 met.first) (q.1 met.first_timed))
+      (r.1 met.second)) (s.1 met.second_timed)) (u.1 met.third)) (v.1 met.fourth)) (w.1 met.before_fifth)) (x.1 met.fifth)),
 )
 
 -- the next step of a loop that has found no fault so far
@@ -94,8 +111,8 @@ module _ (t : PlainTest) (line : List ℕ) (met : (k : ℕ) → k < 16 → AreMe
   timed k lt = at (cases_lt k 16)
     where
       at : (k < 16) ⊎ (16 ≤ k) → IsTimed t line k
-      at (inl a) = (met k a).first.3
-      at (inr z) = from_column (λ n. IsTimed t line n) 16 (λ n l. (met n l).second.3) k z (omega (arith, lt))
+      at (inl a) = (met k a).first_timed
+      at (inr z) = from_column (λ n. IsTimed t line n) 16 (λ n l. (met n l).second_timed) k z (omega (arith, lt))
 
 -- the line is as the test wants it exactly if the sixteen steps find nothing else
 pub passes_by_fifths : (t : PlainTest) (line : List ℕ) → ((k : ℕ) → k < 16 → AreMet t line k) ↔ Passes t line
@@ -106,30 +123,17 @@ passes_by_fifths t line = (
     followed_over = followed_over t line met;
     timed = timed t line met;
   }),
-  (λ h k lt. record {
-    first = (
-      h.in_range k (omega (arith, lt)),
-      h.followed k (omega (arith, lt)),
-      h.followed_over k (omega (arith, lt)),
-      h.timed k (omega (arith, lt)),
-    );
-    second = (
-      h.in_range (16 + k) (omega (arith, lt)),
-      h.followed (16 + k) (omega (arith, lt)),
-      h.followed_over (16 + k) (omega (arith, lt)),
-      h.timed (16 + k) (omega (arith, lt)),
-    );
-    third = (
-      h.in_range (32 + k) (omega (arith, lt)),
-      h.followed (32 + k) (omega (arith, lt)),
-      h.followed_over (32 + k) (omega (arith, lt)),
-    );
-    fourth = (
-      h.in_range (48 + k) (omega (arith, lt)),
-      h.followed (48 + k) (omega (arith, lt)),
-      h.followed_over (48 + k) (omega (arith, lt)),
-    );
-    before_fifth = h.followed (63 + k) (omega (arith, lt));
-    fifth = h.in_range (64 + k) (omega (arith, lt));
-  }),
+  (λ h k lt.
+      let meets : (n : ℕ) → n < 64 → MeetsFollowed t line n = λ n l.
+      (h.in_range n (omega (arith, l)), h.followed n (omega (arith, l)), h.followed_over n l) in
+      record {
+        first = meets k (omega (arith, lt));
+        first_timed = h.timed k (omega (arith, lt));
+        second = meets (16 + k) (omega (arith, lt));
+        second_timed = h.timed (16 + k) (omega (arith, lt));
+        third = meets (32 + k) (omega (arith, lt));
+        fourth = meets (48 + k) (omega (arith, lt));
+        before_fifth = h.followed (63 + k) (omega (arith, lt));
+        fifth = h.in_range (64 + k) (omega (arith, lt));
+      }),
 )

@@ -1,12 +1,11 @@
 -- Texts that are written one after another.
-use Rattle.std.proofs.Common.{◌≡◌, ℕ, true, false, List, [], ◌∷◌, ◌++◌, Option, Result, Ok, Err, IsErr, refl, sym, ap, subst}
+use Rattle.std.proofs.Common.{◌≡◌, ℕ, false, List, [], ◌∷◌, ◌++◌, Option, Result, Ok, Err, IsErr, refl, sym, ap, subst}
 use Rattle.std.proofs.Common.{◌+◌, ◌<◌, ◌∙◌, append_assoc, append-nil, drop, get_or, length, take, take-append-drop}
 use Rattle.std.specs.List.{flat_map}
 use Rattle.std.proofs.lemmas.Grind.{flat_map-append}
 use Rattle.std.proofs.lemmas.List.{take_more}
 use Rattle.std.proofs.lemmas.Bool.{false≢true}
 use Rattle.std.proofs.KnownBytes.{Appends-nil, Appends-trans}
-use Rattle.std.specs.Io.KnownBytes.{Appends}
 use Rattle.cif_columns.specs.Devices.{OneError}
 use Rattle.cif_columns.specs.Sink.{HasFailed, HasWritten, Writes, sink_failed, writer_of}
 use Rattle.cif_columns.specs.declared.sink.Sink.{Sink}
@@ -53,18 +52,6 @@ module _ {W : Type 0} (contents : W → Option (List ℕ)) (errors : W → Optio
         erred = λ fresh. subst (λ n. OneError n (errors (writer_of u))) p.no_error (h.erred p.going);
         untouched = λ stopped. absurd (false≢true (sym p.fresh ∙ stopped));
       }
-
-  -- a write that takes nothing, and so is a failure, after some of the text
-  pub fails_after : (text done rest : List ℕ) (from : Sink W) (old new : W) → text ≡ done ++ rest → sink_failed from ≡ false
-      → Appends (contents (writer_of from)) (contents old) done → errors old ≡ errors (writer_of from)
-      → Appends (contents old) (contents new) [] → OneError (errors old) (errors new)
-      → HasFailed contents errors text from (record { writer = new; failed = true })
-  fails_after text done rest from old new split going appended same none one = record {
-    failed = refl;
-    prefix = (done ++ [], rest, split ∙ ap (λ l. l ++ rest) (sym (append-nil done)), Appends-trans _ _ _ done [] appended none);
-    erred = λ fresh. subst (λ n. OneError n (errors new)) same one;
-    untouched = λ stopped. absurd (false≢true (sym going ∙ stopped));
-  }
 
   -- a text that has been written, and what the writing of another answers
   pub writes_on : {A E : Type 0} (a b : List ℕ) (s t u : Sink W) (result : Result A E) → HasWritten contents errors a s t

@@ -130,7 +130,7 @@ impl Ahead {
         ensures none { IfNone result (is_decided is_full (held_bytes self.old) ≡ false) }
         ensures kept { IfNone result (held_bytes self.new ≡ held_bytes self.old) }
     {
-        let (line, taken) = first_line_of(self.as_slice(), is_full)?;
+        let FirstLine { line, taken } = first_line_of(self.as_slice(), is_full)?;
         match line {
             Ok(line) => {
                 self.start += taken;
@@ -191,30 +191,42 @@ impl Ahead {
 /// many bytes and no line feed the first line is too long, whatever follows.
 pub(crate) const LONGEST_LINE: usize = LINE_WIDTH + 2;
 
-/// The first line of the bytes and how many of them it takes with its ending, or why it is none, where
-/// that is known whatever follows them.
+/// A decided line and how many bytes it takes with its ending, or why it is none; then `taken` says
+/// nothing.
+pub(crate) struct FirstLine {
+    pub(crate) line: Result<Line, Refusal>,
+    pub(crate) taken: usize,
+}
+
+/// The first line of the bytes, where whatever follows them it is known.
 #[tactic(auto, unfolding(crate::specs::FirstLine::first_line, crate::specs::FirstLine::is_decided))]
-fn first_line_of(bytes: &[u8], is_full: bool) -> Option<(Result<Line, Refusal>, usize)>
+pub(crate) fn first_line_of(bytes: &[u8], is_full: bool) -> Option<FirstLine>
     ensures decided { IsSome result ↔ IsTrue (is_decided is_full bytes.now) }
-    ensures line { IfSome result (λ first. first.0 ≡ first_line is_full bytes.now) }
-    ensures within { IfSome result (λ first. first.1 ≤ length bytes.now) }
-    ensures rest { IfSome result (λ first. IsOk first.0
-        → drop first.1 bytes.now ≡ after_content bytes.now) }
-    ensures ended { IfSome result (λ first. IsOk first.0 → IsTrue (has_line_feed bytes.now)) }
+    ensures line { IfSome result (λ first. first.line ≡ first_line is_full bytes.now) }
+    ensures within { IfSome result (λ first. first.taken ≤ length bytes.now) }
+    ensures rest { IfSome result (λ first. IsOk first.line
+        → drop first.taken bytes.now ≡ after_content bytes.now) }
+    ensures ended { IfSome result (λ first. IsOk first.line → IsTrue (has_line_feed bytes.now)) }
 {
     if is_full {
         if bytes.is_empty() {
             return None;
         }
-        return Some((Err(Refusal::TooManyLines), 0));
+        let line = Err(Refusal::TooManyLines);
+        return Some(FirstLine { line, taken: 0 });
     }
     if let Some(at) = line_feed(bytes) {
-        return Some((line_of_content(stripped(&bytes[..at])), at + 1));
+        let line = line_of_content(stripped(&bytes[..at]));
+        return Some(FirstLine {
+            line,
+            taken: at + 1,
+        });
     }
     if bytes.len() < LONGEST_LINE {
         return None;
     }
-    Some((Err(Refusal::BadLength), 0))
+    let line = Err(Refusal::BadLength);
+    Some(FirstLine { line, taken: 0 })
 }
 
 /// Where the first line feed is, if it is among the bytes of a line of the greatest length.

@@ -62,24 +62,16 @@ fn has_all(columns: &[u8; LINE_WIDTH], test: &PlainTest) -> bool
 {
     let mut fails = false;
     for i in 0..FIFTH {
-        fails |= fails_timed(columns, test, i)
-            | fails_timed(columns, test, FIFTH + i)
+        fails |= fails_followed(columns, test, i)
+            | is_untimed(columns, test, i)
+            | fails_followed(columns, test, FIFTH + i)
+            | is_untimed(columns, test, FIFTH + i)
             | fails_followed(columns, test, 2 * FIFTH + i)
             | fails_followed(columns, test, 3 * FIFTH + i)
             | is_unfollowed(columns, test, 4 * FIFTH - 1 + i)
             | is_out_of_range(columns, test, 4 * FIFTH + i);
     }
     !fails
-}
-
-/// Whether one of the first 32 columns isn't as the test wants it.
-#[inline(always)]
-fn fails_timed(columns: &[u8; LINE_WIDTH], test: &PlainTest, i: usize) -> bool
-    requires { i < 32 }
-    ensures { result ≡ false ↔ (IsInRange test.now columns.now i × IsFollowed test.now columns.now i
-        × IsFollowedOver test.now columns.now i × IsTimed test.now columns.now i) }
-{
-    fails_followed(columns, test, i) | is_untimed(columns, test, i)
 }
 
 /// Whether one of the first 64 columns isn't in range, or isn't followed as the test wants it.

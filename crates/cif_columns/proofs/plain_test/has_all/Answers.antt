@@ -1,7 +1,7 @@
--- Each step adds what its six tests say, and sixteen steps see each column (`passes_by_fifths`).
+-- Each step adds what its eight tests say, and sixteen steps see each column (`passes_by_fifths`).
 use Rattle.std.proofs.Common.{◌≡◌, arith}
 use Rattle.std.proofs.lemmas.Bool.{not-true, not_from_false}
-use Rattle.cif_columns.proofs.LineFifths.{AreMet, none_more, none_of_six, passes_by_fifths}
+use Rattle.cif_columns.proofs.LineFifths.{AreMet, none_more, none_of_eight, passes_by_fifths}
 use Rattle.cif_columns.proofs.plain_test.has_all.Goals as goal
 
 pub loop-i-preserved : goal.loop-i-preserved
@@ -9,8 +9,9 @@ loop-i-preserved c =
     let test = c.args.test.now in
     let line = c.args.columns.now in
     none_more c.loop-i.fails _ (AreMet test line) c.loop-i.i c.loop-i.invariant
-    (none_of_six _ _ _ _ _ _ test line c.loop-i.i c.fails_timed.ensures c.fails_timed-in-loop-i.ensures
-    c.fails_followed.ensures c.fails_followed-in-loop-i.ensures c.is_unfollowed.ensures c.is_out_of_range.ensures)
+    (none_of_eight _ _ _ _ _ _ _ _ test line c.loop-i.i c.fails_followed.ensures c.is_untimed.ensures
+    c.fails_followed-in-loop-i.ensures c.is_untimed-in-loop-i.ensures c.fails_followed-in-loop-i-2.ensures
+    c.fails_followed-in-loop-i-3.ensures c.is_unfollowed.ensures c.is_out_of_range.ensures)
 
 pub returns : goal.returns
 returns c =

@@ -8,8 +8,8 @@ pub returns-in-Ok-clause-found : goal.returns-in-Ok-clause-found
 returns-in-Ok-clause-found c =
     let this = c.args.self.now in
     let first = c.in_ok-line.ensures in
-    let taken = c.in_ok-line.taken in
-    let is_ok : IsOk c.in_ok-line.line = rw c.in-Ok.is in
+    let taken = c.in_ok-line.field-0.taken in
+    let is_ok : IsOk c.in_ok-line.field-0.line = rw c.in-Ok.is in
     let held = c.as_slice.ensures in
     let within : this.start + taken ≤ this.end =
     omega (arith, first.within, ap length held, range_length this.buf this.start this.end, this.ordered) in
