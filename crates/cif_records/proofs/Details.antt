@@ -25,18 +25,6 @@ use Rattle.cif_records.specs.Detail.{alone_in, detail_in, detail_rows, detail_ta
 use Rattle.cif_records.specs.declared.basic.BasicTerms.{BasicTerms}
 use Rattle.cif_records.specs.declared.detail.Detail.{Detail}
 
-module _ (d : Detail) (line : List ℕ) (built : line ≡ put_all (put_all [] (row 1 29 spare ∷ []) ++ plain_line (detail_rows (Some d)))
-    (row 79 80 spare ∷ [])) where
-  pub plain_detail : line ≡ plain_line (detail_table d)
-  plain_detail =
-      built ∙ sym (put_all-append (put_all [] (row 1 29 spare ∷ [])) (detail_rows (Some d)) (row 79 80 spare ∷ []))
-      ∙ put_all-plain_line (detail_table d)
-
-  pub detail_again : AllFit (detail_rows (Some d)) → AllStandIn line (detail_table d)
-  detail_again fits =
-      subst (λ l. AllStandIn l (detail_table d)) (sym plain_detail)
-      (stands-plain_line (detail_table d) refl (tt, fits-append (detail_rows (Some d)) (row 79 80 spare ∷ []) fits (tt, tt)))
-
 -- a detail that stands in a line of its own fits its columns
 pub detail_fits : (line : List ℕ) (d : Detail) → IsLine line → AllStandIn line (detail_table d) → AllFit (detail_rows (Some d))
 detail_fits line d is_line stands =
@@ -196,7 +184,7 @@ bodied_by : (letter : Stp) (line : List ℕ) → is_some (detail_by letter line)
 bodied_by C line = refl
 bodied_by _ line = refl
 
-no_detail : (line : List ℕ) → AllStandIn line (detail_rows None)
+pub no_detail : (line : List ℕ) → AllStandIn line (detail_rows None)
 no_detail line = (tt, (tt, (tt, (tt, (tt, (tt, (tt, (tt, (tt, (tt, (tt, (tt, (tt, (tt, (tt, (tt, (tt, tt)))))))))))))))))
 
 stands_by : (letter : Stp) (line : List ℕ) → AllStandIn line (detail_rows (detail_by letter line))

@@ -19,8 +19,10 @@ ghost use Rattle.cif_records.specs.declared.record.Record.{Record};
 
 use crate::Record;
 use cif_columns::{
-    Day, DaysRun, Line, LineBuilder, PublicTime, Refusal, Stp, WorkTime, columns_at, field_at,
+    Day, DaysRun, Line, LineBuilder, PublicTime, Refusal, Stp, WorkTime, as_text, columns_at,
+    field_at,
 };
+use std::fmt;
 
 /// A record that is laid out by a table: each row's value stands in the row's columns.
 pub(crate) trait Layout: Sized + Drop {
@@ -108,6 +110,11 @@ pub(crate) fn plain_line_of<R: Layout>(line: &Line) -> Result<Line, Refusal>
     }
     let checked = R::check(line)?;
     Ok(write(&R::with(line, checked)))
+}
+
+/// Shows a record as its plain line, in quotes.
+pub(crate) fn debug<W: fmt::Write>(line: &Line, f: &mut fmt::Formatter<W>) -> fmt::Result {
+    fmt::Debug::fmt(as_text(line.bytes()), f)
 }
 
 /// Refuses a line whose columns 1 and 2 aren't the identity of a kind.

@@ -13,6 +13,7 @@ use crate::{
     Association, Basic, Change, Extra, Header, Origin, Stop, Terminus, Tiploc, Trailer, layout,
 };
 use cif_columns::{Line, Refusal, columns_at};
+use std::fmt;
 
 /// The kinds of record of the CIF End User Specification that this profile knows, by the
 /// identities in columns 1 and 2.
@@ -103,7 +104,7 @@ fn kind_among(kinds: &[Kind], letters: &[u8; 2]) -> Option<Kind>
 }
 
 /// A record of a full extract (the CIF End User Specification).
-#[derive(Debug, Drop, PartialEq, Eq)]
+#[derive(Drop, PartialEq, Eq)]
 pub enum Record {
     /// `HD`, the header.
     Header(Header),
@@ -125,6 +126,13 @@ pub enum Record {
     Terminus(Terminus),
     /// `ZZ`, the trailer.
     Trailer,
+}
+
+/// Its plain line.
+impl fmt::Debug for Record {
+    fn fmt<W: fmt::Write>(&self, f: &mut fmt::Formatter<W>) -> fmt::Result {
+        layout::debug(&write_record(self), f)
+    }
 }
 
 /// The record that the line spells, or the first reason why it spells none: UnknownRecord where

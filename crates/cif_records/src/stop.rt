@@ -10,10 +10,11 @@ use cif_columns::{
     Activities, Field, LINE_WIDTH, Line, LineBuilder, PlainTest, PublicTime, Refusal, Text,
     WorkTime, activities_at, text_at,
 };
+use std::fmt;
 
 /// A record `LI` (the CIF End User Specification): where a journey stops or passes. Which of its
 /// working times are there isn't checked.
-#[derive(Debug, Drop, PartialEq, Eq)]
+#[derive(Drop, PartialEq, Eq)]
 pub struct Stop {
     /// Columns 3 to 9: the TIPLOC.
     pub location: Text<7>,
@@ -153,6 +154,13 @@ impl Layout for Stop {
     ghost same_table = { λ r. refl };
 
     ghost same_refusal = { λ line. refl };
+}
+
+/// Its plain line.
+impl fmt::Debug for Stop {
+    fn fmt<W: fmt::Write>(&self, f: &mut fmt::Formatter<W>) -> fmt::Result {
+        layout::debug(&self.write(), f)
+    }
 }
 
 impl Stop {
