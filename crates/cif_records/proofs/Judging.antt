@@ -1,9 +1,10 @@
 -- What a chain of checks says.
-use Rattle.std.proofs.Common.{◌≡◌, ◌≤◌, ℕ, Bool, List, Option, Some, None, Result, Ok, Err, nat_le, true, false, arith}
+use Rattle.std.proofs.Common.{◌≡◌, ◌≤◌, ◌<◌, ℕ, Bool, List, Option, Some, None, Result, Ok, Err, nat_le, true, false, arith}
 use Rattle.std.proofs.Common.{refl, sym, ap, ◌∙◌, codes}
 use Rattle.std.specs.Cmp.Lexicographic.{bytes_decides}
 use Rattle.std.proofs.lemmas.Bool.Decides.{nat_tests}
 use Rattle.cif_columns.specs.declared.refusal.Refusal.{Refusal}
+use Rattle.cif_columns.specs.declared.refusal.Refusal.TheVariants.{DatesReversed}
 use Rattle.cif_columns.specs.Day.{StandsInYymmdd, yymmdd_in, day_number}
 use Rattle.cif_columns.proofs.DayColumns.{yymmdd_in-stands}
 use Rattle.cif_records.specs.Checks.{IsJudged, are, last_date_refusal, dates_refusal}
@@ -35,6 +36,13 @@ pub dates_judged : (first last : List ℕ) (m n : ℕ) → yymmdd_in first ≡ S
     → yymmdd_in last ≡ Some n → m ≤ n → dates_refusal first last ≡ None
 dates_judged first last m n a b c h =
     let test : nat_le m n ≡ true = grind (arith, nat_tests) in
+    rw (b, a, c, test)
+
+-- two dates that name days, the second no open end and before the first
+pub dates_reversed : (first last : List ℕ) (m n : ℕ) → yymmdd_in first ≡ Some m → last_date_refusal last ≡ None
+    → yymmdd_in last ≡ Some n → n < m → dates_refusal first last ≡ Some DatesReversed
+dates_reversed first last m n a b c h =
+    let test : nat_le m n ≡ false = grind (arith, nat_tests) in
     rw (b, a, c, test)
 
 none_some : (n : ℕ) → None ≡ Some n → ⊥

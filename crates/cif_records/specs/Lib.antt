@@ -1,3 +1,4 @@
+pub mod AssocBody
 pub mod AssocKey
 pub mod Association
 pub mod Basic

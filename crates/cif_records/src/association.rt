@@ -1,17 +1,14 @@
 //! An association of two trains.
-ghost use Rattle.std.specs.Prelude.{◌≡◌, ◌+◌, ◌≤◌, ◌++◌, [], ◌↔◌, Some, Ok, IsTrue, length};
-ghost use Rattle.std.specs.Prelude.{is_some};
+ghost use Rattle.std.specs.Prelude.{◌≡◌, ◌≤◌, [], ◌↔◌, Some, Ok, IsTrue, is_some};
 ghost use Rattle.std.specs.Option.{option_copied};
 ghost use Rattle.cif_columns.specs.Field.{StandsIn, AllStandIn, Fits, AllFit, columns, text};
-ghost use Rattle.cif_columns.specs.Field.{plain_columns, plain_line};
+ghost use Rattle.cif_columns.specs.Field.{plain_line};
 ghost use Rattle.cif_columns.specs.LineBuilder.{put_all};
 ghost use Rattle.cif_records.specs.Bodies.{has_body, of_body};
 ghost use Rattle.cif_records.specs.Checks.{IsJudged};
 
 use crate::Record;
-use crate::layout::{
-    self, Dates, Layout, check_identity, check_transaction, dates_at, days_at, has_body, letter_of,
-};
+use crate::layout::{self, Dates, Layout, check_letters, dates_at, field_or, has_body};
 use cif_columns::{
     Day, DaysRun, Field, Line, LineBuilder, Refusal, Stp, Text, Uid, text_at, uid_at,
 };
@@ -70,11 +67,11 @@ impl Layout for Association {
 
     #[tactic(auto, unfolding(crate::specs::Association::association_refusal))]
     fn check(line: &Line) -> Result<Applicability, Refusal> {
-        check_identity(line, b"AA")?;
-        check_transaction(line)?;
+        check_letters(line, 1, b"AA", Refusal::UnknownRecord)?;
+        check_letters(line, 3, b"N", Refusal::NotFull)?;
         let dates = dates_at(line, 16)?;
-        let days = days_at(line, 28)?;
-        let letter = letter_of(line)?;
+        let days = field_or(line, 28, Refusal::BadDays)?;
+        let letter = field_or(line, 80, Refusal::BadStp)?;
         Ok(Applicability {
             dates,
             days,
@@ -98,13 +95,14 @@ impl Layout for Association {
     }
 
     fn put_rows(&self, line: &mut LineBuilder) {
+        let blank = AssocBody::blank();
         Association::put_fields(
             &self.key,
             self.first,
             self.last,
             self.days,
             self.letter,
-            self.body.as_ref(),
+            self.body.as_ref().unwrap_or(&blank),
             line,
         );
     }
@@ -172,7 +170,7 @@ impl Association {
             (association_rows key.now first last days Stp.P (Some body.now)) }
     {
         let mut line = LineBuilder::new();
-        Association::put_fields(key, first, last, days, Stp::P, Some(body), &mut line);
+        Association::put_fields(key, first, last, days, Stp::P, body, &mut line);
         line.finish()
     }
 
@@ -183,14 +181,13 @@ impl Association {
         last: Day,
         days: DaysRun,
         letter: Stp,
-        body: Option<&AssocBody>,
+        body: &AssocBody,
         line: &mut LineBuilder,
     )
         requires { line.old ≡ [] }
         ensures columns { line.new ≡ put_all []
-            (association_rows key.now first last days letter (option_copied body.entry)) }
-        ensures fits { AllFit
-            (association_rows key.now first last days letter (option_copied body.entry)) }
+            (association_rows key.now first last days letter (Some body.now)) }
+        ensures fits { AllFit (association_rows key.now first last days letter (Some body.now)) }
     {
         line.put_columns(b"AAN");
         key.base.put_on(line);
@@ -198,11 +195,13 @@ impl Association {
         first.put_on(line);
         last.put_on(line);
         days.put_on(line);
-        put_category(body, line);
+        body.category.put_on(line);
+        body.date_indicator.put_on(line);
         key.location.put_on(line);
         key.base_suffix.put_on(line);
         key.associated_suffix.put_on(line);
-        put_kinds(body, line);
+        body.diagram.put_on(line);
+        body.kind.put_on(line);
         line.put_spare::<31>();
         letter.put_on(line);
     }
@@ -222,45 +221,6 @@ impl Association {
         } else {
             None
         }
-    }
-}
-
-/// Columns 35 to 37, which are spare where there is no body.
-fn put_category(body: Option<&AssocBody>, line: &mut LineBuilder)
-    requires { length line.old + 3 ≤ 80 }
-    ensures columns { line.new ≡ line.old
-        ++ plain_columns 2 (of_body (option_copied body.entry) (λ b. text b.category))
-        ++ plain_columns 1 (of_body (option_copied body.entry) (λ b. text b.date_indicator)) }
-    ensures width { length line.new ≡ length line.old + 3 }
-    ensures category { Fits 2 (of_body (option_copied body.entry) (λ b. text b.category)) }
-    ensures date_indicator { Fits 1
-        (of_body (option_copied body.entry) (λ b. text b.date_indicator)) }
-{
-    match body {
-        Some(body) => {
-            body.category.put_on(line);
-            body.date_indicator.put_on(line);
-        }
-        None => line.put_spare::<3>(),
-    }
-}
-
-/// Columns 47 to 48, which are spare where there is no body.
-fn put_kinds(body: Option<&AssocBody>, line: &mut LineBuilder)
-    requires { length line.old + 2 ≤ 80 }
-    ensures columns { line.new ≡ line.old
-        ++ plain_columns 1 (of_body (option_copied body.entry) (λ b. text b.diagram))
-        ++ plain_columns 1 (of_body (option_copied body.entry) (λ b. text b.kind)) }
-    ensures width { length line.new ≡ length line.old + 2 }
-    ensures diagram { Fits 1 (of_body (option_copied body.entry) (λ b. text b.diagram)) }
-    ensures kind { Fits 1 (of_body (option_copied body.entry) (λ b. text b.kind)) }
-{
-    match body {
-        Some(body) => {
-            body.diagram.put_on(line);
-            body.kind.put_on(line);
-        }
-        None => line.put_spare::<2>(),
     }
 }
 
@@ -356,6 +316,20 @@ pub struct AssocBody {
 
 impl AssocBody {
     ghost use Rattle.cif_records.specs.declared.association.AssocBody.{AssocBody};
+    ghost use Rattle.cif_records.specs.AssocBody.{blank_body};
+
+    /// The body that stands in blank columns.
+    #[tactic(auto, unfolding(cif_columns::specs::Text::text_of))]
+    fn blank() -> AssocBody
+        ensures { result ≡ blank_body }
+    {
+        AssocBody {
+            category: Text::read(b"  "),
+            date_indicator: Text::read(b" "),
+            diagram: Text::read(b" "),
+            kind: Text::read(b" "),
+        }
+    }
 
     /// The same body.
     pub fn copy(&self) -> AssocBody

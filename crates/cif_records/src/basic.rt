@@ -11,10 +11,7 @@ ghost use Rattle.cif_records.specs.declared.detail.Detail.{Detail};
 
 use crate::Record;
 use crate::detail::{DETAIL_WIDTH, Detail};
-use crate::layout::{
-    self, Layout, check_bank_holiday, check_identity, check_transaction, dates_at, days_at,
-    has_body, letter_of,
-};
+use crate::layout::{self, Layout, check_letters, dates_at, field_or, has_body};
 use cif_columns::{Day, DaysRun, Field, Line, LineBuilder, Refusal, Stp, Uid, columns_at, uid_at};
 
 /// A record `BS` (the CIF End User Specification): on which dates a schedule runs, or is cancelled.
@@ -75,12 +72,12 @@ impl Layout for Basic {
 
     #[tactic(auto, unfolding(crate::specs::Basic::basic_refusal))]
     fn check(line: &Line) -> Result<BasicTerms, Refusal> {
-        check_identity(line, b"BS")?;
-        check_transaction(line)?;
+        check_letters(line, 1, b"BS", Refusal::UnknownRecord)?;
+        check_letters(line, 3, b"N", Refusal::NotFull)?;
         let dates = dates_at(line, 10)?;
-        let days = days_at(line, 22)?;
-        check_bank_holiday(line)?;
-        let letter = letter_of(line)?;
+        let days = field_or(line, 22, Refusal::BadDays)?;
+        check_letters(line, 29, b" ", Refusal::BankHoliday)?;
+        let letter = field_or(line, 80, Refusal::BadStp)?;
         Ok(BasicTerms {
             uid: uid_at(line, 4),
             first: dates.first,

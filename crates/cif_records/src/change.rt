@@ -4,7 +4,7 @@ ghost use Rattle.cif_columns.specs.Field.{plain_line};
 ghost use Rattle.cif_records.specs.Checks.{IsJudged};
 
 use crate::Record;
-use crate::layout::{self, Layout, check_identity};
+use crate::layout::{self, Layout, check_letters};
 use cif_columns::{Field, Line, LineBuilder, PlainTest, Refusal, Text, text_at};
 use std::fmt;
 
@@ -88,7 +88,7 @@ impl Layout for Change {
 
     #[tactic(auto, unfolding(crate::specs::Change::change_refusal))]
     fn check(line: &Line) -> Result<(), Refusal> {
-        check_identity(line, b"CR")
+        check_letters(line, 1, b"CR", Refusal::UnknownRecord)
     }
 
     fn with(line: &Line, _checked: ()) -> Change {
