@@ -24,6 +24,7 @@ use Rattle.cif_records.specs.Bodies.{has_body}
 use Rattle.cif_records.specs.Detail.{alone_in, detail_in, detail_rows, detail_table}
 use Rattle.cif_records.specs.declared.basic.BasicTerms.{BasicTerms}
 use Rattle.cif_records.specs.declared.detail.Detail.{Detail}
+use Rattle.cif_records.proofs.Rows.{◌&◌}
 
 -- a detail that stands in a line of its own fits its columns
 pub detail_fits : (line : List ℕ) (d : Detail) → IsLine line → AllStandIn line (detail_table d) → AllFit (detail_rows (Some d))
@@ -34,40 +35,9 @@ detail_fits line d is_line stands =
 pub detail_stands : (line : List ℕ) → AllStandIn line (detail_rows (Some (detail_in line)))
 detail_stands line =
     let it : (from to : ℕ) → StandsIn (columns from to line) (text (text_of (columns from to line))) =
-    λ from to. is_text_of (columns from to line) in (
-      it 30 30,
-      (
-        it 31 32,
-        (
-          it 33 36,
-          (
-            it 37 40,
-            (
-              it 41 41,
-              (
-                it 42 49,
-                (
-                  it 50 50,
-                  (
-                    it 51 53,
-                    (
-                      it 54 57,
-                      (
-                        it 58 60,
-                        (
-                          it 61 66,
-                          (it 67 67, (it 68 68, (it 69 69, (it 70 70, (it 71 74, (it 75 78, tt)))))),
-                        ),
-                      ),
-                    ),
-                  ),
-                ),
-              ),
-            ),
-          ),
-        ),
-      ),
-    )
+    λ from to. is_text_of (columns from to line) in
+    it 30 30 & it 31 32 & it 33 36 & it 37 40 & it 41 41 & it 42 49 & it 50 50 & it 51 53 & it 54 57 & it 58 60 & it 61 66
+    & it 67 67 & it 68 68 & it 69 69 & it 70 70 & it 71 74 & it 75 78 & tt
 
 -- the detail of its rows' values
 abbrev detail_of : List (Option FieldValue) → Detail

@@ -45,12 +45,9 @@ dates_reversed first last m n a b c h =
     let test : nat_le m n ≡ false = grind (arith, nat_tests) in
     rw (b, a, c, test)
 
-none_some : (n : ℕ) → None ≡ Some n → ⊥
-none_some n e = cc
-
 no_day : (columns : List ℕ) (n : ℕ) → columns ≡ codes "999999" → yymmdd_in columns ≡ Some n → ⊥
 unfolding yymmdd_in day_number
-no_day columns n e h = none_some n (ap yymmdd_in (sym e) ∙ h)
+no_day columns n e h = let none : ◌≡◌ {A = Option ℕ} None (Some n) = ap yymmdd_in (sym e) ∙ h in cc
 
 -- columns in which a day stands are no open end
 pub no_open_end : (columns : List ℕ) (n : ℕ) → StandsInYymmdd columns n → are columns (codes "999999") ≡ false

@@ -1,4 +1,3 @@
-pub mod AssocBody
 pub mod AssocKey
 pub mod Association
 pub mod Basic

@@ -1,10 +1,8 @@
 //! An association of two trains.
 ghost use Rattle.std.specs.Prelude.{◌≡◌, ◌≤◌, [], ◌↔◌, Some, Ok, IsTrue, is_some};
-ghost use Rattle.std.specs.Option.{option_copied};
-ghost use Rattle.cif_columns.specs.Field.{StandsIn, AllStandIn, Fits, AllFit, columns, text};
-ghost use Rattle.cif_columns.specs.Field.{plain_line};
+ghost use Rattle.cif_columns.specs.Field.{AllFit, AllStandIn, plain_line};
 ghost use Rattle.cif_columns.specs.LineBuilder.{put_all};
-ghost use Rattle.cif_records.specs.Bodies.{has_body, of_body};
+ghost use Rattle.cif_records.specs.Bodies.{has_body};
 ghost use Rattle.cif_records.specs.Checks.{IsJudged};
 
 use crate::Record;
@@ -69,19 +67,22 @@ impl Layout for Association {
     fn check(line: &Line) -> Result<Applicability, Refusal> {
         check_letters(line, 1, b"AA", Refusal::UnknownRecord)?;
         check_letters(line, 3, b"N", Refusal::NotFull)?;
-        let dates = dates_at(line, 16)?;
-        let days = field_or(line, 28, Refusal::BadDays)?;
-        let letter = field_or(line, 80, Refusal::BadStp)?;
         Ok(Applicability {
-            dates,
-            days,
-            letter,
+            dates: dates_at(line, 16)?,
+            days: field_or(line, 28, Refusal::BadDays)?,
+            letter: field_or(line, 80, Refusal::BadStp)?,
         })
     }
 
     fn with(line: &Line, checked: Applicability) -> Association {
         Association {
-            key: key_at(line),
+            key: AssocKey {
+                base: uid_at(line, 4),
+                associated: uid_at(line, 10),
+                location: text_at(line, 38),
+                base_suffix: text_at(line, 45),
+                associated_suffix: text_at(line, 46),
+            },
             first: checked.dates.first,
             last: checked.dates.last,
             days: checked.days,
@@ -152,7 +153,12 @@ impl Association {
         self.first.fits();
         self.last.fits();
         self.days.fits();
-        body_fits(self.body.as_ref());
+        if let Some(body) = &self.body {
+            body.category.fits();
+            body.date_indicator.fits();
+            body.diagram.fits();
+            body.kind.fits();
+        }
     }
 
     /// The plain line of a permanent association.
@@ -224,40 +230,6 @@ impl Association {
     }
 }
 
-/// A law for proofs: what a body says fits its columns.
-#[inline]
-fn body_fits(body: Option<&AssocBody>)
-    ensures category { Fits 2 (of_body (option_copied body.entry) (λ b. text b.category)) }
-    ensures date_indicator { Fits 1
-        (of_body (option_copied body.entry) (λ b. text b.date_indicator)) }
-    ensures diagram { Fits 1 (of_body (option_copied body.entry) (λ b. text b.diagram)) }
-    ensures kind { Fits 1 (of_body (option_copied body.entry) (λ b. text b.kind)) }
-{
-    if let Some(body) = body {
-        body.category.fits();
-        body.date_indicator.fits();
-        body.diagram.fits();
-        body.kind.fits();
-    }
-}
-
-/// The key in columns 4 to 15 and 38 to 46.
-fn key_at(line: &Line) -> AssocKey
-    ensures base { columns 4 9 line.now ≡ result.base }
-    ensures associated { columns 10 15 line.now ≡ result.associated }
-    ensures location { StandsIn (columns 38 44 line.now) (text result.location) }
-    ensures base_suffix { StandsIn (columns 45 45 line.now) (text result.base_suffix) }
-    ensures associated_suffix { StandsIn (columns 46 46 line.now) (text result.associated_suffix) }
-{
-    AssocKey {
-        base: uid_at(line, 4),
-        associated: uid_at(line, 10),
-        location: text_at(line, 38),
-        base_suffix: text_at(line, 45),
-        associated_suffix: text_at(line, 46),
-    }
-}
-
 /// The key of an association: two trains, where they meet, and which of a train's calls there it
 /// is. Keys are ordered by their fields as they stand here, each by its written columns (this
 /// profile).
@@ -316,7 +288,7 @@ pub struct AssocBody {
 
 impl AssocBody {
     ghost use Rattle.cif_records.specs.declared.association.AssocBody.{AssocBody};
-    ghost use Rattle.cif_records.specs.AssocBody.{blank_body};
+    ghost use Rattle.cif_records.specs.Association.{blank_body};
 
     /// The body that stands in blank columns.
     #[tactic(auto, unfolding(cif_columns::specs::Text::text_of))]

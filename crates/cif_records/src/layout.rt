@@ -1,6 +1,6 @@
 //! What the kinds of record have in common: a table, and the checks of columns.
 ghost use Rattle.std.specs.Prelude.{◌≡◌, [], ◌∷◌, ◌≤◌, ◌+◌, ℕ, List, None, Option, Some, IsTrue};
-ghost use Rattle.std.specs.Prelude.{IfOk, is_some, true};
+ghost use Rattle.std.specs.Prelude.{IfOk, Ok, is_some, true};
 ghost use Rattle.cif_columns.specs.Day.{ddmmyy_in, yymmdd_in};
 ghost use Rattle.cif_columns.specs.Field.{AllFit, AllStandIn, Row, StandsIn, is_whole_from};
 ghost use Rattle.cif_columns.specs.Field.{plain_line, columns, columns_from, date};
@@ -11,7 +11,8 @@ ghost use Rattle.cif_records.specs.Bodies.{has_body};
 ghost use Rattle.cif_records.specs.Checks.{IsJudged, are, first_of, unless, dates_refusal};
 ghost use Rattle.cif_records.specs.Checks.{header_date_refusal, identity_refusal, last_date_refusal};
 ghost use Rattle.cif_records.specs.Checks.{public_time_refusal, work_time_refusal};
-ghost use Rattle.cif_records.specs.Record.{IsPlainOf, record_table, refusal_as};
+ghost use Rattle.cif_records.specs.Kind.{kind_in};
+ghost use Rattle.cif_records.specs.Record.{IsPlainOf, record_refusal, record_table, refusal_as};
 ghost use Rattle.cif_records.specs.declared.record.Kind.{Kind};
 ghost use Rattle.cif_records.specs.declared.record.Record.{Record};
 
@@ -54,8 +55,8 @@ pub(crate) trait Layout: Sized + Drop {
     /// Whether the line spells a record and is its plain line. A `false` costs time alone, so the
     /// kinds of which there are few lines, or of which fields are read anyway, have no test.
     fn is_plain(line: &Line) -> bool
-        ensures { IsTrue result → (refusal line.now ≡ None)
-            × IsPlainOf Self table line.now line.now }
+        ensures { IsTrue result → IsJudged (record_refusal line.now)
+            (IsPlainOf Record record_table line.now) (Ok line.now) }
     {
         let _ = line;
         false
@@ -98,16 +99,20 @@ pub(crate) fn write<R: Layout>(value: &R) -> Line
     line.finish()
 }
 
-/// The plain line of the record that the line spells, or the first reason in column order why it
-/// spells none. Of a line that the kind's test knows for a plain one no record is built.
+/// The plain line of what the line, which names the kind of `R`, spells, or the first reason in
+/// column order why it spells none. Of a line that the kind's test knows for a plain one no record
+/// is built.
 pub(crate) fn plain_line_of<R: Layout>(line: &Line) -> Result<Line, Refusal>
-    ensures { IsJudged (R.refusal line.now) (IsPlainOf R R.table line.now) result }
+    requires { kind_in line.now ≡ Some R.kind }
+    ensures { IsJudged (record_refusal line.now) (IsPlainOf Record record_table line.now) result }
 {
     if R::is_plain(line) {
         return Ok(*line);
     }
-    let checked = R::check(line)?;
-    Ok(write(&R::with(line, checked)))
+    match read::<R>(line) {
+        Ok(value) => Ok(write(&value)),
+        Err(why) => Err(why),
+    }
 }
 
 /// Shows a record as its plain line, in quotes.
@@ -115,7 +120,8 @@ pub(crate) fn debug<W: fmt::Write>(line: &Line, f: &mut fmt::Formatter<W>) -> fm
     fmt::Debug::fmt(as_text(line.bytes()), f)
 }
 
-/// Refuses a line, and says why, whose columns from `at` on, counted from 1, aren't these letters.
+/// Refuses a line for the reason `why`, if its columns from `at` on, counted from 1, aren't these
+/// letters.
 pub(crate) fn check_letters<const N: usize>(
     line: &Line,
     at: usize,
@@ -134,8 +140,7 @@ pub(crate) fn check_letters<const N: usize>(
     }
 }
 
-/// The value in the columns of a line from `at` on, counted from 1, or why the line is refused where
-/// there is none.
+/// The value in the columns of a line from `at` on, counted from 1; `why` if there is none.
 pub(crate) fn field_or<F: Field>(line: &Line, at: usize, why: Refusal) -> Result<F, Refusal>
     requires from_one { 1 ≤ at }
     requires within { at + F.WIDTH ≤ 81 }

@@ -15,4 +15,5 @@ pub returns-else-le : goal.returns-else-le
 returns-else-le c =
     let first = c.in_ok-first.ensures in
     let last = c.in_ok-last.ensures in
-    dates_reversed _ _ _ _ first.exact last.judged.0 last.exact (let before : c.in_ok-last.last < c.in_ok-first.first = grind (arith, nat_tests) in before)
+    let before : c.in_ok-last.last < c.in_ok-first.first = grind (arith, nat_tests) in
+    dates_reversed _ _ _ _ first.exact last.judged.0 last.exact before

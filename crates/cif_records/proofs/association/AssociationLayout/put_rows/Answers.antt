@@ -1,11 +1,10 @@
 -- A body that is absent is written as a blank one, whose plain columns are spaces too.
 use Rattle.std.proofs.Common.{◌≡◌, ℕ, Bool, List, [], Option, Some, None, Bor, refl, ap, subst, ◌∙◌}
 use Rattle.std.specs.Option.{option_copied, unwrap_or}
-use Rattle.cif_columns.specs.Field.{AllFit}
+use Rattle.cif_columns.specs.Field.{AllFit, Row}
 use Rattle.cif_columns.specs.LineBuilder.{put_all}
 use Rattle.cif_columns.specs.declared.stp.Stp.{Stp}
-use Rattle.cif_records.specs.AssocBody.{blank_body}
-use Rattle.cif_records.specs.Association.{association_rows}
+use Rattle.cif_records.specs.Association.{association_rows, blank_body}
 use Rattle.cif_records.specs.declared.association.AssocBody.{AssocBody}
 use Rattle.cif_records.specs.declared.association.AssocKey.{AssocKey}
 use Rattle.cif_records.proofs.Rows.{◌&◌}
@@ -27,8 +26,8 @@ module _ (key : AssocKey) (first last : ℕ) (days : List Bool) (letter : Stp) (
 pub returns-clause-columns : goal.returns-clause-columns
 returns-clause-columns c =
     let r = c.args.self.now in
-    let put = subst (λ (b : Bor AssocBody). c.put_fields.new.line ≡ put_all [] (association_rows r.key r.first r.last r.days r.letter (Some b.now)))
-    c.unwrap_or.ensures c.put_fields.ensures.columns in
+    let rows : Bor AssocBody → List Row = λ b. association_rows r.key r.first r.last r.days r.letter (Some b.now) in
+    let put = subst (λ b. c.put_fields.new.line ≡ put_all [] (rows b)) c.unwrap_or.ensures c.put_fields.ensures.columns in
     rw (← c.as_ref.ensures.value) (put ∙ written r.key r.first r.last r.days r.letter _ c.blank-blank.ensures c.as_ref.result)
 
 pub returns-clause-fits : goal.returns-clause-fits

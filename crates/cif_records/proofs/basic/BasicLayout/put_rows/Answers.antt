@@ -22,4 +22,5 @@ returns-in-None-clause-columns c =
 
 pub returns-in-None-clause-fits : goal.returns-in-None-clause-fits
 returns-in-None-clause-fits c =
-    c.put_rows-in-None.ensures.fits c.args.self.now.detail (subst (λ o. AllFit (detail_rows o)) (sym c.in-None.is) (no_detail c.blank.result))
+    c.put_rows-in-None.ensures.fits c.args.self.now.detail
+    (subst (λ o. AllFit (detail_rows o)) (sym c.in-None.is) (no_detail c.blank.result))
