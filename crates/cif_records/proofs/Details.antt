@@ -9,13 +9,11 @@ use Rattle.std.proofs.lemmas.List.{ext_get_or, get_or-append-add, get_or_append_
 use Rattle.cif_columns.specs.Field.{AllFit, AllStandIn, FieldValue, Row, StandsIn, columns, plain_columns, plain_line, row, spare, text}
 use Rattle.cif_columns.specs.Field.{width_of}
 use Rattle.cif_columns.specs.Text.{text_of}
-use Rattle.cif_columns.specs.LineBuilder.{put_all}
 use Rattle.cif_columns.specs.declared.stp.Stp.{Stp}
 use Rattle.cif_columns.specs.declared.stp.Stp.TheVariants.{C, N, O, P}
 use Rattle.cif_columns.specs.Line.{IsLine}
 use Rattle.cif_columns.proofs.ColumnReads.{read, width}
-use Rattle.cif_columns.proofs.Parts.{fits-append, fits-front, put_all-append, put_all-plain_line, stands-append, stands-front}
-use Rattle.cif_columns.proofs.Parts.{stands-plain_line}
+use Rattle.cif_columns.proofs.Parts.{fits-front, stands-append, stands-front}
 use Rattle.cif_columns.proofs.StoodValues as stood
 use Rattle.cif_columns.proofs.TableLaws.{columns_in, one_table}
 use Rattle.cif_columns.proofs.Texts.{is_text_of}

@@ -1,5 +1,5 @@
 -- The detail's own line has its columns where the schedule has them (`detail_columns`), and a blank line has none there.
-use Rattle.std.proofs.Common.{Some, None, refl, ap, subst, sym, ◌∙◌}
+use Rattle.std.proofs.Common.{ap, subst, sym, ◌∙◌}
 use Rattle.cif_columns.specs.Field.{AllFit, columns, plain_line}
 use Rattle.cif_records.specs.Detail.{detail_rows}
 use Rattle.cif_records.proofs.Details.{detail_columns, detail_fits, no_detail}

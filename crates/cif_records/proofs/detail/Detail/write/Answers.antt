@@ -1,5 +1,5 @@
 -- Each row is put behind those before (`put`), and the rows that were put are the plain line of the table (`put_all-plain_line`).
-use Rattle.std.proofs.Common.{◌≡◌, [], length, subst, sym, refl, ◌∙◌}
+use Rattle.std.proofs.Common.{◌≡◌, length, subst, sym, refl, ◌∙◌}
 use Rattle.cif_columns.specs.Field.{AllFit, AllStandIn, plain_line}
 use Rattle.cif_columns.proofs.Parts.{length-plain_line, put_all-plain_line, stands-plain_line}
 use Rattle.cif_records.specs.Detail.{detail_table}
