@@ -12,7 +12,8 @@ returns-in-Some c =
     & (c.fits-in-Some.ensures.width, c.fits-in-Some.ensures.text) & (c.fits-in-Some-2.ensures.width, c.fits-in-Some-2.ensures.text)
     & (c.fits-3.ensures.width, c.fits-3.ensures.text) & (c.fits-4.ensures.width, c.fits-4.ensures.text)
     & (c.fits-5.ensures.width, c.fits-5.ensures.text)
-    & (c.fits-in-Some-3.ensures.width, c.fits-in-Some-3.ensures.text) & (c.fits-in-Some-4.ensures.width, c.fits-in-Some-4.ensures.text) & tt & refl & tt)
+    & (c.fits-in-Some-3.ensures.width, c.fits-in-Some-3.ensures.text)
+    & (c.fits-in-Some-4.ensures.width, c.fits-in-Some-4.ensures.text) & tt & refl & tt)
 
 pub returns-in_default : goal.returns-in_default
 returns-in_default c =
