@@ -1,33 +1,19 @@
 -- A line spells at most one basic schedule, and there is no reason to refuse a line that spells one.
 use Rattle.std.proofs.Common.{◌≡◌, ◌≤◌, ℕ, Bool, List, Option, Some, None, is_some, true, false, ◌++◌, refl, sym, ap, ◌∙◌}
-use Rattle.std.proofs.Common.{codes, length}
 use Rattle.std.proofs.Props.{props}
 use mathlib.Core.HLevel.{Σ_prop_path}
-use Rattle.cif_columns.specs.Day.{IsDay}
-use Rattle.cif_columns.specs.Field.{AllFit, AllStandIn}
-use Rattle.cif_columns.specs.Uid.{IsUid}
+use Rattle.cif_columns.specs.Field.{AllStandIn}
 use Rattle.cif_columns.specs.declared.stp.Stp.{Stp}
 use Rattle.cif_columns.proofs.FieldLaws.{one_date_value, one_exactly, one_indicator, one_weekdays, stp_in-letter}
 use Rattle.cif_columns.proofs.Masks.{days_of-stands}
-use Rattle.cif_columns.proofs.Parts.{fits-append, stands-back, stands-front}
-use Rattle.cif_columns.proofs.PrintableBytes.{printable_fact}
-use Rattle.cif_records.specs.Basic.{basic_back, basic_front, basic_refusal, basic_rows, SpellsBasic}
+use Rattle.cif_columns.proofs.Parts.{stands-back, stands-front}
+use Rattle.cif_records.specs.Basic.{basic_back, basic_front, basic_refusal, SpellsBasic}
 use Rattle.cif_records.specs.Bodies.{has_body}
 use Rattle.cif_records.specs.Detail.{detail_in, detail_rows}
 use Rattle.cif_records.specs.declared.basic.Basic.{Basic}
 use Rattle.cif_records.specs.declared.detail.Detail.{Detail}
 use Rattle.cif_records.proofs.Details.{detail_stands, one_detail}
 use Rattle.cif_records.proofs.Judging.{dates_fine}
-use Rattle.cif_records.proofs.Rows.{◌&◌}
-
--- a schedule fits its columns where its terms and its detail do
-pub fits : (uid : List ℕ) (first last : ℕ) (days : List Bool) (letter : Stp) (detail : Option Detail) → IsUid uid → IsDay first →
-    IsDay last → length days ≡ 7 → AllFit (detail_rows detail) → AllFit (basic_rows uid first last days letter detail)
-fits uid first last days letter detail u f l d fit =
-    fits-append (basic_front uid first last days) (detail_rows detail ++ basic_back letter)
-    ((refl, printable_fact (codes "BS") refl) & (refl, printable_fact (codes "N") refl) & (u.width, u.printable)
-    & (refl, f) & (refl, l) & (refl, d) & (refl, printable_fact (codes " ") refl) & tt)
-    (fits-append (detail_rows detail) (basic_back letter) fit (tt & refl & tt))
 
 same_detail : (line : List ℕ) (a b : Option Detail) → is_some a ≡ is_some b → AllStandIn line (detail_rows a) →
     AllStandIn line (detail_rows b) → a ≡ b

@@ -9,13 +9,11 @@ use Rattle.std.proofs.lemmas.List.{ext_get_or, get_or-append-add, get_or_append_
 use Rattle.cif_columns.specs.Field.{AllFit, AllStandIn, FieldValue, Row, StandsIn, columns, plain_columns, plain_line, row, spare, text}
 use Rattle.cif_columns.specs.Field.{width_of}
 use Rattle.cif_columns.specs.Text.{text_of}
-use Rattle.cif_columns.specs.LineBuilder.{put_all}
 use Rattle.cif_columns.specs.declared.stp.Stp.{Stp}
 use Rattle.cif_columns.specs.declared.stp.Stp.TheVariants.{C, N, O, P}
 use Rattle.cif_columns.specs.Line.{IsLine}
 use Rattle.cif_columns.proofs.ColumnReads.{read, width}
-use Rattle.cif_columns.proofs.Parts.{fits-append, fits-front, put_all-append, put_all-plain_line, stands-append, stands-front}
-use Rattle.cif_columns.proofs.Parts.{stands-plain_line}
+use Rattle.cif_columns.proofs.Parts.{fits-front, stands-append, stands-front}
 use Rattle.cif_columns.proofs.StoodValues as stood
 use Rattle.cif_columns.proofs.TableLaws.{columns_in, one_table}
 use Rattle.cif_columns.proofs.Texts.{is_text_of}
@@ -24,18 +22,7 @@ use Rattle.cif_records.specs.Bodies.{has_body}
 use Rattle.cif_records.specs.Detail.{alone_in, detail_in, detail_rows, detail_table}
 use Rattle.cif_records.specs.declared.basic.BasicTerms.{BasicTerms}
 use Rattle.cif_records.specs.declared.detail.Detail.{Detail}
-
-module _ (d : Detail) (line : List ℕ) (built : line ≡ put_all (put_all [] (row 1 29 spare ∷ []) ++ plain_line (detail_rows (Some d)))
-    (row 79 80 spare ∷ [])) where
-  pub plain_detail : line ≡ plain_line (detail_table d)
-  plain_detail =
-      built ∙ sym (put_all-append (put_all [] (row 1 29 spare ∷ [])) (detail_rows (Some d)) (row 79 80 spare ∷ []))
-      ∙ put_all-plain_line (detail_table d)
-
-  pub detail_again : AllFit (detail_rows (Some d)) → AllStandIn line (detail_table d)
-  detail_again fits =
-      subst (λ l. AllStandIn l (detail_table d)) (sym plain_detail)
-      (stands-plain_line (detail_table d) refl (tt, fits-append (detail_rows (Some d)) (row 79 80 spare ∷ []) fits (tt, tt)))
+use Rattle.cif_records.proofs.Rows.{◌&◌}
 
 -- a detail that stands in a line of its own fits its columns
 pub detail_fits : (line : List ℕ) (d : Detail) → IsLine line → AllStandIn line (detail_table d) → AllFit (detail_rows (Some d))
@@ -46,40 +33,9 @@ detail_fits line d is_line stands =
 pub detail_stands : (line : List ℕ) → AllStandIn line (detail_rows (Some (detail_in line)))
 detail_stands line =
     let it : (from to : ℕ) → StandsIn (columns from to line) (text (text_of (columns from to line))) =
-    λ from to. is_text_of (columns from to line) in (
-      it 30 30,
-      (
-        it 31 32,
-        (
-          it 33 36,
-          (
-            it 37 40,
-            (
-              it 41 41,
-              (
-                it 42 49,
-                (
-                  it 50 50,
-                  (
-                    it 51 53,
-                    (
-                      it 54 57,
-                      (
-                        it 58 60,
-                        (
-                          it 61 66,
-                          (it 67 67, (it 68 68, (it 69 69, (it 70 70, (it 71 74, (it 75 78, tt)))))),
-                        ),
-                      ),
-                    ),
-                  ),
-                ),
-              ),
-            ),
-          ),
-        ),
-      ),
-    )
+    λ from to. is_text_of (columns from to line) in
+    it 30 30 & it 31 32 & it 33 36 & it 37 40 & it 41 41 & it 42 49 & it 50 50 & it 51 53 & it 54 57 & it 58 60 & it 61 66
+    & it 67 67 & it 68 68 & it 69 69 & it 70 70 & it 71 74 & it 75 78 & tt
 
 -- the detail of its rows' values
 abbrev detail_of : List (Option FieldValue) → Detail
@@ -196,7 +152,7 @@ bodied_by : (letter : Stp) (line : List ℕ) → is_some (detail_by letter line)
 bodied_by C line = refl
 bodied_by _ line = refl
 
-no_detail : (line : List ℕ) → AllStandIn line (detail_rows None)
+pub no_detail : (line : List ℕ) → AllStandIn line (detail_rows None)
 no_detail line = (tt, (tt, (tt, (tt, (tt, (tt, (tt, (tt, (tt, (tt, (tt, (tt, (tt, (tt, (tt, (tt, (tt, tt)))))))))))))))))
 
 stands_by : (letter : Stp) (line : List ℕ) → AllStandIn line (detail_rows (detail_by letter line))

@@ -1,9 +1,10 @@
 -- What a chain of checks says.
-use Rattle.std.proofs.Common.{◌≡◌, ◌≤◌, ℕ, Bool, List, Option, Some, None, Result, Ok, Err, nat_le, true, false, arith}
+use Rattle.std.proofs.Common.{◌≡◌, ◌≤◌, ◌<◌, ℕ, Bool, List, Option, Some, None, Result, Ok, Err, nat_le, true, false, arith}
 use Rattle.std.proofs.Common.{refl, sym, ap, ◌∙◌, codes}
 use Rattle.std.specs.Cmp.Lexicographic.{bytes_decides}
 use Rattle.std.proofs.lemmas.Bool.Decides.{nat_tests}
 use Rattle.cif_columns.specs.declared.refusal.Refusal.{Refusal}
+use Rattle.cif_columns.specs.declared.refusal.Refusal.TheVariants.{DatesReversed}
 use Rattle.cif_columns.specs.Day.{StandsInYymmdd, yymmdd_in, day_number}
 use Rattle.cif_columns.proofs.DayColumns.{yymmdd_in-stands}
 use Rattle.cif_records.specs.Checks.{IsJudged, are, last_date_refusal, dates_refusal}
@@ -37,12 +38,16 @@ dates_judged first last m n a b c h =
     let test : nat_le m n ≡ true = grind (arith, nat_tests) in
     rw (b, a, c, test)
 
-none_some : (n : ℕ) → None ≡ Some n → ⊥
-none_some n e = cc
+-- two dates that name days, the second no open end and before the first
+pub dates_reversed : (first last : List ℕ) (m n : ℕ) → yymmdd_in first ≡ Some m → last_date_refusal last ≡ None
+    → yymmdd_in last ≡ Some n → n < m → dates_refusal first last ≡ Some DatesReversed
+dates_reversed first last m n a b c h =
+    let test : nat_le m n ≡ false = grind (arith, nat_tests) in
+    rw (b, a, c, test)
 
 no_day : (columns : List ℕ) (n : ℕ) → columns ≡ codes "999999" → yymmdd_in columns ≡ Some n → ⊥
 unfolding yymmdd_in day_number
-no_day columns n e h = none_some n (ap yymmdd_in (sym e) ∙ h)
+no_day columns n e h = let none : ◌≡◌ {A = Option ℕ} None (Some n) = ap yymmdd_in (sym e) ∙ h in cc
 
 -- columns in which a day stands are no open end
 pub no_open_end : (columns : List ℕ) (n : ℕ) → StandsInYymmdd columns n → are columns (codes "999999") ≡ false

@@ -1,13 +1,12 @@
 -- A line that passes the test of its kind.
-use Rattle.std.proofs.Common.{◌≡◌, ℕ, List, Option, None, sym}
-use Rattle.cif_columns.specs.Field.{AllStandIn, Row}
+use Rattle.std.proofs.Common.{ℕ, List, Ok, sym}
 use Rattle.cif_columns.specs.PlainTest.{IsPlainLineOf}
-use Rattle.cif_columns.specs.declared.refusal.Refusal.{Refusal}
-use Rattle.cif_records.specs.Record.{IsPlainOf}
+use Rattle.cif_records.specs.Checks.{IsJudged}
+use Rattle.cif_records.specs.Record.{IsPlainOf, record_refusal, record_table}
+use Rattle.cif_records.specs.declared.record.Record.{Record}
+use Rattle.cif_records.proofs.Records.{no_refusal}
 
--- a line that is the plain line of a value's table, which no line spells that is refused
-pub plain_of : {R : Type 0} (table : R → List Row) (line : List ℕ) (value : R) {refusal : Option Refusal}
-    → (AllStandIn line (table value) → refusal ≡ None) → IsPlainLineOf (table value) line
-    → (refusal ≡ None) × IsPlainOf R table line line
-plain_of table line value fine plain =
-    (fine plain.0, record { value = value; stands = plain.0; same = sym plain.1; again = plain.0 })
+-- a line that is the plain line of a record, which no line spells that is refused
+pub plain_of : (line : List ℕ) (r : Record) → IsPlainLineOf (record_table r) line
+    → IsJudged (record_refusal line) (IsPlainOf Record record_table line) (Ok line)
+plain_of line r plain = (no_refusal line r plain.0, record { value = r; stands = plain.0; same = sym plain.1; again = plain.0 })

@@ -46,6 +46,10 @@ pub record SpellsBody (line : List ℕ) (body : Option AssocBody) : Type 0 where
   pub diagram : StandsIn (columns 47 47 line) (of_body body (λ b. text b.diagram))
   pub kind : StandsIn (columns 48 48 line) (of_body body (λ b. text b.kind))
 
+-- the body that stands in blank columns
+abbrev pub blank_body : AssocBody
+blank_body = record { category = []; date_indicator = []; diagram = []; kind = [] }
+
 -- the first reason to refuse a line as an association
 unfoldable pub association_refusal : List ℕ → Option Refusal
 association_refusal line = first_of (

@@ -33,6 +33,10 @@ basic_back letter =
 abbrev pub basic_rows : List ℕ → ℕ → ℕ → List Bool → Stp → Option Detail → List Row
 basic_rows uid first last days letter detail = basic_front uid first last days ++ (detail_rows detail ++ basic_back letter)
 
+-- the columns of a basic schedule with these terms
+abbrev pub terms_rows : BasicTerms → Option Detail → List Row
+terms_rows t detail = basic_rows t.uid t.first t.last t.days t.letter detail
+
 -- the columns of this basic schedule
 abbrev pub basic_table : Basic → List Row
 basic_table r = basic_rows r.uid r.first r.last r.days r.letter r.detail

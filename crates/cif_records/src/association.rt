@@ -1,17 +1,12 @@
 //! An association of two trains.
-ghost use Rattle.std.specs.Prelude.{◌≡◌, ◌+◌, ◌≤◌, ◌++◌, [], ◌↔◌, Some, Ok, IsTrue, length};
-ghost use Rattle.std.specs.Prelude.{is_some};
-ghost use Rattle.std.specs.Option.{option_copied};
-ghost use Rattle.cif_columns.specs.Field.{StandsIn, AllStandIn, Fits, AllFit, columns, text};
-ghost use Rattle.cif_columns.specs.Field.{plain_columns, plain_line};
+ghost use Rattle.std.specs.Prelude.{◌≡◌, ◌≤◌, [], ◌↔◌, Some, Ok, IsTrue, is_some};
+ghost use Rattle.cif_columns.specs.Field.{AllFit, AllStandIn, plain_line};
 ghost use Rattle.cif_columns.specs.LineBuilder.{put_all};
-ghost use Rattle.cif_records.specs.Bodies.{has_body, of_body};
+ghost use Rattle.cif_records.specs.Bodies.{has_body};
 ghost use Rattle.cif_records.specs.Checks.{IsJudged};
 
 use crate::Record;
-use crate::layout::{
-    self, Dates, Layout, check_identity, check_transaction, dates_at, days_at, has_body, letter_of,
-};
+use crate::layout::{self, Dates, Layout, check_letters, dates_at, field_or, has_body};
 use cif_columns::{
     Day, DaysRun, Field, Line, LineBuilder, Refusal, Stp, Text, Uid, text_at, uid_at,
 };
@@ -70,21 +65,24 @@ impl Layout for Association {
 
     #[tactic(auto, unfolding(crate::specs::Association::association_refusal))]
     fn check(line: &Line) -> Result<Applicability, Refusal> {
-        check_identity(line, b"AA")?;
-        check_transaction(line)?;
-        let dates = dates_at(line, 16)?;
-        let days = days_at(line, 28)?;
-        let letter = letter_of(line)?;
+        check_letters(line, 1, b"AA", Refusal::UnknownRecord)?;
+        check_letters(line, 3, b"N", Refusal::NotFull)?;
         Ok(Applicability {
-            dates,
-            days,
-            letter,
+            dates: dates_at(line, 16)?,
+            days: field_or(line, 28, Refusal::BadDays)?,
+            letter: field_or(line, 80, Refusal::BadStp)?,
         })
     }
 
     fn with(line: &Line, checked: Applicability) -> Association {
         Association {
-            key: key_at(line),
+            key: AssocKey {
+                base: uid_at(line, 4),
+                associated: uid_at(line, 10),
+                location: text_at(line, 38),
+                base_suffix: text_at(line, 45),
+                associated_suffix: text_at(line, 46),
+            },
             first: checked.dates.first,
             last: checked.dates.last,
             days: checked.days,
@@ -98,13 +96,14 @@ impl Layout for Association {
     }
 
     fn put_rows(&self, line: &mut LineBuilder) {
+        let blank = AssocBody::blank();
         Association::put_fields(
             &self.key,
             self.first,
             self.last,
             self.days,
             self.letter,
-            self.body.as_ref(),
+            self.body.as_ref().unwrap_or(&blank),
             line,
         );
     }
@@ -154,7 +153,12 @@ impl Association {
         self.first.fits();
         self.last.fits();
         self.days.fits();
-        body_fits(self.body.as_ref());
+        if let Some(body) = &self.body {
+            body.category.fits();
+            body.date_indicator.fits();
+            body.diagram.fits();
+            body.kind.fits();
+        }
     }
 
     /// The plain line of a permanent association.
@@ -172,7 +176,7 @@ impl Association {
             (association_rows key.now first last days Stp.P (Some body.now)) }
     {
         let mut line = LineBuilder::new();
-        Association::put_fields(key, first, last, days, Stp::P, Some(body), &mut line);
+        Association::put_fields(key, first, last, days, Stp::P, body, &mut line);
         line.finish()
     }
 
@@ -183,14 +187,13 @@ impl Association {
         last: Day,
         days: DaysRun,
         letter: Stp,
-        body: Option<&AssocBody>,
+        body: &AssocBody,
         line: &mut LineBuilder,
     )
         requires { line.old ≡ [] }
         ensures columns { line.new ≡ put_all []
-            (association_rows key.now first last days letter (option_copied body.entry)) }
-        ensures fits { AllFit
-            (association_rows key.now first last days letter (option_copied body.entry)) }
+            (association_rows key.now first last days letter (Some body.now)) }
+        ensures fits { AllFit (association_rows key.now first last days letter (Some body.now)) }
     {
         line.put_columns(b"AAN");
         key.base.put_on(line);
@@ -198,11 +201,13 @@ impl Association {
         first.put_on(line);
         last.put_on(line);
         days.put_on(line);
-        put_category(body, line);
+        body.category.put_on(line);
+        body.date_indicator.put_on(line);
         key.location.put_on(line);
         key.base_suffix.put_on(line);
         key.associated_suffix.put_on(line);
-        put_kinds(body, line);
+        body.diagram.put_on(line);
+        body.kind.put_on(line);
         line.put_spare::<31>();
         letter.put_on(line);
     }
@@ -222,79 +227,6 @@ impl Association {
         } else {
             None
         }
-    }
-}
-
-/// Columns 35 to 37, which are spare where there is no body.
-fn put_category(body: Option<&AssocBody>, line: &mut LineBuilder)
-    requires { length line.old + 3 ≤ 80 }
-    ensures columns { line.new ≡ line.old
-        ++ plain_columns 2 (of_body (option_copied body.entry) (λ b. text b.category))
-        ++ plain_columns 1 (of_body (option_copied body.entry) (λ b. text b.date_indicator)) }
-    ensures width { length line.new ≡ length line.old + 3 }
-    ensures category { Fits 2 (of_body (option_copied body.entry) (λ b. text b.category)) }
-    ensures date_indicator { Fits 1
-        (of_body (option_copied body.entry) (λ b. text b.date_indicator)) }
-{
-    match body {
-        Some(body) => {
-            body.category.put_on(line);
-            body.date_indicator.put_on(line);
-        }
-        None => line.put_spare::<3>(),
-    }
-}
-
-/// Columns 47 to 48, which are spare where there is no body.
-fn put_kinds(body: Option<&AssocBody>, line: &mut LineBuilder)
-    requires { length line.old + 2 ≤ 80 }
-    ensures columns { line.new ≡ line.old
-        ++ plain_columns 1 (of_body (option_copied body.entry) (λ b. text b.diagram))
-        ++ plain_columns 1 (of_body (option_copied body.entry) (λ b. text b.kind)) }
-    ensures width { length line.new ≡ length line.old + 2 }
-    ensures diagram { Fits 1 (of_body (option_copied body.entry) (λ b. text b.diagram)) }
-    ensures kind { Fits 1 (of_body (option_copied body.entry) (λ b. text b.kind)) }
-{
-    match body {
-        Some(body) => {
-            body.diagram.put_on(line);
-            body.kind.put_on(line);
-        }
-        None => line.put_spare::<2>(),
-    }
-}
-
-/// A law for proofs: what a body says fits its columns.
-#[inline]
-fn body_fits(body: Option<&AssocBody>)
-    ensures category { Fits 2 (of_body (option_copied body.entry) (λ b. text b.category)) }
-    ensures date_indicator { Fits 1
-        (of_body (option_copied body.entry) (λ b. text b.date_indicator)) }
-    ensures diagram { Fits 1 (of_body (option_copied body.entry) (λ b. text b.diagram)) }
-    ensures kind { Fits 1 (of_body (option_copied body.entry) (λ b. text b.kind)) }
-{
-    if let Some(body) = body {
-        body.category.fits();
-        body.date_indicator.fits();
-        body.diagram.fits();
-        body.kind.fits();
-    }
-}
-
-/// The key in columns 4 to 15 and 38 to 46.
-fn key_at(line: &Line) -> AssocKey
-    ensures base { columns 4 9 line.now ≡ result.base }
-    ensures associated { columns 10 15 line.now ≡ result.associated }
-    ensures location { StandsIn (columns 38 44 line.now) (text result.location) }
-    ensures base_suffix { StandsIn (columns 45 45 line.now) (text result.base_suffix) }
-    ensures associated_suffix { StandsIn (columns 46 46 line.now) (text result.associated_suffix) }
-{
-    AssocKey {
-        base: uid_at(line, 4),
-        associated: uid_at(line, 10),
-        location: text_at(line, 38),
-        base_suffix: text_at(line, 45),
-        associated_suffix: text_at(line, 46),
     }
 }
 
@@ -356,6 +288,20 @@ pub struct AssocBody {
 
 impl AssocBody {
     ghost use Rattle.cif_records.specs.declared.association.AssocBody.{AssocBody};
+    ghost use Rattle.cif_records.specs.Association.{blank_body};
+
+    /// The body that stands in blank columns.
+    #[tactic(auto, unfolding(cif_columns::specs::Text::text_of))]
+    fn blank() -> AssocBody
+        ensures { result ≡ blank_body }
+    {
+        AssocBody {
+            category: Text::read(b"  "),
+            date_indicator: Text::read(b" "),
+            diagram: Text::read(b" "),
+            kind: Text::read(b" "),
+        }
+    }
 
     /// The same body.
     pub fn copy(&self) -> AssocBody

@@ -1,7 +1,7 @@
 //! The first record of a schedule.
-ghost use Rattle.std.specs.Prelude.{◌≡◌, ◌+◌, ◌≤◌, ◌++◌, [], length, Ok, Some, is_some};
-ghost use Rattle.std.specs.Option.{option_copied};
-ghost use Rattle.cif_columns.specs.Field.{AllFit, AllStandIn, plain_line};
+ghost use Rattle.std.specs.Prelude.{◌≡◌, ◌≤◌, [], length, Ok, Option, Some, is_some};
+ghost use Rattle.cif_columns.specs.Field.{AllFit, AllStandIn, columns, plain_line};
+ghost use Rattle.cif_columns.specs.Line.{IsLine};
 ghost use Rattle.cif_columns.specs.LineBuilder.{put_all};
 ghost use Rattle.cif_columns.specs.declared.stp.Stp.TheVariants.{P};
 ghost use Rattle.cif_records.specs.Bodies.{has_body};
@@ -11,10 +11,7 @@ ghost use Rattle.cif_records.specs.declared.detail.Detail.{Detail};
 
 use crate::Record;
 use crate::detail::{DETAIL_WIDTH, Detail};
-use crate::layout::{
-    self, Layout, check_bank_holiday, check_identity, check_transaction, dates_at, days_at,
-    has_body, letter_of,
-};
+use crate::layout::{self, Layout, check_letters, dates_at, field_or, has_body};
 use cif_columns::{Day, DaysRun, Field, Line, LineBuilder, Refusal, Stp, Uid, columns_at, uid_at};
 
 /// A record `BS` (the CIF End User Specification): on which dates a schedule runs, or is cancelled.
@@ -75,12 +72,12 @@ impl Layout for Basic {
 
     #[tactic(auto, unfolding(crate::specs::Basic::basic_refusal))]
     fn check(line: &Line) -> Result<BasicTerms, Refusal> {
-        check_identity(line, b"BS")?;
-        check_transaction(line)?;
+        check_letters(line, 1, b"BS", Refusal::UnknownRecord)?;
+        check_letters(line, 3, b"N", Refusal::NotFull)?;
         let dates = dates_at(line, 10)?;
-        let days = days_at(line, 22)?;
-        check_bank_holiday(line)?;
-        let letter = letter_of(line)?;
+        let days = field_or(line, 22, Refusal::BadDays)?;
+        check_letters(line, 29, b" ", Refusal::BankHoliday)?;
+        let letter = field_or(line, 80, Refusal::BadStp)?;
         Ok(BasicTerms {
             uid: uid_at(line, 4),
             first: dates.first,
@@ -106,15 +103,17 @@ impl Layout for Basic {
     }
 
     fn put_rows(&self, line: &mut LineBuilder) {
-        Basic::put_fields(
-            &self.uid,
-            self.first,
-            self.last,
-            self.days,
-            self.letter,
-            self.detail.as_ref(),
-            line,
-        );
+        let terms = BasicTerms {
+            uid: self.uid,
+            first: self.first,
+            last: self.last,
+            days: self.days,
+            letter: self.letter,
+        };
+        match &self.detail {
+            Some(detail) => terms.put_rows(&detail.write(), line),
+            None => terms.put_rows(&Line::blank(), line),
+        }
     }
 
     ghost whole = { λ r. refl };
@@ -126,7 +125,7 @@ impl Layout for Basic {
 
 impl Basic {
     ghost use Rattle.cif_records.specs.declared.basic.Basic.{Basic};
-    ghost use Rattle.cif_records.specs.Basic.{SpellsBasic, basic_front, basic_refusal};
+    ghost use Rattle.cif_records.specs.Basic.{SpellsBasic, basic_refusal};
     ghost use Rattle.cif_records.specs.Basic.{basic_rows, basic_table};
 
     /// The basic schedule that the line spells, or the first reason in column order why it spells
@@ -154,53 +153,21 @@ impl Basic {
         ensures { (d : Detail) → detail.now ≡ plain_line (detail_table d)
             → result ≡ plain_line (basic_rows uid.now first last days P (Some d)) }
     {
+        let terms = BasicTerms {
+            uid: *uid,
+            first,
+            last,
+            days,
+            letter: Stp::P,
+        };
         let mut line = LineBuilder::new();
-        Basic::put_front(uid, first, last, days, &mut line);
-        line.put_columns(&columns_at::<DETAIL_WIDTH>(detail, 30));
-        line.put_spare::<1>();
-        Stp::P.put_on(&mut line);
+        terms.put_rows(detail, &mut line);
         line.finish()
-    }
-
-    /// Puts the plain columns of a basic schedule with these fields on an empty line.
-    fn put_fields(
-        uid: &Uid,
-        first: Day,
-        last: Day,
-        days: DaysRun,
-        letter: Stp,
-        detail: Option<&Detail>,
-        line: &mut LineBuilder,
-    )
-        requires { line.old ≡ [] }
-        ensures columns { line.new ≡ put_all []
-            (basic_rows uid.now first last days letter (option_copied detail.entry)) }
-        ensures fits { AllFit (basic_rows uid.now first last days letter (option_copied detail.entry)) }
-    {
-        Basic::put_front(uid, first, last, days, line);
-        put_detail(detail, line);
-        line.put_spare::<1>();
-        letter.put_on(line);
-    }
-
-    /// Appends columns 1 to 29.
-    fn put_front(uid: &Uid, first: Day, last: Day, days: DaysRun, line: &mut LineBuilder)
-        requires { line.old ≡ [] }
-        ensures columns { line.new ≡ put_all [] (basic_front uid.now first last days) }
-        ensures width { length line.new ≡ 29 }
-        ensures fits { AllFit (basic_front uid.now first last days) }
-    {
-        line.put_columns(b"BSN");
-        uid.put_on(line);
-        first.put_on(line);
-        last.put_on(line);
-        days.put_on(line);
-        line.put_columns(b" ");
     }
 }
 
 impl BasicTerms {
-    ghost use Rattle.cif_records.specs.Basic.{SpellsTerms, basic_refusal};
+    ghost use Rattle.cif_records.specs.Basic.{SpellsTerms, basic_refusal, terms_rows};
 
     /// The terms of the basic schedule that the line spells, or the first reason why it spells none,
     /// as `Basic::read` has it. No detail is built.
@@ -216,6 +183,27 @@ impl BasicTerms {
     {
         has_body(self.letter)
     }
+
+    /// Puts the plain columns of a basic schedule with these terms on an empty line, and columns 30 to 78
+    /// of the line `detail` as they stand.
+    fn put_rows(&self, detail: &Line, line: &mut LineBuilder)
+        requires { line.old ≡ [] }
+        ensures columns { (d : Option Detail) → columns 30 78 detail.now ≡ plain_line (detail_rows d)
+            → line.new ≡ put_all [] (terms_rows self.now d) }
+        ensures width { length line.new ≡ 80 }
+        ensures fits { (d : Option Detail) → AllFit (detail_rows d) → AllFit (terms_rows self.now d) }
+        ensures line { IsLine detail.now }
+    {
+        line.put_columns(b"BSN");
+        self.uid.put_on(line);
+        self.first.put_on(line);
+        self.last.put_on(line);
+        self.days.put_on(line);
+        line.put_columns(b" ");
+        line.put_columns(&columns_at::<DETAIL_WIDTH>(detail, 30));
+        line.put_spare::<1>();
+        self.letter.put_on(line);
+    }
 }
 
 /// The detail in columns 30 to 78, absent in cancellations.
@@ -227,18 +215,5 @@ fn detail_at(line: &Line, letter: Stp) -> Option<Detail>
         Some(Detail::read(line))
     } else {
         None
-    }
-}
-
-/// Columns 30 to 78, which are spare where there is no detail.
-fn put_detail(detail: Option<&Detail>, line: &mut LineBuilder)
-    requires { length line.old + 49 ≤ 80 }
-    ensures columns { line.new ≡ line.old ++ plain_line (detail_rows (option_copied detail.entry)) }
-    ensures width { length line.new ≡ length line.old + 49 }
-    ensures fits { AllFit (detail_rows (option_copied detail.entry)) }
-{
-    match detail {
-        Some(detail) => detail.put_on(line),
-        None => line.put_spare::<DETAIL_WIDTH>(),
     }
 }

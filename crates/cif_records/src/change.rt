@@ -1,16 +1,16 @@
 //! A change of a train on the way of a journey.
-ghost use Rattle.std.specs.Prelude.{◌≡◌, Ok, length, slice_range};
-ghost use Rattle.cif_columns.specs.Field.{AllFit, plain_line};
-ghost use Rattle.cif_columns.specs.LineBuilder.{put_all};
+ghost use Rattle.std.specs.Prelude.{◌≡◌, Ok};
+ghost use Rattle.cif_columns.specs.Field.{plain_line};
 ghost use Rattle.cif_records.specs.Checks.{IsJudged};
 
 use crate::Record;
-use crate::layout::{self, Layout, check_identity};
+use crate::layout::{self, Layout, check_letters};
 use cif_columns::{Field, Line, LineBuilder, PlainTest, Refusal, Text, text_at};
+use std::fmt;
 
 /// A record `CR` (the CIF End User Specification): what is changed at the next location. That its
 /// location is the next one's isn't checked.
-#[derive(Debug, Drop, PartialEq, Eq)]
+#[derive(Drop, PartialEq, Eq)]
 pub struct Change {
     /// Columns 3 to 9: the TIPLOC.
     pub location: Text<7>,
@@ -88,7 +88,7 @@ impl Layout for Change {
 
     #[tactic(auto, unfolding(crate::specs::Change::change_refusal))]
     fn check(line: &Line) -> Result<(), Refusal> {
-        check_identity(line, b"CR")
+        check_letters(line, 1, b"CR", Refusal::UnknownRecord)
     }
 
     fn with(line: &Line, _checked: ()) -> Change {
@@ -127,8 +127,27 @@ impl Layout for Change {
 
     fn put_rows(&self, line: &mut LineBuilder) {
         line.put_columns(b"CR");
-        self.put_front(line);
-        self.put_back(line);
+        self.location.put_on(line);
+        self.suffix.put_on(line);
+        self.category.put_on(line);
+        self.identity.put_on(line);
+        self.headcode.put_on(line);
+        self.course.put_on(line);
+        self.service_code.put_on(line);
+        self.sector.put_on(line);
+        self.power.put_on(line);
+        self.timing_load.put_on(line);
+        self.speed.put_on(line);
+        self.characteristics.put_on(line);
+        self.class.put_on(line);
+        self.sleepers.put_on(line);
+        self.reservations.put_on(line);
+        self.connection.put_on(line);
+        self.catering.put_on(line);
+        self.branding.put_on(line);
+        self.traction.put_on(line);
+        self.uic.put_on(line);
+        self.reserved_a.put_on(line);
         line.put_spare::<5>();
     }
 
@@ -137,6 +156,13 @@ impl Layout for Change {
     ghost same_table = { λ r. refl };
 
     ghost same_refusal = { λ line. refl };
+}
+
+/// Its plain line.
+impl fmt::Debug for Change {
+    fn fmt<W: fmt::Write>(&self, f: &mut fmt::Formatter<W>) -> fmt::Result {
+        layout::debug(&self.write(), f)
+    }
 }
 
 impl Change {
@@ -158,44 +184,5 @@ impl Change {
         ensures again { SpellsChange result self.now }
     {
         layout::write(self)
-    }
-
-    /// Appends columns 3 to 40.
-    fn put_front(&self, line: &mut LineBuilder)
-        requires { length line.old ≡ 2 }
-        ensures columns { line.new ≡ put_all line.old (slice_range (change_table self.now) 1 12) }
-        ensures width { length line.new ≡ 40 }
-        ensures fits { AllFit (slice_range (change_table self.now) 1 12) }
-    {
-        self.location.put_on(line);
-        self.suffix.put_on(line);
-        self.category.put_on(line);
-        self.identity.put_on(line);
-        self.headcode.put_on(line);
-        self.course.put_on(line);
-        self.service_code.put_on(line);
-        self.sector.put_on(line);
-        self.power.put_on(line);
-        self.timing_load.put_on(line);
-        self.speed.put_on(line);
-    }
-
-    /// Appends columns 41 to 75.
-    fn put_back(&self, line: &mut LineBuilder)
-        requires { length line.old ≡ 40 }
-        ensures columns { line.new ≡ put_all line.old (slice_range (change_table self.now) 12 22) }
-        ensures width { length line.new ≡ 75 }
-        ensures fits { AllFit (slice_range (change_table self.now) 12 22) }
-    {
-        self.characteristics.put_on(line);
-        self.class.put_on(line);
-        self.sleepers.put_on(line);
-        self.reservations.put_on(line);
-        self.connection.put_on(line);
-        self.catering.put_on(line);
-        self.branding.put_on(line);
-        self.traction.put_on(line);
-        self.uic.put_on(line);
-        self.reserved_a.put_on(line);
     }
 }

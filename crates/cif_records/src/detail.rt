@@ -1,16 +1,18 @@
 //! What a schedule says of its train.
-ghost use Rattle.std.specs.Prelude.{◌≡◌, ◌+◌, ◌≤◌, ◌++◌, length, Some};
-ghost use Rattle.cif_columns.specs.Field.{AllFit, AllStandIn, plain_line};
+ghost use Rattle.std.specs.Prelude.{◌≡◌, Some};
+ghost use Rattle.cif_columns.specs.Field.{AllStandIn, plain_line};
 ghost use Rattle.cif_columns.specs.Line.{IsLine};
 ghost use Rattle.cif_records.specs.Detail.{alone_in, detail_in, detail_rows, detail_table};
 
+use crate::layout;
 use cif_columns::{Field, Line, LineBuilder, PlainTest, Text, columns_at, text_at};
+use std::fmt;
 
 /// How many columns of a basic schedule are of its detail: 30 to 78.
 pub(crate) const DETAIL_WIDTH: usize = 49;
 
 /// The fields of a basic schedule that say what runs; a cancellation has none.
-#[derive(Debug, Drop, PartialEq, Eq)]
+#[derive(Drop, PartialEq, Eq)]
 pub struct Detail {
     /// Column 30: the train status.
     pub status: Text<1>,
@@ -93,7 +95,23 @@ impl Detail {
     {
         let mut line = LineBuilder::new();
         line.put_spare::<29>();
-        self.put_on(&mut line);
+        self.status.put_on(&mut line);
+        self.category.put_on(&mut line);
+        self.identity.put_on(&mut line);
+        self.headcode.put_on(&mut line);
+        self.course.put_on(&mut line);
+        self.service_code.put_on(&mut line);
+        self.sector.put_on(&mut line);
+        self.power.put_on(&mut line);
+        self.timing_load.put_on(&mut line);
+        self.speed.put_on(&mut line);
+        self.characteristics.put_on(&mut line);
+        self.class.put_on(&mut line);
+        self.sleepers.put_on(&mut line);
+        self.reservations.put_on(&mut line);
+        self.connection.put_on(&mut line);
+        self.catering.put_on(&mut line);
+        self.branding.put_on(&mut line);
         line.put_spare::<2>();
         line.finish()
     }
@@ -111,31 +129,12 @@ impl Detail {
             Detail::read(line).write()
         }
     }
+}
 
-    /// Appends columns 30 to 78.
-    pub(crate) fn put_on(&self, line: &mut LineBuilder)
-        requires { length line.old + 49 ≤ 80 }
-        ensures columns { line.new ≡ line.old ++ plain_line (detail_rows (Some self.now)) }
-        ensures width { length line.new ≡ length line.old + 49 }
-        ensures fits { AllFit (detail_rows (Some self.now)) }
-    {
-        self.status.put_on(line);
-        self.category.put_on(line);
-        self.identity.put_on(line);
-        self.headcode.put_on(line);
-        self.course.put_on(line);
-        self.service_code.put_on(line);
-        self.sector.put_on(line);
-        self.power.put_on(line);
-        self.timing_load.put_on(line);
-        self.speed.put_on(line);
-        self.characteristics.put_on(line);
-        self.class.put_on(line);
-        self.sleepers.put_on(line);
-        self.reservations.put_on(line);
-        self.connection.put_on(line);
-        self.catering.put_on(line);
-        self.branding.put_on(line);
+/// The line of its own.
+impl fmt::Debug for Detail {
+    fn fmt<W: fmt::Write>(&self, f: &mut fmt::Formatter<W>) -> fmt::Result {
+        layout::debug(&self.write(), f)
     }
 }
 

@@ -4,7 +4,7 @@ ghost use Rattle.cif_columns.specs.Field.{plain_line};
 ghost use Rattle.cif_records.specs.Checks.{IsJudged};
 
 use crate::Record;
-use crate::layout::{self, Layout, check_identity};
+use crate::layout::{self, Layout, check_letters};
 use cif_columns::{Field, Line, LineBuilder, PlainTest, Refusal, Text, text_at};
 
 /// A record `BX` (the CIF End User Specification): further details of a basic schedule.
@@ -56,7 +56,7 @@ impl Layout for Extra {
 
     #[tactic(auto, unfolding(crate::specs::Extra::extra_refusal))]
     fn check(line: &Line) -> Result<(), Refusal> {
-        check_identity(line, b"BX")
+        check_letters(line, 1, b"BX", Refusal::UnknownRecord)
     }
 
     fn with(line: &Line, _checked: ()) -> Extra {

@@ -8,7 +8,7 @@ ghost use Rattle.cif_records.specs.Checks.{IsJudged};
 ghost use Rattle.cif_records.specs.HeaderColumns.{IsFull, kept, with_window as columns_with_window};
 
 use crate::Record;
-use crate::layout::{self, Dates, Layout, check_full, check_identity, window_date_at};
+use crate::layout::{self, Dates, Layout, check_letters, window_date_at};
 use cif_columns::{Day, Line, LineBuilder, Refusal, columns_at};
 
 /// Where the first date begins, at column 49 of the line, in what a header keeps, from column 3 on.
@@ -60,8 +60,8 @@ impl Layout for Header {
 
     #[tactic(auto, unfolding(crate::specs::Header::header_refusal))]
     fn check(line: &Line) -> Result<Dates, Refusal> {
-        check_identity(line, b"HD")?;
-        check_full(line)?;
+        check_letters(line, 1, b"HD", Refusal::UnknownRecord)?;
+        check_letters(line, 47, b"F", Refusal::NotFull)?;
         let first = window_date_at(line, 49)?;
         let last = window_date_at(line, 55)?;
         if first <= last {

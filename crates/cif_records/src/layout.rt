@@ -1,26 +1,27 @@
 //! What the kinds of record have in common: a table, and the checks of columns.
 ghost use Rattle.std.specs.Prelude.{◌≡◌, [], ◌∷◌, ◌≤◌, ◌+◌, ℕ, List, None, Option, Some, IsTrue};
-ghost use Rattle.std.specs.Prelude.{IfOk, true, codes};
+ghost use Rattle.std.specs.Prelude.{IfOk, Ok, is_some, true};
 ghost use Rattle.cif_columns.specs.Day.{ddmmyy_in, yymmdd_in};
 ghost use Rattle.cif_columns.specs.Field.{AllFit, AllStandIn, Row, StandsIn, is_whole_from};
-ghost use Rattle.cif_columns.specs.Field.{plain_line, columns, columns_from, date, indicator};
-ghost use Rattle.cif_columns.specs.Field.{public_time, weekdays, working_time};
+ghost use Rattle.cif_columns.specs.Field.{plain_line, columns, columns_from, date};
+ghost use Rattle.cif_columns.specs.Field.{public_time, working_time};
 ghost use Rattle.cif_columns.specs.LineBuilder.{put_all};
 ghost use Rattle.cif_columns.specs.declared.refusal.Refusal.{Refusal};
 ghost use Rattle.cif_records.specs.Bodies.{has_body};
-ghost use Rattle.cif_records.specs.Checks.{IsJudged, first_of, full_refusal, identity_refusal};
-ghost use Rattle.cif_records.specs.Checks.{transaction_refusal, date_refusal, dates_refusal};
-ghost use Rattle.cif_records.specs.Checks.{header_date_refusal, last_date_refusal};
-ghost use Rattle.cif_records.specs.Checks.{bank_holiday_refusal, days_refusal, letter_refusal};
+ghost use Rattle.cif_records.specs.Checks.{IsJudged, are, first_of, unless, dates_refusal};
+ghost use Rattle.cif_records.specs.Checks.{header_date_refusal, identity_refusal, last_date_refusal};
 ghost use Rattle.cif_records.specs.Checks.{public_time_refusal, work_time_refusal};
-ghost use Rattle.cif_records.specs.Record.{IsPlainOf, record_table, refusal_as};
+ghost use Rattle.cif_records.specs.Kind.{kind_in};
+ghost use Rattle.cif_records.specs.Record.{IsPlainOf, record_refusal, record_table, refusal_as};
 ghost use Rattle.cif_records.specs.declared.record.Kind.{Kind};
 ghost use Rattle.cif_records.specs.declared.record.Record.{Record};
 
 use crate::Record;
 use cif_columns::{
-    Day, DaysRun, Line, LineBuilder, PublicTime, Refusal, Stp, WorkTime, columns_at, field_at,
+    Day, Field, Line, LineBuilder, PublicTime, Refusal, Stp, WorkTime, as_text, columns_at,
+    field_at,
 };
+use std::fmt;
 
 /// A record that is laid out by a table: each row's value stands in the row's columns.
 pub(crate) trait Layout: Sized + Drop {
@@ -54,8 +55,8 @@ pub(crate) trait Layout: Sized + Drop {
     /// Whether the line spells a record and is its plain line. A `false` costs time alone, so the
     /// kinds of which there are few lines, or of which fields are read anyway, have no test.
     fn is_plain(line: &Line) -> bool
-        ensures { IsTrue result → (refusal line.now ≡ None)
-            × IsPlainOf Self table line.now line.now }
+        ensures { IsTrue result → IsJudged (record_refusal line.now)
+            (IsPlainOf Record record_table line.now) (Ok line.now) }
     {
         let _ = line;
         false
@@ -98,62 +99,57 @@ pub(crate) fn write<R: Layout>(value: &R) -> Line
     line.finish()
 }
 
-/// The plain line of the record that the line spells, or the first reason in column order why it
-/// spells none. Of a line that the kind's test knows for a plain one no record is built.
+/// The plain line of what the line, which names the kind of `R`, spells, or the first reason in
+/// column order why it spells none. Of a line that the kind's test knows for a plain one no record
+/// is built.
 pub(crate) fn plain_line_of<R: Layout>(line: &Line) -> Result<Line, Refusal>
-    ensures { IsJudged (R.refusal line.now) (IsPlainOf R R.table line.now) result }
+    requires { kind_in line.now ≡ Some R.kind }
+    ensures { IsJudged (record_refusal line.now) (IsPlainOf Record record_table line.now) result }
 {
     if R::is_plain(line) {
         return Ok(*line);
     }
-    let checked = R::check(line)?;
-    Ok(write(&R::with(line, checked)))
-}
-
-/// Refuses a line whose columns 1 and 2 aren't the identity of a kind.
-pub(crate) fn check_identity(line: &Line, letters: &[u8; 2]) -> Result<(), Refusal>
-    ensures { IsJudged (identity_refusal letters.now line.now)
-        (λ _. columns 1 2 line.now ≡ letters.now) result }
-{
-    if columns_at::<2>(line, 1) == *letters {
-        Ok(())
-    } else {
-        Err(Refusal::UnknownRecord)
+    match read::<R>(line) {
+        Ok(value) => Ok(write(&value)),
+        Err(why) => Err(why),
     }
 }
 
-/// Refuses a line whose column 3 isn't the transaction type of a full extract, `N`.
-pub(crate) fn check_transaction(line: &Line) -> Result<(), Refusal>
-    ensures { IsJudged (transaction_refusal line.now) (λ _. columns 3 3 line.now ≡ codes "N") result }
+/// Shows a record as its plain line, in quotes.
+pub(crate) fn debug<W: fmt::Write>(line: &Line, f: &mut fmt::Formatter<W>) -> fmt::Result {
+    fmt::Debug::fmt(as_text(line.bytes()), f)
+}
+
+/// Refuses a line for the reason `why`, if its columns from `at` on, counted from 1, aren't these
+/// letters.
+pub(crate) fn check_letters<const N: usize>(
+    line: &Line,
+    at: usize,
+    letters: &[u8; N],
+    why: Refusal,
+) -> Result<(), Refusal>
+    requires from_one { 1 ≤ at }
+    requires within { at + N ≤ 81 }
+    ensures { IsJudged (unless (are (columns_from at N line.now) letters.now) why)
+        (λ _. columns_from at N line.now ≡ letters.now) result }
 {
-    if columns_at(line, 3) == *b"N" {
+    if columns_at(line, at) == *letters {
         Ok(())
     } else {
-        Err(Refusal::NotFull)
+        Err(why)
     }
 }
 
-/// Refuses a line whose column 47 isn't the update indicator of a full extract, `F`.
-pub(crate) fn check_full(line: &Line) -> Result<(), Refusal>
-    ensures { IsJudged (full_refusal line.now) (λ _. columns 47 47 line.now ≡ codes "F") result }
+/// The value in the columns of a line from `at` on, counted from 1; `why` if there is none.
+pub(crate) fn field_or<F: Field>(line: &Line, at: usize, why: Refusal) -> Result<F, Refusal>
+    requires from_one { 1 ≤ at }
+    requires within { at + F.WIDTH ≤ 81 }
+    ensures judged { IsJudged (unless (is_some (F.value_in (columns_from at F.WIDTH line.now))) why)
+        (λ value. StandsIn (columns_from at F.WIDTH line.now) (F.shown value)) result }
+    ensures exact { IfOk result (λ value.
+        F.value_in (columns_from at F.WIDTH line.now) ≡ Some value) }
 {
-    if columns_at(line, 47) == *b"F" {
-        Ok(())
-    } else {
-        Err(Refusal::NotFull)
-    }
-}
-
-/// Refuses a line whose column 29 isn't a space, so that running on bank holidays is asked for.
-pub(crate) fn check_bank_holiday(line: &Line) -> Result<(), Refusal>
-    ensures { IsJudged (bank_holiday_refusal line.now)
-        (λ _. columns 29 29 line.now ≡ codes " ") result }
-{
-    if columns_at(line, 29) == *b" " {
-        Ok(())
-    } else {
-        Err(Refusal::BankHoliday)
-    }
+    field_at(line, at).ok_or(why)
 }
 
 /// The first and the last date of a record.
@@ -173,24 +169,13 @@ pub(crate) fn dates_at(line: &Line, at: usize) -> Result<Dates, Refusal>
         (λ dates. StandsIn (columns_from at 6 line.now) (date dates.first)
         × StandsIn (columns_from (at + 6) 6 line.now) (date dates.last)) result }
 {
-    let first = date_at(line, at)?;
+    let first = field_or(line, at, Refusal::BadDate)?;
     let last = last_date_at(line, at + 6)?;
     if first <= last {
         Ok(Dates { first, last })
     } else {
         Err(Refusal::DatesReversed)
     }
-}
-
-/// The date in the six columns of a line from `at` on, counted from 1.
-fn date_at(line: &Line, at: usize) -> Result<Day, Refusal>
-    requires from_one { 1 ≤ at }
-    requires within { at ≤ 75 }
-    ensures judged { IsJudged (date_refusal (columns_from at 6 line.now))
-        (λ day. StandsIn (columns_from at 6 line.now) (date day)) result }
-    ensures exact { IfOk result (λ day. yymmdd_in (columns_from at 6 line.now) ≡ Some day) }
-{
-    field_at(line, at).ok_or(Refusal::BadDate)
 }
 
 /// The last date in the six columns of a line from `at` on, counted from 1.
@@ -204,7 +189,7 @@ fn last_date_at(line: &Line, at: usize) -> Result<Day, Refusal>
     if columns_at(line, at) == *b"999999" {
         return Err(Refusal::OpenEnd);
     }
-    date_at(line, at)
+    field_or(line, at, Refusal::BadDate)
 }
 
 /// The date in the six columns of a line from `at` on, by day, month and year.
@@ -215,36 +200,6 @@ pub(crate) fn window_date_at(line: &Line, at: usize) -> Result<Day, Refusal>
         (λ day. ddmmyy_in (columns_from at 6 line.now) ≡ Some day) result }
 {
     Day::from_ddmmyy(&columns_at(line, at)).ok_or(Refusal::BadDate)
-}
-
-/// The mask in the seven columns of a line from `at` on, counted from 1.
-pub(crate) fn days_at(line: &Line, at: usize) -> Result<DaysRun, Refusal>
-    requires from_one { 1 ≤ at }
-    requires within { at ≤ 74 }
-    ensures { IsJudged (days_refusal (columns_from at 7 line.now))
-        (λ days. StandsIn (columns_from at 7 line.now) (weekdays days)) result }
-{
-    field_at(line, at).ok_or(Refusal::BadDays)
-}
-
-/// The working time in the five columns of a line from `at` on, counted from 1.
-pub(crate) fn work_time_at(line: &Line, at: usize) -> Result<WorkTime, Refusal>
-    requires from_one { 1 ≤ at }
-    requires within { at ≤ 76 }
-    ensures { IsJudged (work_time_refusal (columns_from at 5 line.now))
-        (λ time. StandsIn (columns_from at 5 line.now) (working_time time)) result }
-{
-    field_at(line, at).ok_or(Refusal::BadTime)
-}
-
-/// The public time in the four columns of a line from `at` on, counted from 1.
-pub(crate) fn public_time_at(line: &Line, at: usize) -> Result<PublicTime, Refusal>
-    requires from_one { 1 ≤ at }
-    requires within { at ≤ 77 }
-    ensures { IsJudged (public_time_refusal (columns_from at 4 line.now))
-        (λ time. StandsIn (columns_from at 4 line.now) (public_time time)) result }
-{
-    field_at(line, at).ok_or(Refusal::BadTime)
 }
 
 /// The times of the first or the last location of a journey.
@@ -266,19 +221,11 @@ pub(crate) fn end_times(line: &Line, letters: &[u8; 2]) -> Result<EndTimes, Refu
         × StandsIn (columns 11 15 line.now) (working_time times.working)
         × StandsIn (columns 16 19 line.now) (public_time times.public)) result }
 {
-    check_identity(line, letters)?;
+    check_letters(line, 1, letters, Refusal::UnknownRecord)?;
     Ok(EndTimes {
-        working: work_time_at(line, 11)?,
-        public: public_time_at(line, 16)?,
+        working: field_or(line, 11, Refusal::BadTime)?,
+        public: field_or(line, 16, Refusal::BadTime)?,
     })
-}
-
-/// The indicator in column 80.
-pub(crate) fn letter_of(line: &Line) -> Result<Stp, Refusal>
-    ensures { IsJudged (letter_refusal line.now)
-        (λ letter. StandsIn (columns 80 80 line.now) (indicator letter)) result }
-{
-    field_at(line, 80).ok_or(Refusal::BadStp)
 }
 
 /// Whether a record of this letter has a body: all but a cancellation have.

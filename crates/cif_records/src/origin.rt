@@ -9,9 +9,10 @@ use cif_columns::{
     Activities, Field, Line, LineBuilder, PlainTest, PublicTime, Refusal, Text, WorkTime,
     activities_at, text_at,
 };
+use std::fmt;
 
 /// A record `LO` (the CIF End User Specification): where a journey begins.
-#[derive(Debug, Drop, PartialEq, Eq)]
+#[derive(Drop, PartialEq, Eq)]
 pub struct Origin {
     /// Columns 3 to 9: the TIPLOC.
     pub location: Text<7>,
@@ -115,6 +116,13 @@ impl Layout for Origin {
     ghost same_table = { λ r. refl };
 
     ghost same_refusal = { λ line. refl };
+}
+
+/// Its plain line.
+impl fmt::Debug for Origin {
+    fn fmt<W: fmt::Write>(&self, f: &mut fmt::Formatter<W>) -> fmt::Result {
+        layout::debug(&self.write(), f)
+    }
 }
 
 impl Origin {

@@ -13,6 +13,7 @@ use crate::{
     Association, Basic, Change, Extra, Header, Origin, Stop, Terminus, Tiploc, Trailer, layout,
 };
 use cif_columns::{Line, Refusal, columns_at};
+use std::fmt;
 
 /// The kinds of record of the CIF End User Specification that this profile knows, by the
 /// identities in columns 1 and 2.
@@ -103,7 +104,7 @@ fn kind_among(kinds: &[Kind], letters: &[u8; 2]) -> Option<Kind>
 }
 
 /// A record of a full extract (the CIF End User Specification).
-#[derive(Debug, Drop, PartialEq, Eq)]
+#[derive(Drop, PartialEq, Eq)]
 pub enum Record {
     /// `HD`, the header.
     Header(Header),
@@ -125,6 +126,13 @@ pub enum Record {
     Terminus(Terminus),
     /// `ZZ`, the trailer.
     Trailer,
+}
+
+/// Its plain line.
+impl fmt::Debug for Record {
+    fn fmt<W: fmt::Write>(&self, f: &mut fmt::Formatter<W>) -> fmt::Result {
+        layout::debug(&write_record(self), f)
+    }
 }
 
 /// The record that the line spells, or the first reason why it spells none: UnknownRecord where
@@ -209,26 +217,18 @@ fn plain_line_of_any(kind: Kind, line: &Line) -> Result<Line, Refusal>
     ensures { IsJudged (record_refusal line.now) (IsPlainOf Record record_table line.now) result }
 {
     match kind {
-        Kind::Li => plain_line_as::<Stop>(line),
-        Kind::Cr => plain_line_as::<Change>(line),
-        Kind::Lt => plain_line_as::<Terminus>(line),
-        Kind::Lo => plain_line_as::<Origin>(line),
-        Kind::Bx => plain_line_as::<Extra>(line),
-        Kind::Bs => plain_line_as::<Basic>(line),
-        Kind::Aa => plain_line_as::<Association>(line),
-        Kind::Ti => plain_line_as::<Tiploc>(line),
-        Kind::Hd => plain_line_as::<Header>(line),
-        Kind::Zz => plain_line_as::<Trailer>(line),
+        Kind::Li => layout::plain_line_of::<Stop>(line),
+        Kind::Cr => layout::plain_line_of::<Change>(line),
+        Kind::Lt => layout::plain_line_of::<Terminus>(line),
+        Kind::Lo => layout::plain_line_of::<Origin>(line),
+        Kind::Bx => layout::plain_line_of::<Extra>(line),
+        Kind::Bs => layout::plain_line_of::<Basic>(line),
+        Kind::Aa => layout::plain_line_of::<Association>(line),
+        Kind::Ti => layout::plain_line_of::<Tiploc>(line),
+        Kind::Hd => layout::plain_line_of::<Header>(line),
+        Kind::Zz => layout::plain_line_of::<Trailer>(line),
         Kind::Td | Kind::Ta => Err(Refusal::NotFull),
     }
-}
-
-/// The plain line of what the line, which names the kind of `R`, is read as.
-fn plain_line_as<R: Layout>(line: &Line) -> Result<Line, Refusal>
-    requires { kind_in line.now ≡ Some R.kind }
-    ensures { IsJudged (record_refusal line.now) (IsPlainOf Record record_table line.now) result }
-{
-    layout::plain_line_of::<R>(line)
 }
 
 /// Whether the line is the plain line of a record of this kind, and spells it, as far as one pass
@@ -240,25 +240,16 @@ pub fn is_plain_line(kind: Kind, line: &Line) -> bool
         (IsPlainOf Record record_table line.now) (Ok line.now) }
 {
     match kind {
-        Kind::Li => is_plain_as::<Stop>(line),
-        Kind::Cr => is_plain_as::<Change>(line),
-        Kind::Lt => is_plain_as::<Terminus>(line),
-        Kind::Lo => is_plain_as::<Origin>(line),
-        Kind::Bx => is_plain_as::<Extra>(line),
-        Kind::Bs => is_plain_as::<Basic>(line),
-        Kind::Aa => is_plain_as::<Association>(line),
-        Kind::Ti => is_plain_as::<Tiploc>(line),
-        Kind::Hd => is_plain_as::<Header>(line),
-        Kind::Zz => is_plain_as::<Trailer>(line),
+        Kind::Li => Stop::is_plain(line),
+        Kind::Cr => Change::is_plain(line),
+        Kind::Lt => Terminus::is_plain(line),
+        Kind::Lo => Origin::is_plain(line),
+        Kind::Bx => Extra::is_plain(line),
+        Kind::Bs => Basic::is_plain(line),
+        Kind::Aa => Association::is_plain(line),
+        Kind::Ti => Tiploc::is_plain(line),
+        Kind::Hd => Header::is_plain(line),
+        Kind::Zz => Trailer::is_plain(line),
         Kind::Ta | Kind::Td => false,
     }
-}
-
-/// Whether the line is the plain line of an `R`, and spells it.
-#[inline]
-fn is_plain_as<R: Layout>(line: &Line) -> bool
-    ensures { IsTrue result → IsJudged (record_refusal line.now)
-        (IsPlainOf Record record_table line.now) (Ok line.now) }
-{
-    R::is_plain(line)
 }

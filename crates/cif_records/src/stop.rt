@@ -5,15 +5,16 @@ ghost use Rattle.cif_columns.specs.Line.{IsLine};
 ghost use Rattle.cif_records.specs.Checks.{IsJudged};
 
 use crate::Record;
-use crate::layout::{self, Layout, check_identity, public_time_at, work_time_at};
+use crate::layout::{self, Layout, check_letters, field_or};
 use cif_columns::{
     Activities, Field, LINE_WIDTH, Line, LineBuilder, PlainTest, PublicTime, Refusal, Text,
     WorkTime, activities_at, text_at,
 };
+use std::fmt;
 
 /// A record `LI` (the CIF End User Specification): where a journey stops or passes. Which of its
 /// working times are there isn't checked.
-#[derive(Debug, Drop, PartialEq, Eq)]
+#[derive(Drop, PartialEq, Eq)]
 pub struct Stop {
     /// Columns 3 to 9: the TIPLOC.
     pub location: Text<7>,
@@ -92,13 +93,13 @@ impl Layout for Stop {
 
     #[tactic(auto, unfolding(crate::specs::Stop::stop_refusal))]
     fn check(line: &Line) -> Result<StopTimes, Refusal> {
-        check_identity(line, b"LI")?;
+        check_letters(line, 1, b"LI", Refusal::UnknownRecord)?;
         Ok(StopTimes {
-            arrival: work_time_at(line, 11)?,
-            departure: work_time_at(line, 16)?,
-            pass: work_time_at(line, 21)?,
-            public_arrival: public_time_at(line, 26)?,
-            public_departure: public_time_at(line, 30)?,
+            arrival: field_or(line, 11, Refusal::BadTime)?,
+            departure: field_or(line, 16, Refusal::BadTime)?,
+            pass: field_or(line, 21, Refusal::BadTime)?,
+            public_arrival: field_or(line, 26, Refusal::BadTime)?,
+            public_departure: field_or(line, 30, Refusal::BadTime)?,
         })
     }
 
@@ -153,6 +154,13 @@ impl Layout for Stop {
     ghost same_table = { λ r. refl };
 
     ghost same_refusal = { λ line. refl };
+}
+
+/// Its plain line.
+impl fmt::Debug for Stop {
+    fn fmt<W: fmt::Write>(&self, f: &mut fmt::Formatter<W>) -> fmt::Result {
+        layout::debug(&self.write(), f)
+    }
 }
 
 impl Stop {

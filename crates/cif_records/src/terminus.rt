@@ -9,9 +9,10 @@ use cif_columns::{
     Activities, Field, Line, LineBuilder, PlainTest, PublicTime, Refusal, Text, WorkTime,
     activities_at, text_at,
 };
+use std::fmt;
 
 /// A record `LT` (the CIF End User Specification): where a journey ends.
-#[derive(Debug, Drop, PartialEq, Eq)]
+#[derive(Drop, PartialEq, Eq)]
 pub struct Terminus {
     /// Columns 3 to 9: the TIPLOC.
     pub location: Text<7>,
@@ -103,6 +104,13 @@ impl Layout for Terminus {
     ghost same_table = { λ r. refl };
 
     ghost same_refusal = { λ line. refl };
+}
+
+/// Its plain line.
+impl fmt::Debug for Terminus {
+    fn fmt<W: fmt::Write>(&self, f: &mut fmt::Formatter<W>) -> fmt::Result {
+        layout::debug(&self.write(), f)
+    }
 }
 
 impl Terminus {

@@ -7,7 +7,7 @@ ghost use Rattle.cif_columns.specs.Line.{ArePrintable};
 ghost use Rattle.cif_records.specs.Checks.{IsJudged};
 
 use crate::Record;
-use crate::layout::{self, Layout, check_identity};
+use crate::layout::{self, Layout, check_letters};
 use cif_columns::{Line, LineBuilder, Refusal, columns_at};
 
 /// A record `TI` (the CIF End User Specification): a location by its TIPLOC, and its other codes.
@@ -43,7 +43,7 @@ impl Layout for Tiploc {
 
     #[tactic(auto, unfolding(crate::specs::Tiploc::tiploc_refusal))]
     fn check(line: &Line) -> Result<(), Refusal> {
-        check_identity(line, b"TI")
+        check_letters(line, 1, b"TI", Refusal::UnknownRecord)
     }
 
     fn with(line: &Line, _checked: ()) -> Tiploc {

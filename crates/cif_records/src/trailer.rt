@@ -5,7 +5,7 @@ ghost use Rattle.cif_records.specs.Checks.{IsJudged};
 ghost use Rattle.cif_records.specs.Trailer.{trailer_refusal, trailer_table};
 
 use crate::Record;
-use crate::layout::{self, Layout, check_identity};
+use crate::layout::{self, Layout, check_letters};
 use cif_columns::{Line, LineBuilder, Refusal};
 
 /// A record `ZZ` (the CIF End User Specification): the last record of an extract, which says
@@ -33,7 +33,7 @@ impl Layout for Trailer {
 
     #[tactic(auto, unfolding(crate::specs::Trailer::trailer_refusal))]
     fn check(line: &Line) -> Result<(), Refusal> {
-        check_identity(line, b"ZZ")
+        check_letters(line, 1, b"ZZ", Refusal::UnknownRecord)
     }
 
     fn with(_line: &Line, _checked: ()) -> Trailer {

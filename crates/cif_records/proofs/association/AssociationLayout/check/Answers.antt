@@ -5,9 +5,9 @@ use Rattle.cif_records.proofs.association.AssociationLayout.check.Goals as goal
 pub returns : goal.returns
 unfolding association_refusal
 returns c =
-    let identity = c.in_ok-check_identity.ensures in
-    let transaction = c.in_ok-check_transaction.ensures in
-    let dates = c.in_ok-dates.ensures in
-    let days = c.in_ok-days.ensures in
-    let letter = c.in_ok-letter.ensures in
+    let identity = c.in_ok-check_letters.ensures in
+    let transaction = c.in_ok-check_letters-2.ensures in
+    let dates = c.in_ok-dates_at.ensures in
+    let days = c.in_ok-field_or.ensures.judged in
+    let letter = c.in_ok-field_or-2.ensures.judged in
     (rw (identity.0, transaction.0, dates.0, days.0, letter.0), (identity.1, transaction.1, dates.1.0, dates.1.1, days.1, letter.1))

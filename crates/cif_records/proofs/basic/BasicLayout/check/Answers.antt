@@ -7,12 +7,12 @@ use Rattle.cif_records.proofs.basic.BasicLayout.check.Goals as goal
 pub returns : goal.returns
 unfolding basic_refusal
 returns c =
-    let identity = c.in_ok-check_identity.ensures in
-    let transaction = c.in_ok-check_transaction.ensures in
+    let identity = c.in_ok-check_letters.ensures in
+    let transaction = c.in_ok-check_letters-2.ensures in
     let dates = c.in_ok-dates.ensures in
-    let days = c.in_ok-days.ensures in
-    let bank = c.in_ok-check_bank_holiday.ensures in
-    let letter = c.in_ok-letter.ensures in (
+    let days = c.in_ok-days.ensures.judged in
+    let bank = c.in_ok-check_letters-3.ensures in
+    let letter = c.in_ok-letter.ensures.judged in (
       rw (identity.0, transaction.0, dates.0, days.0, bank.0, letter.0),
       (
         identity.1 & transaction.1 & sym c.uid_at.ensures & dates.1.0 & dates.1.1 & days.1 & bank.1 & tt,

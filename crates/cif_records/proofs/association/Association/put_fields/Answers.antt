@@ -1,0 +1,21 @@
+-- Each row is put behind those before (`put`), and fits, as the call that put it says.
+use Rattle.std.proofs.Common.{codes, refl}
+use Rattle.cif_columns.proofs.PrintableBytes.{printable_fact}
+use Rattle.cif_records.proofs.Rows.{◌&◌, put}
+use Rattle.cif_records.proofs.association.Association.put_fields.Goals as goal
+
+pub returns-clause-columns : goal.returns-clause-columns
+returns-clause-columns c =
+    put _ c.put_on-13.ensures.columns (put _ c.put_spare.ensures.columns (put _ c.put_on-12.ensures.columns (
+    put _ c.put_on-11.ensures.columns (put _ c.put_on-10.ensures.columns (put _ c.put_on-9.ensures.columns (
+    put _ c.put_on-8.ensures.columns (put _ c.put_on-7.ensures.columns (put _ c.put_on-6.ensures.columns (
+    put _ c.put_on-5.ensures.columns (put _ c.put_on-4.ensures.columns (put _ c.put_on-3.ensures.columns (
+    put _ c.put_on-2.ensures.columns (put _ c.put_on.ensures.columns (
+    put _ c.put_columns.ensures.columns c.requires))))))))))))))
+
+pub returns-clause-fits : goal.returns-clause-fits
+returns-clause-fits c =
+    (refl & printable_fact (codes "AA") refl) & (refl & printable_fact (codes "N") refl) & c.put_on.ensures.fits
+    & c.put_on-2.ensures.fits & c.put_on-3.ensures.fits & c.put_on-4.ensures.fits & c.put_on-5.ensures.fits & c.put_on-6.ensures.fits
+    & c.put_on-7.ensures.fits & c.put_on-8.ensures.fits & c.put_on-9.ensures.fits & c.put_on-10.ensures.fits & c.put_on-11.ensures.fits
+    & c.put_on-12.ensures.fits & tt & c.put_on-13.ensures.fits & tt

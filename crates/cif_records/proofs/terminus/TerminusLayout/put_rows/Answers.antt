@@ -1,0 +1,10 @@
+-- Each row fits, as the call that put it says.
+use Rattle.std.proofs.Common.{codes, refl}
+use Rattle.cif_columns.proofs.PrintableBytes.{printable_fact}
+use Rattle.cif_records.proofs.Rows.{◌&◌}
+use Rattle.cif_records.proofs.terminus.TerminusLayout.put_rows.Goals as goal
+
+pub returns-clause-fits : goal.returns-clause-fits
+returns-clause-fits c =
+    (refl & printable_fact (codes "LT") refl) & c.put_on.ensures.fits & c.put_on-2.ensures.fits & c.put_on-3.ensures.fits
+    & c.put_on-4.ensures.fits & c.put_on-5.ensures.fits & c.put_on-6.ensures.fits & c.put_on-7.ensures.fits & tt & tt
