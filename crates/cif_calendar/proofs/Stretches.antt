@@ -183,3 +183,22 @@ module _ {B : Type 0} (xs : List (Terms B)) (members ms ns : List ℕ) (end : �
   merged-all from to [] right both none m = subst (λ d. AreStretches xs members (ms ++ ns) end from d both) m.of_left m.of_both
   merged-all from to (s ∷ ss) [] both none m = subst (λ d. AreStretches xs members (ms ++ ns) end from d both) m.of_right m.of_both
   merged-all from to (s ∷ ss) (t ∷ ts) both none m = absurd (none (omega arith) (omega arith))
+
+-- the stretches that are left of one list: fewer, if the first of them has ended
+left-fewer : (ss rest : List Stretch) (day : ℕ) → AreBehind ss day rest → (length rest ≤ length ss) × ((s : Stretch) →
+    0 < length ss → s ≡ get_or ss 0 s → s.last ≤ day → length rest < length ss)
+left-fewer [] rest day is = (omega (arith, ap length is), λ s some at ended. absurd (omega arith))
+left-fewer (u ∷ ss) rest day is = ⊎_elim
+    (λ h. (omega (arith, ap length h.1), λ s some at ended. omega (arith, ap length h.1)))
+    (λ h. (omega (arith, ap length h.1), λ s some at ended. absurd (omega (arith, h.0, ap (λ (v : Stretch). v.last) at, ended))))
+    is
+
+-- the stretch of both ends with the sooner of two, so there are fewer left
+pub fewer-left : {B : Type 0} (left right left_then right_then : List Stretch) (one other both : Stretch) (xs : List (Terms B))
+    (members : List ℕ) → 0 < length left → 0 < length right → one ≡ get_or left 0 one → other ≡ get_or right 0 other →
+    IsJoint xs members one other both → AreBehind left both.last left_then → AreBehind right both.last right_then →
+    length left_then + length right_then < length left + length right
+fewer-left left right left_then right_then one other both xs members some also is there joint behind also_behind =
+    let l = left-fewer left left_then both.last behind in
+    let r = left-fewer right right_then both.last also_behind in
+    ⊎_elim (λ e. omega (arith, l.1 one some is (omega arith), r.0)) (λ e. omega (arith, l.0, r.1 other also there (omega arith))) joint.ends

@@ -40,10 +40,10 @@ calls_more calls i call within is =
     ∙ ap (λ cs. map record_table (map call_record cs)) (sym e)
 
 -- the lines of the detail and further details, and then of the journey
-pub whole_body : (p : BodyParts) (empty first all : List (List ℕ)) → empty ≡ []
-    → KeepMore empty first (kept_tables p.detail (extra_records p.extra))
-    → KeepMore first all (map record_table (journey_records p.origin p.calls p.terminus)) → KeepBody all p
-whole_body p empty first all none m n =
+pub whole_body : (p : BodyParts) (empty all : List (List ℕ)) → empty ≡ []
+    → KeepMore empty all (kept_tables p.detail (extra_records p.extra)
+    ++ map record_table (journey_records p.origin p.calls p.terminus)) → KeepBody all p
+whole_body p empty all none m =
     let journey = journey_records p.origin p.calls p.terminus in
     subst (λ tables. KeepAll all (detail_table p.detail ∷ tables)) (sym (map-append record_table (extra_records p.extra) journey))
-    (n _ (m [] (subst (λ lines. KeepAll lines []) (sym none) tt)))
+    (m [] (subst (λ lines. KeepAll lines []) (sym none) tt))

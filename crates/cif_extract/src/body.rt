@@ -1,5 +1,5 @@
 //! What runs on a schedule's dates.
-ghost use Rattle.std.specs.Prelude.{◌≡◌, ◌↔◌, IfOk, IfSome, IsTrue, OnOk, Some, is_some, map, option_copied};
+ghost use Rattle.std.specs.Prelude.{◌≡◌, ◌↔◌, ◌++◌, IfOk, IfSome, IsTrue, OnOk, Some, is_some, map, option_copied};
 ghost use Rattle.cif_extract.specs.Body.{KeepAll, KeepJourney, KeepMore, KeepSomeBody, is_extra, kept_tables, parts_in};
 ghost use Rattle.cif_extract.specs.BodyParts.{body_records, extra_records, journey_records};
 ghost use Rattle.cif_columns.specs.Field.{AllFit, AllStandIn, plain_line};
@@ -34,28 +34,24 @@ impl Model for Body {
     ghost invariant = { λ b. KeepSomeBody b.lines };
 }
 
-/// Appends the plain line of the detail and that of the BX, if there is one.
-fn push_detail(lines: &mut Lines, detail: &Detail, extra: Option<&Extra>) -> Result<(), AllocError>
-    ensures { OnOk result (KeepMore lines.old lines.new
-        (kept_tables detail.now (extra_records (option_copied extra.entry)))) }
-{
-    lines.push(&detail.write())?;
-    match extra {
-        Some(extra) => lines.push(&extra.write()),
-        None => Ok(()),
-    }
-}
-
-/// Appends the plain lines of the journey, from LO to LT.
-fn push_journey(
+/// Appends the plain lines of these parts: of the detail, of the BX if there is one, and of the journey
+/// from LO to LT.
+fn push_parts(
     lines: &mut Lines,
+    detail: &Detail,
+    extra: Option<&Extra>,
     origin: &Origin,
     calls: &[Call],
     terminus: &Terminus,
 ) -> Result<(), AllocError>
     ensures { OnOk result (KeepMore lines.old lines.new
-        (map record_table (journey_records origin.now calls.now terminus.now))) }
+        (kept_tables detail.now (extra_records (option_copied extra.entry))
+        ++ map record_table (journey_records origin.now calls.now terminus.now))) }
 {
+    lines.push(&detail.write())?;
+    if let Some(extra) = extra {
+        lines.push(&extra.write())?;
+    }
     lines.push(&origin.write())?;
     for call in calls {
         lines.push(&call.write())?;
@@ -85,8 +81,7 @@ impl Body {
     {
         let count = 3 + usize::from(extra.is_some()) + calls.len();
         let mut lines = Lines::with_capacity(alloc, count)?;
-        push_detail(&mut lines, detail, extra)?;
-        push_journey(&mut lines, origin, calls, terminus)?;
+        push_parts(&mut lines, detail, extra, origin, calls, terminus)?;
         Ok(Body { lines })
     }
 

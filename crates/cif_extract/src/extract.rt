@@ -22,34 +22,19 @@ pub struct Extract {
 // What an extract says fits the columns of lines. That is known of each value where it is at hand. So the
 // functions `fits` go through the values and do nothing: the compiler leaves nothing of them.
 impl Extract {
-    ghost use Rattle.std.specs.Prelude.{map};
-    ghost use Rattle.std.specs.List.{flat_map};
     ghost use Rattle.cif_extract.specs.ExtractParts.{extract_parts};
-    ghost use Rattle.cif_extract.specs.Texts.{AllTablesFit, FitsColumns, tables_of};
-    ghost use Rattle.cif_records.specs.Association.{association_table};
+    ghost use Rattle.cif_extract.specs.Texts.{FitsColumns};
 
     /// A law for proofs: what an extract says fits the columns of lines. So its text spells it.
     #[inline]
     pub fn fits(&self)
         ensures { FitsColumns (extract_parts self.now) }
     {
-        Extract::associations_fit(self.associations.as_slice());
-        Extract::schedules_fit(self.schedules.as_slice());
-    }
-
-    #[inline]
-    fn associations_fit(associations: &[Association])
-        ensures { AllTablesFit (map association_table associations.now) }
-    {
+        let associations = self.associations.as_slice();
         for association in associations {
             association.fits();
         }
-    }
-
-    #[inline]
-    fn schedules_fit(schedules: &[Schedule])
-        ensures { AllTablesFit (flat_map tables_of schedules.now) }
-    {
+        let schedules = self.schedules.as_slice();
         for schedule in schedules {
             schedule.fits();
         }

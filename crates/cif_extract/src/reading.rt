@@ -173,8 +173,8 @@ impl Reading {
             opened: _,
             lines: _,
         } = self;
-        match header {
-            Some(header) if matches!(place, Place::Ended) => Ok(Extract {
+        match (place, header) {
+            (Place::Ended, Some(header)) => Ok(Extract {
                 header,
                 tiplocs,
                 associations,

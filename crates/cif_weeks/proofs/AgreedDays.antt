@@ -1,42 +1,26 @@
 -- On which weekdays two weeks have to agree, and weekday by weekday whether they do.
-use Rattle.std.proofs.Common.{◌≡◌, ℕ, ◌+◌, ◌-◌, ◌*◌, ◌<◌, ◌≤◌, Bool, List, leb}
-use Rattle.std.proofs.Common.{sym, arith, subst}
-use Rattle.std.specs.Prelude.{◌↔◌, IsTrue}
-use Rattle.std.proofs.lemmas.Bool.{leb-true, le-leb}
-use Rattle.cif_columns.specs.Day.{week_of, weekday_of}
+use Rattle.std.proofs.Common.{◌≡◌, ℕ, ◌+◌, ◌-◌, ◌*◌, ◌<◌, ◌≤◌, Bool, List, arith, subst, sym}
+use Rattle.std.specs.Prelude.{◌↔◌}
 use Rattle.cif_columns.specs.DaysRun.{RunsOn}
 use Rattle.cif_weeks.specs.declared.form.Form.{Form}
 use Rattle.cif_weeks.specs.declared.form.Form.TheVariants.{Two}
 use Rattle.cif_weeks.specs.Window.{Window}
 use Rattle.cif_weeks.specs.Steps.WeekMasks.{Counts, MasksAgree}
 
--- form 2: the day of the weekday and the day seven later lie in the window
-pub counts-within : (window : Window) (week next w n : ℕ) → week + 1 ≡ next → week_of n ≡ next → weekday_of n ≡ w →
-    window.first + 7 ≤ n → n ≤ window.last → Counts Two window week w
-counts-within window week next w n is in_week day from upto = (
-  n - 7,
+-- form 2: a weekday counts where its date in the next week, as days from the first Monday, and that a week before lie in the window
+pub counts-if : (window : Window) (week next w : ℕ) → w < 7 → week + 1 ≡ next → window.first + 11 ≤ next * 7 + w →
+    next * 7 + w ≤ window.last + 4 → Counts Two window week w
+counts-if window week next w below is from upto = (
+  next * 7 + w - 11,
   omega arith,
   omega arith,
   record { from = omega arith; upto = omega arith },
   record { from = omega arith; upto = omega arith },
 )
 
-pub counted-within : (window : Window) (week next w : ℕ) → week + 1 ≡ next → Counts Two window week w →
-    (n : ℕ) × (week_of n ≡ next) × (weekday_of n ≡ w) × (window.first + 7 ≤ n) × (n ≤ window.last)
-counted-within window week next w is (n, in_week, day, within, later) =
-    let from : window.first ≤ n = within.from in
-    let upto : n + 7 ≤ window.last = later.upto in
-    (n + 7, omega arith, omega arith, omega arith, upto)
-
--- the date of a weekday in a week, as the days from the first Monday to it tell whether it is up to a day
-pub tested-date : (first last next w upto : ℕ) → w < 7 → first + 11 ≤ next * 7 + w → upto ≡ last + 4 →
-    IsTrue (leb (next * 7 + w) upto)
-    ↔ ((n : ℕ) × (week_of n ≡ next) × (weekday_of n ≡ w) × (first + 7 ≤ n) × (n ≤ last))
-tested-date first last next w upto below from is = (
-  λ on. let within : next * 7 + w ≤ upto = leb-true (next * 7 + w) upto on in
-      (next * 7 + w - 4, omega arith, omega arith, omega arith, omega arith),
-  λ (n, in_week, day, _, within). le-leb (next * 7 + w) upto (omega arith),
-)
+pub counts-only : (window : Window) (week next w : ℕ) → week + 1 ≡ next → Counts Two window week w →
+    (window.first + 11 ≤ next * 7 + w) × (next * 7 + w ≤ window.last + 4)
+counts-only window week next w is (n, in_week, day, within, later) = (omega (arith, within.from), omega (arith, later.upto))
 
 -- the masks agree on the weekdays before k
 pub record AgreeUpTo (form : Form) (window : Window) (next k : ℕ) (x y : List Bool) : Type 0 where

@@ -1,15 +1,15 @@
 -- The spans of a calendar's pieces: one span more, one piece more, and all of them by their sources.
 use Rattle.std.proofs.Common.{◌≡◌, ◌⊎◌, inl, inr, ◌↔◌, ℕ, ◌+◌, ◌-◌, ◌<◌, ◌≤◌, Bool, true, false, List, [], ◌∷◌, ◌++◌, None, Some, length}
-use Rattle.std.proofs.Common.{get_or, drop, ltb, ltb-true, ltb-false}
-use Rattle.std.proofs.Common.{arith, refl, sym, ◌∙◌, ap, subst, ⊎_elim}
-use Rattle.std.specs.Prelude.{Contains, IsPermutation, slice_get}
+use Rattle.std.proofs.Common.{get_or, drop, ltb, ltb-true, ltb-false, length-append, arith, refl, sym, ◌∙◌, ap, subst, ⊎_elim}
+use Rattle.std.specs.Prelude.{All, Contains, IsPermutation, slice_get}
 use Rattle.std.specs.List.Sorted.{IsNonDecreasingBy, IsPartitionPoint, IsPartitionedBy}
-use Rattle.std.proofs.lemmas.Bool.{cases_lt}
+use Rattle.std.proofs.lemmas.Bool.{cases_lt, le-ltb}
 use Rattle.std.proofs.lemmas.List.Elements.{All-contains, Contains-append_left, Contains-get_or, Contains-push, Contains-push_cases}
 use Rattle.std.proofs.lemmas.List.Sorted.{Contains-permutation, IsNonDecreasingBy-push, IsNonDecreasingBy-short}
 use Rattle.std.proofs.lemmas.List.Sorted.{IsPartitionedBy-ltb, IsPermutation-sym}
 use Rattle.std.proofs.lemmas.Option.{get_or_from_slice_get, slice_get-get_or, slice_get_within}
-use Rattle.std.proofs.lemmas.List.{drop_more}
+use Rattle.std.proofs.lemmas.List.{drop_more, get_or_append_left}
+use Rattle.std.proofs.Math.Seq.{get_or-append_seam}
 use Rattle.cif_columns.specs.Day.{week_of, weekday_of}
 use Rattle.cif_columns.specs.DaysRun.{RunsOn}
 use Rattle.cif_columns.specs.Stp.{letter}
@@ -21,11 +21,11 @@ use Rattle.cif_calendar.specs.Terms.{Terms}
 use Rattle.cif_calendar.specs.declared.key_calendar.Piece.{Piece}
 use Rattle.cif_calendar.proofs.PieceLists.{tiles-ends}
 use Rattle.cif_weeks.specs.Runs.{AreSources}
-use Rattle.cif_weeks.specs.Steps.PieceSpans.{AreInOrder, AreNear, AreSpansBefore, AreSpansOn, HasBodyOn, HasDate, IsPieceSpan}
+use Rattle.cif_weeks.specs.Steps.PieceSpans.{AreInOrder, AreNear, AreSpansBefore, AreSpansOn, HasBodyOn, IsPieceSpan, IsWinnerOn}
 use Rattle.cif_weeks.specs.Steps.PieceSpans.{body_in, source_in}
 use Rattle.cif_weeks.specs.Steps.Spans.{HasDay, IsSourceAmong}
 use Rattle.cif_weeks.specs.declared.span.Span.{Span}
-use Rattle.cif_weeks.proofs.Cuts.{cut-cases, cut-rest}
+use Rattle.cif_weeks.proofs.Cuts.{Contains-drop, cut-cases, cut-rest}
 use Rattle.cif_weeks.proofs.Growth.{body-source, has-below, inside, source-body}
 use Rattle.cif_weeks.proofs.SourcesIn.{source_in-piece}
 use Rattle.cif_weeks.proofs.RisingLists.{Contains-none}
@@ -109,6 +109,19 @@ pub rises-for : (week : ℕ) (spans : List Span) → IsNonDecreasingBy (λ (s : 
 rises-for week spans rising = IsPartitionedBy-ltb (λ (s : Span). s.last_week + 1) spans week
     (λ i j d upto below. omega (arith, rising i j d upto below))
 
+-- a span is added that doesn't end before the week
+pub point-more : (week : ℕ) (spans : List Span) (u : Span) (place : ℕ) → place ≤ length spans → week ≤ u.last_week + 1 →
+    EndBefore week spans place → EndBefore week (spans ++ u ∷ []) place
+point-more week spans u place within late point = (
+  λ k d from below. subst (Gone week) (sym (get_or_append_left spans (u ∷ []) d k (omega arith))) (point.0 k d from below),
+  λ k d from below. ⊎_elim
+      (λ old. subst (Late week) (sym (get_or_append_left spans (u ∷ []) d k old)) (point.1 k d from old))
+      (λ end. let at : k ≡ length spans = omega (arith, length-append spans (u ∷ [])) in
+      subst (Late week) (sym (ap (λ j. get_or (spans ++ u ∷ []) j d) at ∙ get_or-append_seam spans u [] d))
+      (le-ltb (u.last_week + 1) week late))
+      (cases_lt k (length spans)),
+)
+
 -- a span that shows the body on the day is still there
 still : (Is : Span → Type 0) (spans : List Span) (n : ℕ) (u : Span) → ((s : Span) × Contains spans s × HasDay s n × Is s) →
     (s : Span) × Contains (spans ++ u ∷ []) s × HasDay s n × Is s
@@ -151,9 +164,10 @@ module _ {B : Type 0} (xs : List (Terms B)) (c : CalendarParts) where
             ap (body_at xs) (sym is) ∙ runs,
           )
 
-      -- a winner of a weekday that the piece has is the position of a body
-      pub winner-body : (n i : ℕ) → p.first ≤ n → n ≤ p.last → winner_of p n ≡ Some i → (b : B) × (body_at xs (Some i) ≡ Some b)
-      winner-body n i from upto is = source-body xs c sources n i (source_in-piece c p of.tiles of.listed n from upto ∙ is)
+      -- a winner of a weekday is the position of a body
+      winner-body : (w i : ℕ) → IsWinnerOn p w i → (b : B) × (body_at xs (Some i) ≡ Some b)
+      winner-body w i ((n, from, upto, day), is) = source-body xs c sources n i
+          (source_in-piece c p of.tiles of.listed n from upto ∙ ap (λ v. get_or p.winners v None) day ∙ is)
 
       -- one span more
       module _ (spans : List Span) (taken days both : List Bool) (u : Span) (winner weekday ended : ℕ)
@@ -162,19 +176,16 @@ module _ {B : Type 0} (xs : List (Terms B)) (c : CalendarParts) where
           (begins : u.first_week ≡ week_of p.first) (ends : u.last_week ≡ week_of p.last) (is_P : u.letter ≡ letter P)
           (same : body_at xs (Some u.source) ≡ body_at xs (Some winner))
           (among : IsSourceAmong xs (drop ended spans) winner u.source)
-          (wins : get_or p.winners weekday None ≡ Some winner)
-          (dated : HasDate p weekday)
+          (wins : IsWinnerOn p weekday winner)
           (of_body : (w : ℕ) → RunsOn days w ↔ HasBodyOn xs p u.source w)
           (united : (w : ℕ) → RunsOn both w ↔ (RunsOn taken w ⊎ RunsOn days w)) where
         has-body : (b : B) × (body_at xs (Some u.source) ≡ Some b)
-        has-body =
-            let (n, from, upto, day) = dated in
-            let (b, is) = winner-body n winner from upto (ap (λ w. get_or p.winners w None) day ∙ wins) in (b, same ∙ is)
+        has-body = let (b, is) = winner-body weekday winner wins in (b, same ∙ is)
 
         its-runs : (n : ℕ) → HasDay u n → body_in xs c n ≡ body_at xs (Some u.source)
         its-runs n has =
             let (from, upto, on) = (own n).0 has in
-            let (_, (i, is, one)) = (of_body (weekday_of n)).0 on in
+            let (i, (_, is), one) = (of_body (weekday_of n)).0 on in
             ap (body_at xs) (source_in-piece c p of.tiles of.listed n from upto ∙ is) ∙ sym one
 
         near : (s : Span) → Contains (drop ended spans) s → Contains spans s × (week_of p.first ≤ s.last_week + 1)
@@ -242,7 +253,7 @@ module _ {B : Type 0} (xs : List (Terms B)) (c : CalendarParts) where
 
       -- all weekdays that have a winner are taken
       pub spans-all : (spans : List Span) (taken : List Bool) →
-          ((w i : ℕ) → w < 7 → HasDate p w → get_or p.winners w None ≡ Some i → RunsOn taken w) →
+          ((w i : ℕ) → w < 7 → IsWinnerOn p w i → RunsOn taken w) →
           AreSpansOn xs c (KnownIn p taken) spans → AreSpansOn xs c (λ n. n < p.last + 1) spans
       spans-all spans taken done a = spans-known spans
           (λ n b before runs. ⊎_elim
@@ -250,16 +261,22 @@ module _ {B : Type 0} (xs : List (Terms B)) (c : CalendarParts) where
           (λ from.
           let upto : n ≤ p.last = omega arith in
           let (i, is, has) = piece-body n b from upto runs in
-          inr (from, upto, done (weekday_of n) i (omega arith) (n, from, upto, refl) is))
+          inr (from, upto, done (weekday_of n) i (omega arith) ((n, from, upto, refl), is)))
           (cases_lt n p.first)) a
 
-      -- the source of a span is the position of an entry
-      pub winner-below : (n i : ℕ) → p.first ≤ n → n ≤ p.last → winner_of p n ≡ Some i → i < length xs
-      winner-below n i from upto is = let (b, has) = winner-body n i from upto is in has-below xs c sources i b has
+      -- the source of a winner's body is the position of an entry
+      pub source-below : (size w i source : ℕ) → length xs ≡ size → IsWinnerOn p w i → body_at xs (Some source) ≡ body_at xs (Some i) →
+          source < size
+      source-below size w i source long wins same =
+          let (b, has) = winner-body w i wins in subst (λ v. source < v) long (has-below xs c sources source b (same ∙ has))
 
-    pub span-below : {known : ℕ → Type 0} (spans : List Span) → AreSpansOn xs c known spans → (s : Span) → Contains spans s →
-        s.source < length xs
-    span-below spans a s listed = let e = a.each s listed in has-below xs c sources s.source e.body e.has
+    pub spans-below : {known : ℕ → Type 0} (size ended : ℕ) (spans : List Span) → length xs ≡ size → AreSpansOn xs c known spans →
+        All (λ (s : Span). s.source < size) (drop ended spans)
+    spans-below size ended spans long a = λ k d below.
+        let s = get_or (drop ended spans) k d in
+        let (n, from, within, is) = Contains-drop spans ended s (Contains-get_or (drop ended spans) k d below) in
+        let e = a.each s (n, within, is) in
+        subst (λ v. s.source < v) long (has-below xs c sources s.source e.body e.has)
 
     -- before the first piece there is no span
     pub spans-before_first : AreSpansBefore xs c c.first []
@@ -276,3 +293,9 @@ module _ {B : Type 0} (xs : List (Terms B)) (c : CalendarParts) where
             let (s, listed, has, of) = a.all n b k runs in (s, Contains-permutation spans sorted s p listed, has, of);
         one_source = λ s t in_s in_t. a.one_source s t (back s in_s) (back t in_t);
       }
+
+  -- those of all pieces, in another order
+  pub spans-done : (spans sorted : List Span) (limit : ℕ) {rest : List Piece} → rest ≡ [] → Tiles rest limit (c.last + 1) →
+      IsPermutation spans sorted → AreSpansOn xs c (λ n. n < limit) spans → AreSpansOn xs c (λ n. n < c.last + 1) sorted
+  spans-done spans sorted limit none tiles p a = spans-sorted spans sorted p
+      (subst (λ v. AreSpansOn xs c (λ n. n < v) spans) (subst (λ (ps : List Piece). Tiles ps limit (c.last + 1)) none tiles) a)

@@ -1,6 +1,7 @@
 -- The masks of a span's days week by week, and of the days that some of the spans so far have, span by span.
 use Rattle.std.proofs.Common.{◌≡◌, ◌≢◌, ◌⊎◌, inl, inr, ◌↔◌, ℕ, ◌+◌, ◌-◌, ◌*◌, ◌<◌, ◌≤◌, List, [], ◌∷◌, ◌++◌, Bool, length, take, get_or}
-use Rattle.std.proofs.Common.{refl, sym, ◌∙◌, ap, subst, arith, ⊎_elim}
+use Rattle.std.proofs.Common.{true, is_lt, nat_cmp, refl, sym, ◌∙◌, ap, subst, arith, rules, ⊎_elim}
+use Rattle.std.specs.Ordering.{ord_max, ord_min}
 use Rattle.std.specs.Prelude.{Contains}
 use Rattle.std.proofs.lemmas.Bool.{cases_lt}
 use Rattle.std.specs.List.Sorted.{IsNonDecreasingBy}
@@ -8,12 +9,50 @@ use Rattle.std.proofs.lemmas.List.{get_or-take, get_or_default, get_or_read_unde
 use Rattle.std.proofs.lemmas.List.Elements.{Contains-append_left, Contains-push, Contains-push_cases}
 use Rattle.cif_columns.specs.Day.{week_of, weekday_of}
 use Rattle.cif_columns.specs.DaysRun.{RunsOn}
+use Rattle.cif_columns.specs.Stp.{letter}
+use Rattle.cif_calendar.specs.Applies.{Applies}
+use Rattle.cif_calendar.specs.Terms.{Terms}
 use Rattle.cif_weeks.specs.declared.span.Span.{Span}
 use Rattle.cif_weeks.specs.declared.span.Weeks.{Weeks}
-use Rattle.cif_weeks.specs.Steps.Spans.{AgreeOn, HasDay, HaveOneMask, IsAgreed, IsDisputed, Leads, Shows}
+use Rattle.cif_weeks.specs.Steps.Spans.{AgreeOn, HasDay, HaveOneMask, IsAgreed, IsDisputed, IsSpanOf, Leads, Shows}
 use Rattle.cif_weeks.specs.Steps.WeekMasks.{IsMask}
+use Rattle.cif_weeks.specs.Window.{IsWithin, Window}
 use Rattle.cif_weeks.proofs.Masks.{mask_runs}
 use Rattle.cif_weeks.proofs.WeekDays.{RunsOn-below, same_or_other}
+
+-- a test of two days
+pub day-later : (a b : ℕ) (test : Bool) → test ≡ is_lt (nat_cmp a b) → test ≡ true → a < b
+day-later a b test is holds = search rules
+
+-- the days of a record in a window, whose first is the later of two, and whose last the earlier
+module _ {B : Type 0} (window : Window) (r : Terms B) (first last : ℕ) (begins : first ≡ ord_max nat_cmp r.first window.first)
+    (ends : last ≡ ord_min nat_cmp r.last window.last) where
+  from-both : (r.first ≤ first) × (window.first ≤ first) × ((first ≡ r.first) ⊎ (first ≡ window.first))
+  from-both = (search rules, search rules, search rules)
+
+  upto-both : (last ≤ r.last) × (last ≤ window.last) × ((last ≡ r.last) ⊎ (last ≡ window.last))
+  upto-both = (search rules, search rules, search rules)
+
+  pub span-of : (s : Span) → s.letter ≡ letter r.letter →
+      ((n : ℕ) → HasDay s n ↔ ((first ≤ n) × (n ≤ last) × RunsOn r.days (weekday_of n))) → IsSpanOf window r s
+  span-of s is days = let f = from-both in let l = upto-both in record {
+    letter = is;
+    days = λ n. (
+      λ has. let (from, upto, on) = (days n).0 has in (
+        record { from = omega (arith, f.1); upto = omega (arith, l.1) },
+        record { begun = omega (arith, f.0); unfinished = omega (arith, l.0); on_weekday = on },
+      ),
+      λ (within, on). (days n).1 (
+        omega (arith, f.2, on.begun, within.from),
+        omega (arith, l.2, on.unfinished, within.upto),
+        on.on_weekday,
+      ),
+    );
+  }
+
+  pub span-none : last < first → (n : ℕ) → IsWithin window n → ¬ Applies r n
+  span-none none n within on =
+      omega (arith, none, from-both.2, upto-both.2, on.begun, on.unfinished, within.from, within.upto)
 
 -- a week of the span has this mask
 pub span-mask : (s : Span) (week : ℕ) (days : List Bool) → s.first_week ≤ week → week ≤ s.last_week → length days ≡ 7

@@ -1,13 +1,13 @@
 //! The canonical runs of a calendar, body by body, from the spans of its pieces.
 
-ghost use Rattle.std.specs.Prelude.{◌≡◌, ◌<◌, ◌≤◌, ◌+◌, ◌↔◌, ℕ, All, Contains, IfOk, List, None, Some, length};
-ghost use Rattle.std.specs.Prelude.{map, slice_get, slice_index_or, [], IsTrue};
+ghost use Rattle.std.specs.Prelude.{◌≡◌, ◌<◌, ◌≤◌, ◌+◌, ◌↔◌, ℕ, All, Contains, IfOk, List, Some, length};
+ghost use Rattle.std.specs.Prelude.{map, slice_get, []};
 ghost use Rattle.cif_columns.specs.DaysRun.{RunsOn};
 ghost use Rattle.cif_calendar.specs.declared.key_calendar.Piece.{Piece};
 ghost use Rattle.cif_weeks.specs.Runs.{AreCanonicalRuns, AreSources, window_of};
 ghost use Rattle.cif_weeks.specs.Steps.BodyRuns.{AreRunsOfSpans, HasBody};
-ghost use Rattle.cif_weeks.specs.Steps.PieceSpans.{AreBySource, AreSpansBefore, AreSpansOn};
-ghost use Rattle.cif_weeks.specs.Steps.PieceSpans.{HasBodyOn, HasDate, named};
+ghost use Rattle.cif_weeks.specs.Steps.PieceSpans.{AreBySource, AreSpansBefore};
+ghost use Rattle.cif_weeks.specs.Steps.PieceSpans.{HasBodyOn, IsWinnerOn, named};
 ghost use Rattle.cif_weeks.specs.Steps.Spans.{IsAgreed, Shows};
 ghost use Rattle.cif_weeks.specs.Window.{IsWithin, window_from};
 ghost use Rattle.cif_weeks.specs.declared.run.Run.{Run};
@@ -16,35 +16,36 @@ ghost use Rattle.cif_weeks.specs.declared.span.Span.{Span};
 use crate::body_runs::add_body_runs;
 use crate::few::{have_one_body, source_of};
 use crate::form::Form;
-use crate::run::Run;
+use crate::run::{Run, sort_by_first};
 use crate::span::{Span, no_days};
 use cif_calendar::{Calendar, Entry, Piece, Window};
 use cif_columns::DaysRun;
 use std::alloc::{AllocError, Global};
 
-/// Whether the piece has a date of the weekday.
-fn has_date(piece: &Piece, weekday: u8) -> bool
+/// The winner on the piece's dates of the weekday. `None` where it has no such date, or nothing runs.
+fn winner_on(piece: &Piece, weekday: u8) -> Option<usize>
     requires { weekday < 7 }
-    ensures { IsTrue result ↔ HasDate piece.now weekday }
+    ensures { (i : ℕ) → (result ≡ Some i) ↔ IsWinnerOn piece.now weekday i }
 {
     let days_on = (weekday + 7 - piece.first.weekday()) % 7;
-    piece.first.number() + u16::from(days_on) <= piece.last.number()
+    if piece.first.number() + u16::from(days_on) <= piece.last.number() {
+        piece.winners[usize::from(weekday)]
+    } else {
+        None
+    }
 }
 
 /// The weekdays on which the piece's winners have the body of the entry at `source`.
 fn days_of<E: Entry>(entries: &[E], piece: &Piece, source: usize) -> DaysRun
     requires source { source < length entries.now }
-    requires winners { (w i : ℕ) → HasDate piece.now w →
-        slice_index_or piece.now.winners w None ≡ Some i → i < length entries.now }
+    requires winners { (w i : ℕ) → IsWinnerOn piece.now w i → i < length entries.now }
     ensures { (w : ℕ) → RunsOn result w ↔ HasBodyOn (map E.terms entries.now) piece.now source w }
 {
     let mut days = no_days();
     for weekday in 0..7u8 {
-        if has_date(piece, weekday) {
-            if let Some(winner) = piece.winners[usize::from(weekday)] {
-                if have_one_body(entries, source, winner) {
-                    days = days.union(DaysRun::only(weekday));
-                }
+        if let Some(winner) = winner_on(piece, weekday) {
+            if have_one_body(entries, source, winner) {
+                days = days.union(DaysRun::only(weekday));
             }
         }
     }
@@ -68,43 +69,22 @@ fn add_piece<E: Entry>(
 {
     let piece = &calendar.pieces()[number];
     let week = piece.first.week();
+    let ended = spans
+        .as_slice()
+        .partition_point(|span| span.last_week + 1 < week);
     let mut taken = no_days();
     for weekday in 0..7u8 {
-        if taken.has(weekday) || !has_date(piece, weekday) {
-            continue;
-        }
-        if let Some(winner) = piece.winners[usize::from(weekday)] {
-            let ended = spans
-                .as_slice()
-                .partition_point(|span| span.last_week + 1 < week);
-            let (_, near) = spans.as_slice().split_at(ended);
-            let source = source_of(entries, near, winner);
-            let days = days_of(entries, piece, source);
-            spans.push(Span::between(piece.first, piece.last, days, b'P', source))?;
-            taken = taken.union(days);
+        if let Some(winner) = winner_on(piece, weekday) {
+            if !taken.has(weekday) {
+                let (_, near) = spans.as_slice().split_at(ended);
+                let source = source_of(entries, near, winner);
+                let days = days_of(entries, piece, source);
+                spans.push(Span::between(piece.first, piece.last, days, b'P', source))?;
+                taken = taken.union(days);
+            }
         }
     }
     Ok(())
-}
-
-/// The spans of a calendar's pieces, by their sources, and those of one source in the order of their
-/// first weeks.
-fn spans_by_source<E: Entry>(
-    alloc: Global,
-    entries: &[E],
-    calendar: &Calendar,
-) -> Result<Vec<Span>, AllocError>
-    requires sources { AreSources (map E.terms entries.now) calendar.now }
-    ensures spans { IfOk result (λ spans. AreSpansOn (map E.terms entries.now) calendar.now
-        (λ n. n < calendar.now.last + 1) spans.items) }
-    ensures order { IfOk result (λ spans. AreBySource spans.items) }
-{
-    let mut spans = Vec::new(alloc);
-    for number in 0..calendar.pieces().len() {
-        add_piece(&mut spans, entries, calendar, number)?;
-    }
-    spans.sort_unstable_by_key(|span| (span.source, span.first_week));
-    Ok(spans)
 }
 
 /// Makes the runs of all bodies, rising by first date. On each date spans of one source lead.
@@ -134,7 +114,7 @@ fn add_runs_by_source(
         }
         left = others;
     }
-    runs.sort_unstable_by_key(|run| run.first.number());
+    sort_by_first(runs);
     Ok(())
 }
 
@@ -180,7 +160,11 @@ pub fn runs_in_room<E: Entry>(
 {
     let mut runs = room;
     runs.clear();
-    let spans = spans_by_source(*runs.allocator(), entries, calendar)?;
+    let mut spans = Vec::new(*runs.allocator());
+    for number in 0..calendar.pieces().len() {
+        add_piece(&mut spans, entries, calendar, number)?;
+    }
+    spans.sort_unstable_by_key(|span| (span.source, span.first_week));
     add_runs_by_source(&mut runs, spans.as_slice(), &calendar.window(), form)?;
     name_sources(runs.as_mut_slice(), calendar);
     Ok(runs)

@@ -11,7 +11,7 @@ ghost use Rattle.cif_weeks.specs.Window.{IsWithin, window_from};
 
 use crate::body_runs::add_body_runs;
 use crate::form::Form;
-use crate::run::Run;
+use crate::run::{Run, sort_by_first};
 use crate::span::Span;
 use arrayvec::ArrayVec;
 use cif_calendar::{Entry, Window, same_body};
@@ -60,7 +60,7 @@ fn add_all_runs(
             return Ok(false);
         }
     }
-    runs.sort_unstable_by_key(|run| run.first.number());
+    sort_by_first(runs);
     Ok(true)
 }
 
@@ -91,31 +91,6 @@ pub(crate) fn source_of<E: Entry>(entries: &[E], spans: &[Span], position: usize
     position
 }
 
-/// Adds the spans of the members that apply in the window, in the order of their first weeks.
-fn add_spans<E: Entry>(
-    spans: &mut ArrayVec<Span, FEW>,
-    entries: &[E],
-    members: &[usize],
-    window: &Window,
-)
-    requires none { spans.old.items ≡ [] }
-    requires positions { All (λ i. i < length entries.now) members.now }
-    requires few { length members.now ≤ 8 }
-    ensures spans { AreSpansOf (map E.terms entries.now) members.now
-        (window_from window.now.first window.now.last) spans.new.items }
-    ensures order { IsNonDecreasingBy (λ s. s.first_week) spans.new.items }
-{
-    for position in members {
-        let source = source_of(entries, spans.as_slice(), *position);
-        if let Some(span) = Span::of(&entries[*position], source, window) {
-            spans.push(span);
-        }
-    }
-    spans
-        .as_mut_slice()
-        .sort_unstable_by_key(|span| span.first_week);
-}
-
 /// Makes the runs of the canonical records that say what runs by the entries at `members`, rising by
 /// first date, in place of those that the list has. `false` if there are more than eight members, or
 /// two winners of a date of the window have different bodies: a calendar tells then.
@@ -140,7 +115,15 @@ pub fn runs_of_few<E: Entry>(
         return Ok(false);
     }
     runs.clear();
-    let mut spans = ArrayVec::new();
-    add_spans(&mut spans, entries, members, window);
+    let mut spans = ArrayVec::<Span, FEW>::new();
+    for position in members {
+        let source = source_of(entries, spans.as_slice(), *position);
+        if let Some(span) = Span::of(&entries[*position], source, window) {
+            spans.push(span);
+        }
+    }
+    spans
+        .as_mut_slice()
+        .sort_unstable_by_key(|span| span.first_week);
     add_all_runs(runs, spans.as_slice(), window, form)
 }

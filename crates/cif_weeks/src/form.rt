@@ -1,7 +1,6 @@
 //! The two canonical forms, and whether two weeks that follow one another are joined in them.
 
-ghost use Rattle.std.specs.Prelude.{◌≡◌, ◌<◌, ◌≤◌, ◌+◌, ◌↔◌, ℕ, IsTrue, MatchBool};
-ghost use Rattle.cif_columns.specs.Day.{week_of, weekday_of};
+ghost use Rattle.std.specs.Prelude.{◌≡◌, ◌<◌, ◌+◌, ◌↔◌, ℕ, IsTrue, MatchBool};
 ghost use Rattle.cif_weeks.specs.Steps.WeekMasks.{Counts, MasksAgree, MasksDiffer};
 ghost use Rattle.cif_weeks.specs.Window.{window_from};
 
@@ -26,17 +25,6 @@ pub enum Form {
     Two,
 }
 
-/// Whether the dates of a weekday in the week before `next` and in this one lie in the window.
-fn lie_in_window(window: &Window, next: u32, weekday: u8) -> bool
-    requires { weekday < 7 }
-    ensures { IsTrue result ↔ ((n : ℕ) × (week_of n ≡ next) × (weekday_of n ≡ weekday)
-        × (window.now.first + 7 ≤ n) × (n ≤ window.now.last)) }
-{
-    let day = u64::from(next) * u64::from(DAYS_IN_WEEK) + u64::from(weekday);
-    let first = window.first.days_since_first_monday() + DAYS_IN_WEEK;
-    u64::from(first) <= day && day <= u64::from(window.last.days_since_first_monday())
-}
-
 /// Whether the week before `next` and this one have to agree on a weekday: in form 1 always, and in
 /// form 2 where its dates in both lie in the window.
 fn counts(form: Form, window: &Window, next: u32, weekday: u8) -> bool
@@ -46,7 +34,12 @@ fn counts(form: Form, window: &Window, next: u32, weekday: u8) -> bool
 {
     match form {
         Form::One => true,
-        Form::Two => lie_in_window(window, next, weekday),
+        Form::Two => {
+            let day = u64::from(next) * u64::from(DAYS_IN_WEEK) + u64::from(weekday);
+            let first = window.first.days_since_first_monday() + DAYS_IN_WEEK;
+            let last = window.last.days_since_first_monday();
+            u64::from(first) <= day && day <= u64::from(last)
+        }
     }
 }
 

@@ -96,8 +96,8 @@ impl Span {
         ensures none { IfNone result ((n : ℕ) → IsWithin (window_from window.now.first window.now.last) n →
             ¬ Applies (E.terms entry.now) n) }
     {
-        let first = later(entry.first(), window.first);
-        let last = earlier(entry.last(), window.last);
+        let first = entry.first().max(window.first);
+        let last = entry.last().min(window.last);
         if last < first {
             return None;
         }
@@ -156,18 +156,4 @@ pub(crate) fn no_days() -> DaysRun
     ensures width { length result ≡ 7 }
 {
     DaysRun::of([false; 7])
-}
-
-/// The later of two dates.
-fn later(one: Day, other: Day) -> Day
-    ensures { result ≡ max one other }
-{
-    if one < other { other } else { one }
-}
-
-/// The earlier of two dates.
-fn earlier(one: Day, other: Day) -> Day
-    ensures { result ≡ min one other }
-{
-    if one < other { one } else { other }
 }

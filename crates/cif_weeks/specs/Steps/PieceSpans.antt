@@ -1,21 +1,6 @@
 -- Steps to the runs of a calendar: the spans of its pieces. No public clause cites them.
-use Rattle.std.specs.Prelude.{
-  ◌≡◌,
-  ℕ,
-  ◌+◌,
-  ◌<◌,
-  ◌≤◌,
-  List,
-  Option,
-  Some,
-  None,
-  Contains,
-  length,
-  slice_index_or,
-  unwrap_or,
-  nat_le,
-  if◌then◌else◌,
-}
+use Rattle.std.specs.Prelude.{◌≡◌, ℕ, ◌+◌, ◌<◌, ◌≤◌, List, Option, Some, None, Contains, length, slice_index_or, unwrap_or, nat_le}
+use Rattle.std.specs.Prelude.{if◌then◌else◌}
 use Rattle.std.specs.List.Sorted.{IsNonDecreasingBy}
 use Rattle.cif_columns.specs.Day.{week_of, weekday_of}
 use Rattle.cif_columns.specs.Stp.{letter}
@@ -41,10 +26,13 @@ body_in xs c n = body_at xs (source_in c n)
 abbrev pub HasDate : Piece → ℕ → Type 0
 HasDate p weekday = (n : ℕ) × (p.first ≤ n) × (n ≤ p.last) × (weekday_of n ≡ weekday)
 
+-- the entry at position i wins on the piece's dates of the weekday, of which there is one
+abbrev pub IsWinnerOn : Piece → ℕ → ℕ → Type 0
+IsWinnerOn p weekday i = HasDate p weekday × (slice_index_or p.winners weekday None ≡ Some i)
+
 -- on the piece's dates of the weekday the body of the entry at `source` runs
 abbrev pub HasBodyOn : {B : Type 0} → List (Terms B) → Piece → ℕ → ℕ → Type 0
-HasBodyOn xs p source weekday = HasDate p weekday
-    × ((i : ℕ) × (slice_index_or p.winners weekday None ≡ Some i) × (body_at xs (Some source) ≡ body_at xs (Some i)))
+HasBodyOn xs p source weekday = (i : ℕ) × IsWinnerOn p weekday i × (body_at xs (Some source) ≡ body_at xs (Some i))
 
 -- a span of the calendar: the body at its source runs on its days
 pub record IsPieceSpan {B : Type 0} (xs : List (Terms B)) (c : CalendarParts) (s : Span) : Type 0 where

@@ -1,7 +1,8 @@
 -- One stretch more of both halves together (`merged-more`), until all of a half are merged (`merged-all`).
 use Rattle.std.proofs.Common.{rules, ◌/◌, List, ℕ, length, map, refl, subst, take-append-drop}
+use Rattle.std.proofs.lemmas.Result.{IfOk-from_err}
 use Rattle.cif_calendar.specs.Steps.Stretches.{AreStretchesOf}
-use Rattle.cif_calendar.proofs.Stretches.{first-below, merged-all, merged-more}
+use Rattle.cif_calendar.proofs.Stretches.{fewer-left, first-below, merged-all, merged-more}
 use Rattle.cif_calendar.proofs.stretch.+stretches_of.Goals as goal
 
 pub loop-left-init : goal.loop-left-init
@@ -35,3 +36,17 @@ pub returns-clause-stretches : goal.returns-clause-stretches
 returns-clause-stretches g t c = subst (λ (part : List ℕ). AreStretchesOf (map g.E.Entry.terms c.args.entries.now) c.args.members.now part
     c.args.window.now c.loop-left.stretches.items) (take-append-drop (length c.args.part.now / 2) c.args.part.now)
     (merged-all _ _ _ _ _ _ _ c.loop-left.left.now c.loop-left.right.now _ (search rules) c.loop-left.invariant.merged)
+
+pub loop-left-smaller : goal.loop-left-smaller
+loop-left-smaller g t c = fewer-left c.loop-left.left.now c.loop-left.right.now c.behind-left.result.now c.behind-right.result.now
+    c.one-item.result c.other-item.result _ _ _ (search rules) (search rules) c.one-item.is c.other-item.is c.joint-stretch.ensures.joint
+    c.behind-left.ensures c.behind-right.ensures
+
+pub returns-in_err-lefts-clause-stretches : goal.returns-in_err-lefts-clause-stretches
+returns-in_err-lefts-clause-stretches g t c = IfOk-from_err _ _ c.from_residual.ensures.0
+
+pub returns-in_err-rights-clause-stretches : goal.returns-in_err-rights-clause-stretches
+returns-in_err-rights-clause-stretches g t c = IfOk-from_err _ _ c.from_residual-in_err-rights.ensures.0
+
+pub returns-in_err-push-clause-stretches : goal.returns-in_err-push-clause-stretches
+returns-in_err-push-clause-stretches g t c = IfOk-from_err _ _ c.from_residual-in_err-push.ensures.0

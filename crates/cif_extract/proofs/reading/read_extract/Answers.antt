@@ -1,7 +1,7 @@
 -- The invariant names the lines so far: one more (`come_more`), one refused (`at_line`) and the end are said of them all.
 use Rattle.std.proofs.Common.{◌≡◌, ◌+◌, ◌<◌, ◌≤◌, length, ℕ, List, [], ◌++◌, ◌∷◌, Err, IfErr, IfSome, Ok, Option, Result, Some}
 use Rattle.std.proofs.Common.{◌∙◌, None, ap, arith, refl, rules, subst, sym}
-use Rattle.std.proofs.lemmas.Result.{err_from_is_err_and}
+use Rattle.std.proofs.lemmas.Result.{IfOk-from_err, err_from_is_err_and}
 use Rattle.cif_columns.proofs.GivenLinesLaws.{known_so, nothing_left, reading_ends, reading_faults, reading_line}
 use Rattle.cif_columns.proofs.PassedLines.{next_passed}
 use Rattle.cif_columns.proofs.ReadSources.{read_on_both}
@@ -199,3 +199,12 @@ loop-columns-init g c = (
   subst (HasCome c.args.max_lines []) (sym c.new-reading.ensures) (come_none c.args.max_lines),
   search rules,
 )
+
+pub returns-in_err-is_line-clause-ok : goal.returns-in_err-is_line-clause-ok
+returns-in_err-is_line-clause-ok g c = of_any _ _ (λ bytes. IfOk-from_err _ _ c.from_residual.ensures.0)
+
+pub returns-in_err-is_line-clause-endless : goal.returns-in_err-is_line-clause-endless
+returns-in_err-is_line-clause-endless g c = IfOk-from_err _ _ c.from_residual.ensures.0
+
+pub take-requires : goal.take-requires
+take-requires g c = let (ls, so_far, come, read_on) = c.loop-columns.invariant in (come.records, come.read)

@@ -1,7 +1,6 @@
 -- The runs of one source more (`runs-more`), and those of all after the sort.
 use Rattle.std.proofs.Common.{leb, subst, arith, rules}
-use Rattle.std.proofs.lemmas.List.Sorted.{IsNonDecreasingBy-from_sort_by_key, IsPartitionPoint-from_clause, IsPartitionedBy-leb}
-use Rattle.cif_weeks.specs.declared.run.Run.{Run}
+use Rattle.std.proofs.lemmas.List.Sorted.{IsPartitionPoint-from_clause, IsPartitionedBy-leb}
 use Rattle.cif_weeks.specs.declared.span.Span.{Span}
 use Rattle.cif_weeks.specs.Steps.BodyRuns.{AreRunsOfBody}
 use Rattle.cif_weeks.specs.Steps.Spans.{IsDisputed, Shows}
@@ -25,20 +24,18 @@ loop-left-init c = record {
   order = c.requires.order;
 }
 
-pub add_body_runs-requires-clause-inside : goal.add_body_runs-requires-clause-inside
-add_body_runs-requires-clause-inside c n shows =
+pub add_body_runs-requires : goal.add_body_runs-requires
+add_body_runs-requires c =
     let l = c.loop-left.invariant in
-    let here = (goal.at.add_body_runs-requires-clause-inside c).After-partition_point-count in
-    c.requires.inside c.span-item.result.source n
-    (shows-all c.loop-left.left.now c.span-item.result c.partition_point-count.result l.order c.span-item.is c.in-len1-up.len_at_least
-    (point here) c.args.spans.now l.left l.whole c.requires.level n
-    (subst (λ ss. Shows ss c.span-item.result.source n) c.split_at.ensures.front shows))
-
-pub add_body_runs-requires-clause-order : goal.add_body_runs-requires-clause-order
-add_body_runs-requires-clause-order c =
-    let here = (goal.at.add_body_runs-requires-clause-order c).After-partition_point-count in
-    rw c.split_at.ensures.front (own-order c.loop-left.left.now c.span-item.result c.partition_point-count.result
-    c.loop-left.invariant.order c.span-item.is c.in-len1-up.len_at_least (point here))
+    let here = (goal.at.add_body_runs-requires c).After-partition_point-count in
+    record {
+      inside = λ n shows. c.requires.inside c.span-item.result.source n
+          (shows-all c.loop-left.left.now c.span-item.result c.partition_point-count.result l.order c.span-item.is
+          c.in-len1-up.len_at_least (point here) c.args.spans.now l.left l.whole c.requires.level n
+          (subst (λ ss. Shows ss c.span-item.result.source n) c.split_at.ensures.front shows));
+      order = rw c.split_at.ensures.front (own-order c.loop-left.left.now c.span-item.result c.partition_point-count.result
+          l.order c.span-item.is c.in-len1-up.len_at_least (point here));
+    }
 
 pub unreachable-requires : goal.unreachable-requires
 unreachable-requires c =
@@ -75,7 +72,5 @@ loop-left-preserved c =
 
 pub returns : goal.returns
 returns c =
-    let sorted = c.sort_unstable_by_key.ensures in
-    runs-sorted _ _ _ (IsNonDecreasingBy-from_sort_by_key (λ (r : Run). r.first) _ sorted.sorted (λ a r q k. search rules))
-    (runs-permuted _ _ _ sorted.permutation
+    runs-sorted _ _ _ c.sort_by_first.ensures.order (runs-permuted _ _ _ c.sort_by_first.ensures.permutation
     (runs-all _ _ _ c.loop-left.left.now _ c.requires.bodied c.in_default.len_below c.loop-left.invariant.runs))

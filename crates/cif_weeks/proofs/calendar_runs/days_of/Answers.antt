@@ -1,5 +1,5 @@
 -- One weekday more.
-use Rattle.std.proofs.Common.{◌≡◌, ◌⊎◌, inl, inr, ◌↔◌, ℕ, ◌+◌, ◌<◌, Bool, List, None, Some, get_or, map, arith, sym, ◌∙◌, ap, subst, ⊎_elim}
+use Rattle.std.proofs.Common.{◌≡◌, ◌⊎◌, inl, inr, ◌↔◌, ℕ, ◌+◌, ◌<◌, Bool, List, None, Some, map, arith, sym, ◌∙◌, ap, subst, ⊎_elim}
 use Rattle.std.proofs.lemmas.Bool.{cases_lt}
 use Rattle.cif_columns.specs.DaysRun.{RunsOn}
 use Rattle.std.proofs.lemmas.Option.{same_Some}
@@ -7,8 +7,7 @@ use Rattle.cif_calendar.specs.Source.{body_at}
 use Rattle.cif_calendar.proofs.Winning.{refuted}
 use Rattle.cif_weeks.specs.Steps.PieceSpans.{HasBodyOn}
 use Rattle.cif_weeks.proofs.calendar_runs.days_of.Goals as goal
-use Rattle.cif_weeks.proofs.calendar_runs.days_of.Goals.{then-has_date+in-Some+then-have_one_body, then-has_date+in-Some+else-have_one_body}
-use Rattle.cif_weeks.proofs.calendar_runs.days_of.Goals.{then-has_date+in_default, else-has_date}
+use Rattle.cif_weeks.proofs.calendar_runs.days_of.Goals.{in-Some+then-have_one_body, in-Some+else-have_one_body, in_default}
 
 module _ (Has : ℕ → Type 0) (weekday : ℕ) where
   -- the weekday has it
@@ -36,35 +35,28 @@ module _ (Has : ℕ → Type 0) (weekday : ℕ) where
         (cases_lt w weekday),
   )
 
+pub have_one_body-requires-clause-other : goal.have_one_body-requires-clause-other
+have_one_body-requires-clause-other g c = c.requires.winners _ _ ((c.winner_on.ensures _).0 c.in-Some.is)
+
 pub loop-weekday-preserved : goal.loop-weekday-preserved
 loop-weekday-preserved g c =
-    let at = λ (v : ℕ). get_or c.args.piece.now.winners v None in
-    let wins = HasBodyOn (map g.E.Entry.terms c.args.entries.now) c.args.piece.now c.args.source in
-    elim c.if-has_date.branch [
-      | then-has_date+in-Some+then-have_one_body w ↦ rw w.days-is (more wins c.loop-weekday.weekday c.loop-weekday.days w.union-days.result
+    let xs = map g.E.Entry.terms c.args.entries.now in
+    let wins = HasBodyOn xs c.args.piece.now c.args.source in
+    elim c.match-winner_on.branch [
+      | in-Some+then-have_one_body w ↦ rw w.days-is (more wins c.loop-weekday.weekday c.loop-weekday.days w.union-days.result
           c.loop-weekday.invariant
           (λ v. (
             λ on. ⊎_elim inl (λ o. inr ((w.only.ensures.runs v).0 o)) ((w.union-days.ensures.runs v).0 on),
             λ h. (w.union-days.ensures.runs v).1 (⊎_elim inl (λ o. inr ((w.only.ensures.runs v).1 o)) h),
           )) (
-            c.has_date.ensures.0 w.if-has_date.true,
-            (
-              w.in-Some.winner,
-              ap at (sym w.from.ensures) ∙ w.in-Some.is,
-              w.have_one_body.ensures.0 w.if-have_one_body.true,
-            ),
+            w.in-Some.winner,
+            (c.winner_on.ensures w.in-Some.winner).0 w.in-Some.is,
+            w.have_one_body.ensures.0 w.if-have_one_body.true,
           ))
-      | then-has_date+in-Some+else-have_one_body w ↦ rw w.days-is (same wins c.loop-weekday.weekday c.loop-weekday.days
-          c.loop-weekday.invariant
-          (λ h.
-          let (i, is, one) = h.1 in
-          let it : w.in-Some.winner ≡ i = same_Some _ _ (sym w.in-Some.is ∙ ap at w.from.ensures ∙ is) in
-          refuted _ w.have_one_body.ensures w.if-have_one_body.false
-          (one ∙ ap (λ v. body_at (map g.E.Entry.terms c.args.entries.now) (Some v)) (sym it))))
-      | then-has_date+in_default w ↦ rw w.days-is (same wins c.loop-weekday.weekday c.loop-weekday.days c.loop-weekday.invariant
-          (λ h.
-          let (i, is, one) = h.1 in
-          let none : None ≡ Some i = sym w.in_default.is ∙ ap at w.from.ensures ∙ is in absurd (cc)))
-      | else-has_date w ↦ rw w.days-is (same wins c.loop-weekday.weekday c.loop-weekday.days c.loop-weekday.invariant
-          (λ h. refuted _ c.has_date.ensures w.if-has_date.false h.0))
+      | in-Some+else-have_one_body w ↦ rw w.days-is (same wins c.loop-weekday.weekday c.loop-weekday.days c.loop-weekday.invariant
+          (λ (i, of, one).
+          let it : w.in-Some.winner ≡ i = same_Some _ _ (sym w.in-Some.is ∙ (c.winner_on.ensures i).1 of) in
+          refuted _ w.have_one_body.ensures w.if-have_one_body.false (one ∙ ap (λ v. body_at xs (Some v)) (sym it))))
+      | in_default w ↦ rw w.days-is (same wins c.loop-weekday.weekday c.loop-weekday.days c.loop-weekday.invariant
+          (λ (i, of, one). let none : None ≡ Some i = sym w.in_default.is ∙ (c.winner_on.ensures i).1 of in absurd (cc)))
     ]

@@ -1,31 +1,75 @@
--- The runs of the pieces' spans, with the calendar's sources, are the calendar's (`pieces-canonical`).
-use Rattle.std.proofs.Common.{◌≡◌, map, drop, length, arith, ap}
-use Rattle.std.proofs.lemmas.List.{length-map}
+-- After the last piece all days are known (`spans-done`). The runs of the spans, with the calendar's sources, are the calendar's
+-- (`pieces-canonical`).
+use Rattle.std.proofs.Common.{◌≡◌, ◌+◌, ◌<◌, map, drop, get_or, length, arith, ap, rules, subst, sym}
+use Rattle.std.proofs.lemmas.List.{drop_all, length-map}
+use Rattle.std.proofs.lemmas.List.Sorted.{answers_always}
+use Rattle.std.proofs.lemmas.Option.{slice_get-get_or}
 use Rattle.std.proofs.Math.Seq.{take-append_seam}
-use Rattle.cif_weeks.specs.Steps.PieceSpans.{named}
+use Rattle.cif_weeks.specs.Steps.PieceSpans.{AreSpansBefore, AreSpansOn, named}
+use Rattle.cif_weeks.specs.declared.span.Span.{Span}
 use Rattle.cif_weeks.proofs.PieceRuns.{firsts-inside, pieces-agreed, pieces-bodied, pieces-canonical, pieces-inside, pieces-level}
+use Rattle.cif_weeks.proofs.PieceSpans.{no-piece, spans-before_first, spans-done, tiles-next}
+use Rattle.cif_weeks.proofs.SourceRuns.{by-source}
+use Rattle.cif_weeks.proofs.calendar_runs.runs_in_room.Given.{Over}
 use Rattle.cif_weeks.proofs.calendar_runs.runs_in_room.Goals as goal
+use Rattle.cif_weeks.proofs.calendar_runs.runs_in_room.Goals.{After-as_slice}
 
-pub add_runs_by_source-requires-clause-inside : goal.add_runs_by_source-requires-clause-inside
-add_runs_by_source-requires-clause-inside g c = rw (c.as_slice.ensures.value, c.window.ensures.first, c.window.ensures.last)
-    (pieces-inside _ _ c.requires.sources _ c.in_ok-spans.ensures.spans)
+pub loop-number-init : goal.loop-number-init
+loop-number-init g c = record {
+  limit = c.args.calendar.now.first;
+  tiles = rw c.pieces-number-end.ensures.pieces at c.pieces-number-end.ensures.tiles;
+  before = rw c.new-spans.ensures.items (spans-before_first _ _ c.requires.sources);
+}
 
-pub add_runs_by_source-requires-clause-bodied : goal.add_runs_by_source-requires-clause-bodied
-add_runs_by_source-requires-clause-bodied g c = rw c.as_slice.ensures.value
-    (pieces-bodied _ _ c.requires.sources _ c.in_ok-spans.ensures.spans)
+pub add_piece-requires-clause-spans : goal.add_piece-requires-clause-spans
+add_piece-requires-clause-spans g c piece at =
+    let i = c.loop-number.invariant in
+    let (begins, _) = tiles-next c.args.calendar.now.pieces c.loop-number.number i.limit (c.args.calendar.now.last + 1) piece at i.tiles in
+    subst (λ v. AreSpansBefore (map g.E.Entry.terms c.args.entries.now) c.args.calendar.now v c.loop-number.spans.items) (sym begins)
+    i.before
 
-pub add_runs_by_source-requires-clause-level : goal.add_runs_by_source-requires-clause-level
-add_runs_by_source-requires-clause-level g c = rw c.as_slice.ensures.value
-    (pieces-level _ _ c.requires.sources _ c.in_ok-spans.ensures.spans)
+pub loop-number-preserved : goal.loop-number-preserved
+loop-number-preserved g c =
+    let i = c.loop-number.invariant in
+    let pieces = c.args.calendar.now.pieces in
+    let below : c.loop-number.number < length pieces =
+    omega (arith, c.loop-number-test.true, ap length c.pieces-number-end.ensures.pieces) in
+    let at = slice_get-get_or pieces c.loop-number.number no-piece below in
+    let piece = get_or pieces c.loop-number.number no-piece in
+    record {
+      limit = piece.last + 1;
+      tiles = (tiles-next pieces c.loop-number.number i.limit (c.args.calendar.now.last + 1) piece at i.tiles).1;
+      before = c.in_ok-add_piece.ensures piece at;
+    }
 
-pub add_runs_by_source-requires-clause-agreed : goal.add_runs_by_source-requires-clause-agreed
-add_runs_by_source-requires-clause-agreed g c = rw c.as_slice.ensures.value
-    (pieces-agreed _ _ c.requires.sources _ c.in_ok-spans.ensures.spans)
+-- the spans of all pieces
+all : (g : Over) (c : After-as_slice g) → AreSpansOn (map g.E.Entry.terms c.args.entries.now) c.args.calendar.now
+    (λ n. n < c.args.calendar.now.last + 1) c.as_slice.result.now
+all g c = let i = c.loop-number.invariant in
+    rw c.as_slice.ensures.value (spans-done _ c.args.calendar.now c.loop-number.spans.items _ i.limit
+    (drop_all c.loop-number.number c.args.calendar.now.pieces
+    (omega (arith, c.loop-number-test.false, ap length c.pieces-number-end.ensures.pieces))) i.tiles
+    c.sort_unstable_by_key.ensures.permutation i.before.are)
+
+pub add_runs_by_source-requires : goal.add_runs_by_source-requires
+add_runs_by_source-requires g c =
+    let sources = c.requires.sources in
+    let here = all g (goal.at.add_runs_by_source-requires g c).After-as_slice in
+    record {
+      none = c.clear.ensures.items;
+      inside = rw (c.window.ensures.first, c.window.ensures.last) (pieces-inside _ _ sources _ here);
+      bodied = pieces-bodied _ _ sources _ here;
+      level = pieces-level _ _ sources _ here;
+      agreed = pieces-agreed _ _ sources _ here;
+      order = rw c.as_slice.ensures.value (by-source _ (λ k d below.
+          c.sort_unstable_by_key.ensures.sorted (λ (s : Span). (s.source, s.first_week))
+          (answers_always _ _ _ (λ f a r f' called. search rules)) k d (omega arith) below));
+    }
 
 pub name_sources-requires : goal.name_sources-requires
 name_sources-requires g c = rw c.as_mut_slice.ensures.value
-    (firsts-inside _ _ c.requires.sources _ c.in_ok-spans.ensures.spans c.args.form _
-    (rw (c.as_slice.ensures.value, c.window.ensures.first, c.window.ensures.last) at c.in_ok-add_runs_by_source.ensures))
+    (firsts-inside _ _ c.requires.sources _ (all g (goal.at.name_sources-requires g c).After-as_slice) c.args.form _
+    (rw (c.window.ensures.first, c.window.ensures.last) at c.in_ok-add_runs_by_source.ensures))
 
 pub returns : goal.returns
 returns g c =
@@ -34,5 +78,5 @@ returns g c =
     let long : c.add_runs_by_source.new.runs.len ≡ length made =
     omega (arith, length-map items (named c.args.calendar.now), ap length c.as_mut_slice.ensures.value) in
     rw (c.name_sources.ensures, c.as_mut_slice.ensures.value, long, take-append_seam made (drop (length made) items))
-    (pieces-canonical _ _ c.requires.sources c.in_ok-spans.spans.items c.in_ok-spans.ensures.spans c.args.form items
-    (rw (c.as_slice.ensures.value, c.window.ensures.first, c.window.ensures.last) at c.in_ok-add_runs_by_source.ensures))
+    (pieces-canonical _ _ c.requires.sources c.as_slice.result.now (all g (goal.at.returns g c).After-as_slice) c.args.form items
+    (rw (c.window.ensures.first, c.window.ensures.last) at c.in_ok-add_runs_by_source.ensures))

@@ -1,8 +1,5 @@
 -- The runs of one span more (`runs-skipped`, `runs-added`), and those of all after the sort.
-use Rattle.std.proofs.Common.{rules}
 use Rattle.std.proofs.lemmas.List.{take_all, take_more}
-use Rattle.std.proofs.lemmas.List.Sorted.{IsNonDecreasingBy-from_sort_by_key}
-use Rattle.cif_weeks.specs.declared.run.Run.{Run}
 use Rattle.cif_weeks.proofs.SpanRuns.{runs-added, runs-of_body, runs-permuted, runs-skipped, runs-sorted}
 use Rattle.cif_weeks.proofs.few.add_all_runs.Goals as goal
 
@@ -23,7 +20,5 @@ loop-number-preserved c =
 
 pub returns : goal.returns
 returns c =
-    let sorted = c.sort_unstable_by_key.ensures in
-    runs-sorted _ _ _ (IsNonDecreasingBy-from_sort_by_key (λ (r : Run). r.first) _ sorted.sorted (λ a r q k. search rules))
-    (runs-permuted _ _ _ sorted.permutation
+    runs-sorted _ _ _ c.sort_by_first.ensures.order (runs-permuted _ _ _ c.sort_by_first.ensures.permutation
     (rw (take_all c.loop-number.number c.args.spans.now c.loop-number-test.false) at c.loop-number.invariant))

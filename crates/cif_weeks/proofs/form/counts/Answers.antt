@@ -1,14 +1,20 @@
--- Form 2 wants a date named, that of the weekday in the week: it is in `counts-within`, and `counted-within` is the way back.
+-- What is compared are numbers of days from the first Monday (`counts-if`, `counts-only`).
+use Rattle.std.proofs.Common.{◌≡◌, ◌+◌, ◌*◌, ◌≤◌, arith}
+use Rattle.std.proofs.lemmas.Bool.{le-leb, leb-true}
 use Rattle.cif_weeks.specs.Window.{window_from}
-use Rattle.cif_weeks.proofs.AgreedDays.{counts-within, counted-within}
+use Rattle.cif_weeks.proofs.AgreedDays.{counts-if, counts-only}
 use Rattle.cif_weeks.proofs.form.counts.Goals as goal
 
-pub returns-in-Two : goal.returns-in-Two
-returns-in-Two c week is =
-    let window = window_from c.args.window.now.first c.args.window.now.last in
-    let says = c.lie_in_window.ensures in
-    rw c.in-Two.is (
-      λ on. let (n, in_week, day, from, upto) = says.0 on in
-          counts-within window week c.args.next c.args.weekday n is in_week day from upto,
-      λ counts. says.1 (counted-within window week c.args.next c.args.weekday is counts),
+pub returns-then-from-day : goal.returns-then-from-day
+returns-then-from-day c week is =
+    let w = c.args.window.now in
+    let window = window_from w.first w.last in
+    let upto : c.from-then-from-day.result ≡ w.last + 4 =
+    omega (arith, c.from-then-from-day.ensures, c.days_since_first_monday-last.ensures.value) in
+    let told = rw (c.from.ensures, c.from-in-Two.ensures, c.from-in-Two-2.ensures) at c.if-from-day.true in
+    let from : w.first + 11 ≤ c.args.next * 7 + c.args.weekday =
+    omega (arith, told, c.from-in-Two-3.ensures, c.days_since_first_monday-first.ensures.value) in
+    rw (c.in-Two.is, c.from.ensures, c.from-in-Two.ensures, c.from-in-Two-2.ensures, upto) (
+      λ on. counts-if window week c.args.next c.args.weekday c.requires is from (leb-true _ _ on),
+      λ counted. le-leb _ _ (counts-only window week c.args.next c.args.weekday is counted).1,
     )

@@ -18,20 +18,17 @@ bounds-pieces-i c =
     place-below c.pieces-pieces.result.now c.args.self.now.first (c.args.self.now.last + 1) c.args.day c.partition_point-i.result
     c.pieces-pieces.ensures.tiles c.requires.from (omega (arith, c.requires.upto)) (place c)
 
-pub returns-clause-listed : goal.returns-clause-listed
-returns-clause-listed c =
-    subst (λ (ps : List Piece). Contains ps c.index-pieces-i.result) c.pieces-pieces.ensures.pieces
-    (c.partition_point-i.result, bounds-pieces-i (goal.at.returns-clause-listed c).After-partition_point-i, sym c.index-pieces-i.is)
-
-pub returns-clause-from : goal.returns-clause-from
-returns-clause-from c =
-    let here = (goal.at.returns-clause-from c).After-partition_point-i in
-    subst (λ (p : Piece). p.first ≤ c.args.day) (sym c.index-pieces-i.is)
-    (place-from c.pieces-pieces.result.now c.args.self.now.first (c.args.self.now.last + 1) c.args.day c.partition_point-i.result
-    c.index-pieces-i.result c.pieces-pieces.ensures.tiles c.requires.from (place here) (bounds-pieces-i here))
-
-pub returns-clause-upto : goal.returns-clause-upto
-returns-clause-upto c =
-    let here = (goal.at.returns-clause-upto c).After-partition_point-i in
-    subst (λ (p : Piece). c.args.day ≤ p.last) (sym c.index-pieces-i.is)
-    ((place here).at c.index-pieces-i.result (bounds-pieces-i here))
+pub returns : goal.returns
+returns c =
+    let here = (goal.at.returns c).After-partition_point-i in
+    let below = bounds-pieces-i here in
+    let pieces = c.pieces-pieces.ensures in
+    record {
+      listed = subst (λ (ps : List Piece). Contains ps c.index-pieces-i.result) pieces.pieces
+          (c.partition_point-i.result, below, sym c.index-pieces-i.is);
+      from = subst (λ (p : Piece). p.first ≤ c.args.day) (sym c.index-pieces-i.is)
+          (place-from c.pieces-pieces.result.now c.args.self.now.first (c.args.self.now.last + 1) c.args.day c.partition_point-i.result
+          c.index-pieces-i.result pieces.tiles c.requires.from (place here) below);
+      upto = subst (λ (p : Piece). c.args.day ≤ p.last) (sym c.index-pieces-i.is) ((place here).at c.index-pieces-i.result below);
+      tiles = rw pieces.pieces at pieces.tiles;
+    }

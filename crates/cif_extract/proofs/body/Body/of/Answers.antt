@@ -16,12 +16,11 @@ invariant_of-result c =
       terminus = c.args.terminus.now;
     } in (
       p,
-      whole_body p c.in_ok-lines.lines c.push_detail.new.lines c.push_journey.new.lines c.in_ok-lines.ensures
-          c.in_ok-push_detail.ensures c.in_ok-push_journey.ensures,
+      whole_body p c.in_ok-lines.lines c.push_parts.new.lines c.in_ok-lines.ensures c.in_ok-push_parts.ensures,
     )
 
 pub returns : goal.returns
 unfolding invariant_of-result
 returns c =
     let h = invariant_of-result c in
-    parts_in-keeps c.push_journey.new.lines h.0 h.1
+    parts_in-keeps c.push_parts.new.lines h.0 h.1

@@ -2,7 +2,7 @@
 use Rattle.std.proofs.Common.{◌≤◌, length, map, take}
 use Rattle.cif_weeks.specs.Steps.Spans.{AreSpansOf}
 use Rattle.cif_weeks.specs.Window.{window_from}
-use Rattle.cif_weeks.proofs.few.add_spans.Given as goal
+use Rattle.cif_weeks.proofs.few.runs_of_few.Given as goal
 
 abbrev pub invariant-loop-position : goal.invariant-loop-position
 invariant-loop-position g l = record {

@@ -3,7 +3,7 @@ use Rattle.std.proofs.Common.{map, take}
 use Rattle.cif_records.specs.Record.{record_table}
 use Rattle.cif_extract.specs.Body.{KeepMore}
 use Rattle.cif_extract.specs.Call.{call_record}
-use Rattle.cif_extract.proofs.body.push_journey.Given as goal
+use Rattle.cif_extract.proofs.body.push_parts.Given as goal
 
 -- the lines of the calls so far stand behind those that were there
 abbrev pub invariant-loop-call : goal.invariant-loop-call

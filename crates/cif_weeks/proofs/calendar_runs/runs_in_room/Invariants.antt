@@ -1,8 +1,8 @@
--- The spans of the pieces so far.
+-- The spans of the pieces so far; the next piece begins where they end.
 use Rattle.std.proofs.Common.{◌+◌, ℕ, map, drop}
 use Rattle.cif_calendar.specs.Pieces.{Tiles}
 use Rattle.cif_weeks.specs.Steps.PieceSpans.{AreSpansBefore}
-use Rattle.cif_weeks.proofs.calendar_runs.spans_by_source.Given as goal
+use Rattle.cif_weeks.proofs.calendar_runs.runs_in_room.Given as goal
 
 abbrev pub invariant-loop-number : goal.invariant-loop-number
 invariant-loop-number g l = record {

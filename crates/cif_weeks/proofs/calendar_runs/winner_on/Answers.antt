@@ -1,0 +1,38 @@
+-- The first date of the weekday comes up to six days after the piece's first.
+use Rattle.std.proofs.Common.{◌≡◌, ℕ, ◌+◌, ◌-◌, ◌%◌, ◌≤◌, ◌<◌, arith, None, get_or, ap, sym, ◌∙◌}
+use Rattle.cif_columns.specs.Day.{weekday_of}
+use Rattle.cif_weeks.proofs.calendar_runs.winner_on.Goals as goal
+
+module _ (first w on : ℕ) (is : on ≡ (w + 7 - weekday_of first) % 7) (below : w < 7) where
+  its-weekday : weekday_of (first + on) ≡ w
+  its-weekday = omega arith
+
+  none-sooner : (n : ℕ) → first ≤ n → weekday_of n ≡ w → first + on ≤ n
+  none-sooner n from day = omega arith
+
+pub returns-then-number-from : goal.returns-then-number-from
+returns-then-number-from c i =
+    let first = c.args.piece.now.first in
+    let is : c.from.result ≡ (c.args.weekday + 7 - weekday_of first) % 7 = omega (arith, c.from.ensures, c.weekday.ensures.value) in
+    let at = ap (λ v. get_or c.args.piece.now.winners v None) c.from-then-number-from.ensures in (
+      λ same. (
+        (
+          first + c.from.result,
+          omega arith,
+          omega (arith, c.if-number-from.true, c.number.ensures.value, c.number-2.ensures.value),
+          its-weekday first c.args.weekday c.from.result is c.requires,
+        ),
+        sym at ∙ same,
+      ),
+      λ wins. at ∙ wins.1,
+    )
+
+pub returns-else-number-from : goal.returns-else-number-from
+returns-else-number-from c i = (
+  λ none. absurd (cc),
+  λ ((n, from, upto, day), _).
+      let is : c.from.result ≡ (c.args.weekday + 7 - weekday_of c.args.piece.now.first) % 7 =
+      omega (arith, c.from.ensures, c.weekday.ensures.value) in
+      let sooner = none-sooner c.args.piece.now.first c.args.weekday c.from.result is c.requires n from day in
+      absurd (omega (arith, sooner, c.if-number-from.false, c.number.ensures.value, c.number-2.ensures.value)),
+)
