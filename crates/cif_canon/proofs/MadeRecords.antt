@@ -14,6 +14,7 @@ use Rattle.cif_calendar.specs.Terms.{Terms, AreLawful}
 use Rattle.cif_calendar.specs.Keys.{of_key, ArePositionsOf}
 use Rattle.cif_calendar.proofs.Positions.{at-contains}
 use Rattle.cif_calendar.proofs.NoEntries.{none-clear}
+use Rattle.cif_extract.specs.declared.fault.Clash as named
 use Rattle.cif_weeks.specs.Canonical.{AreCanonical, with_key}
 use Rattle.cif_weeks.specs.Permanent.{Permanent, Permanents}
 use Rattle.cif_weeks.specs.Window.{Window}
@@ -148,15 +149,15 @@ module _ {K B : Type 0} (cmp : K → K → Ordering) (form : Form) (window : Win
         (either any.position any.member)
 
     -- a fault of the run's key is the first, as the keys before are clear
-    pub made-fault : (fault : RecordsFault) →
-        ((k : K) → ArePositionsOf es k (take n rest) → IsKeyFault window es (take n rest) k fault) → IsRecordsFault cmp es window fault
-    made-fault Memory f = tt
-    made-fault (Clash m d) f =
-        let (member, clash) = f run.key turn in
-        let has = at-run m member in record {
-          entry = (run.key, has.terms);
-          at = has.at;
-          clash = record { clash = clash; clear_before = λ j less. (made.said j (not-before j less)).clear };
+    pub made-fault : (name : K → ℕ → named.Clash) (fault : RecordsFault) →
+        ((k : K) → ArePositionsOf es k (take n rest) → IsKeyFault name window es k fault) → IsRecordsFault cmp name es window fault
+    made-fault name Memory f = tt
+    made-fault name (Clash clash) f =
+        let (day, is, first) = f run.key turn in record {
+          key = run.key;
+          day = day;
+          is = is;
+          first = record { clash = first; clear_before = λ j less. (made.said j (not-before j less)).clear };
         }
 
     module _ (own : List Run) (owns : (k : K) → ArePositionsOf es k (take n rest) → AreRunsOfKey form window es k own) where

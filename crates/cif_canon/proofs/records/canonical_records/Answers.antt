@@ -17,7 +17,7 @@ use Rattle.cif_canon.proofs.records.canonical_records.Goals as goal
 pub loop-rest-init : goal.loop-rest-init
 loop-rest-init g c =
     let es = keyed g.E.Entry.key g.E.Entry.terms c.args.entries.now in
-    let window = window_from c.args.window.first c.args.window.last in record {
+    let window = window_from c.args.window.now.first c.args.window.now.last in record {
       within = subst (λ (rest : List ℕ). All (λ i. i < length c.args.entries.now) rest) (sym c.as_slice-rest.ensures.value)
           (all-within g.E.Entry.key g.E.Entry.terms c.args.entries.now c.in_ok-positions.positions.items c.in_ok-positions.ensures.within);
       made = subst (λ (runs : List Run). IsMade g.E.Key.Ord.cmp c.args.form window es runs c.as_slice-rest.result.now)
@@ -61,7 +61,7 @@ loop-rest-smaller g c =
 pub loop-rest-preserved : goal.loop-rest-preserved
 loop-rest-preserved g c =
     let es = keyed g.E.Entry.key g.E.Entry.terms c.args.entries.now in
-    let window = window_from c.args.window.first c.args.window.last in
+    let window = window_from c.args.window.now.first c.args.window.now.last in
     let same = same_key-cmp g.E.Key.PartialEq.eq g.E.Key.Ord.cmp g.met.E.Key.Ord.matches_eq g.met.E.Entry.same_key in
     record {
       within = subst (λ (rest : List ℕ). All (λ i. i < length c.args.entries.now) rest) (sym c.split_at.ensures.back)
@@ -75,17 +75,17 @@ loop-rest-preserved g c =
 pub returns-in_err-room-clause-fault : goal.returns-in_err-room-clause-fault
 returns-in_err-room-clause-fault g c =
     let es = keyed g.E.Entry.key g.E.Entry.terms c.args.entries.now in
-    let window = window_from c.args.window.first c.args.window.last in
+    let window = window_from c.args.window.now.first c.args.window.now.last in
     let same = same_key-cmp g.E.Key.PartialEq.eq g.E.Key.Ord.cmp g.met.E.Key.Ord.matches_eq g.met.E.Entry.same_key in
     let p = err_from_is_err_and c.from_residual-in_err-room.result c.from_residual-in_err-room.ensures.1 in
     rw (p.1, p.2) (made-fault g.E.Key.Ord.cmp c.args.form window es g.met.E.Key.Ord.total same c.loop-rest.all.items c.loop-rest.rest.now
-    c.loop-rest.invariant.made c.count_of_first_key.result c.count_of_first_key.ensures c.in_err-room.field-0.0
+    c.loop-rest.invariant.made c.count_of_first_key.result c.count_of_first_key.ensures g.E.NamedEntry.clash_of c.in_err-room.field-0.0
     (rw c.split_at.ensures.front at c.in_err-room.ensures.fault))
 
 pub returns-clause-records : goal.returns-clause-records
 returns-clause-records g c =
     let es = keyed g.E.Entry.key g.E.Entry.terms c.args.entries.now in
-    let window = window_from c.args.window.first c.args.window.last in
+    let window = window_from c.args.window.now.first c.args.window.now.last in
     made-all g.E.Key.Ord.cmp c.args.form window es
     (AreLawful-of_key g.E.Entry.key g.E.Entry.terms g.met.E.Entry.cancelled c.args.entries.now) c.loop-rest.all.items
     (subst (λ (rest : List ℕ). IsMade g.E.Key.Ord.cmp c.args.form window es c.loop-rest.all.items rest)

@@ -13,9 +13,9 @@ returns-then-are_made-clause-runs g c k p =
 
 pub returns-in-Err-clause-fault : goal.returns-in-Err-clause-fault
 returns-in-Err-clause-fault g c = rw c.fault_of.ensures (λ k p.
-    key_fault g.E.Entry.key g.E.Entry.terms c.args.entries.now k c.args.members.now p _
-    (Contains-get_or c.args.members.now 0 0 c.requires.some) c.args.window.now.first c.args.window.now.last c.in-Err.fault
-    c.in-Err.ensures.fault)
+    key_fault g.E.Entry.key g.E.Entry.terms c.args.entries.now k c.args.members.now p g.E.NamedEntry.clash_of _
+    (Contains-get_or c.args.members.now 0 0 c.requires.some) c.index-entries-members.result (c.requires.within 0 0 c.requires.some)
+    c.index-entries-members.is c.args.window.now.first c.args.window.now.last c.in-Err.fault c.in-Err.ensures.fault)
 
 pub returns-clause-runs : goal.returns-clause-runs
 returns-clause-runs g c k p =
