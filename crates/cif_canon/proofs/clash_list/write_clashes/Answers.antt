@@ -3,6 +3,7 @@ use Rattle.std.proofs.Common.{◌∙◌, subst, sym}
 use Rattle.cif_columns.specs.Sink.{HasFailed, HasWritten}
 use Rattle.cif_columns.proofs.WrittenTexts.{item_failed, item_written, writes_err, written_nothing}
 use Rattle.cif_canon.specs.Clashes.{clash_line}
+use Rattle.cif_canon.proofs.WrittenLists.{failed-before, items-written}
 use Rattle.cif_canon.proofs.clash_list.write_clashes.Goals as goal
 
 pub loop-clash-init : goal.loop-clash-init
@@ -22,3 +23,11 @@ returns-in_err-write_all g c =
     c.clash-item.is _ _ _ _ _ c.loop-clash.invariant
     (subst (λ t. HasFailed g.W.Write.contents g.W.WriteDevice.write_errors t c.loop-clash.sink c.write_all.new.self)
     (c.as_bytes.ensures.value ∙ c.as_str.ensures.value ∙ c.line_of.ensures) c.in_err-write_all.ensures))
+
+pub returns : goal.returns
+returns g c =
+    items-written _ _ clash_line c.args.clashes.now c.loop-clash.clash-index _ _
+    c.loop-clash-test.false c.loop-clash.invariant
+
+pub returns-then-failed : goal.returns-then-failed
+returns-then-failed g c = failed-before _ _ _ c.args.sink.now (sym c.failed.ensures ∙ c.if-failed.true)

@@ -1,6 +1,7 @@
 -- The fronts of both rests are the positions of one key (`ComparedKeys`), of which its calendars tell (`ComparedCalendars`).
 use Rattle.std.proofs.Common.{◌<◌, ◌∙◌, ℕ, List, length, sym, subst, arith}
 use Rattle.std.specs.Prelude.{All}
+use Rattle.std.proofs.lemmas.Result.{IfOk-from_err}
 use Rattle.std.proofs.lemmas.List.Elements.{All-drop, All-take}
 use Rattle.cif_calendar.specs.Keys.{keyed}
 use Rattle.cif_calendar.proofs.FirstClash.{same_key-cmp}
@@ -135,3 +136,29 @@ returns-clause-none g c =
     let same = same_key-cmp g.E.Key.PartialEq.eq g.E.Key.Ord.cmp g.met.E.Key.Ord.matches_eq g.met.E.Entry.same_key in
     let none = c.in_default.ensures.none in
     all-alike g.E.Key.Ord.cmp g.met.E.Key.Ord.total same _ _ _ _ _ _ c.loop-first.invariant.alike none.0 none.1
+
+pub returns-in_err-left_positions-clause-none : goal.returns-in_err-left_positions-clause-none
+returns-in_err-left_positions-clause-none g c = IfOk-from_err c.from_residual.result _ c.from_residual.ensures.0
+
+pub returns-in_err-left_positions-clause-some : goal.returns-in_err-left_positions-clause-some
+returns-in_err-left_positions-clause-some g c = IfOk-from_err c.from_residual.result _ c.from_residual.ensures.0
+
+pub returns-in_err-right_positions-clause-none : goal.returns-in_err-right_positions-clause-none
+returns-in_err-right_positions-clause-none g c =
+    IfOk-from_err c.from_residual-in_err-right_positions.result _ c.from_residual-in_err-right_positions.ensures.0
+
+pub returns-in_err-right_positions-clause-some : goal.returns-in_err-right_positions-clause-some
+returns-in_err-right_positions-clause-some g c =
+    IfOk-from_err c.from_residual-in_err-right_positions.result _ c.from_residual-in_err-right_positions.ensures.0
+
+pub returns-in_err-one-clause-none : goal.returns-in_err-one-clause-none
+returns-in_err-one-clause-none g c = IfOk-from_err c.from_residual-in_err-one.result _ c.from_residual-in_err-one.ensures.0
+
+pub returns-in_err-one-clause-some : goal.returns-in_err-one-clause-some
+returns-in_err-one-clause-some g c = IfOk-from_err c.from_residual-in_err-one.result _ c.from_residual-in_err-one.ensures.0
+
+pub returns-in_err-other-clause-none : goal.returns-in_err-other-clause-none
+returns-in_err-other-clause-none g c = IfOk-from_err c.from_residual-in_err-other.result _ c.from_residual-in_err-other.ensures.0
+
+pub returns-in_err-other-clause-some : goal.returns-in_err-other-clause-some
+returns-in_err-other-clause-some g c = IfOk-from_err c.from_residual-in_err-other.result _ c.from_residual-in_err-other.ensures.0

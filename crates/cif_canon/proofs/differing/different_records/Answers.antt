@@ -2,6 +2,7 @@
 use Rattle.std.proofs.Common.{◌<◌, ◌∙◌, ℕ, List, [], length, sym, subst}
 use Rattle.std.specs.Prelude.{All}
 use Rattle.std.proofs.lemmas.List.{nil_from_length}
+use Rattle.std.proofs.lemmas.Result.{IfOk-from_err}
 use Rattle.std.proofs.lemmas.List.Elements.{All-drop, All-take}
 use Rattle.cif_calendar.specs.Keys.{keyed}
 use Rattle.cif_calendar.proofs.FirstClash.{same_key-cmp}
@@ -155,3 +156,20 @@ returns g c =
     (nil_from_length c.loop-first.left_rest.now none.0)
     (subst (λ (r : List ℕ). AreFound cmp window xs ys c.loop-first.left_rest.now r c.loop-first.found.items)
     (nil_from_length c.loop-first.right_rest.now none.1) c.loop-first.invariant.found))
+
+pub returns-in_err-left_positions : goal.returns-in_err-left_positions
+returns-in_err-left_positions g c = IfOk-from_err c.from_residual.result _ c.from_residual.ensures.0
+
+pub returns-in_err-right_positions : goal.returns-in_err-right_positions
+returns-in_err-right_positions g c =
+    IfOk-from_err c.from_residual-in_err-right_positions.result _ c.from_residual-in_err-right_positions.ensures.0
+
+pub returns-in_err-one : goal.returns-in_err-one
+returns-in_err-one g c = IfOk-from_err c.from_residual-in_err-one.result _ c.from_residual-in_err-one.ensures.0
+
+pub returns-in_err-other : goal.returns-in_err-other
+returns-in_err-other g c = IfOk-from_err c.from_residual-in_err-other.result _ c.from_residual-in_err-other.ensures.0
+
+pub returns-in_err-push_differences : goal.returns-in_err-push_differences
+returns-in_err-push_differences g c =
+    IfOk-from_err c.from_residual-in_err-push_differences.result _ c.from_residual-in_err-push_differences.ensures.0

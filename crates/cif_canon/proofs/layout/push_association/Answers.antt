@@ -13,3 +13,24 @@ returns-clause-text c = rw (
   c.write-8.ensures.columns,
   c.write-9.ensures.columns,
 ) at c.push_fields.ensures.text
+
+pub push_fields-requires-clause-fields : goal.push_fields-requires-clause-fields
+push_fields-requires-clause-fields c = (
+  c.write.ensures.printable,
+  (
+    c.write-2.ensures.printable,
+    (
+      c.write-3.ensures.printable,
+      (
+        c.write-4.ensures.printable,
+        (
+          c.write-5.ensures.printable,
+          (
+            c.write-6.ensures.printable,
+            (c.write-7.ensures.printable, (c.write-8.ensures.printable, (c.write-9.ensures.printable, tt))),
+          ),
+        ),
+      ),
+    ),
+  ),
+)

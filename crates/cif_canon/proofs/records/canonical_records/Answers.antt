@@ -10,6 +10,7 @@ use Rattle.cif_calendar.proofs.FirstClash.{same_key-cmp}
 use Rattle.cif_calendar.proofs.Positions.{AreLawful-of_key}
 use Rattle.cif_weeks.specs.declared.run.Run.{Run}
 use Rattle.cif_weeks.specs.Window.{window_from}
+use Rattle.cif_canon.proofs.HandedFaults.{at-fault}
 use Rattle.cif_canon.proofs.KeyPositions.{all-within}
 use Rattle.cif_canon.proofs.MadeRecords.{IsMade, made-nothing, made-key, made-fault, made-all}
 use Rattle.cif_canon.proofs.records.canonical_records.Goals as goal
@@ -90,3 +91,10 @@ returns-clause-records g c =
     (AreLawful-of_key g.E.Entry.key g.E.Entry.terms g.met.E.Entry.cancelled c.args.entries.now) c.loop-rest.all.items
     (subst (λ (rest : List ℕ). IsMade g.E.Key.Ord.cmp c.args.form window es c.loop-rest.all.items rest)
     (nil_from_length c.loop-rest.rest.now (eqb-true _ _ (sym c.loop-rest-test.ensures))) c.loop-rest.invariant.made)
+
+pub returns-in_err-positions-clause-fault : goal.returns-in_err-positions-clause-fault
+returns-in_err-positions-clause-fault g c = rw (at-fault c.from_residual.result _ c.from_residual.ensures.1) tt
+
+pub returns-in_err-extend_from_slice-clause-fault : goal.returns-in_err-extend_from_slice-clause-fault
+returns-in_err-extend_from_slice-clause-fault g c =
+    rw (at-fault c.from_residual-in_err-extend_from_slice.result _ c.from_residual-in_err-extend_from_slice.ensures.1) tt

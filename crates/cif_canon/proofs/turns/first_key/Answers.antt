@@ -38,3 +38,23 @@ returns-clause-some g c = record {
     later_is = c.split_at-2.ensures.back;
   };
 }
+
+pub first_entry-requires : goal.first_entry-requires
+first_entry-requires g c = record {
+  left = c.requires.left;
+  right = c.requires.right;
+  left_rising = c.requires.left_rising;
+  right_rising = c.requires.right_rising;
+}
+
+pub count_of_key-left_count-requires-clause-within : goal.count_of_key-left_count-requires-clause-within
+count_of_key-left_count-requires-clause-within g c = c.requires.left
+
+pub count_of_key-left_count-requires-clause-rising : goal.count_of_key-left_count-requires-clause-rising
+count_of_key-left_count-requires-clause-rising g c = c.requires.left_rising
+
+pub count_of_key-right_count-requires-clause-within : goal.count_of_key-right_count-requires-clause-within
+count_of_key-right_count-requires-clause-within g c = c.requires.right
+
+pub count_of_key-right_count-requires-clause-rising : goal.count_of_key-right_count-requires-clause-rising
+count_of_key-right_count-requires-clause-rising g c = c.requires.right_rising

@@ -1,9 +1,10 @@
 -- Five parts are written one behind another: for each exit `WrittenCanon` says that the whole text, or a prefix of it, was.
-use Rattle.std.proofs.Common.{ℕ, Result, Ok, Err, ap, subst}
+use Rattle.std.proofs.Common.{ℕ, Result, Ok, Err, ap, refl, subst}
 use Rattle.cif_columns.specs.Sink.{HasWritten, Writes}
 use Rattle.cif_columns.proofs.WrittenTexts.{writes_err}
 use Rattle.cif_extract.specs.ExtractParts.{extract_parts}
 use Rattle.cif_canon.specs.Canon.{CanonParts}
+use Rattle.cif_canon.proofs.HandedFaults.{at-fault}
 use Rattle.cif_canon.proofs.WrittenCanon.{in-associations, in-head, in-schedules, in-tiplocs, in-trailer}
 use Rattle.cif_canon.proofs.canonical_form.Canon.write.Goals as goal
 
@@ -74,3 +75,31 @@ returns-clause-writes g c =
     c.in_ok-write_tiplocs.ensures _ c.as_slice-2.ensures.value _ c.as_slice-3.ensures.value _
     c.in_ok-write_runs.ensures _ c.as_slice-4.ensures.value _ c.as_slice-5.ensures.value _ _ done
     c.in_ok-write_runs-2.ensures c.in_ok-write_trailer.ensures)
+
+pub returns-in_err-write_head-clause-fault : goal.returns-in_err-write_head-clause-fault
+returns-in_err-write_head-clause-fault g c = rw (at-fault c.from_residual.result _ c.from_residual.ensures.1) refl
+
+pub returns-in_err-write_tiplocs-clause-fault : goal.returns-in_err-write_tiplocs-clause-fault
+returns-in_err-write_tiplocs-clause-fault g c =
+    rw (at-fault c.from_residual-in_err-write_tiplocs.result _ c.from_residual-in_err-write_tiplocs.ensures.1) refl
+
+pub returns-in_err-write_runs-clause-fault : goal.returns-in_err-write_runs-clause-fault
+returns-in_err-write_runs-clause-fault g c =
+    rw (at-fault c.from_residual-in_err-write_runs.result _ c.from_residual-in_err-write_runs.ensures.1) refl
+
+pub returns-in_err-write_runs-2-clause-fault : goal.returns-in_err-write_runs-2-clause-fault
+returns-in_err-write_runs-2-clause-fault g c =
+    rw (at-fault c.from_residual-in_err-write_runs-2.result _ c.from_residual-in_err-write_runs-2.ensures.1) refl
+
+pub returns-in_err-write_trailer-clause-fault : goal.returns-in_err-write_trailer-clause-fault
+returns-in_err-write_trailer-clause-fault g c =
+    rw (at-fault c.from_residual-in_err-write_trailer.result _ c.from_residual-in_err-write_trailer.ensures.1) refl
+
+pub write_tiplocs-requires : goal.write_tiplocs-requires
+write_tiplocs-requires g c = c.in_ok-write_head.ensures.going
+
+pub write_runs-requires : goal.write_runs-requires
+write_runs-requires g c = rw (c.as_slice-2.ensures.value, c.as_slice-3.ensures.value) c.self.invariant.0
+
+pub write_runs-requires-2 : goal.write_runs-requires-2
+write_runs-requires-2 g c = rw (c.as_slice-4.ensures.value, c.as_slice-5.ensures.value) c.self.invariant.1

@@ -1,8 +1,9 @@
 -- Three parts are written one behind another: for each exit `WrittenDifferences` says that the whole text, or a prefix of it, was.
-use Rattle.std.proofs.Common.{ℕ, Result, Ok, Err, subst}
+use Rattle.std.proofs.Common.{ℕ, Result, Ok, Err, refl, subst}
 use Rattle.cif_columns.specs.Sink.{HasWritten, Writes}
 use Rattle.cif_columns.proofs.WrittenTexts.{writes_err}
 use Rattle.cif_canon.specs.Differences.{differences_text}
+use Rattle.cif_canon.proofs.HandedFaults.{at-fault}
 use Rattle.cif_canon.proofs.WrittenDifferences.{in-associations, in-schedules, in-tiplocs}
 use Rattle.cif_canon.proofs.listed_differences.Differences.write.Goals as goal
 
@@ -55,3 +56,20 @@ returns-clause-writes g c =
     (rw c.as_slice.ensures.value at c.in_ok-write_marked_tiplocs.ensures) _ _ done
     (rw (c.as_slice-2.ensures.value, c.as_slice-3.ensures.value, c.as_slice-4.ensures.value) at c.in_ok-write_sided_runs.ensures)
     (rw (c.as_slice-5.ensures.value, c.as_slice-6.ensures.value, c.as_slice-7.ensures.value) at c.in_ok-write_sided_runs-2.ensures))
+
+pub returns-in_err-write_marked_tiplocs-clause-fault : goal.returns-in_err-write_marked_tiplocs-clause-fault
+returns-in_err-write_marked_tiplocs-clause-fault g c = rw (at-fault c.from_residual.result _ c.from_residual.ensures.1) refl
+
+pub returns-in_err-write_sided_runs-clause-fault : goal.returns-in_err-write_sided_runs-clause-fault
+returns-in_err-write_sided_runs-clause-fault g c =
+    rw (at-fault c.from_residual-in_err-write_sided_runs.result _ c.from_residual-in_err-write_sided_runs.ensures.1) refl
+
+pub returns-in_err-write_sided_runs-2-clause-fault : goal.returns-in_err-write_sided_runs-2-clause-fault
+returns-in_err-write_sided_runs-2-clause-fault g c =
+    rw (at-fault c.from_residual-in_err-write_sided_runs-2.result _ c.from_residual-in_err-write_sided_runs-2.ensures.1) refl
+
+pub write_sided_runs-requires : goal.write_sided_runs-requires
+write_sided_runs-requires g c = rw (c.as_slice-2.ensures.value, c.as_slice-3.ensures.value, c.as_slice-4.ensures.value) c.self.invariant.0
+
+pub write_sided_runs-requires-2 : goal.write_sided_runs-requires-2
+write_sided_runs-requires-2 g c = rw (c.as_slice-5.ensures.value, c.as_slice-6.ensures.value, c.as_slice-7.ensures.value) c.self.invariant.1
