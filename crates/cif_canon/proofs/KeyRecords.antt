@@ -30,12 +30,13 @@ use Rattle.cif_canon.proofs.KeyTurns.{one-key}
 
 module _ {E K B : Type 0} (key : E → K) (terms : E → Terms B) (es : List E) (k : K) (members : List ℕ)
     (p : ArePositionsOf (keyed key terms es) k members) where
-  -- a fault of the key's calendar is one of the key
-  key-is : (i : ℕ) → Contains members i → (e : E) → i < length es → e ≡ get_or es i e → key e ≡ k
+  -- an entry at its positions has the key
+  pub key-is : (i : ℕ) → Contains members i → (e : E) → i < length es → e ≡ get_or es i e → key e ≡ k
   key-is i member e below at =
       let found = p.found i member in
       one-key (keyed key terms es) i (key e) k (has-key key terms es i e below at) (record { terms = found.0; at = found.1 })
 
+  -- a fault of the key's calendar is one of the key
   pub key_fault : (name : K → ℕ → Clash) (i : ℕ) → Contains members i → (e : E) → i < length es → e ≡ get_or es i e →
       (first last : ℕ) (fault : CalendarFault) → IsFault (IsChosen (map terms es) members) first last fault →
       IsKeyFault name (window_from first last) (keyed key terms es) k (records_fault (name (key e)) fault)

@@ -1,8 +1,7 @@
 -- Dates that don't differ are one window (`one-window`), and a fault of either extract is one of both (`compare-fault`).
-use Rattle.std.proofs.Common.{◌≡◌, inl, inr}
+use Rattle.std.proofs.Common.{inl, inr}
 use Rattle.std.proofs.lemmas.Result.{IfErr-weaker, on_ok_weaker}
 use Rattle.cif_extract.specs.ExtractParts.{extract_parts}
-use Rattle.cif_canon.specs.Asked.{header_window}
 use Rattle.cif_canon.specs.Comparison.{IsCompareFault}
 use Rattle.cif_canon.proofs.CompareFaults.{compare-fault, one-window}
 use Rattle.cif_canon.proofs.HandedFaults.{hands}
@@ -26,7 +25,5 @@ returns-clause-fault c =
 
 pub returns-clause-window : goal.returns-clause-window
 returns-clause-window c =
-    let x = extract_parts c.args.left.now in
-    let y = extract_parts c.args.right.now in
-    let same = one-window x.header y.header _ _ c.ne.ensures c.if-ne.false c.ne-else-ne.ensures c.if-ne-2.false in
-    on_ok_weaker c.check_clear-2.result (λ clear. same) c.check_clear-2.ensures.ok
+    on_ok_weaker c.check_clear-2.result (λ clear. one-window c.args.left.now.header c.args.right.now.header _ _ c.ne.ensures
+    c.if-ne.false c.ne-else-ne.ensures c.if-ne-2.false) c.check_clear-2.ensures.ok

@@ -137,12 +137,6 @@ returns-clause-none g c =
     let none = c.in_default.ensures.none in
     all-alike g.E.Key.Ord.cmp g.met.E.Key.Ord.total same _ _ _ _ _ _ c.loop-first.invariant.alike none.0 none.1
 
-pub returns-in_err-left_positions-clause-none : goal.returns-in_err-left_positions-clause-none
-returns-in_err-left_positions-clause-none g c = IfOk-from_err c.from_residual.result _ c.from_residual.ensures.0
-
-pub returns-in_err-left_positions-clause-some : goal.returns-in_err-left_positions-clause-some
-returns-in_err-left_positions-clause-some g c = IfOk-from_err c.from_residual.result _ c.from_residual.ensures.0
-
 pub returns-in_err-right_positions-clause-none : goal.returns-in_err-right_positions-clause-none
 returns-in_err-right_positions-clause-none g c =
     IfOk-from_err c.from_residual-in_err-right_positions.result _ c.from_residual-in_err-right_positions.ensures.0

@@ -157,9 +157,6 @@ returns g c =
     (subst (λ (r : List ℕ). AreFound cmp window xs ys c.loop-first.left_rest.now r c.loop-first.found.items)
     (nil_from_length c.loop-first.right_rest.now none.1) c.loop-first.invariant.found))
 
-pub returns-in_err-left_positions : goal.returns-in_err-left_positions
-returns-in_err-left_positions g c = IfOk-from_err c.from_residual.result _ c.from_residual.ensures.0
-
 pub returns-in_err-right_positions : goal.returns-in_err-right_positions
 returns-in_err-right_positions g c =
     IfOk-from_err c.from_residual-in_err-right_positions.result _ c.from_residual-in_err-right_positions.ensures.0

@@ -96,9 +96,6 @@ returns-in_err-right-clause-sources g c =
     let call = c.from_residual-in_err-right in
     inr (c.in_ok-left.ensures.device, rw (at-fault call.result c.in_err-right.field-0.0 call.ensures.1) c.in_err-right.ensures.device)
 
-pub returns-clause-sources : goal.returns-clause-sources
-returns-clause-sources g c = inr (c.in_ok-left.ensures.device, c.in_ok-right.ensures.device)
-
 pub returns-in_err-left-clause-left_end : goal.returns-in_err-left-clause-left_end
 returns-in_err-left-clause-left_end g c =
     rw (at-fault c.from_residual.result c.in_err-left.field-0.0 c.from_residual.ensures.1) tt
@@ -130,9 +127,3 @@ returns-in_err-narrow-2-clause-left_end g c =
 pub returns-in_err-narrow-2-clause-right_end : goal.returns-in_err-narrow-2-clause-right_end
 returns-in_err-narrow-2-clause-right_end g c =
     rw (at-fault c.from_residual-in_err-narrow-2.result c.in_err-narrow-2.field-0.0 c.from_residual-in_err-narrow-2.ensures.1) tt
-
-pub returns-clause-left_end : goal.returns-clause-left_end
-returns-clause-left_end g c = c.in_ok-left.ensures.end
-
-pub returns-clause-right_end : goal.returns-clause-right_end
-returns-clause-right_end g c = c.in_ok-right.ensures.end

@@ -46,15 +46,3 @@ first_entry-requires g c = record {
   left_rising = c.requires.left_rising;
   right_rising = c.requires.right_rising;
 }
-
-pub count_of_key-left_count-requires-clause-within : goal.count_of_key-left_count-requires-clause-within
-count_of_key-left_count-requires-clause-within g c = c.requires.left
-
-pub count_of_key-left_count-requires-clause-rising : goal.count_of_key-left_count-requires-clause-rising
-count_of_key-left_count-requires-clause-rising g c = c.requires.left_rising
-
-pub count_of_key-right_count-requires-clause-within : goal.count_of_key-right_count-requires-clause-within
-count_of_key-right_count-requires-clause-within g c = c.requires.right
-
-pub count_of_key-right_count-requires-clause-rising : goal.count_of_key-right_count-requires-clause-rising
-count_of_key-right_count-requires-clause-rising g c = c.requires.right_rising
