@@ -1,11 +1,11 @@
 -- The runs of an extract's canonical records, and its locations, make its canonical form.
-use Rattle.std.proofs.Common.{◌≡◌, ℕ, List, length, map, sym, ap, ◌∙◌, subst}
+use Rattle.std.proofs.Common.{◌≡◌, ℕ, List, length, sym, ap, ◌∙◌, subst}
 use Rattle.std.specs.Prelude.{All}
 use Rattle.std.specs.Cmp.Lexicographic.{slice_cmp}
 use Rattle.std.specs.Ordering.{nat_cmp}
-use Rattle.std.specs.declared.cmp.Ordering.{Ordering}
-use Rattle.cif_calendar.specs.Terms.{Terms}
+use Rattle.cif_calendar.specs.Keys.{AreClear}
 use Rattle.cif_extract.specs.ExtractParts.{ExtractParts}
+use Rattle.cif_extract.specs.declared.fault.Clash.TheVariants as named
 use Rattle.cif_records.specs.AssocKey.{key_cmp}
 use Rattle.cif_records.specs.declared.header.Header.{Header}
 use Rattle.cif_records.specs.declared.tiploc.Tiploc.{Tiploc}
@@ -19,8 +19,11 @@ use Rattle.cif_canon.specs.Canonical.{IsCanonicalOf}
 use Rattle.cif_canon.specs.Counts.{counts_of}
 use Rattle.cif_canon.specs.declared.canonical_form.Counts.{Counts}
 use Rattle.cif_calendar.specs.Entries.{association_entries, schedule_entries}
-use Rattle.cif_canon.specs.Steps.Records.{AreCanonicalRecords}
-use Rattle.cif_weeks.specs.Window.{window_from}
+use Rattle.cif_canon.specs.Fault.{IsCanonFault, IsFirstClashIn}
+use Rattle.cif_canon.specs.Steps.Records.{AreCanonicalRecords, IsRecordsFault, extract_fault}
+use Rattle.cif_canon.specs.declared.records.RecordsFault.{RecordsFault}
+use Rattle.cif_canon.specs.declared.records.RecordsFault.TheVariants.{Clash, Memory}
+use Rattle.cif_weeks.specs.Window.{Window, window_from}
 use Rattle.cif_canon.specs.Steps.Texts.{HasRecord, canon_text}
 use Rattle.cif_canon.specs.Steps.Tiplocs.{AreDistinct}
 use Rattle.cif_extract.specs.Texts.{FitsColumns, extract_text}
@@ -32,15 +35,25 @@ use Rattle.cif_canon.proofs.MadeExtract.{IsDated, associations_of}
 use Rattle.cif_canon.proofs.MadeFits.{have-terms, made-fits}
 use Rattle.cif_canon.proofs.NormalForms.{its-own, normal-unique, reached}
 
--- canonical records of what a slice has, in the window of these dates
-pub records-of_slice : {X K B : Type 0} (cmp : K → K → Ordering) (form : Form) (entry : X → K × Terms B) (h : Header) (first last : ℕ)
-    (xs ys : List X) (runs : List Run) → first ≡ h.first → last ≡ h.last → xs ≡ ys →
-    AreCanonicalRecords cmp form (window_from first last) (map entry xs) runs →
-    AreCanonicalRecords cmp form (header_window h) (map entry ys) runs
-records-of_slice cmp form entry h first last xs ys runs f l is a =
-    subst (λ zs. AreCanonicalRecords cmp form (header_window h) (map entry zs) runs) is
-    (subst (λ n. AreCanonicalRecords cmp form (window_from h.first n) (map entry xs) runs) l
-    (subst (λ n. AreCanonicalRecords cmp form (window_from n last) (map entry xs) runs) f a))
+-- what is said of a slice's entries, in the window of these dates, is said of those of a list, in the header's window
+pub of_slice : {X : Type 0} (says : Window → List X → Type 0) (h : Header) (first last : ℕ) (xs ys : List X) →
+    first ≡ h.first → last ≡ h.last → xs ≡ ys → says (window_from first last) xs → says (header_window h) ys
+of_slice says h first last xs ys f l is a =
+    subst (λ zs. says (header_window h) zs) is
+    (subst (λ n. says (window_from h.first n) xs) l (subst (λ n. says (window_from n last) xs) f a))
+
+-- why there are no canonical records of associations, or of schedules where there are some of associations
+pub associations-fault : (x : ExtractParts) (fault : RecordsFault) →
+    IsRecordsFault key_cmp named.Association (association_entries x.associations) (header_window x.header) fault →
+    IsCanonFault x (extract_fault fault)
+associations-fault x (Clash clash) h = subst (IsFirstClashIn x) (sym h.is) h.first
+associations-fault x Memory h = tt
+
+pub schedules-fault : (x : ExtractParts) → AreClear (association_entries x.associations) x.header.first x.header.last →
+    (fault : RecordsFault) → IsRecordsFault (slice_cmp nat_cmp) named.Train (schedule_entries x.schedules) (header_window x.header) fault →
+    IsCanonFault x (extract_fault fault)
+schedules-fault x clear (Clash clash) h = subst (IsFirstClashIn x) (sym h.is) (clear, h.first)
+schedules-fault x clear Memory h = tt
 
 module _ (form : Form) (x : ExtractParts) (tiplocs : List Tiploc) (distinct : AreDistinct x.tiplocs tiplocs) (associations : List Run)
     (a : AreCanonicalRecords key_cmp form (header_window x.header) (association_entries x.associations) associations) (schedules : List Run)

@@ -39,6 +39,14 @@ before-or-from d m = grind arith
 pub not-below : (m n : ℕ) → (m < n → ⊥) → n ≤ m
 not-below m n h = ⊎_elim (λ less. absurd (h less)) (λ from. from) (before-or-from m n)
 
+-- of the days before one, and of that day
+pub day-more : (holds : ℕ → Type 0) (first day : ℕ) → ((d : ℕ) → first ≤ d → d < day → holds d) → holds day →
+    (d : ℕ) → first ≤ d → d < day + 1 → holds d
+day-more holds first day before here d from below = ⊎_elim
+    (λ earlier. before d from earlier)
+    (λ since. subst holds (let same : day ≡ d = omega (arith, below, since) in same) here)
+    (before-or-from d day)
+
 -- what is found after days of which it holds is found from the first of them on, and up to a later day
 pub found-on : (alike : ℕ → Type 0) (first mid last far day : ℕ) → first ≤ mid → last ≤ far → ((d : ℕ) → first ≤ d → d < mid → alike d) →
     IsFirstOther alike mid last day → IsFirstOther alike first far day

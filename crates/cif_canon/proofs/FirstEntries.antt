@@ -12,13 +12,17 @@ use Rattle.cif_canon.specs.Steps.Turns.{AnyHasKey, AreFrom, HasKey, IsFirstOfBot
 use Rattle.cif_canon.proofs.KeyPositions.{has-key, not_gt}
 use Rattle.cif_canon.proofs.KeyTurns.{from-first, from-lower}
 
+-- the first position is one of an entry
+pub leading-within : (n : ℕ) (rest : List ℕ) (i : ℕ) → All (λ i. i < n) rest → 0 < length rest → ((d : ℕ) → i ≡ get_or rest 0 d) → i < n
+leading-within n rest i within some at = subst (λ p. p < n) (sym (at 0)) (within 0 0 some)
+
 -- the first position has the key of the entry there
 pub leading : {E K B : Type 0} (key : E → K) (terms : E → Terms B) (es : List E) (rest : List ℕ) (i : ℕ) (e : E) →
     All (λ i. i < length es) rest → 0 < length rest → ((d : ℕ) → i ≡ get_or rest 0 d) → e ≡ get_or es i e →
     HasKey (keyed key terms es) (get_or rest 0 0) (key e)
 leading key terms es rest i e within some at is =
     subst (λ p. HasKey (keyed key terms es) p (key e)) (at 0)
-    (has-key key terms es i e (subst (λ p. p < length es) (sym (at 0)) (within 0 0 some)) is)
+    (has-key key terms es i e (leading-within (length es) rest i within some at) is)
 
 lt-not_gt : (o : Ordering) → is_lt o ≡ true → is_gt o ≡ false
 lt-not_gt Less e = refl

@@ -2,12 +2,12 @@
 use Rattle.std.proofs.Common.{◌≡◌, ◌⊎◌, inl, inr, ℕ, ◌<◌, List, [], ◌∷◌, ◌++◌, map, take, drop, length, get_or}
 use Rattle.std.proofs.Common.{refl, sym, ◌∙◌, ap, subst, arith, ⊎_elim, append_assoc, append-nil}
 use Rattle.std.specs.Prelude.{AllPairs, Contains}
-use Rattle.std.specs.Cmp.{IsTotalOrder, tied_itself}
+use Rattle.std.specs.Cmp.{IsTotalOrder}
 use Rattle.std.specs.declared.cmp.Ordering.{Ordering}
-use Rattle.std.specs.declared.cmp.Ordering.TheVariants.{Less, Equal, Greater}
+use Rattle.std.specs.declared.cmp.Ordering.TheVariants.{Less, Equal}
 use Rattle.std.proofs.lemmas.Option.{slice_get_within}
-use Rattle.std.proofs.lemmas.List.{length-take-le, map-append, take-append-drop}
-use Rattle.std.proofs.lemmas.List.Elements.{All-contains, Contains-append_left, Contains-get_or, Contains-push, Contains-push_cases}
+use Rattle.std.proofs.lemmas.List.{map-append}
+use Rattle.std.proofs.lemmas.List.Elements.{Contains-append_left, Contains-get_or, Contains-push, Contains-push_cases}
 use Rattle.std.proofs.lemmas.List.Quantifiers.{all_pairs_push}
 use Rattle.cif_calendar.specs.Calendar.{IsFault}
 use Rattle.cif_calendar.specs.Clash.{IsClearFrom, IsFirstClash}
@@ -17,24 +17,16 @@ use Rattle.cif_calendar.specs.Terms.{Terms}
 use Rattle.cif_calendar.specs.declared.key_calendar.CalendarFault.{CalendarFault}
 use Rattle.cif_calendar.specs.declared.key_calendar.CalendarFault.TheVariants.{Ambiguous, Memory}
 use Rattle.cif_calendar.proofs.NoEntries.{none-clear}
-use Rattle.cif_calendar.proofs.Positions.{at-contains, positions-records}
+use Rattle.cif_calendar.proofs.Positions.{positions-records}
 use Rattle.cif_calendar.proofs.Sets.{IsFirstClash-same}
 use Rattle.cif_extract.specs.declared.fault.Clash.{Clash}
-use Rattle.cif_weeks.proofs.RisingLists.{Contains-none, not_less}
+use Rattle.cif_weeks.proofs.RisingLists.{Contains-none}
 use Rattle.cif_canon.specs.Clashes.{AreClashes}
 use Rattle.cif_canon.specs.Steps.Clashes.{AreAdded, IsAddedOfKey, IsClashAdded, IsFaultAdded}
 use Rattle.cif_canon.specs.Steps.Turns.{AnyHasKey, AreOfFirstKey, HasKey, IsRising}
 use Rattle.cif_canon.proofs.ComparedKeys.{HasPassed, key-or-later, later-less, left-before, passed-more, turn}
-use Rattle.cif_canon.proofs.KeyPositions.{has-key}
-use Rattle.cif_canon.proofs.KeyTurns.{one-key, rising-after}
-
--- two keys are one, or not
-decided : {K : Type 0} (cmp : K → K → Ordering) → IsTotalOrder cmp → ((j k : K) → cmp j k ≡ Equal → j ≡ k) → (j k : K) (o : Ordering) →
-    cmp j k ≡ o → (j ≡ k) ⊎ (j ≡ k → ⊥)
-decided cmp total same j k Equal e = inl (same j k e)
-decided cmp total same j k Less e = inr (λ is. not_less cmp total j k is e)
-decided cmp total same j k Greater e =
-    inr (λ is. let tied : cmp j k ≡ Equal = subst (λ z. cmp j z ≡ Equal) is (tied_itself total j) in cc)
+use Rattle.cif_canon.proofs.KeyRecords.{key-is}
+use Rattle.cif_canon.proofs.KeyTurns.{decided, first-leads, no-entry, rising-after}
 
 module _ {K B : Type 0} (cmp : K → K → Ordering) (es : List (K × Terms B)) (first last : ℕ) where
   -- the clashes of all keys but the ones with entries at `rest`, which are after them
@@ -48,11 +40,6 @@ module _ {K B : Type 0} (cmp : K → K → Ordering) (es : List (K × Terms B)) 
 
   -- at first all positions are left
   module _ (rest : List ℕ) (whole : (i : ℕ) → i < length es → Contains rest i) where
-    no-entry : (k : K) → (AnyHasKey es rest k → ⊥) → (r : Terms B) → of_key es k r → ⊥
-    no-entry k none r in' =
-        let (i, at) = at-contains es (k, r) in' in
-        none (record { position = i; member = whole i (slice_get_within es i (k, r) at); has = record { terms = r; at = at } })
-
     pub searched-nothing : IsRising cmp es rest → IsSearched [] rest
     searched-nothing rising = record {
       rising = rising;
@@ -60,7 +47,7 @@ module _ {K B : Type 0} (cmp : K → K → Ordering) (es : List (K × Terms B)) 
       found_rising = λ i j d less below. absurd (omega arith);
       before = λ x k in' any. absurd (Contains-none x in');
       clashes = λ k d in'. absurd (Contains-none (k, d) in');
-      others = λ k none absent. none-clear (of_key es k) (no-entry k none) first last;
+      others = λ k none absent. none-clear (of_key es k) (no-entry es rest whole k none) first last;
     }
 
   -- in the end none is
@@ -74,16 +61,7 @@ module _ {K B : Type 0} (cmp : K → K → Ordering) (es : List (K × Terms B)) 
   module _ (total : IsTotalOrder cmp) (same : (j k : K) → cmp j k ≡ Equal → j ≡ k) (found : List (K × ℕ)) (rest : List ℕ)
       (s : IsSearched found rest) (n : ℕ) (run : AreOfFirstKey cmp es rest n) where
     leads : AnyHasKey es rest run.key
-    leads =
-        let len : length (take n rest) ≡ n = length-take-le n rest run.front.upto in
-        let some : 0 < n = run.some in
-        let c : Contains (take n rest) (get_or (take n rest) 0 0) = Contains-get_or (take n rest) 0 0 (omega arith) in
-        record {
-          position = get_or (take n rest) 0 0;
-          member = subst (λ (xs : List ℕ). Contains xs (get_or (take n rest) 0 0)) (take-append-drop n rest)
-              (Contains-append_left (take n rest) (drop n rest) (get_or (take n rest) 0 0) c);
-          has = All-contains (λ i. HasKey es i run.key) (take n rest) (get_or (take n rest) 0 0) run.front.same c;
-        }
+    leads = first-leads cmp es rest n run
 
     -- the first positions are those of their key
     pub own-turn : ArePositionsOf es run.key (take n rest)
@@ -188,13 +166,10 @@ pub clash-added : {E K B : Type 0} (key : E → K) (terms : E → Terms B) (name
     e ≡ get_or es i e → (d : ℕ) → IsFirstClash (IsChosen (map terms es) members) first last d → (known all : List Clash) →
     all ≡ known ++ (name (key e) d ∷ []) → IsClashAdded name (keyed key terms es) first last k known all
 clash-added key terms name es first last k members p i member e below at d clash known all is =
-    let found = p.found i member in
-    let own : key e ≡ k =
-    one-key (keyed key terms es) i (key e) k (has-key key terms es i e below at) (record { terms = found.0; at = found.1 }) in
     record {
       day = d;
       clash = IsFirstClash-same _ _ (positions-records key terms es k members p) first last d clash;
-      added = is ∙ ap (λ j. known ++ (name j d ∷ [])) own;
+      added = is ∙ ap (λ j. known ++ (name j d ∷ [])) (key-is key terms es k members p i member e below at);
     }
 
 -- what a fault of its calendar adds is the first clash of the key

@@ -12,7 +12,7 @@ use Rattle.cif_calendar.specs.Keys.{of_key}
 use Rattle.cif_calendar.specs.Meaning.{EntriesSayTheSame}
 use Rattle.cif_calendar.specs.Runs.{Runs}
 use Rattle.cif_calendar.specs.Terms.{Terms}
-use Rattle.cif_calendar.proofs.Elements.{Contains-first, Contains-rest, Contains-cases}
+use Rattle.cif_calendar.proofs.Elements.{Contains-first}
 use Rattle.cif_weeks.specs.Canonical.{AreCanonical, with_key}
 use Rattle.cif_weeks.specs.HaveForm.{HaveForm}
 use Rattle.cif_weeks.specs.Permanent.{Permanent, Permanents}
@@ -32,7 +32,7 @@ use Rattle.cif_canon.specs.declared.listed_differences.Side.{Side}
 use Rattle.cif_canon.specs.declared.listed_differences.Side.TheVariants.{Left, Right}
 use Rattle.cif_canon.specs.declared.listed_differences.Sided.{Sided}
 use Rattle.cif_canon.proofs.ComparedKeys.{ArePassed, IsLeft, nobody, pass, passed-nothing, turns}
-use Rattle.cif_canon.proofs.MergedSides.{of_side-append, side-member}
+use Rattle.cif_canon.proofs.MergedSides.{from-side, of_side-append, side-member}
 use Rattle.cif_canon.proofs.OnlyRuns.{pairs-zip}
 
 -- the runs are those of the canonical records of what only the first list says of key k
@@ -152,22 +152,6 @@ abbrev DatesBefore : {K B : Type 0} → Sided (K × Permanent B) → Sided (K ×
 DatesBefore s t = (s.it.1.first < t.it.1.first) ⊎ ((s.it.1.first ≡ t.it.1.first) × (s.side ≡ Left) × (t.side ≡ Right))
 
 -- what is of a side is listed with it
-from-one : {A : Type 0} (side t : Side) (x e : A) (u : List A) → Contains (if is_side side t then x ∷ u else u) e →
-    ((t ≡ side) × (x ≡ e)) ⊎ Contains u e
-from-one Left Left x e u h = ⊎_elim (λ is. inl (refl, is)) (λ later. inr later) (Contains-cases x u e h)
-from-one Left Right x e u h = inr h
-from-one Right Left x e u h = inr h
-from-one Right Right x e u h = ⊎_elim (λ is. inl (refl, is)) (λ later. inr later) (Contains-cases x u e h)
-
-from-side : {A : Type 0} (side : Side) (found : List (Sided A)) (e : A) → Contains (of_side side found) e →
-    Contains found (record { side = side; it = e })
-from-side side [] e h = absurd (Contains-none e h)
-from-side side (s ∷ found) e h = ⊎_elim
-    (λ is. subst (λ v. Contains (s ∷ found) (record { side = side; it = v })) is.1
-    (subst (λ t. Contains (s ∷ found) (record { side = t; it = s.it })) is.0 (Contains-first s found)))
-    (λ later. Contains-rest s found (record { side = side; it = e }) (from-side side found e later))
-    (from-one side s.side s.it e (of_side side found) h)
-
 -- records that a key's list begins with have that key
 with-key : {K B : Type 0} (k : K) (own : List (Permanent B)) (e : K × Permanent B) → Contains (with_key k own) e → e.0 ≡ k
 with-key {K} {B} k own e in' =

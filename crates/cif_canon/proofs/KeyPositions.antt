@@ -1,7 +1,6 @@
 -- Positions in the order of their keys.
-use Rattle.std.proofs.Common.{◌≡◌, ℕ, ◌+◌, ◌<◌, List, true, false, length, get_or}
-use Rattle.std.proofs.Common.{refl, sym, arith, map, subst}
-use Rattle.std.proofs.lemmas.Option.{slice_get_within}
+use Rattle.std.proofs.Common.{◌≡◌, ℕ, ◌+◌, ◌<◌, Bool, List, true, false, not, length, get_or}
+use Rattle.std.proofs.Common.{refl, sym, arith}
 use Rattle.std.specs.Prelude.{Contains, All}
 use Rattle.std.specs.List.{range_with_len}
 use Rattle.std.specs.Ordering.{is_gt, is_lt, is_le, ordering_reverse}
@@ -10,11 +9,7 @@ use Rattle.std.specs.declared.cmp.Ordering.TheVariants.{Less, Equal, Greater}
 use Rattle.std.proofs.lemmas.List.{length-map}
 use Rattle.std.proofs.lemmas.List.FromFn.{length-range_with_len, get_or-range_with_len}
 use Rattle.cif_calendar.specs.Terms.{Terms}
-use Rattle.cif_calendar.specs.Keys.{IsFirstClashOf, keyed}
-use Rattle.cif_weeks.specs.Window.{Window}
-use Rattle.cif_canon.specs.Steps.Records.{IsClashAt, IsRecordsFault}
-use Rattle.cif_canon.specs.declared.records.RecordsFault.{RecordsFault}
-use Rattle.cif_canon.specs.declared.records.RecordsFault.TheVariants.{Clash}
+use Rattle.cif_calendar.specs.Keys.{keyed}
 use Rattle.cif_calendar.proofs.Winning.{terms_at}
 use Rattle.cif_canon.specs.Steps.Turns.{HasKey}
 
@@ -30,6 +25,11 @@ range-whole n i h =
     let e : length (range_with_len 0 n) ≡ n = length-range_with_len 0 n in
     let at : get_or (range_with_len 0 n) i i ≡ 0 + i = get_or-range_with_len 0 n i i h in
     (i, (let z : i < length (range_with_len 0 n) = omega arith in z), (let z : get_or (range_with_len 0 n) i i ≡ i = omega arith in z))
+
+-- what a test says
+pub true_from_not : (b : Bool) → not b ≡ false → b ≡ true
+true_from_not true h = refl
+true_from_not false h = sym h
 
 pub not_gt : (o : Ordering) → is_lt o ≡ false → is_gt (ordering_reverse o) ≡ false
 not_gt Less h = h
@@ -52,18 +52,3 @@ module _ {E K B : Type 0} (key : E → K) (terms : E → Terms B) where
   pub all-within : (es : List E) (positions : List ℕ) → All (λ i. i < length (keyed key terms es)) positions
       → All (λ i. i < length es) positions
   all-within es positions h k d below = within-entries es (get_or positions k d) (h k d below)
-
--- the entry with a clash, by the value that stands at its position
-module _ {X K B : Type 0} (entry : X → K × Terms B) (xs : List X) (cmp : K → K → Ordering) (window : Window) (fault : RecordsFault)
-    (h : IsRecordsFault cmp (map entry xs) window fault) (member day : ℕ) (is : fault ≡ Clash member day) where
-  at-clash : IsClashAt cmp (map entry xs) window member day
-  at-clash = subst (IsRecordsFault cmp (map entry xs) window) is h
-
-  pub clash-within : member < length xs
-  clash-within = omega (arith, slice_get_within (map entry xs) member at-clash.entry at-clash.at, length-map xs entry)
-
-  pub clash-of : (x : X) → x ≡ get_or xs member x → IsFirstClashOf cmp (map entry xs) window.first window.last (entry x).0 day
-  clash-of x same =
-      let at = terms_at entry xs member x clash-within same in
-      let e : at-clash.entry ≡ entry x = cc (at, at-clash.at) in
-      subst (λ (e : K × Terms B). IsFirstClashOf cmp (map entry xs) window.first window.last e.0 day) e at-clash.clash

@@ -1,5 +1,5 @@
 -- The runs of a key's calendar are those of the key's canonical records.
-use Rattle.std.proofs.Common.{◌≡◌, ℕ, List, [], ◌∷◌, Some, map, sym, ◌∙◌, ap, subst}
+use Rattle.std.proofs.Common.{◌≡◌, ℕ, ◌<◌, List, [], ◌∷◌, Some, map, length, get_or, sym, ◌∙◌, ap, subst}
 use Rattle.std.specs.Prelude.{All, Contains, IsNone, ◌↔◌}
 use Rattle.std.specs.List.{AllZip}
 use Rattle.std.specs.Option.{option_and_then}
@@ -14,6 +14,7 @@ use Rattle.cif_calendar.specs.Source.{IsChosen}
 use Rattle.cif_calendar.proofs.KeyCalendar.{key-clear, key-runs, key-source, key-fault}
 use Rattle.cif_calendar.proofs.Positions.{positions-records, terms_at-keyed}
 use Rattle.cif_calendar.proofs.Sets.{IsClearFrom-same, Runs-same}
+use Rattle.cif_extract.specs.declared.fault.Clash.{Clash}
 use Rattle.cif_weeks.specs.Canonical.{with_key}
 use Rattle.cif_weeks.specs.HaveForm.{HaveForm}
 use Rattle.cif_weeks.specs.MemberRuns.{AreRunsOfMembers, IsMembersRun}
@@ -24,15 +25,24 @@ use Rattle.cif_weeks.specs.declared.form.Form.{Form}
 use Rattle.cif_weeks.specs.declared.run.Run.{Run}
 use Rattle.cif_weeks.proofs.CalendarSources.{firsts-within}
 use Rattle.cif_canon.specs.Steps.Records.{IsRunOf, AreRunsOfKey, IsKeyFault, records_fault}
+use Rattle.cif_canon.proofs.KeyPositions.{has-key}
+use Rattle.cif_canon.proofs.KeyTurns.{one-key}
 
 module _ {E K B : Type 0} (key : E → K) (terms : E → Terms B) (es : List E) (k : K) (members : List ℕ)
     (p : ArePositionsOf (keyed key terms es) k members) where
+  -- an entry at its positions has the key
+  pub key-is : (i : ℕ) → Contains members i → (e : E) → i < length es → e ≡ get_or es i e → key e ≡ k
+  key-is i member e below at =
+      let found = p.found i member in
+      one-key (keyed key terms es) i (key e) k (has-key key terms es i e below at) (record { terms = found.0; at = found.1 })
+
   -- a fault of the key's calendar is one of the key
-  pub key_fault : (m : ℕ) → Contains members m → (first last : ℕ) (fault : CalendarFault) →
-      IsFault (IsChosen (map terms es) members) first last fault →
-      IsKeyFault (window_from first last) (keyed key terms es) members k (records_fault fault m)
-  key_fault m member first last Memory h = tt
-  key_fault m member first last (Ambiguous day) h = (member, key-fault key terms es k members p first last (Ambiguous day) h)
+  pub key_fault : (name : K → ℕ → Clash) (i : ℕ) → Contains members i → (e : E) → i < length es → e ≡ get_or es i e →
+      (first last : ℕ) (fault : CalendarFault) → IsFault (IsChosen (map terms es) members) first last fault →
+      IsKeyFault name (window_from first last) (keyed key terms es) k (records_fault (name (key e)) fault)
+  key_fault name i member e below at first last Memory h = tt
+  key_fault name i member e below at first last (Ambiguous day) h =
+      (day, ap (λ j. name j day) (key-is i member e below at), key-fault key terms es k members p first last (Ambiguous day) h)
 
   members-runs : (runs : List Run) (records : List (Permanent B)) → AllZip (IsMembersRun (map terms es) members) runs records →
       AllZip (IsRunOf (keyed key terms es)) runs (with_key k records)

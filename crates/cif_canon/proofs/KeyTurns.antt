@@ -1,17 +1,20 @@
 -- How many positions have the first key, where they are in the order of their keys.
-use Rattle.std.proofs.Common.{◌≡◌, ℕ, zero, suc, ◌+◌, ◌-◌, ◌<◌, ◌≤◌, List, false, true≢false, take, drop, length, get_or}
+use Rattle.std.proofs.Common.{◌≡◌, ◌⊎◌, inl, inr, ℕ, zero, suc, ◌+◌, ◌-◌, ◌<◌, ◌≤◌, List, false, true≢false, take, drop, length, get_or}
 use Rattle.std.proofs.Common.{refl, sym, ◌∙◌, ap, subst, arith, ⊎_elim}
-use Rattle.std.specs.Prelude.{All}
+use Rattle.std.specs.Prelude.{All, Contains}
 use Rattle.std.specs.Ordering.{is_gt}
 use Rattle.std.specs.Cmp.{IsTotalOrder, alike_right, tied_itself}
 use Rattle.std.specs.declared.cmp.Ordering.{Ordering}
 use Rattle.std.specs.declared.cmp.Ordering.TheVariants.{Less, Equal, Greater}
 use Rattle.std.proofs.lemmas.Bool.{cases_lt}
-use Rattle.std.proofs.lemmas.Option.{same_Some}
-use Rattle.std.proofs.lemmas.List.{length-drop, get_or-drop, get_or_default}
+use Rattle.std.proofs.lemmas.Option.{same_Some, slice_get_within}
+use Rattle.std.proofs.lemmas.List.{length-drop, length-take-le, get_or-drop, get_or_default, take-append-drop}
+use Rattle.std.proofs.lemmas.List.Elements.{All-contains, Contains-append_left, Contains-get_or}
+use Rattle.cif_calendar.specs.Keys.{of_key}
+use Rattle.cif_calendar.proofs.Positions.{at-contains}
 use Rattle.cif_calendar.specs.Terms.{Terms}
 use Rattle.cif_weeks.proofs.RisingLists.{not_less}
-use Rattle.cif_canon.specs.Steps.Turns.{AreFrom, HasKey, AreOfFirstKey, IsFront, IsNotAfter, IsRising}
+use Rattle.cif_canon.specs.Steps.Turns.{AnyHasKey, AreFrom, HasKey, AreOfFirstKey, IsFront, IsNotAfter, IsRising}
 
 -- a position has one key
 pub one-key : {K B : Type 0} (es : List (K × Terms B)) (i : ℕ) (j k : K) → HasKey es i j → HasKey es i k → j ≡ k
@@ -41,6 +44,35 @@ module _ {K : Type 0} (cmp : K → K → Ordering) (total : IsTotalOrder cmp) (s
   pub from-lower : {B : Type 0} (es : List (K × Terms B)) (rest : List ℕ) (k a : K) → is_gt (cmp k a) ≡ false → AreFrom cmp es rest a →
       AreFrom cmp es rest k
   from-lower es rest k a n from i d below j has = not-after k a j (cmp k a) refl n (from i d below j has)
+
+-- two keys are one, or not
+pub decided : {K : Type 0} (cmp : K → K → Ordering) → IsTotalOrder cmp → ((j k : K) → cmp j k ≡ Equal → j ≡ k) → (j k : K) (o : Ordering) →
+    cmp j k ≡ o → (j ≡ k) ⊎ (j ≡ k → ⊥)
+decided cmp total same j k Equal e = inl (same j k e)
+decided cmp total same j k Less e = inr (λ is. not_less cmp total j k is e)
+decided cmp total same j k Greater e =
+    inr (λ is. let tied : cmp j k ≡ Equal = subst (λ z. cmp j z ≡ Equal) is (tied_itself total j) in cc)
+
+-- where all positions are left, a key that is at none has no entry
+pub no-entry : {K B : Type 0} (es : List (K × Terms B)) (rest : List ℕ) → ((i : ℕ) → i < length es → Contains rest i) → (k : K) →
+    (AnyHasKey es rest k → ⊥) → (r : Terms B) → of_key es k r → ⊥
+no-entry es rest whole k none r in' =
+    let (i, at) = at-contains es (k, r) in' in
+    none (record { position = i; member = whole i (slice_get_within es i (k, r) at); has = record { terms = r; at = at } })
+
+-- the first key is at the positions
+pub first-leads : {K B : Type 0} (cmp : K → K → Ordering) (es : List (K × Terms B)) (rest : List ℕ) (n : ℕ)
+    (run : AreOfFirstKey cmp es rest n) → AnyHasKey es rest run.key
+first-leads cmp es rest n run =
+    let len : length (take n rest) ≡ n = length-take-le n rest run.front.upto in
+    let some : 0 < n = run.some in
+    let c : Contains (take n rest) (get_or (take n rest) 0 0) = Contains-get_or (take n rest) 0 0 (omega arith) in
+    record {
+      position = get_or (take n rest) 0 0;
+      member = subst (λ (xs : List ℕ). Contains xs (get_or (take n rest) 0 0)) (take-append-drop n rest)
+          (Contains-append_left (take n rest) (drop n rest) (get_or (take n rest) 0 0) c);
+      has = All-contains (λ i. HasKey es i run.key) (take n rest) (get_or (take n rest) 0 0) run.front.same c;
+    }
 
 module _ {K B : Type 0} (cmp : K → K → Ordering) (es : List (K × Terms B)) (rest : List ℕ) (rising : IsRising cmp es rest) where
   -- the positions after the first n are in order too

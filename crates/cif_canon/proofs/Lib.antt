@@ -5,6 +5,7 @@ pub mod CanonTexts
 pub mod ChosenRecords
 pub mod ClashLists
 pub mod ComparedCalendars
+pub mod CompareFaults
 pub mod ComparedKeys
 pub mod DifferentDays
 pub mod DifferentTiplocs
@@ -43,3 +44,4 @@ pub mod ViewLines
 pub mod ViewTexts
 pub mod WrittenCanon
 pub mod WrittenDifferences
+pub mod WrittenLists

@@ -1,15 +1,13 @@
 -- The differences of two extracts, from those of their locations, their associations and their schedules.
-use Rattle.std.proofs.Common.{◌≡◌, ◌⊎◌, inl, inr, ◌≤◌, List, [], ◌∷◌, refl, sym, ◌∙◌, subst, ⊎_elim}
-use Rattle.std.specs.Prelude.{All, Contains, ◌↔◌}
+use Rattle.std.proofs.Common.{◌≡◌, ◌⊎◌, inl, inr, ◌≤◌, List, [], refl, sym, ap, ◌∙◌, subst, ⊎_elim}
+use Rattle.std.specs.Prelude.{All, Contains, ◌↔◌, slice_get}
 use Rattle.std.specs.Cmp.Lexicographic.{slice_cmp}
 use Rattle.std.specs.Ordering.{nat_cmp}
 use Rattle.std.specs.declared.cmp.Ordering.{Ordering}
-use Rattle.std.specs.declared.cmp.Ordering.TheVariants.{Less, Equal, Greater}
 use Rattle.std.proofs.lemmas.List.Elements.{Contains-get_or}
 use Rattle.cif_calendar.specs.Entries.{association_entries, schedule_entries}
 use Rattle.cif_calendar.specs.Meaning.{EntriesSayTheSame}
 use Rattle.cif_calendar.specs.Terms.{Terms}
-use Rattle.cif_calendar.proofs.Elements.{Contains-first, Contains-rest, Contains-cases}
 use Rattle.cif_extract.specs.ExtractParts.{ExtractParts}
 use Rattle.cif_records.specs.AssocKey.{key_cmp}
 use Rattle.cif_records.specs.declared.tiploc.Tiploc.{Tiploc}
@@ -19,7 +17,6 @@ use Rattle.cif_weeks.specs.Window.{Window}
 use Rattle.cif_weeks.specs.declared.form.Form.TheVariants.{Two}
 use Rattle.cif_weeks.specs.declared.run.Run.{Run}
 use Rattle.cif_weeks.proofs.AlignedDays.{tight}
-use Rattle.cif_weeks.proofs.RisingLists.{Contains-none}
 use Rattle.cif_canon.specs.Accepted.{IsClearExtract}
 use Rattle.cif_canon.specs.Asked.{header_window}
 use Rattle.cif_canon.specs.Differences.{AreDifferences, AreDifferentRecords, AreDifferentTiplocs, AreNone, DifferencesParts}
@@ -30,11 +27,10 @@ use Rattle.cif_canon.specs.Steps.Sides.{HasSidedRecord, sided_records}
 use Rattle.cif_canon.specs.declared.listed_differences.Side.{Side}
 use Rattle.cif_canon.specs.declared.listed_differences.Side.TheVariants.{Left, Right}
 use Rattle.cif_canon.specs.declared.listed_differences.Sided.{Sided}
-use Rattle.cif_canon.proofs.DifferentTiplocs.{before-greater, equal-tiplocs}
+use Rattle.cif_canon.proofs.DifferentTiplocs.{has-or-not, no-tiploc}
 use Rattle.cif_canon.proofs.FoundRecords.{no-member}
 use Rattle.cif_canon.proofs.MergedSides.{side-member}
 use Rattle.cif_canon.proofs.SidedTexts.{have-sided_records, records-of_runs}
-use Rattle.cif_canon.proofs.SiftedTiplocs.{not-itself}
 
 -- ---- one kind of record
 
@@ -66,22 +62,6 @@ module _ {K B : Type 0} (cmp : K → K → Ordering) (window : Window) (xs ys : 
 
 -- ---- locations
 
-same-or-not : (s t : Tiploc) (o : Ordering) → slice_cmp nat_cmp s.columns t.columns ≡ o → (s ≡ t) ⊎ (s ≡ t → ⊥)
-same-or-not s t Equal e = inl (equal-tiplocs s t e)
-same-or-not s t Less e = inr (λ is. not-itself t (subst (λ u. slice_cmp nat_cmp u.columns t.columns ≡ Less) is e))
-same-or-not s t Greater e =
-    inr (λ is. not-itself t (before-greater t t (subst (λ u. slice_cmp nat_cmp u.columns t.columns ≡ Greater) is e)))
-
-has-or-not : (xs : List Tiploc) (t : Tiploc) → Contains xs t ⊎ (Contains xs t → ⊥)
-has-or-not [] t = inr (λ h. Contains-none t h)
-has-or-not (x ∷ xs) t = ⊎_elim
-    (λ is. inl (subst (λ u. Contains (x ∷ xs) u) is (Contains-first x xs)))
-    (λ apart. ⊎_elim
-    (λ later. inl (Contains-rest x xs t later))
-    (λ none. inr (λ h. ⊎_elim (λ is. apart is) (λ later. none later) (Contains-cases x xs t h)))
-    (has-or-not xs t))
-    (same-or-not x t (slice_cmp nat_cmp x.columns t.columns) refl)
-
 module _ (xs ys : List Tiploc) (found : List (Sided Tiploc)) (a : AreDifferentTiplocs xs ys found) where
   pub tiplocs-turn : (t : Tiploc) → Contains ys t
       ↔ (Contains (of_side Right found) t ⊎ (Contains xs t × ¬ Contains (of_side Left found) t))
@@ -96,9 +76,6 @@ module _ (xs ys : List Tiploc) (found : List (Sided Tiploc)) (a : AreDifferentTi
         h,
   )
 
-  only-none : (side : Side) (t : Tiploc) → found ≡ [] → Contains (of_side side found) t → ⊥
-  only-none side t is h = Contains-none t (subst (λ (z : List (Sided Tiploc)). Contains (of_side side z) t) is h)
-
   one-side : ((t : Tiploc) → Contains xs t ↔ Contains ys t) → (s : Sided Tiploc) (side : Side) → s.side ≡ side →
       Contains (of_side side found) s.it → ⊥
   one-side same s Left is h = let only = (a.left s.it).0 h in only.1 ((same s.it).0 only.0)
@@ -106,10 +83,7 @@ module _ (xs ys : List Tiploc) (found : List (Sided Tiploc)) (a : AreDifferentTi
 
   pub tiplocs-none : (found ≡ []) ↔ ((t : Tiploc) → Contains xs t ↔ Contains ys t)
   tiplocs-none = (
-    λ is t. (
-      λ h. ⊎_elim (λ has. has) (λ none. absurd (only-none Left t is ((a.left t).1 (h, none)))) (has-or-not ys t),
-      λ h. ⊎_elim (λ has. has) (λ none. absurd (only-none Right t is ((a.right t).1 (h, none)))) (has-or-not xs t),
-    ),
+    λ is. no-tiploc xs ys found a (ap (λ z. slice_get z 0) is),
     λ same. no-member found (λ s in'. one-side same s s.side refl (side-member found s in')),
   )
 

@@ -1,19 +1,19 @@
 -- The canonical records are made key by key, over positions in the order of their keys.
-use Rattle.std.proofs.Common.{◌≡◌, ◌⊎◌, inl, inr, ℕ, ◌<◌, List, [], ◌++◌, take, drop, length, get_or}
-use Rattle.std.proofs.Common.{refl, sym, subst, arith, ⊎_elim}
+use Rattle.std.proofs.Common.{◌≡◌, ◌⊎◌, inl, inr, ℕ, ◌<◌, List, [], ◌++◌, take, drop, length}
+use Rattle.std.proofs.Common.{refl, sym, subst, ⊎_elim}
 use Rattle.std.specs.Prelude.{Contains, ◌↔◌}
 use Rattle.std.specs.List.{AllZip}
-use Rattle.std.specs.Cmp.{IsTotalOrder, tied_itself}
+use Rattle.std.specs.Cmp.{IsTotalOrder}
 use Rattle.std.specs.declared.cmp.Ordering.{Ordering}
-use Rattle.std.specs.declared.cmp.Ordering.TheVariants.{Less, Equal, Greater}
+use Rattle.std.specs.declared.cmp.Ordering.TheVariants.{Less, Equal}
 use Rattle.std.proofs.lemmas.Option.{slice_get_within}
-use Rattle.std.proofs.lemmas.List.{length-take-le, take-append-drop}
-use Rattle.std.proofs.lemmas.List.Elements.{All-contains, Contains-get_or}
-use Rattle.std.proofs.lemmas.List.Elements.{Contains-append_left, Contains-append_right, Contains-append_cases}
+use Rattle.std.proofs.lemmas.List.{take-append-drop}
+use Rattle.std.proofs.lemmas.List.Elements.{All-contains}
+use Rattle.std.proofs.lemmas.List.Elements.{Contains-append_right, Contains-append_cases}
 use Rattle.cif_calendar.specs.Terms.{Terms, AreLawful}
 use Rattle.cif_calendar.specs.Keys.{of_key, ArePositionsOf}
-use Rattle.cif_calendar.proofs.Positions.{at-contains}
 use Rattle.cif_calendar.proofs.NoEntries.{none-clear}
+use Rattle.cif_extract.specs.declared.fault.Clash as named
 use Rattle.cif_weeks.specs.Canonical.{AreCanonical, with_key}
 use Rattle.cif_weeks.specs.Permanent.{Permanent, Permanents}
 use Rattle.cif_weeks.specs.Window.{Window}
@@ -27,7 +27,7 @@ use Rattle.cif_canon.specs.Steps.Records.{IsRunOf, AreSaid, AreRunsOfKey, AreCan
 use Rattle.cif_canon.specs.Steps.Turns.{HasKey, AnyHasKey, IsRising, AreOfFirstKey}
 use Rattle.cif_canon.specs.declared.records.RecordsFault.{RecordsFault}
 use Rattle.cif_canon.specs.declared.records.RecordsFault.TheVariants.{Clash, Memory}
-use Rattle.cif_canon.proofs.KeyTurns.{one-key, rising-after}
+use Rattle.cif_canon.proofs.KeyTurns.{decided, first-leads, no-entry, one-key, rising-after}
 
 -- sets of records that are the same say the same of a key
 AreSaid-same : {K B : Type 0} (window : Window) (es : List (K × Terms B)) (k : K) (xs ys : Permanents B) →
@@ -54,11 +54,6 @@ module _ {K B : Type 0} (cmp : K → K → Ordering) (form : Form) (window : Win
 
   -- at first all positions are left
   module _ (rest : List ℕ) (whole : (i : ℕ) → i < length es → Contains rest i) where
-    no-entry : (k : K) → (AnyHasKey es rest k → ⊥) → (r : Terms B) → of_key es k r → ⊥
-    no-entry k none r in' =
-        let (i, at) = at-contains es (k, r) in' in
-        none (record { position = i; member = whole i (slice_get_within es i (k, r) at); has = record { terms = r; at = at } })
-
     pub made-nothing : IsRising cmp es rest → IsMade [] rest
     made-nothing rising = record {
       rising = rising;
@@ -68,9 +63,9 @@ module _ {K B : Type 0} (cmp : K → K → Ordering) (form : Form) (window : Win
       canonical = canonical-none cmp form window;
       before = λ j k r in' any. absurd (Contains-none (j, r) in');
       said = λ k none. record {
-        clear = none-clear (of_key es k) (no-entry k none) window.first window.last;
+        clear = none-clear (of_key es k) (no-entry es rest whole k none) window.first window.last;
         say = λ n b within. (
-          λ runs. absurd (no-entry k none runs.winner runs.wins.listed),
+          λ runs. absurd (no-entry es rest whole k none runs.winner runs.wins.listed),
           λ has. absurd (Contains-none (k, has.it) has.listed),
         );
       };
@@ -112,21 +107,7 @@ module _ {K B : Type 0} (cmp : K → K → Ordering) (form : Form) (window : Win
     }
 
     leads : AnyHasKey es rest run.key
-    leads =
-        let len : length (take n rest) ≡ n = length-take-le n rest run.front.upto in
-        let some : 0 < n = run.some in
-        let c : Contains (take n rest) (get_or (take n rest) 0 0) = Contains-get_or (take n rest) 0 0 (omega arith) in
-        record {
-          position = get_or (take n rest) 0 0;
-          member = subst (λ (xs : List ℕ). Contains xs (get_or (take n rest) 0 0)) (take-append-drop n rest)
-              (Contains-append_left (take n rest) (drop n rest) (get_or (take n rest) 0 0) c);
-          has = at-run (get_or (take n rest) 0 0) c;
-        }
-
-    decided : (j k : K) (o : Ordering) → cmp j k ≡ o → (j ≡ k) ⊎ (j ≡ k → ⊥)
-    decided j k Equal e = inl (same j k e)
-    decided j k Less e = inr (λ is. not_less cmp total j k is e)
-    decided j k Greater e = inr (λ is. let tied : cmp j k ≡ Equal = subst (λ z. cmp j z ≡ Equal) is (tied_itself total j) in cc)
+    leads = first-leads cmp es rest n run
 
     -- the run has the positions of its key
     turn : ArePositionsOf es run.key (take n rest)
@@ -148,15 +129,15 @@ module _ {K B : Type 0} (cmp : K → K → Ordering) (form : Form) (window : Win
         (either any.position any.member)
 
     -- a fault of the run's key is the first, as the keys before are clear
-    pub made-fault : (fault : RecordsFault) →
-        ((k : K) → ArePositionsOf es k (take n rest) → IsKeyFault window es (take n rest) k fault) → IsRecordsFault cmp es window fault
-    made-fault Memory f = tt
-    made-fault (Clash m d) f =
-        let (member, clash) = f run.key turn in
-        let has = at-run m member in record {
-          entry = (run.key, has.terms);
-          at = has.at;
-          clash = record { clash = clash; clear_before = λ j less. (made.said j (not-before j less)).clear };
+    pub made-fault : (name : K → ℕ → named.Clash) (fault : RecordsFault) →
+        ((k : K) → ArePositionsOf es k (take n rest) → IsKeyFault name window es k fault) → IsRecordsFault cmp name es window fault
+    made-fault name Memory f = tt
+    made-fault name (Clash clash) f =
+        let (day, is, first) = f run.key turn in record {
+          key = run.key;
+          day = day;
+          is = is;
+          first = record { clash = first; clear_before = λ j less. (made.said j (not-before j less)).clear };
         }
 
     module _ (own : List Run) (owns : (k : K) → ArePositionsOf es k (take n rest) → AreRunsOfKey form window es k own) where
@@ -205,5 +186,5 @@ module _ {K B : Type 0} (cmp : K → K → Ordering) (form : Form) (window : Win
             (λ old. made.before j k r old (left k any))
             (λ new. subst (λ i. cmp i k ≡ Less) (sym new.0) (at-later any.position k any.member any.has))
             ((of_key-more made.records run.key a.records j r).0 in');
-        said = λ k none. said-more k none (decided k run.key (cmp k run.key) refl);
+        said = λ k none. said-more k none (decided cmp total same k run.key (cmp k run.key) refl);
       }

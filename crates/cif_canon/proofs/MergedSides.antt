@@ -60,6 +60,23 @@ module _ {A : Type 0} where
   pub pairs-tail : (R : A → A → Type 0) (x : A) (xs : List A) → AllPairs R (x ∷ xs) → AllPairs R xs
   pairs-tail R x xs all i j d less below = all (suc i) (suc j) d (omega arith) (omega arith)
 
+-- an element of a side is one of the list
+from-one : {A : Type 0} (side t : Side) (x e : A) (u : List A) → Contains (if is_side side t then x ∷ u else u) e →
+    ((t ≡ side) × (x ≡ e)) ⊎ Contains u e
+from-one Left Left x e u h = ⊎_elim (λ is. inl (refl, is)) (λ later. inr later) (Contains-cases x u e h)
+from-one Left Right x e u h = inr h
+from-one Right Left x e u h = inr h
+from-one Right Right x e u h = ⊎_elim (λ is. inl (refl, is)) (λ later. inr later) (Contains-cases x u e h)
+
+pub from-side : {A : Type 0} (side : Side) (found : List (Sided A)) (e : A) → Contains (of_side side found) e →
+    Contains found (record { side = side; it = e })
+from-side side [] e h = absurd (Contains-none e h)
+from-side side (s ∷ found) e h = ⊎_elim
+    (λ is. subst (λ v. Contains (s ∷ found) (record { side = side; it = v })) is.1
+    (subst (λ t. Contains (s ∷ found) (record { side = t; it = s.it })) is.0 (Contains-first s found)))
+    (λ later. Contains-rest s found (record { side = side; it = e }) (from-side side found e later))
+    (from-one side s.side s.it e (of_side side found) h)
+
 -- ---- which run is first
 
 -- it doesn't begin after those of the other side

@@ -3,24 +3,20 @@ use Rattle.std.proofs.Common.{◌≡◌, ◌⊎◌, inl, inr, ◌+◌, ◌<◌, 
 use Rattle.std.proofs.Common.{refl, sym, ap, ◌∙◌, subst, arith, ⊎_elim, append-nil, take, ◌-◌}
 use Rattle.std.proofs.lemmas.List.{length-drop, take_all}
 use Rattle.std.specs.Prelude.{AllPairs, Contains, ◌↔◌}
-use Rattle.std.specs.Cmp.Lexicographic.{nat_list_cmp_total, slice_cmp}
-use Rattle.std.specs.Ordering.{nat_cmp}
+use Rattle.std.specs.Cmp.Lexicographic.{nat_list_cmp_total}
 use Rattle.std.specs.declared.cmp.Ordering.TheVariants.{Less, Equal, Greater}
 use Rattle.std.proofs.lemmas.List.Elements.{Contains-append_cases, Contains-append_left, Contains-append_right}
 use Rattle.cif_calendar.proofs.Elements.{Contains-first, Contains-rest, Contains-cases}
 use Rattle.cif_records.specs.declared.tiploc.Tiploc.{Tiploc}
 use Rattle.cif_weeks.proofs.JoinedLists.{AllPairs-append}
-use Rattle.cif_weeks.proofs.RisingLists.{Contains-none, not_less}
+use Rattle.cif_weeks.proofs.RisingLists.{Contains-none}
 use Rattle.cif_canon.specs.Differences.{AreDifferentTiplocs, of_side}
 use Rattle.cif_canon.specs.Steps.OnlySides.{AreSifting, HasMoved, IsFirstOrder}
 use Rattle.cif_canon.specs.Steps.Tiplocs.{AreDistinct}
 use Rattle.cif_canon.specs.declared.listed_differences.Side.TheVariants.{Left, Right}
 use Rattle.cif_canon.specs.declared.listed_differences.Sided.{Sided}
-use Rattle.cif_canon.proofs.DifferentTiplocs.{Before, before-greater, equal-tiplocs}
+use Rattle.cif_canon.proofs.DifferentTiplocs.{Before, before-greater, equal-tiplocs, not-itself}
 use Rattle.cif_canon.proofs.MergedSides.{of_side-append, only-one, pairs-head, pairs-one, pairs-tail}
-
-pub not-itself : (t : Tiploc) → Before t t → ⊥
-not-itself t h = not_less (slice_cmp nat_cmp) nat_list_cmp_total t.columns t.columns refl h
 
 onward : (s t u : Tiploc) → Before s t → Before t u → Before s u
 onward s t u h k = nat_list_cmp_total.trans s.columns t.columns u.columns h k

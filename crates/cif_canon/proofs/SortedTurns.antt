@@ -1,5 +1,5 @@
 -- Entries' positions in the order of their keys, by turns that are sorted.
-use Rattle.std.proofs.Common.{◌≡◌, ℕ, suc, ◌+◌, ◌<◌, ◌≤◌, List, [], ◌∷◌, ◌++◌, Option, None, Some}
+use Rattle.std.proofs.Common.{◌≡◌, ℕ, suc, ◌+◌, ◌<◌, ◌≤◌, List, [], ◌∷◌, ◌++◌}
 use Rattle.std.proofs.Common.{Bool, true, false, map, take, length, get_or, length-take}
 use Rattle.std.proofs.Common.{refl, sym, ◌∙◌, ap, subst, arith, append_assoc}
 use Rattle.std.specs.Prelude.{All}
@@ -17,11 +17,7 @@ use Rattle.cif_calendar.specs.Keys.{keyed}
 use Rattle.cif_canon.specs.Steps.Turns.{AreRisingTurns, HasKey, IsRising, turns_from}
 use Rattle.cif_canon.specs.declared.turns.Turn.{Turn}
 use Rattle.cif_canon.proofs.KeyPositions.{has-key, not_gt, not_lt}
-
--- the first part of a pair, if there is one
-abbrev first_or : {K T : Type 0} → K → Option (K × T) → K
-first_or k None = k
-first_or k (Some p) = p.0
+use Rattle.cif_canon.proofs.KeyTurns.{one-key}
 
 -- one turn more
 pub turns_more : {K : Type 0} (n : ℕ) (keys : List K) (key : K)
@@ -91,9 +87,6 @@ module _ {E K B : Type 0} (key : E → K) (terms : E → Terms B) where
   pub turns_of_entries : (es : List E) → All (IsTurnOf es) (turns_from 0 (map key es))
   turns_of_entries es = turns_behind [] es
 
-  one_key : (es : List E) (i : ℕ) (a b : K) → HasKey (keyed key terms es) i a → HasKey (keyed key terms es) i b → a ≡ b
-  one_key es i a b h g = ap (λ o. first_or a o) (sym h.at ∙ g.at)
-
   -- the positions of turns that rise rise
   pub rising-from_turns : (cmp : K → K → Ordering) (es : List E) (turns : List (Turn K)) → All (IsTurnOf es) turns
       → AreRisingTurns cmp turns → IsRising cmp (keyed key terms es) (map (λ (t : Turn K). t.position) turns)
@@ -104,9 +97,9 @@ module _ {E K B : Type 0} (key : E → K) (terms : E → Terms B) where
         let before : i < length turns = omega (arith, lt, here) in
         let s = get_or turns i e in
         let t = get_or turns j e in
-        let first = one_key es s.position s.key a (of i e before)
+        let first = one-key (keyed key terms es) s.position s.key a (of i e before)
         (subst (λ n. HasKey (keyed key terms es) n a) (get_or-map (λ (t : Turn K). t.position) turns i e d before) p) in
-        let second = one_key es t.position t.key b (of j e here)
+        let second = one-key (keyed key terms es) t.position t.key b (of j e here)
         (subst (λ n. HasKey (keyed key terms es) n b) (get_or-map (λ (t : Turn K). t.position) turns j e d here) q) in
         subst (λ k. is_gt (cmp k b) ≡ false) first (subst (λ k. is_gt (cmp s.key k) ≡ false) second (rising i j e lt here));
   }

@@ -125,6 +125,10 @@ module _ (format : Format) (whole : List ℕ) (most : ℕ) (xs : List (Bor (List
       let room = end.room in
       (sym (append-nil line) ∙ end.text, omega (arith, room))
 
+-- a field that can be shown, before others
+pub one-more : {A B : Type 0} → A → B → A × B
+one-more a b = (a, b)
+
 -- so many spaces can be shown
 pub spaces : (n : ℕ) → ArePrintable (replicate n 32)
 spaces n = All-replicate IsPrintable n 32 (omega arith, omega arith)

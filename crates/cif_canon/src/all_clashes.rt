@@ -12,11 +12,9 @@ ghost use Rattle.cif_canon.specs.Steps.Clashes.{AreAdded, IsAddedOfKey, IsFaultA
 
 use crate::Clashes;
 use crate::records::window_of;
-use crate::turns::{CopiedKey, count_of_first_key, positions_by_key};
+use crate::turns::{NamedEntry, count_of_first_key, positions_by_key};
 use cif_calendar::{CalendarFault, Window, calendar};
-use cif_columns::Day;
-use cif_extract::{Clash, Extract, Fault, Schedule};
-use cif_records::Association;
+use cif_extract::{Clash, Extract, Fault};
 use std::alloc::{AllocError, Global};
 
 /// All clashes of the extract in its window: each key with one, and its first date. There are none
@@ -29,57 +27,19 @@ pub fn clashes(alloc: Global, extract: &Extract) -> Result<Clashes, Fault>
         (slice_get found 0 ≡ Some clash) ↔ IsFirstClashIn (extract_parts extract.now) clash) }
     ensures fault { IfErr result (λ fault. fault ≡ Memory) }
 {
-    match found_clashes(alloc, extract) {
-        Ok(found) => Ok(Clashes::of(found)),
+    let window = window_of(extract);
+    let none = Vec::new(alloc);
+    let Ok(some) = add_clashes(alloc, none, extract.associations.as_slice(), &window) else {
+        return Err(Fault::Memory);
+    };
+    match add_clashes(alloc, some, extract.schedules.as_slice(), &window) {
+        Ok(all) => Ok(Clashes::of(all)),
         Err(AllocError) => Err(Fault::Memory),
     }
 }
 
-/// The clashes of the associations, and then those of the schedules.
-fn found_clashes(alloc: Global, extract: &Extract) -> Result<Vec<Clash>, AllocError>
-    ensures { IfOk result (λ found. AreAllClashes (extract_parts extract.now) found.items) }
-{
-    let window = window_of(extract);
-    let none = Vec::new(alloc);
-    let found = add_clashes(alloc, none, extract.associations.as_slice(), &window)?;
-    add_clashes(alloc, found, extract.schedules.as_slice(), &window)
-}
-
-/// An entry whose clashes have names.
-pub(crate) trait NamedClash: CopiedKey {
-    ghost use Rattle.std.specs.Prelude.{ℕ};
-    ghost use Rattle.cif_extract.specs.declared.fault.Clash.{Clash};
-
-    // The clash of a key on a day.
-    ghost clash_of: { Self.Key → ℕ → Clash };
-
-    /// The clash of its key on a day.
-    fn clash_on(&self, day: Day) -> Clash
-        ensures { result ≡ clash_of (Self.key self.now) day };
-}
-
-impl NamedClash for Association {
-    ghost use Rattle.cif_extract.specs.declared.fault.Clash.TheVariants as clash;
-
-    ghost clash_of = { clash.Association };
-
-    fn clash_on(&self, day: Day) -> Clash {
-        Clash::Association(self.key.copy(), day)
-    }
-}
-
-impl NamedClash for Schedule {
-    ghost use Rattle.cif_extract.specs.declared.fault.Clash.TheVariants as clash;
-
-    ghost clash_of = { clash.Train };
-
-    fn clash_on(&self, day: Day) -> Clash {
-        Clash::Train(self.uid, day)
-    }
-}
-
 /// Appends the first clash of a key in the window, if it has one. The key's entries are at `members`.
-fn add_clash_of_key<E: NamedClash>(
+fn add_clash_of_key<E: NamedEntry>(
     alloc: Global,
     all: &mut Vec<Clash>,
     entries: &[E],
@@ -92,15 +52,14 @@ fn add_clash_of_key<E: NamedClash>(
         IsAddedOfKey E.clash_of (keyed E.key E.terms entries.now)
         window.now.first window.now.last k all.old.items all.new.items) }
 {
-    let _clear = match calendar(alloc, entries, members, *window) {
-        Ok(calendar) => calendar,
-        Err(fault) => return add_clash(all, &entries[members[0]], fault),
-    };
-    Ok(())
+    match calendar(alloc, entries, members, *window) {
+        Ok(_calendar) => Ok(()),
+        Err(fault) => add_clash(all, &entries[members[0]], fault),
+    }
 }
 
 /// Appends the clash that a calendar of the entry's key found.
-fn add_clash<E: NamedClash>(
+fn add_clash<E: NamedEntry>(
     all: &mut Vec<Clash>,
     entry: &E,
     fault: CalendarFault,
@@ -119,7 +78,7 @@ fn add_clash<E: NamedClash>(
 
 /// Appends the clashes of the entries in the window: for each key that has one its first, rising by
 /// key.
-pub(crate) fn add_clashes<E: NamedClash>(
+pub(crate) fn add_clashes<E: NamedEntry>(
     alloc: Global,
     known: Vec<Clash>,
     entries: &[E],

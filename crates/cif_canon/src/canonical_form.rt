@@ -106,13 +106,6 @@ impl<'a> Canon<'a> {
         ensures writes { Writes W.contents W.write_errors self.now.text sink.old sink.new result }
         ensures fault { IfErr result (λ fault. fault ≡ Write) }
     {
-        self.write_text(sink)?;
-        Ok(())
-    }
-
-    fn write_text<W: WriteDevice>(&self, sink: &mut Sink<W>) -> Result<(), WriteFault>
-        ensures { Writes W.contents W.write_errors self.now.text sink.old sink.new result }
-    {
         let extract = self.extract;
         write_head(&extract.header, sink)?;
         write_tiplocs(self.tiplocs.as_slice(), sink)?;
@@ -128,7 +121,8 @@ impl<'a> Canon<'a> {
             self.schedules.as_slice(),
             sink,
         )?;
-        write_trailer(sink)
+        write_trailer(sink)?;
+        Ok(())
     }
 }
 

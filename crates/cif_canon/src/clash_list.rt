@@ -62,16 +62,9 @@ fn write_clashes<W: WriteDevice>(clashes: &[Clash], sink: &mut Sink<W>) -> Resul
         return Err(WriteFault);
     }
     for clash in clashes {
-        write_clash(clash, sink)?;
+        sink.write_all(line_of(clash).as_str().as_bytes())?;
     }
     Ok(())
-}
-
-/// Appends the line of a clash.
-fn write_clash<W: WriteDevice>(clash: &Clash, sink: &mut Sink<W>) -> Result<(), WriteFault>
-    ensures { Writes W.contents W.write_errors (clash_line clash.now) sink.old sink.new result }
-{
-    sink.write_all(line_of(clash).as_str().as_bytes())
 }
 
 /// The line of a clash.

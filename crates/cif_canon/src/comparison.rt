@@ -17,7 +17,7 @@ ghost use Rattle.cif_canon.specs.Steps.Differences.{AreAlikeBy, FindsOther, HasB
 
 use crate::records::{check_clear, window_of};
 use crate::tiplocs::first_different_tiploc;
-use crate::turns::{CopiedKey, count_of_key, first_entry, positions_by_key};
+use crate::turns::{NamedEntry, first_key, positions_by_key};
 use arrayvec::ArrayString;
 use cif_calendar::{Calendar, CalendarFault, Entry, Piece, Window, calendar_in_room, same_body};
 use cif_columns::{Day, Sink, Uid, WriteDevice, WriteFault, as_text};
@@ -161,7 +161,7 @@ fn first_found<'x>(
 
 /// The first key, and its first date of the window, of which the two lists say different things: an
 /// entry with the key, and the date. Neither list has a clash in the window.
-pub(crate) fn first_difference<'a, E: CopiedKey>(
+pub(crate) fn first_difference<'a, E: NamedEntry>(
     alloc: Global,
     left: &'a [E],
     right: &'a [E],
@@ -183,26 +183,16 @@ where
     let mut right_rest = right_positions.as_slice();
     let mut left_room = Vec::new(alloc);
     let mut right_room = Vec::new(alloc);
-    while let Some(entry) = first_entry(left, left_rest, right, right_rest) {
-        let (left_members, left_later) = left_rest.split_at(count_of_key(
-            left,
-            left_rest,
-            entry.key(),
-        ));
-        let (right_members, right_later) = right_rest.split_at(count_of_key(
-            right,
-            right_rest,
-            entry.key(),
-        ));
-        let one = clear_calendar(left_room, left, left_members, window)?;
-        let other = clear_calendar(right_room, right, right_members, window)?;
+    while let Some(first) = first_key(left, left_rest, right, right_rest) {
+        let one = clear_calendar(left_room, left, first.left, window)?;
+        let other = clear_calendar(right_room, right, first.right, window)?;
         if let Some(day) = first_day(left, &one, right, &other) {
-            return Ok(Some((entry, day)));
+            return Ok(Some((first.entry, day)));
         }
         left_room = one.into_room();
         right_room = other.into_room();
-        left_rest = left_later;
-        right_rest = right_later;
+        left_rest = first.left_later;
+        right_rest = first.right_later;
     }
     Ok(None)
 }

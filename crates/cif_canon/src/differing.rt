@@ -4,7 +4,6 @@ ghost use Rattle.cif_calendar.specs.Keys.{AreClear, keyed};
 ghost use Rattle.cif_extract.specs.ExtractParts.{extract_parts};
 ghost use Rattle.cif_weeks.specs.Runs.{AreSources};
 ghost use Rattle.cif_weeks.specs.declared.run.Run.{Run};
-ghost use Rattle.cif_canon.specs.Accepted.{IsClearExtract};
 ghost use Rattle.cif_canon.specs.Asked.{header_window};
 ghost use Rattle.cif_canon.specs.Comparison.{IsCompareFault};
 ghost use Rattle.cif_canon.specs.Differences.{AreDifferences, AreNone, TurnLeftIntoRight};
@@ -22,7 +21,7 @@ use crate::comparison::{check_comparable, clear_calendar, earlier, first_day, ha
 use crate::listed_differences::{Side, Sided, push_first};
 use crate::records::window_of;
 use crate::tiplocs::different_tiplocs;
-use crate::turns::{CopiedKey, count_of_key, first_entry, positions_by_key};
+use crate::turns::{NamedEntry, first_key, positions_by_key};
 use cif_calendar::{Calendar, Entry, Piece, Window};
 use cif_columns::Day;
 use cif_extract::{Extract, Fault};
@@ -49,42 +48,27 @@ pub fn differences<'a>(
         (IsCompareFault (extract_parts left.now) (extract_parts right.now)) }
 {
     check_comparable(alloc, left, right)?;
-    match all_differences(alloc, left, right) {
-        Ok(found) => Ok(found),
-        Err(_) => Err(Fault::Memory),
-    }
-}
-
-/// The differences of two clear extracts with one window.
-fn all_differences<'a>(
-    alloc: Global,
-    left: &'a Extract,
-    right: &'a Extract,
-) -> Result<Differences<'a>, AllocError>
-    requires left { IsClearExtract (extract_parts left.now) }
-    requires right { IsClearExtract (extract_parts right.now) }
-    requires window { header_window left.now.header ≡ header_window right.now.header }
-    ensures ok { IfOk result
-        (AreDifferences (extract_parts left.now) (extract_parts right.now)) }
-    ensures same { IfOk result (λ found. AreNone found
-        ↔ Agree (header_window left.now.header) (extract_parts left.now) (extract_parts right.now)) }
-    ensures turn { IfOk result
-        (TurnLeftIntoRight (extract_parts left.now) (extract_parts right.now)) }
-{
-    let tiplocs = different_tiplocs(alloc, left.tiplocs.as_slice(), right.tiplocs.as_slice())?;
     let window = window_of(left);
-    let associations = different_records(
+    let Ok(tiplocs) = different_tiplocs(alloc, left.tiplocs.as_slice(), right.tiplocs.as_slice())
+    else {
+        return Err(Fault::Memory);
+    };
+    let Ok(associations) = different_records(
         alloc,
         left.associations.as_slice(),
         right.associations.as_slice(),
         &window,
-    )?;
-    let schedules = different_records(
+    ) else {
+        return Err(Fault::Memory);
+    };
+    let Ok(schedules) = different_records(
         alloc,
         left.schedules.as_slice(),
         right.schedules.as_slice(),
         &window,
-    )?;
+    ) else {
+        return Err(Fault::Memory);
+    };
     Ok(Differences::of(left, right, tiplocs, associations, schedules))
 }
 
@@ -151,27 +135,6 @@ fn push_merged(found: &mut Vec<Sided<Run>>, left: &[Run], right: &[Run]) -> Resu
     Ok(())
 }
 
-/// Appends the runs of what only one of a key's two calendars says, which differ.
-fn push_only<E: Entry>(
-    alloc: Global,
-    found: &mut Vec<Sided<Run>>,
-    left: &[E],
-    one: &Calendar,
-    right: &[E],
-    other: &Calendar,
-) -> Result<(), AllocError>
-    requires first { other.now.first ≡ one.now.first }
-    requires last { other.now.last ≡ one.now.last }
-    requires left { AreSources (map E.terms left.now) one.now }
-    requires right { AreSources (map E.terms right.now) other.now }
-    ensures { OnOk result (AreKeyDifferences (map E.terms left.now) one.now
-        (map E.terms right.now) other.now found.old.items found.new.items) }
-{
-    let lefts = only_runs(alloc, left, one, right, other)?;
-    let rights = only_runs(alloc, right, other, left, one)?;
-    push_merged(found, lefts.as_slice(), rights.as_slice())
-}
-
 /// Appends the runs of what only one of a key's two calendars says.
 fn push_differences<E: Entry>(
     alloc: Global,
@@ -191,14 +154,18 @@ fn push_differences<E: Entry>(
     match first_day(left, one, right, other) {
         // Most keys have no difference, and need no further lists.
         None => Ok(()),
-        Some(_) => push_only(alloc, found, left, one, right, other),
+        Some(_) => {
+            let lefts = only_runs(alloc, left, one, right, other)?;
+            let rights = only_runs(alloc, right, other, left, one)?;
+            push_merged(found, lefts.as_slice(), rights.as_slice())
+        }
     }
 }
 
 /// The runs of the canonical records, in form 2, of what only one of the two lists says, by key and
 /// then first date, left before right. The source of a run is the position of an entry of its side,
 /// with the record's key and body. Neither list has a clash in the window.
-pub(crate) fn different_records<E: CopiedKey>(
+pub(crate) fn different_records<E: NamedEntry>(
     alloc: Global,
     left: &[E],
     right: &[E],
@@ -219,24 +186,14 @@ where
     let mut left_room = Vec::new(alloc);
     let mut right_room = Vec::new(alloc);
     let mut found = Vec::new(alloc);
-    while let Some(entry) = first_entry(left, left_rest, right, right_rest) {
-        let (left_members, left_later) = left_rest.split_at(count_of_key(
-            left,
-            left_rest,
-            entry.key(),
-        ));
-        let (right_members, right_later) = right_rest.split_at(count_of_key(
-            right,
-            right_rest,
-            entry.key(),
-        ));
-        let one = clear_calendar(left_room, left, left_members, window)?;
-        let other = clear_calendar(right_room, right, right_members, window)?;
+    while let Some(first) = first_key(left, left_rest, right, right_rest) {
+        let one = clear_calendar(left_room, left, first.left, window)?;
+        let other = clear_calendar(right_room, right, first.right, window)?;
         push_differences(alloc, &mut found, left, &one, right, &other)?;
         left_room = one.into_room();
         right_room = other.into_room();
-        left_rest = left_later;
-        right_rest = right_later;
+        left_rest = first.left_later;
+        right_rest = first.right_later;
     }
     Ok(found)
 }

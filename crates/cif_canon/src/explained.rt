@@ -1,21 +1,17 @@
 //! The records of a train that apply on a day, with their marks.
-ghost use Rattle.std.specs.Prelude.{◌≡◌, ◌↔◌, ◌+◌, ◌++◌, ◌∷◌, [], ℕ, List, IfOk, IsTrue, OnOk};
-ghost use Rattle.std.specs.Prelude.{Some, length, map, slice_get};
+ghost use Rattle.std.specs.Prelude.{◌≡◌, ◌↔◌, ◌+◌, ◌++◌, ◌∷◌, [], ℕ, List, IfOk, IsTrue};
+ghost use Rattle.std.specs.Prelude.{map};
 ghost use Rattle.cif_calendar.specs.Applies.{Applies};
 ghost use Rattle.cif_calendar.specs.Keys.{keyed};
-ghost use Rattle.cif_calendar.specs.Terms.{Terms};
 ghost use Rattle.cif_canon.specs.Explanation.{AreExplained};
-ghost use Rattle.cif_canon.specs.Steps.Explanation.{ArePlacedBelow, ArePlacedInOrder, IsMarkAmong};
+ghost use Rattle.cif_canon.specs.Steps.Explanation.{ArePlacedInOrder, IsMarkAmong};
 ghost use Rattle.cif_canon.specs.Steps.Explanation.{Placed, explained_of, opposed, placed_at};
 ghost use Rattle.cif_canon.specs.Steps.Explanation.{placed_cmp, placed_of};
 
-use crate::explanation::{explained_association, explained_train};
 use crate::layout::{Format, LONGEST};
 use arrayvec::ArrayString;
 use cif_calendar::{Entry, same_body};
 use cif_columns::{Day, Uid};
-use cif_extract::Schedule;
-use cif_records::Association;
 use std::alloc::{AllocError, Global};
 use std::cmp::Ordering;
 
@@ -54,38 +50,6 @@ pub(crate) trait ExplainedEntry: Entry {
           terms = Self.terms self.now;
           mark = mark;
         }) };
-}
-
-impl ExplainedEntry for Association {
-    ghost use Rattle.cif_canon.specs.Explanation.{base_of, explained_association_line};
-
-    ghost train_of = { base_of };
-
-    ghost line = { explained_association_line };
-
-    fn train(&self) -> &Uid {
-        &self.key.base
-    }
-
-    fn line(&self, format: Format, mark: Mark) -> ArrayString<LONGEST> {
-        explained_association(format, self, mark)
-    }
-}
-
-impl ExplainedEntry for Schedule {
-    ghost use Rattle.cif_canon.specs.Explanation.{explained_train_line, itself};
-
-    ghost train_of = { itself };
-
-    ghost line = { explained_train_line };
-
-    fn train(&self) -> &Uid {
-        &self.uid
-    }
-
-    fn line(&self, format: Format, mark: Mark) -> ArrayString<LONGEST> {
-        explained_train(format, self, mark)
-    }
 }
 
 /// A record of the train that applies on the day.
@@ -132,44 +96,6 @@ fn order<E: Entry>(one: &Applying<'_, E>, other: &Applying<'_, E>) -> Ordering
         .then(by_letter.then(one.place.cmp(&other.place)))
 }
 
-/// Appends the entry at `place` if it is a record of the train that applies on the day.
-fn push_applying<'a, E: ExplainedEntry>(
-    applying: &mut Vec<Applying<'a, E>>,
-    entry: &'a E,
-    place: usize,
-    uid: &Uid,
-    day: Day,
-) -> Result<(), AllocError>
-    ensures { OnOk result ((entries : List (E.Key × Terms E.Body)) →
-        slice_get entries place ≡ Some (E.key entry.now, E.terms entry.now) →
-        ArePlacedBelow E.train_of entries uid.now day place
-        (map (placed_of E.key E.terms) applying.old.items) →
-        ArePlacedBelow E.train_of entries uid.now day (place + 1)
-        (map (placed_of E.key E.terms) applying.new.items)) }
-{
-    if is_applying(entry, uid, day) {
-        applying.push(Applying { entry, place })?;
-    }
-    Ok(())
-}
-
-/// The records of the train that apply on the day, in the order of the entries.
-fn applying_records<'a, E: ExplainedEntry>(
-    alloc: Global,
-    entries: &'a [E],
-    uid: &Uid,
-    day: Day,
-) -> Result<Vec<Applying<'a, E>>, AllocError>
-    ensures { IfOk result (λ applying. ArePlacedBelow E.train_of (keyed E.key E.terms entries.now)
-        uid.now day (length entries.now) (map (placed_of E.key E.terms) applying.items)) }
-{
-    let mut applying = Vec::new(alloc);
-    for (place, entry) in entries.iter().enumerate() {
-        push_applying(&mut applying, entry, place, uid, day)?;
-    }
-    Ok(applying)
-}
-
 /// The records of the train that apply on the day, by key, letter and place.
 fn records_on<'a, E: ExplainedEntry>(
     alloc: Global,
@@ -181,7 +107,12 @@ fn records_on<'a, E: ExplainedEntry>(
         (keyed E.key E.terms entries.now) uid.now day
         (map (placed_of E.key E.terms) applying.items)) }
 {
-    let mut applying = applying_records(alloc, entries, uid, day)?;
+    let mut applying = Vec::new(alloc);
+    for (place, entry) in entries.iter().enumerate() {
+        if is_applying(entry, uid, day) {
+            applying.push(Applying { entry, place })?;
+        }
+    }
     applying.sort_by(order)?;
     Ok(applying)
 }

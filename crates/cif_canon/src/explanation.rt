@@ -1,12 +1,10 @@
 //! Why a train runs on a day or doesn't: a line for each record, with its mark.
-ghost use Rattle.std.specs.Prelude.{◌≡◌, ◌+◌, ◌≤◌, ◌++◌, ℕ, List, IfErr, None};
+ghost use Rattle.std.specs.Prelude.{◌≡◌, ◌+◌, ◌≤◌, ◌++◌, ℕ, List, IfErr};
 ghost use Rattle.std.specs.List.{flat_map};
 ghost use Rattle.arrayvec.specs.ArrayString.{array_string_len};
-ghost use Rattle.cif_calendar.specs.Entries.{association_terms, schedule_terms};
 ghost use Rattle.cif_columns.specs.Sink.{Writes};
 ghost use Rattle.cif_extract.specs.ExtractParts.{extract_parts};
 ghost use Rattle.cif_canon.specs.Explanation.{IsExplanation, IsExplanationFault};
-ghost use Rattle.cif_canon.specs.Explanation.{explained_association_line, explained_train_line};
 ghost use Rattle.cif_canon.specs.Explanation.{mark_columns, said_of_association, said_of_train};
 ghost use Rattle.cif_canon.specs.Explanation.{terms_fields};
 ghost use Rattle.cif_canon.specs.Normalised.{FaultWrites, IfWritten};
@@ -17,14 +15,14 @@ ghost use Rattle.cif_canon.specs.declared.layout.Format.TheVariants.{Text};
 use crate::asked::check_within;
 use crate::explained::{ExplainedEntry, Mark, Marked, marked_records};
 use crate::layout::{
-    ASSOCIATION, Format, LONGEST, Layout, heading, push_association, push_field, push_fields,
-    push_left_out, push_no_association, push_no_train, push_train, started,
+    ASSOCIATION, Format, LONGEST, Layout, NO_ASSOCIATION, NO_TRAIN, heading, push_association,
+    push_field, push_fields, push_left_out, push_train, started,
 };
 use arrayvec::ArrayString;
 use cif_calendar::Entry;
 use cif_columns::{Day, Sink, Uid, WriteDevice, WriteFault};
 use cif_extract::{Extract, Fault, Schedule};
-use cif_records::{AssocKey, Association};
+use cif_records::Association;
 use std::alloc::Global;
 
 /// Appends why the train runs on the day, or doesn't: a line for each record that applies, with its
@@ -135,26 +133,6 @@ fn push_terms<E: Entry>(line: &mut ArrayString<LONGEST>, format: Format, entry: 
     );
 }
 
-/// Appends the fields of a key.
-fn push_key(line: &mut ArrayString<LONGEST>, format: Format, key: &AssocKey)
-    requires { array_string_len line.old + 30 ≤ LONGEST }
-    ensures text { line.new.bytes ≡ line.old.bytes ++ after format (said_of_association format key.now None) }
-    ensures len { array_string_len line.new ≤ array_string_len line.old + 30 }
-{
-    push_fields(line, format, &[&key.base.write(), &key.associated.write()]);
-    push_left_out(line, format, "\t\t");
-    push_fields(
-        line,
-        format,
-        &[
-            &key.location.write(),
-            &key.base_suffix.write(),
-            &key.associated_suffix.write(),
-        ],
-    );
-    push_left_out(line, format, "\t\t");
-}
-
 /// Appends what an association says.
 fn push_said_of_association(
     line: &mut ArrayString<LONGEST>,
@@ -168,7 +146,21 @@ fn push_said_of_association(
 {
     match &association.body {
         Some(body) => push_association(line, format, &association.key, body),
-        None => push_key(line, format, &association.key),
+        None => {
+            let key = &association.key;
+            push_fields(line, format, &[&key.base.write(), &key.associated.write()]);
+            push_left_out(line, format, "\t\t");
+            push_fields(
+                line,
+                format,
+                &[
+                    &key.location.write(),
+                    &key.base_suffix.write(),
+                    &key.associated_suffix.write(),
+                ],
+            );
+            push_left_out(line, format, "\t\t");
+        }
     }
 }
 
@@ -188,46 +180,46 @@ fn push_said_of_train(line: &mut ArrayString<LONGEST>, format: Format, schedule:
     }
 }
 
-/// The line of an association with its mark.
-pub(crate) fn explained_association(
-    format: Format,
-    association: &Association,
-    mark: Mark,
-) -> ArrayString<LONGEST>
-    ensures { (place : ℕ) → result.bytes ≡ explained_association_line format (record {
-      place = place;
-      key = association.now.key;
-      terms = association_terms association.now;
-      mark = mark;
-    }) }
-{
-    let mut line = started(format, &columns_of(mark));
-    push_field(&mut line, format, b"AA");
-    push_terms(&mut line, format, association);
-    push_no_train(&mut line, format);
-    push_said_of_association(&mut line, format, association);
-    line.push_str("\n");
-    line
+impl ExplainedEntry for Association {
+    ghost use Rattle.cif_canon.specs.Explanation.{base_of, explained_association_line};
+
+    ghost train_of = { base_of };
+
+    ghost line = { explained_association_line };
+
+    fn train(&self) -> &Uid {
+        &self.key.base
+    }
+
+    fn line(&self, format: Format, mark: Mark) -> ArrayString<LONGEST> {
+        let mut line = started(format, &columns_of(mark));
+        push_field(&mut line, format, b"AA");
+        push_terms(&mut line, format, self);
+        push_left_out(&mut line, format, NO_TRAIN);
+        push_said_of_association(&mut line, format, self);
+        line.push_str("\n");
+        line
+    }
 }
 
-/// The line of a schedule with its mark.
-pub(crate) fn explained_train(
-    format: Format,
-    schedule: &Schedule,
-    mark: Mark,
-) -> ArrayString<LONGEST>
-    ensures { (place : ℕ) → result.bytes ≡ explained_train_line format (record {
-      place = place;
-      key = schedule.now.uid;
-      terms = schedule_terms schedule.now;
-      mark = mark;
-    }) }
-{
-    let mut line = started(format, &columns_of(mark));
-    push_field(&mut line, format, b"BS");
-    push_terms(&mut line, format, schedule);
-    push_said_of_train(&mut line, format, schedule);
-    push_no_association(&mut line, format);
-    line.push_str("\n");
-    line
+impl ExplainedEntry for Schedule {
+    ghost use Rattle.cif_canon.specs.Explanation.{explained_train_line, itself};
+
+    ghost train_of = { itself };
+
+    ghost line = { explained_train_line };
+
+    fn train(&self) -> &Uid {
+        &self.uid
+    }
+
+    fn line(&self, format: Format, mark: Mark) -> ArrayString<LONGEST> {
+        let mut line = started(format, &columns_of(mark));
+        push_field(&mut line, format, b"BS");
+        push_terms(&mut line, format, self);
+        push_said_of_train(&mut line, format, self);
+        push_left_out(&mut line, format, NO_ASSOCIATION);
+        line.push_str("\n");
+        line
+    }
 }

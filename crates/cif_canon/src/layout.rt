@@ -7,7 +7,7 @@ ghost use Rattle.cif_canon.specs.Fields.{fields_text, left_out, separator, shown
 ghost use Rattle.cif_canon.specs.Steps.Fields.{AreFields, after, width};
 ghost use Rattle.cif_canon.specs.Views.{call_names_if, heading, association_fields};
 ghost use Rattle.cif_canon.specs.Views.{association_line, journey_fields, location_fields};
-ghost use Rattle.cif_canon.specs.Views.{no_association, no_call, no_train, place_fields};
+ghost use Rattle.cif_canon.specs.Views.{no_call, place_fields};
 ghost use Rattle.cif_canon.specs.Views.{schedule_row, train_fields, train_row};
 
 use arrayvec::ArrayString;
@@ -44,6 +44,11 @@ const JOURNEY: &str = "\tidentity\torigin\torigin_suffix\tdeparture\torigin_plat
 pub(crate) const ASSOCIATION: &str = "\tbase_uid\tassociated_uid\tassociation_category\
     \tdate_indicator\tassociation_location\tbase_suffix\tassociated_suffix\tdiagram_type\
     \tassociation_type";
+
+/// The fields of a train and those of an association, where a row has none.
+pub(crate) const NO_TRAIN: &str = "\t\t\t\t\t\t\t\t\t\t";
+
+pub(crate) const NO_ASSOCIATION: &str = "\t\t\t\t\t\t\t\t\t";
 
 /// The names of the fields of a call.
 const CALL: &str = "\tcall\tcall_location\tcall_suffix\tcall_arrival\tcall_departure\
@@ -93,7 +98,7 @@ pub(crate) fn association_line(
 {
     let format = layout.format;
     let mut line = started(format, b"AA");
-    push_no_train(&mut line, format);
+    push_left_out(&mut line, format, NO_TRAIN);
     push_association(&mut line, format, key, body);
     push_no_call(&mut line, layout);
     line.push_str("\n");
@@ -107,7 +112,7 @@ pub(crate) fn train_row(format: Format, uid: &Uid, body: &Body) -> ArrayString<L
 {
     let mut row = started(format, b"BS");
     push_train(&mut row, format, uid, body);
-    push_no_association(&mut row, format);
+    push_left_out(&mut row, format, NO_ASSOCIATION);
     row
 }
 
@@ -226,24 +231,6 @@ fn push_location(
         Format::Text => line.push_str(as_text(&suffix.write())),
         Format::Tsv => push_field(line, format, &suffix.write()),
     }
-}
-
-/// Appends the fields of a train, empty, if the line is a row.
-pub(crate) fn push_no_train(line: &mut ArrayString<LONGEST>, format: Format)
-    requires { array_string_len line.old + 10 ≤ LONGEST }
-    ensures text { line.new.bytes ≡ line.old.bytes ++ after format (no_train format) }
-    ensures len { array_string_len line.new ≤ array_string_len line.old + 10 }
-{
-    push_left_out(line, format, "\t\t\t\t\t\t\t\t\t\t");
-}
-
-/// Appends the fields of an association, empty, if the line is a row.
-pub(crate) fn push_no_association(line: &mut ArrayString<LONGEST>, format: Format)
-    requires { array_string_len line.old + 9 ≤ LONGEST }
-    ensures text { line.new.bytes ≡ line.old.bytes ++ after format (no_association format) }
-    ensures len { array_string_len line.new ≤ array_string_len line.old + 9 }
-{
-    push_left_out(line, format, "\t\t\t\t\t\t\t\t\t");
 }
 
 /// Appends the fields of a call, empty, if the line is a row of a table of calls.

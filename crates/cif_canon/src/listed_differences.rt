@@ -287,14 +287,6 @@ impl<'a> Differences<'a> {
             sink.old sink.new result }
         ensures fault { IfErr result (λ fault. fault ≡ Write) }
     {
-        self.write_text(sink)?;
-        Ok(())
-    }
-
-    fn write_text<W: WriteDevice>(&self, sink: &mut Sink<W>) -> Result<(), WriteFault>
-        ensures { Writes W.contents W.write_errors (differences_text self.now)
-            sink.old sink.new result }
-    {
         let (left, right) = (self.left, self.right);
         let left_lines = MarkedLines { side: Side::Left };
         let right_lines = MarkedLines { side: Side::Right };
@@ -314,7 +306,8 @@ impl<'a> Differences<'a> {
             right.schedules.as_slice(),
             self.schedules.as_slice(),
             sink,
-        )
+        )?;
+        Ok(())
     }
 }
 

@@ -1,20 +1,20 @@
 //! The canonical records of an extract, key by key.
-ghost use Rattle.std.specs.Prelude.{◌≡◌, ◌<◌, ◌∷◌, [], IfErr, IfOk, IfSome, OnOk, All, length};
+ghost use Rattle.std.specs.Prelude.{◌≡◌, ◌<◌, IfErr, IfOk, OnOk, All, length};
 ghost use Rattle.std.specs.Cmp.Lexicographic.{slice_cmp};
 ghost use Rattle.std.specs.Ordering.{nat_cmp};
 ghost use Rattle.cif_calendar.specs.Entries.{association_entries, schedule_entries};
-ghost use Rattle.cif_calendar.specs.Keys.{AreClear, ArePositionsOf, keyed};
+ghost use Rattle.cif_calendar.specs.Keys.{ArePositionsOf, keyed};
 ghost use Rattle.cif_extract.specs.ExtractParts.{extract_parts};
 ghost use Rattle.cif_records.specs.AssocKey.{key_cmp};
 ghost use Rattle.cif_canon.specs.Accepted.{IsClearExtract};
 ghost use Rattle.cif_canon.specs.Asked.{header_window};
 ghost use Rattle.cif_canon.specs.Fault.{IsCanonFault};
-ghost use Rattle.cif_canon.specs.Steps.Records.{AreCanonicalRecords, IsRecordsFault, IsSameKind};
+ghost use Rattle.cif_canon.specs.Steps.Records.{AreCanonicalRecords, IsRecordsFault};
 ghost use Rattle.cif_canon.specs.Steps.Records.{AreRunsOfKey, IsKeyFault, records_fault};
 ghost use Rattle.cif_weeks.specs.Window.{window_from};
 ghost use Rattle.cif_weeks.specs.declared.form.Form.{Form as AForm};
 
-use crate::turns::{CopiedKey, count_of_first_key, positions_by_key};
+use crate::turns::{NamedEntry, count_of_first_key, positions_by_key};
 use cif_calendar::{CalendarFault, Entry, Piece, Window, calendar_in_room};
 use cif_columns::Day;
 use cif_extract::{Clash, Extract, Fault};
@@ -43,24 +43,9 @@ pub(crate) fn extract_runs(
         runs.schedules.items) }
     ensures fault { IfErr result (IsCanonFault (extract_parts extract.now)) }
 {
-    let associations = match canonical_records(
-        alloc,
-        extract.associations.as_slice(),
-        window_of(extract),
-        form,
-    ) {
-        Ok(runs) => runs,
-        Err(fault) => return Err(association_fault(extract, fault)),
-    };
-    let schedules = match canonical_records(
-        alloc,
-        extract.schedules.as_slice(),
-        window_of(extract),
-        form,
-    ) {
-        Ok(runs) => runs,
-        Err(fault) => return Err(schedule_fault(extract, fault)),
-    };
+    let window = window_of(extract);
+    let associations = canonical_records(alloc, extract.associations.as_slice(), &window, form)?;
+    let schedules = canonical_records(alloc, extract.schedules.as_slice(), &window, form)?;
     Ok(ExtractRuns {
         associations,
         schedules,
@@ -88,47 +73,26 @@ pub(crate) fn window_of(extract: &Extract) -> Window
     }
 }
 
-/// Why the associations have no canonical records, as a fault of the extract.
-fn association_fault(extract: &Extract, fault: RecordsFault) -> Fault
-    requires { IsRecordsFault key_cmp (association_entries extract.now.associations.items)
-        (header_window extract.now.header) fault }
-    ensures fault { IsCanonFault (extract_parts extract.now) result }
-    ensures kind { IsSameKind fault result }
-{
-    match fault {
-        RecordsFault::Clash { member, day } => {
-            let key = extract.associations[member].key.copy();
-            Fault::Ambiguous(Clash::Association(key, day))
-        }
-        RecordsFault::Memory => Fault::Memory,
-    }
-}
-
-/// Why the schedules have no canonical records, where the associations have.
-fn schedule_fault(extract: &Extract, fault: RecordsFault) -> Fault
-    requires clear { AreClear (association_entries extract.now.associations.items)
-        extract.now.header.first extract.now.header.last }
-    requires fault { IsRecordsFault (slice_cmp nat_cmp) (schedule_entries extract.now.schedules.items)
-        (header_window extract.now.header) fault }
-    ensures fault { IsCanonFault (extract_parts extract.now) result }
-    ensures kind { IsSameKind fault result }
-{
-    match fault {
-        RecordsFault::Clash { member, day } => {
-            let uid = extract.schedules[member].uid;
-            Fault::Ambiguous(Clash::Train(uid, day))
-        }
-        RecordsFault::Memory => Fault::Memory,
-    }
-}
-
 /// Why there are no canonical records.
-#[derive(Clone, Copy)]
+#[derive(Drop)]
 pub(crate) enum RecordsFault {
-    /// Two winners of the day have different bodies. Their key is that of the entry at `member`.
-    Clash { member: usize, day: Day },
+    /// Two winners of a day have different bodies.
+    Clash(Clash),
     /// Memory ran out.
     Memory,
+}
+
+impl From<RecordsFault> for Fault {
+    ghost use Rattle.cif_canon.specs.Steps.Records.{extract_fault};
+
+    ghost from_gives = { λ why fault. fault ≡ extract_fault why };
+
+    fn from(fault: RecordsFault) -> Fault {
+        match fault {
+            RecordsFault::Clash(clash) => Fault::Ambiguous(clash),
+            RecordsFault::Memory => Fault::Memory,
+        }
+    }
 }
 
 impl From<AllocError> for RecordsFault {
@@ -141,13 +105,12 @@ impl From<AllocError> for RecordsFault {
     }
 }
 
-/// A fault of the calendar of a key, as one of the records. `member` is the position of an entry
-/// with the key.
-fn fault_of(fault: CalendarFault, member: usize) -> RecordsFault
-    ensures { result ≡ records_fault fault member }
+/// A fault of the calendar of the entry's key, as one of the records.
+fn fault_of<E: NamedEntry>(fault: CalendarFault, entry: &E) -> RecordsFault
+    ensures { result ≡ records_fault (E.clash_of (E.key entry.now)) fault }
 {
     match fault {
-        CalendarFault::Ambiguous(day) => RecordsFault::Clash { member, day },
+        CalendarFault::Ambiguous(day) => RecordsFault::Clash(entry.clash_on(day)),
         CalendarFault::Memory => RecordsFault::Memory,
     }
 }
@@ -162,7 +125,7 @@ struct KeyRoom {
 
 /// The runs of one key's canonical records, in the room of another key's. The key's entries are at
 /// `members`.
-fn runs_of_key<E: Entry>(
+fn runs_of_key<E: NamedEntry>(
     room: KeyRoom,
     entries: &[E],
     members: &[usize],
@@ -177,8 +140,8 @@ fn runs_of_key<E: Entry>(
         (keyed E.key E.terms entries.now) k room.runs.items) }
     ensures fault { IfErr result (λ fault. (k : E.Key) →
         ArePositionsOf (keyed E.key E.terms entries.now) k members.now →
-        IsKeyFault (window_from window.now.first window.now.last)
-        (keyed E.key E.terms entries.now) members.now k fault) }
+        IsKeyFault E.clash_of (window_from window.now.first window.now.last)
+        (keyed E.key E.terms entries.now) k fault) }
 {
     let KeyRoom { pieces, runs } = room;
     let mut runs = runs;
@@ -188,7 +151,7 @@ fn runs_of_key<E: Entry>(
     }
     let calendar = match calendar_in_room(pieces, entries, members, *window) {
         Ok(calendar) => calendar,
-        Err(fault) => return Err(fault_of(fault, members[0])),
+        Err(fault) => return Err(fault_of(fault, &entries[members[0]])),
     };
     let runs = runs_in_room(runs, entries, &calendar, form)?;
     Ok(KeyRoom {
@@ -220,19 +183,19 @@ fn look_ahead<E: Entry>(entries: &[E], positions: &[usize])
 ///
 /// `Clash` comes only where on some date two winners of a key have different bodies, and names the
 /// first such key and its first such date; `Memory` where memory ran out.
-pub(crate) fn canonical_records<E: CopiedKey>(
+pub(crate) fn canonical_records<E: NamedEntry>(
     alloc: Global,
     entries: &[E],
-    window: Window,
+    window: &Window,
     form: Form,
 ) -> Result<Vec<Run>, RecordsFault>
 where
     E::Key: Drop,
     ensures records { IfOk result (λ runs.
-        AreCanonicalRecords E.Key.cmp form (window_from window.first window.last)
+        AreCanonicalRecords E.Key.cmp form (window_from window.now.first window.now.last)
         (keyed E.key E.terms entries.now) runs.items) }
-    ensures fault { IfErr result (IsRecordsFault E.Key.cmp (keyed E.key E.terms entries.now)
-        (window_from window.first window.last)) }
+    ensures fault { IfErr result (IsRecordsFault E.Key.cmp E.clash_of (keyed E.key E.terms entries.now)
+        (window_from window.now.first window.now.last)) }
 {
     let positions = positions_by_key(alloc, entries)?;
     let mut all = Vec::new(alloc);
@@ -249,7 +212,7 @@ where
         }
         let (members, later) = rest.split_at(count_of_first_key(entries, rest));
         looked_at = looked_at.saturating_sub(members.len());
-        room = runs_of_key(room, entries, members, &window, form)?;
+        room = runs_of_key(room, entries, members, window, form)?;
         all.extend_from_slice(room.runs.as_slice())?;
         rest = later;
     }

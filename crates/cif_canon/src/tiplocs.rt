@@ -32,32 +32,10 @@ pub(crate) fn first_different_tiploc(
         → Contains left.now t ↔ Contains right.now t)) }
     ensures some { IfOk result (λ found. IfSome found (IsFirstTiploc left.now right.now)) }
 {
-    let left = distinct_tiplocs(alloc, left)?;
-    let right = distinct_tiplocs(alloc, right)?;
-    Ok(first_apart(left.as_slice(), right.as_slice()))
-}
-
-/// The least location that only one of two rising lists has.
-fn first_apart(left: &[Tiploc], right: &[Tiploc]) -> Option<Tiploc>
-    ensures none { (lefts rights : List Tiploc) → AreDistinct lefts left.now →
-        AreDistinct rights right.now →
-        IfNone result ((t : Tiploc) → Contains lefts t ↔ Contains rights t) }
-    ensures some { (lefts rights : List Tiploc) → AreDistinct lefts left.now →
-        AreDistinct rights right.now → IfSome result (IsFirstTiploc lefts rights) }
-{
-    for (i, one) in left.iter().enumerate() {
-        let Some(other) = right.get(i) else {
-            return Some(*one);
-        };
-        match one.cmp(other) {
-            Ordering::Equal => {}
-            Ordering::Less => return Some(*one),
-            Ordering::Greater => return Some(*other),
-        }
-    }
-    match right.get(left.len()) {
-        Some(other) => Some(*other),
-        None => None,
+    let found = different_tiplocs(alloc, left, right)?;
+    match found.as_slice().first() {
+        Some(first) => Ok(Some(first.it)),
+        None => Ok(None),
     }
 }
 

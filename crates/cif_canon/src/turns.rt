@@ -4,30 +4,56 @@ ghost use Rattle.std.specs.Prelude.{IfNone, IfOk, IfSome, OnOk};
 ghost use Rattle.std.specs.List.Sorted.{IsPermutation};
 ghost use Rattle.cif_calendar.specs.Keys.{keyed};
 ghost use Rattle.cif_canon.specs.Steps.Turns.{AreAllByKey, AreFrom, AreOfFirstKey};
-ghost use Rattle.cif_canon.specs.Steps.Turns.{AreRisingTurns, IsFirstOfBoth, IsFront, IsRising, turns_from};
+ghost use Rattle.cif_canon.specs.Steps.Turns.{AreRisingTurns, IsFirstKey, IsFirstOfBoth, IsFront, IsRising};
 
 use cif_calendar::Entry;
-use cif_columns::Uid;
-use cif_extract::Schedule;
+use cif_columns::{Day, Uid};
+use cif_extract::{Clash, Schedule};
 use cif_records::{AssocKey, Association};
 use std::alloc::{AllocError, Global};
 
-/// An entry whose key can be copied.
-pub(crate) trait CopiedKey: Entry {
+/// An entry whose key can be copied, and whose clashes have names.
+pub(crate) trait NamedEntry: Entry {
+    ghost use Rattle.std.specs.Prelude.{ℕ};
+    ghost use Rattle.cif_extract.specs.declared.fault.Clash.{Clash};
+
+    // The clash of a key on a day.
+    ghost clash_of: { Self.Key → ℕ → Clash };
+
     /// What the record is about.
     fn copied_key(&self) -> Self::Key
         ensures { result ≡ Self.key self.now };
+
+    /// The clash of its key on a day.
+    fn clash_on(&self, day: Day) -> Clash
+        ensures { result ≡ clash_of (Self.key self.now) day };
 }
 
-impl CopiedKey for Association {
+impl NamedEntry for Association {
+    ghost use Rattle.cif_extract.specs.declared.fault.Clash.TheVariants as clash;
+
+    ghost clash_of = { clash.Association };
+
     fn copied_key(&self) -> AssocKey {
         self.key.copy()
     }
+
+    fn clash_on(&self, day: Day) -> Clash {
+        Clash::Association(self.key.copy(), day)
+    }
 }
 
-impl CopiedKey for Schedule {
+impl NamedEntry for Schedule {
+    ghost use Rattle.cif_extract.specs.declared.fault.Clash.TheVariants as clash;
+
+    ghost clash_of = { clash.Train };
+
     fn copied_key(&self) -> Uid {
         self.uid
+    }
+
+    fn clash_on(&self, day: Day) -> Clash {
+        Clash::Train(self.uid, day)
     }
 }
 
@@ -37,22 +63,6 @@ impl CopiedKey for Schedule {
 struct Turn<K: Drop> {
     key: K,
     position: usize,
-}
-
-/// The turns of the entries, in their own order.
-fn turns_of<E: CopiedKey>(alloc: Global, entries: &[E]) -> Result<Vec<Turn<E::Key>>, AllocError>
-where
-    E::Key: Drop,
-    ensures { IfOk result (λ turns. turns.items ≡ turns_from 0 (map E.key entries.now)) }
-{
-    let mut turns = Vec::with_capacity(alloc, entries.len())?;
-    for (position, entry) in entries.iter().enumerate() {
-        turns.push(Turn {
-            key: entry.copied_key(),
-            position,
-        })?;
-    }
-    Ok(turns)
 }
 
 /// Puts the turns in the order of their keys. Those that are in it are not sorted.
@@ -74,7 +84,7 @@ fn positions_of<K: Drop>(alloc: Global, turns: &[Turn<K>]) -> Result<Vec<usize>,
 }
 
 /// The positions of all entries, in the order of their keys.
-pub(crate) fn positions_by_key<E: CopiedKey>(
+pub(crate) fn positions_by_key<E: NamedEntry>(
     alloc: Global,
     entries: &[E],
 ) -> Result<Vec<usize>, AllocError>
@@ -83,7 +93,13 @@ where
     ensures { IfOk result (λ positions.
         AreAllByKey E.Key.cmp (keyed E.key E.terms entries.now) positions.items) }
 {
-    let mut turns = turns_of(alloc, entries)?;
+    let mut turns = Vec::with_capacity(alloc, entries.len())?;
+    for (position, entry) in entries.iter().enumerate() {
+        turns.push(Turn {
+            key: entry.copied_key(),
+            position,
+        })?;
+    }
     sort_turns(&mut turns)?;
     positions_of(alloc, turns.as_slice())
 }
@@ -101,7 +117,7 @@ pub(crate) fn count_of_first_key<E: Entry>(entries: &[E], positions: &[usize]) -
 
 /// How many of the positions, from the first on, are of entries with this key. The positions are in
 /// the order of the keys, and none of them is before this one.
-pub(crate) fn count_of_key<E: Entry>(entries: &[E], positions: &[usize], key: &E::Key) -> usize
+fn count_of_key<E: Entry>(entries: &[E], positions: &[usize], key: &E::Key) -> usize
     requires within { All (λ i. i < length entries.now) positions.now }
     requires rising { IsRising E.Key.cmp (keyed E.key E.terms entries.now) positions.now }
     requires from { AreFrom E.Key.cmp (keyed E.key E.terms entries.now) positions.now key.now }
@@ -115,9 +131,54 @@ pub(crate) fn count_of_key<E: Entry>(entries: &[E], positions: &[usize], key: &E
     positions.len()
 }
 
+/// The least key of those at two lists of positions: an entry with it, and of each list the positions
+/// of entries with it, and those that are later.
+#[derive(Drop)]
+pub(crate) struct FirstKey<'a, 'p, E> {
+    pub(crate) entry: &'a E,
+    pub(crate) left: &'p [usize],
+    pub(crate) left_later: &'p [usize],
+    pub(crate) right: &'p [usize],
+    pub(crate) right_later: &'p [usize],
+}
+
+/// The least key of those at two lists of positions, each in the order of its keys; none where there
+/// are no positions.
+pub(crate) fn first_key<'a, 'p, E: Entry>(
+    left: &'a [E],
+    left_positions: &'p [usize],
+    right: &'a [E],
+    right_positions: &'p [usize],
+) -> Option<FirstKey<'a, 'p, E>>
+    requires left { All (λ i. i < length left.now) left_positions.now }
+    requires right { All (λ i. i < length right.now) right_positions.now }
+    requires left_rising { IsRising E.Key.cmp (keyed E.key E.terms left.now) left_positions.now }
+    requires right_rising { IsRising E.Key.cmp (keyed E.key E.terms right.now) right_positions.now }
+    ensures none { IfNone result
+        ((length left_positions.now ≡ 0) × (length right_positions.now ≡ 0)) }
+    ensures some { IfSome result (λ first. IsFirstKey E.Key.cmp (keyed E.key E.terms left.now)
+        left_positions.now (keyed E.key E.terms right.now) right_positions.now (E.key first.entry.now)
+        first.left.now first.left_later.now first.right.now first.right_later.now) }
+{
+    let Some(entry) = first_entry(left, left_positions, right, right_positions) else {
+        return None;
+    };
+    let left_count = count_of_key(left, left_positions, entry.key());
+    let right_count = count_of_key(right, right_positions, entry.key());
+    let (left, left_later) = left_positions.split_at(left_count);
+    let (right, right_later) = right_positions.split_at(right_count);
+    Some(FirstKey {
+        entry,
+        left,
+        left_later,
+        right,
+        right_later,
+    })
+}
+
 /// An entry with the least key of those at two lists of positions, each in the order of its keys;
 /// none where there are no positions.
-pub(crate) fn first_entry<'a, E: Entry>(
+fn first_entry<'a, E: Entry>(
     left: &'a [E],
     left_positions: &[usize],
     right: &'a [E],

@@ -9,9 +9,9 @@ use Rattle.cif_calendar.specs.Meaning.{EntriesSayTheSame}
 use Rattle.cif_calendar.specs.Runs.{BodyRuns}
 use Rattle.cif_calendar.specs.declared.key_calendar.CalendarFault.{CalendarFault}
 use Rattle.cif_calendar.specs.declared.key_calendar.CalendarFault.TheVariants as calendar
+use Rattle.cif_extract.specs.declared.fault.Clash.{Clash}
 use Rattle.cif_extract.specs.declared.fault.Fault.{Fault}
 use Rattle.cif_extract.specs.declared.fault.Fault.TheVariants as fault
-use Rattle.cif_extract.specs.declared.fault.Fault.TheVariants.{Ambiguous}
 use Rattle.cif_weeks.specs.Canonical.{AreCanonical, with_key}
 use Rattle.cif_weeks.specs.HaveForm.{HaveForm}
 use Rattle.cif_weeks.specs.Permanent.{Permanent, Permanents, permanent_entries}
@@ -21,7 +21,7 @@ use Rattle.cif_weeks.specs.Window.{Window, IsWithin}
 use Rattle.cif_weeks.specs.declared.form.Form.{Form}
 use Rattle.cif_weeks.specs.declared.run.Run.{Run}
 use Rattle.cif_canon.specs.declared.records.RecordsFault.{RecordsFault}
-use Rattle.cif_canon.specs.declared.records.RecordsFault.TheVariants.{Clash, Memory}
+use Rattle.cif_canon.specs.declared.records.RecordsFault.TheVariants as why
 
 -- The run has the dates and the mask of the record of e, and its source is the position of an entry with e's key and the record's
 -- body.
@@ -54,31 +54,31 @@ pub record AreRunsOfKey {K B : Type 0} (form : Form) (window : Window) (entries 
   pub have_form : HaveForm form window (Contains records)
   pub said : AreSaid window entries k (Contains records)
 
--- a fault of a key's calendar as one of the records
-abbrev pub records_fault : CalendarFault → ℕ → RecordsFault
-records_fault (calendar.Ambiguous day) member = Clash member day
-records_fault calendar.Memory member = Memory
+-- a fault of the calendar of a key as one of the records, by the name of the key's clash on a day
+abbrev pub records_fault : (ℕ → Clash) → CalendarFault → RecordsFault
+records_fault name (calendar.Ambiguous day) = why.Clash (name day)
+records_fault name calendar.Memory = why.Memory
 
--- what a fault says of key k, whose entries are at the members
-abbrev pub IsKeyFault : {K B : Type 0} → Window → List (K × Terms B) → List ℕ → K → RecordsFault → Type 0
-IsKeyFault window entries members k (Clash member day) =
-    Contains members member × IsFirstClash (of_key entries k) window.first window.last day
-IsKeyFault window entries members k Memory = ⊤
+-- a fault of the records as one of the extract
+abbrev pub extract_fault : RecordsFault → Fault
+extract_fault (why.Clash clash) = fault.Ambiguous clash
+extract_fault why.Memory = fault.Memory
 
--- the first clash is on this day, of the key of the entry at this position
-pub record IsClashAt {K B : Type 0} (cmp : K → K → Ordering) (entries : List (K × Terms B)) (window : Window) (member day : ℕ)
-    : Type 0 where
-  pub entry : K × Terms B
-  pub at : slice_get entries member ≡ Some entry
-  pub clash : IsFirstClashOf cmp entries window.first window.last entry.0 day
+-- what a fault says of key k
+abbrev pub IsKeyFault : {K B : Type 0} → (K → ℕ → Clash) → Window → List (K × Terms B) → K → RecordsFault → Type 0
+IsKeyFault name window entries k (why.Clash clash) =
+    (day : ℕ) × (clash ≡ name k day) × IsFirstClash (of_key entries k) window.first window.last day
+IsKeyFault name window entries k why.Memory = ⊤
+
+-- the clash is the first one of the entries, by the name of its key and its day
+pub record IsFirstNamed {K B : Type 0} (cmp : K → K → Ordering) (name : K → ℕ → Clash) (entries : List (K × Terms B)) (window : Window)
+    (clash : Clash) : Type 0 where
+  pub key : K
+  pub day : ℕ
+  pub is : clash ≡ name key day
+  pub first : IsFirstClashOf cmp entries window.first window.last key day
 
 -- what a fault says of the entries
-abbrev pub IsRecordsFault : {K B : Type 0} → (K → K → Ordering) → List (K × Terms B) → Window → RecordsFault → Type 0
-IsRecordsFault cmp entries window (Clash member day) = IsClashAt cmp entries window member day
-IsRecordsFault cmp entries window Memory = ⊤
-
--- the fault of an extract is of the same kind: Ambiguous of a clash, and Memory of Memory
-abbrev pub IsSameKind : RecordsFault → Fault → Type 0
-IsSameKind (Clash member day) (Ambiguous clash) = ⊤
-IsSameKind Memory fault.Memory = ⊤
-IsSameKind _ _ = ⊥
+abbrev pub IsRecordsFault : {K B : Type 0} → (K → K → Ordering) → (K → ℕ → Clash) → List (K × Terms B) → Window → RecordsFault → Type 0
+IsRecordsFault cmp name entries window (why.Clash clash) = IsFirstNamed cmp name entries window clash
+IsRecordsFault cmp name entries window why.Memory = ⊤

@@ -50,6 +50,21 @@ pub record IsFirstOfBoth {K B : Type 0} (cmp : K → K → Ordering) (xs : List 
   pub left_from : AreFrom cmp xs left key
   pub right_from : AreFrom cmp ys right key
 
+-- these positions have the key, and those are later
+pub record AreSplit {K B : Type 0} (cmp : K → K → Ordering) (entries : List (K × Terms B)) (positions : List ℕ) (key : K)
+    (front later : List ℕ) : Type 0 where
+  pub count : ℕ
+  pub is_front : IsFront cmp entries positions key count
+  pub front_is : front ≡ take count positions
+  pub later_is : later ≡ drop count positions
+
+-- the key is the first of two lists of positions, and these have it and those are later
+pub record IsFirstKey {K B : Type 0} (cmp : K → K → Ordering) (xs : List (K × Terms B)) (left : List ℕ) (ys : List (K × Terms B))
+    (right : List ℕ) (key : K) (left_front left_later right_front right_later : List ℕ) : Type 0 where
+  pub first : IsFirstOfBoth cmp xs left ys right key
+  pub left_split : AreSplit cmp xs left key left_front left_later
+  pub right_split : AreSplit cmp ys right key right_front right_later
+
 -- the positions of all entries, in the order of their keys
 pub record AreAllByKey {K B : Type 0} (cmp : K → K → Ordering) (entries : List (K × Terms B)) (positions : List ℕ) : Type 0 where
   pub within : All (λ i. i < length entries) positions

@@ -16,10 +16,10 @@ loop-rest-init g c =
     let window = c.args.window.now in record {
       within = subst (λ (rest : List ℕ). All (λ i. i < length c.args.entries.now) rest) (sym c.as_slice-rest.ensures.value)
           (all-within g.E.Entry.key g.E.Entry.terms c.args.entries.now c.in_ok-positions.positions.items c.in_ok-positions.ensures.within);
-      added = subst (λ (rest : List ℕ). AreAddedSoFar g.E.Key.Ord.cmp es window.first window.last g.E.NamedClash.clash_of
+      added = subst (λ (rest : List ℕ). AreAddedSoFar g.E.Key.Ord.cmp es window.first window.last g.E.NamedEntry.clash_of
           c.args.known.items c.args.known.items rest)
           (sym c.as_slice-rest.ensures.value)
-          (added-nothing g.E.Key.Ord.cmp es window.first window.last g.E.NamedClash.clash_of c.args.known.items
+          (added-nothing g.E.Key.Ord.cmp es window.first window.last g.E.NamedEntry.clash_of c.args.known.items
           c.in_ok-positions.positions.items
           c.in_ok-positions.ensures.whole c.in_ok-positions.ensures.rising);
     }
@@ -47,7 +47,7 @@ loop-rest-preserved g c =
       within = subst (λ (rest : List ℕ). All (λ i. i < length c.args.entries.now) rest) (sym c.split_at.ensures.back)
           (All-drop (λ i. i < length c.args.entries.now) c.count_of_first_key.result c.loop-rest.rest.now c.loop-rest.invariant.within);
       added = rw (c.split_at.ensures.back)
-          (added-key g.E.Key.Ord.cmp es window.first window.last g.E.NamedClash.clash_of c.args.known.items g.met.E.Key.Ord.total same
+          (added-key g.E.Key.Ord.cmp es window.first window.last g.E.NamedEntry.clash_of c.args.known.items g.met.E.Key.Ord.total same
           c.loop-rest.all.items _ c.loop-rest.rest.now c.loop-rest.invariant.added c.count_of_first_key.result
           c.count_of_first_key.ensures (rw c.split_at.ensures.front at c.in_ok-add_clash_of_key.ensures));
     }
@@ -56,7 +56,7 @@ pub returns : goal.returns
 returns g c =
     let es = keyed g.E.Entry.key g.E.Entry.terms c.args.entries.now in
     let window = c.args.window.now in
-    added-all g.E.Key.Ord.cmp es window.first window.last g.E.NamedClash.clash_of c.args.known.items c.loop-rest.all.items
-    (subst (λ (rest : List ℕ). AreAddedSoFar g.E.Key.Ord.cmp es window.first window.last g.E.NamedClash.clash_of c.args.known.items
+    added-all g.E.Key.Ord.cmp es window.first window.last g.E.NamedEntry.clash_of c.args.known.items c.loop-rest.all.items
+    (subst (λ (rest : List ℕ). AreAddedSoFar g.E.Key.Ord.cmp es window.first window.last g.E.NamedEntry.clash_of c.args.known.items
     c.loop-rest.all.items rest)
     (nil_from_length c.loop-rest.rest.now (eqb-true _ _ (sym c.loop-rest-test.ensures))) c.loop-rest.invariant.added)

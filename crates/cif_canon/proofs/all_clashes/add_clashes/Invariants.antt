@@ -9,7 +9,7 @@ abbrev pub invariant-loop-rest : goal.invariant-loop-rest
 invariant-loop-rest g l = record {
   within : All (λ i. i < length l.entries) l.rest;
   added : AreAddedSoFar g.E.Key.Ord.cmp (keyed g.E.Entry.key g.E.Entry.terms l.entries) l.window.first l.window.last
-      g.E.NamedClash.clash_of l.fn.known.items l.all.items l.rest;
+      g.E.NamedEntry.clash_of l.fn.known.items l.all.items l.rest;
 }
 
 abbrev pub decreases-loop-rest : goal.decreases-loop-rest

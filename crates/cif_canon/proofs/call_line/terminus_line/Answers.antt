@@ -1,36 +1,10 @@
 -- Each field can be shown.
-use Rattle.cif_canon.proofs.ViewLines.{spaces}
+use Rattle.cif_canon.proofs.ViewLines.{one-more, spaces}
 use Rattle.cif_canon.proofs.call_line.terminus_line.Goals as goal
 
 pub call_line-requires-clause-fields : goal.call_line-requires-clause-fields
-call_line-requires-clause-fields c = (
-  c.write.ensures.printable,
-  (
-    c.write-2.ensures.printable,
-    (
-      c.write-3.ensures.printable,
-      (
-        spaces 5,
-        (
-          spaces 5,
-          (
-            c.write-4.ensures.printable,
-            (
-              spaces 4,
-              (
-                c.write-5.ensures.printable,
-                (
-                  c.write-6.ensures.printable,
-                  (
-                    spaces 3,
-                    (c.write-7.ensures.printable, tt),
-                  ),
-                ),
-              ),
-            ),
-          ),
-        ),
-      ),
-    ),
-  ),
-)
+call_line-requires-clause-fields c =
+    one-more c.write.ensures.printable (one-more c.write-2.ensures.printable (one-more c.write-3.ensures.printable
+    (one-more (spaces 5) (one-more (spaces 5) (one-more c.write-4.ensures.printable (one-more (spaces 4)
+    (one-more c.write-5.ensures.printable (one-more c.write-6.ensures.printable (one-more (spaces 3)
+    (one-more c.write-7.ensures.printable tt))))))))))

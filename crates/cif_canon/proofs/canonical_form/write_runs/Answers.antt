@@ -4,6 +4,7 @@ use Rattle.std.proofs.lemmas.List.Elements.{All-drop, All-take}
 use Rattle.cif_calendar.specs.Keys.{keyed}
 use Rattle.cif_columns.proofs.WrittenTexts.{item_failed, item_written, writes_err, written_nothing}
 use Rattle.cif_canon.specs.Steps.Texts.{HasRecord, run_text}
+use Rattle.cif_canon.proofs.WrittenLists.{failed-before, items-written}
 use Rattle.cif_canon.proofs.canonical_form.write_runs.Goals as goal
 
 pub loop-at-init : goal.loop-at-init
@@ -34,3 +35,11 @@ look_ahead-requires g c =
 
 pub write_run-requires-clause-going : goal.write_run-requires-clause-going
 write_run-requires-clause-going g c = c.loop-at.invariant.going
+
+pub returns : goal.returns
+returns g c =
+    items-written _ _ (run_text (g.L.RecordLines.text c.args.lines.now) (keyed g.E.Entry.key g.E.Entry.terms c.args.entries.now))
+    c.args.runs.now c.loop-at.at _ _ c.loop-at-test.false c.loop-at.invariant
+
+pub returns-then-failed : goal.returns-then-failed
+returns-then-failed g c = failed-before _ _ _ c.args.sink.now (sym c.failed.ensures ∙ c.if-failed.true)

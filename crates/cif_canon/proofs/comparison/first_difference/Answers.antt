@@ -1,20 +1,21 @@
 -- The fronts of both rests are the positions of one key (`ComparedKeys`), of which its calendars tell (`ComparedCalendars`).
 use Rattle.std.proofs.Common.{◌<◌, ◌∙◌, ℕ, List, length, sym, subst, arith}
 use Rattle.std.specs.Prelude.{All}
+use Rattle.std.proofs.lemmas.Result.{IfOk-from_err}
 use Rattle.std.proofs.lemmas.List.Elements.{All-drop, All-take}
 use Rattle.cif_calendar.specs.Keys.{keyed}
 use Rattle.cif_calendar.proofs.FirstClash.{same_key-cmp}
 use Rattle.cif_weeks.proofs.CalendarSources.{calendar_sources}
-use Rattle.cif_canon.specs.Steps.Turns.{AreAllByKey, AreFrom, IsFront}
+use Rattle.cif_canon.specs.Steps.Turns.{AreAllByKey}
 use Rattle.cif_canon.proofs.ComparedCalendars.{alike-on, clear-positions, differ-on}
 use Rattle.cif_canon.proofs.ComparedKeys.{AreFronts, all-alike, alike-nothing, are-fronts}
 use Rattle.cif_canon.proofs.KeyPositions.{all-within}
 use Rattle.cif_canon.proofs.comparison.first_difference.Given.{Over}
 use Rattle.cif_canon.proofs.comparison.first_difference.Goals as goal
-use Rattle.cif_canon.proofs.comparison.first_difference.Goals.{After-split_at-in-Some}
+use Rattle.cif_canon.proofs.comparison.first_difference.Goals.{In-Some}
 
-pub loop-entry-init : goal.loop-entry-init
-loop-entry-init g c =
+pub loop-first-init : goal.loop-first-init
+loop-first-init g c =
     let cmp = g.E.Key.Ord.cmp in
     let key = g.E.Entry.key in
     let terms = g.E.Entry.terms in
@@ -29,84 +30,56 @@ loop-entry-init g c =
       alike = alike-nothing cmp g.met.E.Key.Ord.total same xs ys c.args.window.now.first c.args.window.now.last _ _ left right;
     }
 
-pub first_entry-requires : goal.first_entry-requires
-first_entry-requires g c =
-    let before = c.loop-entry.invariant in record {
+pub first_key-requires : goal.first_key-requires
+first_key-requires g c =
+    let before = c.loop-first.invariant in record {
       left = before.left_within;
       right = before.right_within;
       left_rising = before.alike.left_rising;
       right_rising = before.alike.right_rising;
     }
 
-pub count_of_key-requires-clause-within : goal.count_of_key-requires-clause-within
-count_of_key-requires-clause-within g c = c.loop-entry.invariant.left_within
-
-pub count_of_key-requires-clause-rising : goal.count_of_key-requires-clause-rising
-count_of_key-requires-clause-rising g c = c.loop-entry.invariant.alike.left_rising
-
-pub count_of_key-requires-in-Some-clause-within : goal.count_of_key-requires-in-Some-clause-within
-count_of_key-requires-in-Some-clause-within g c = c.loop-entry.invariant.right_within
-
-pub count_of_key-requires-in-Some-clause-rising : goal.count_of_key-requires-in-Some-clause-rising
-count_of_key-requires-in-Some-clause-rising g c = c.loop-entry.invariant.alike.right_rising
-
-pub split_at-requires : goal.split_at-requires
-split_at-requires g c = c.count_of_key.ensures.upto
-
-pub split_at-requires-in-Some : goal.split_at-requires-in-Some
-split_at-requires-in-Some g c = c.count_of_key-in-Some.ensures.upto
-
-pub count_of_key-requires-clause-from : goal.count_of_key-requires-clause-from
-count_of_key-requires-clause-from g c =
-    subst (AreFrom g.E.Key.Ord.cmp (keyed g.E.Entry.key g.E.Entry.terms c.args.left.now) c.loop-entry.left_rest.now) (sym c.key.ensures)
-    c.in-Some.ensures.some.left_from
-
-pub count_of_key-requires-in-Some-clause-from : goal.count_of_key-requires-in-Some-clause-from
-count_of_key-requires-in-Some-clause-from g c =
-    subst (AreFrom g.E.Key.Ord.cmp (keyed g.E.Entry.key g.E.Entry.terms c.args.right.now) c.loop-entry.right_rest.now)
-    (sym c.key-in-Some.ensures) c.in-Some.ensures.some.right_from
-
--- the fronts of both rests, as they were counted and split off
-fronts : (g : Over) (c : After-split_at-in-Some g) →
+-- the fronts of both rests, as they were split off
+fronts : (g : Over) (c : In-Some g) →
     AreFronts g.E.Key.Ord.cmp (keyed g.E.Entry.key g.E.Entry.terms c.args.left.now)
-    (keyed g.E.Entry.key g.E.Entry.terms c.args.right.now) c.args.window.now.first c.args.window.now.last c.loop-entry.left_rest.now
-    c.loop-entry.right_rest.now (g.E.Entry.key c.in-Some.entry.now) c.split_at.result.0.now c.split_at.result.1.now
-    c.split_at-in-Some.result.0.now c.split_at-in-Some.result.1.now
+    (keyed g.E.Entry.key g.E.Entry.terms c.args.right.now) c.args.window.now.first c.args.window.now.last c.loop-first.left_rest.now
+    c.loop-first.right_rest.now (g.E.Entry.key c.in-Some.first.entry.now) c.in-Some.first.left.now c.in-Some.first.left_later.now
+    c.in-Some.first.right.now c.in-Some.first.right_later.now
 fronts g c =
     let cmp = g.E.Key.Ord.cmp in
     let xs = keyed g.E.Entry.key g.E.Entry.terms c.args.left.now in
     let ys = keyed g.E.Entry.key g.E.Entry.terms c.args.right.now in
-    let l = c.loop-entry.left_rest.now in
-    let r = c.loop-entry.right_rest.now in
-    let left = subst (λ k. IsFront cmp xs l k c.count_of_key.result) c.key.ensures c.count_of_key.ensures in
-    let right = subst (λ k. IsFront cmp ys r k c.count_of_key-in-Some.result) c.key-in-Some.ensures c.count_of_key-in-Some.ensures in
-    rw (c.split_at.ensures.front, c.split_at.ensures.back, c.split_at-in-Some.ensures.front, c.split_at-in-Some.ensures.back)
+    let l = c.loop-first.left_rest.now in
+    let r = c.loop-first.right_rest.now in
+    let s = c.in-Some.ensures.some in
+    rw (s.left_split.front_is, s.left_split.later_is, s.right_split.front_is, s.right_split.later_is)
     (are-fronts cmp g.met.E.Key.Ord.total
     (same_key-cmp g.E.Key.PartialEq.eq cmp g.met.E.Key.Ord.matches_eq g.met.E.Entry.same_key) xs ys c.args.window.now.first
-    c.args.window.now.last l r c.loop-entry.invariant.alike (g.E.Entry.key c.in-Some.entry.now) c.in-Some.ensures.some _ _ left right)
+    c.args.window.now.last l r c.loop-first.invariant.alike (g.E.Entry.key c.in-Some.first.entry.now) s.first _ _
+    s.left_split.is_front s.right_split.is_front)
 
 pub clear_calendar-requires-clause-within : goal.clear_calendar-requires-clause-within
 clear_calendar-requires-clause-within g c =
-    subst (λ (is : List ℕ). All (λ i. i < length c.args.left.now) is) (sym c.split_at.ensures.front)
-    (All-take (λ i. i < length c.args.left.now) _ _ c.loop-entry.invariant.left_within)
+    subst (λ (is : List ℕ). All (λ i. i < length c.args.left.now) is) (sym c.in-Some.ensures.some.left_split.front_is)
+    (All-take (λ i. i < length c.args.left.now) _ _ c.loop-first.invariant.left_within)
 
 pub clear_calendar-requires-in-Some-clause-within : goal.clear_calendar-requires-in-Some-clause-within
 clear_calendar-requires-in-Some-clause-within g c =
-    subst (λ (is : List ℕ). All (λ i. i < length c.args.right.now) is) (sym c.split_at-in-Some.ensures.front)
-    (All-take (λ i. i < length c.args.right.now) _ _ c.loop-entry.invariant.right_within)
+    subst (λ (is : List ℕ). All (λ i. i < length c.args.right.now) is) (sym c.in-Some.ensures.some.right_split.front_is)
+    (All-take (λ i. i < length c.args.right.now) _ _ c.loop-first.invariant.right_within)
 
 pub clear_calendar-requires-clause-clear : goal.clear_calendar-requires-clause-clear
 clear_calendar-requires-clause-clear g c =
-    let here = (goal.at.clear_calendar-requires-clause-clear g c).After-split_at-in-Some in
-    let k = g.E.Entry.key c.in-Some.entry.now in
-    clear-positions g.E.Entry.key g.E.Entry.terms c.args.left.now k c.split_at.result.0.now (fronts g here).left
+    let here = (goal.at.clear_calendar-requires-clause-clear g c).In-Some in
+    let k = g.E.Entry.key c.in-Some.first.entry.now in
+    clear-positions g.E.Entry.key g.E.Entry.terms c.args.left.now k c.in-Some.first.left.now (fronts g here).left
     c.args.window.now.first c.args.window.now.last (c.requires.left.key k)
 
 pub clear_calendar-requires-in-Some-clause-clear : goal.clear_calendar-requires-in-Some-clause-clear
 clear_calendar-requires-in-Some-clause-clear g c =
-    let here = (goal.at.clear_calendar-requires-in-Some-clause-clear g c).After-split_at-in-Some in
-    let k = g.E.Entry.key c.in-Some.entry.now in
-    clear-positions g.E.Entry.key g.E.Entry.terms c.args.right.now k c.split_at-in-Some.result.0.now (fronts g here).right
+    let here = (goal.at.clear_calendar-requires-in-Some-clause-clear g c).In-Some in
+    let k = g.E.Entry.key c.in-Some.first.entry.now in
+    clear-positions g.E.Entry.key g.E.Entry.terms c.args.right.now k c.in-Some.first.right.now (fronts g here).right
     c.args.window.now.first c.args.window.now.last (c.requires.right.key k)
 
 pub first_day-requires : goal.first_day-requires
@@ -119,8 +92,8 @@ first_day-requires g c = record {
 
 pub returns-in-Some-first_day-clause-some : goal.returns-in-Some-first_day-clause-some
 returns-in-Some-first_day-clause-some g c =
-    let both = fronts g (goal.at.returns-in-Some-first_day-clause-some g c).After-split_at-in-Some in
-    let k = g.E.Entry.key c.in-Some.entry.now in
+    let both = fronts g (goal.at.returns-in-Some-first_day-clause-some g c).In-Some in
+    let k = g.E.Entry.key c.in-Some.first.entry.now in
     let first = c.args.window.now.first in
     let last = c.args.window.now.last in
     let found = c.in-Some-first_day.ensures in
@@ -130,29 +103,30 @@ returns-in-Some-first_day-clause-some g c =
     let upto = found.upto in
     both.differ c.in-Some-first_day.day (omega (arith, from, is)) (omega (arith, upto, ends))
     (differ-on g.E.Entry.key g.E.Entry.terms g.met.E.Entry.cancelled c.args.left.now c.args.right.now k
-    c.split_at.result.0.now c.split_at-in-Some.result.0.now both.left both.right first last c.in_ok-one.one c.in_ok-other.other
+    c.in-Some.first.left.now c.in-Some.first.right.now both.left both.right first last c.in_ok-one.one c.in_ok-other.other
     c.in_ok-one.ensures c.in_ok-other.ensures
     c.in-Some-first_day.day (omega (arith, from, is)) (omega (arith, upto, ends)) found.other)
     (λ e after before. alike-on g.E.Entry.key g.E.Entry.terms g.met.E.Entry.cancelled c.args.left.now c.args.right.now k
-    c.split_at.result.0.now c.split_at-in-Some.result.0.now both.left both.right first last c.in_ok-one.one c.in_ok-other.other
+    c.in-Some.first.left.now c.in-Some.first.right.now both.left both.right first last c.in_ok-one.one c.in_ok-other.other
     c.in_ok-one.ensures c.in_ok-other.ensures
     e after (omega (arith, before, upto, ends)) (found.before e (omega (arith, after, is)) before))
 
-pub loop-entry-smaller : goal.loop-entry-smaller
-loop-entry-smaller g c = (fronts g (goal.at.loop-entry-smaller g c).After-split_at-in-Some).smaller
+pub loop-first-smaller : goal.loop-first-smaller
+loop-first-smaller g c = (fronts g (goal.at.loop-first-smaller g c).In-Some).smaller
 
-pub loop-entry-preserved : goal.loop-entry-preserved
-loop-entry-preserved g c =
-    let both = fronts g (goal.at.loop-entry-preserved g c).After-split_at-in-Some in
+pub loop-first-preserved : goal.loop-first-preserved
+loop-first-preserved g c =
+    let both = fronts g (goal.at.loop-first-preserved g c).In-Some in
+    let s = c.in-Some.ensures.some in
     let is = c.in_ok-one.ensures.first_is in
     let ends = c.in_ok-one.ensures.last_is in record {
-      left_within = subst (λ (rest : List ℕ). All (λ i. i < length c.args.left.now) rest) (sym c.split_at.ensures.back)
-          (All-drop (λ i. i < length c.args.left.now) _ _ c.loop-entry.invariant.left_within);
-      right_within = subst (λ (rest : List ℕ). All (λ i. i < length c.args.right.now) rest) (sym c.split_at-in-Some.ensures.back)
-          (All-drop (λ i. i < length c.args.right.now) _ _ c.loop-entry.invariant.right_within);
+      left_within = subst (λ (rest : List ℕ). All (λ i. i < length c.args.left.now) rest) (sym s.left_split.later_is)
+          (All-drop (λ i. i < length c.args.left.now) _ _ c.loop-first.invariant.left_within);
+      right_within = subst (λ (rest : List ℕ). All (λ i. i < length c.args.right.now) rest) (sym s.right_split.later_is)
+          (All-drop (λ i. i < length c.args.right.now) _ _ c.loop-first.invariant.right_within);
       alike =
           both.alike (λ d from upto. alike-on g.E.Entry.key g.E.Entry.terms g.met.E.Entry.cancelled c.args.left.now c.args.right.now
-          (g.E.Entry.key c.in-Some.entry.now) c.split_at.result.0.now c.split_at-in-Some.result.0.now both.left both.right
+          (g.E.Entry.key c.in-Some.first.entry.now) c.in-Some.first.left.now c.in-Some.first.right.now both.left both.right
           c.args.window.now.first c.args.window.now.last c.in_ok-one.one c.in_ok-other.other c.in_ok-one.ensures
           c.in_ok-other.ensures d from upto (c.in_default-first_day.ensures d (omega (arith, from, is)) (omega (arith, upto, ends))));
     }
@@ -161,4 +135,24 @@ pub returns-clause-none : goal.returns-clause-none
 returns-clause-none g c =
     let same = same_key-cmp g.E.Key.PartialEq.eq g.E.Key.Ord.cmp g.met.E.Key.Ord.matches_eq g.met.E.Entry.same_key in
     let none = c.in_default.ensures.none in
-    all-alike g.E.Key.Ord.cmp g.met.E.Key.Ord.total same _ _ _ _ _ _ c.loop-entry.invariant.alike none.0 none.1
+    all-alike g.E.Key.Ord.cmp g.met.E.Key.Ord.total same _ _ _ _ _ _ c.loop-first.invariant.alike none.0 none.1
+
+pub returns-in_err-right_positions-clause-none : goal.returns-in_err-right_positions-clause-none
+returns-in_err-right_positions-clause-none g c =
+    IfOk-from_err c.from_residual-in_err-right_positions.result _ c.from_residual-in_err-right_positions.ensures.0
+
+pub returns-in_err-right_positions-clause-some : goal.returns-in_err-right_positions-clause-some
+returns-in_err-right_positions-clause-some g c =
+    IfOk-from_err c.from_residual-in_err-right_positions.result _ c.from_residual-in_err-right_positions.ensures.0
+
+pub returns-in_err-one-clause-none : goal.returns-in_err-one-clause-none
+returns-in_err-one-clause-none g c = IfOk-from_err c.from_residual-in_err-one.result _ c.from_residual-in_err-one.ensures.0
+
+pub returns-in_err-one-clause-some : goal.returns-in_err-one-clause-some
+returns-in_err-one-clause-some g c = IfOk-from_err c.from_residual-in_err-one.result _ c.from_residual-in_err-one.ensures.0
+
+pub returns-in_err-other-clause-none : goal.returns-in_err-other-clause-none
+returns-in_err-other-clause-none g c = IfOk-from_err c.from_residual-in_err-other.result _ c.from_residual-in_err-other.ensures.0
+
+pub returns-in_err-other-clause-some : goal.returns-in_err-other-clause-some
+returns-in_err-other-clause-some g c = IfOk-from_err c.from_residual-in_err-other.result _ c.from_residual-in_err-other.ensures.0

@@ -1,5 +1,7 @@
--- Where the calendars have the same bodies nothing is said by one alone (`only-none`).
-use Rattle.std.proofs.Common.{[], map, sym, arith}
+-- Where the calendars have the same bodies nothing is said by one alone (`only-none`); or the runs of either side go behind the others.
+use Rattle.std.proofs.Common.{[], map, subst, sym, arith}
+use Rattle.std.proofs.lemmas.Result.{on_ok_weaker}
+use Rattle.cif_canon.specs.Steps.OnlySides.{AreAppendedRuns, AreRisingRuns}
 use Rattle.cif_canon.proofs.MergedSides.{merged-none}
 use Rattle.cif_canon.proofs.OnlyRuns.{only-none}
 use Rattle.cif_canon.proofs.differing.push_differences.Goals as goal
@@ -16,3 +18,29 @@ returns-in-None g c =
           (λ d from upto. sym (c.in-None.ensures d (omega (arith, first, from)) (omega (arith, last, upto))));
       appended = merged-none c.args.found.now.items;
     }
+
+pub only_runs-requires-in-Some : goal.only_runs-requires-in-Some
+only_runs-requires-in-Some g c = record {
+  first = sym c.requires.first;
+  last = sym c.requires.last;
+  left = c.requires.right;
+  right = c.requires.left;
+}
+
+pub push_merged-requires : goal.push_merged-requires
+push_merged-requires g c = record {
+  left = subst AreRisingRuns (sym c.as_slice.ensures.value) c.in_ok-lefts-in-Some.ensures.rising;
+  right = subst AreRisingRuns (sym c.as_slice-in-Some.ensures.value) c.in_ok-rights-in-Some.ensures.rising;
+}
+
+pub returns-in_ok-rights-in-Some : goal.returns-in_ok-rights-in-Some
+returns-in_ok-rights-in-Some g c =
+    on_ok_weaker c.push_merged.result
+    (λ (are : AreAppendedRuns c.as_slice.result.now c.as_slice-in-Some.result.now c.args.found.now.items
+    c.push_merged.new.found.items). record {
+      lefts = c.in_ok-lefts-in-Some.lefts.items;
+      rights = c.in_ok-rights-in-Some.rights.items;
+      left = c.in_ok-lefts-in-Some.ensures.runs;
+      right = c.in_ok-rights-in-Some.ensures.runs;
+      appended = rw (c.as_slice.ensures.value, c.as_slice-in-Some.ensures.value) at are;
+    }) c.push_merged.ensures

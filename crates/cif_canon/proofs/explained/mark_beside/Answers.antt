@@ -1,16 +1,13 @@
 -- One more record changes a mark only if it has the key, and an earlier letter or the same one and another body (`Explaining`).
-use Rattle.std.proofs.Common.{◌≡◌, Bool, true, false, not, arith, refl, subst, sym, ap, ◌∙◌}
+use Rattle.std.proofs.Common.{◌≡◌, true, false, not, arith, subst, sym, ap, ◌∙◌}
 use Rattle.std.proofs.lemmas.Bool.{false≢true}
 use Rattle.cif_columns.specs.Stp.{letter}
 use Rattle.cif_canon.specs.Steps.Explanation.{IsMarkAmong}
+use Rattle.cif_canon.proofs.KeyPositions.{true_from_not}
 use Rattle.cif_canon.proofs.Explaining.{mark-hidden, mark-opposed, mark-unchanged}
 use Rattle.cif_canon.proofs.explained.mark_beside.Given.{Over}
 use Rattle.cif_canon.proofs.explained.mark_beside.Goals as goal
 use Rattle.cif_canon.proofs.explained.mark_beside.Goals.{After-ne, After-write-other_letter}
-
-true_from_not : (b : Bool) → not b ≡ false → b ≡ true
-true_from_not true h = refl
-true_from_not false h = sym h
 
 -- the key of the other record is that of the one, where the test says so
 one-key : (g : Over) (c : After-ne g) → c.ne.result ≡ false → g.E.Entry.key c.args.other.now ≡ g.E.Entry.key c.args.one.now

@@ -3,6 +3,7 @@ use Rattle.std.proofs.Common.{◌≡◌, ◌∙◌, sym, subst}
 use Rattle.cif_columns.specs.Sink.{HasFailed, HasWritten}
 use Rattle.cif_columns.proofs.WrittenTexts.{item_failed, item_written, writes_err, written_nothing}
 use Rattle.cif_canon.specs.Steps.Explanation.{explained_of}
+use Rattle.cif_canon.proofs.WrittenLists.{failed-before, items-written}
 use Rattle.cif_canon.proofs.explanation.write_marked.Given.{Over}
 use Rattle.cif_canon.proofs.explanation.write_marked.Goals as goal
 use Rattle.cif_canon.proofs.explanation.write_marked.Goals.{After-as_bytes}
@@ -29,3 +30,11 @@ returns-in_err-write_all g c =
     c.loop-one.one-index c.one-item.result c.loop-one-test.true c.one-item.is _ _ _ _ _ c.loop-one.invariant
     (subst (λ t. HasFailed g.W.Write.contents g.W.WriteDevice.write_errors t c.loop-one.sink c.write_all.new.self)
     (line-bytes g (goal.at.returns-in_err-write_all g c).After-as_bytes) c.in_err-write_all.ensures))
+
+pub returns : goal.returns
+returns g c =
+    items-written _ _ (λ one. g.E.ExplainedEntry.line c.args.format (explained_of g.E.Entry.key g.E.Entry.terms one))
+    c.args.marked.now c.loop-one.one-index _ _ c.loop-one-test.false c.loop-one.invariant
+
+pub returns-then-failed : goal.returns-then-failed
+returns-then-failed g c = failed-before _ _ _ c.args.sink.now (sym c.failed.ensures ∙ c.if-failed.true)

@@ -10,7 +10,7 @@ returns c = rw (
   c.push_str.ensures.bytes,
   c.push_no_call.ensures.text,
   c.push_association.ensures.text,
-  c.push_no_train.ensures.text,
+  c.push_left_out.ensures.text,
   c.started-line.ensures.text,
 )
     (three-groups c.args.layout.format (codes "AA") (no_train c.args.layout.format)

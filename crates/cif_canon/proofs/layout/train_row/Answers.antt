@@ -5,5 +5,5 @@ use Rattle.cif_canon.proofs.ViewLines.{two-groups}
 use Rattle.cif_canon.proofs.layout.train_row.Goals as goal
 
 pub returns-clause-text : goal.returns-clause-text
-returns-clause-text c = rw (c.push_no_association.ensures.text, c.push_train.ensures.text, c.started-row.ensures.text)
+returns-clause-text c = rw (c.push_left_out.ensures.text, c.push_train.ensures.text, c.started-row.ensures.text)
     (two-groups c.args.format (codes "BS") (train_fields c.args.format (c.args.uid.now, c.args.body.now)) (no_association c.args.format))

@@ -6,7 +6,7 @@ use Rattle.cif_extract.specs.ExtractParts.{extract_parts}
 use Rattle.cif_extract.specs.declared.fault.Fault.TheVariants.{Read}
 use Rattle.cif_canon.specs.Fault.{IsCanonFault, IsOfCheck}
 use Rattle.cif_canon.proofs.BothRead.{read-on}
-use Rattle.cif_canon.proofs.HandedFaults.{hands}
+use Rattle.cif_canon.proofs.HandedFaults.{at-fault, hands}
 use Rattle.cif_canon.proofs.Normalising.{canon-of_check}
 use Rattle.cif_canon.proofs.Normalising.{counted-text, known-accepted, known-canon_accepted, known-canon_fault}
 use Rattle.cif_canon.proofs.normal_form.check_keeping.Goals as goal
@@ -46,3 +46,15 @@ returns-in_err-canon-clause-source g c =
     read-on _ _ _ call.result (hands call.result c.in_err-canon.field-0.0 call.ensures.1 (λ f. f ≢ Read)
     (λ read. subst (IsCanonFault (extract_parts c.insert-extract.result.now)) read c.in_err-canon.ensures.fault))
     c.in_ok-extract.ensures.source
+
+pub returns-in_err-extract-clause-fault : goal.returns-in_err-extract-clause-fault
+returns-in_err-extract-clause-fault g c =
+    rw (at-fault c.from_residual.result c.in_err-extract.field-0.0 c.from_residual.ensures.1) c.in_err-extract.ensures.fault
+
+pub returns-in_err-extract-clause-answers : goal.returns-in_err-extract-clause-answers
+returns-in_err-extract-clause-answers g c =
+    rw (at-fault c.from_residual.result c.in_err-extract.field-0.0 c.from_residual.ensures.1) c.in_err-extract.ensures.answers
+
+pub returns-in_err-extract-clause-source : goal.returns-in_err-extract-clause-source
+returns-in_err-extract-clause-source g c =
+    rw (at-fault c.from_residual.result c.in_err-extract.field-0.0 c.from_residual.ensures.1) c.in_err-extract.ensures.source

@@ -104,3 +104,11 @@ returns-in_err-write-clause-source g c =
     let call = c.from_residual-in_err-write in
     read-on _ _ _ call.result (hands call.result c.in_err-write.field-0.0 call.ensures.1 (λ f. f ≢ Read)
     (subst (λ f. f ≢ Read) (sym c.in_err-write.ensures.fault) (λ is. cc))) c.in_ok-extract.ensures.source
+
+pub returns-in_err-extract-clause-fault : goal.returns-in_err-extract-clause-fault
+returns-in_err-extract-clause-fault g c =
+    rw (at-fault c.from_residual.result c.in_err-extract.field-0.0 c.from_residual.ensures.1) c.in_err-extract.ensures.fault
+
+pub returns-in_err-extract-clause-source : goal.returns-in_err-extract-clause-source
+returns-in_err-extract-clause-source g c =
+    rw (at-fault c.from_residual.result c.in_err-extract.field-0.0 c.from_residual.ensures.1) c.in_err-extract.ensures.source

@@ -6,7 +6,7 @@ use Rattle.cif_extract.specs.ExtractParts.{extract_parts}
 use Rattle.cif_extract.specs.declared.fault.Fault.TheVariants.{Read}
 use Rattle.cif_canon.specs.Asked.{IsNarrowingFault}
 use Rattle.cif_canon.proofs.BothRead.{read-on}
-use Rattle.cif_canon.proofs.HandedFaults.{hands}
+use Rattle.cif_canon.proofs.HandedFaults.{at-fault, hands}
 use Rattle.cif_canon.proofs.Normalising.{known-narrowing, spells-narrowed}
 use Rattle.cif_canon.proofs.normal_form.read_narrowed.Goals as goal
 
@@ -28,3 +28,7 @@ returns-in_err-narrow-clause-source g c =
     read-on _ _ _ call.result (hands call.result c.in_err-narrow.field-0.0 call.ensures.1 (λ f. f ≢ Read)
     (λ read. subst (IsNarrowingFault c.args.asked.now c.in_ok-extract.extract.header) read c.in_err-narrow.ensures.fault))
     c.in_ok-extract.ensures.device
+
+pub returns-in_err-extract-clause-source : goal.returns-in_err-extract-clause-source
+returns-in_err-extract-clause-source g c =
+    rw (at-fault c.from_residual.result c.in_err-extract.field-0.0 c.from_residual.ensures.1) c.in_err-extract.ensures.device

@@ -7,7 +7,7 @@ use Rattle.cif_extract.specs.ReadFault.{IsOfReading}
 use Rattle.cif_extract.specs.declared.fault.Fault.TheVariants.{Read, Write}
 use Rattle.cif_canon.specs.Asked.{IsNarrowingFault}
 use Rattle.cif_canon.proofs.BothRead.{both-read}
-use Rattle.cif_canon.proofs.HandedFaults.{hands}
+use Rattle.cif_canon.proofs.HandedFaults.{at-fault, hands}
 use Rattle.cif_canon.specs.Pair.{IsCompareRefusal}
 use Rattle.cif_canon.proofs.ReadPairs.{are-narrowed, spelled-refused}
 use Rattle.cif_canon.proofs.pair.read_pair.Goals as goal
@@ -86,3 +86,44 @@ returns-in_err-narrow-2-clause-sources g c =
     both-read _ _ _ _ _ call.result (inr (c.in_ok-left.ensures.device, c.in_ok-right.ensures.device))
     (hands call.result c.in_err-narrow-2.field-0.0 call.ensures.1 (λ f. f ≢ Read)
     (λ read. subst (IsNarrowingFault c.asked_of_both-asked.result c.in_ok-right.right.header) read c.in_err-narrow-2.ensures.fault))
+
+pub returns-in_err-left-clause-sources : goal.returns-in_err-left-clause-sources
+returns-in_err-left-clause-sources g c =
+    inl (rw (at-fault c.from_residual.result c.in_err-left.field-0.0 c.from_residual.ensures.1) c.in_err-left.ensures.device, refl)
+
+pub returns-in_err-right-clause-sources : goal.returns-in_err-right-clause-sources
+returns-in_err-right-clause-sources g c =
+    let call = c.from_residual-in_err-right in
+    inr (c.in_ok-left.ensures.device, rw (at-fault call.result c.in_err-right.field-0.0 call.ensures.1) c.in_err-right.ensures.device)
+
+pub returns-in_err-left-clause-left_end : goal.returns-in_err-left-clause-left_end
+returns-in_err-left-clause-left_end g c =
+    rw (at-fault c.from_residual.result c.in_err-left.field-0.0 c.from_residual.ensures.1) tt
+
+pub returns-in_err-left-clause-right_end : goal.returns-in_err-left-clause-right_end
+returns-in_err-left-clause-right_end g c =
+    rw (at-fault c.from_residual.result c.in_err-left.field-0.0 c.from_residual.ensures.1) tt
+
+pub returns-in_err-right-clause-left_end : goal.returns-in_err-right-clause-left_end
+returns-in_err-right-clause-left_end g c =
+    rw (at-fault c.from_residual-in_err-right.result c.in_err-right.field-0.0 c.from_residual-in_err-right.ensures.1) tt
+
+pub returns-in_err-right-clause-right_end : goal.returns-in_err-right-clause-right_end
+returns-in_err-right-clause-right_end g c =
+    rw (at-fault c.from_residual-in_err-right.result c.in_err-right.field-0.0 c.from_residual-in_err-right.ensures.1) tt
+
+pub returns-in_err-narrow-clause-left_end : goal.returns-in_err-narrow-clause-left_end
+returns-in_err-narrow-clause-left_end g c =
+    rw (at-fault c.from_residual-in_err-narrow.result c.in_err-narrow.field-0.0 c.from_residual-in_err-narrow.ensures.1) tt
+
+pub returns-in_err-narrow-clause-right_end : goal.returns-in_err-narrow-clause-right_end
+returns-in_err-narrow-clause-right_end g c =
+    rw (at-fault c.from_residual-in_err-narrow.result c.in_err-narrow.field-0.0 c.from_residual-in_err-narrow.ensures.1) tt
+
+pub returns-in_err-narrow-2-clause-left_end : goal.returns-in_err-narrow-2-clause-left_end
+returns-in_err-narrow-2-clause-left_end g c =
+    rw (at-fault c.from_residual-in_err-narrow-2.result c.in_err-narrow-2.field-0.0 c.from_residual-in_err-narrow-2.ensures.1) tt
+
+pub returns-in_err-narrow-2-clause-right_end : goal.returns-in_err-narrow-2-clause-right_end
+returns-in_err-narrow-2-clause-right_end g c =
+    rw (at-fault c.from_residual-in_err-narrow-2.result c.in_err-narrow-2.field-0.0 c.from_residual-in_err-narrow-2.ensures.1) tt

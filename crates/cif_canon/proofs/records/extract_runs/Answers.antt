@@ -1,30 +1,50 @@
--- Canonical records of slices, in the window of two dates, are those of the extract's entries and header (`records-of_slice`).
+-- What is said of slices, in the window of two dates, is said of the extract's entries and header (`of_slice`).
 use Rattle.std.specs.Cmp.Lexicographic.{slice_cmp}
 use Rattle.std.specs.Ordering.{nat_cmp}
-use Rattle.cif_calendar.specs.Entries.{association_entry, schedule_entry}
+use Rattle.cif_calendar.specs.Entries.{association_entries, schedule_entries}
 use Rattle.cif_extract.specs.ExtractParts.{extract_parts}
+use Rattle.cif_extract.specs.declared.fault.Clash.TheVariants.{Association, Train}
 use Rattle.cif_records.specs.AssocKey.{key_cmp}
-use Rattle.cif_canon.proofs.CanonForm.{records-of_slice}
+use Rattle.cif_canon.specs.Asked.{header_window}
+use Rattle.cif_canon.specs.Fault.{IsCanonFault}
+use Rattle.cif_canon.specs.Steps.Records.{AreCanonicalRecords, IsRecordsFault}
+use Rattle.cif_canon.proofs.CanonForm.{associations-fault, of_slice, schedules-fault}
+use Rattle.cif_canon.proofs.HandedFaults.{hands}
 use Rattle.cif_canon.proofs.records.extract_runs.Goals as goal
+use Rattle.cif_canon.proofs.records.extract_runs.Goals.{In_ok-associations}
 
-pub schedule_fault-requires-clause-clear : goal.schedule_fault-requires-clause-clear
-schedule_fault-requires-clause-clear c =
+-- the runs of associations
+associations : (c : In_ok-associations) → AreCanonicalRecords key_cmp c.args.form (header_window c.args.extract.now.header)
+    (association_entries c.args.extract.now.associations.items) c.in_ok-associations.associations.items
+associations c =
+    of_slice (λ window xs. AreCanonicalRecords key_cmp c.args.form window (association_entries xs) c.in_ok-associations.associations.items)
+    c.args.extract.now.header _ _ _ _ c.window_of-window.ensures.first c.window_of-window.ensures.last c.as_slice.ensures.value
+    c.in_ok-associations.ensures.records
+
+pub returns-in_err-associations-clause-fault : goal.returns-in_err-associations-clause-fault
+returns-in_err-associations-clause-fault c =
     let x = extract_parts c.args.extract.now in
-    let associations = records-of_slice key_cmp c.args.form association_entry x.header c.window_of.result.first c.window_of.result.last
-    c.as_slice.result.now x.associations c.in-Ok.runs.items c.window_of.ensures.first c.window_of.ensures.last
-    c.as_slice.ensures.value c.in-Ok.ensures.records in
-    associations.clear
+    let fault = c.in_err-associations.field-0.0 in
+    hands c.from_residual.result _ c.from_residual.ensures.1 (IsCanonFault x)
+    (associations-fault x fault
+    (of_slice (λ window xs. IsRecordsFault key_cmp Association (association_entries xs) window fault) x.header _ _ _ _
+    c.window_of-window.ensures.first c.window_of-window.ensures.last c.as_slice.ensures.value c.in_err-associations.ensures.fault))
+
+pub returns-in_err-schedules-clause-fault : goal.returns-in_err-schedules-clause-fault
+returns-in_err-schedules-clause-fault c =
+    let x = extract_parts c.args.extract.now in
+    let fault = c.in_err-schedules.field-0.0 in
+    let clear = (associations (goal.at.returns-in_err-schedules-clause-fault c).In_ok-associations).clear in
+    hands c.from_residual-in_err-schedules.result _ c.from_residual-in_err-schedules.ensures.1 (IsCanonFault x)
+    (schedules-fault x clear fault
+    (of_slice (λ window xs. IsRecordsFault (slice_cmp nat_cmp) Train (schedule_entries xs) window fault) x.header _ _ _ _
+    c.window_of-window.ensures.first c.window_of-window.ensures.last c.as_slice-2.ensures.value c.in_err-schedules.ensures.fault))
 
 pub returns-clause-associations : goal.returns-clause-associations
-returns-clause-associations c =
-    let x = extract_parts c.args.extract.now in
-    records-of_slice key_cmp c.args.form association_entry x.header c.window_of.result.first c.window_of.result.last
-    c.as_slice.result.now x.associations c.in-Ok.runs.items c.window_of.ensures.first c.window_of.ensures.last
-    c.as_slice.ensures.value c.in-Ok.ensures.records
+returns-clause-associations c = associations (goal.at.returns-clause-associations c).In_ok-associations
 
 pub returns-clause-schedules : goal.returns-clause-schedules
 returns-clause-schedules c =
-    let x = extract_parts c.args.extract.now in
-    records-of_slice (slice_cmp nat_cmp) c.args.form schedule_entry x.header c.window_of-2.result.first c.window_of-2.result.last
-    c.as_slice-2.result.now x.schedules c.in-Ok-canonical_records.runs.items c.window_of-2.ensures.first c.window_of-2.ensures.last
-    c.as_slice-2.ensures.value c.in-Ok-canonical_records.ensures.records
+    of_slice (λ window xs. AreCanonicalRecords (slice_cmp nat_cmp) c.args.form window (schedule_entries xs)
+    c.in_ok-schedules.schedules.items) c.args.extract.now.header _ _ _ _ c.window_of-window.ensures.first c.window_of-window.ensures.last
+    c.as_slice-2.ensures.value c.in_ok-schedules.ensures.records

@@ -1,16 +1,18 @@
--- Both lists were made distinct.
-use Rattle.std.proofs.Common.{subst, sym}
-use Rattle.cif_canon.specs.Steps.Tiplocs.{AreDistinct}
+-- It is the first of those that are found, or there is none (`first-tiploc`, `no-tiploc`).
+use Rattle.std.proofs.Common.{ap, sym, subst, ◌∙◌}
+use Rattle.std.specs.Option.{option_copied}
+use Rattle.cif_canon.specs.Differences.{AreDifferentTiplocs}
+use Rattle.cif_canon.proofs.DifferentTiplocs.{first-tiploc, no-tiploc}
 use Rattle.cif_canon.proofs.tiplocs.first_different_tiploc.Goals as goal
+
+pub returns-in-Some-clause-some : goal.returns-in-Some-clause-some
+returns-in-Some-clause-some c =
+    first-tiploc c.args.left.now c.args.right.now c.as_slice.result.now
+    (subst (AreDifferentTiplocs c.args.left.now c.args.right.now) (sym c.as_slice.ensures.value) c.in_ok-found.ensures)
+    c.in-Some.first.now (sym c.first.ensures.value ∙ ap option_copied c.in-Some.is)
 
 pub returns-clause-none : goal.returns-clause-none
 returns-clause-none c =
-    c.first_apart.ensures.none c.args.left.now c.args.right.now
-    (subst (AreDistinct c.args.left.now) (sym c.as_slice.ensures.value) c.in_ok-left.ensures)
-    (subst (AreDistinct c.args.right.now) (sym c.as_slice-2.ensures.value) c.in_ok-right.ensures)
-
-pub returns-clause-some : goal.returns-clause-some
-returns-clause-some c =
-    c.first_apart.ensures.some c.args.left.now c.args.right.now
-    (subst (AreDistinct c.args.left.now) (sym c.as_slice.ensures.value) c.in_ok-left.ensures)
-    (subst (AreDistinct c.args.right.now) (sym c.as_slice-2.ensures.value) c.in_ok-right.ensures)
+    no-tiploc c.args.left.now c.args.right.now c.as_slice.result.now
+    (subst (AreDifferentTiplocs c.args.left.now c.args.right.now) (sym c.as_slice.ensures.value) c.in_ok-found.ensures)
+    (sym c.first.ensures.value ∙ ap option_copied c.in-None.is)

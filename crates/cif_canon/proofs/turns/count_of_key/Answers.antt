@@ -1,18 +1,14 @@
 -- In the order of keys no position behind one with another key has this one (`front-ends`); or all have it (`front-of_all`).
-use Rattle.std.proofs.Common.{◌≡◌, Bool, true, false, not, get_or, length, take, refl, sym, ◌∙◌, ap, subst, arith}
+use Rattle.std.proofs.Common.{◌≡◌, true, false, not, get_or, length, take, sym, ◌∙◌, ap, subst, arith}
 use Rattle.std.specs.Prelude.{All}
 use Rattle.std.proofs.lemmas.Bool.{false≢true}
 use Rattle.std.proofs.lemmas.List.Elements.{All-nil, All-more}
 use Rattle.cif_calendar.specs.Keys.{keyed}
 use Rattle.cif_calendar.proofs.FirstClash.{same_key-cmp}
 use Rattle.cif_canon.specs.Steps.Turns.{HasKey}
-use Rattle.cif_canon.proofs.KeyPositions.{has-key}
+use Rattle.cif_canon.proofs.KeyPositions.{has-key, true_from_not}
 use Rattle.cif_canon.proofs.KeyTurns.{front-ends, front-of_all}
 use Rattle.cif_canon.proofs.turns.count_of_key.Goals as goal
-
-true_from_not : (b : Bool) → not b ≡ false → b ≡ true
-true_from_not true h = refl
-true_from_not false h = sym h
 
 pub loop-count-init : goal.loop-count-init
 loop-count-init g c = All-nil _

@@ -4,19 +4,19 @@ use Rattle.cif_calendar.specs.Entries.{schedule_terms}
 use Rattle.cif_canon.specs.Explanation.{explained_train_line, mark_columns, said_of_train, terms_fields}
 use Rattle.cif_canon.specs.Views.{no_association}
 use Rattle.cif_canon.proofs.ViewLines.{explained-groups}
-use Rattle.cif_canon.proofs.explanation.explained_train.Goals as goal
+use Rattle.cif_canon.proofs.explanation.ScheduleExplainedEntry.line.Goals as goal
 
 pub returns : goal.returns
 unfolding explained_train_line
 returns c place = rw (
   c.push_str.ensures.bytes,
-  c.push_no_association.ensures.text,
+  c.push_left_out.ensures.text,
   c.push_said_of_train.ensures.text,
   c.push_terms.ensures.text,
   c.push_field.ensures.text,
   c.started-line.ensures.text,
   c.columns_of.ensures,
 )
-    (explained-groups c.args.format (mark_columns c.args.mark) (codes "BS") (terms_fields (schedule_terms c.args.schedule.now))
-    (said_of_train c.args.format c.args.schedule.now.uid c.args.schedule.now.body)
+    (explained-groups c.args.format (mark_columns c.args.mark) (codes "BS") (terms_fields (schedule_terms c.args.self.now))
+    (said_of_train c.args.format c.args.self.now.uid c.args.self.now.body)
     (no_association c.args.format))

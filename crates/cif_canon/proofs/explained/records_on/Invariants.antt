@@ -2,7 +2,7 @@
 use Rattle.std.proofs.Common.{map}
 use Rattle.cif_calendar.specs.Keys.{keyed}
 use Rattle.cif_canon.specs.Steps.Explanation.{ArePlacedBelow, placed_of}
-use Rattle.cif_canon.proofs.explained.applying_records.Given as goal
+use Rattle.cif_canon.proofs.explained.records_on.Given as goal
 
 abbrev pub invariant-loop-place : goal.invariant-loop-place
 invariant-loop-place g l =

@@ -1,0 +1,48 @@
+-- Of each list those that have the entry's key are counted and split off.
+use Rattle.std.proofs.Common.{sym, subst}
+use Rattle.cif_calendar.specs.Keys.{keyed}
+use Rattle.cif_canon.specs.Steps.Turns.{AreFrom, IsFront}
+use Rattle.cif_canon.proofs.turns.first_key.Goals as goal
+
+pub count_of_key-left_count-requires-clause-from : goal.count_of_key-left_count-requires-clause-from
+count_of_key-left_count-requires-clause-from g c =
+    subst (AreFrom g.E.Key.Ord.cmp (keyed g.E.Entry.key g.E.Entry.terms c.args.left.now) c.args.left_positions.now) (sym c.key.ensures)
+    c.in-Some.ensures.some.left_from
+
+pub count_of_key-right_count-requires-clause-from : goal.count_of_key-right_count-requires-clause-from
+count_of_key-right_count-requires-clause-from g c =
+    subst (AreFrom g.E.Key.Ord.cmp (keyed g.E.Entry.key g.E.Entry.terms c.args.right.now) c.args.right_positions.now) (sym c.key-2.ensures)
+    c.in-Some.ensures.some.right_from
+
+pub split_at-requires : goal.split_at-requires
+split_at-requires g c = c.count_of_key-left_count.ensures.upto
+
+pub split_at-requires-2 : goal.split_at-requires-2
+split_at-requires-2 g c = c.count_of_key-right_count.ensures.upto
+
+pub returns-clause-some : goal.returns-clause-some
+returns-clause-some g c = record {
+  first = c.in-Some.ensures.some;
+  left_split = record {
+    count = c.count_of_key-left_count.result;
+    is_front = subst (λ k. IsFront g.E.Key.Ord.cmp (keyed g.E.Entry.key g.E.Entry.terms c.args.left.now) c.args.left_positions.now k
+        c.count_of_key-left_count.result) c.key.ensures c.count_of_key-left_count.ensures;
+    front_is = c.split_at.ensures.front;
+    later_is = c.split_at.ensures.back;
+  };
+  right_split = record {
+    count = c.count_of_key-right_count.result;
+    is_front = subst (λ k. IsFront g.E.Key.Ord.cmp (keyed g.E.Entry.key g.E.Entry.terms c.args.right.now) c.args.right_positions.now k
+        c.count_of_key-right_count.result) c.key-2.ensures c.count_of_key-right_count.ensures;
+    front_is = c.split_at-2.ensures.front;
+    later_is = c.split_at-2.ensures.back;
+  };
+}
+
+pub first_entry-requires : goal.first_entry-requires
+first_entry-requires g c = record {
+  left = c.requires.left;
+  right = c.requires.right;
+  left_rising = c.requires.left_rising;
+  right_rising = c.requires.right_rising;
+}
