@@ -8,7 +8,7 @@ use Rattle.cif_columns.proofs.WrittenTexts.{failed_second, written_both}
 use Rattle.cif_extract.specs.declared.fault.Fault.{Fault}
 use Rattle.cif_extract.specs.declared.fault.Fault.TheVariants as fault
 use Rattle.cif_canon.specs.Normalised.{FaultWrites, IfWritten}
-use Rattle.cif_tool.specs.Answer.{Answers, HandsOn, IfAnswered}
+use Rattle.cif_tool.specs.Answer.{Answers, Finishes, IfAnswered}
 
 -- what holds where a text was written, and what follows from it
 pub written-then : (A P Q : Type 0) (written : Result A Fault) → (P → Q) → IfWritten written P → IfWritten written Q
@@ -116,7 +116,7 @@ module _ {W : Type 0} (contents : W → Option (List ℕ)) (errors : W → Optio
     -- a call that fails only by Write writes the text, which is then handed on
     pub handed-text : (A : Type 0) (s : ℕ) (written : Result A Fault) (mid new : Sink W) (result : Result ℕ Fault) → s ≡ status →
         Writes contents errors text old mid written → IfErr written (λ f. f ≡ fault.Write) → P text status →
-        HandsOn contents errors s written mid new result → Answers contents errors P old new result
+        Finishes contents errors s written mid new result → Answers contents errors P old new result
     handed-text A s (Ok done) mid new result same w is p h =
         flushed mid new result w h.0 (IfOk-weaker result _ _ (λ x e. e ∙ same) h.1) h.2 p
     handed-text A s (Err f) mid new result same w is p h =
@@ -125,7 +125,7 @@ module _ {W : Type 0} (contents : W → Option (List ℕ)) (errors : W → Optio
     -- a call writes the text, which is then handed on
     pub handed : (A : Type 0) (written : Result A Fault) (mid new : Sink W) (result : Result ℕ Fault) →
         FaultWrites contents errors text old mid written → IfWritten written (P text status) →
-        HandsOn contents errors status written mid new result → Answers contents errors P old new result
+        Finishes contents errors status written mid new result → Answers contents errors P old new result
     handed A (Ok done) mid new result w p h = flushed mid new result w h.0 h.1 h.2 p
     handed A (Err f) mid new result w p h = subst (λ s. Answers contents errors P old s result) (sym h.1) (fails A mid result f h.0 w p)
 
@@ -142,13 +142,13 @@ module _ {W : Type 0} (contents : W → Option (List ℕ)) (errors : W → Optio
   -- a failure to write, or to hand on
   pub only-fails : (A : Type 0) (Q : Fault → Type 0) (status : ℕ) (written : Result A Fault) (mid new : Sink W)
       (result : Result ℕ Fault) → IfErr written (λ f. f ≡ fault.Write) → Q fault.Write →
-      HandsOn contents errors status written mid new result → IfErr result Q
+      Finishes contents errors status written mid new result → IfErr result Q
   only-fails A Q status (Ok done) mid new result is q h = only-write Q result h.2 q
   only-fails A Q status (Err f) mid new result is q h = subst (λ r. IfErr r Q) (sym h.0) (subst Q (sym is) q)
 
   -- what is said of the writing's fault, and of a failure to hand the text on
   pub handed-fault : (A : Type 0) (P Q : Fault → Type 0) (status : ℕ) (written : Result A Fault) (mid new : Sink W)
       (result : Result ℕ Fault) → ((f : Fault) → P f → Q f) → IfErr written P → IfWritten written (P fault.Write) →
-      HandsOn contents errors status written mid new result → IfErr result Q
+      Finishes contents errors status written mid new result → IfErr result Q
   handed-fault A P Q status (Ok done) mid new result so e w h = only-write Q result h.2 (so fault.Write w)
   handed-fault A P Q status (Err f) mid new result so e w h = subst (λ r. IfErr r Q) (sym h.0) (so f e)

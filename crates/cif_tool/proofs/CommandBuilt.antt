@@ -1,19 +1,18 @@
 -- A command that is built call by call is the one that the definition says.
-use Rattle.std.proofs.Common.{◌≡◌, ◌∙◌, ℕ, ◌+◌, ◌<◌, List, drop, get_or, length, Some, true, false, refl, sym, ap, ap₂, ◌||◌}
+use Rattle.std.proofs.Common.{◌≡◌, ◌∙◌, ℕ, ◌+◌, ◌<◌, List, [], ◌∷◌, drop, get_or, length, Some, map, true, false, refl, sym, ap, ap₂, ◌||◌}
 use Rattle.std.proofs.lemmas.List.{at_drop_more}
 use Rattle.std.specs.Borrow.{Bor}
-use Rattle.clap.specs.Words.{AddsArg, AddsSubcommand, App, Text, app_of, is_simple, is_simple_and_free, new_app, rule_of}
-use Rattle.clap.specs.Words.{with_rule, with_subcommand}
+use Rattle.clap.specs.Words.{AddsArg, App, Text, app_of, is_simple, is_simple_and_free, new_app, rule_of}
+use Rattle.clap.specs.Words.{with_rule}
 use Rattle.clap.specs.Simple.{app_of_fields}
 use Rattle.clap.specs.declared.Command.{Command}
 use Rattle.clap.specs.declared.builder.arg.Arg.{Arg}
 use Rattle.clap.specs.declared.Command.TheViews.{out-Command}
-use Rattle.cif_tool.specs.CommandLine.{IsCommand, argument, cif, program, subcommand, taking, with_subcommands}
+use Rattle.cif_tool.specs.CommandLine.{IsCommand, argument, cif, given, program, taken, taking, with_subcommands}
 use Rattle.cif_tool.specs.declared.command_line.Argument.{Argument}
 use Rattle.cif_tool.specs.declared.command_line.Argument.TheVariants.{Verbose}
 use Rattle.cif_tool.specs.declared.command_line.Choices.{Choices}
-use Rattle.cif_tool.specs.declared.command_line.Subcommand.{Subcommand}
-use Rattle.cif_tool.specs.declared.command_line.Subcommand.TheVariants.{Normalise}
+use Rattle.cif_tool.specs.declared.command_line.Parts.{Parts}
 
 -- `clap` says exactly what it makes of the command's words
 pub is_simple_cif : (choices : Choices) → is_simple (cif choices) ≡ true
@@ -53,8 +52,8 @@ pub record IsTaking (choices : Choices) (whole : App) (rest : List Argument) (c 
 
 -- one more argument
 pub argument_taken : (choices : Choices) (whole : App) (xs : List Argument) (i : ℕ) → i < length xs → (old : Command) (r : Arg)
-    (new : Command) → IsTaking choices whole (drop i xs) old → rule_of r ≡ argument choices (get_or xs i Verbose) → r.global ≡ false
-    → AddsArg old r new → IsTaking choices whole (drop (i + 1) xs) new
+    (new : Command) → IsTaking choices whole (drop i xs) old → rule_of r ≡ argument choices (given (get_or xs i Verbose))
+    → r.global ≡ false → AddsArg old r new → IsTaking choices whole (drop (i + 1) xs) new
 argument_taken choices whole xs i below old r new is rule local added = record {
   app = ap (λ (a : App). taking choices a (drop (i + 1) xs)) (added.shape local ∙ ap (with_rule (app_of old)) rule)
       ∙ (sym (at_drop_more (taking choices (app_of old)) xs i Verbose below) ∙ is.app);
@@ -62,17 +61,17 @@ argument_taken choices whole xs i below old r new is rule local added = record {
 }
 
 -- with the rest of its subcommands, the command is the whole
-pub record IsGrowing (choices : Choices) (whole : App) (rest : List Subcommand) (c : Command) : Type 0 where
-  pub app : with_subcommands choices (app_of c) rest ≡ whole
+pub record IsGrowing (choices : Choices) (whole : App) (rest : List Parts) (c : Command) : Type 0 where
+  pub app : with_subcommands choices (app_of c) (map taken rest) ≡ whole
   pub local : (out-Command c).has_globals ≡ false
 
 -- one more subcommand
-pub subcommand_added : (choices : Choices) (whole : App) (xs : List Subcommand) (i : ℕ) → i < length xs → (old sub new : Command)
-    → IsGrowing choices whole (drop i xs) old → IsCommand (subcommand choices (get_or xs i Normalise)) sub → AddsSubcommand old sub new
+pub subcommand_added : (choices : Choices) (whole : App) (d : Parts) (xs : List Parts) (i : ℕ) → i < length xs → (old new : Command)
+    → IsGrowing choices whole (drop i xs) old
+    → IsCommand (with_subcommands choices (app_of old) (taken (get_or xs i d) ∷ [])) new
     → IsGrowing choices whole (drop (i + 1) xs) new
-subcommand_added choices whole xs i below old sub new is is_sub added = record {
-  app = ap (λ (a : App). with_subcommands choices a (drop (i + 1) xs))
-      (added.shape is_sub.local ∙ ap (λ (s : App). with_subcommand (app_of old) s.top) is_sub.app)
-      ∙ (sym (at_drop_more (with_subcommands choices (app_of old)) xs i Normalise below) ∙ is.app);
-  local = added.globals ∙ ap₂ (λ x y. x || y) is.local is_sub.local;
+subcommand_added choices whole d xs i below old new is made = record {
+  app = ap (λ (a : App). with_subcommands choices a (map taken (drop (i + 1) xs))) made.app
+      ∙ (sym (at_drop_more (λ ys. with_subcommands choices (app_of old) (map taken ys)) xs i d below) ∙ is.app);
+  local = made.local;
 }

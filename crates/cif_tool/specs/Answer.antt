@@ -195,8 +195,8 @@ IsJobFault remaining (Clashes file asked) source source_new right right_new resu
     FaultOf remaining (IsClashesRefusal asked) source source_new result
 
 -- this status, once what was written is handed on; a fault of the writing is the answer
-abbrev pub HandsOn : {W A : Type 0} → (W → Option (List ℕ)) → (W → Option ℕ) → ℕ → Result A Fault → Sink W → Sink W → Result ℕ Fault →
+abbrev pub Finishes : {W A : Type 0} → (W → Option (List ℕ)) → (W → Option ℕ) → ℕ → Result A Fault → Sink W → Sink W → Result ℕ Fault →
     Type 0
-HandsOn contents errors status (Ok done) old new result =
+Finishes contents errors status (Ok done) old new result =
     Writes contents errors [] old new result × IfOk result (λ answered. answered ≡ status) × IfErr result (λ fault. fault ≡ Write)
-HandsOn contents errors status (Err fault) old new result = (result ≡ Err fault) × (new ≡ old)
+Finishes contents errors status (Err fault) old new result = (result ≡ Err fault) × (new ≡ old)

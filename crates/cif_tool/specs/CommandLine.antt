@@ -11,8 +11,9 @@ use Rattle.cif_tool.specs.declared.command_line.Argument.{Argument}
 use Rattle.cif_tool.specs.declared.command_line.Argument.TheVariants.{Verbose, File, Left, Right, Uid, Date, From, To, Common, Stops}
 use Rattle.cif_tool.specs.declared.command_line.Argument.TheVariants.{Form, Format}
 use Rattle.cif_tool.specs.declared.command_line.Choices.{Choices}
-use Rattle.cif_tool.specs.declared.command_line.Subcommand.{Subcommand}
-use Rattle.cif_tool.specs.declared.command_line.Subcommand.TheVariants.{Normalise, Check, Compare, Diff, Day, Train, Explain, Clashes}
+use Rattle.cif_tool.specs.declared.command_line.Kind.{Kind}
+use Rattle.cif_tool.specs.declared.command_line.Kind.TheVariants as kind
+use Rattle.cif_tool.specs.declared.command_line.Parts.{Parts}
 
 -- a word that may not be left out
 abbrev pub required : Text → Rule
@@ -41,25 +42,35 @@ AreFormats formats = map (λ word. word.now) formats.now ≡ codes "text" ∷ co
 abbrev pub one_of : Rule → Choice → Text → Rule
 one_of rule words default = record rule { parser = Some (Names words); defaults = default ∷ [] }
 
+-- what an argument is called, and how it is given
+abbrev pub given : Argument → Text × Kind
+given Verbose = (codes "verbose", kind.Verbose)
+given File = (codes "FILE", kind.Word)
+given Left = (codes "LEFT", kind.Required)
+given Right = (codes "RIGHT", kind.Required)
+given Uid = (codes "UID", kind.Required)
+given Date = (codes "YYMMDD", kind.Required)
+given From = (codes "from", kind.Date)
+given To = (codes "to", kind.Date)
+given Common = (codes "common", kind.Flag)
+given Stops = (codes "stops", kind.Flag)
+given Form = (codes "form", kind.Form)
+given Format = (codes "format", kind.Format)
+
 -- what a subcommand can take
-abbrev pub argument : Choices → Argument → Rule
-argument choices Verbose = record (flag (codes "verbose")) { short = Some 118 }
-argument choices File = new_rule (codes "FILE")
-argument choices Left = required (codes "LEFT")
-argument choices Right = required (codes "RIGHT")
-argument choices Uid = required (codes "UID")
-argument choices Date = required (codes "YYMMDD")
-argument choices From = option (codes "from")
-argument choices To = option (codes "to")
-argument choices Common = flag (codes "common")
-argument choices Stops = flag (codes "stops")
-argument choices Form = one_of (option (codes "form")) choices.forms (codes "2")
-argument choices Format = one_of (option (codes "format")) choices.formats (codes "text")
+abbrev pub argument : Choices → Text × Kind → Rule
+argument choices (id, kind.Word) = new_rule id
+argument choices (id, kind.Required) = required id
+argument choices (id, kind.Flag) = flag id
+argument choices (id, kind.Verbose) = record (flag id) { short = Some 118 }
+argument choices (id, kind.Date) = option id
+argument choices (id, kind.Form) = one_of (option id) choices.forms (codes "2")
+argument choices (id, kind.Format) = one_of (option id) choices.formats (codes "text")
 
 -- a subcommand that takes these arguments too
 abbrev pub taking : Choices → App → List Argument → App
 taking choices a [] = a
-taking choices a (r ∷ rs) = taking choices (with_rule a (argument choices r)) rs
+taking choices a (r ∷ rs) = taking choices (with_rule a (argument choices (given r))) rs
 
 -- `cif NAME [-v] [--from YYMMDD] [--to YYMMDD] [--form FORM] [FILE]`
 abbrev pub canonical : List Argument
@@ -85,29 +96,24 @@ explain = Verbose ∷ Uid ∷ Date ∷ File ∷ Format ∷ []
 abbrev pub clashes : List Argument
 clashes = Verbose ∷ File ∷ From ∷ To ∷ []
 
--- the subcommands, by what they take
-abbrev pub subcommand : Choices → Subcommand → App
-subcommand choices Normalise = taking choices (new_app (codes "normalise")) canonical
-subcommand choices Check = taking choices (new_app (codes "check")) canonical
-subcommand choices Compare = taking choices (new_app (codes "compare")) two_files
-subcommand choices Diff = taking choices (new_app (codes "diff")) two_files
-subcommand choices Day = taking choices (new_app (codes "day")) day
-subcommand choices Train = taking choices (new_app (codes "train")) train
-subcommand choices Explain = taking choices (new_app (codes "explain")) explain
-subcommand choices Clashes = taking choices (new_app (codes "clashes")) clashes
+-- a subcommand's name, and what it takes
+abbrev pub taken : Parts → Text × List Argument
+taken parts = (parts.name.now, parts.arguments.now)
 
 -- a program with these subcommands too
-abbrev pub with_subcommands : Choices → App → List Subcommand → App
+abbrev pub with_subcommands : Choices → App → List (Text × List Argument) → App
 with_subcommands choices a [] = a
-with_subcommands choices a (s ∷ ss) = with_subcommands choices (with_subcommand a (subcommand choices s).top) ss
+with_subcommands choices a (s ∷ ss) = with_subcommands choices (with_subcommand a (taking choices (new_app s.0) s.1).top) ss
 
 -- a program that tells its version and wants a subcommand
 abbrev pub program : Text → App
 program name = let made = new_app name in record made { top = record made.top { has_version = true; subcommand_required = true } }
 
 -- the program `cif` with its eight subcommands
-abbrev pub subcommands : List Subcommand
-subcommands = Normalise ∷ Check ∷ Compare ∷ Diff ∷ Day ∷ Train ∷ Explain ∷ Clashes ∷ []
+abbrev pub subcommands : List (Text × List Argument)
+subcommands =
+    (codes "normalise", canonical) ∷ (codes "check", canonical) ∷ (codes "compare", two_files) ∷ (codes "diff", two_files)
+    ∷ (codes "day", day) ∷ (codes "train", train) ∷ (codes "explain", explain) ∷ (codes "clashes", clashes) ∷ []
 
 unfoldable pub cif : Choices → App
 cif choices = with_subcommands choices (program (codes "cif")) subcommands

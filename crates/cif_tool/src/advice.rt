@@ -1,6 +1,5 @@
 //! What `--verbose` says on standard error beyond the line that names a fault. It is said when the answer is decided
 //! and changes nothing of it.
-use crate::clash_lines::ClashLines;
 use crate::devices::{AgainInput, ExtractInput, LONGEST, LineAgain, START, line_again};
 use crate::job::JobFault;
 use crate::program::escape;
@@ -12,8 +11,8 @@ use cif_columns::{Day, LINE_WIDTH, MAX_LINES, Refusal, Sink, Source, Uid, WriteD
 use cif_extract::{Clash, Extract, Fault, read_extract};
 use itoa::Buffer;
 use std::alloc::Global;
-use std::io;
 use std::rt::Files;
+use std::{io, str};
 
 /// Writes the parts as one line, indented by two spaces. Control characters, which a file's name or an
 /// argument may have, are escaped. That it can't be written changes nothing.
@@ -28,53 +27,42 @@ fn tell<W: WriteDevice>(errors: &mut Sink<W>, parts: &[&str]) {
 }
 
 /// Says which input it is about.
-pub(crate) fn tell_input<W: WriteDevice>(errors: &mut Sink<W>, side: &str, name: &str) {
+fn tell_input<W: WriteDevice>(errors: &mut Sink<W>, side: &str, name: &str) {
     tell(errors, &["in ", side, name]);
 }
 
-/// Says what helps with the fault. A job with one input has read nothing of `right`.
-pub(crate) fn advise<R: Files + Input, W: WriteDevice>(
+/// Says more of the answer, or what helps with its fault: `failure` is the system's number of the error
+/// that a write ended with. A job with one input has read nothing of `right`.
+pub(crate) fn advise<'a, 'b, R: Files + Input, W: WriteDevice>(
     alloc: Global,
-    fault: &Fault,
-    left: &ExtractInput<'_, R>,
-    right: &ExtractInput<'_, R>,
+    answer: &Result<u8, Fault>,
+    failure: Option<i32>,
+    left: &'a ExtractInput<'b, R>,
+    right: &'a ExtractInput<'b, R>,
     errors: &mut Sink<W>,
 ) {
-    match fault {
-        Fault::Refused { line, why } => tell_refusal(last_read(left, right), *line, *why, errors),
-        Fault::Read => {
-            let input = last_read(left, right);
-            tell_failure(alloc, input.side(), input.name(), input.failure, errors);
-        }
-        Fault::OutsideWindow => {
+    let last = if right.is_touched() { right } else { left };
+    match answer {
+        Ok(_) | Err(Fault::OutsideWindow | Fault::WindowsDiffer) => {
             tell_window(left, errors);
             tell_window(right, errors);
-        }
-        Fault::WindowsDiffer => {
-            tell_window(left, errors);
-            tell_window(right, errors);
-            tell(errors, &["--common compares the dates that both have"]);
-        }
-        Fault::WindowReversed => tell(errors, &["the date of --from is after the date of --to"]),
-        Fault::Ambiguous(clash) => {
-            if !tell_clash(alloc, clash, left, errors) && !tell_clash(alloc, clash, right, errors) {
-                tell_explain(clash, errors);
+            if let Err(Fault::WindowsDiffer) = answer {
+                tell(errors, &["--common compares the dates that both have"]);
             }
         }
-        Fault::Write | Fault::Memory => {}
+        Err(Fault::WindowReversed) => {
+            tell(errors, &["the date of --from is after the date of --to"]);
+        }
+        Err(Fault::Refused { line, why }) => tell_refusal(last, *line, *why, errors),
+        Err(Fault::Read) => tell_failure(alloc, last.side(), last.name(), last.failure, errors),
+        Err(Fault::Write) => tell_failure(alloc, "", "standard output", failure, errors),
+        Err(Fault::Ambiguous(clash)) => tell_clash(alloc, clash, left, right, errors),
+        Err(Fault::Memory) => {}
     }
 }
 
-/// The input that was read last: the right one only if it was read at all.
-fn last_read<'a, 'b, R: Files + Input>(
-    left: &'a ExtractInput<'b, R>,
-    right: &'a ExtractInput<'b, R>,
-) -> &'a ExtractInput<'b, R> {
-    if right.is_touched() { right } else { left }
-}
-
 /// Says what wasn't read or written, and why if the system told it, by the number of the error.
-pub(crate) fn tell_failure<W: WriteDevice>(
+fn tell_failure<W: WriteDevice>(
     alloc: Global,
     side: &str,
     name: &str,
@@ -92,7 +80,7 @@ pub(crate) fn tell_failure<W: WriteDevice>(
 }
 
 /// Says the window of the input, if it begins with a header.
-pub(crate) fn tell_window<R: Files + Input, W: WriteDevice>(
+fn tell_window<R: Files + Input, W: WriteDevice>(
     input: &ExtractInput<'_, R>,
     errors: &mut Sink<W>,
 ) {
@@ -115,49 +103,73 @@ pub(crate) fn tell_window<R: Files + Input, W: WriteDevice>(
 
 // ---- a clash
 
-/// Says which records of the input clash, if it can be read again; the answer is whether there are any.
+/// Says which records clash, of the first input that has such and can be read again, or else how to list
+/// them.
 fn tell_clash<R: Files + Input, W: WriteDevice>(
     alloc: Global,
     clash: &Clash,
+    left: &ExtractInput<'_, R>,
+    right: &ExtractInput<'_, R>,
+    errors: &mut Sink<W>,
+) {
+    let (uid, day) = match clash {
+        Clash::Association(key, day) => (&key.base, *day),
+        Clash::Train(uid, day) => (uid, *day),
+    };
+    if !tell_records(alloc, uid, day, left, errors)
+        && !tell_records(alloc, uid, day, right, errors)
+    {
+        let uid = uid.write();
+        let date = day.to_yymmdd();
+        tell(
+            errors,
+            &[
+                "to list the records that clash: cif explain '",
+                as_text(&uid),
+                "' ",
+                as_text(&date),
+            ],
+        );
+    }
+}
+
+/// Says which records of the train clash on the day, if the input can be read again; the answer is
+/// whether there are any.
+fn tell_records<R: Files + Input, W: WriteDevice>(
+    alloc: Global,
+    uid: &Uid,
+    day: Day,
     input: &ExtractInput<'_, R>,
     errors: &mut Sink<W>,
 ) -> bool {
     let Some(extract) = extract_again(alloc, input) else {
         return false;
     };
-    let mut lines = Sink::new(ClashLines::new(errors, input.side(), input.name()));
-    let _ = explain_view(alloc, &extract, uid_of(clash), day_of(clash), &mut lines);
-    lines.writer().found
-}
-
-/// Says how to list the records that clash.
-fn tell_explain<W: WriteDevice>(clash: &Clash, errors: &mut Sink<W>) {
-    let uid = uid_of(clash).write();
-    let date = day_of(clash).to_yymmdd();
-    tell(
-        errors,
-        &[
-            "to list the records that clash: cif explain '",
-            as_text(&uid),
-            "' ",
-            as_text(&date),
-        ],
-    );
-}
-
-/// The train whose explanation shows the clash.
-fn uid_of(clash: &Clash) -> &Uid {
-    match clash {
-        Clash::Association(key, _) => &key.base,
-        Clash::Train(uid, _) => uid,
+    let mut view = Sink::new(Vec::new(alloc));
+    match explain_view(alloc, &extract, uid, day, &mut view) {
+        Ok(()) => tell_marked(view.writer().as_slice(), input, errors),
+        Err(_) => false,
     }
 }
 
-/// The date of the clash.
-fn day_of(clash: &Clash) -> Day {
-    match clash {
-        Clash::Association(_, day) | Clash::Train(_, day) => *day,
+/// Says those lines of an explanation by the input that are marked as clashes; the answer is whether
+/// there are any.
+fn tell_marked<R: Files + Input, W: WriteDevice>(
+    view: &[u8],
+    input: &ExtractInput<'_, R>,
+    errors: &mut Sink<W>,
+) -> bool {
+    let mut found = false;
+    for line in str::from_utf8(view).unwrap_or("").lines() {
+        if line.starts_with("clash ") {
+            if !found {
+                tell_input(errors, input.side(), input.name());
+            }
+            found = true;
+            tell(errors, &[line]);
+        }
     }
+    found
 }
 
 /// The extract, read again from a file.
@@ -201,30 +213,27 @@ fn tell_refusal<R: Files + Input, W: WriteDevice>(
     errors: &mut Sink<W>,
 ) {
     tell_input(errors, input.side(), input.name());
-    if number == 1 {
-        if let Some(format) = format_of(input.start.as_slice()) {
-            tell(errors, &["the input looks like ", format]);
-            return;
+    let format = if number == 1 {
+        format_of(input.start.as_slice())
+    } else {
+        None
+    };
+    match (format, why) {
+        (Some(format), _) => tell(errors, &["the input looks like ", format]),
+        (None, Refusal::Truncated) => tell(errors, &["the input ends before its trailer, ZZ"]),
+        (None, Refusal::TooManyLines) => {
+            let mut limit = Buffer::new();
+            tell(
+                errors,
+                &["an extract has at most ", limit.format(MAX_LINES), " lines"],
+            );
         }
-    }
-    match why {
-        Refusal::Truncated => tell(errors, &["the input ends before its trailer, ZZ"]),
-        Refusal::TooManyLines => tell_limit(errors),
-        _ => {
+        (None, _) => {
             if let Some(line) = refused_line(input, number) {
                 tell_line(&line, why, errors);
             }
         }
     }
-}
-
-/// Says how many lines an extract may have.
-fn tell_limit<W: WriteDevice>(errors: &mut Sink<W>) {
-    let mut limit = Buffer::new();
-    tell(
-        errors,
-        &["an extract has at most ", limit.format(MAX_LINES), " lines"],
-    );
 }
 
 /// How files begin that are no extracts, and what each is.
@@ -257,22 +266,18 @@ fn format_of(start: &[u8]) -> Option<&'static str> {
 
 /// The line of this number, if it is still known: of a file, or the first of the standard input.
 fn refused_line<R: Files + Input>(input: &ExtractInput<'_, R>, number: u64) -> Option<LineAgain> {
-    if let Some(mut file) = input.again() {
-        return line_again(&mut file, number);
+    match input.again() {
+        Some(mut file) => line_again(&mut file, number, LONGEST),
+        None if number == 1 => line_again(&mut input.start.as_slice(), number, START),
+        None => None,
     }
-    if number != 1 {
-        return None;
-    }
-    let mut line = line_again(&mut input.start.as_slice(), number)?;
-    line.is_whole = line.length < START;
-    Some(line)
 }
 
 /// Says the line, which of its columns are refused, and what must stand there.
 fn tell_line<W: WriteDevice>(line: &LineAgain, why: Refusal, errors: &mut Sink<W>) {
     tell(errors, &[shown(line.bytes.as_slice()).as_str()]);
     if why == Refusal::BadLength {
-        tell_length(line, errors);
+        tell_length(line.length, line.known, errors);
     } else if let Some(refused) = columns_refused(line.bytes.as_slice(), why) {
         tell_columns(&refused, errors);
     }
@@ -295,26 +300,22 @@ fn tell_columns<W: WriteDevice>(refused: &RefusedColumns, errors: &mut Sink<W>) 
     }
 }
 
-/// Says how long the line is.
-fn tell_length<W: WriteDevice>(line: &LineAgain, errors: &mut Sink<W>) {
-    if !line.is_whole {
-        tell(errors, &["the line has more than 80 columns"]);
-    } else if line.length == LONGEST {
-        tell(errors, &["the line has thousands of columns, not 80"]);
-    } else {
-        let mut length = Buffer::new();
+/// Says how long a line is, of which so many bytes are known.
+fn tell_length<W: WriteDevice>(length: usize, known: usize, errors: &mut Sink<W>) {
+    if length < known {
+        let mut columns = Buffer::new();
         tell(
             errors,
-            &[
-                "the line has ",
-                length.format(line.length),
-                " columns, not 80",
-            ],
+            &["the line has ", columns.format(length), " columns, not 80"],
         );
+    } else if known == LONGEST {
+        tell(errors, &["the line has thousands of columns, not 80"]);
+    } else {
+        tell(errors, &["the line has more than 80 columns"]);
     }
 }
 
-/// The bytes as text, with a question mark for each that isn't printable.
+/// The bytes of a line as text, with a question mark for each that isn't printable.
 fn shown(bytes: &[u8]) -> ArrayString<LINE_WIDTH> {
     let mut text = ArrayString::new();
     for byte in bytes {

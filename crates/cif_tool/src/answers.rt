@@ -7,7 +7,7 @@ ghost use Rattle.cif_tool.specs.Answer.{Answers, IsCheckAnswer, IsClashesAnswer,
 ghost use Rattle.cif_tool.specs.Answer.{IsCompareAnswer, IsDayAnswer, IsDayRefusal, IsDiffAnswer};
 ghost use Rattle.cif_tool.specs.Answer.{IsExplainAnswer, IsExplainRefusal, IsHandedOn, IsJobAnswer};
 ghost use Rattle.cif_tool.specs.Answer.{IsJobFault, IsNormaliseAnswer, IsTrainAnswer, OfBoth, OfInput};
-ghost use Rattle.cif_tool.specs.Answer.{HandsOn, ReadsInputs};
+ghost use Rattle.cif_tool.specs.Answer.{Finishes, ReadsInputs};
 
 use crate::job::Job;
 use crate::status::{DONE, listed, outcome};
@@ -43,7 +43,7 @@ pub fn answer_normalise<R: ReadDevice, W: WriteDevice>(
     normalise_keeping(alloc, source, sink, MAX_LINES, asked, form, &mut kept)?;
     // The process ends after this: the system takes back the memory of all bodies at once.
     mem::forget(kept);
-    answered(Ok(()), sink, DONE)
+    finish(Ok(()), sink, DONE)
 }
 
 /// Writes how many records the canonical extract of what the source gives has, and answers
@@ -68,7 +68,7 @@ pub fn answer_check<R: ReadDevice, W: WriteDevice>(
     let counts = check_keeping(alloc, source, MAX_LINES, asked, form, &mut kept)?;
     mem::forget(kept);
     let written = write_counts(&counts, sink).map_err(Fault::from);
-    answered(written, sink, DONE)
+    finish(written, sink, DONE)
 }
 
 /// Writes how the extracts of two sources compare, and answers 0 where they say the same, else 1.
@@ -94,7 +94,7 @@ pub fn answer_compare<R: ReadDevice, W: WriteDevice>(
     let (left, right) = read_pair(alloc, left, right, asked, common)?;
     let comparison = compare(alloc, &left, &right)?;
     let written = write_comparison(&comparison, sink).map_err(Fault::from);
-    answered(written, sink, outcome(&comparison))
+    finish(written, sink, outcome(&comparison))
 }
 
 /// Writes in what the extracts of two sources differ, and answers 0 where they don't, else 1. The
@@ -119,7 +119,7 @@ pub fn answer_diff<R: ReadDevice, W: WriteDevice>(
 {
     let (left, right) = read_pair(alloc, left, right, asked, common)?;
     let found = differences(alloc, &left, &right)?;
-    answered(found.write(sink), sink, listed(found.is_empty()))
+    finish(found.write(sink), sink, listed(found.is_empty()))
 }
 
 /// Writes what runs on the day, in this layout, and answers status 0.
@@ -139,7 +139,7 @@ pub fn answer_day<R: ReadDevice, W: WriteDevice>(
     ensures handed_on { IsHandedOn W.holds_nothing sink.new result }
 {
     let extract = read_extract(alloc, source, MAX_LINES)?;
-    answered(day_listing(alloc, &extract, day, sink, layout), sink, DONE)
+    finish(day_listing(alloc, &extract, day, sink, layout), sink, DONE)
 }
 
 /// Writes when the train runs, in this layout, and answers status 0.
@@ -162,7 +162,7 @@ pub fn answer_train<R: ReadDevice, W: WriteDevice>(
     ensures handed_on { IsHandedOn W.holds_nothing sink.new result }
 {
     let extract = read_narrowed(alloc, source, MAX_LINES, asked)?;
-    answered(
+    finish(
         train_listing(alloc, &extract, uid, sink, form, layout),
         sink,
         DONE,
@@ -187,7 +187,7 @@ pub fn answer_explain<R: ReadDevice, W: WriteDevice>(
     ensures handed_on { IsHandedOn W.holds_nothing sink.new result }
 {
     let extract = read_extract(alloc, source, MAX_LINES)?;
-    answered(
+    finish(
         explain_listing(alloc, &extract, uid, day, sink, format),
         sink,
         DONE,
@@ -212,16 +212,16 @@ pub fn answer_clashes<R: ReadDevice, W: WriteDevice>(
     let mut extract = read_extract(alloc, source, MAX_LINES)?;
     narrow(&mut extract, asked)?;
     let found = clashes(alloc, &extract)?;
-    answered(found.write(sink), sink, listed(found.is_empty()))
+    finish(found.write(sink), sink, listed(found.is_empty()))
 }
 
 /// Answers this status, if all was written, once it is handed on.
-fn answered<W: WriteDevice>(
+fn finish<W: WriteDevice>(
     written: Result<(), Fault>,
     sink: &mut Sink<W>,
     status: u8,
 ) -> Result<u8, Fault>
-    ensures hands { HandsOn W.contents W.write_errors status written sink.old sink.new result }
+    ensures finishes { Finishes W.contents W.write_errors status written sink.old sink.new result }
     ensures handed_on { IsHandedOn W.holds_nothing sink.new result }
 {
     written?;

@@ -1,4 +1,6 @@
 //! What the program reads and writes: its inputs, the output, and a line that is read again.
+ghost use Rattle.std.specs.Io.{ReadsAtMost};
+
 use crate::words::is_standard;
 use arrayvec::ArrayVec;
 use cif_columns::{LINE_WIDTH, Line, ReadDevice, WriteDevice};
@@ -36,16 +38,14 @@ enum Device<'a, R: Files + Input> {
 impl<'a, R: Files + Input> ExtractInput<'a, R> {
     /// The file of this name, or the standard input where there is none or it is `-`.
     pub(crate) fn of(rt: &'a R, side: &'static str, file: Option<&'a str>) -> Self {
+        let (name, device) = match file {
+            Some(name) if !is_standard(name) => (name, Device::Named { files: rt, name }),
+            _ => ("standard input", Device::Unlocked(rt)),
+        };
         ExtractInput {
             side,
-            name: match file {
-                Some(name) if !is_standard(name) => name,
-                _ => "standard input",
-            },
-            device: match file {
-                Some(name) if !is_standard(name) => Device::Named { files: rt, name },
-                _ => Device::Unlocked(rt),
-            },
+            name,
+            device,
             start: ArrayVec::new(),
             failure: None,
         }
@@ -89,8 +89,11 @@ impl<'a, R: Files + Input> ExtractInput<'a, R> {
     }
 }
 
-impl<R: Files + Input> Read for Device<'_, R> {
-    fn read(&mut self, buf: &mut [u8]) -> io::Result<usize> {
+impl<R: Files + Input> Device<'_, R> {
+    /// Reads as `Read` does, and touches the input first if it hasn't been touched.
+    fn read(&mut self, buf: &mut [u8]) -> io::Result<usize>
+        ensures { ReadsAtMost result buf.new }
+    {
         match self {
             Device::Standard(reader) => reader.read(buf),
             Device::Opened(file) => file.read(buf),
@@ -198,56 +201,66 @@ pub(crate) const LONGEST: usize = 4096;
 /// A line of an input that is read again.
 #[derive(Drop)]
 pub(crate) struct LineAgain {
+    /// How many lines come before it.
+    before: u64,
     /// Its first bytes.
     pub(crate) bytes: ArrayVec<u8, LINE_WIDTH>,
     /// How many it has, up to `LONGEST`.
     pub(crate) length: usize,
-    /// Whether its end is known.
-    pub(crate) is_whole: bool,
+    /// From how many on not all of them are known.
+    pub(crate) known: usize,
+    /// The byte that was taken last.
+    last: u8,
 }
 
-/// The line of this number, counted from 1, without its ending.
-pub(crate) fn line_again<F: Read>(file: &mut F, number: u64) -> Option<LineAgain> {
-    let mut before = number.checked_sub(1)?;
+impl LineAgain {
+    /// Takes the next byte of the input. Whether the line ends with it.
+    fn take(&mut self, byte: u8) -> bool {
+        if self.before > 0 {
+            if byte == b'\n' {
+                self.before -= 1;
+            }
+            return false;
+        }
+        if byte == b'\n' {
+            if self.last == b'\r' {
+                self.length = self.length.saturating_sub(1);
+                self.bytes.truncate(self.length);
+            }
+            return true;
+        }
+        if self.length == LONGEST {
+            return true;
+        }
+        let _ = self.bytes.try_push(byte);
+        self.length = self.length.saturating_add(1);
+        self.last = byte;
+        false
+    }
+}
+
+/// The line of this number, counted from 1, without its ending. Fewer bytes than `known` are all of it.
+pub(crate) fn line_again<F: Read>(file: &mut F, number: u64, known: usize) -> Option<LineAgain> {
     let mut line = LineAgain {
+        before: number.saturating_sub(1),
         bytes: ArrayVec::new(),
         length: 0,
-        is_whole: true,
+        known,
+        last: 0,
     };
-    let mut last = 0;
     let mut chunk = [0; LONGEST];
     for _ in 0..u64::MAX {
-        let count = file.read(&mut chunk).ok()?;
-        if count == 0 {
-            return if before == 0 { Some(line) } else { None };
-        }
-        for byte in chunk.iter().take(count) {
-            if before > 0 {
-                if *byte == b'\n' {
-                    before -= 1;
+        match file.read(&mut chunk) {
+            Ok(0) => break,
+            Ok(count) => {
+                for byte in &chunk[..count] {
+                    if line.take(*byte) {
+                        return Some(line);
+                    }
                 }
-            } else if ends_with(&mut line, &mut last, *byte) {
-                return Some(line);
             }
+            Err(_) => return None,
         }
     }
-    None
-}
-
-/// Whether the line ends with this byte. If not, it goes on with it.
-fn ends_with(line: &mut LineAgain, last: &mut u8, byte: u8) -> bool {
-    if byte == b'\n' {
-        if *last == b'\r' {
-            line.length = line.length.saturating_sub(1);
-            line.bytes.truncate(line.length);
-        }
-        return true;
-    }
-    if line.length == LONGEST {
-        return true;
-    }
-    let _ = line.bytes.try_push(byte);
-    line.length = line.length.saturating_add(1);
-    *last = byte;
-    false
+    if line.before == 0 { Some(line) } else { None }
 }

@@ -3,7 +3,6 @@
 
 mod advice;
 mod answers;
-mod clash_lines;
 mod command_line;
 mod devices;
 mod help;

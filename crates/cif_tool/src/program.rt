@@ -1,6 +1,6 @@
 //! From the words of the process to its status. No clause says what is done here: the rows of `tests/`
 //! show it on the built program.
-use crate::advice::{advise, advise_on_word, tell_failure, tell_window};
+use crate::advice::{advise, advise_on_word};
 use crate::answers::answer;
 use crate::devices::{ExtractInput, Output};
 use crate::job::{Job, JobFault};
@@ -45,34 +45,32 @@ fn asked<R: Env + Files + Input + Print + AllocGlobal, W: WriteDevice>(
     errors: &mut Sink<W>,
 ) -> u8 {
     let verbose = is_verbose(words.as_slice());
-    let control = have_control(words.as_slice());
     match job_of(rt.alloc(), words) {
         Ok(job) => done(rt, &job, verbose, errors),
-        Err(fault) => {
-            let fault = if control && fault.status() == MISTAKEN {
-                escaped(rt, fault)
-            } else {
-                fault
-            };
-            let answer = explained(rt.alloc(), &fault, io::writer(rt), errors);
-            let status = end(&answer, errors);
-            if verbose {
-                advise_on_words(rt, &fault, errors);
-            }
-            status
-        }
+        Err(fault) => match words_of(rt) {
+            Ok(words) => refused(rt, words.as_slice(), fault, verbose, errors),
+            Err(_) => end(&Err(Fault::Memory), errors),
+        },
     }
 }
 
-/// Says which word of the process is mistaken, if it is to name a date or a UID.
-fn advise_on_words<R: Env + AllocGlobal, W: WriteDevice>(
+/// Says why the words ask for nothing, and returns the status to exit with. Help and the version go to
+/// the standard output, all else to `errors`.
+fn refused<R: Print + AllocGlobal, W: WriteDevice>(
     rt: &R,
-    fault: &JobFault,
+    words: &[String],
+    fault: JobFault,
+    verbose: bool,
     errors: &mut Sink<W>,
-) {
-    if let Ok(words) = words_of(rt) {
-        advise_on_word(rt.alloc(), words.as_slice(), fault, errors);
+) -> u8 {
+    let fault = escaped(rt.alloc(), words, fault);
+    let mut output = Sink::new(io::writer(rt));
+    let answer = fault.explain(rt.alloc(), &mut output, errors);
+    let status = end(&answer, errors);
+    if verbose {
+        advise_on_word(rt.alloc(), words, &fault, errors);
     }
+    status
 }
 
 /// The words of the process, the program's name first. One that is no text fails them all.
@@ -110,29 +108,16 @@ fn done<R: Files + Input + Print + AllocGlobal, W: WriteDevice>(
     let (answer, failure) = answered(rt.alloc(), job, &mut left, &mut right, io::writer(rt));
     let status = end(&answer, errors);
     if verbose {
-        advise_on_answer(rt, &answer, failure, left.reader(), right.reader(), errors);
+        advise(
+            rt.alloc(),
+            &answer,
+            failure,
+            left.reader(),
+            right.reader(),
+            errors,
+        );
     }
     status
-}
-
-/// Says more of the answer, or of its fault: `failure` is the system's number of the error that a
-/// write ended with.
-fn advise_on_answer<R: Files + Input + AllocGlobal, W: WriteDevice>(
-    rt: &R,
-    answer: &Result<u8, Fault>,
-    failure: Option<i32>,
-    left: &ExtractInput<'_, R>,
-    right: &ExtractInput<'_, R>,
-    errors: &mut Sink<W>,
-) {
-    match answer {
-        Ok(_) => {
-            tell_window(left, errors);
-            tell_window(right, errors);
-        }
-        Err(Fault::Write) => tell_failure(rt.alloc(), "", "standard output", failure, errors),
-        Err(fault) => advise(rt.alloc(), fault, left, right, errors),
-    }
 }
 
 /// Answers the job on the output. With the answer comes the system's number of the error that a write
@@ -144,58 +129,31 @@ fn answered<'a, R: Files + Input, W: Write + Drop>(
     right: &mut Source<ExtractInput<'a, R>>,
     output: W,
 ) -> (Result<u8, Fault>, Option<i32>) {
-    let mut output = match buffered(alloc, output) {
-        Ok(output) => output,
-        Err(fault) => return (Err(fault), None),
-    };
-    let answer = answer(alloc, job, left, right, &mut output);
-    (answer, failure_of(output))
-}
-
-/// The number of the error that a write of the output ended with, of which nothing more is written: a
-/// `BufWriter` that is dropped writes what it holds, also after a failure.
-fn failure_of<W: Write + Drop>(output: Sink<BufWriter<Output<W>>>) -> Option<i32> {
-    let failure = output.writer().get_ref().failure;
-    mem::forget(output);
-    failure
-}
-
-/// Says why the words ask for nothing: help and the version on the output, all else on `errors`.
-fn explained<O: Write + Drop, W: WriteDevice>(
-    alloc: Global,
-    fault: &JobFault,
-    output: O,
-    errors: &mut Sink<W>,
-) -> Result<u8, Fault> {
-    let mut output = buffered(alloc, output)?;
-    let answer = fault.explain(alloc, &mut output, errors);
-    let _ = failure_of(output);
-    answer
+    match BufWriter::with_capacity(alloc, OUTPUT_BUFFER, Output::new(output)) {
+        Ok(output) => {
+            let mut output = Sink::new(output);
+            let answer = answer(alloc, job, left, right, &mut output);
+            let failure = output.writer().get_ref().failure;
+            // A `BufWriter` that is dropped writes what it holds, also after a failure.
+            mem::forget(output);
+            (answer, failure)
+        }
+        Err(_) => (Err(Fault::Memory), None),
+    }
 }
 
 /// Why the words are mistaken, with their control characters escaped: `clap`'s text has the words.
 /// Escaped words are mistaken in the same way.
-fn escaped<R: Env + AllocGlobal>(rt: &R, fault: JobFault) -> JobFault {
-    let Ok(words) = words_of(rt) else {
-        return JobFault::Memory;
-    };
-    let Ok(shown) = escaped_words(rt.alloc(), words.as_slice()) else {
-        return JobFault::Memory;
-    };
-    match job_of(rt.alloc(), shown) {
-        Ok(_) => fault,
-        Err(shown) => shown,
+fn escaped(alloc: Global, words: &[String], fault: JobFault) -> JobFault {
+    if fault.status() != MISTAKEN {
+        return fault;
     }
-}
-
-/// The output behind a buffer.
-fn buffered<W: Write + Drop>(
-    alloc: Global,
-    output: W,
-) -> Result<Sink<BufWriter<Output<W>>>, Fault> {
-    match BufWriter::with_capacity(alloc, OUTPUT_BUFFER, Output::new(output)) {
-        Ok(output) => Ok(Sink::new(output)),
-        Err(_) => Err(Fault::Memory),
+    match escaped_words(alloc, words) {
+        Ok(shown) => match job_of(alloc, shown) {
+            Ok(_) => fault,
+            Err(shown) => shown,
+        },
+        Err(_) => JobFault::Memory,
     }
 }
 
@@ -221,7 +179,7 @@ pub(crate) fn escape(c: char) -> ArrayString<4> {
 }
 
 /// The words, of which each control character is escaped.
-pub(crate) fn escaped_words(alloc: Global, words: &[String]) -> Result<Vec<String>, AllocError> {
+fn escaped_words(alloc: Global, words: &[String]) -> Result<Vec<String>, AllocError> {
     let mut shown = Vec::new(alloc);
     for word in words {
         let mut text = String::new(alloc);
@@ -231,16 +189,4 @@ pub(crate) fn escaped_words(alloc: Global, words: &[String]) -> Result<Vec<Strin
         shown.push(text)?;
     }
     Ok(shown)
-}
-
-/// Whether a word has a control character.
-pub(crate) fn have_control(words: &[String]) -> bool {
-    for word in words {
-        for c in word.as_str().chars() {
-            if c.is_control() {
-                return true;
-            }
-        }
-    }
-    false
 }

@@ -1,5 +1,5 @@
 //! What the words of a call ask for.
-ghost use Rattle.std.specs.Prelude.{◌≡◌, ◌≢◌, ◌⊎◌, ◌&&◌, false, true, IfOk, IfErr, IsSomeAnd, MatchOption, Some};
+ghost use Rattle.std.specs.Prelude.{◌≡◌, ◌≢◌, ◌⊎◌, IfOk, IfErr, IsSomeAnd, MatchOption, Some};
 ghost use Rattle.std.specs.Prelude.{codes, map, option_map, string_bytes};
 ghost use Rattle.clap.specs.Words.{first_of, found_of, kind_of, rows_of};
 ghost use Rattle.clap.specs.Words.{subcommand_rows_of};
@@ -55,11 +55,13 @@ pub(crate) fn mistaken_word<'a>(
     words: &'a [String],
     fault: &JobFault,
 ) -> Option<&'a str> {
-    let matches = matches_of(alloc, FORMS.as_slice(), FORMATS.as_slice(), words).ok()?;
-    let (_, inner) = matches.subcommand()?;
-    match fault {
-        JobFault::BadUid => word_of(inner, "UID"),
-        _ => mistaken_date(inner),
+    match matches_of(alloc, FORMS.as_slice(), FORMATS.as_slice(), words) {
+        Ok(matches) => match (matches.subcommand(), fault) {
+            (Some((_, inner)), JobFault::BadUid) => word_of(inner, "UID"),
+            (Some((_, inner)), _) => mistaken_date(inner),
+            (None, _) => None,
+        },
+        Err(_) => None,
     }
 }
 
@@ -106,10 +108,8 @@ fn named_job(alloc: Global, name: &str, matches: &ArgMatches<'_>) -> Result<Job,
     ensures { IsJobOf (name.now, rows_of (found_of matches.now)) result }
 {
     match name {
-        "normalise" => canonical_job(alloc, matches, false),
-        "check" => canonical_job(alloc, matches, true),
-        "compare" => two_files_job(alloc, matches, false),
-        "diff" => two_files_job(alloc, matches, true),
+        "normalise" | "check" => canonical_job(alloc, name, matches),
+        "compare" | "diff" => two_files_job(alloc, name, matches),
         "day" => day_job(alloc, matches),
         "train" => train_job(alloc, matches),
         "explain" => explain_job(alloc, matches),
@@ -118,47 +118,49 @@ fn named_job(alloc: Global, name: &str, matches: &ArgMatches<'_>) -> Result<Job,
     }
 }
 
-/// What `normalise` asks for, or `check`.
-fn canonical_job(alloc: Global, matches: &ArgMatches<'_>, is_check: bool) -> Result<Job, JobFault>
-    ensures normalise { is_check ≡ false → IsJobOf (codes "normalise", rows_of (found_of matches.now)) result }
-    ensures check { is_check ≡ true → IsJobOf (codes "check", rows_of (found_of matches.now)) result }
+/// What `normalise` or `check`, as the name is, asks for.
+fn canonical_job(alloc: Global, name: &str, matches: &ArgMatches<'_>) -> Result<Job, JobFault>
+    requires { (name.now ≡ codes "normalise") ⊎ (name.now ≡ codes "check") }
+    ensures { IsJobOf (name.now, rows_of (found_of matches.now)) result }
 {
     let asked = asked_of(matches)?;
     let form = form_of(matches);
     let file = file_of(alloc, matches)?;
-    if is_check {
-        Ok(Job::Check { file, asked, form })
-    } else {
-        Ok(Job::Normalise { file, asked, form })
+    match name {
+        "normalise" => Ok(Job::Normalise { file, asked, form }),
+        _ => Ok(Job::Check { file, asked, form }),
     }
 }
 
-/// What `compare` asks for, or `diff`.
-fn two_files_job(alloc: Global, matches: &ArgMatches<'_>, is_diff: bool) -> Result<Job, JobFault>
+/// What `compare` or `diff`, as the name is, asks for.
+fn two_files_job(alloc: Global, name: &str, matches: &ArgMatches<'_>) -> Result<Job, JobFault>
+    requires name { (name.now ≡ codes "compare") ⊎ (name.now ≡ codes "diff") }
     requires left { HasWord (codes "LEFT") (rows_of (found_of matches.now)) }
     requires right { HasWord (codes "RIGHT") (rows_of (found_of matches.now)) }
-    ensures compare { is_diff ≡ false → IsJobOf (codes "compare", rows_of (found_of matches.now)) result }
-    ensures diff { is_diff ≡ true → IsJobOf (codes "diff", rows_of (found_of matches.now)) result }
+    ensures { IsJobOf (name.now, rows_of (found_of matches.now)) result }
 {
     let asked = asked_of(matches)?;
-    let (left, right) = two_inputs(matches)?;
+    let left = required_word(matches, "LEFT");
+    let right = required_word(matches, "RIGHT");
+    if is_standard(left) && is_standard(right) {
+        return Err(JobFault::OneInput);
+    }
     let common = has_flag(matches, "common");
     let left = String::from_str(alloc, left)?;
     let right = String::from_str(alloc, right)?;
-    if is_diff {
-        Ok(Job::Diff {
+    match name {
+        "compare" => Ok(Job::Compare {
             asked,
             common,
             left,
             right,
-        })
-    } else {
-        Ok(Job::Compare {
+        }),
+        _ => Ok(Job::Diff {
             asked,
             common,
             left,
             right,
-        })
+        }),
     }
 }
 
@@ -249,28 +251,6 @@ pub(crate) fn is_standard(word: &str) -> bool
     word == "-"
 }
 
-/// The words that name the two inputs, which are not both the standard input.
-fn two_inputs<'a>(matches: &ArgMatches<'a>) -> Result<(&'a str, &'a str), JobFault>
-    requires left { HasWord (codes "LEFT") (rows_of (found_of matches.now)) }
-    requires right { HasWord (codes "RIGHT") (rows_of (found_of matches.now)) }
-    ensures ok { IfOk result (λ words.
-        (first_of (codes "LEFT") (rows_of (found_of matches.now)) ≡ Some words.0.now)
-        × (first_of (codes "RIGHT") (rows_of (found_of matches.now)) ≡ Some words.1.now)
-        × ((is_standard words.0.now && is_standard words.1.now) ≡ false)) }
-    ensures err { IfErr result (λ fault. (fault ≡ JobFault.OneInput)
-        × IsSomeAnd (first_of (codes "LEFT") (rows_of (found_of matches.now)))
-        (λ word. is_standard word ≡ true)
-        × IsSomeAnd (first_of (codes "RIGHT") (rows_of (found_of matches.now)))
-        (λ word. is_standard word ≡ true)) }
-{
-    let left = required_word(matches, "LEFT");
-    let right = required_word(matches, "RIGHT");
-    if is_standard(left) && is_standard(right) {
-        return Err(JobFault::OneInput);
-    }
-    Ok((left, right))
-}
-
 /// The file that the words name, if they name one.
 fn file_of(alloc: Global, matches: &ArgMatches<'_>) -> Result<Option<String>, AllocError>
     ensures { IfOk result (λ file. HasFile (rows_of (found_of matches.now))
@@ -314,7 +294,7 @@ fn form_of(matches: &ArgMatches<'_>) -> Form
     ensures { result ≡ form_of (first_of (codes "form") (rows_of (found_of matches.now))) }
 {
     match word_of(matches, "form") {
-        Some(word) if word == "1" => Form::One,
+        Some("1") => Form::One,
         _ => Form::Two,
     }
 }
@@ -324,7 +304,7 @@ fn format_of(matches: &ArgMatches<'_>) -> Format
     ensures { result ≡ format_of (first_of (codes "format") (rows_of (found_of matches.now))) }
 {
     match word_of(matches, "format") {
-        Some(word) if word == "tsv" => Format::Tsv,
+        Some("tsv") => Format::Tsv,
         _ => Format::Text,
     }
 }
@@ -333,10 +313,7 @@ fn format_of(matches: &ArgMatches<'_>) -> Format
 fn has_flag(matches: &ArgMatches<'_>, id: &str) -> bool
     ensures { result ≡ is_set (first_of id.now (rows_of (found_of matches.now))) }
 {
-    match word_of(matches, id) {
-        Some(word) => word == "true",
-        None => false,
-    }
+    matches!(word_of(matches, id), Some("true"))
 }
 
 /// The layout that the words name.

@@ -23,8 +23,8 @@ returns-clause-answer g c =
     let call = c.map_err-written in
     let told = told-as _ _ _ _ _ _ _ c.write_counts.result call.result call.ensures.cases c.write_counts.ensures in
     let counts = c.in_ok-counts.counts in
-    handed-text _ _ _ _ (counts_line counts) 0 _ 0 call.result c.write_counts.new.sink c.answered.new.sink c.answered.result refl
-    told.0 told.1 (check-answer _ c.args.form c.args.asked.now counts c.in_ok-counts.ensures.ok) c.answered.ensures.hands
+    handed-text _ _ _ _ (counts_line counts) 0 _ 0 call.result c.write_counts.new.sink c.finish.new.sink c.finish.result refl
+    told.0 told.1 (check-answer _ c.args.form c.args.asked.now counts c.in_ok-counts.ensures.ok) c.finish.ensures.finishes
 
 pub returns-clause-fault : goal.returns-clause-fault
 returns-clause-fault g c =
@@ -33,12 +33,12 @@ returns-clause-fault g c =
     let told = told-as _ _ _ _ _ _ _ c.write_counts.result call.result call.ensures.cases c.write_counts.ensures in
     known_so _ _ _ (λ bytes is.
     only-fails _ _ _ (IsNormaliseFault MAX_LINES c.args.asked.now bytes after) 0 call.result c.write_counts.new.sink
-    c.answered.new.sink c.answered.result told.1 tt c.answered.ensures.hands) c.in_ok-counts.ensures.ok
+    c.finish.new.sink c.finish.result told.1 tt c.finish.ensures.finishes) c.in_ok-counts.ensures.ok
 
 pub returns-clause-source : goal.returns-clause-source
 returns-clause-source g c =
     let call = c.map_err-written in
     let told = told-as _ _ _ _ _ _ _ c.write_counts.result call.result call.ensures.cases c.write_counts.ensures in
-    read-on _ _ _ c.answered.result
-    (only-fails _ _ _ (λ f. f ≢ Read) 0 call.result c.write_counts.new.sink c.answered.new.sink c.answered.result told.1 (λ is. cc)
-    c.answered.ensures.hands) c.in_ok-counts.ensures.source
+    read-on _ _ _ c.finish.result
+    (only-fails _ _ _ (λ f. f ≢ Read) 0 call.result c.write_counts.new.sink c.finish.new.sink c.finish.result told.1 (λ is. cc)
+    c.finish.ensures.finishes) c.in_ok-counts.ensures.source

@@ -41,18 +41,18 @@ returns-clause-answer g c =
     let made = c.in_ok-found.found in
     let none = c.is_empty.result in
     handed-text _ _ _ _ (clashes_text made) (listed_status none) _ c.listed.result c.write.result c.write.new.sink
-    c.answered.new.sink c.answered.result c.listed.ensures c.write.ensures.writes c.write.ensures.fault
+    c.finish.new.sink c.finish.result c.listed.ensures c.write.ensures.writes c.write.ensures.fault
     (clashes-answer _ (extract_parts c.in_ok-extract.extract) c.in_ok-extract.ensures.ok c.args.asked.now
     (extract_parts c.narrow.new.extract) made none c.in_ok-narrow.ensures.ok c.in_ok-found.ensures.all c.is_empty.ensures)
-    c.answered.ensures.hands
+    c.finish.ensures.finishes
 
 pub returns-clause-fault : goal.returns-clause-fault
 returns-clause-fault g c =
     let after = g.R.Read.remaining (reader_of c.read_extract.new.source) in
     known_so _ _ _ (λ bytes spelled.
     only-fails _ _ _ (IsClashesRefusal c.args.asked.now bytes after) c.listed.result c.write.result c.write.new.sink
-    c.answered.new.sink c.answered.result c.write.ensures.fault
-    (inr (extract_parts c.in_ok-extract.extract, spelled, inr (inr refl))) c.answered.ensures.hands) c.in_ok-extract.ensures.ok
+    c.finish.new.sink c.finish.result c.write.ensures.fault
+    (inr (extract_parts c.in_ok-extract.extract, spelled, inr (inr refl))) c.finish.ensures.finishes) c.in_ok-extract.ensures.ok
 
 pub returns-in_err-found-clause-source : goal.returns-in_err-found-clause-source
 returns-in_err-found-clause-source g c =
@@ -62,6 +62,6 @@ returns-in_err-found-clause-source g c =
 
 pub returns-clause-source : goal.returns-clause-source
 returns-clause-source g c =
-    read-on _ _ _ c.answered.result
-    (only-fails _ _ _ (λ f. f ≢ Read) c.listed.result c.write.result c.write.new.sink c.answered.new.sink c.answered.result
-    c.write.ensures.fault (λ is. cc) c.answered.ensures.hands) c.in_ok-extract.ensures.device
+    read-on _ _ _ c.finish.result
+    (only-fails _ _ _ (λ f. f ≢ Read) c.listed.result c.write.result c.write.new.sink c.finish.new.sink c.finish.result
+    c.write.ensures.fault (λ is. cc) c.finish.ensures.finishes) c.in_ok-extract.ensures.device

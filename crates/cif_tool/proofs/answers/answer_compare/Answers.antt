@@ -47,23 +47,23 @@ returns-clause-answer g c =
     let told = told-as _ _ _ _ _ _ _ c.write_comparison.result call.result call.ensures.cases c.write_comparison.ensures in
     let made = c.in_ok-comparison.comparison in
     handed-text _ _ _ _ (comparison_line made) (outcome_of made) _ c.outcome.result call.result c.write_comparison.new.sink
-    c.answered.new.sink c.answered.result c.outcome.ensures told.0 told.1
+    c.finish.new.sink c.finish.result c.outcome.ensures told.0 told.1
     (compare-answer c.args.asked.now c.args.common _ _ (extract_parts c.in_ok-left.left) (extract_parts c.in_ok-left.right)
-    c.in_ok-left.ensures.ok made c.in_ok-comparison.ensures.ok) c.answered.ensures.hands
+    c.in_ok-left.ensures.ok made c.in_ok-comparison.ensures.ok) c.finish.ensures.finishes
 
 pub returns-clause-fault : goal.returns-clause-fault
 returns-clause-fault g c =
     let call = c.map_err-written in
     let told = told-as _ _ _ _ _ _ _ c.write_comparison.result call.result call.ensures.cases c.write_comparison.ensures in
     compare-refused c.args.asked.now c.args.common _ _ (extract_parts c.in_ok-left.left) (extract_parts c.in_ok-left.right)
-    c.in_ok-left.ensures.ok _ _ _ c.answered.result Write
-    (λ P q. only-fails _ _ _ P c.outcome.result call.result c.write_comparison.new.sink c.answered.new.sink c.answered.result told.1 q
-    c.answered.ensures.hands) (inr refl)
+    c.in_ok-left.ensures.ok _ _ _ c.finish.result Write
+    (λ P q. only-fails _ _ _ P c.outcome.result call.result c.write_comparison.new.sink c.finish.new.sink c.finish.result told.1 q
+    c.finish.ensures.finishes) (inr refl)
 
 pub returns-clause-sources : goal.returns-clause-sources
 returns-clause-sources g c =
     let call = c.map_err-written in
     let told = told-as _ _ _ _ _ _ _ c.write_comparison.result call.result call.ensures.cases c.write_comparison.ensures in
-    both-read _ _ _ _ _ c.answered.result c.in_ok-left.ensures.sources
-    (only-fails _ _ _ (λ f. f ≢ Read) c.outcome.result call.result c.write_comparison.new.sink c.answered.new.sink c.answered.result
-    told.1 (λ is. cc) c.answered.ensures.hands)
+    both-read _ _ _ _ _ c.finish.result c.in_ok-left.ensures.sources
+    (only-fails _ _ _ (λ f. f ≢ Read) c.outcome.result call.result c.write_comparison.new.sink c.finish.new.sink c.finish.result
+    told.1 (λ is. cc) c.finish.ensures.finishes)

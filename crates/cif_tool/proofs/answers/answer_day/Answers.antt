@@ -16,9 +16,9 @@ returns-clause-answer g c =
     let call = c.day_listing in
     let view = call.ensures.view in
     let x = extract_parts c.in_ok-extract.extract in
-    handed _ _ _ _ view.0 0 _ call.result call.new.sink c.answered.new.sink c.answered.result view.1
+    handed _ _ _ _ view.0 0 _ call.result call.new.sink c.finish.new.sink c.finish.result view.1
     (written-then _ _ _ call.result (day-answer _ x c.in_ok-extract.ensures.ok c.args.layout c.args.day view.0) view.2)
-    c.answered.ensures.hands
+    c.finish.ensures.finishes
 
 pub returns-clause-fault : goal.returns-clause-fault
 returns-clause-fault g c =
@@ -27,14 +27,14 @@ returns-clause-fault g c =
     let call = c.day_listing in
     known_so _ _ _ (λ bytes spelled.
     handed-fault _ _ _ (IsDayFault x c.args.day) (IsDayRefusal c.args.day bytes after) 0 call.result call.new.sink
-    c.answered.new.sink c.answered.result (λ f is. inr (x, spelled, is)) call.ensures.fault
-    (written-then _ _ _ call.result (λ view. view.within) call.ensures.view.2) c.answered.ensures.hands) c.in_ok-extract.ensures.ok
+    c.finish.new.sink c.finish.result (λ f is. inr (x, spelled, is)) call.ensures.fault
+    (written-then _ _ _ call.result (λ view. view.within) call.ensures.view.2) c.finish.ensures.finishes) c.in_ok-extract.ensures.ok
 
 pub returns-clause-source : goal.returns-clause-source
 returns-clause-source g c =
     let x = extract_parts c.in_ok-extract.extract in
     let call = c.day_listing in
-    read-on _ _ _ c.answered.result
-    (handed-fault _ _ _ (IsDayFault x c.args.day) (λ f. f ≢ Read) 0 call.result call.new.sink c.answered.new.sink c.answered.result
+    read-on _ _ _ c.finish.result
+    (handed-fault _ _ _ (IsDayFault x c.args.day) (λ f. f ≢ Read) 0 call.result call.new.sink c.finish.new.sink c.finish.result
     (λ f is read. (subst (IsDayFault x c.args.day) read is).1) call.ensures.fault
-    (written-then _ _ _ call.result (λ view. view.within) call.ensures.view.2) c.answered.ensures.hands) c.in_ok-extract.ensures.device
+    (written-then _ _ _ call.result (λ view. view.within) call.ensures.view.2) c.finish.ensures.finishes) c.in_ok-extract.ensures.device

@@ -47,19 +47,19 @@ returns-clause-answer g c =
     let made = c.in_ok-found.found in
     let none = c.is_empty.result in
     handed-text _ _ _ _ (differences_text made) (listed_status none) _ c.listed.result c.write.result c.write.new.sink
-    c.answered.new.sink c.answered.result c.listed.ensures c.write.ensures.writes c.write.ensures.fault
+    c.finish.new.sink c.finish.result c.listed.ensures c.write.ensures.writes c.write.ensures.fault
     (diff-answer c.args.asked.now c.args.common _ _ (extract_parts c.in_ok-left.left) (extract_parts c.in_ok-left.right)
-    c.in_ok-left.ensures.ok made none c.in_ok-found.ensures.ok c.is_empty.ensures) c.answered.ensures.hands
+    c.in_ok-left.ensures.ok made none c.in_ok-found.ensures.ok c.is_empty.ensures) c.finish.ensures.finishes
 
 pub returns-clause-fault : goal.returns-clause-fault
 returns-clause-fault g c =
     compare-refused c.args.asked.now c.args.common _ _ (extract_parts c.in_ok-left.left) (extract_parts c.in_ok-left.right)
-    c.in_ok-left.ensures.ok _ _ _ c.answered.result Write
-    (λ P q. only-fails _ _ _ P c.listed.result c.write.result c.write.new.sink c.answered.new.sink c.answered.result c.write.ensures.fault q
-    c.answered.ensures.hands) (inr refl)
+    c.in_ok-left.ensures.ok _ _ _ c.finish.result Write
+    (λ P q. only-fails _ _ _ P c.listed.result c.write.result c.write.new.sink c.finish.new.sink c.finish.result c.write.ensures.fault q
+    c.finish.ensures.finishes) (inr refl)
 
 pub returns-clause-sources : goal.returns-clause-sources
 returns-clause-sources g c =
-    both-read _ _ _ _ _ c.answered.result c.in_ok-left.ensures.sources
-    (only-fails _ _ _ (λ f. f ≢ Read) c.listed.result c.write.result c.write.new.sink c.answered.new.sink c.answered.result
-    c.write.ensures.fault (λ is. cc) c.answered.ensures.hands)
+    both-read _ _ _ _ _ c.finish.result c.in_ok-left.ensures.sources
+    (only-fails _ _ _ (λ f. f ≢ Read) c.listed.result c.write.result c.write.new.sink c.finish.new.sink c.finish.result
+    c.write.ensures.fault (λ is. cc) c.finish.ensures.finishes)

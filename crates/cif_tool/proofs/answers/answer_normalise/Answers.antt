@@ -23,17 +23,17 @@ returns-in_err-normalise_keeping-clause-answer g c =
 pub returns-clause-answer : goal.returns-clause-answer
 returns-clause-answer g c =
     let made = c.in_ok-normalise_keeping.ensures.normal in
-    let hands = c.answered.ensures.hands in
-    flushed _ _ _ _ made.0 0 c.normalise_keeping.new.sink c.answered.new.sink c.answered.result made.1 hands.0 hands.1 hands.2
+    let hands = c.finish.ensures.finishes in
+    flushed _ _ _ _ made.0 0 c.normalise_keeping.new.sink c.finish.new.sink c.finish.result made.1 hands.0 hands.1 hands.2
     (normalise-answer _ c.args.form c.args.asked.now c.in_ok-normalise_keeping.field-0 made.0 made.2)
 
 pub returns-clause-fault : goal.returns-clause-fault
 returns-clause-fault g c =
     let after = g.R.Read.remaining (reader_of c.normalise_keeping.new.source) in
-    known_so _ _ _ (λ bytes is. only-write (IsNormaliseFault MAX_LINES c.args.asked.now bytes after) c.answered.result
-    c.answered.ensures.hands.2 tt) c.in_ok-normalise_keeping.ensures.normal.2
+    known_so _ _ _ (λ bytes is. only-write (IsNormaliseFault MAX_LINES c.args.asked.now bytes after) c.finish.result
+    c.finish.ensures.finishes.2 tt) c.in_ok-normalise_keeping.ensures.normal.2
 
 pub returns-clause-source : goal.returns-clause-source
 returns-clause-source g c =
-    read-on _ _ _ c.answered.result (only-write (λ f. f ≢ Read) c.answered.result c.answered.ensures.hands.2 (λ is. cc))
+    read-on _ _ _ c.finish.result (only-write (λ f. f ≢ Read) c.finish.result c.finish.ensures.finishes.2 (λ is. cc))
     c.in_ok-normalise_keeping.ensures.source

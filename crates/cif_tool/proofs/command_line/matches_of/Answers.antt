@@ -1,28 +1,24 @@
--- The command is the program with its subcommands. `clap` tells matches and kinds of error of simple commands: that `cif` is one, and free,
--- is `is_simple_cif`, `is_free_cif`.
+-- `clap` tells matches and kinds of error of simple commands: that `cif` is one, and free, is `is_simple_cif`, `is_free_cif`.
 use Rattle.std.proofs.Common.{◌∙◌, ap, subst, map, string_bytes}
 use Rattle.std.proofs.lemmas.Result.{IfOk-weaker}
 use Rattle.clap.specs.Words.{App, FailsBy, fault_of, is_simple, is_simple_and_free, subcommand_of}
-use Rattle.cif_tool.specs.CommandLine.{chosen, cif, faults_of, subcommands, with_subcommands}
-use Rattle.cif_tool.specs.declared.command_line.Choices.{Choices}
+use Rattle.cif_tool.specs.CommandLine.{chosen, faults_of}
 use Rattle.cif_tool.proofs.CommandBuilt.{is_free_cif, is_simple_cif}
 use Rattle.cif_tool.proofs.command_line.matches_of.Goals as goal
 
 pub returns-clause-ok : goal.returns-clause-ok
-unfolding chosen cif
+unfolding chosen
 returns-clause-ok c =
-    let choices : Choices = record { forms = c.args.forms; formats = c.args.formats } in
-    let made = c.in_ok-command.ensures.app ∙ ap (λ (a : App). with_subcommands choices a subcommands) c.in_ok-program.ensures.app in
+    let made = c.in_ok-program.ensures.app in
     let parse = c.try_get_matches_from in
     IfOk-weaker parse.result _ _
-    (λ m h. (h (ap is_simple made ∙ is_simple_cif choices)).1 ∙ ap (λ (a : App). subcommand_of a (map string_bytes c.args.words.now)) made)
+    (λ m h. (h (ap is_simple made ∙ is_simple_cif _)).1 ∙ ap (λ (a : App). subcommand_of a (map string_bytes c.args.words.now)) made)
     parse.ensures.matches
 
 pub returns-clause-kinds : goal.returns-clause-kinds
-unfolding faults_of cif
+unfolding faults_of
 returns-clause-kinds c =
-    let choices : Choices = record { forms = c.args.forms; formats = c.args.formats } in
-    let made = c.in_ok-command.ensures.app ∙ ap (λ (a : App). with_subcommands choices a subcommands) c.in_ok-program.ensures.app in
+    let made = c.in_ok-program.ensures.app in
     let parse = c.try_get_matches_from in
     subst (λ (a : App). FailsBy (fault_of a (map string_bytes c.args.words.now)) parse.result) made
-    (parse.ensures.kinds (ap is_simple_and_free made ∙ is_free_cif choices))
+    (parse.ensures.kinds (ap is_simple_and_free made ∙ is_free_cif _))

@@ -1,0 +1,8 @@
+-- With the subcommands that are left, the command has all.
+use Rattle.std.proofs.Common.{drop}
+use Rattle.cif_tool.specs.CommandLine.{cif}
+use Rattle.cif_tool.proofs.CommandBuilt.{IsGrowing}
+use Rattle.cif_tool.proofs.command_line.program.Given as goal
+
+abbrev pub invariant-loop-parts : goal.invariant-loop-parts
+invariant-loop-parts l = IsGrowing l.choices (cif l.choices) (drop l.parts-index l.parts-items) l.command

@@ -1,0 +1,31 @@
+-- One argument after another is taken (`argument_taken`), and then the subcommand is added.
+use Rattle.std.proofs.Common.{◌∙◌, ◌||◌, ap, ap₂, sym}
+use Rattle.std.proofs.lemmas.List.{at_drop_all}
+use Rattle.std.proofs.lemmas.Result.{IfOk-weaker}
+use Rattle.clap.specs.Simple.{app_of_fields}
+use Rattle.clap.specs.Words.{App, app_of, with_subcommand}
+use Rattle.cif_tool.specs.CommandLine.{argument, taking}
+use Rattle.cif_tool.proofs.CommandBuilt.{argument_taken}
+use Rattle.cif_tool.proofs.command_line.with_parts.Goals as goal
+
+pub loop-which-init : goal.loop-which-init
+loop-which-init c = record {
+  app = ap (λ (a : App). taking c.args.choices.now a c.args.parts.now.arguments.now)
+      (ap app_of_fields c.after_help-subcommand.ensures ∙ ap app_of_fields c.about.ensures ∙ c.new.ensures.app);
+  local = ap (λ f. f.has_globals) c.after_help-subcommand.ensures ∙ ap (λ f. f.has_globals) c.about.ensures ∙ c.new.ensures.local;
+}
+
+pub loop-which-preserved : goal.loop-which-preserved
+loop-which-preserved c =
+    argument_taken _ _ _ _ c.loop-which-test.true _ _ _ c.loop-which.invariant
+    (c.arg_of.ensures.rule ∙ ap (argument c.args.choices.now) c.given.ensures) c.arg_of.ensures.local c.in_ok-subcommand.ensures
+
+pub returns : goal.returns
+returns c =
+    let whole = c.loop-which.invariant in
+    let made = sym (at_drop_all (taking c.args.choices.now (app_of c.loop-which.subcommand)) _ _ c.loop-which-test.false)
+    ∙ whole.app in
+    IfOk-weaker c.subcommand.result _ _ (λ r added. record {
+      app = added.shape whole.local ∙ ap (λ (a : App). with_subcommand (app_of c.args.command) a.top) made;
+      local = added.globals ∙ ap₂ (λ x y. x || y) c.requires whole.local;
+    }) c.subcommand.ensures
