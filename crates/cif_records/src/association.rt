@@ -10,10 +10,11 @@ use crate::layout::{self, Dates, Layout, check_letters, dates_at, field_or, has_
 use cif_columns::{
     Day, DaysRun, Field, Line, LineBuilder, Refusal, Stp, Text, Uid, text_at, uid_at,
 };
+use std::fmt;
 
 /// A record `AA` (the CIF End User Specification): on which dates an association holds, or is
 /// cancelled.
-#[derive(Debug, Drop, PartialEq, Eq)]
+#[derive(Drop, PartialEq, Eq)]
 pub struct Association {
     /// Columns 4 to 15 and 38 to 46.
     pub key: AssocKey,
@@ -113,6 +114,13 @@ impl Layout for Association {
     ghost same_table = { λ r. refl };
 
     ghost same_refusal = { λ line. refl };
+}
+
+/// Its plain line.
+impl fmt::Debug for Association {
+    fn fmt<W: fmt::Write>(&self, f: &mut fmt::Formatter<W>) -> fmt::Result {
+        layout::debug(&self.write(), f)
+    }
 }
 
 impl Association {

@@ -13,9 +13,10 @@ use crate::Record;
 use crate::detail::{DETAIL_WIDTH, Detail};
 use crate::layout::{self, Layout, check_letters, dates_at, field_or, has_body};
 use cif_columns::{Day, DaysRun, Field, Line, LineBuilder, Refusal, Stp, Uid, columns_at, uid_at};
+use std::fmt;
 
 /// A record `BS` (the CIF End User Specification): on which dates a schedule runs, or is cancelled.
-#[derive(Debug, Drop, PartialEq, Eq)]
+#[derive(Drop, PartialEq, Eq)]
 pub struct Basic {
     /// Columns 4 to 9: the train's UID.
     pub uid: Uid,
@@ -121,6 +122,13 @@ impl Layout for Basic {
     ghost same_table = { λ r. refl };
 
     ghost same_refusal = { λ line. refl };
+}
+
+/// Its plain line.
+impl fmt::Debug for Basic {
+    fn fmt<W: fmt::Write>(&self, f: &mut fmt::Formatter<W>) -> fmt::Result {
+        layout::debug(&self.write(), f)
+    }
 }
 
 impl Basic {

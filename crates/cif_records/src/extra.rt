@@ -6,9 +6,10 @@ ghost use Rattle.cif_records.specs.Checks.{IsJudged};
 use crate::Record;
 use crate::layout::{self, Layout, check_letters};
 use cif_columns::{Field, Line, LineBuilder, PlainTest, Refusal, Text, text_at};
+use std::fmt;
 
 /// A record `BX` (the CIF End User Specification): further details of a basic schedule.
-#[derive(Debug, Drop, PartialEq, Eq)]
+#[derive(Drop, PartialEq, Eq)]
 pub struct Extra {
     /// Columns 3 to 6: the traction class.
     pub traction: Text<4>,
@@ -94,6 +95,13 @@ impl Layout for Extra {
     ghost same_table = { λ r. refl };
 
     ghost same_refusal = { λ line. refl };
+}
+
+/// Its plain line.
+impl fmt::Debug for Extra {
+    fn fmt<W: fmt::Write>(&self, f: &mut fmt::Formatter<W>) -> fmt::Result {
+        layout::debug(&self.write(), f)
+    }
 }
 
 impl Extra {

@@ -10,6 +10,7 @@ ghost use Rattle.cif_records.specs.HeaderColumns.{IsFull, kept, with_window as c
 use crate::Record;
 use crate::layout::{self, Dates, Layout, check_letters, window_date_at};
 use cif_columns::{Day, Line, LineBuilder, Refusal, columns_at};
+use std::fmt;
 
 /// Where the first date begins, at column 49 of the line, in what a header keeps, from column 3 on.
 const FIRST_DATE: usize = 49 - 3;
@@ -19,7 +20,7 @@ const LAST_DATE: usize = 55 - 3;
 
 /// A record `HD` of a full extract (the CIF End User Specification): where the extract comes from,
 /// and the window of dates that it speaks of.
-#[derive(Clone, Copy, Debug, PartialEq, Eq)]
+#[derive(Clone, Copy, PartialEq, Eq)]
 pub struct Header {
     /// Columns 3 to 60, as they stand. Column 47, the update indicator, is `F`.
     pub columns: [u8; 58],
@@ -94,6 +95,13 @@ impl Layout for Header {
     ghost same_table = { λ r. refl };
 
     ghost same_refusal = { λ line. refl };
+}
+
+/// Its plain line.
+impl fmt::Debug for Header {
+    fn fmt<W: fmt::Write>(&self, f: &mut fmt::Formatter<W>) -> fmt::Result {
+        layout::debug(&self.write(), f)
+    }
 }
 
 impl Header {

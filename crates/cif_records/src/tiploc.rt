@@ -9,10 +9,11 @@ ghost use Rattle.cif_records.specs.Checks.{IsJudged};
 use crate::Record;
 use crate::layout::{self, Layout, check_letters};
 use cif_columns::{Line, LineBuilder, Refusal, columns_at};
+use std::fmt;
 
 /// A record `TI` (the CIF End User Specification): a location by its TIPLOC, and its other codes.
 /// Locations are ordered by these columns (this profile).
-#[derive(Clone, Copy, Debug, PartialEq, Eq, PartialOrd, Ord)]
+#[derive(Clone, Copy, PartialEq, Eq, PartialOrd, Ord)]
 pub struct Tiploc {
     /// Columns 3 to 72, as they stand: the TIPLOC (3 to 9), capitals (10 to 11), NALCO (12 to 17),
     /// NLC check (18), TPS description (19 to 44), STANOX (45 to 49), PO MCP code (50 to 53), CRS
@@ -67,6 +68,13 @@ impl Layout for Tiploc {
     ghost same_table = { λ r. refl };
 
     ghost same_refusal = { λ line. refl };
+}
+
+/// Its plain line.
+impl fmt::Debug for Tiploc {
+    fn fmt<W: fmt::Write>(&self, f: &mut fmt::Formatter<W>) -> fmt::Result {
+        layout::debug(&self.write(), f)
+    }
 }
 
 impl Tiploc {
