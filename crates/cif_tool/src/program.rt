@@ -54,8 +54,9 @@ fn asked<R: Env + Files + Input + Print + AllocGlobal, W: WriteDevice>(
     }
 }
 
-/// Says why the words ask for nothing, and returns the status to exit with. Help and the version go to
-/// the standard output, all else to `errors`.
+/// Says why the words ask for nothing, and returns the status to exit with.
+// Inlined, it would keep its faults on the stack while the job is done.
+#[inline(never)]
 fn refused<R: Print + AllocGlobal, W: WriteDevice>(
     rt: &R,
     words: &[String],
@@ -64,8 +65,7 @@ fn refused<R: Print + AllocGlobal, W: WriteDevice>(
     errors: &mut Sink<W>,
 ) -> u8 {
     let fault = escaped(rt.alloc(), words, fault);
-    let mut output = Sink::new(io::writer(rt));
-    let answer = fault.explain(rt.alloc(), &mut output, errors);
+    let answer = explained(rt.alloc(), &fault, io::writer(rt), errors);
     let status = end(&answer, errors);
     if verbose {
         advise_on_word(rt.alloc(), words, &fault, errors);
@@ -139,6 +139,25 @@ fn answered<'a, R: Files + Input, W: Write + Drop>(
             (answer, failure)
         }
         Err(_) => (Err(Fault::Memory), None),
+    }
+}
+
+/// Says why the words ask for nothing: help and the version on the output, all else on `errors`.
+fn explained<O: WriteDevice + Drop, W: WriteDevice>(
+    alloc: Global,
+    fault: &JobFault,
+    output: O,
+    errors: &mut Sink<W>,
+) -> Result<u8, Fault> {
+    match BufWriter::with_capacity(alloc, OUTPUT_BUFFER, output) {
+        Ok(output) => {
+            let mut output = Sink::new(output);
+            let answer = fault.explain(alloc, &mut output, errors);
+            // As in `answered`.
+            mem::forget(output);
+            answer
+        }
+        Err(_) => Err(Fault::Memory),
     }
 }
 
