@@ -45,9 +45,10 @@ pub(crate) const ASSOCIATION: &str = "\tbase_uid\tassociated_uid\tassociation_ca
     \tdate_indicator\tassociation_location\tbase_suffix\tassociated_suffix\tdiagram_type\
     \tassociation_type";
 
-/// The fields of a train and those of an association, where a row has none.
+/// The fields of a train, where a row has none.
 pub(crate) const NO_TRAIN: &str = "\t\t\t\t\t\t\t\t\t\t";
 
+/// The fields of an association, where a row has none.
 pub(crate) const NO_ASSOCIATION: &str = "\t\t\t\t\t\t\t\t\t";
 
 /// The names of the fields of a call.

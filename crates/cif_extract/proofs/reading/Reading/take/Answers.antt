@@ -37,19 +37,24 @@ returns-in-Bx-clause-taken c =
 pub returns-in-Bs-clause-taken : goal.returns-in-Bs-clause-taken
 returns-in-Bs-clause-taken c = subst
     (λ refusal. IsTaken refusal c.args.line.now (progress_of c.args.self.now) c.take_basic.result (progress_of c.take_basic.new.self))
-    (sym (fields (goal.at.returns-in-Bs-clause-taken c).Else-not-allows ∙ ap (λ kind. refusal_as (Some kind) c.args.line.now) c.in-Bs.is)) c.take_basic.ensures
+    (sym (fields (goal.at.returns-in-Bs-clause-taken c).Else-not-allows
+    ∙ ap (λ kind. refusal_as (Some kind) c.args.line.now) c.in-Bs.is)) c.take_basic.ensures
 
 pub returns-in-Aa-clause-taken : goal.returns-in-Aa-clause-taken
 returns-in-Aa-clause-taken c = subst
-    (λ refusal. IsTaken refusal c.args.line.now (progress_of c.args.self.now) c.take_association.result (progress_of c.take_association.new.self))
-    (sym (fields (goal.at.returns-in-Aa-clause-taken c).Else-not-allows ∙ ap (λ kind. refusal_as (Some kind) c.args.line.now) c.in-Aa.is)) c.take_association.ensures
+    (λ refusal. IsTaken refusal c.args.line.now (progress_of c.args.self.now) c.take_association.result
+    (progress_of c.take_association.new.self))
+    (sym (fields (goal.at.returns-in-Aa-clause-taken c).Else-not-allows
+    ∙ ap (λ kind. refusal_as (Some kind) c.args.line.now) c.in-Aa.is)) c.take_association.ensures
 
 pub returns-in-Ti-clause-taken : goal.returns-in-Ti-clause-taken
 returns-in-Ti-clause-taken c = subst
     (λ refusal. IsTaken refusal c.args.line.now (progress_of c.args.self.now) c.take_tiploc.result (progress_of c.take_tiploc.new.self))
-    (sym (fields (goal.at.returns-in-Ti-clause-taken c).Else-not-allows ∙ ap (λ kind. refusal_as (Some kind) c.args.line.now) c.in-Ti.is)) c.take_tiploc.ensures
+    (sym (fields (goal.at.returns-in-Ti-clause-taken c).Else-not-allows
+    ∙ ap (λ kind. refusal_as (Some kind) c.args.line.now) c.in-Ti.is)) c.take_tiploc.ensures
 
 pub returns-in-Hd-clause-taken : goal.returns-in-Hd-clause-taken
 returns-in-Hd-clause-taken c = subst
     (λ refusal. IsTaken refusal c.args.line.now (progress_of c.args.self.now) c.take_header.result (progress_of c.take_header.new.self))
-    (sym (fields (goal.at.returns-in-Hd-clause-taken c).Else-not-allows ∙ ap (λ kind. refusal_as (Some kind) c.args.line.now) c.in-Hd.is)) c.take_header.ensures
+    (sym (fields (goal.at.returns-in-Hd-clause-taken c).Else-not-allows
+    ∙ ap (λ kind. refusal_as (Some kind) c.args.line.now) c.in-Hd.is)) c.take_header.ensures
