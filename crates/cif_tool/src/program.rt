@@ -168,6 +168,7 @@ fn escaped(alloc: Global, words: &[String], fault: JobFault) -> JobFault {
         return fault;
     }
     match escaped_words(alloc, words) {
+        Ok(shown) if shown.as_slice() == words => fault,
         Ok(shown) => match job_of(alloc, shown) {
             Ok(_) => fault,
             Err(shown) => shown,
