@@ -45,12 +45,12 @@ same_basic r q a b c d e f =
     }) parts
 
 -- the three parts of a line that spells a schedule
-record Parts (line : List ℕ) (r : Basic) : Type 0 where
-  front : AllStandIn line (basic_front r.uid r.first r.last r.days)
-  detail : AllStandIn line (detail_rows r.detail)
-  back : AllStandIn line (basic_back r.letter)
+pub record Parts (line : List ℕ) (r : Basic) : Type 0 where
+  pub front : AllStandIn line (basic_front r.uid r.first r.last r.days)
+  pub detail : AllStandIn line (detail_rows r.detail)
+  pub back : AllStandIn line (basic_back r.letter)
 
-parts_of : (line : List ℕ) (r : Basic) → SpellsBasic line r → Parts line r
+pub parts_of : (line : List ℕ) (r : Basic) → SpellsBasic line r → Parts line r
 parts_of line r p =
     let behind = stands-back line (basic_front r.uid r.first r.last r.days) (detail_rows r.detail ++ basic_back r.letter) p in
     record {

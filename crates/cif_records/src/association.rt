@@ -5,7 +5,6 @@ ghost use Rattle.cif_columns.specs.LineBuilder.{put_all};
 ghost use Rattle.cif_records.specs.Bodies.{has_body};
 ghost use Rattle.cif_records.specs.Checks.{IsJudged};
 
-use crate::Record;
 use crate::layout::{self, Dates, Layout, check_letters, dates_at, field_or, has_body};
 use cif_columns::{
     Day, DaysRun, Field, Line, LineBuilder, Refusal, Stp, Text, Uid, text_at, uid_at,
@@ -34,67 +33,17 @@ pub struct Association {
 
 /// On which dates an association applies, and its indicator.
 #[derive(Clone, Copy)]
-pub(crate) struct Applicability {
+struct Applicability {
     dates: Dates,
     days: DaysRun,
     letter: Stp,
 }
 
 impl Layout for Association {
-    ghost use Rattle.std.specs.Prelude.{refl, ◌≡◌, codes};
-    ghost use Rattle.cif_columns.specs.Field.{StandsIn, columns, date, indicator, weekdays};
-    ghost use Rattle.cif_records.specs.Association.{association_refusal, association_table};
-    ghost use Rattle.cif_records.specs.declared.record.Kind.TheVariants.{Aa};
-    ghost use Rattle.cif_records.specs.declared.record.Record.TheVariants as of;
-
-    type Checked = Applicability;
-
-    ghost kind = { Aa };
-
-    ghost as_record = { of.Association };
+    ghost use Rattle.std.specs.Prelude.{refl};
+    ghost use Rattle.cif_records.specs.Association.{association_table};
 
     ghost table = { association_table };
-
-    ghost refusal = { association_refusal };
-
-    ghost found = { λ line checked. (columns 1 2 line ≡ codes "AA")
-        × (columns 3 3 line ≡ codes "N")
-        × StandsIn (columns 16 21 line) (date checked.dates.first)
-        × StandsIn (columns 22 27 line) (date checked.dates.last)
-        × StandsIn (columns 28 34 line) (weekdays checked.days)
-        × StandsIn (columns 80 80 line) (indicator checked.letter) };
-
-    #[tactic(auto, unfolding(crate::specs::Association::association_refusal))]
-    fn check(line: &Line) -> Result<Applicability, Refusal> {
-        check_letters(line, 1, b"AA", Refusal::UnknownRecord)?;
-        check_letters(line, 3, b"N", Refusal::NotFull)?;
-        Ok(Applicability {
-            dates: dates_at(line, 16)?,
-            days: field_or(line, 28, Refusal::BadDays)?,
-            letter: field_or(line, 80, Refusal::BadStp)?,
-        })
-    }
-
-    fn with(line: &Line, checked: Applicability) -> Association {
-        Association {
-            key: AssocKey {
-                base: uid_at(line, 4),
-                associated: uid_at(line, 10),
-                location: text_at(line, 38),
-                base_suffix: text_at(line, 45),
-                associated_suffix: text_at(line, 46),
-            },
-            first: checked.dates.first,
-            last: checked.dates.last,
-            days: checked.days,
-            letter: checked.letter,
-            body: Association::body_at(line, checked.letter),
-        }
-    }
-
-    fn into_record(self) -> Record {
-        Record::Association(self)
-    }
 
     fn put_rows(&self, line: &mut LineBuilder) {
         let blank = AssocBody::blank();
@@ -110,10 +59,6 @@ impl Layout for Association {
     }
 
     ghost whole = { λ r. refl };
-
-    ghost same_table = { λ r. refl };
-
-    ghost same_refusal = { λ line. refl };
 }
 
 /// Its plain line.
@@ -124,6 +69,8 @@ impl fmt::Debug for Association {
 }
 
 impl Association {
+    ghost use Rattle.std.specs.Prelude.{codes};
+    ghost use Rattle.cif_columns.specs.Field.{StandsIn, columns, date, indicator, weekdays};
     ghost use Rattle.cif_records.specs.declared.association.Association.{Association};
     ghost use Rattle.cif_records.specs.Association.{SpellsAssociation, SpellsBody};
     ghost use Rattle.cif_records.specs.Association.{association_refusal, association_rows};
@@ -137,7 +84,44 @@ impl Association {
             result }
         ensures only { (r : Association) → SpellsAssociation line.now r → result ≡ Ok r }
     {
-        layout::read(line)
+        match Association::applicability_at(line) {
+            Ok(checked) => Ok(Association {
+                key: AssocKey {
+                    base: uid_at(line, 4),
+                    associated: uid_at(line, 10),
+                    location: text_at(line, 38),
+                    base_suffix: text_at(line, 45),
+                    associated_suffix: text_at(line, 46),
+                },
+                first: checked.dates.first,
+                last: checked.dates.last,
+                days: checked.days,
+                letter: checked.letter,
+                body: Association::body_at(line, checked.letter),
+            }),
+            Err(why) => Err(why),
+        }
+    }
+
+    /// On which dates the association that the line spells applies, and its indicator, or the first reason in
+    /// column order why it spells none.
+    #[tactic(auto, unfolding(crate::specs::Association::association_refusal))]
+    fn applicability_at(line: &Line) -> Result<Applicability, Refusal>
+        ensures { IsJudged (association_refusal line.now)
+            (λ checked. (columns 1 2 line.now ≡ codes "AA")
+            × (columns 3 3 line.now ≡ codes "N")
+            × StandsIn (columns 16 21 line.now) (date checked.dates.first)
+            × StandsIn (columns 22 27 line.now) (date checked.dates.last)
+            × StandsIn (columns 28 34 line.now) (weekdays checked.days)
+            × StandsIn (columns 80 80 line.now) (indicator checked.letter)) result }
+    {
+        check_letters(line, 1, b"AA", Refusal::UnknownRecord)?;
+        check_letters(line, 3, b"N", Refusal::NotFull)?;
+        Ok(Applicability {
+            dates: dates_at(line, 16)?,
+            days: field_or(line, 28, Refusal::BadDays)?,
+            letter: field_or(line, 80, Refusal::BadStp)?,
+        })
     }
 
     /// The plain line: spare columns are spaces, and texts stand at the left.

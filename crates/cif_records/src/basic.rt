@@ -9,7 +9,6 @@ ghost use Rattle.cif_records.specs.Checks.{IsJudged};
 ghost use Rattle.cif_records.specs.Detail.{detail_rows, detail_table};
 ghost use Rattle.cif_records.specs.declared.detail.Detail.{Detail};
 
-use crate::Record;
 use crate::detail::{DETAIL_WIDTH, Detail};
 use crate::layout::{self, Layout, check_letters, dates_at, field_or, has_body};
 use cif_columns::{Day, DaysRun, Field, Line, LineBuilder, Refusal, Stp, Uid, columns_at, uid_at};
@@ -52,56 +51,9 @@ pub struct BasicTerms {
 
 impl Layout for Basic {
     ghost use Rattle.std.specs.Prelude.{refl};
-    ghost use Rattle.cif_columns.specs.Field.{AllStandIn};
-    ghost use Rattle.cif_records.specs.Basic.{basic_back, basic_front, basic_refusal, basic_table};
-    ghost use Rattle.cif_records.specs.declared.record.Kind.TheVariants.{Bs};
-    ghost use Rattle.cif_records.specs.declared.record.Record.TheVariants as of;
-
-    type Checked = BasicTerms;
-
-    ghost kind = { Bs };
-
-    ghost as_record = { of.Basic };
+    ghost use Rattle.cif_records.specs.Basic.{basic_table};
 
     ghost table = { basic_table };
-
-    ghost refusal = { basic_refusal };
-
-    ghost found = { λ line terms.
-        AllStandIn line (basic_front terms.uid terms.first terms.last terms.days)
-        × AllStandIn line (basic_back terms.letter) };
-
-    #[tactic(auto, unfolding(crate::specs::Basic::basic_refusal))]
-    fn check(line: &Line) -> Result<BasicTerms, Refusal> {
-        check_letters(line, 1, b"BS", Refusal::UnknownRecord)?;
-        check_letters(line, 3, b"N", Refusal::NotFull)?;
-        let dates = dates_at(line, 10)?;
-        let days = field_or(line, 22, Refusal::BadDays)?;
-        check_letters(line, 29, b" ", Refusal::BankHoliday)?;
-        let letter = field_or(line, 80, Refusal::BadStp)?;
-        Ok(BasicTerms {
-            uid: uid_at(line, 4),
-            first: dates.first,
-            last: dates.last,
-            days,
-            letter,
-        })
-    }
-
-    fn with(line: &Line, terms: BasicTerms) -> Basic {
-        Basic {
-            uid: terms.uid,
-            first: terms.first,
-            last: terms.last,
-            days: terms.days,
-            letter: terms.letter,
-            detail: detail_at(line, terms.letter),
-        }
-    }
-
-    fn into_record(self) -> Record {
-        Record::Basic(self)
-    }
 
     fn put_rows(&self, line: &mut LineBuilder) {
         let terms = BasicTerms {
@@ -118,10 +70,6 @@ impl Layout for Basic {
     }
 
     ghost whole = { λ r. refl };
-
-    ghost same_table = { λ r. refl };
-
-    ghost same_refusal = { λ line. refl };
 }
 
 /// Its plain line.
@@ -143,7 +91,17 @@ impl Basic {
         ensures exact { IsJudged (basic_refusal line.now) (SpellsBasic line.now) result }
         ensures only { (r : Basic) → SpellsBasic line.now r → result ≡ Ok r }
     {
-        layout::read(line)
+        match BasicTerms::read(line) {
+            Ok(terms) => Ok(Basic {
+                uid: terms.uid,
+                first: terms.first,
+                last: terms.last,
+                days: terms.days,
+                letter: terms.letter,
+                detail: detail_at(line, terms.letter),
+            }),
+            Err(why) => Err(why),
+        }
     }
 
     /// The plain line: spare columns are spaces, and texts stand at the left.
@@ -179,10 +137,23 @@ impl BasicTerms {
 
     /// The terms of the basic schedule that the line spells, or the first reason why it spells none,
     /// as `Basic::read` has it. No detail is built.
+    #[tactic(auto, unfolding(crate::specs::Basic::basic_refusal))]
     pub fn read(line: &Line) -> Result<BasicTerms, Refusal>
         ensures { IsJudged (basic_refusal line.now) (SpellsTerms line.now) result }
     {
-        <Basic as Layout>::check(line)
+        check_letters(line, 1, b"BS", Refusal::UnknownRecord)?;
+        check_letters(line, 3, b"N", Refusal::NotFull)?;
+        let dates = dates_at(line, 10)?;
+        let days = field_or(line, 22, Refusal::BadDays)?;
+        check_letters(line, 29, b" ", Refusal::BankHoliday)?;
+        let letter = field_or(line, 80, Refusal::BadStp)?;
+        Ok(BasicTerms {
+            uid: uid_at(line, 4),
+            first: dates.first,
+            last: dates.last,
+            days,
+            letter,
+        })
     }
 
     /// Whether the schedule has a body: all but a cancellation have.

@@ -4,7 +4,6 @@ ghost use Rattle.cif_columns.specs.Field.{AllFit, plain_line};
 ghost use Rattle.cif_columns.specs.LineBuilder.{put_all};
 ghost use Rattle.cif_records.specs.Checks.{IsJudged};
 
-use crate::Record;
 use crate::layout::{self, Layout, check_letters};
 use cif_columns::{Field, Line, LineBuilder, PlainTest, Refusal, Text, text_at};
 use std::fmt;
@@ -58,7 +57,7 @@ pub struct Change {
 }
 
 /// The plain lines of `CR`, but for some with rare contents.
-static PLAIN: PlainTest = PlainTest {
+pub(crate) static PLAIN: PlainTest = PlainTest {
     least: *b"CR                                                                              ",
     most: *b"CR~~~~~~~~~~~~~~~~~~~~~~~~~~~~~~~~~~~~~~~~~~~~~~~~~~~~~~~~~~~~~~~~~~~~~~~~~     ",
     also: *b"CR                                                                              ",
@@ -69,62 +68,10 @@ static PLAIN: PlainTest = PlainTest {
 };
 
 impl Layout for Change {
-    ghost use Rattle.std.specs.Prelude.{refl, ◌≡◌, codes};
-    ghost use Rattle.cif_columns.specs.Field.{columns};
-    ghost use Rattle.cif_records.specs.Change.{change_refusal, change_table};
-    ghost use Rattle.cif_records.specs.declared.record.Kind.TheVariants.{Cr};
-    ghost use Rattle.cif_records.specs.declared.record.Record.TheVariants as of;
-
-    type Checked = ();
-
-    ghost kind = { Cr };
-
-    ghost as_record = { of.Change };
+    ghost use Rattle.std.specs.Prelude.{refl};
+    ghost use Rattle.cif_records.specs.Change.{change_table};
 
     ghost table = { change_table };
-
-    ghost refusal = { change_refusal };
-
-    ghost found = { λ line checked. columns 1 2 line ≡ codes "CR" };
-
-    #[tactic(auto, unfolding(crate::specs::Change::change_refusal))]
-    fn check(line: &Line) -> Result<(), Refusal> {
-        check_letters(line, 1, b"CR", Refusal::UnknownRecord)
-    }
-
-    fn with(line: &Line, _checked: ()) -> Change {
-        Change {
-            location: text_at(line, 3),
-            suffix: text_at(line, 10),
-            category: text_at(line, 11),
-            identity: text_at(line, 13),
-            headcode: text_at(line, 17),
-            course: text_at(line, 21),
-            service_code: text_at(line, 22),
-            sector: text_at(line, 30),
-            power: text_at(line, 31),
-            timing_load: text_at(line, 34),
-            speed: text_at(line, 38),
-            characteristics: text_at(line, 41),
-            class: text_at(line, 47),
-            sleepers: text_at(line, 48),
-            reservations: text_at(line, 49),
-            connection: text_at(line, 50),
-            catering: text_at(line, 51),
-            branding: text_at(line, 55),
-            traction: text_at(line, 59),
-            uic: text_at(line, 63),
-            reserved_a: text_at(line, 68),
-        }
-    }
-
-    fn is_plain(line: &Line) -> bool {
-        PLAIN.passes(line)
-    }
-
-    fn into_record(self) -> Record {
-        Record::Change(self)
-    }
 
     fn put_rows(&self, line: &mut LineBuilder) {
         line.put_columns(b"CR");
@@ -134,10 +81,6 @@ impl Layout for Change {
     }
 
     ghost whole = { λ r. refl };
-
-    ghost same_table = { λ r. refl };
-
-    ghost same_refusal = { λ line. refl };
 }
 
 /// Its plain line.
@@ -153,11 +96,37 @@ impl Change {
 
     /// The change that the line spells, or the first reason in column order why it spells
     /// none: UnknownRecord (columns 1 to 2).
+    #[tactic(auto, unfolding(crate::specs::Change::change_refusal))]
     pub fn read(line: &Line) -> Result<Change, Refusal>
         ensures exact { IsJudged (change_refusal line.now) (SpellsChange line.now) result }
         ensures only { (r : Change) → SpellsChange line.now r → result ≡ Ok r }
     {
-        layout::read(line)
+        match check_letters(line, 1, b"CR", Refusal::UnknownRecord) {
+            Ok(()) => Ok(Change {
+                location: text_at(line, 3),
+                suffix: text_at(line, 10),
+                category: text_at(line, 11),
+                identity: text_at(line, 13),
+                headcode: text_at(line, 17),
+                course: text_at(line, 21),
+                service_code: text_at(line, 22),
+                sector: text_at(line, 30),
+                power: text_at(line, 31),
+                timing_load: text_at(line, 34),
+                speed: text_at(line, 38),
+                characteristics: text_at(line, 41),
+                class: text_at(line, 47),
+                sleepers: text_at(line, 48),
+                reservations: text_at(line, 49),
+                connection: text_at(line, 50),
+                catering: text_at(line, 51),
+                branding: text_at(line, 55),
+                traction: text_at(line, 59),
+                uic: text_at(line, 63),
+                reserved_a: text_at(line, 68),
+            }),
+            Err(why) => Err(why),
+        }
     }
 
     /// The plain line: spare columns are spaces, texts stand at the left.

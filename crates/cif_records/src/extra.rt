@@ -3,7 +3,6 @@ ghost use Rattle.std.specs.Prelude.{◌≡◌, Ok};
 ghost use Rattle.cif_columns.specs.Field.{plain_line};
 ghost use Rattle.cif_records.specs.Checks.{IsJudged};
 
-use crate::Record;
 use crate::layout::{self, Layout, check_letters};
 use cif_columns::{Field, Line, LineBuilder, PlainTest, Refusal, Text, text_at};
 use std::fmt;
@@ -26,7 +25,7 @@ pub struct Extra {
 }
 
 /// The plain lines of `BX`, but for some with rare contents.
-static PLAIN: PlainTest = PlainTest {
+pub(crate) static PLAIN: PlainTest = PlainTest {
     least: *b"BX                                                                              ",
     most: *b"BX~~~~~~~~~~~~~~~~~~~~~                                                         ",
     also: *b"BX                                                                              ",
@@ -37,47 +36,10 @@ static PLAIN: PlainTest = PlainTest {
 };
 
 impl Layout for Extra {
-    ghost use Rattle.std.specs.Prelude.{refl, ◌≡◌, codes};
-    ghost use Rattle.cif_columns.specs.Field.{columns};
-    ghost use Rattle.cif_records.specs.Extra.{extra_refusal, extra_table};
-    ghost use Rattle.cif_records.specs.declared.record.Kind.TheVariants.{Bx};
-    ghost use Rattle.cif_records.specs.declared.record.Record.TheVariants as of;
-
-    type Checked = ();
-
-    ghost kind = { Bx };
-
-    ghost as_record = { of.Extra };
+    ghost use Rattle.std.specs.Prelude.{refl};
+    ghost use Rattle.cif_records.specs.Extra.{extra_table};
 
     ghost table = { extra_table };
-
-    ghost refusal = { extra_refusal };
-
-    ghost found = { λ line checked. columns 1 2 line ≡ codes "BX" };
-
-    #[tactic(auto, unfolding(crate::specs::Extra::extra_refusal))]
-    fn check(line: &Line) -> Result<(), Refusal> {
-        check_letters(line, 1, b"BX", Refusal::UnknownRecord)
-    }
-
-    fn with(line: &Line, _checked: ()) -> Extra {
-        Extra {
-            traction: text_at(line, 3),
-            uic: text_at(line, 7),
-            operator_code: text_at(line, 12),
-            timetable_code: text_at(line, 14),
-            reserved_a: text_at(line, 15),
-            reserved_b: text_at(line, 23),
-        }
-    }
-
-    fn is_plain(line: &Line) -> bool {
-        PLAIN.passes(line)
-    }
-
-    fn into_record(self) -> Record {
-        Record::Extra(self)
-    }
 
     fn put_rows(&self, line: &mut LineBuilder) {
         line.put_columns(b"BX");
@@ -91,10 +53,6 @@ impl Layout for Extra {
     }
 
     ghost whole = { λ r. refl };
-
-    ghost same_table = { λ r. refl };
-
-    ghost same_refusal = { λ line. refl };
 }
 
 /// Its plain line.
@@ -110,11 +68,22 @@ impl Extra {
 
     /// The further details that the line spells, or the first reason in column order why it spells
     /// none: UnknownRecord (columns 1 to 2).
+    #[tactic(auto, unfolding(crate::specs::Extra::extra_refusal))]
     pub fn read(line: &Line) -> Result<Extra, Refusal>
         ensures exact { IsJudged (extra_refusal line.now) (SpellsExtra line.now) result }
         ensures only { (r : Extra) → SpellsExtra line.now r → result ≡ Ok r }
     {
-        layout::read(line)
+        match check_letters(line, 1, b"BX", Refusal::UnknownRecord) {
+            Ok(()) => Ok(Extra {
+                traction: text_at(line, 3),
+                uic: text_at(line, 7),
+                operator_code: text_at(line, 12),
+                timetable_code: text_at(line, 14),
+                reserved_a: text_at(line, 15),
+                reserved_b: text_at(line, 23),
+            }),
+            Err(why) => Err(why),
+        }
     }
 
     /// The plain line: spare columns are spaces, texts stand at the left.

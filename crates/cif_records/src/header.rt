@@ -7,7 +7,6 @@ ghost use Rattle.cif_columns.specs.Line.{ArePrintable};
 ghost use Rattle.cif_records.specs.Checks.{IsJudged};
 ghost use Rattle.cif_records.specs.HeaderColumns.{IsFull, kept, with_window as columns_with_window};
 
-use crate::Record;
 use crate::layout::{self, Dates, Layout, check_letters, window_date_at};
 use cif_columns::{Day, Line, LineBuilder, Refusal, columns_at};
 use std::fmt;
@@ -37,52 +36,10 @@ pub struct Header {
 }
 
 impl Layout for Header {
-    ghost use Rattle.std.specs.Prelude.{refl, ◌≡◌, codes, Some};
-    ghost use Rattle.cif_columns.specs.Day.{ddmmyy_in};
-    ghost use Rattle.cif_columns.specs.Field.{columns};
-    ghost use Rattle.cif_records.specs.Header.{header_refusal, header_table};
-    ghost use Rattle.cif_records.specs.declared.record.Kind.TheVariants.{Hd};
-    ghost use Rattle.cif_records.specs.declared.record.Record.TheVariants as of;
-
-    type Checked = Dates;
-
-    ghost kind = { Hd };
-
-    ghost as_record = { of.Header };
+    ghost use Rattle.std.specs.Prelude.{refl};
+    ghost use Rattle.cif_records.specs.Header.{header_table};
 
     ghost table = { header_table };
-
-    ghost refusal = { header_refusal };
-
-    ghost found = { λ line dates. (columns 1 2 line ≡ codes "HD")
-        × (columns 47 47 line ≡ codes "F")
-        × (ddmmyy_in (columns 49 54 line) ≡ Some dates.first)
-        × (ddmmyy_in (columns 55 60 line) ≡ Some dates.last) };
-
-    #[tactic(auto, unfolding(crate::specs::Header::header_refusal))]
-    fn check(line: &Line) -> Result<Dates, Refusal> {
-        check_letters(line, 1, b"HD", Refusal::UnknownRecord)?;
-        check_letters(line, 47, b"F", Refusal::NotFull)?;
-        let first = window_date_at(line, 49)?;
-        let last = window_date_at(line, 55)?;
-        if first <= last {
-            Ok(Dates { first, last })
-        } else {
-            Err(Refusal::DatesReversed)
-        }
-    }
-
-    fn with(line: &Line, dates: Dates) -> Header {
-        Header {
-            columns: columns_at(line, 3),
-            first: dates.first,
-            last: dates.last,
-        }
-    }
-
-    fn into_record(self) -> Record {
-        Record::Header(self)
-    }
 
     fn put_rows(&self, line: &mut LineBuilder) {
         line.put_columns(b"HD");
@@ -91,10 +48,6 @@ impl Layout for Header {
     }
 
     ghost whole = { λ h. refl };
-
-    ghost same_table = { λ r. refl };
-
-    ghost same_refusal = { λ line. refl };
 }
 
 /// Its plain line.
@@ -115,7 +68,34 @@ impl Header {
         ensures exact { IsJudged (header_refusal line.now) (SpellsHeader line.now) result }
         ensures only { (h : Header) → SpellsHeader line.now h → result ≡ Ok h }
     {
-        layout::read(line)
+        match Header::window_at(line) {
+            Ok(dates) => Ok(Header {
+                columns: columns_at(line, 3),
+                first: dates.first,
+                last: dates.last,
+            }),
+            Err(why) => Err(why),
+        }
+    }
+
+    /// The window of the header that the line spells, or the first reason in column order why it spells none.
+    #[tactic(auto, unfolding(crate::specs::Header::header_refusal))]
+    fn window_at(line: &Line) -> Result<Dates, Refusal>
+        ensures { IsJudged (header_refusal line.now)
+            (λ dates. (columns 1 2 line.now ≡ codes "HD")
+            × (columns 47 47 line.now ≡ codes "F")
+            × (ddmmyy_in (columns 49 54 line.now) ≡ Some dates.first)
+            × (ddmmyy_in (columns 55 60 line.now) ≡ Some dates.last)) result }
+    {
+        check_letters(line, 1, b"HD", Refusal::UnknownRecord)?;
+        check_letters(line, 47, b"F", Refusal::NotFull)?;
+        let first = window_date_at(line, 49)?;
+        let last = window_date_at(line, 55)?;
+        if first <= last {
+            Ok(Dates { first, last })
+        } else {
+            Err(Refusal::DatesReversed)
+        }
     }
 
     /// The plain line: columns 61 to 80 are spaces.

@@ -23,48 +23,10 @@ use cif_columns::{
 };
 use std::fmt;
 
-/// A record that is laid out by a table: each row's value stands in the row's columns.
-pub(crate) trait Layout: Sized + Drop {
-    /// What the columns give that can be refused.
-    type Checked: Copy;
-
-    // The kind that its lines name.
-    ghost kind: { Kind };
-
-    // It, as a record of any kind.
-    ghost as_record: { Self → Record };
-
-    // The record's table.
+/// A value that is laid out by a table: each row's value stands in the row's columns.
+pub(crate) trait Layout {
+    // Its table.
     ghost table: { Self → List Row };
-
-    // The first reason to refuse a line.
-    ghost refusal: { List ℕ → Option Refusal };
-
-    // Where the values stand that could be refused.
-    ghost found: { List ℕ → Self.Checked → Type 0 };
-
-    /// The values that could be refused, or the first reason in column order.
-    fn check(line: &Line) -> Result<Self::Checked, Refusal>
-        ensures { IsJudged (refusal line.now) (found line.now) result };
-
-    /// The record of these values and of what stands in the other columns.
-    fn with(line: &Line, checked: Self::Checked) -> Self
-        requires { found line.now checked }
-        ensures { AllStandIn line.now (table result) };
-
-    /// Whether the line spells a record and is its plain line. A `false` costs time alone, so the
-    /// kinds of which there are few lines, or of which fields are read anyway, have no test.
-    fn is_plain(line: &Line) -> bool
-        ensures { IsTrue result → IsJudged (record_refusal line.now)
-            (IsPlainOf Record record_table line.now) (Ok line.now) }
-    {
-        let _ = line;
-        false
-    }
-
-    /// It, as a record of any kind.
-    fn into_record(self) -> Record
-        ensures { result ≡ as_record self };
 
     /// Puts the plain columns of each row on an empty line.
     fn put_rows(&self, line: &mut LineBuilder)
@@ -74,22 +36,9 @@ pub(crate) trait Layout: Sized + Drop {
 
     // The table has each of the eighty columns once.
     ghost whole: { (r : Self) → is_whole_from 1 (table r) ≡ true };
-
-    // The table and the reasons are those of a record of its kind.
-    ghost same_table: { (r : Self) → record_table (as_record r) ≡ table r };
-
-    ghost same_refusal: { (line : List ℕ) → refusal_as (Some kind) line ≡ refusal line };
 }
 
-/// The record that the line spells, or the first reason in column order why it spells none.
-pub(crate) fn read<R: Layout>(line: &Line) -> Result<R, Refusal>
-    ensures { IsJudged (R.refusal line.now) (λ r. AllStandIn line.now (R.table r)) result }
-{
-    let checked = R::check(line)?;
-    Ok(R::with(line, checked))
-}
-
-/// The plain line of the record.
+/// The plain line of the value.
 pub(crate) fn write<R: Layout>(value: &R) -> Line
     ensures plain { result ≡ plain_line (R.table value.now) }
     ensures again { AllStandIn result (R.table value.now) }
@@ -97,22 +46,6 @@ pub(crate) fn write<R: Layout>(value: &R) -> Line
     let mut line = LineBuilder::new();
     value.put_rows(&mut line);
     line.finish()
-}
-
-/// The plain line of what the line, which names the kind of `R`, spells, or the first reason in
-/// column order why it spells none. Of a line that the kind's test knows for a plain one no record
-/// is built.
-pub(crate) fn plain_line_of<R: Layout>(line: &Line) -> Result<Line, Refusal>
-    requires { kind_in line.now ≡ Some R.kind }
-    ensures { IsJudged (record_refusal line.now) (IsPlainOf Record record_table line.now) result }
-{
-    if R::is_plain(line) {
-        return Ok(*line);
-    }
-    match read::<R>(line) {
-        Ok(value) => Ok(write(&value)),
-        Err(why) => Err(why),
-    }
 }
 
 /// Shows a record as its plain line, in quotes.

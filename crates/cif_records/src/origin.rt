@@ -3,7 +3,6 @@ ghost use Rattle.std.specs.Prelude.{◌≡◌, Ok};
 ghost use Rattle.cif_columns.specs.Field.{plain_line};
 ghost use Rattle.cif_records.specs.Checks.{IsJudged};
 
-use crate::Record;
 use crate::layout::{self, EndTimes, Layout, end_times};
 use cif_columns::{
     Activities, Field, Line, LineBuilder, PlainTest, PublicTime, Refusal, Text, WorkTime,
@@ -37,7 +36,7 @@ pub struct Origin {
 }
 
 /// The plain lines of `LO`, but for some with rare contents.
-static PLAIN: PlainTest = PlainTest {
+pub(crate) static PLAIN: PlainTest = PlainTest {
     least: *b"LO        0000H0000                                                             ",
     most: *b"LO~~~~~~~~2959H2959~~~~~~~~~~~~~~~~~~~~~~~~                                     ",
     also: *b"LO                                                                              ",
@@ -48,53 +47,10 @@ static PLAIN: PlainTest = PlainTest {
 };
 
 impl Layout for Origin {
-    ghost use Rattle.std.specs.Prelude.{refl, ◌≡◌, codes};
-    ghost use Rattle.cif_columns.specs.Field.{StandsIn, columns, public_time, working_time};
-    ghost use Rattle.cif_records.specs.Origin.{origin_refusal, origin_table};
-    ghost use Rattle.cif_records.specs.declared.record.Kind.TheVariants.{Lo};
-    ghost use Rattle.cif_records.specs.declared.record.Record.TheVariants as of;
-
-    type Checked = EndTimes;
-
-    ghost kind = { Lo };
-
-    ghost as_record = { of.Origin };
+    ghost use Rattle.std.specs.Prelude.{refl};
+    ghost use Rattle.cif_records.specs.Origin.{origin_table};
 
     ghost table = { origin_table };
-
-    ghost refusal = { origin_refusal };
-
-    ghost found = { λ line times. (columns 1 2 line ≡ codes "LO")
-        × StandsIn (columns 11 15 line) (working_time times.working)
-        × StandsIn (columns 16 19 line) (public_time times.public) };
-
-    #[tactic(auto, unfolding(crate::specs::Origin::origin_refusal))]
-    fn check(line: &Line) -> Result<EndTimes, Refusal> {
-        end_times(line, b"LO")
-    }
-
-    fn with(line: &Line, times: EndTimes) -> Origin {
-        Origin {
-            location: text_at(line, 3),
-            suffix: text_at(line, 10),
-            departure: times.working,
-            public_departure: times.public,
-            platform: text_at(line, 20),
-            line: text_at(line, 23),
-            engineering: text_at(line, 26),
-            pathing: text_at(line, 28),
-            activities: activities_at(line, 30),
-            performance: text_at(line, 42),
-        }
-    }
-
-    fn is_plain(line: &Line) -> bool {
-        PLAIN.passes(line)
-    }
-
-    fn into_record(self) -> Record {
-        Record::Origin(self)
-    }
 
     fn put_rows(&self, line: &mut LineBuilder) {
         line.put_columns(b"LO");
@@ -112,10 +68,6 @@ impl Layout for Origin {
     }
 
     ghost whole = { λ r. refl };
-
-    ghost same_table = { λ r. refl };
-
-    ghost same_refusal = { λ line. refl };
 }
 
 /// Its plain line.
@@ -131,11 +83,26 @@ impl Origin {
 
     /// The first location that the line spells, or the first reason in column order why it spells
     /// none: UnknownRecord (columns 1 to 2), BadTime (columns 11 to 19).
+    #[tactic(auto, unfolding(crate::specs::Origin::origin_refusal))]
     pub fn read(line: &Line) -> Result<Origin, Refusal>
         ensures exact { IsJudged (origin_refusal line.now) (SpellsOrigin line.now) result }
         ensures only { (r : Origin) → SpellsOrigin line.now r → result ≡ Ok r }
     {
-        layout::read(line)
+        match end_times(line, b"LO") {
+            Ok(times) => Ok(Origin {
+                location: text_at(line, 3),
+                suffix: text_at(line, 10),
+                departure: times.working,
+                public_departure: times.public,
+                platform: text_at(line, 20),
+                line: text_at(line, 23),
+                engineering: text_at(line, 26),
+                pathing: text_at(line, 28),
+                activities: activities_at(line, 30),
+                performance: text_at(line, 42),
+            }),
+            Err(why) => Err(why),
+        }
     }
 
     /// The plain line: spare columns are spaces, texts stand at the left, and activity codes are

@@ -8,9 +8,9 @@ ghost use Rattle.cif_records.specs.Record.{IsPlainOf, SpellsRecord, record_refus
 ghost use Rattle.cif_records.specs.declared.record.Kind.{Kind};
 ghost use Rattle.cif_records.specs.declared.record.Record.{Record};
 
-use crate::layout::Layout;
 use crate::{
-    Association, Basic, Change, Extra, Header, Origin, Stop, Terminus, Tiploc, Trailer, layout,
+    Association, Basic, Change, Extra, Header, Origin, Stop, Terminus, Tiploc, Trailer, change,
+    extra, layout, origin, stop, terminus,
 };
 use cif_columns::{Line, Refusal, columns_at};
 use std::fmt;
@@ -137,42 +137,35 @@ impl fmt::Debug for Record {
 
 /// The record that the line spells, or the first reason why it spells none: UnknownRecord where
 /// columns 1 and 2 name no kind, NotFull for `TA` and `TD`, else the reason of the kind's `read`.
+#[tactic(auto, unfolding(crate::specs::Record::record_refusal))]
 pub fn read_record(line: &Line) -> Result<Record, Refusal>
     ensures exact { IsJudged (record_refusal line.now) (SpellsRecord line.now) result }
     ensures only { (r : Record) → SpellsRecord line.now r → result ≡ Ok r }
 {
-    record_of(line)
-}
-
-/// What `read_record` gives, without the law that no other is spelled.
-#[tactic(auto, unfolding(crate::specs::Record::record_refusal))]
-fn record_of(line: &Line) -> Result<Record, Refusal>
-    ensures { IsJudged (record_refusal line.now) (SpellsRecord line.now) result }
-{
     match kind_of(line) {
-        Some(Kind::Li) => read_as::<Stop>(line),
-        Some(Kind::Cr) => read_as::<Change>(line),
-        Some(Kind::Lt) => read_as::<Terminus>(line),
-        Some(Kind::Lo) => read_as::<Origin>(line),
-        Some(Kind::Bx) => read_as::<Extra>(line),
-        Some(Kind::Bs) => read_as::<Basic>(line),
-        Some(Kind::Aa) => read_as::<Association>(line),
-        Some(Kind::Ti) => read_as::<Tiploc>(line),
-        Some(Kind::Hd) => read_as::<Header>(line),
-        Some(Kind::Zz) => read_as::<Trailer>(line),
-        Some(Kind::Ta | Kind::Td) => Err(Refusal::NotFull),
+        Some(kind) => record_of(kind, line),
         None => Err(Refusal::UnknownRecord),
     }
 }
 
-/// What the line, which names the kind of `R`, is read as.
-fn read_as<R: Layout>(line: &Line) -> Result<Record, Refusal>
-    requires { kind_in line.now ≡ Some R.kind }
+/// The record that the line, which names this kind, spells, or the first reason why it spells none.
+#[tactic(auto, unfolding(crate::specs::Record::record_refusal))]
+fn record_of(kind: Kind, line: &Line) -> Result<Record, Refusal>
+    requires { kind_in line.now ≡ Some kind }
     ensures { IsJudged (record_refusal line.now) (SpellsRecord line.now) result }
 {
-    match layout::read::<R>(line) {
-        Ok(value) => Ok(value.into_record()),
-        Err(why) => Err(why),
+    match kind {
+        Kind::Li => Ok(Record::Stop(Stop::read(line)?)),
+        Kind::Cr => Ok(Record::Change(Change::read(line)?)),
+        Kind::Lt => Ok(Record::Terminus(Terminus::read(line)?)),
+        Kind::Lo => Ok(Record::Origin(Origin::read(line)?)),
+        Kind::Bx => Ok(Record::Extra(Extra::read(line)?)),
+        Kind::Bs => Ok(Record::Basic(Basic::read(line)?)),
+        Kind::Aa => Ok(Record::Association(Association::read(line)?)),
+        Kind::Ti => Ok(Record::Tiploc(Tiploc::read(line)?)),
+        Kind::Hd => Ok(Record::Header(Header::read(line)?)),
+        Kind::Zz => Ok(Record::Trailer),
+        Kind::Ta | Kind::Td => Err(Refusal::NotFull),
     }
 }
 
@@ -198,6 +191,8 @@ pub fn write_record(record: &Record) -> Line
 /// The plain line of the record that the line, which names this kind, spells, or the first reason
 /// why it spells none: what `read_record` and then `write_record` give. Of most plain lines of a
 /// journey no record is built.
+// Few lines come here, so it is kept out of the loops over lines.
+#[inline(never)]
 pub fn plain_line_of(kind: Kind, line: &Line) -> Result<Line, Refusal>
     requires { kind_in line.now ≡ Some kind }
     ensures exact { IsJudged (record_refusal line.now) (IsPlainOf Record record_table line.now)
@@ -205,29 +200,12 @@ pub fn plain_line_of(kind: Kind, line: &Line) -> Result<Line, Refusal>
     ensures only { (r : Record) → SpellsRecord line.now r
         → result ≡ Ok (plain_line (record_table r)) }
 {
-    plain_line_of_any(kind, line)
-}
-
-/// What `plain_line_of` gives, without the law that no other record is spelled.
-// Few lines come here, so it is kept out of the loops over lines.
-#[inline(never)]
-#[tactic(auto, unfolding(crate::specs::Record::record_refusal))]
-fn plain_line_of_any(kind: Kind, line: &Line) -> Result<Line, Refusal>
-    requires { kind_in line.now ≡ Some kind }
-    ensures { IsJudged (record_refusal line.now) (IsPlainOf Record record_table line.now) result }
-{
-    match kind {
-        Kind::Li => layout::plain_line_of::<Stop>(line),
-        Kind::Cr => layout::plain_line_of::<Change>(line),
-        Kind::Lt => layout::plain_line_of::<Terminus>(line),
-        Kind::Lo => layout::plain_line_of::<Origin>(line),
-        Kind::Bx => layout::plain_line_of::<Extra>(line),
-        Kind::Bs => layout::plain_line_of::<Basic>(line),
-        Kind::Aa => layout::plain_line_of::<Association>(line),
-        Kind::Ti => layout::plain_line_of::<Tiploc>(line),
-        Kind::Hd => layout::plain_line_of::<Header>(line),
-        Kind::Zz => layout::plain_line_of::<Trailer>(line),
-        Kind::Td | Kind::Ta => Err(Refusal::NotFull),
+    if is_plain_line(kind, line) {
+        return Ok(*line);
+    }
+    match record_of(kind, line) {
+        Ok(record) => Ok(write_record(&record)),
+        Err(why) => Err(why),
     }
 }
 
@@ -240,16 +218,12 @@ pub fn is_plain_line(kind: Kind, line: &Line) -> bool
         (IsPlainOf Record record_table line.now) (Ok line.now) }
 {
     match kind {
-        Kind::Li => Stop::is_plain(line),
-        Kind::Cr => Change::is_plain(line),
-        Kind::Lt => Terminus::is_plain(line),
-        Kind::Lo => Origin::is_plain(line),
-        Kind::Bx => Extra::is_plain(line),
-        Kind::Bs => Basic::is_plain(line),
-        Kind::Aa => Association::is_plain(line),
-        Kind::Ti => Tiploc::is_plain(line),
-        Kind::Hd => Header::is_plain(line),
-        Kind::Zz => Trailer::is_plain(line),
-        Kind::Ta | Kind::Td => false,
+        Kind::Li => stop::PLAIN.passes(line),
+        Kind::Cr => change::PLAIN.passes(line),
+        Kind::Lt => terminus::PLAIN.passes(line),
+        Kind::Lo => origin::PLAIN.passes(line),
+        Kind::Bx => extra::PLAIN.passes(line),
+        // There are few lines of these, or their fields are read anyway, so they have no test.
+        _ => false,
     }
 }

@@ -4,7 +4,6 @@ ghost use Rattle.cif_columns.specs.Field.{plain_line};
 ghost use Rattle.cif_columns.specs.Line.{IsLine};
 ghost use Rattle.cif_records.specs.Checks.{IsJudged};
 
-use crate::Record;
 use crate::layout::{self, Layout, check_letters, field_or};
 use cif_columns::{
     Activities, Field, LINE_WIDTH, Line, LineBuilder, PlainTest, PublicTime, Refusal, Text,
@@ -48,7 +47,7 @@ pub struct Stop {
 
 /// The times of a location on the way.
 #[derive(Clone, Copy)]
-pub(crate) struct StopTimes {
+struct StopTimes {
     arrival: WorkTime,
     departure: WorkTime,
     pass: WorkTime,
@@ -57,7 +56,7 @@ pub(crate) struct StopTimes {
 }
 
 /// The plain lines of `LI`, but for some with rare contents.
-static PLAIN: PlainTest = PlainTest {
+pub(crate) static PLAIN: PlainTest = PlainTest {
     least: *b"LI        0000H0000H0000H00000000                                               ",
     most: *b"LI~~~~~~~~2959H2959H2959H29592959~~~~~~~~~~~~~~~~~~~~~~~~~~~                    ",
     also: *b"LI                                                                              ",
@@ -68,67 +67,10 @@ static PLAIN: PlainTest = PlainTest {
 };
 
 impl Layout for Stop {
-    ghost use Rattle.std.specs.Prelude.{refl, ◌≡◌, codes};
-    ghost use Rattle.cif_columns.specs.Field.{StandsIn, columns, public_time, working_time};
-    ghost use Rattle.cif_records.specs.Stop.{stop_refusal, stop_table};
-    ghost use Rattle.cif_records.specs.declared.record.Kind.TheVariants.{Li};
-    ghost use Rattle.cif_records.specs.declared.record.Record.TheVariants as of;
-
-    type Checked = StopTimes;
-
-    ghost kind = { Li };
-
-    ghost as_record = { of.Stop };
+    ghost use Rattle.std.specs.Prelude.{refl};
+    ghost use Rattle.cif_records.specs.Stop.{stop_table};
 
     ghost table = { stop_table };
-
-    ghost refusal = { stop_refusal };
-
-    ghost found = { λ line times. (columns 1 2 line ≡ codes "LI")
-        × StandsIn (columns 11 15 line) (working_time times.arrival)
-        × StandsIn (columns 16 20 line) (working_time times.departure)
-        × StandsIn (columns 21 25 line) (working_time times.pass)
-        × StandsIn (columns 26 29 line) (public_time times.public_arrival)
-        × StandsIn (columns 30 33 line) (public_time times.public_departure) };
-
-    #[tactic(auto, unfolding(crate::specs::Stop::stop_refusal))]
-    fn check(line: &Line) -> Result<StopTimes, Refusal> {
-        check_letters(line, 1, b"LI", Refusal::UnknownRecord)?;
-        Ok(StopTimes {
-            arrival: field_or(line, 11, Refusal::BadTime)?,
-            departure: field_or(line, 16, Refusal::BadTime)?,
-            pass: field_or(line, 21, Refusal::BadTime)?,
-            public_arrival: field_or(line, 26, Refusal::BadTime)?,
-            public_departure: field_or(line, 30, Refusal::BadTime)?,
-        })
-    }
-
-    fn with(line: &Line, times: StopTimes) -> Stop {
-        Stop {
-            location: text_at(line, 3),
-            suffix: text_at(line, 10),
-            arrival: times.arrival,
-            departure: times.departure,
-            pass: times.pass,
-            public_arrival: times.public_arrival,
-            public_departure: times.public_departure,
-            platform: text_at(line, 34),
-            line: text_at(line, 37),
-            path: text_at(line, 40),
-            activities: activities_at(line, 43),
-            engineering: text_at(line, 55),
-            pathing: text_at(line, 57),
-            performance: text_at(line, 59),
-        }
-    }
-
-    fn is_plain(line: &Line) -> bool {
-        PLAIN.passes(line)
-    }
-
-    fn into_record(self) -> Record {
-        Record::Stop(self)
-    }
 
     fn put_rows(&self, line: &mut LineBuilder) {
         line.put_columns(b"LI");
@@ -150,10 +92,6 @@ impl Layout for Stop {
     }
 
     ghost whole = { λ r. refl };
-
-    ghost same_table = { λ r. refl };
-
-    ghost same_refusal = { λ line. refl };
 }
 
 /// Its plain line.
@@ -164,6 +102,8 @@ impl fmt::Debug for Stop {
 }
 
 impl Stop {
+    ghost use Rattle.std.specs.Prelude.{codes};
+    ghost use Rattle.cif_columns.specs.Field.{StandsIn, columns, public_time, working_time};
     ghost use Rattle.cif_records.specs.declared.stop.Stop.{Stop};
     ghost use Rattle.cif_records.specs.Stop.{SpellsStop, stop_refusal, stop_table};
 
@@ -173,7 +113,47 @@ impl Stop {
         ensures exact { IsJudged (stop_refusal line.now) (SpellsStop line.now) result }
         ensures only { (r : Stop) → SpellsStop line.now r → result ≡ Ok r }
     {
-        layout::read(line)
+        match Stop::times_at(line) {
+            Ok(times) => Ok(Stop {
+                location: text_at(line, 3),
+                suffix: text_at(line, 10),
+                arrival: times.arrival,
+                departure: times.departure,
+                pass: times.pass,
+                public_arrival: times.public_arrival,
+                public_departure: times.public_departure,
+                platform: text_at(line, 34),
+                line: text_at(line, 37),
+                path: text_at(line, 40),
+                activities: activities_at(line, 43),
+                engineering: text_at(line, 55),
+                pathing: text_at(line, 57),
+                performance: text_at(line, 59),
+            }),
+            Err(why) => Err(why),
+        }
+    }
+
+    /// The times of the location on the way that the line spells, or the first reason in column order why it
+    /// spells none.
+    #[tactic(auto, unfolding(crate::specs::Stop::stop_refusal))]
+    fn times_at(line: &Line) -> Result<StopTimes, Refusal>
+        ensures { IsJudged (stop_refusal line.now)
+            (λ times. (columns 1 2 line.now ≡ codes "LI")
+            × StandsIn (columns 11 15 line.now) (working_time times.arrival)
+            × StandsIn (columns 16 20 line.now) (working_time times.departure)
+            × StandsIn (columns 21 25 line.now) (working_time times.pass)
+            × StandsIn (columns 26 29 line.now) (public_time times.public_arrival)
+            × StandsIn (columns 30 33 line.now) (public_time times.public_departure)) result }
+    {
+        check_letters(line, 1, b"LI", Refusal::UnknownRecord)?;
+        Ok(StopTimes {
+            arrival: field_or(line, 11, Refusal::BadTime)?,
+            departure: field_or(line, 16, Refusal::BadTime)?,
+            pass: field_or(line, 21, Refusal::BadTime)?,
+            public_arrival: field_or(line, 26, Refusal::BadTime)?,
+            public_departure: field_or(line, 30, Refusal::BadTime)?,
+        })
     }
 
     /// Whether these columns are the plain line of a location on the way, as far as one pass over them

@@ -3,7 +3,6 @@ ghost use Rattle.std.specs.Prelude.{◌≡◌, Ok};
 ghost use Rattle.cif_columns.specs.Field.{plain_line};
 ghost use Rattle.cif_records.specs.Checks.{IsJudged};
 
-use crate::Record;
 use crate::layout::{self, EndTimes, Layout, end_times};
 use cif_columns::{
     Activities, Field, Line, LineBuilder, PlainTest, PublicTime, Refusal, Text, WorkTime,
@@ -31,7 +30,7 @@ pub struct Terminus {
 }
 
 /// The plain lines of `LT`, but for some with rare contents.
-static PLAIN: PlainTest = PlainTest {
+pub(crate) static PLAIN: PlainTest = PlainTest {
     least: *b"LT        0000H0000                                                             ",
     most: *b"LT~~~~~~~~2959H2959~~~~~~~~~~~~~~~~~~                                           ",
     also: *b"LT                                                                              ",
@@ -42,50 +41,10 @@ static PLAIN: PlainTest = PlainTest {
 };
 
 impl Layout for Terminus {
-    ghost use Rattle.std.specs.Prelude.{refl, ◌≡◌, codes};
-    ghost use Rattle.cif_columns.specs.Field.{StandsIn, columns, public_time, working_time};
-    ghost use Rattle.cif_records.specs.Terminus.{terminus_refusal, terminus_table};
-    ghost use Rattle.cif_records.specs.declared.record.Kind.TheVariants.{Lt};
-    ghost use Rattle.cif_records.specs.declared.record.Record.TheVariants as of;
-
-    type Checked = EndTimes;
-
-    ghost kind = { Lt };
-
-    ghost as_record = { of.Terminus };
+    ghost use Rattle.std.specs.Prelude.{refl};
+    ghost use Rattle.cif_records.specs.Terminus.{terminus_table};
 
     ghost table = { terminus_table };
-
-    ghost refusal = { terminus_refusal };
-
-    ghost found = { λ line times. (columns 1 2 line ≡ codes "LT")
-        × StandsIn (columns 11 15 line) (working_time times.working)
-        × StandsIn (columns 16 19 line) (public_time times.public) };
-
-    #[tactic(auto, unfolding(crate::specs::Terminus::terminus_refusal))]
-    fn check(line: &Line) -> Result<EndTimes, Refusal> {
-        end_times(line, b"LT")
-    }
-
-    fn with(line: &Line, times: EndTimes) -> Terminus {
-        Terminus {
-            location: text_at(line, 3),
-            suffix: text_at(line, 10),
-            arrival: times.working,
-            public_arrival: times.public,
-            platform: text_at(line, 20),
-            path: text_at(line, 23),
-            activities: activities_at(line, 26),
-        }
-    }
-
-    fn is_plain(line: &Line) -> bool {
-        PLAIN.passes(line)
-    }
-
-    fn into_record(self) -> Record {
-        Record::Terminus(self)
-    }
 
     fn put_rows(&self, line: &mut LineBuilder) {
         line.put_columns(b"LT");
@@ -100,10 +59,6 @@ impl Layout for Terminus {
     }
 
     ghost whole = { λ r. refl };
-
-    ghost same_table = { λ r. refl };
-
-    ghost same_refusal = { λ line. refl };
 }
 
 /// Its plain line.
@@ -119,11 +74,23 @@ impl Terminus {
 
     /// The last location that the line spells, or the first reason in column order why it spells
     /// none: UnknownRecord (columns 1 to 2), BadTime (columns 11 to 19).
+    #[tactic(auto, unfolding(crate::specs::Terminus::terminus_refusal))]
     pub fn read(line: &Line) -> Result<Terminus, Refusal>
         ensures exact { IsJudged (terminus_refusal line.now) (SpellsTerminus line.now) result }
         ensures only { (r : Terminus) → SpellsTerminus line.now r → result ≡ Ok r }
     {
-        layout::read(line)
+        match end_times(line, b"LT") {
+            Ok(times) => Ok(Terminus {
+                location: text_at(line, 3),
+                suffix: text_at(line, 10),
+                arrival: times.working,
+                public_arrival: times.public,
+                platform: text_at(line, 20),
+                path: text_at(line, 23),
+                activities: activities_at(line, 26),
+            }),
+            Err(why) => Err(why),
+        }
     }
 
     /// The plain line: spare columns are spaces, texts stand at the left, and activity codes are

@@ -6,7 +6,6 @@ ghost use Rattle.cif_columns.specs.Field.{plain_line};
 ghost use Rattle.cif_columns.specs.Line.{ArePrintable};
 ghost use Rattle.cif_records.specs.Checks.{IsJudged};
 
-use crate::Record;
 use crate::layout::{self, Layout, check_letters};
 use cif_columns::{Line, LineBuilder, Refusal, columns_at};
 use std::fmt;
@@ -24,38 +23,10 @@ pub struct Tiploc {
 }
 
 impl Layout for Tiploc {
-    ghost use Rattle.std.specs.Prelude.{refl, ◌≡◌, codes};
-    ghost use Rattle.cif_columns.specs.Field.{columns};
-    ghost use Rattle.cif_records.specs.Tiploc.{tiploc_refusal, tiploc_table};
-    ghost use Rattle.cif_records.specs.declared.record.Kind.TheVariants.{Ti};
-    ghost use Rattle.cif_records.specs.declared.record.Record.TheVariants as of;
-
-    type Checked = ();
-
-    ghost kind = { Ti };
-
-    ghost as_record = { of.Tiploc };
+    ghost use Rattle.std.specs.Prelude.{refl};
+    ghost use Rattle.cif_records.specs.Tiploc.{tiploc_table};
 
     ghost table = { tiploc_table };
-
-    ghost refusal = { tiploc_refusal };
-
-    ghost found = { λ line checked. columns 1 2 line ≡ codes "TI" };
-
-    #[tactic(auto, unfolding(crate::specs::Tiploc::tiploc_refusal))]
-    fn check(line: &Line) -> Result<(), Refusal> {
-        check_letters(line, 1, b"TI", Refusal::UnknownRecord)
-    }
-
-    fn with(line: &Line, _checked: ()) -> Tiploc {
-        Tiploc {
-            columns: columns_at(line, 3),
-        }
-    }
-
-    fn into_record(self) -> Record {
-        Record::Tiploc(self)
-    }
 
     fn put_rows(&self, line: &mut LineBuilder) {
         line.put_columns(b"TI");
@@ -64,10 +35,6 @@ impl Layout for Tiploc {
     }
 
     ghost whole = { λ t. refl };
-
-    ghost same_table = { λ r. refl };
-
-    ghost same_refusal = { λ line. refl };
 }
 
 /// Its plain line.
@@ -82,11 +49,17 @@ impl Tiploc {
     ghost use Rattle.cif_records.specs.Tiploc.{SpellsTiploc, tiploc_refusal, tiploc_table};
 
     /// The location that the line spells, or UnknownRecord (columns 1 to 2).
+    #[tactic(auto, unfolding(crate::specs::Tiploc::tiploc_refusal))]
     pub fn read(line: &Line) -> Result<Tiploc, Refusal>
         ensures exact { IsJudged (tiploc_refusal line.now) (SpellsTiploc line.now) result }
         ensures only { (t : Tiploc) → SpellsTiploc line.now t → result ≡ Ok t }
     {
-        layout::read(line)
+        match check_letters(line, 1, b"TI", Refusal::UnknownRecord) {
+            Ok(()) => Ok(Tiploc {
+                columns: columns_at(line, 3),
+            }),
+            Err(why) => Err(why),
+        }
     }
 
     /// The plain line: columns 73 to 80 are spaces.

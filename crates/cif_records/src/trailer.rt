@@ -4,7 +4,6 @@ ghost use Rattle.cif_columns.specs.Field.{AllStandIn, plain_line};
 ghost use Rattle.cif_records.specs.Checks.{IsJudged};
 ghost use Rattle.cif_records.specs.Trailer.{trailer_refusal, trailer_table};
 
-use crate::Record;
 use crate::layout::{self, Layout, check_letters};
 use cif_columns::{Line, LineBuilder, Refusal};
 
@@ -14,35 +13,9 @@ use cif_columns::{Line, LineBuilder, Refusal};
 pub struct Trailer;
 
 impl Layout for Trailer {
-    ghost use Rattle.std.specs.Prelude.{refl, ◌≡◌, codes};
-    ghost use Rattle.cif_columns.specs.Field.{columns};
-    ghost use Rattle.cif_records.specs.declared.record.Kind.TheVariants.{Zz};
-    ghost use Rattle.cif_records.specs.declared.record.Record.TheVariants as of;
-
-    type Checked = ();
-
-    ghost kind = { Zz };
-
-    ghost as_record = { λ t. of.Trailer };
+    ghost use Rattle.std.specs.Prelude.{refl};
 
     ghost table = { λ t. trailer_table };
-
-    ghost refusal = { trailer_refusal };
-
-    ghost found = { λ line checked. columns 1 2 line ≡ codes "ZZ" };
-
-    #[tactic(auto, unfolding(crate::specs::Trailer::trailer_refusal))]
-    fn check(line: &Line) -> Result<(), Refusal> {
-        check_letters(line, 1, b"ZZ", Refusal::UnknownRecord)
-    }
-
-    fn with(_line: &Line, _checked: ()) -> Trailer {
-        Trailer
-    }
-
-    fn into_record(self) -> Record {
-        Record::Trailer
-    }
 
     fn put_rows(&self, line: &mut LineBuilder) {
         line.put_columns(b"ZZ");
@@ -50,19 +23,17 @@ impl Layout for Trailer {
     }
 
     ghost whole = { λ t. refl };
-
-    ghost same_table = { λ r. refl };
-
-    ghost same_refusal = { λ line. refl };
 }
 
 impl Trailer {
     /// The trailer, where the line is one, or UnknownRecord (columns 1 to 2).
+    #[tactic(auto, unfolding(crate::specs::Trailer::trailer_refusal))]
     pub fn read(line: &Line) -> Result<Trailer, Refusal>
         ensures { IsJudged (trailer_refusal line.now) (λ t. AllStandIn line.now trailer_table)
             result }
     {
-        layout::read(line)
+        check_letters(line, 1, b"ZZ", Refusal::UnknownRecord)?;
+        Ok(Trailer)
     }
 
     /// The plain line: columns 3 to 80 are spaces.

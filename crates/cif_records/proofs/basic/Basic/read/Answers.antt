@@ -1,7 +1,30 @@
--- `only`: a line spells one basic schedule, with a detail exactly as its letter has one, and none if it is refused.
-use Rattle.cif_records.proofs.Basics.{one_basic, no_refusal}
+-- The rows of front and back stand as the terms do, and those of the detail where it was read: `stands-append` joins them.
+use Rattle.std.proofs.Common.{◌++◌, subst, sym}
+use Rattle.cif_columns.specs.Field.{AllStandIn}
+use Rattle.cif_columns.proofs.Parts.{stands-append}
+use Rattle.cif_records.specs.Basic.{basic_back, basic_front}
+use Rattle.cif_records.specs.Detail.{detail_rows}
+use Rattle.cif_records.specs.declared.basic.BasicTerms.{BasicTerms}
+use Rattle.cif_records.proofs.Basics.{one_basic, no_refusal, parts_of}
 use Rattle.cif_records.proofs.Judging.{only}
 use Rattle.cif_records.proofs.basic.Basic.read.Goals as goal
 
-pub returns-clause-only : goal.returns-clause-only
-returns-clause-only c r h = only _ _ _ (one_basic c.args.line.now) (no_refusal c.args.line.now) c.read.ensures r h
+pub returns-in-Ok-clause-exact : goal.returns-in-Ok-clause-exact
+returns-in-Ok-clause-exact c =
+    let line = c.args.line.now in
+    let t = c.in-Ok.terms in
+    let found = c.in-Ok.ensures.1 in
+    let parts = parts_of line found.basic found.spells in
+    let detail = detail_rows c.detail_at.result in
+    let front = subst (λ (u : BasicTerms). AllStandIn line (basic_front u.uid u.first u.last u.days)) (sym found.terms) parts.front in
+    let back = subst (λ (u : BasicTerms). AllStandIn line (basic_back u.letter)) (sym found.terms) parts.back in (
+      c.in-Ok.ensures.0,
+      stands-append line (basic_front t.uid t.first t.last t.days) (detail ++ basic_back t.letter) front
+          (stands-append line detail (basic_back t.letter) c.detail_at.ensures.spells back),
+    )
+
+pub returns-in-Ok-clause-only : goal.returns-in-Ok-clause-only
+returns-in-Ok-clause-only c r h = only _ _ _ (one_basic c.args.line.now) (no_refusal c.args.line.now) (returns-in-Ok-clause-exact c) r h
+
+pub returns-in-Err-clause-only : goal.returns-in-Err-clause-only
+returns-in-Err-clause-only c r h = only _ _ _ (one_basic c.args.line.now) (no_refusal c.args.line.now) c.in-Err.ensures r h

@@ -1,7 +1,20 @@
--- `only`: a line spells one record of further details, by the one table of it (`one_extra`), and none if it is refused.
-use Rattle.cif_records.proofs.Judging.{only}
+-- Each value was found where its row says. A line spells one record of further details (`one_extra`), and none if it is refused.
+use Rattle.std.proofs.Common.{Err}
+use Rattle.cif_records.specs.Extra.{extra_refusal}
 use Rattle.cif_records.proofs.Extras.{one_extra, no_refusal}
+use Rattle.cif_records.proofs.Judging.{only}
+use Rattle.cif_records.proofs.Rows.{◌&◌}
 use Rattle.cif_records.proofs.extra.Extra.read.Goals as goal
 
-pub returns-clause-only : goal.returns-clause-only
-returns-clause-only c r h = only _ _ _ (one_extra c.args.line.now) (no_refusal c.args.line.now) c.read.ensures r h
+pub returns-in-Ok-clause-exact : goal.returns-in-Ok-clause-exact
+unfolding extra_refusal
+returns-in-Ok-clause-exact c =
+    (rw c.in-Ok.ensures.0) & c.in-Ok.ensures.1 & c.text_at.ensures.found & c.text_at-in-Ok.ensures.found & c.text_at-in-Ok-2.ensures.found
+    & c.text_at-in-Ok-3.ensures.found & c.text_at-in-Ok-4.ensures.found & c.text_at-in-Ok-5.ensures.found & tt & tt
+
+pub returns-in-Ok-clause-only : goal.returns-in-Ok-clause-only
+returns-in-Ok-clause-only c r h = only _ _ _ (one_extra c.args.line.now) (no_refusal c.args.line.now) (returns-in-Ok-clause-exact c) r h
+
+pub returns-in-Err-clause-only : goal.returns-in-Err-clause-only
+unfolding extra_refusal
+returns-in-Err-clause-only c r h = only _ _ (Err c.in-Err.why) (one_extra c.args.line.now) (no_refusal c.args.line.now) (rw c.in-Err.ensures) r h

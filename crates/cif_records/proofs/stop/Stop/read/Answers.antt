@@ -1,7 +1,18 @@
--- `only`: a line spells one location on the way, by the one table of it (`one_stop`), and none if it is refused.
-use Rattle.cif_records.proofs.Judging.{only}
+-- Each value was found where its row says. A line spells one location on the way (`one_stop`), and none if it is refused.
 use Rattle.cif_records.proofs.Stops.{one_stop, no_refusal}
+use Rattle.cif_records.proofs.Judging.{only}
+use Rattle.cif_records.proofs.Rows.{◌&◌}
 use Rattle.cif_records.proofs.stop.Stop.read.Goals as goal
 
-pub returns-clause-only : goal.returns-clause-only
-returns-clause-only c r h = only _ _ _ (one_stop c.args.line.now) (no_refusal c.args.line.now) c.read.ensures r h
+pub returns-in-Ok-clause-exact : goal.returns-in-Ok-clause-exact
+returns-in-Ok-clause-exact c =
+    c.in-Ok.ensures.0 & c.in-Ok.ensures.1.0 & c.text_at.ensures.found & c.text_at-in-Ok.ensures.found & c.in-Ok.ensures.1.1
+    & c.in-Ok.ensures.1.2 & c.in-Ok.ensures.1.3 & c.in-Ok.ensures.1.4 & c.in-Ok.ensures.1.5 & c.text_at-in-Ok-2.ensures.found
+    & c.text_at-in-Ok-3.ensures.found & c.text_at-in-Ok-4.ensures.found & c.activities_at.ensures.found & c.text_at-in-Ok-5.ensures.found
+    & c.text_at-in-Ok-6.ensures.found & c.text_at-in-Ok-7.ensures.found & tt & tt
+
+pub returns-in-Ok-clause-only : goal.returns-in-Ok-clause-only
+returns-in-Ok-clause-only c r h = only _ _ _ (one_stop c.args.line.now) (no_refusal c.args.line.now) (returns-in-Ok-clause-exact c) r h
+
+pub returns-in-Err-clause-only : goal.returns-in-Err-clause-only
+returns-in-Err-clause-only c r h = only _ _ _ (one_stop c.args.line.now) (no_refusal c.args.line.now) c.in-Err.ensures r h

@@ -1,7 +1,19 @@
--- `only`: a line spells one location, since columns 3 to 72 determine it (`one_tiploc`), and none if it is refused.
-use Rattle.cif_records.proofs.Judging.{only}
+-- Each value was found where its row says. A line spells one location (`one_tiploc`), and none if it is refused.
+use Rattle.std.proofs.Common.{Err, sym}
+use Rattle.cif_records.specs.Tiploc.{tiploc_refusal}
 use Rattle.cif_records.proofs.Tiplocs.{one_tiploc, no_refusal}
+use Rattle.cif_records.proofs.Judging.{only}
+use Rattle.cif_records.proofs.Rows.{◌&◌}
 use Rattle.cif_records.proofs.tiploc.Tiploc.read.Goals as goal
 
-pub returns-clause-only : goal.returns-clause-only
-returns-clause-only c t h = only _ _ _ (one_tiploc c.args.line.now) (no_refusal c.args.line.now) c.read.ensures t h
+pub returns-in-Ok-clause-exact : goal.returns-in-Ok-clause-exact
+unfolding tiploc_refusal
+returns-in-Ok-clause-exact c =
+    (rw c.in-Ok.ensures.0) & c.in-Ok.ensures.1 & sym c.columns_at.ensures.value & tt & tt
+
+pub returns-in-Ok-clause-only : goal.returns-in-Ok-clause-only
+returns-in-Ok-clause-only c r h = only _ _ _ (one_tiploc c.args.line.now) (no_refusal c.args.line.now) (returns-in-Ok-clause-exact c) r h
+
+pub returns-in-Err-clause-only : goal.returns-in-Err-clause-only
+unfolding tiploc_refusal
+returns-in-Err-clause-only c r h = only _ _ (Err c.in-Err.why) (one_tiploc c.args.line.now) (no_refusal c.args.line.now) (rw c.in-Err.ensures) r h

@@ -1,6 +1,6 @@
 -- No check found a reason, and what each found stands there.
 use Rattle.cif_records.specs.Association.{association_refusal}
-use Rattle.cif_records.proofs.association.AssociationLayout.check.Goals as goal
+use Rattle.cif_records.proofs.association.Association.applicability_at.Goals as goal
 
 pub returns : goal.returns
 unfolding association_refusal

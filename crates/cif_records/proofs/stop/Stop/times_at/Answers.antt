@@ -2,7 +2,7 @@
 use Rattle.std.proofs.lemmas.Result.{err_from_is_err_and}
 use Rattle.cif_records.specs.Stop.{stop_refusal}
 use Rattle.cif_records.proofs.Judging.{judged_err}
-use Rattle.cif_records.proofs.stop.StopLayout.check.Goals as goal
+use Rattle.cif_records.proofs.stop.Stop.times_at.Goals as goal
 
 pub returns-in_err-field_or-3 : goal.returns-in_err-field_or-3
 unfolding stop_refusal
