@@ -1,13 +1,17 @@
 -- What a line that is taken comes to, by its kind.
-use Rattle.std.proofs.Common.{◌≡◌, ◌∙◌, ℕ, true, List, Ok, Some, ap, refl, subst, sym}
+use Rattle.std.proofs.Common.{◌≡◌, ◌∙◌, ℕ, true, List, None, Option, Result, Err, Ok, Some, ap, refl, subst, sym}
 use Rattle.cif_columns.specs.Field.{AllStandIn, plain_line}
+use Rattle.cif_columns.specs.declared.refusal.Refusal.{Refusal}
 use Rattle.cif_extract.specs.OrderOfRecords.{after_extra, may_stand}
 use Rattle.cif_extract.specs.Steps.Reading.{GoesOnPlainly, IsKeepable, IsOnTheWay, IsTaken, Progress, keeping, kept, refusal_here, step}
-use Rattle.cif_extract.specs.Steps.Reading.{with_kept}
+use Rattle.cif_extract.specs.Steps.Reading.{IsKept, UnlessMemory, UnlessRefused, with_kept}
 use Rattle.cif_extract.specs.declared.place.Place.{Place}
 use Rattle.cif_extract.specs.declared.place.Place.TheVariants as at
+use Rattle.cif_extract.specs.declared.reading.TakeFault.{TakeFault}
+use Rattle.cif_extract.specs.declared.reading.TakeFault.TheVariants as untaken
+use Rattle.cif_records.specs.Checks.{IsJudged}
 use Rattle.cif_records.specs.Kind.{kind_in}
-use Rattle.cif_records.specs.Record.{record_refusal, record_table, refusal_as, SpellsRecord}
+use Rattle.cif_records.specs.Record.{IsPlainOf, record_refusal, record_table, refusal_as, SpellsRecord}
 use Rattle.cif_records.specs.declared.record.Kind.{Kind}
 use Rattle.cif_records.specs.declared.record.Kind.TheVariants.{Bx, Li, Lt}
 use Rattle.cif_records.specs.declared.record.Record.{Record}
@@ -26,6 +30,39 @@ pub refusal_of_record : (place : Place) (line : List ℕ) (kind : Kind) → kind
 unfolding record_refusal
 refusal_of_record place line kind is allowed = rw (is, allowed) (or_none (refusal_as (Some kind) line))
 
+-- what a step comes to says more
+module _ (refusal : Option Refusal) {P Q : Type 0} (so : P → Q) where
+  pub memory_so : (result : Result Unit TakeFault) → UnlessMemory P result → UnlessMemory Q result
+  memory_so (Ok done) h = so h
+  memory_so (Err (untaken.Refused why)) h = h
+  memory_so (Err untaken.Memory) h = tt
+
+  pub refused_so : (result : Result Unit TakeFault) → UnlessRefused refusal P result → UnlessRefused refusal Q result
+  refused_so (Ok done) h = (h.0, so h.1)
+  refused_so (Err (untaken.Refused why)) h = h
+  refused_so (Err untaken.Memory) h = tt
+
+  pub fine_so : (result : Result Unit TakeFault) → refusal ≡ None → UnlessMemory P result → UnlessRefused refusal Q result
+  fine_so (Ok done) fine h = (fine, so h)
+  fine_so (Err (untaken.Refused why)) fine h = absurd h
+  fine_so (Err untaken.Memory) fine h = tt
+
+-- a line whose plain line is kept
+pub kept_plain : (line plain : List ℕ) (p after : Progress) (result : Result Unit TakeFault)
+    → IsJudged (record_refusal line) (IsPlainOf Record record_table line) (Ok plain) → UnlessMemory (after ≡ keeping p plain) result
+    → IsKept (record_refusal line) line p result after
+kept_plain line plain p after result (fine, of) =
+    fine_so (record_refusal line) (λ is. (
+      of.value,
+      of.stands,
+      subst (λ l. AllStandIn l (record_table of.value)) of.same of.again,
+      is ∙ ap (keeping p) of.same,
+    )) result fine
+
+-- the kind of what a line spells, where it is known
+pub kind_here : (line : List ℕ) (r : Record) (kind : Kind) → SpellsRecord line r → kind_in line ≡ Some kind → record_kind r ≡ kind
+kind_here line r kind spells is = let there = spelled_kind line r spells in cc
+
 -- one step by a record whose line is kept
 module _ (p : Progress) where
   -- what the step comes to where the place after it is this
@@ -43,6 +80,20 @@ module _ (p : Progress) where
       IsStep (after_extra p.place) r
   step_extra (of.Extra x) h stands = (stands, refl)
   step_extra _ h stands = absurd (cc)
+
+  pub taken_on_the_way : (line : List ℕ) (after : Progress) (result : Result Unit TakeFault) → IsOnTheWay (kind_in line)
+      → IsKept (record_refusal line) line (record p { place = at.Journey }) result after
+      → IsTaken (record_refusal line) line p result after
+  taken_on_the_way line after result h = refused_so (record_refusal line) (λ (r, spells, again, is).
+      let (keepable, stepped) = step_on_the_way r (subst IsOnTheWay (spelled_kind line r spells) h) again in
+      (r, spells, keepable, is ∙ stepped)) result
+
+  pub taken_extra : (line : List ℕ) (after : Progress) (result : Result Unit TakeFault) → kind_in line ≡ Some Bx
+      → IsKept (record_refusal line) line (record p { place = after_extra p.place }) result after
+      → IsTaken (record_refusal line) line p result after
+  taken_extra line after result h = refused_so (record_refusal line) (λ (r, spells, again, is).
+      let (keepable, stepped) = step_extra r (kind_here line r Bx spells h) again in
+      (r, spells, keepable, is ∙ stepped)) result
 
 -- a plain line of a location on the way, where one may stand
 pub plain_stop : (p after : Progress) (line : List ℕ) → GoesOnPlainly p.place line → after ≡ keeping p line →
@@ -64,7 +115,3 @@ plain_stop p after line h is = (
 pub is_terminus : (r : Record) → record_kind r ≡ Lt → (t : Terminus) × (r ≡ of.Terminus t)
 is_terminus (of.Terminus x) h = (x, refl)
 is_terminus _ h = absurd (cc)
-
--- the kind of what a line spells, where it is known
-pub kind_here : (line : List ℕ) (r : Record) (kind : Kind) → SpellsRecord line r → kind_in line ≡ Some kind → record_kind r ≡ kind
-kind_here line r kind spells is = let there = spelled_kind line r spells in cc

@@ -169,10 +169,7 @@ impl Body {
         ensures { result ≡ self.now.extra }
     {
         if self.has_extra() {
-            match Extra::read(&self.second_line()) {
-                Ok(extra) => Some(extra),
-                Err(_) => unreachable!(),
-            }
+            Some(Extra::read(&self.second_line()).unwrap())
         } else {
             None
         }
@@ -182,11 +179,7 @@ impl Body {
     pub fn origin(&self) -> Origin
         ensures { result ≡ self.now.origin }
     {
-        let journey = self.journey();
-        match Origin::read(&journey.line(0)) {
-            Ok(origin) => origin,
-            Err(_) => unreachable!(),
-        }
+        Origin::read(&self.journey().line(0)).unwrap()
     }
 
     /// What is on its way, in order.
@@ -203,10 +196,7 @@ impl Body {
         ensures { result ≡ self.now.terminus }
     {
         let journey = self.journey();
-        match Terminus::read(&journey.line(journey.len() - 1)) {
-            Ok(terminus) => terminus,
-            Err(_) => unreachable!(),
-        }
+        Terminus::read(&journey.line(journey.len() - 1)).unwrap()
     }
 }
 

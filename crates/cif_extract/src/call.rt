@@ -26,15 +26,9 @@ impl Call {
         ensures { result ≡ call_in line.now }
     {
         if columns_at::<2>(line, 1) == *b"CR" {
-            match Change::read(line) {
-                Ok(change) => Call::Turn(change),
-                Err(_) => unreachable!(),
-            }
+            Call::Turn(Change::read(line).unwrap())
         } else {
-            match Stop::read(line) {
-                Ok(stop) => Call::At(stop),
-                Err(_) => unreachable!(),
-            }
+            Call::At(Stop::read(line).unwrap())
         }
     }
 

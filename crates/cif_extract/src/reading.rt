@@ -1,6 +1,6 @@
 //! Reading a whole extract, line by line.
 ghost use Rattle.std.specs.Prelude.{◌≡◌, ◌≤◌, ◌+◌, ◌^◌, ◌<◌, ◌++◌, ◌∷◌, [], List, Some, Ok, true, false};
-ghost use Rattle.std.specs.Prelude.{OnOk, IfOk, IfErr, IfSome, IsTrue};
+ghost use Rattle.std.specs.Prelude.{IfOk, IfErr, IfSome, IsTrue};
 ghost use Rattle.cif_columns.specs.Line.{IsLine};
 ghost use Rattle.cif_columns.specs.Source.{reader_of, source_failed};
 ghost use Rattle.cif_columns.specs.declared.line_reader.TheConstants.{MAX_LINES};
@@ -90,7 +90,7 @@ impl Reading {
     ghost use Rattle.cif_extract.specs.Body.{KeepSomeBody};
     ghost use Rattle.cif_extract.specs.Steps.Reading.{HasRead, IsClosed, IsKept, IsOnTheWay, IsTaken};
     ghost use Rattle.cif_extract.specs.Steps.Reading.{GoesOnPlainly, IsHeld, IsUnfinished, keeping, no_progress, progress_of};
-    ghost use Rattle.cif_extract.specs.Steps.Reading.{refusal_here};
+    ghost use Rattle.cif_extract.specs.Steps.Reading.{UnlessMemory, refusal_here};
     ghost use Rattle.cif_records.specs.declared.record.Record.{Record};
 
     /// The reading of no lines.
@@ -148,10 +148,10 @@ impl Reading {
     /// Takes the line of such columns, as `take` does. Nearly three in four lines are such, and are kept from
     /// where they were read.
     #[inline(always)]
-    pub(crate) fn take_plain_stop(&mut self, columns: &[u8; LINE_WIDTH]) -> Result<(), AllocError>
+    pub(crate) fn take_plain_stop(&mut self, columns: &[u8; LINE_WIDTH]) -> Result<(), TakeFault>
         requires { GoesOnPlainly self.old.place columns.now }
-        ensures { OnOk result (IsTaken (refusal_here self.old.place (kind_in columns.now) columns.now)
-            columns.now (progress_of self.old) (Ok tt) (progress_of self.new)) }
+        ensures { UnlessMemory (IsTaken (refusal_here self.old.place (kind_in columns.now) columns.now)
+            columns.now (progress_of self.old) (Ok tt) (progress_of self.new)) result }
     {
         self.keep_plain(&Line::of_printable(columns))
     }
@@ -204,9 +204,8 @@ impl Reading {
             (progress_of self.new) }
     {
         let tiploc = Tiploc::read(line)?;
-        push(&mut self.tiplocs, tiploc)?;
         self.place = Place::Tiplocs;
-        Ok(())
+        Reading::push(&mut self.tiplocs, tiploc)
     }
 
     #[inline(never)]
@@ -215,9 +214,8 @@ impl Reading {
             (progress_of self.new) }
     {
         let association = Association::read(line)?;
-        push(&mut self.associations, association)?;
         self.place = Place::Associations;
-        Ok(())
+        Reading::push(&mut self.associations, association)
     }
 
     #[inline(never)]
@@ -228,15 +226,14 @@ impl Reading {
         let terms = BasicTerms::read(line)?;
         if terms.has_body() {
             self.lines.clear();
-            self.lines.push(&Detail::line_of(line))?;
             self.opened = Some(terms);
             self.place = Place::Basic;
+            self.keep_plain(&Detail::line_of(line))
         } else {
-            push(&mut self.schedules, Schedule::of(terms, None))?;
             self.opened = None;
             self.place = Place::Cancelled;
+            Reading::push(&mut self.schedules, Schedule::of(terms, None))
         }
-        Ok(())
     }
 
     fn take_extra(&mut self, line: &Line) -> Result<(), TakeFault>
@@ -244,9 +241,8 @@ impl Reading {
         ensures { IsTaken (record_refusal line.now) line.now (progress_of self.old) result
             (progress_of self.new) }
     {
-        self.keep(Kind::Bx, line)?;
         self.place = self.place.after_extra();
-        Ok(())
+        self.keep(Kind::Bx, line)
     }
 
     /// A location or a change of a journey, but for its last location.
@@ -256,9 +252,8 @@ impl Reading {
         ensures { IsTaken (record_refusal line.now) line.now (progress_of self.old) result
             (progress_of self.new) }
     {
-        self.keep(kind, line)?;
         self.place = Place::Journey;
-        Ok(())
+        self.keep(kind, line)
     }
 
     fn take_terminus(&mut self, alloc: Global, line: &Line) -> Result<(), TakeFault>
@@ -284,8 +279,7 @@ impl Reading {
         ensures { IsClosed (progress_of self.old) terms result (progress_of self.new) }
     {
         let body = Body::of_lines(alloc, &self.lines)?;
-        push(&mut self.schedules, Schedule::of(terms, Some(body)))?;
-        Ok(())
+        Reading::push(&mut self.schedules, Schedule::of(terms, Some(body)))
     }
 
     /// Keeps the line of a record of this kind as its plain line, if the schedule that is being read
@@ -298,22 +292,21 @@ impl Reading {
     {
         // `plain_line_of` alone would do. Of most lines this spares the copy.
         if is_plain_line(kind, line) {
-            self.keep_plain(line)?;
+            self.keep_plain(line)
         } else {
-            self.keep_plain(&plain_line_of(kind, line)?)?;
+            self.keep_plain(&plain_line_of(kind, line)?)
         }
-        Ok(())
     }
 
     /// Keeps a plain line, if the schedule that is being read has a body.
     #[inline(always)]
-    fn keep_plain(&mut self, line: &Line) -> Result<(), AllocError>
-        ensures { OnOk result (progress_of self.new ≡ keeping (progress_of self.old) line.now) }
+    fn keep_plain(&mut self, line: &Line) -> Result<(), TakeFault>
+        ensures { UnlessMemory (progress_of self.new ≡ keeping (progress_of self.old) line.now) result }
     {
-        match &self.opened {
-            Some(_) => self.lines.push(line),
-            None => Ok(()),
+        if self.opened.is_some() {
+            self.lines.push(line)?;
         }
+        Ok(())
     }
 
     #[inline(never)]
@@ -325,14 +318,16 @@ impl Reading {
         self.place = Place::Ended;
         Ok(())
     }
-}
 
-/// Appends an item.
-fn push<T: Drop>(items: &mut Vec<T>, item: T) -> Result<(), AllocError>
-    ensures { OnOk result (items.new.items ≡ items.old.items ++ item ∷ []) }
-{
-    items.push(item)?;
-    Ok(())
+    /// Appends an item.
+    fn push<T: Drop>(items: &mut Vec<T>, item: T) -> Result<(), TakeFault>
+        ensures { UnlessMemory (items.new.items ≡ items.old.items ++ item ∷ []) result }
+    {
+        match items.push(item) {
+            Ok(()) => Ok(()),
+            Err(_) => Err(TakeFault::Memory),
+        }
+    }
 }
 
 /// Why a line is not taken into what was read.

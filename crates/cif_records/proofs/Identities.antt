@@ -1,5 +1,5 @@
 -- A kind is found by its identity, and by no other.
-use Rattle.std.proofs.Common.{◌≡◌, ℕ, Bool, true, false, cond, List, [], ◌∷◌, Some, IfSome, refl, subst, sym, find}
+use Rattle.std.proofs.Common.{◌≡◌, ℕ, Bool, true, false, cond, List, [], ◌∷◌, Some, IfSome, refl, sym, find}
 use Rattle.std.specs.Cmp.Lexicographic.{bytes_decides}
 use Rattle.cif_records.specs.Kind.{identity, kinds, is_identity}
 use Rattle.cif_records.specs.declared.record.Kind.{Kind}
@@ -30,7 +30,3 @@ only_kind letters Li e = rw e
 only_kind letters Cr e = rw e
 only_kind letters Lt e = rw e
 only_kind letters Zz e = rw e
-
--- a line that names a kind begins with its letters
-pub identity_of : (letters : List ℕ) (kind : Kind) → find (is_identity letters) kinds ≡ Some kind → letters ≡ identity kind
-identity_of letters kind e = subst (λ found. IfSome found (λ k. letters ≡ identity k)) e (found_kind letters kinds)

@@ -4,7 +4,7 @@ ghost use Rattle.cif_columns.specs.Field.{columns, plain_line};
 ghost use Rattle.cif_columns.specs.Line.{IsLine};
 ghost use Rattle.cif_records.specs.Checks.{IsJudged};
 ghost use Rattle.cif_records.specs.Kind.{identity, is_identity, kind_in};
-ghost use Rattle.cif_records.specs.Record.{IsPlainOf, SpellsRecord, record_refusal, record_table};
+ghost use Rattle.cif_records.specs.Record.{IsPlainOf, SpellsRecord, record_refusal, record_table, refusal_as};
 ghost use Rattle.cif_records.specs.declared.record.Kind.{Kind};
 ghost use Rattle.cif_records.specs.declared.record.Record.{Record};
 
@@ -143,16 +143,14 @@ pub fn read_record(line: &Line) -> Result<Record, Refusal>
     ensures only { (r : Record) → SpellsRecord line.now r → result ≡ Ok r }
 {
     match kind_of(line) {
-        Some(kind) => record_of(kind, line),
+        Some(kind) => read_as(kind, line),
         None => Err(Refusal::UnknownRecord),
     }
 }
 
-/// The record that the line, which names this kind, spells, or the first reason why it spells none.
-#[tactic(auto, unfolding(crate::specs::Record::record_refusal))]
-fn record_of(kind: Kind, line: &Line) -> Result<Record, Refusal>
-    requires { kind_in line.now ≡ Some kind }
-    ensures { IsJudged (record_refusal line.now) (SpellsRecord line.now) result }
+/// The record of this kind that the line spells, or the first reason why it spells none.
+fn read_as(kind: Kind, line: &Line) -> Result<Record, Refusal>
+    ensures { IsJudged (refusal_as (Some kind) line.now) (SpellsRecord line.now) result }
 {
     match kind {
         Kind::Li => Ok(Record::Stop(Stop::read(line)?)),
@@ -164,7 +162,10 @@ fn record_of(kind: Kind, line: &Line) -> Result<Record, Refusal>
         Kind::Aa => Ok(Record::Association(Association::read(line)?)),
         Kind::Ti => Ok(Record::Tiploc(Tiploc::read(line)?)),
         Kind::Hd => Ok(Record::Header(Header::read(line)?)),
-        Kind::Zz => Ok(Record::Trailer),
+        Kind::Zz => {
+            Trailer::read(line)?;
+            Ok(Record::Trailer)
+        }
         Kind::Ta | Kind::Td => Err(Refusal::NotFull),
     }
 }
@@ -203,7 +204,7 @@ pub fn plain_line_of(kind: Kind, line: &Line) -> Result<Line, Refusal>
     if is_plain_line(kind, line) {
         return Ok(*line);
     }
-    match record_of(kind, line) {
+    match read_as(kind, line) {
         Ok(record) => Ok(write_record(&record)),
         Err(why) => Err(why),
     }

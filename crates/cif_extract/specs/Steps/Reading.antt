@@ -141,25 +141,33 @@ IsKeepable (of.Association a) = Unit {0}
 IsKeepable of.Trailer = Unit {0}
 IsKeepable r = AllStandIn (plain_line (record_table r)) (record_table r)
 
--- what taking a line gives where this is the first reason to refuse it: the reason, or one step more with the record that it spells
+-- what a step that is refused for nothing gives: this, unless memory ran out
+abbrev pub UnlessMemory : Type 0 → Result Unit TakeFault → Type 0
+UnlessMemory P (Ok done) = P
+UnlessMemory P (Err (untaken.Refused why)) = ⊥
+UnlessMemory P (Err untaken.Memory) = Unit {0}
+
+-- what a step gives where this is the first reason to refuse its line: the reason, or this, unless memory ran out
+abbrev pub UnlessRefused : Option Refusal → Type 0 → Result Unit TakeFault → Type 0
+UnlessRefused refusal P (Ok done) = (refusal ≡ None) × P
+UnlessRefused refusal P (Err (untaken.Refused why)) = refusal ≡ Some why
+UnlessRefused refusal P (Err untaken.Memory) = Unit {0}
+
+-- taking a line comes to one step more with the record that it spells
 abbrev pub IsTaken : Option Refusal → List ℕ → Progress → Result Unit TakeFault → Progress → Type 0
-IsTaken refusal line before (Ok done) after = (refusal ≡ None) × ((r : Record) × SpellsRecord line r × IsKeepable r ×
-    (after ≡ step before r))
-IsTaken refusal line before (Err (untaken.Refused why)) after = refusal ≡ Some why
-IsTaken refusal line before (Err untaken.Memory) after = Unit {0}
+IsTaken refusal line before result after = UnlessRefused refusal ((r : Record) × SpellsRecord line r × IsKeepable r
+    × (after ≡ step before r)) result
 
--- what keeping a line gives where this is the first reason to refuse it: the reason, or its record's plain line more, if it is kept
+-- keeping a line comes to its record's plain line more, if it is kept
 abbrev pub IsKept : Option Refusal → List ℕ → Progress → Result Unit TakeFault → Progress → Type 0
-IsKept refusal line before (Ok done) after = (refusal ≡ None) × ((r : Record) × SpellsRecord line r
+IsKept refusal line before result after = UnlessRefused refusal ((r : Record) × SpellsRecord line r
     × AllStandIn (plain_line (record_table r)) (record_table r) × (after ≡ record before { lines = kept before.opened before.lines r }))
-IsKept refusal line before (Err (untaken.Refused why)) after = refusal ≡ Some why
-IsKept refusal line before (Err untaken.Memory) after = Unit {0}
+    result
 
--- what closing a schedule gives: one schedule more, with the body that the lines keep
+-- closing a schedule comes to one schedule more, with the body that the lines keep
 abbrev pub IsClosed : Progress → BasicTerms → Result Unit TakeFault → Progress → Type 0
-IsClosed before t (Ok done) after = after ≡ record before { schedules = closed before.schedules (Some t) before.lines }
-IsClosed before t (Err (untaken.Refused why)) after = ⊥
-IsClosed before t (Err untaken.Memory) after = Unit {0}
+IsClosed before t result after =
+    UnlessMemory (after ≡ record before { schedules = closed before.schedules (Some t) before.lines }) result
 
 -- The line is the plain line of a location on the way, and one may stand at this place.
 pub record GoesOnPlainly (place : Place) (line : List ℕ) : Type 0 where

@@ -1,33 +1,33 @@
 -- A line of some call spells a change or a stop, as columns 1 and 2 say (`turned`, `stopped`), so `read` can but give that.
-use Rattle.std.proofs.Common.{◌≡◌, ap, sym, ◌∙◌}
+use Rattle.std.proofs.Common.{◌≡◌, ap, is_ok, sym, ◌∙◌}
 use Rattle.cif_records.specs.Change.{change_in}
 use Rattle.cif_records.specs.Stop.{stop_in}
 use Rattle.cif_extract.specs.declared.call.Call.TheVariants.{At, Turn}
 use Rattle.cif_extract.proofs.CallLines.{stopped, turned}
 use Rattle.cif_extract.proofs.call.Call.read.Goals as goal
 
-pub unreachable-requires : goal.unreachable-requires
-unreachable-requires c =
+pub unwrap-requires : goal.unwrap-requires
+unwrap-requires c =
     let h = turned c.args.line.now c.columns_at.result c.requires c.columns_at.ensures.value (sym c.eq.ensures ∙ c.if-eq.true) in
-    let it = c.read.ensures.only (change_in c.args.line.now) h.1 in
-    cc
+    ap is_ok (c.read.ensures.only (change_in c.args.line.now) h.1)
 
-pub unreachable-requires-in-Err-read : goal.unreachable-requires-in-Err-read
-unreachable-requires-in-Err-read c =
+pub unwrap-requires-else-eq : goal.unwrap-requires-else-eq
+unwrap-requires-else-eq c =
     let h = stopped c.args.line.now c.columns_at.result c.requires c.columns_at.ensures.value (sym c.eq.ensures ∙ c.if-eq.false) in
-    let it = c.read-else-eq.ensures.only (stop_in c.args.line.now) h.1 in
-    cc
+    ap is_ok (c.read-else-eq.ensures.only (stop_in c.args.line.now) h.1)
 
-pub returns-in-Ok : goal.returns-in-Ok
-returns-in-Ok c =
+pub returns-then-eq : goal.returns-then-eq
+returns-then-eq c =
     let h = turned c.args.line.now c.columns_at.result c.requires c.columns_at.ensures.value (sym c.eq.ensures ∙ c.if-eq.true) in
     let it = c.read.ensures.only (change_in c.args.line.now) h.1 in
-    let same : c.in-Ok.change ≡ change_in c.args.line.now = cc in
+    let given = c.unwrap.ensures in
+    let same : c.unwrap.result ≡ change_in c.args.line.now = cc in
     ap Turn same ∙ sym h.0
 
-pub returns-in-Ok-read : goal.returns-in-Ok-read
-returns-in-Ok-read c =
+pub returns-else-eq : goal.returns-else-eq
+returns-else-eq c =
     let h = stopped c.args.line.now c.columns_at.result c.requires c.columns_at.ensures.value (sym c.eq.ensures ∙ c.if-eq.false) in
     let it = c.read-else-eq.ensures.only (stop_in c.args.line.now) h.1 in
-    let same : c.in-Ok-read.stop ≡ stop_in c.args.line.now = cc in
+    let given = c.unwrap-else-eq.ensures in
+    let same : c.unwrap-else-eq.result ≡ stop_in c.args.line.now = cc in
     ap At same ∙ sym h.0

@@ -7,39 +7,34 @@ use Rattle.cif_records.specs.declared.basic.BasicTerms.{BasicTerms}
 use Rattle.cif_records.specs.declared.record.Record.TheVariants as of
 use Rattle.cif_records.proofs.Basics.{detail_there, no_detail_there}
 use Rattle.cif_extract.proofs.BasicSteps.{begun_none, begun_some, keepable_none, keepable_some}
+use Rattle.cif_extract.proofs.TakenLines.{fine_so}
 use Rattle.cif_extract.proofs.reading.Reading.take_basic.Goals as goal
 
-pub returns-in_ok-push : goal.returns-in_ok-push
-returns-in_ok-push c =
+pub returns-then-has_body : goal.returns-then-has_body
+returns-then-has_body c =
     let (fine, there) = c.in_ok-terms.ensures in
     let b = there.basic in
     let has : has_body b.letter ≡ true =
     ap (λ (t : BasicTerms). has_body t.letter) (sym there.terms) ∙ sym c.has_body.ensures ∙ c.if-has_body.true in
     let some = detail_there c.args.line.now b there.spells has in
-    let put : ◌≡◌ {A = List (List ℕ)} c.push.new.self (c.line_of.result ∷ []) = rw (c.in_ok-push.ensures, c.clear.ensures) refl in (
-      fine,
-      (
-        of.Basic b,
-        there.spells,
-        keepable_some b (detail_in c.args.line.now) c.line_of.result some c.line_of.ensures.plain c.line_of.ensures.again,
-        rw (put, c.line_of.ensures.plain)
-            (begun_some (progress_of c.args.self.now) b _ there.terms b.detail b.bodied (detail_in c.args.line.now) some),
-      ),
-    )
+    fine_so _ (λ is. (
+      of.Basic b,
+      there.spells,
+      keepable_some b (detail_in c.args.line.now) c.line_of.result some c.line_of.ensures.plain c.line_of.ensures.again,
+      is ∙ rw (c.clear.ensures, c.line_of.ensures.plain)
+          (begun_some (progress_of c.args.self.now) b _ there.terms b.detail b.bodied (detail_in c.args.line.now) some),
+    )) c.keep_plain.result fine c.keep_plain.ensures
 
-pub returns-in_ok-push-2 : goal.returns-in_ok-push-2
-returns-in_ok-push-2 c =
+pub returns-else-has_body : goal.returns-else-has_body
+returns-else-has_body c =
     let (fine, there) = c.in_ok-terms.ensures in
     let b = there.basic in
     let lacks : has_body b.letter ≡ false =
     ap (λ (t : BasicTerms). has_body t.letter) (sym there.terms) ∙ sym c.has_body.ensures ∙ c.if-has_body.false in
-    let none = no_detail_there b lacks in (
-      fine,
-      (
-        of.Basic b,
-        there.spells,
-        keepable_none b none,
-        rw c.in_ok-push-2.ensures
-            (begun_none (progress_of c.args.self.now) b _ there.terms b.detail b.bodied none c.of.result c.of.ensures),
-      ),
-    )
+    let none = no_detail_there b lacks in
+    fine_so _ (λ is. (
+      of.Basic b,
+      there.spells,
+      keepable_none b none,
+      rw is (begun_none (progress_of c.args.self.now) b _ there.terms b.detail b.bodied none c.of.result c.of.ensures),
+    )) c.push.result fine c.push.ensures

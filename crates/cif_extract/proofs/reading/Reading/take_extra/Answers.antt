@@ -1,22 +1,9 @@
--- `keep` names the record; by its kind it is a BX (`kind_here`), so it and the place after one are the step (`step_extra`).
-use Rattle.std.proofs.Common.{ap, ◌∙◌}
-use Rattle.cif_extract.specs.OrderOfRecords.{after_extra}
-use Rattle.cif_extract.specs.Steps.Reading.{Progress, progress_of}
-use Rattle.cif_extract.proofs.TakenLines.{kind_here, step_extra}
-use Rattle.cif_records.specs.declared.record.Kind.TheVariants.{Bx}
+-- The place is the one after a BX already: what is kept then is the step (`taken_extra`).
+use Rattle.cif_extract.specs.Steps.Reading.{progress_of}
+use Rattle.cif_extract.proofs.TakenLines.{taken_extra}
 use Rattle.cif_extract.proofs.reading.Reading.take_extra.Goals as goal
 
 pub returns : goal.returns
 returns c =
-    let (fine, taken) = c.in_ok-keep.ensures in
-    let (r, spells, again, is) = taken in
-    let (keepable, stepped) = step_extra (progress_of c.args.self.now) r (kind_here c.args.line.now r Bx spells c.requires) again in (
-      fine,
-      (
-        r,
-        spells,
-        keepable,
-        rw c.after_extra-self.ensures
-            (ap (λ (p : Progress). record p { place = after_extra p.place }) is ∙ stepped),
-      ),
-    )
+    taken_extra (progress_of c.args.self.now) c.args.line.now (progress_of c.keep.new.self) c.keep.result c.requires
+    (rw c.after_extra-self.ensures at c.keep.ensures)
