@@ -6,10 +6,11 @@ ghost use Rattle.cif_records.specs.Record.{SpellsRecord, record_table};
 
 use cif_columns::{Line, LineSlice, columns_at};
 use cif_records::{Change, Stop};
+use std::fmt;
 use std::marker::Model;
 
 /// What a journey has between its first and its last location.
-#[derive(Debug, Drop, PartialEq, Eq)]
+#[derive(Drop, PartialEq, Eq)]
 pub enum Call {
     /// `LI`, a location where it stops or passes.
     At(Stop),
@@ -40,6 +41,16 @@ impl Call {
         match self {
             Call::At(stop) => stop.write(),
             Call::Turn(change) => change.write(),
+        }
+    }
+}
+
+/// The plain line of its record.
+impl fmt::Debug for Call {
+    fn fmt<W: fmt::Write>(&self, f: &mut fmt::Formatter<W>) -> fmt::Result {
+        match self {
+            Call::At(stop) => fmt::Debug::fmt(stop, f),
+            Call::Turn(change) => fmt::Debug::fmt(change, f),
         }
     }
 }

@@ -4,7 +4,7 @@ ghost use Rattle.cif_columns.specs.Field.{AllStandIn, plain_line};
 ghost use Rattle.cif_columns.specs.Line.{IsLine};
 ghost use Rattle.cif_records.specs.Detail.{alone_in, detail_in, detail_rows, detail_table};
 
-use crate::layout;
+use crate::layout::{self, Layout};
 use cif_columns::{Field, Line, LineBuilder, PlainTest, Text, columns_at, text_at};
 use std::fmt;
 
@@ -61,6 +61,37 @@ static PLAIN: PlainTest = PlainTest {
     hour: *b"~~~~~~~~~~~~~~~~~~~~~~~~~~~~~~~~",
 };
 
+impl Layout for Detail {
+    ghost use Rattle.std.specs.Prelude.{refl};
+    ghost use Rattle.cif_records.specs.Detail.{detail_table};
+
+    ghost table = { detail_table };
+
+    fn put_rows(&self, line: &mut LineBuilder) {
+        line.put_spare::<29>();
+        self.status.put_on(line);
+        self.category.put_on(line);
+        self.identity.put_on(line);
+        self.headcode.put_on(line);
+        self.course.put_on(line);
+        self.service_code.put_on(line);
+        self.sector.put_on(line);
+        self.power.put_on(line);
+        self.timing_load.put_on(line);
+        self.speed.put_on(line);
+        self.characteristics.put_on(line);
+        self.class.put_on(line);
+        self.sleepers.put_on(line);
+        self.reservations.put_on(line);
+        self.connection.put_on(line);
+        self.catering.put_on(line);
+        self.branding.put_on(line);
+        line.put_spare::<2>();
+    }
+
+    ghost whole = { λ d. refl };
+}
+
 impl Detail {
     /// The detail in columns 30 to 78, whatever the other columns are. There is always one.
     pub fn read(line: &Line) -> Detail
@@ -93,27 +124,7 @@ impl Detail {
         ensures plain { result ≡ plain_line (detail_table self.now) }
         ensures again { AllStandIn result (detail_table self.now) }
     {
-        let mut line = LineBuilder::new();
-        line.put_spare::<29>();
-        self.status.put_on(&mut line);
-        self.category.put_on(&mut line);
-        self.identity.put_on(&mut line);
-        self.headcode.put_on(&mut line);
-        self.course.put_on(&mut line);
-        self.service_code.put_on(&mut line);
-        self.sector.put_on(&mut line);
-        self.power.put_on(&mut line);
-        self.timing_load.put_on(&mut line);
-        self.speed.put_on(&mut line);
-        self.characteristics.put_on(&mut line);
-        self.class.put_on(&mut line);
-        self.sleepers.put_on(&mut line);
-        self.reservations.put_on(&mut line);
-        self.connection.put_on(&mut line);
-        self.catering.put_on(&mut line);
-        self.branding.put_on(&mut line);
-        line.put_spare::<2>();
-        line.finish()
+        layout::write(self)
     }
 
     /// The line of its own of the detail in columns 30 to 78, whatever the other columns are: what

@@ -1,0 +1,20 @@
+-- Each row is put behind those before (`put`), and fits, as the call that put it says.
+use Rattle.cif_records.proofs.Rows.{◌&◌, put}
+use Rattle.cif_records.proofs.detail.DetailLayout.put_rows.Goals as goal
+
+pub returns-clause-columns : goal.returns-clause-columns
+returns-clause-columns c =
+    put _ c.put_spare-2.ensures.columns (put _ c.put_on-17.ensures.columns (put _ c.put_on-16.ensures.columns
+    (put _ c.put_on-15.ensures.columns (put _ c.put_on-14.ensures.columns (put _ c.put_on-13.ensures.columns
+    (put _ c.put_on-12.ensures.columns (put _ c.put_on-11.ensures.columns (put _ c.put_on-10.ensures.columns
+    (put _ c.put_on-9.ensures.columns (put _ c.put_on-8.ensures.columns (put _ c.put_on-7.ensures.columns
+    (put _ c.put_on-6.ensures.columns (put _ c.put_on-5.ensures.columns (put _ c.put_on-4.ensures.columns
+    (put _ c.put_on-3.ensures.columns (put _ c.put_on-2.ensures.columns (put _ c.put_on.ensures.columns
+    (put _ c.put_spare.ensures.columns c.requires))))))))))))))))))
+
+pub returns-clause-fits : goal.returns-clause-fits
+returns-clause-fits c =
+    tt & c.put_on.ensures.fits & c.put_on-2.ensures.fits & c.put_on-3.ensures.fits & c.put_on-4.ensures.fits & c.put_on-5.ensures.fits
+    & c.put_on-6.ensures.fits & c.put_on-7.ensures.fits & c.put_on-8.ensures.fits & c.put_on-9.ensures.fits & c.put_on-10.ensures.fits
+    & c.put_on-11.ensures.fits & c.put_on-12.ensures.fits & c.put_on-13.ensures.fits & c.put_on-14.ensures.fits
+    & c.put_on-15.ensures.fits & c.put_on-16.ensures.fits & c.put_on-17.ensures.fits & tt & tt
