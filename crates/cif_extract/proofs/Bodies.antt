@@ -1,8 +1,9 @@
 -- The lines that keep a body and its parts determine each other.
 use Rattle.std.proofs.Common.{◌≡◌, ℕ, suc, ◌-◌, ◌<◌, Bool, true, false, cond, Option, None, Some, IfSome, is_some, Result, Ok, All}
 use Rattle.std.proofs.Common.{List, [], ◌∷◌, ◌++◌, length, map, take, drop, get_or, length-append}
-use Rattle.std.proofs.Common.{refl, sym, ◌∙◌, ap, subst, arith}
+use Rattle.std.proofs.Common.{Err, refl, sym, ◌∙◌, ap, subst, arith}
 use Rattle.std.specs.List.{slice_range}
+use Rattle.std.specs.Result.{result_ok}
 use Rattle.std.proofs.lemmas.List.Elements.{All-nil, All-cons}
 use Rattle.std.proofs.Math.Seq.{take-append_seam, get_or-append_seam}
 use Rattle.cif_columns.specs.Field.{Row, AllStandIn, plain_line}
@@ -13,7 +14,8 @@ use Rattle.cif_extract.specs.Call.{SpellsSomeCall, call_in, call_record}
 use Rattle.cif_extract.specs.Laws.SameBody.{same_values}
 use Rattle.cif_extract.specs.declared.call.Call.{Call}
 use Rattle.cif_records.specs.Detail.{detail_table}
-use Rattle.cif_records.specs.Extra.{SpellsExtra, extra_in}
+use Rattle.cif_records.specs.Checks.{IsJudged}
+use Rattle.cif_records.specs.Extra.{SpellsExtra, extra_in, extra_refusal}
 use Rattle.cif_records.specs.Record.{SpellsRecord, record_table}
 use Rattle.cif_records.specs.Origin.{SpellsOrigin}
 use Rattle.cif_records.specs.Terminus.{SpellsTerminus}
@@ -198,12 +200,15 @@ spells_terminus lines p line k is =
     let there = journey lines p k in
     subst (λ l. SpellsTerminus l p.terminus) (sym is) there.ended
 
--- the BX that a line spells is read from it
-pub extra_read : (line : List ℕ) (extra : Option Extra) (result : Result Extra Refusal) → is_some extra ≡ true
-    → IfSome extra (λ e. SpellsRecord line (of.Extra e)) → ((e : Extra) → SpellsExtra line e → result ≡ Ok e)
-    → (e : Extra) × (result ≡ Ok e) × (extra ≡ Some e)
-extra_read line None result some further only = cc
-extra_read line (Some e) result some further only = (e, only e further, refl)
+-- the BX that a line spells is read from it, and none from another line
+pub extra_read : (line : List ℕ) (extra : Option Extra) (result : Result Extra Refusal) → is_extra line ≡ is_some extra
+    → IfSome extra (λ e. SpellsRecord line (of.Extra e)) → IsJudged (extra_refusal line) (SpellsExtra line) result
+    → ((e : Extra) → SpellsExtra line e → result ≡ Ok e) → result_ok result ≡ extra
+extra_read line (Some e) result marked further judged only = ap result_ok (only e further)
+extra_read line None (Ok e) marked further judged only =
+    let there : is_extra line ≡ true = rw judged.1.0 in
+    absurd (cc)
+extra_read line None (Err why) marked further judged only = refl
 
 -- lines that keep equal parts are equal
 pub same_lines : (xs ys : List (List ℕ)) (p : BodyParts) → KeepBody xs p → KeepBody ys p → xs ≡ ys

@@ -150,11 +150,9 @@ impl Body {
     fn journey(&self) -> LineSlice<'_>
         ensures { KeepJourney result self.now }
     {
-        if self.has_extra() {
-            self.lines.as_slice().behind(2)
-        } else {
-            self.lines.as_slice().behind(1)
-        }
+        self.lines
+            .as_slice()
+            .behind(1 + usize::from(self.has_extra()))
     }
 
     /// Columns 30 to 78 of its BS.
@@ -168,11 +166,8 @@ impl Body {
     pub fn extra(&self) -> Option<Extra>
         ensures { result ≡ self.now.extra }
     {
-        if self.has_extra() {
-            Some(Extra::read(&self.second_line()).unwrap())
-        } else {
-            None
-        }
+        // No LO is read as a BX.
+        Extra::read(&self.second_line()).ok()
     }
 
     /// Where its journey begins.

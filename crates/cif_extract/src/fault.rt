@@ -12,7 +12,7 @@ use std::error::Error;
 use std::fmt;
 
 /// Why a job on an extract isn't done.
-#[derive(Debug, Drop, PartialEq, Eq)]
+#[derive(Drop, PartialEq, Eq)]
 pub enum Fault {
     /// The first refused line, counted from 1, and its reason.
     Refused { line: u64, why: Refusal },
@@ -107,6 +107,13 @@ impl fmt::Display for Fault {
     }
 }
 
+/// Its text.
+impl fmt::Debug for Fault {
+    fn fmt<W: fmt::Write>(&self, f: &mut fmt::Formatter<W>) -> fmt::Result {
+        fmt::Display::fmt(self, f)
+    }
+}
+
 impl Error for Fault {}
 
 impl From<LineFault> for Fault {
@@ -134,7 +141,7 @@ impl From<WriteFault> for Fault {
 
 /// A key and the first of its dates on which records of the winning letter have different bodies
 /// (this profile).
-#[derive(Debug, Drop, PartialEq, Eq)]
+#[derive(Drop, PartialEq, Eq)]
 pub enum Clash {
     /// Two associations of one key.
     Association(AssocKey, Day),
@@ -202,5 +209,12 @@ impl fmt::Display for Clash {
 
     fn fmt<W: fmt::Write>(&self, f: &mut fmt::Formatter<W>) -> fmt::Result {
         f.write_str(self.text().as_str())
+    }
+}
+
+/// Its text.
+impl fmt::Debug for Clash {
+    fn fmt<W: fmt::Write>(&self, f: &mut fmt::Formatter<W>) -> fmt::Result {
+        fmt::Display::fmt(self, f)
     }
 }

@@ -24,7 +24,7 @@ use cif_records::{
     Association, BasicTerms, Detail, Header, Kind, Stop, Tiploc, Trailer, is_plain_line, kind_of,
     plain_line_of,
 };
-use std::alloc::{AllocError, Global};
+use std::alloc::Global;
 
 /// The extract that the source's lines spell, of which at most `max_lines` may come.
 ///
@@ -278,8 +278,10 @@ impl Reading {
         requires runs { true ≡ has_body terms.letter }
         ensures { IsClosed (progress_of self.old) terms result (progress_of self.new) }
     {
-        let body = Body::of_lines(alloc, &self.lines)?;
-        Reading::push(&mut self.schedules, Schedule::of(terms, Some(body)))
+        match Body::of_lines(alloc, &self.lines) {
+            Ok(body) => Reading::push(&mut self.schedules, Schedule::of(terms, Some(body))),
+            Err(_) => Err(TakeFault::Memory),
+        }
     }
 
     /// Keeps the line of a record of this kind as its plain line, if the schedule that is being read
@@ -303,8 +305,8 @@ impl Reading {
     fn keep_plain(&mut self, line: &Line) -> Result<(), TakeFault>
         ensures { UnlessMemory (progress_of self.new ≡ keeping (progress_of self.old) line.now) result }
     {
-        if self.opened.is_some() {
-            self.lines.push(line)?;
+        if self.opened.is_some() && self.lines.push(line).is_err() {
+            return Err(TakeFault::Memory);
         }
         Ok(())
     }
@@ -344,16 +346,6 @@ impl From<Refusal> for TakeFault {
 
     fn from(why: Refusal) -> TakeFault {
         TakeFault::Refused(why)
-    }
-}
-
-impl From<AllocError> for TakeFault {
-    ghost use Rattle.cif_extract.specs.declared.reading.TakeFault.TheVariants.{Memory};
-
-    ghost from_gives = { λ _ fault. fault ≡ Memory };
-
-    fn from(_error: AllocError) -> TakeFault {
-        TakeFault::Memory
     }
 }
 

@@ -1,23 +1,18 @@
 -- The journey is behind one line or two, as there is a BX (`journey_at`).
-use Rattle.std.proofs.Common.{true, false, ap, drop, length, subst, sym, ◌∙◌, arith}
+use Rattle.std.proofs.Common.{◌≡◌, ◌+◌, Bool, true, false, cond, ap, drop, length, refl, subst, sym, ◌∙◌, arith}
+use Rattle.std.specs.Int.{from_bool}
 use Rattle.cif_extract.specs.Body.{KeepJourney}
 use Rattle.cif_extract.proofs.Bodies.{journey_at, kept_view}
 use Rattle.cif_extract.proofs.body.Body.journey.Goals as goal
 
-pub behind-requires : goal.behind-requires
-behind-requires c =
-    let h = kept_view c.self.inside.lines c.args.self.now c.self.invariant c.self.view_is in
-    omega (arith, h.longer, ap length c.as_slice.ensures)
+one_or_two : (some : Bool) → 1 + from_bool some ≡ cond some 2 1
+one_or_two true = refl
+one_or_two false = refl
 
-pub returns-then-has_extra : goal.returns-then-has_extra
-returns-then-has_extra c =
+pub returns : goal.returns
+returns c =
     let h = kept_view c.self.inside.lines c.args.self.now c.self.invariant c.self.view_is in
-    subst (λ lines. KeepJourney lines c.args.self.now) (sym (c.behind.ensures ∙ ap (drop 2) c.as_slice.ensures))
-    (journey_at c.self.inside.lines c.args.self.now true h c.if-has_extra.ensures)
-
-pub returns-else-has_extra : goal.returns-else-has_extra
-returns-else-has_extra c =
-    let h = kept_view c.self.inside.lines c.args.self.now c.self.invariant c.self.view_is in
-    subst (λ lines. KeepJourney lines c.args.self.now)
-    (sym (c.behind-else-has_extra.ensures ∙ ap (drop 1) c.as_slice-else-has_extra.ensures))
-    (journey_at c.self.inside.lines c.args.self.now false h c.if-has_extra.ensures)
+    let behind = c.behind.ensures ∙ ap (drop (1 + c.from.result)) c.as_slice.ensures
+    ∙ ap (λ n. drop n c.self.inside.lines) (ap (λ n. 1 + n) c.from.ensures ∙ one_or_two c.has_extra.result) in
+    subst (λ lines. KeepJourney lines c.args.self.now) (sym behind)
+    (journey_at c.self.inside.lines c.args.self.now c.has_extra.result h c.has_extra.ensures)

@@ -7,11 +7,11 @@ use Rattle.cif_extract.proofs.Schedules.{closed_some}
 use Rattle.cif_extract.proofs.TakenLines.{memory_so}
 use Rattle.cif_extract.proofs.reading.Reading.close.Goals as goal
 
-pub returns : goal.returns
-returns c =
+pub returns-in-Ok : goal.returns-in-Ok
+returns-in-Ok c =
     let before : Progress = progress_of c.args.self.now in
     let runs = c.requires.runs in
     memory_so None (λ is. ap (λ (schedules : List Schedule). record before { schedules = schedules })
     (is ∙ ap (λ (s : Schedule). before.schedules ++ (s ∷ []))
-    (c.of.ensures runs ∙ ap (λ (b : BodyParts). schedule_of c.args.terms (Some b) runs) c.in_ok-body.ensures)
+    (c.of.ensures runs ∙ ap (λ (b : BodyParts). schedule_of c.args.terms (Some b) runs) c.in-Ok.ensures)
     ∙ sym (closed_some before.schedules c.args.terms before.lines runs))) c.push.result c.push.ensures
