@@ -139,20 +139,12 @@ impl Body {
         self.lines.as_slice().line(1)
     }
 
-    /// Whether it has a BX.
-    fn has_extra(&self) -> bool
-        ensures { result ≡ is_some self.now.extra }
-    {
-        columns_at::<2>(&self.second_line(), 1) == *b"BX"
-    }
-
     /// The lines from LO to LT.
     fn journey(&self) -> LineSlice<'_>
         ensures { KeepJourney result self.now }
     {
-        self.lines
-            .as_slice()
-            .behind(1 + usize::from(self.has_extra()))
+        let has_extra = columns_at(&self.second_line(), 1) == *b"BX";
+        self.lines.as_slice().behind(1 + usize::from(has_extra))
     }
 
     /// Columns 30 to 78 of its BS.

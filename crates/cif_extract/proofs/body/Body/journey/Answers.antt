@@ -1,6 +1,7 @@
--- The journey is behind one line or two, as there is a BX (`journey_at`).
-use Rattle.std.proofs.Common.{◌≡◌, ◌+◌, Bool, true, false, cond, ap, drop, length, refl, subst, sym, ◌∙◌, arith}
+-- The journey is behind one line or two, as the second is a BX (`journey_at`): columns 1 and 2 of it are compared.
+use Rattle.std.proofs.Common.{◌≡◌, ◌+◌, ℕ, List, Bool, true, false, cond, ap, codes, drop, refl, subst, sym, ◌∙◌}
 use Rattle.std.specs.Int.{from_bool}
+use Rattle.std.specs.Str.{bytes_eq}
 use Rattle.cif_extract.specs.Body.{KeepJourney}
 use Rattle.cif_extract.proofs.Bodies.{journey_at, kept_view}
 use Rattle.cif_extract.proofs.body.Body.journey.Goals as goal
@@ -12,7 +13,9 @@ one_or_two false = refl
 pub returns : goal.returns
 returns c =
     let h = kept_view c.self.inside.lines c.args.self.now c.self.invariant c.self.view_is in
+    let there = c.eq-has_extra.ensures ∙ ap (λ (l : List ℕ). bytes_eq l (codes "BX")) c.columns_at.ensures.value
+    ∙ c.second_line.ensures.marked in
     let behind = c.behind.ensures ∙ ap (drop (1 + c.from.result)) c.as_slice.ensures
-    ∙ ap (λ n. drop n c.self.inside.lines) (ap (λ n. 1 + n) c.from.ensures ∙ one_or_two c.has_extra.result) in
+    ∙ ap (λ n. drop n c.self.inside.lines) (ap (λ n. 1 + n) c.from.ensures ∙ one_or_two c.eq-has_extra.result) in
     subst (λ lines. KeepJourney lines c.args.self.now) (sym behind)
-    (journey_at c.self.inside.lines c.args.self.now c.has_extra.result h c.has_extra.ensures)
+    (journey_at c.self.inside.lines c.args.self.now c.eq-has_extra.result h there)
