@@ -2,8 +2,8 @@
 use Rattle.std.proofs.Common.{◌≡◌, ◌∙◌, ℕ, true, List, None, Option, Result, Err, Ok, Some, ap, refl, subst, sym}
 use Rattle.cif_columns.specs.Field.{AllStandIn, plain_line}
 use Rattle.cif_columns.specs.declared.refusal.Refusal.{Refusal}
-use Rattle.cif_extract.specs.OrderOfRecords.{after_extra, may_stand}
-use Rattle.cif_extract.specs.Steps.Reading.{GoesOnPlainly, IsKeepable, IsOnTheWay, IsTaken, Progress, keeping, kept, refusal_here, step}
+use Rattle.cif_extract.specs.OrderOfRecords.{after_further, may_stand}
+use Rattle.cif_extract.specs.Steps.Reading.{GoesOnPlainly, IsFurther, IsKeepable, IsTaken, Progress, keeping, kept, refusal_here, step}
 use Rattle.cif_extract.specs.Steps.Reading.{IsKept, UnlessMemory, UnlessRefused, with_kept}
 use Rattle.cif_extract.specs.declared.place.Place.{Place}
 use Rattle.cif_extract.specs.declared.place.Place.TheVariants as at
@@ -13,7 +13,7 @@ use Rattle.cif_records.specs.Checks.{IsJudged}
 use Rattle.cif_records.specs.Kind.{kind_in}
 use Rattle.cif_records.specs.Record.{IsPlainOf, record_refusal, record_table, refusal_as, SpellsRecord}
 use Rattle.cif_records.specs.declared.record.Kind.{Kind}
-use Rattle.cif_records.specs.declared.record.Kind.TheVariants.{Bx, Li, Lt}
+use Rattle.cif_records.specs.declared.record.Kind.TheVariants.{Li, Lt}
 use Rattle.cif_records.specs.declared.record.Record.{Record}
 use Rattle.cif_records.specs.declared.record.Record.TheVariants as of
 use Rattle.cif_records.specs.declared.terminus.Terminus.{Terminus}
@@ -69,31 +69,22 @@ module _ (p : Progress) where
   abbrev pub IsStep : Place → Record → Type 0
   IsStep place r = IsKeepable r × (record p { place = place; lines = kept p.opened p.lines r } ≡ step p r)
 
-  pub step_on_the_way : (r : Record) → IsOnTheWay (Some (record_kind r)) → AllStandIn (plain_line (record_table r)) (record_table r) →
-      IsStep at.Journey r
-  step_on_the_way (of.Origin x) h stands = (stands, refl)
-  step_on_the_way (of.Stop x) h stands = (stands, refl)
-  step_on_the_way (of.Change x) h stands = (stands, refl)
-  step_on_the_way _ h stands = absurd h
+  step_further : (r : Record) → IsFurther (Some (record_kind r)) → AllStandIn (plain_line (record_table r)) (record_table r) →
+      IsStep (after_further p.place (record_kind r)) r
+  step_further (of.Extra x) h stands = (stands, refl)
+  step_further (of.Origin x) h stands = (stands, refl)
+  step_further (of.Stop x) h stands = (stands, refl)
+  step_further (of.Change x) h stands = (stands, refl)
+  step_further _ h stands = absurd h
 
-  pub step_extra : (r : Record) → record_kind r ≡ Bx → AllStandIn (plain_line (record_table r)) (record_table r) →
-      IsStep (after_extra p.place) r
-  step_extra (of.Extra x) h stands = (stands, refl)
-  step_extra _ h stands = absurd (cc)
-
-  pub taken_on_the_way : (line : List ℕ) (after : Progress) (result : Result Unit TakeFault) → IsOnTheWay (kind_in line)
-      → IsKept (record_refusal line) line (record p { place = at.Journey }) result after
+  pub taken_further : (line : List ℕ) (kind : Kind) (after : Progress) (result : Result Unit TakeFault) → kind_in line ≡ Some kind
+      → IsFurther (kind_in line) → IsKept (record_refusal line) line (record p { place = after_further p.place kind }) result after
       → IsTaken (record_refusal line) line p result after
-  taken_on_the_way line after result h = refused_so (record_refusal line) (λ (r, spells, again, is).
-      let (keepable, stepped) = step_on_the_way r (subst IsOnTheWay (spelled_kind line r spells) h) again in
-      (r, spells, keepable, is ∙ stepped)) result
-
-  pub taken_extra : (line : List ℕ) (after : Progress) (result : Result Unit TakeFault) → kind_in line ≡ Some Bx
-      → IsKept (record_refusal line) line (record p { place = after_extra p.place }) result after
-      → IsTaken (record_refusal line) line p result after
-  taken_extra line after result h = refused_so (record_refusal line) (λ (r, spells, again, is).
-      let (keepable, stepped) = step_extra r (kind_here line r Bx spells h) again in
-      (r, spells, keepable, is ∙ stepped)) result
+  taken_further line kind after result is h = refused_so (record_refusal line) (λ (r, spells, again, now).
+      let (keepable, stepped) = step_further r (subst IsFurther (spelled_kind line r spells) h) again in
+      let placed = ap (λ k. record p { place = after_further p.place k; lines = kept p.opened p.lines r })
+      (sym (kind_here line r kind spells is)) in
+      (r, spells, keepable, now ∙ placed ∙ stepped)) result
 
 -- a plain line of a location on the way, where one may stand
 pub plain_stop : (p after : Progress) (line : List ℕ) → GoesOnPlainly p.place line → after ≡ keeping p line →

@@ -37,6 +37,11 @@ abbrev pub after_extra : Place → Place
 after_extra Cancelled = CancelledExtra
 after_extra _ = Extra
 
+-- the place after a BX, or after a location or a change on the way
+abbrev pub after_further : Place → Kind → Place
+after_further place Bx = after_extra place
+after_further place _ = Journey
+
 -- The place after a line of this kind that comes at this place. TA, TD and a line of no kind are refused wherever they stand, so
 -- that no line is judged by what they leave.
 abbrev pub place_after : Place → Option Kind → List ℕ → Place

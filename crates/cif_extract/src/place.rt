@@ -1,6 +1,6 @@
 //! Where a record may stand.
 ghost use Rattle.std.specs.Prelude.{◌≡◌};
-ghost use Rattle.cif_extract.specs.OrderOfRecords.{after_extra, may_stand};
+ghost use Rattle.cif_extract.specs.OrderOfRecords.{after_further, may_stand};
 
 use cif_records::Kind;
 
@@ -52,13 +52,14 @@ impl Place {
         }
     }
 
-    /// The place after a BX.
-    pub(crate) fn after_extra(self) -> Place
-        ensures { result ≡ after_extra self }
+    /// The place after a BX, or after a location or a change on the way, where one may stand.
+    pub(crate) fn after_further(self, kind: Kind) -> Place
+        ensures { result ≡ after_further self kind }
     {
-        match self {
-            Place::Cancelled => Place::CancelledExtra,
-            _ => Place::Extra,
+        match (kind, self) {
+            (Kind::Bx, Place::Cancelled) => Place::CancelledExtra,
+            (Kind::Bx, _) => Place::Extra,
+            _ => Place::Journey,
         }
     }
 }

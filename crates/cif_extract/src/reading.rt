@@ -88,7 +88,7 @@ pub(crate) struct Reading {
 
 impl Reading {
     ghost use Rattle.cif_extract.specs.Body.{KeepSomeBody};
-    ghost use Rattle.cif_extract.specs.Steps.Reading.{HasRead, IsClosed, IsKept, IsOnTheWay, IsTaken};
+    ghost use Rattle.cif_extract.specs.Steps.Reading.{HasRead, IsClosed, IsFurther, IsKept, IsTaken};
     ghost use Rattle.cif_extract.specs.Steps.Reading.{GoesOnPlainly, IsHeld, IsUnfinished, keeping, no_progress, progress_of};
     ghost use Rattle.cif_extract.specs.Steps.Reading.{UnlessMemory, refusal_here};
     ghost use Rattle.cif_records.specs.declared.record.Record.{Record};
@@ -125,10 +125,9 @@ impl Reading {
             return Err(TakeFault::Refused(Refusal::OutOfOrder));
         }
         match kind {
-            Kind::Li | Kind::Cr | Kind::Lo => self.take_on_the_way(kind, line),
+            Kind::Li | Kind::Cr | Kind::Lo | Kind::Bx => self.take_further(kind, line),
             Kind::Lt => self.take_terminus(alloc, line),
             Kind::Bs => self.take_basic(line),
-            Kind::Bx => self.take_extra(line),
             Kind::Aa => self.take_association(line),
             Kind::Ti => self.take_tiploc(line),
             Kind::Ta | Kind::Td => Err(TakeFault::Refused(Refusal::NotFull)),
@@ -236,23 +235,14 @@ impl Reading {
         }
     }
 
-    fn take_extra(&mut self, line: &Line) -> Result<(), TakeFault>
-        requires { kind_in line.now ≡ Some Kind.Bx }
-        ensures { IsTaken (record_refusal line.now) line.now (progress_of self.old) result
-            (progress_of self.new) }
-    {
-        self.place = self.place.after_extra();
-        self.keep(Kind::Bx, line)
-    }
-
-    /// A location or a change of a journey, but for its last location.
-    fn take_on_the_way(&mut self, kind: Kind, line: &Line) -> Result<(), TakeFault>
+    /// A BX, or a location or a change of a journey, but for its last location.
+    fn take_further(&mut self, kind: Kind, line: &Line) -> Result<(), TakeFault>
         requires kind { kind_in line.now ≡ Some kind }
-        requires on_the_way { IsOnTheWay (kind_in line.now) }
+        requires further { IsFurther (kind_in line.now) }
         ensures { IsTaken (record_refusal line.now) line.now (progress_of self.old) result
             (progress_of self.new) }
     {
-        self.place = Place::Journey;
+        self.place = self.place.after_further(kind);
         self.keep(kind, line)
     }
 

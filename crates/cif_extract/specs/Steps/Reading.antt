@@ -34,7 +34,7 @@ use Rattle.cif_records.specs.declared.detail.Detail.{Detail}
 use Rattle.cif_records.specs.declared.extra.Extra.{Extra}
 use Rattle.cif_records.specs.declared.header.Header.{Header}
 use Rattle.cif_records.specs.declared.record.Kind.{Kind}
-use Rattle.cif_records.specs.declared.record.Kind.TheVariants.{Lo, Li, Cr}
+use Rattle.cif_records.specs.declared.record.Kind.TheVariants.{Bx, Lo, Li, Cr}
 use Rattle.cif_records.specs.declared.origin.Origin.{Origin}
 use Rattle.cif_records.specs.declared.record.Record.{Record}
 use Rattle.cif_records.specs.declared.record.Record.TheVariants as of
@@ -177,12 +177,13 @@ pub record GoesOnPlainly (place : Place) (line : List ℕ) : Type 0 where
   pub spelled : SpellsStop line stop
   pub plain : plain_line (stop_table stop) ≡ line
 
--- the kinds of a journey, but for its last
-abbrev pub IsOnTheWay : Option Kind → Type 0
-IsOnTheWay (Some Lo) = Unit {0}
-IsOnTheWay (Some Li) = Unit {0}
-IsOnTheWay (Some Cr) = Unit {0}
-IsOnTheWay _ = ⊥
+-- a BX, and the kinds of a journey, but for its last
+abbrev pub IsFurther : Option Kind → Type 0
+IsFurther (Some Bx) = Unit {0}
+IsFurther (Some Lo) = Unit {0}
+IsFurther (Some Li) = Unit {0}
+IsFurther (Some Cr) = Unit {0}
+IsFurther _ = ⊥
 
 -- A BS of a letter with a body and these further records of its schedule have come. Their lines are kept.
 pub record IsOpened (p : Progress) (earlier : List Schedule) (b : Basic) (further : List Record) : Type 0 where

@@ -15,10 +15,10 @@ fields c = refusal_of_fields c.args.self.now.place c.args.line.now c.in-Some.kin
 
 pub returns-in-Li-clause-taken : goal.returns-in-Li-clause-taken
 returns-in-Li-clause-taken c =
-    subst (λ refusal. IsTaken refusal c.args.line.now (progress_of c.args.self.now) c.take_on_the_way.result
-    (progress_of c.take_on_the_way.new.self))
+    subst (λ refusal. IsTaken refusal c.args.line.now (progress_of c.args.self.now) c.take_further.result
+    (progress_of c.take_further.new.self))
     (sym (refusal_of_record c.args.self.now.place c.args.line.now c.in-Some.kind (sym c.kind_of.ensures.kind ∙ c.in-Some.is)
-    (sym c.allows.ensures ∙ c.if-not-allows.false))) c.take_on_the_way.ensures
+    (sym c.allows.ensures ∙ c.if-not-allows.false))) c.take_further.ensures
 
 pub returns-in-Lt-clause-taken : goal.returns-in-Lt-clause-taken
 returns-in-Lt-clause-taken c =
@@ -26,13 +26,6 @@ returns-in-Lt-clause-taken c =
     (progress_of c.take_terminus.new.self))
     (sym (refusal_of_record c.args.self.now.place c.args.line.now c.in-Some.kind (sym c.kind_of.ensures.kind ∙ c.in-Some.is)
     (sym c.allows.ensures ∙ c.if-not-allows.false))) c.take_terminus.ensures
-
-pub returns-in-Bx-clause-taken : goal.returns-in-Bx-clause-taken
-returns-in-Bx-clause-taken c =
-    subst (λ refusal. IsTaken refusal c.args.line.now (progress_of c.args.self.now) c.take_extra.result
-    (progress_of c.take_extra.new.self))
-    (sym (refusal_of_record c.args.self.now.place c.args.line.now c.in-Some.kind (sym c.kind_of.ensures.kind ∙ c.in-Some.is)
-    (sym c.allows.ensures ∙ c.if-not-allows.false))) c.take_extra.ensures
 
 pub returns-in-Bs-clause-taken : goal.returns-in-Bs-clause-taken
 returns-in-Bs-clause-taken c = subst
