@@ -109,7 +109,7 @@ impl Reading {
     }
 
     /// Takes one line more. Its kind and its place are judged before its fields, and memory is
-    /// asked for after them.
+    /// asked for after them. After a fault nothing is said of the reading.
     // It is called for each line. What few lines need is kept out of the loop that it is inlined into.
     #[inline(always)]
     pub(crate) fn take(&mut self, alloc: Global, line: &Line) -> Result<(), TakeFault>
