@@ -10,11 +10,12 @@ returns-in-Ok-clause-exact c =
     let found = c.in-Ok.ensures.1 in
     let body = c.body_at.ensures.spells in
     c.in-Ok.ensures.0 & found.0 & found.1 & sym c.uid_at.ensures & sym c.uid_at-in-Ok.ensures & found.2 & found.3 & found.4 & body.category
-    & body.date_indicator & c.text_at.ensures.found & c.text_at-in-Ok.ensures.found & c.text_at-in-Ok-2.ensures.found & body.diagram & body.kind
-    & tt & found.5 & tt
+    & body.date_indicator & c.text_at.ensures.found & c.text_at-in-Ok.ensures.found & c.text_at-in-Ok-2.ensures.found
+    & body.diagram & body.kind & tt & found.5 & tt
 
 pub returns-in-Ok-clause-only : goal.returns-in-Ok-clause-only
-returns-in-Ok-clause-only c r h = only _ _ _ (one_association c.args.line.now) (no_refusal c.args.line.now) (returns-in-Ok-clause-exact c) r h
+returns-in-Ok-clause-only c r h =
+    only _ _ _ (one_association c.args.line.now) (no_refusal c.args.line.now) (returns-in-Ok-clause-exact c) r h
 
 pub returns-in-Err-clause-only : goal.returns-in-Err-clause-only
 returns-in-Err-clause-only c r h = only _ _ _ (one_association c.args.line.now) (no_refusal c.args.line.now) c.in-Err.ensures r h

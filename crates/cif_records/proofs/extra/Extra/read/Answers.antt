@@ -17,4 +17,5 @@ returns-in-Ok-clause-only c r h = only _ _ _ (one_extra c.args.line.now) (no_ref
 
 pub returns-in-Err-clause-only : goal.returns-in-Err-clause-only
 unfolding extra_refusal
-returns-in-Err-clause-only c r h = only _ _ (Err c.in-Err.why) (one_extra c.args.line.now) (no_refusal c.args.line.now) (rw c.in-Err.ensures) r h
+returns-in-Err-clause-only c r h =
+    only _ _ (Err c.in-Err.why) (one_extra c.args.line.now) (no_refusal c.args.line.now) (rw c.in-Err.ensures) r h

@@ -35,7 +35,8 @@ returns-in-Ok-clause-exact c =
     & rw value (sym (kept-48 line))
     & digits_of (columns 49 54 line) c.in-Ok.dates.first
     (length-columns 49 54 line is_line (omega arith) (omega arith) (omega arith)) found.2
-    & digits_of (columns 55 60 line) c.in-Ok.dates.last (length-columns 55 60 line is_line (omega arith) (omega arith) (omega arith)) found.3
+    & digits_of (columns 55 60 line) c.in-Ok.dates.last
+    (length-columns 55 60 line is_line (omega arith) (omega arith) (omega arith)) found.3
     & tt & tt
 
 pub returns-in-Ok-clause-only : goal.returns-in-Ok-clause-only

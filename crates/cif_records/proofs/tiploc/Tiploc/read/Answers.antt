@@ -16,4 +16,5 @@ returns-in-Ok-clause-only c r h = only _ _ _ (one_tiploc c.args.line.now) (no_re
 
 pub returns-in-Err-clause-only : goal.returns-in-Err-clause-only
 unfolding tiploc_refusal
-returns-in-Err-clause-only c r h = only _ _ (Err c.in-Err.why) (one_tiploc c.args.line.now) (no_refusal c.args.line.now) (rw c.in-Err.ensures) r h
+returns-in-Err-clause-only c r h =
+    only _ _ (Err c.in-Err.why) (one_tiploc c.args.line.now) (no_refusal c.args.line.now) (rw c.in-Err.ensures) r h
