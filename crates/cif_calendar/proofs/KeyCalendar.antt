@@ -1,6 +1,5 @@
 -- A calendar of all of a key's entries says what runs for the key.
-use Rattle.std.proofs.Common.{◌≡◌, ℕ, ◌≤◌, List, Option, Some, map, sym, ◌∙◌, subst}
-use Rattle.std.specs.Prelude.{IsNone, IsSome, slice_get, ◌↔◌}
+use Rattle.std.proofs.Common.{◌≡◌, ℕ, ◌≤◌, List, Option, Some, map, sym, ◌∙◌, subst, IsNone, IsSome, slice_get, ◌↔◌}
 use Rattle.std.proofs.lemmas.Option.{same_Some}
 use Rattle.cif_columns.specs.declared.stp.Stp.TheVariants.{C}
 use Rattle.cif_calendar.specs.Terms.{Terms}

@@ -1,7 +1,5 @@
 -- What runs on a day is one thing, and the source of the day has it.
-use Rattle.std.proofs.Common.{◌≡◌, ℕ, List, Option, None, Some, sym, ◌∙◌, ap, subst, refl}
-use Rattle.std.specs.Prelude.{IsNone, IsSome, ◌↔◌}
-use Rattle.std.specs.Option.{option_and_then, is_some}
+use Rattle.std.proofs.Common.{◌≡◌, ℕ, List, Option, None, Some, sym, ◌∙◌, ap, subst, refl, IsNone, IsSome, ◌↔◌, option_and_then, is_some}
 use Rattle.cif_columns.specs.declared.stp.Stp.TheVariants.{C}
 use Rattle.cif_calendar.specs.Terms.{Terms, Records, AreLawful}
 use Rattle.cif_calendar.specs.Clash.{IsClear}

@@ -1,6 +1,5 @@
 -- Records that are all permanent.
-use Rattle.std.proofs.Common.{◌≡◌, ℕ, sym, ◌∙◌, ap, arith, true≢false}
-use Rattle.std.specs.Prelude.{IsSome}
+use Rattle.std.proofs.Common.{◌≡◌, ℕ, sym, ◌∙◌, ap, arith, true≢false, IsSome}
 use Rattle.cif_columns.specs.Stp.{letter}
 use Rattle.cif_columns.specs.declared.stp.Stp.TheVariants.{P, C}
 use Rattle.cif_calendar.specs.Terms.{Terms, Records, AreLawful}

@@ -1,7 +1,5 @@
 -- The records at a key's positions are the records of the key.
-use Rattle.std.proofs.Common.{◌≡◌, ℕ, List, Option, None, Some, map, sym, ◌∙◌, ap, subst}
-use Rattle.std.specs.Prelude.{Contains, slice_get, IsNone, ◌↔◌}
-use Rattle.std.specs.Option.{option_map}
+use Rattle.std.proofs.Common.{◌≡◌, ℕ, List, Option, None, Some, map, sym, ◌∙◌, ap, subst, Contains, slice_get, IsNone, ◌↔◌, option_map}
 use Rattle.cif_columns.specs.declared.stp.Stp.TheVariants.{C}
 use Rattle.std.proofs.lemmas.Option.{same_Some, slice_get-map, slice_get-get_or, slice_get_within, get_or_from_slice_get}
 use Rattle.cif_calendar.specs.Terms.{Terms, SameRecords, AreLawful}

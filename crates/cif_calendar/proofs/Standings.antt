@@ -1,7 +1,6 @@
 -- Who leads on each weekday, as more members are looked at.
-use Rattle.std.proofs.Common.{◌≡◌, ℕ, ◌+◌, ◌<◌, ◌≤◌, List, [], ◌∷◌, ◌++◌, Some, replicate, length-set, get_or, set}
-use Rattle.std.proofs.Common.{◌≢◌, ◌⊎◌, inl, inr, arith, refl, ⊎_elim, sym, ◌∙◌, ap, subst, true, false}
-use Rattle.std.specs.Prelude.{slice_get}
+use Rattle.std.proofs.Common.{◌≡◌, ℕ, ◌+◌, ◌<◌, ◌≤◌, List, [], ◌∷◌, ◌++◌, Some, replicate, length-set, get_or, set, ◌≢◌, ◌⊎◌, inl, inr}
+use Rattle.std.proofs.Common.{arith, refl, ⊎_elim, sym, ◌∙◌, ap, subst, true, false, slice_get}
 use Rattle.std.proofs.lemmas.Bool.{cases_lt}
 use Rattle.std.proofs.lemmas.Option.{slice_get-get_or}
 use Rattle.std.proofs.lemmas.Grind.{get_or-set_at}

@@ -1,16 +1,16 @@
 -- Members that are looked at together: who wins, and who leads.
 use Rattle.std.proofs.Common.{◌≡◌, ℕ, ◌<◌, ◌≤◌, List, [], ◌∷◌, ◌++◌, Option, Some, Bool, false, length, get_or, map, ap, subst, sym, ◌∙◌}
-use Rattle.std.proofs.Common.{arith, refl, ⊎_elim, inl, inr}
+use Rattle.std.proofs.Common.{arith, refl, ⊎_elim, inl, inr, IsSome, IsTrue, slice_get, ◌⊎◌, option_map, option_and_then}
 use Rattle.std.proofs.lemmas.Bool.{false≢true}
-use Rattle.std.specs.Prelude.{IsSome, IsTrue, slice_get, ◌⊎◌}
 use Rattle.std.proofs.lemmas.List.Elements.{Contains-append_left, Contains-append_right, Contains-append_cases, Contains-get_or}
-use Rattle.std.specs.Option.{option_map, option_and_then}
 use Rattle.std.proofs.lemmas.Option.{same_Some, slice_get-get_or, slice_get-map, slice_get_read}
 use Rattle.cif_columns.specs.Stp.{letter}
 use Rattle.cif_columns.specs.declared.stp.Stp.{Stp}
 use Rattle.cif_columns.specs.declared.stp.Stp.TheVariants.{P, N, O, C}
 use Rattle.cif_calendar.specs.Terms.{Terms, Records}
 use Rattle.cif_calendar.specs.Applies.{Applies}
+use Rattle.cif_calendar.specs.Clash.{IsClear}
+use Rattle.cif_calendar.specs.Runs.{NothingRuns}
 use Rattle.cif_calendar.specs.Wins.{Wins}
 use Rattle.cif_calendar.specs.Source.{IsChosen, IsWinnerAt, body_at}
 use Rattle.cif_calendar.specs.Steps.Standing.{Combines, IsDisputed, IsRank, Leads, NoneApplies, Stands, StandsAt}
@@ -247,6 +247,10 @@ module _ {B : Type 0} (xs : List (Terms B)) (members : List ℕ) where
     record { wins = one-wins xs i r at d on; undisputed = λ s w. ap (λ (q : Terms B). q.body) (one-chosen xs i r at s w.listed) },
   )
 
+  -- a leader's body is that of all winners
+  pub clear-leader : (records : Records B) (d k : ℕ) → Stands xs members records d (Leader k) → IsClear records d
+  clear-leader records d k (t, at, l) = record { agree = λ r s v w. sym (l.undisputed r v) ∙ l.undisputed s w }
+
   -- the position of a leader with a body is a source
   pub winner-at : (d k : ℕ) (t : Terms B) → k < length members → StandsAt xs members k t → IsSome t.body →
       Stands xs members (IsChosen xs members) d (Leader k) → IsWinnerAt xs members d (get_or members k 0)
@@ -257,3 +261,10 @@ module _ {B : Type 0} (xs : List (Terms B)) (members : List ℕ) where
     wins = leads.wins;
     runs = subst IsSome (sym (body-at k t at) ∙ body-at k s is) some;
   }
+
+-- where no record applies, none wins
+pub clear-nobody : {B : Type 0} (records : Records B) (d : ℕ) → NoneApplies records d → IsClear records d × NothingRuns records d
+clear-nobody records d none = (
+  record { agree = λ r s v w. absurd (none.none r v.listed v.applies) },
+  record { cancelled = λ r w. absurd (none.none r w.listed w.applies) },
+)

@@ -1,9 +1,9 @@
 //! The stretches of dates on which no member begins or ends, and who leads on them.
 
-ghost use Rattle.std.specs.Prelude.{◌≡◌, ◌<◌, ◌≤◌, ◌+◌, ◌↔◌, length, map, All, IfOk, IsTrue};
+ghost use Rattle.std.specs.Prelude.{◌<◌, ◌≤◌, ◌+◌, length, map, All, IfOk};
 ghost use Rattle.cif_calendar.specs.Steps.Standing.{AreAlike, AreBelow};
-ghost use Rattle.cif_calendar.specs.Steps.Stretches.{AreBehind, AreStretchesOf, IsEndFor};
-ghost use Rattle.cif_calendar.specs.Steps.Stretches.{IsJoint, IsPart, IsStretch};
+ghost use Rattle.cif_calendar.specs.Steps.Stretches.{AreBehind, AreStretchesOf, IsJoint, IsPart};
+ghost use Rattle.cif_calendar.specs.Steps.Stretches.{IsStretch};
 
 use crate::entry::Entry;
 use crate::key_calendar::Window;
@@ -23,35 +23,6 @@ pub(crate) struct Stretch {
     pub(crate) last: Day,
     /// Who leads on the dates of each weekday.
     pub(crate) standings: Standings,
-}
-
-/// Whether the day lies between the entry's first and last date, whatever its weekday.
-fn covers<E: Entry>(entry: &E, day: Day) -> bool
-    ensures { IsTrue result ↔
-        (((E.terms entry.now).first ≤ day) × (day ≤ (E.terms entry.now).last)) }
-{
-    entry.first() <= day && day <= entry.last()
-}
-
-/// The first day from `first` on after which the record has ended or begins; `end` where there is
-/// none before it.
-fn end_for<E: Entry>(entry: &E, first: Day, end: Day) -> Day
-    requires { first ≤ end }
-    ensures { IsEndFor (E.terms entry.now) first end result }
-{
-    let begin = entry.first();
-    if first < begin {
-        return match begin.previous() {
-            Some(before) if before < end => before,
-            _ => end,
-        };
-    }
-    let last = entry.last();
-    if first <= last && last < end {
-        last
-    } else {
-        end
-    }
 }
 
 /// The stretch that begins on `first`, in a window that ends on `last`, of the members in `part`, the
@@ -76,17 +47,23 @@ fn stretch_from<E: Entry>(
     let mut standings = [Standing::Nobody; 7];
     for (index, position) in part.iter().enumerate() {
         let entry = &entries[*position];
-        end = end_for(entry, first, end);
-        if covers(entry, first) {
-            let others = [Standing::Leader(number + index); 7];
-            look_at(
-                entries,
-                members,
-                alike,
-                &mut standings,
-                entry.days(),
-                &others,
-            );
+        let begin = entry.first();
+        if begin <= first {
+            let until = entry.last();
+            if first <= until {
+                end = end.min(until);
+                let others = [Standing::Leader(number + index); 7];
+                look_at(
+                    entries,
+                    members,
+                    alike,
+                    &mut standings,
+                    entry.days(),
+                    &others,
+                );
+            }
+        } else if let Some(before) = begin.previous() {
+            end = end.min(before);
         }
     }
     Stretch {
