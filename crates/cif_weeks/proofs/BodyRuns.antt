@@ -1,18 +1,12 @@
 -- The runs of one body, week by week: weeks without a day of it, a run that begins, and one that goes on.
-use Rattle.std.proofs.Common.{◌≡◌, ◌⊎◌, ℕ, ◌+◌, ◌-◌, ◌*◌, ◌<◌, ◌≤◌, Bool, List, [], ◌∷◌, ◌++◌, get_or}
-use Rattle.std.proofs.Common.{length, length-append, refl, sym, ◌∙◌, ap, subst, arith, ⊎_elim, append_assoc}
-use Rattle.std.specs.Prelude.{◌↔◌, reverse}
+use Rattle.std.proofs.Common.{◌≡◌, ◌⊎◌, ℕ, ◌+◌, ◌-◌, ◌*◌, ◌<◌, ◌≤◌, Bool, List, [], ◌∷◌, ◌++◌, get_or, length, length-append, refl, sym}
+use Rattle.std.proofs.Common.{◌∙◌, ap, subst, arith, ⊎_elim, append_assoc, ◌↔◌, reverse}
 use Rattle.std.proofs.lemmas.List.{append-nil, reverse-append, reverse-reverse}
 use Rattle.std.proofs.Math.Seq.{get_or-append_seam}
 use Rattle.std.proofs.lemmas.Bool.{cases_lt}
-use Rattle.cif_columns.specs.Day.{IsDay, week_of, weekday_of}
-use Rattle.cif_columns.specs.DaysRun.{RunsOn, IsFirstOf, IsLastOf}
-use Rattle.cif_weeks.specs.declared.form.Form.{Form}
-use Rattle.cif_weeks.specs.declared.run.Run.{Run}
-use Rattle.cif_weeks.specs.declared.span.Span.{Span}
-use Rattle.cif_weeks.specs.declared.span.Weeks.{Weeks}
-use Rattle.cif_weeks.specs.Permanent.{Permanent}
-use Rattle.cif_weeks.specs.Window.{Window, IsWithin}
+use Rattle.cif_weeks.proofs.Words.{week_of, weekday_of, RunsOn, Form, Run, Span, Weeks, Permanent, Window, IsWithin}
+use Rattle.cif_columns.specs.Day.{IsDay}
+use Rattle.cif_columns.specs.DaysRun.{IsFirstOf, IsLastOf}
 use Rattle.cif_weeks.specs.Steps.BodyRuns.{AreBodyRuns, AreGrownTo, AreRunsOfBody, BreaksBefore, IsLatest, dates_of}
 use Rattle.cif_weeks.specs.Steps.Growing.{IsGrown}
 use Rattle.cif_weeks.specs.Steps.Spans.{HaveOneMask, IsAgreed, Shows}

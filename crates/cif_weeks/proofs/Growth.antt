@@ -1,12 +1,8 @@
 -- The sources of a calendar, and their bodies.
-use Rattle.std.proofs.Common.{◌≡◌, ℕ, ◌<◌, List, length, Option, None, Some, refl, sym, ◌∙◌}
-use Rattle.std.specs.Prelude.{IsSome, slice_get}
-use Rattle.std.specs.Option.{option_and_then}
+use Rattle.std.proofs.Common.{◌≡◌, ℕ, ◌<◌, List, length, Option, None, Some, refl, sym, ◌∙◌, IsSome, slice_get, option_and_then}
 use Rattle.std.proofs.lemmas.Option.{slice_get_within}
-use Rattle.cif_calendar.specs.Terms.{Terms}
-use Rattle.cif_calendar.specs.Source.{body_at}
+use Rattle.cif_weeks.proofs.Words.{Terms, body_at, IsWithin}
 use Rattle.cif_calendar.specs.Calendar.{CalendarParts}
-use Rattle.cif_weeks.specs.Window.{IsWithin}
 use Rattle.cif_weeks.specs.Runs.{AreSources, window_of}
 use Rattle.cif_weeks.specs.Steps.PieceSpans.{source_in, body_in}
 use Rattle.cif_weeks.proofs.SourcesIn.{source_in-within, source_in-inside}

@@ -2,16 +2,13 @@
 -- `grow-next`).
 use Rattle.std.proofs.Common.{◌≡◌, ◌+◌, ◌-◌, ◌<◌, [], ◌∷◌, ◌++◌, length, reverse, set, sym, ◌∙◌, ap, subst, arith, refl}
 use Rattle.std.proofs.Math.Seq.{set-append_seam}
-use Rattle.cif_columns.specs.Day.{week_of, weekday_of}
-use Rattle.cif_weeks.specs.Window.{window_from}
+use Rattle.cif_weeks.proofs.Words.{week_of, weekday_of, window_from, Run}
 use Rattle.cif_weeks.specs.Steps.BodyRuns.{AreBodyRuns}
 use Rattle.cif_weeks.specs.Steps.Spans.{Shows}
-use Rattle.cif_weeks.specs.declared.run.Run.{Run}
-use Rattle.cif_weeks.proofs.BodyRuns.{body-idle, first-date, last-date, last-made, made-more, none-made}
-use Rattle.cif_weeks.proofs.BodyRuns.{grow-longer, grow-first, grow-next}
+use Rattle.cif_weeks.proofs.BodyRuns.{body-idle, first-date, last-date, last-made, made-more, none-made, grow-longer, grow-first, grow-next}
 use Rattle.cif_weeks.proofs.body_runs.grow.Goals as goal
-use Rattle.cif_weeks.proofs.body_runs.grow.Goals.{then-start-len+else-week, else-start-len}
-use Rattle.cif_weeks.proofs.body_runs.grow.Goals.{else-week-via-then-week+else-agree, else-week-via-else-week}
+use Rattle.cif_weeks.proofs.body_runs.grow.Goals.{then-start-len+else-week, else-start-len, else-week-via-then-week+else-agree}
+use Rattle.cif_weeks.proofs.body_runs.grow.Goals.{else-week-via-else-week}
 
 pub returns-in_default : goal.returns-in_default
 returns-in_default c old start (made, are, body) =
