@@ -4,13 +4,10 @@ use Rattle.std.proofs.Common.{inl, inr, refl, Ok, Err, drop, get_or, ◌∙◌, 
 use Rattle.std.proofs.lemmas.List.{drop_more}
 use Rattle.std.proofs.lemmas.Bool.{cases_lt}
 use Rattle.std.proofs.lemmas.List.Elements.{All-nil, All-push, All-contains}
-use Rattle.cif_calendar.specs.Terms.{Terms}
-use Rattle.cif_calendar.specs.Clash.{IsClear, IsClearFrom, IsFirstClash}
-use Rattle.cif_calendar.specs.Source.{IsChosen, IsSource}
+use Rattle.cif_calendar.proofs.Words.{Terms, IsClear, IsClearFrom, IsFirstClash, IsChosen, IsSource, Piece}
 use Rattle.cif_calendar.specs.Pieces.{IsPiece, IsBoundary, ChangesOn, BeginsPiece, Tiles, source_at}
 use Rattle.cif_calendar.specs.Calendar.{CalendarParts, IsAnswer, IsFault}
 use Rattle.cif_calendar.specs.Steps.Stretches.{AreStretches, IsStretch}
-use Rattle.cif_calendar.specs.declared.key_calendar.Piece.{Piece}
 use Rattle.cif_calendar.specs.declared.stretch.Stretch.{Stretch}
 use Rattle.cif_calendar.specs.declared.key_calendar.CalendarFault.{CalendarFault}
 use Rattle.cif_calendar.specs.declared.key_calendar.CalendarFault.TheVariants.{Ambiguous, Memory}

@@ -3,15 +3,10 @@ use Rattle.std.proofs.Common.{◌≡◌, ℕ, ◌+◌, ◌<◌, ◌≤◌, List,
 use Rattle.std.proofs.Common.{inr, sym, ◌∙◌, ap, subst, nat_cmp, is_le, rules, Bool, true, false, ◌⊎◌, slice_get}
 use Rattle.std.proofs.lemmas.Option.{slice_get-get_or}
 use Rattle.std.specs.Ordering.{ord_min}
-use Rattle.cif_columns.specs.Day.{weekday_of}
-use Rattle.cif_calendar.specs.Applies.{Applies}
-use Rattle.cif_calendar.specs.Terms.{Terms, Records}
-use Rattle.cif_calendar.specs.Source.{IsChosen}
+use Rattle.cif_calendar.proofs.Words.{weekday_of, Applies, Terms, Records, IsChosen, Standing, Nobody, Leader}
 use Rattle.cif_calendar.specs.Pieces.{ChangesOn, IsUnbroken}
 use Rattle.cif_calendar.specs.Steps.Standing.{AreBelow, LooksAt, Stands}
 use Rattle.cif_calendar.specs.Steps.Stretches.{AreBehind, AreStretches, IsJoint, IsPart, IsStretch}
-use Rattle.cif_calendar.specs.declared.standing.Standing.{Standing}
-use Rattle.cif_calendar.specs.declared.standing.Standing.TheVariants.{Nobody, Leader}
 use Rattle.cif_calendar.specs.declared.stretch.Stretch.{Stretch}
 use Rattle.cif_calendar.proofs.Standings.{below-same, stands-more, stands-none, stands-skip}
 use Rattle.cif_calendar.proofs.Winning.{IsUnion, chosen-one, chosen-union, one-chosen, union-swap}

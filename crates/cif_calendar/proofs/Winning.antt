@@ -7,15 +7,9 @@ use Rattle.std.proofs.lemmas.Option.{same_Some, slice_get-get_or, slice_get-map,
 use Rattle.cif_columns.specs.Stp.{letter}
 use Rattle.cif_columns.specs.declared.stp.Stp.{Stp}
 use Rattle.cif_columns.specs.declared.stp.Stp.TheVariants.{P, N, O, C}
-use Rattle.cif_calendar.specs.Terms.{Terms, Records}
-use Rattle.cif_calendar.specs.Applies.{Applies}
-use Rattle.cif_calendar.specs.Clash.{IsClear}
-use Rattle.cif_calendar.specs.Runs.{NothingRuns}
-use Rattle.cif_calendar.specs.Wins.{Wins}
-use Rattle.cif_calendar.specs.Source.{IsChosen, IsWinnerAt, body_at}
+use Rattle.cif_calendar.proofs.Words.{Terms, Records, Applies, IsClear, NothingRuns, Wins, IsChosen, IsWinnerAt, body_at, Standing, Nobody}
+use Rattle.cif_calendar.proofs.Words.{Leader, Disputed}
 use Rattle.cif_calendar.specs.Steps.Standing.{Combines, IsDisputed, IsRank, Leads, NoneApplies, Stands, StandsAt}
-use Rattle.cif_calendar.specs.declared.standing.Standing.{Standing}
-use Rattle.cif_calendar.specs.declared.standing.Standing.TheVariants.{Nobody, Leader, Disputed}
 use Rattle.cif_calendar.proofs.Elements.{Contains-first, Contains-cases}
 
 -- what a test that failed says

@@ -1,4 +1,4 @@
--- The keys are the first dates' numbers.
+-- The keys are the first dates.
 use Rattle.std.proofs.Common.{rules}
 use Rattle.std.proofs.lemmas.List.Sorted.{IsNonDecreasingBy-from_sort_by_key}
 use Rattle.cif_weeks.proofs.Words.{Run}
