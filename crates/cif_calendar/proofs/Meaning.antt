@@ -44,7 +44,7 @@ Runs-unique records d None (Some y) l clear p q = absurd (nothing-body records d
 Runs-unique records d (Some x) None l clear p q = absurd (nothing-body records d x l q p)
 Runs-unique records d (Some x) (Some y) l clear p q = ap Some (body-unique records d x y clear p q)
 
-some-body : {B : Type 0} (o : Option B) → IsSome o → (b : B) × (o ≡ Some b)
+pub some-body : {B : Type 0} (o : Option B) → IsSome o → (b : B) × (o ≡ Some b)
 some-body None h = absurd (cc)
 some-body (Some b) h = (b, refl)
 

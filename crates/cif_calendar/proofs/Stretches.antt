@@ -1,6 +1,6 @@
 -- Stretches one after another, and those of two sets of members together.
-use Rattle.std.proofs.Common.{◌≡◌, ℕ, ◌+◌, ◌<◌, ◌≤◌, List, [], ◌∷◌, ◌++◌, Some, length, get_or, All, replicate, arith, refl, ⊎_elim, inl}
-use Rattle.std.proofs.Common.{inr, sym, ◌∙◌, ap, subst, nat_cmp, is_le, rules, Bool, true, false, ◌⊎◌, slice_get}
+use Rattle.std.proofs.Common.{◌≡◌, ℕ, ◌+◌, ◌-◌, ◌<◌, ◌≤◌, List, [], ◌∷◌, ◌++◌, Some, length, get_or, All, replicate, arith, refl, ⊎_elim}
+use Rattle.std.proofs.Common.{inl, inr, sym, ◌∙◌, ap, subst, nat_cmp, is_le, rules, Bool, true, false, ◌⊎◌, slice_get}
 use Rattle.std.proofs.lemmas.Option.{slice_get-get_or}
 use Rattle.std.specs.Ordering.{ord_min}
 use Rattle.cif_calendar.proofs.Words.{weekday_of, Applies, Terms, Records, IsChosen, Standing, Nobody, Leader}
@@ -14,6 +14,9 @@ use Rattle.cif_calendar.proofs.Winning.{IsUnion, chosen-one, chosen-union, one-c
 -- what a test of two days tells
 pub day_upto : (a b : ℕ) (test : Bool) → test ≡ is_le (nat_cmp a b) → (test ≡ true → a ≤ b) × (test ≡ false → b < a)
 day_upto a b test is = (λ yes. search rules, λ no. search rules)
+
+pub some-before : (a b : ℕ) → a < b → 0 < b
+some-before a b less = omega arith
 
 -- the sooner of two days
 pub sooner : (a b day : ℕ) → day ≡ ord_min nat_cmp a b → (day ≤ a) × (day ≤ b) × ((day ≡ a) ⊎ (day ≡ b))
@@ -105,17 +108,17 @@ module _ {B : Type 0} (xs : List (Terms B)) (members looked : List ℕ) (end : �
         stands-skip xs members looked k i r member at d _ (h.stands d from (omega (arith, e.upto))) (off d from upto))
 
     -- it begins later
-    pub stretch-begins : (before : ℕ) → to ≡ ord_min nat_cmp s.last before → before + 1 ≡ r.first → first ≤ before → r.first ≤ r.last →
-        IsStretch xs members (looked ++ i ∷ []) end first (record { last = to; standings = s.standings })
-    stretch-begins before least begin from up = let m = sooner s.last before to least in stretch-passed
+    pub stretch-begins : (begin before : ℕ) → begin ≡ r.first → first < begin → before ≡ begin - 1 → to ≡ ord_min nat_cmp s.last before →
+        r.first ≤ r.last → IsStretch xs members (looked ++ i ∷ []) end first (record { last = to; standings = s.standings })
+    stretch-begins begin before is later sooner_is least up = let m = sooner s.last before to least in stretch-passed
         (record {
-          from = omega (arith, m.2, from, h.in_order);
+          from = omega (arith, m.2, h.in_order);
           upto = m.0;
-          begins = λ _. omega (arith, m.1, begin);
-          ends = λ _. omega (arith, m.1, begin, up);
+          begins = λ _. omega (arith, m.1);
+          ends = λ _. omega (arith, m.1);
           breaks = ⊎_elim (λ a. inl a) (λ b. inr (inl (omega arith))) m.2;
         })
-        (λ d low high on. omega (arith, m.1, begin, on.begun))
+        (λ d low high on. omega (arith, m.1, on.begun))
 
     -- it has ended
     pub stretch-ended : to ≡ s.last → r.first ≤ first → r.last < first →

@@ -143,7 +143,6 @@ pub(crate) fn combine<E: Entry>(
     requires one { IsBelow (length members.now) one }
     requires other { IsBelow (length members.now) other }
     ensures alike { AreAlike (map E.terms entries.now) members.now alike.new }
-    ensures below { IsBelow (length members.now) result }
     ensures stands { Combines (map E.terms entries.now) members.now one other result }
 {
     let rank_of_one = rank(entries, members, one);
@@ -170,7 +169,6 @@ fn level<E: Entry>(
     requires one { IsBelow (length members.now) one }
     requires other { IsBelow (length members.now) other }
     ensures alike { AreAlike (map E.terms entries.now) members.now alike.new }
-    ensures below { IsBelow (length members.now) result }
     ensures stands { (n : ℕ) → IsRank (map E.terms entries.now) members.now one n →
         IsRank (map E.terms entries.now) members.now other n →
         Combines (map E.terms entries.now) members.now one other result }

@@ -1,9 +1,8 @@
 //! The stretches of dates on which no member begins or ends, and who leads on them.
 
 ghost use Rattle.std.specs.Prelude.{◌<◌, ◌≤◌, ◌+◌, length, map, All, IfOk};
-ghost use Rattle.cif_calendar.specs.Steps.Standing.{AreAlike, AreBelow};
-ghost use Rattle.cif_calendar.specs.Steps.Stretches.{AreBehind, AreStretchesOf, IsJoint, IsPart};
-ghost use Rattle.cif_calendar.specs.Steps.Stretches.{IsStretch};
+ghost use Rattle.cif_calendar.specs.Steps.Standing.{AreAlike};
+ghost use Rattle.cif_calendar.specs.Steps.Stretches.{AreBehind, AreStretchesOf, IsPart, IsStretch};
 
 use crate::entry::Entry;
 use crate::key_calendar::Window;
@@ -70,36 +69,6 @@ fn stretch_from<E: Entry>(
         last: end,
         standings,
     }
-}
-
-/// The stretch of two sets of members together, from a stretch of each; the two have a date in
-/// common.
-fn joint<E: Entry>(
-    entries: &[E],
-    members: &[usize],
-    alike: &mut [Option<usize>],
-    one: &Stretch,
-    other: &Stretch,
-) -> Stretch
-    requires positions { All (λ i. i < length entries.now) members.now }
-    requires alike { AreAlike (map E.terms entries.now) members.now alike.old }
-    requires one { AreBelow (length members.now) one.now.standings }
-    requires other { AreBelow (length members.now) other.now.standings }
-    ensures alike { AreAlike (map E.terms entries.now) members.now alike.new }
-    ensures joint { IsJoint (map E.terms entries.now) members.now one.now other.now result }
-{
-    let last = one.last.min(other.last);
-    let mut standings = one.standings;
-    let days = DaysRun::of([true; 7]);
-    look_at(
-        entries,
-        members,
-        alike,
-        &mut standings,
-        days,
-        &other.standings,
-    );
-    Stretch { last, standings }
 }
 
 /// The stretches that remain after the day, of which only the first may end by then.
@@ -179,11 +148,22 @@ pub(crate) fn stretches_of<E: Entry>(
     let mut left = lefts.as_slice();
     let mut right = rights.as_slice();
     let mut stretches = Vec::new(alloc);
+    let days = DaysRun::of([true; 7]);
     while let ([one, ..], [other, ..]) = (left, right) {
-        let stretch = joint(entries, members, alike, one, other);
-        left = behind(left, stretch.last);
-        right = behind(right, stretch.last);
-        stretches.push(stretch)?;
+        // Both have the next date, and nothing changes until the sooner of them ends.
+        let last = one.last.min(other.last);
+        let mut standings = one.standings;
+        look_at(
+            entries,
+            members,
+            alike,
+            &mut standings,
+            days,
+            &other.standings,
+        );
+        left = behind(left, last);
+        right = behind(right, last);
+        stretches.push(Stretch { last, standings })?;
     }
     Ok(stretches)
 }

@@ -77,20 +77,10 @@ order-more first last spans u begins ends o = record {
       (Contains-push_cases spans u s listed);
 }
 
-pub order-none : (first last : ℕ) → AreInOrder first last []
-order-none first last = record {
-  rising = IsNonDecreasingBy-short (λ (s : Span). s.last_week) [] (omega arith);
-  begun = λ s listed. absurd (Contains-none s listed);
-  ended = λ s listed. absurd (Contains-none s listed);
-}
-
 -- a span that shows the body on the day is still there
 still : (Is : Span → Type 0) (spans : List Span) (n : ℕ) (u : Span) → ((s : Span) × Contains spans s × HasDay s n × Is s) →
     (s : Span) × Contains (spans ++ u ∷ []) s × HasDay s n × Is s
 still Is spans n u (s, listed, has, of) = (s, Contains-append_left spans (u ∷ []) s listed, has, of)
-
-near-sym : (s t : Span) → AreNear s t → AreNear t s
-near-sym s t h = record { reaches = h.reached; reached = h.reaches }
 
 -- the days before the piece, and those of its days whose weekdays are taken
 abbrev pub KnownIn : Piece → List Bool → ℕ → Type 0
@@ -214,7 +204,7 @@ module _ {B : Type 0} (xs : List (Terms B)) (c : CalendarParts) where
               (Contains-push_cases spans u t in_t))
               (λ is. ⊎_elim
               (λ other. subst (λ (v : Span). v.source ≡ t.source) is (sym (old-source t other
-              (near-sym u t (subst (λ v. AreNear v t) (sym is) close))
+              (let h : AreNear u t = subst (λ v. AreNear v t) (sym is) close in record { reaches = h.reached; reached = h.reaches })
               (sym one ∙ ap (λ (v : Span). body_at xs (Some v.source)) (sym is)))))
               (λ same_t. ap (λ (v : Span). v.source) (sym is ∙ same_t))
               (Contains-push_cases spans u t in_t))
@@ -257,7 +247,14 @@ module _ {B : Type 0} (xs : List (Terms B)) (c : CalendarParts) where
 
     -- before the first piece there is no span
     pub spans-before_first : AreSpansBefore xs c c.first []
-    spans-before_first = record { are = spans-none; order = order-none (week_of c.first) (week_of c.first) }
+    spans-before_first = record {
+      are = spans-none;
+      order = record {
+        rising = IsNonDecreasingBy-short (λ (s : Span). s.last_week) [] (omega arith);
+        begun = λ s listed. absurd (Contains-none s listed);
+        ended = λ s listed. absurd (Contains-none s listed);
+      };
+    }
 
   -- the spans in another order
   pub spans-sorted : {known : ℕ → Type 0} (spans sorted : List Span) → IsPermutation spans sorted → AreSpansOn xs c known spans →

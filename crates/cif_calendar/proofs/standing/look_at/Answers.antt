@@ -23,7 +23,9 @@ loop-weekday-preserved g c =
       | then-has w ↦ record {
         alike = rw w.alike-is w.combine.ensures.alike;
         stepped = rw w.standings-is (stepped _ _ _ _ _ c.loop-weekday-test.true c.loop-weekday.invariant.stepped _ _ w.from-place.ensures
-            w.combine.ensures.below (inl (c.has.ensures.0 w.if-has.true, rw w.from-place.ensures at w.combine.ensures.stands)));
+            (w.combine.ensures.stands.below _ (c.loop-weekday.invariant.stepped.below.below w.from-place.result)
+            (c.requires.others.below w.from-place.result))
+            (inl (c.has.ensures.0 w.if-has.true, rw w.from-place.ensures at w.combine.ensures.stands)));
       }
       | else-has w ↦ record {
         alike = rw w.alike-is c.loop-weekday.invariant.alike;

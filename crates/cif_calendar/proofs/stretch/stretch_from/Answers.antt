@@ -1,9 +1,8 @@
 -- One member more begins later, has ended (`stretch-begins`, `stretch-ended`), or lies over the first day (`stretch-looked`).
-use Rattle.std.proofs.Common.{◌+◌, [], arith, get_or, length, map, refl, take, take_all}
+use Rattle.std.proofs.Common.{◌+◌, [], get_or, length, map, refl, take, take_all}
 use Rattle.std.proofs.lemmas.List.{take_more}
-use Rattle.cif_calendar.specs.declared.standing.Standing.TheVariants.{Leader}
-use Rattle.cif_calendar.proofs.Standings.{below-same}
-use Rattle.cif_calendar.proofs.Stretches.{day_upto, part-all, part-at, stretch-begins, stretch-ended, stretch-looked, stretch-none}
+use Rattle.cif_calendar.proofs.Stretches.{day_upto, part-all, part-at, some-before, stretch-begins, stretch-ended, stretch-looked}
+use Rattle.cif_calendar.proofs.Stretches.{stretch-none}
 use Rattle.cif_calendar.proofs.Winning.{terms_at}
 use Rattle.cif_calendar.proofs.stretch.stretch_from.Goals as goal
 use Rattle.cif_calendar.proofs.stretch.stretch_from.Goals.{then-le+then-le-2, then-le+else-le-2, else-le+in-Some, else-le+in_default}
@@ -14,6 +13,10 @@ loop-index-init g c = record {
   stretch = stretch-none (map g.E.Entry.terms c.args.entries.now) c.args.members.now [] (c.args.last + 1) c.args.first c.args.last
       c.requires.in_order refl;
 }
+
+pub bounds-entries-position : goal.bounds-entries-position
+bounds-entries-position g c = part-all _ c.args.number _ c.requires.part (length c.args.entries.now) c.requires.positions
+    c.loop-index.index 0 c.loop-index-test.true
 
 pub loop-index-preserved : goal.loop-index-preserved
 loop-index-preserved g c =
@@ -47,15 +50,11 @@ loop-index-preserved g c =
       | else-le+in-Some w ↦ record {
         alike = rw w.alike-is old.alike;
         stretch = rw (w.standings-is, w.end-is, take_more part k 0 here) (stretch-begins _ _ (take k part) _ _ _ _ _ member at _
-            old.stretch _ w.in-Some.before w.min-end-in-Some.ensures (omega (arith, w.in-Some.ensures, first))
-            (omega (arith, w.in-Some.ensures, begun.1 w.if-le.false)) (g.met.E.Entry.dates_ordered c.index-entries-position.result));
+            old.stretch _ c.first-begin.result w.in-Some.before first (begun.1 w.if-le.false) w.in-Some.ensures.1 w.min-end-in-Some.ensures
+            (g.met.E.Entry.dates_ordered c.index-entries-position.result));
       }
-      | else-le+in_default w ↦ absurd (w.in_default.ensures (omega (arith, begun.1 w.if-le.false)))
+      | else-le+in_default w ↦ absurd (w.in_default.ensures (some-before _ _ (begun.1 w.if-le.false)))
     ]
 
 pub returns-clause-stretch : goal.returns-clause-stretch
 returns-clause-stretch g c = rw (take_all c.loop-index.index c.args.part.now c.loop-index-test.false) at c.loop-index.invariant.stretch
-
-pub look_at-requires-clause-others : goal.look_at-requires-clause-others
-look_at-requires-clause-others g c = below-same (length c.args.members.now) (Leader (c.args.number + c.loop-index.index))
-    (omega (arith, c.loop-index-test.true, c.requires.part.within))
