@@ -1,6 +1,5 @@
 -- Which members are known to have one body.
-use Rattle.std.specs.List.{AllByRecursion}
-use Rattle.std.proofs.Common.{◌≡◌, ℕ, zero, suc, List, [], ◌∷◌, Option, Some, None, get_or, ⊎_elim, sym, ◌∙◌, subst, ◌⊎◌, ◌↔◌}
+use Rattle.std.proofs.Common.{◌≡◌, ℕ, List, Option, Some, None, get_or, ⊎_elim, sym, ◌∙◌, subst, ◌⊎◌, ◌↔◌}
 use Rattle.std.proofs.lemmas.Option.{same_Some}
 use Rattle.cif_calendar.specs.Terms.{Terms}
 use Rattle.cif_calendar.specs.Steps.Standing.{AreAlike, HaveOneBody, StandsAt}
@@ -31,11 +30,3 @@ module _ {B : Type 0} (xs : List (Terms B)) (members : List ℕ) where
       P ↔ HaveOneBody xs members k j
   one-body k j t u P at also is = let x = body-at xs members k t at in let y = body-at xs members j u also in
       (λ p. x ∙ is.0 p ∙ sym y, λ h. is.1 (sym x ∙ h ∙ y))
-
--- in a list of nothing, nothing is noted
-pub none-noted : (P : Option ℕ → Type 0) (alike : List (Option ℕ)) → AllByRecursion P alike → ((j : ℕ) → P (Some j) → ⊥) →
-    (k j : ℕ) → get_or alike k None ≡ Some j → ⊥
-none-noted P [] all never k j is = cc
-none-noted P (None ∷ alike) all never zero j is = cc
-none-noted P (Some i ∷ alike) all never zero j is = never i all.0
-none-noted P (o ∷ alike) all never (suc k) j is = none-noted P alike all.1 never k j is

@@ -7,7 +7,7 @@ use Rattle.std.proofs.lemmas.Option.{same_Some, slice_get-get_or, slice_get-map,
 use Rattle.cif_columns.specs.Stp.{letter}
 use Rattle.cif_columns.specs.declared.stp.Stp.{Stp}
 use Rattle.cif_columns.specs.declared.stp.Stp.TheVariants.{P, N, O, C}
-use Rattle.cif_calendar.proofs.Words.{Terms, Records, Applies, NothingRuns, Wins, IsChosen, IsWinnerAt, body_at, Standing, Nobody}
+use Rattle.cif_calendar.proofs.Words.{Terms, Records, Applies, IsClear, NothingRuns, Wins, IsChosen, IsWinnerAt, body_at, Standing, Nobody}
 use Rattle.cif_calendar.proofs.Words.{Leader, Disputed}
 use Rattle.cif_calendar.specs.Terms.{AreLawful}
 use Rattle.cif_calendar.specs.Steps.Standing.{Combines, IsDisputed, IsRank, Leads, NoneApplies, Stands, StandsAt}
@@ -250,21 +250,31 @@ module _ {B : Type 0} (xs : List (Terms B)) (members : List ℕ) where
     record { wins = one-wins xs i r at d on; undisputed = λ s w. ap (λ (q : Terms B). q.body) (one-chosen xs i r at s w.listed) },
   )
 
-  -- where a leader has no body, nothing runs
-  pub idle-leader : (records : Records B) (d k : ℕ) (t : Terms B) → AreLawful records → StandsAt xs members k t → IsNone t.body →
-      Stands xs members records d (Leader k) → NothingRuns records d
-  idle-leader records d k t lawful at none (s, is, leads) = record {
-    cancelled = λ r w. (lawful.cancelled r w.listed).0
-        (subst IsNone (sym (body-at k t at) ∙ body-at k s is ∙ leads.undisputed r w) none);
-  }
+  -- a leader's body is that of all winners
+  leads-clear : (records : Records B) (d : ℕ) (t : Terms B) → Leads records d t → IsClear records d
+  leads-clear records d t leads = record { agree = λ r s v w. sym (leads.undisputed r v) ∙ leads.undisputed s w }
 
-  -- the position of a leader with a body is a source
-  pub winner-at : (d k : ℕ) (t : Terms B) → k < length members → StandsAt xs members k t → IsSome t.body →
-      Stands xs members (IsChosen xs members) d (Leader k) → IsWinnerAt xs members d (get_or members k 0)
-  winner-at d k t below at some (s, is, leads) = record {
-    member = Contains-get_or members k 0 below;
-    winner = s;
-    at = rw (same_Some (get_or members k 0) is.position (sym (slice_get-get_or members k 0 below) ∙ is.member)) is.at;
-    wins = leads.wins;
-    runs = subst IsSome (sym (body-at k t at) ∙ body-at k s is) some;
-  }
+  -- so nothing runs where a leader has no body
+  pub idle-leader : (records : Records B) (d k : ℕ) (t : Terms B) → AreLawful records → StandsAt xs members k t → IsNone t.body →
+      Stands xs members records d (Leader k) → IsClear records d × NothingRuns records d
+  idle-leader records d k t lawful at none (s, is, leads) = (
+    leads-clear records d s leads,
+    record {
+      cancelled = λ r w. (lawful.cancelled r w.listed).0
+          (subst IsNone (sym (body-at k t at) ∙ body-at k s is ∙ leads.undisputed r w) none);
+    },
+  )
+
+  -- and else the leader's position is a source
+  pub winner-at : (d k : ℕ) (t : Terms B) → k < length members → StandsAt xs members k t → IsSome t.body → Stands xs members
+      (IsChosen xs members) d (Leader k) → IsClear (IsChosen xs members) d × IsWinnerAt xs members d (get_or members k 0)
+  winner-at d k t below at some (s, is, leads) = (
+    leads-clear (IsChosen xs members) d s leads,
+    record {
+      member = Contains-get_or members k 0 below;
+      winner = s;
+      at = rw (same_Some (get_or members k 0) is.position (sym (slice_get-get_or members k 0 below) ∙ is.member)) is.at;
+      wins = leads.wins;
+      runs = subst IsSome (sym (body-at k t at) ∙ body-at k s is) some;
+    },
+  )

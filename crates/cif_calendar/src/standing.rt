@@ -5,7 +5,7 @@
 //! which fall.
 
 ghost use Rattle.std.specs.Prelude.{◌≡◌, ◌<◌, ◌↔◌, ◌⊎◌, ℕ, Some, None, length, map};
-ghost use Rattle.std.specs.Prelude.{All, IfErr, IfOk, IsTrue, OnOk, slice_index_or};
+ghost use Rattle.std.specs.Prelude.{All, IsTrue, MatchResult, slice_index_or};
 ghost use Rattle.cif_columns.specs.Stp.{letter};
 ghost use Rattle.cif_calendar.specs.Clash.{IsClash, IsClear};
 ghost use Rattle.cif_calendar.specs.Source.{IsChosen, IsSource};
@@ -233,9 +233,10 @@ pub(crate) fn winner_by<E: Entry>(
     requires leader { IsBelow (length members.now) standing }
     requires stands { Stands (map E.terms entries.now) members.now
         (IsChosen (map E.terms entries.now) members.now) day standing }
-    ensures clear { OnOk result (IsClear (IsChosen (map E.terms entries.now) members.now) day) }
-    ensures source { IfOk result (IsSource (map E.terms entries.now) members.now day) }
-    ensures clash { IfErr result (λ fault. (fault ≡ Ambiguous day)
+    ensures { MatchResult result
+        (λ source. IsClear (IsChosen (map E.terms entries.now) members.now) day
+        × IsSource (map E.terms entries.now) members.now day source)
+        (λ fault. (fault ≡ Ambiguous day)
         × IsClash (IsChosen (map E.terms entries.now) members.now) day) }
 {
     match standing {

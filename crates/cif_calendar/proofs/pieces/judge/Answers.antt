@@ -18,7 +18,7 @@ loop-preserved g c = let is = c.loop.invariant in record {
   upto = omega (arith, c.in-Some.ensures);
   week = week-more (map g.E.Entry.terms c.args.entries.now) c.args.members.now c.args.first c.loop.day c.from-weekday.result c.in-Some.next
       c.loop.winners c.in_ok-winners.field-0 (c.from-weekday.ensures ∙ c.weekday.ensures.value) c.in-Some.ensures.1 is.seven (omega arith)
-      (omega arith) c.in_ok-winners.ensures.source c.in_ok-winners.ensures.clear is.week;
+      (omega arith) c.in_ok-winners.ensures.1 c.in_ok-winners.ensures.0 is.week;
 }
 
 pub returns-clause-piece : goal.returns-clause-piece
@@ -35,6 +35,6 @@ returns-clause-piece g c =
             | then-loop-test+in_ok-winners+in-None w ↦ rw w.winners-is (week-more xs members c.args.first c.loop.day w.from-weekday.result
                 (min (c.args.stretch.now.last + 1) (c.args.first + 7)) c.loop.winners w.in_ok-winners.field-0
                 (w.from-weekday.ensures ∙ w.weekday.ensures.value) (omega (arith, w.in-None.ensures)) is.seven (omega arith) (omega arith)
-                w.in_ok-winners.ensures.source w.in_ok-winners.ensures.clear is.week)
+                w.in_ok-winners.ensures.1 w.in_ok-winners.ensures.0 is.week)
           ]),
     )

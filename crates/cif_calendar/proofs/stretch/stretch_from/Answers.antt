@@ -1,9 +1,11 @@
 -- One member more begins later, has ended (`stretch-begins`, `stretch-ended`), or lies over the first day (`stretch-looked`).
-use Rattle.std.proofs.Common.{◌+◌, [], get_or, length, map, refl, take, take_all}
+use Rattle.std.proofs.Common.{◌+◌, [], arith, get_or, length, map, refl, take, take_all}
 use Rattle.std.proofs.lemmas.List.{take_more}
+use Rattle.cif_calendar.proofs.Standings.{below-same}
 use Rattle.cif_calendar.proofs.Stretches.{day_upto, part-all, part-at, some-before, stretch-begins, stretch-ended, stretch-looked}
 use Rattle.cif_calendar.proofs.Stretches.{stretch-none}
 use Rattle.cif_calendar.proofs.Winning.{terms_at}
+use Rattle.cif_calendar.proofs.Words.{Leader}
 use Rattle.cif_calendar.proofs.stretch.stretch_from.Goals as goal
 use Rattle.cif_calendar.proofs.stretch.stretch_from.Goals.{then-le+then-le-2, then-le+else-le-2, else-le+in-Some, else-le+in_default}
 
@@ -58,3 +60,7 @@ loop-index-preserved g c =
 
 pub returns-clause-stretch : goal.returns-clause-stretch
 returns-clause-stretch g c = rw (take_all c.loop-index.index c.args.part.now c.loop-index-test.false) at c.loop-index.invariant.stretch
+
+pub look_at-requires-clause-others : goal.look_at-requires-clause-others
+look_at-requires-clause-others g c = below-same (length c.args.members.now) (Leader (c.args.number + c.loop-index.index))
+    (omega (arith, c.loop-index-test.true, c.requires.part.within))
