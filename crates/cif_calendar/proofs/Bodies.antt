@@ -1,7 +1,7 @@
 -- Which members are known to have one body.
 use Rattle.std.proofs.Common.{◌≡◌, ℕ, List, Option, Some, None, get_or, ⊎_elim, sym, ◌∙◌, subst, ◌⊎◌, ◌↔◌}
 use Rattle.std.proofs.lemmas.Option.{same_Some}
-use Rattle.cif_calendar.specs.Terms.{Terms}
+use Rattle.cif_calendar.proofs.Words.{Terms}
 use Rattle.cif_calendar.specs.Steps.Standing.{AreAlike, HaveOneBody, StandsAt}
 use Rattle.cif_calendar.proofs.Winning.{body-at}
 

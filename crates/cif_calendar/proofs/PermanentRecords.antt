@@ -2,8 +2,7 @@
 use Rattle.std.proofs.Common.{◌≡◌, ℕ, sym, ◌∙◌, ap, arith, true≢false, IsSome}
 use Rattle.cif_columns.specs.Stp.{letter}
 use Rattle.cif_columns.specs.declared.stp.Stp.TheVariants.{P, C}
-use Rattle.cif_calendar.proofs.Words.{Terms, Records, Applies, Wins}
-use Rattle.cif_calendar.specs.Terms.{AreLawful}
+use Rattle.cif_calendar.proofs.Words.{Terms, Records, Applies, Wins, AreLawful}
 
 module _ {B : Type 0} (records : Records B) where
   -- each that applies wins

@@ -8,8 +8,7 @@ use Rattle.cif_columns.specs.Stp.{letter}
 use Rattle.cif_columns.specs.declared.stp.Stp.{Stp}
 use Rattle.cif_columns.specs.declared.stp.Stp.TheVariants.{P, N, O, C}
 use Rattle.cif_calendar.proofs.Words.{Terms, Records, Applies, IsClear, NothingRuns, Wins, IsChosen, IsWinnerAt, body_at, Standing, Nobody}
-use Rattle.cif_calendar.proofs.Words.{Leader, Disputed}
-use Rattle.cif_calendar.specs.Terms.{AreLawful}
+use Rattle.cif_calendar.proofs.Words.{Leader, Disputed, AreLawful}
 use Rattle.cif_calendar.specs.Steps.Standing.{Combines, IsDisputed, IsRank, Leads, NoneApplies, Stands, StandsAt}
 use Rattle.cif_calendar.proofs.Elements.{Contains-first, Contains-cases}
 
@@ -257,12 +256,9 @@ module _ {B : Type 0} (xs : List (Terms B)) (members : List ℕ) where
   -- so nothing runs where a leader has no body
   pub idle-leader : (records : Records B) (d k : ℕ) (t : Terms B) → AreLawful records → StandsAt xs members k t → IsNone t.body →
       Stands xs members records d (Leader k) → IsClear records d × NothingRuns records d
-  idle-leader records d k t lawful at none (s, is, leads) = (
+  idle-leader records d k t lawful at none (s, is, leads) = let same = sym (body-at k t at) ∙ body-at k s is in (
     leads-clear records d s leads,
-    record {
-      cancelled = λ r w. (lawful.cancelled r w.listed).0
-          (subst IsNone (sym (body-at k t at) ∙ body-at k s is ∙ leads.undisputed r w) none);
-    },
+    record { cancelled = λ r w. (lawful.cancelled r w.listed).0 (subst IsNone (same ∙ leads.undisputed r w) none) },
   )
 
   -- and else the leader's position is a source

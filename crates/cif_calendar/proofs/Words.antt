@@ -1,6 +1,6 @@
 -- The words of which most of the proofs speak.
 pub use Rattle.cif_columns.specs.Day.{weekday_of}
-pub use Rattle.cif_calendar.specs.Terms.{Terms, Records}
+pub use Rattle.cif_calendar.specs.Terms.{Terms, Records, AreLawful, SameRecords}
 pub use Rattle.cif_calendar.specs.Applies.{Applies}
 pub use Rattle.cif_calendar.specs.Wins.{Wins}
 pub use Rattle.cif_calendar.specs.Clash.{IsClear, IsClash, IsClearFrom, IsFirstClash}

@@ -1,6 +1,6 @@
 -- A link leads to a member with the same body (`falling-next`), and so do two (`alike-noted`).
 use Rattle.std.proofs.Common.{ap, map, refl, sym, ◌∙◌, ◌↔◌, IsTrue, slice_get}
-use Rattle.cif_calendar.specs.Source.{body_at}
+use Rattle.cif_calendar.proofs.Words.{body_at}
 use Rattle.cif_calendar.specs.Steps.Standing.{HaveOneBody}
 use Rattle.cif_calendar.proofs.Bodies.{alike-noted, falling-next, one-body}
 use Rattle.cif_calendar.proofs.standing.have_one_body.Given.{Over}
