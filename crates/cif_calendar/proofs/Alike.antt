@@ -3,15 +3,9 @@ use Rattle.std.proofs.Common.{◌≡◌, ℕ, ◌+◌, ◌-◌, ◌<◌, ◌≤�
 use Rattle.std.proofs.Common.{length, ◌∙◌, ⊎_elim, set}
 use Rattle.std.proofs.lemmas.Bool.{cases_lt}
 use Rattle.std.proofs.lemmas.List.{get_or-set_same, get_or-set_other}
-use Rattle.cif_columns.specs.Day.{weekday_of}
+use Rattle.cif_calendar.proofs.Words.{weekday_of, Terms, Records, Applies, Wins, IsClear, IsChosen, IsSource, Piece}
 use Rattle.cif_columns.specs.DaysRun.{RunsOn}
-use Rattle.cif_calendar.specs.Terms.{Terms, Records}
-use Rattle.cif_calendar.specs.Applies.{Applies}
-use Rattle.cif_calendar.specs.Wins.{Wins}
-use Rattle.cif_calendar.specs.Clash.{IsClear}
-use Rattle.cif_calendar.specs.Source.{IsChosen, IsSource}
 use Rattle.cif_calendar.specs.Pieces.{IsUnbroken, IsPiece}
-use Rattle.cif_calendar.specs.declared.key_calendar.Piece.{Piece}
 use Rattle.cif_calendar.proofs.Standings.{covered-back}
 
 -- d and e are days of one weekday in the stretch

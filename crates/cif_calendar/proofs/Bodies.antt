@@ -1,9 +1,9 @@
 -- Which members are known to have one body.
-use Rattle.std.proofs.Common.{◌≡◌, ℕ, List, Option, Some, None, get_or, ⊎_elim, sym, ◌∙◌, subst}
-use Rattle.std.specs.Prelude.{◌⊎◌, ◌↔◌}
+use Rattle.std.proofs.Common.{◌≡◌, ℕ, List, Option, Some, None, get_or, ⊎_elim, sym, ◌∙◌, subst, ◌⊎◌, ◌↔◌}
 use Rattle.std.proofs.lemmas.Option.{same_Some}
-use Rattle.cif_calendar.specs.Terms.{Terms}
-use Rattle.cif_calendar.specs.Steps.Standing.{AreAlike, HaveOneBody}
+use Rattle.cif_calendar.proofs.Words.{Terms}
+use Rattle.cif_calendar.specs.Steps.Standing.{AreAlike, HaveOneBody, StandsAt}
+use Rattle.cif_calendar.proofs.Winning.{body-at}
 
 module _ {B : Type 0} (xs : List (Terms B)) (members : List ℕ) where
   -- what is noted is known
@@ -24,3 +24,9 @@ module _ {B : Type 0} (xs : List (Terms B)) (members : List ℕ) where
       (λ e. rw (e.0, e.1) (λ h. both.0 (same ∙ h), λ p. sym same ∙ both.1 p))
       (λ e. rw (e.0, e.1) (λ h. both.0 (same ∙ sym h), λ p. sym (both.1 p) ∙ same))
       either
+
+  -- what a test of two members' bodies tells
+  pub one-body : (k j : ℕ) (t u : Terms B) (P : Type 0) → StandsAt xs members k t → StandsAt xs members j u → (P ↔ (t.body ≡ u.body)) →
+      P ↔ HaveOneBody xs members k j
+  one-body k j t u P at also is = let x = body-at xs members k t at in let y = body-at xs members j u also in
+      (λ p. x ∙ is.0 p ∙ sym y, λ h. is.1 (sym x ∙ h ∙ y))

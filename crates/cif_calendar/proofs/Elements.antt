@@ -1,6 +1,5 @@
 -- The elements of a list with one more in front.
-use Rattle.std.proofs.Common.{◌≡◌, zero, suc, ◌<◌, List, ◌∷◌, length, refl, arith, inl, inr}
-use Rattle.std.specs.Prelude.{Contains, ◌⊎◌}
+use Rattle.std.proofs.Common.{◌≡◌, zero, suc, ◌<◌, List, ◌∷◌, length, refl, arith, inl, inr, Contains, ◌⊎◌}
 
 module _ {X : Type 0} (y : X) (ys : List X) where
   pub Contains-first : Contains (y ∷ ys) y

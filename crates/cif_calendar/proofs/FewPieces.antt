@@ -1,10 +1,8 @@
 -- How many pieces there can be: each begins at an end of a record that the ones before have not used.
-use Rattle.std.proofs.Common.{◌≡◌, ℕ, ◌+◌, ◌*◌, ◌≤◌, List, [], ◌∷◌, length, Option, None, Some, cond, arith, ⊎_elim}
-use Rattle.std.proofs.Common.{ltb, leb, ap, ◌∙◌}
-use Rattle.std.specs.Prelude.{Contains, slice_get, ◌⊎◌}
+use Rattle.std.proofs.Common.{◌≡◌, ℕ, ◌+◌, ◌*◌, ◌≤◌, List, [], ◌∷◌, length, Option, None, Some, cond, arith, ⊎_elim, ltb, leb, ap, ◌∙◌}
+use Rattle.std.proofs.Common.{Contains, slice_get, ◌⊎◌}
 use Rattle.std.proofs.lemmas.Bool.Decides.{nat_tests}
-use Rattle.cif_calendar.specs.Terms.{Terms}
-use Rattle.cif_calendar.specs.Source.{IsChosen}
+use Rattle.cif_calendar.proofs.Words.{Terms, IsChosen}
 use Rattle.cif_calendar.specs.Pieces.{ChangesOn}
 use Rattle.cif_calendar.proofs.Elements.{Contains-cases}
 

@@ -1,12 +1,10 @@
 -- A clash is what a clear day has not, and the first clash is one.
-use Rattle.std.proofs.Common.{◌≡◌, ℕ, ◌<◌, List, arith, refl, sym, ◌∙◌, ap, subst}
+use Rattle.std.proofs.Common.{◌≡◌, ℕ, ◌<◌, List, arith, refl, sym, ◌∙◌, ap, subst, Bool, IsTrue, ◌↔◌, is_eq}
 use Rattle.std.specs.Cmp.{IsTotalOrder}
-use Rattle.std.specs.Prelude.{Bool, IsTrue, ◌↔◌}
-use Rattle.std.specs.Ordering.{ordering_reverse, is_eq}
+use Rattle.std.specs.Ordering.{ordering_reverse}
 use Rattle.std.specs.declared.cmp.Ordering.{Ordering}
 use Rattle.std.specs.declared.cmp.Ordering.TheVariants.{Less, Equal, Greater}
-use Rattle.cif_calendar.specs.Terms.{Terms, Records}
-use Rattle.cif_calendar.specs.Clash.{IsClear, IsClash, IsClearFrom, IsFirstClash}
+use Rattle.cif_calendar.proofs.Words.{Terms, Records, IsClear, IsClash, IsClearFrom, IsFirstClash}
 use Rattle.cif_calendar.specs.Keys.{IsFirstClashOf, AreClear, of_key}
 
 pub clash-clear : {B : Type 0} (records : Records B) (d : ℕ) → IsClash records d → IsClear records d → ⊥

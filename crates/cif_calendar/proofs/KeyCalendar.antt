@@ -1,13 +1,8 @@
 -- A calendar of all of a key's entries says what runs for the key.
-use Rattle.std.proofs.Common.{◌≡◌, ℕ, ◌≤◌, List, Option, Some, map, sym, ◌∙◌, subst}
-use Rattle.std.specs.Prelude.{IsNone, IsSome, slice_get, ◌↔◌}
+use Rattle.std.proofs.Common.{◌≡◌, ℕ, ◌≤◌, List, Option, Some, map, sym, ◌∙◌, subst, IsNone, IsSome, slice_get, ◌↔◌}
 use Rattle.std.proofs.lemmas.Option.{same_Some}
 use Rattle.cif_columns.specs.declared.stp.Stp.TheVariants.{C}
-use Rattle.cif_calendar.specs.Terms.{Terms}
-use Rattle.cif_calendar.specs.Wins.{Wins}
-use Rattle.cif_calendar.specs.Clash.{IsClearFrom}
-use Rattle.cif_calendar.specs.Runs.{Runs}
-use Rattle.cif_calendar.specs.Source.{IsChosen, IsSource, IsWinnerAt}
+use Rattle.cif_calendar.proofs.Words.{Terms, Wins, IsClearFrom, Runs, IsChosen, IsSource, IsWinnerAt}
 use Rattle.cif_calendar.specs.Pieces.{source_at}
 use Rattle.cif_calendar.specs.Calendar.{CalendarParts, IsCalendar, IsFault, body_on}
 use Rattle.cif_calendar.specs.Keys.{keyed, of_key, ArePositionsOf}

@@ -1,17 +1,13 @@
 -- The pieces of a window so far.
-use Rattle.std.proofs.Common.{◌≡◌, ℕ, ◌+◌, ◌*◌, ◌<◌, ◌≤◌, List, [], ◌∷◌, ◌++◌, length, length-append, All, subst, sym, ap, arith}
-use Rattle.std.proofs.Common.{⊎_elim, inl, inr, refl, Ok, Err, drop, get_or, ◌∙◌}
+use Rattle.std.proofs.Common.{◌≡◌, ℕ, ◌+◌, ◌*◌, ◌<◌, ◌≤◌, List, [], ◌∷◌, ◌++◌, length, length-append, All, subst, sym, ap, arith, ⊎_elim}
+use Rattle.std.proofs.Common.{inl, inr, refl, Ok, Err, drop, get_or, ◌∙◌, ◌⊎◌, IsErrAnd, Result}
 use Rattle.std.proofs.lemmas.List.{drop_more}
-use Rattle.std.specs.Prelude.{◌⊎◌}
 use Rattle.std.proofs.lemmas.Bool.{cases_lt}
 use Rattle.std.proofs.lemmas.List.Elements.{All-nil, All-push, All-contains}
-use Rattle.cif_calendar.specs.Terms.{Terms}
-use Rattle.cif_calendar.specs.Clash.{IsClear, IsClearFrom, IsFirstClash}
-use Rattle.cif_calendar.specs.Source.{IsChosen, IsSource}
+use Rattle.cif_calendar.proofs.Words.{Terms, IsClear, IsClearFrom, IsFirstClash, IsChosen, IsSource, Piece}
 use Rattle.cif_calendar.specs.Pieces.{IsPiece, IsBoundary, ChangesOn, BeginsPiece, Tiles, source_at}
-use Rattle.cif_calendar.specs.Calendar.{IsAnswer, IsFault}
+use Rattle.cif_calendar.specs.Calendar.{CalendarParts, IsAnswer, IsFault}
 use Rattle.cif_calendar.specs.Steps.Stretches.{AreStretches, IsStretch}
-use Rattle.cif_calendar.specs.declared.key_calendar.Piece.{Piece}
 use Rattle.cif_calendar.specs.declared.stretch.Stretch.{Stretch}
 use Rattle.cif_calendar.specs.declared.key_calendar.CalendarFault.{CalendarFault}
 use Rattle.cif_calendar.specs.declared.key_calendar.CalendarFault.TheVariants.{Ambiguous, Memory}
@@ -48,6 +44,12 @@ module _ {B : Type 0} (xs : List (Terms B)) (members : List ℕ) (from last : �
     next = λ _. refl;
     ahead = h;
   }
+
+  -- where memory ran out, nothing else is said
+  pub laid-memory : (r : Result CalendarParts CalendarFault) → IsErrAnd r (λ e. e ≡ Memory) → IsAnswer xs members from last r
+  laid-memory (Ok c) h = absurd h
+  laid-memory (Err (Ambiguous d)) h = absurd (cc)
+  laid-memory (Err Memory) h = record { calendar = tt; fault = tt; clash = λ n c. inr refl }
 
   module _ (first : ℕ) (ss : List Stretch) (ps : List Piece) (l : AreLaid xs members from last first ss ps) where
     -- each day before `to` is one of a piece, so it is clear and has its source
@@ -160,4 +162,4 @@ module _ {B : Type 0} (xs : List (Terms B)) (members : List ℕ) (from last : �
             (λ new. f.clear_before e (omega (arith, new, l.next inside)) before)
             (cases_lt e l.to);
       }
-    laid-fault Memory f = record { calendar = tt; fault = tt; clash = λ n c. inr refl }
+    laid-fault Memory f = laid-memory (Err Memory) refl

@@ -15,3 +15,4 @@ pub mod FewPieces
 pub mod LaidPieces
 pub mod Stretches
 pub mod Bodies
+pub mod Words

@@ -1,13 +1,7 @@
 -- What runs on a day is one thing, and the source of the day has it.
-use Rattle.std.proofs.Common.{◌≡◌, ℕ, List, Option, None, Some, sym, ◌∙◌, ap, subst, refl}
-use Rattle.std.specs.Prelude.{IsNone, IsSome, ◌↔◌}
-use Rattle.std.specs.Option.{option_and_then, is_some}
+use Rattle.std.proofs.Common.{◌≡◌, ℕ, List, Option, None, Some, sym, ◌∙◌, ap, subst, refl, IsNone, IsSome, ◌↔◌, option_and_then, is_some}
 use Rattle.cif_columns.specs.declared.stp.Stp.TheVariants.{C}
-use Rattle.cif_calendar.specs.Terms.{Terms, Records, AreLawful}
-use Rattle.cif_calendar.specs.Clash.{IsClear}
-use Rattle.cif_calendar.specs.Runs.{Runs, BodyRuns, NothingRuns}
-use Rattle.cif_calendar.specs.Source.{IsChosen, IsSource, body_at}
-use Rattle.cif_calendar.specs.Wins.{Wins}
+use Rattle.cif_calendar.proofs.Words.{Terms, Records, IsClear, Runs, BodyRuns, NothingRuns, IsChosen, IsSource, body_at, Wins, AreLawful}
 
 none-some : {B : Type 0} (r : Terms B) (b : B) → r.body ≡ Some b → IsNone r.body → ⊥
 none-some r b e n = let h = rw e at n in cc
@@ -49,7 +43,7 @@ Runs-unique records d None (Some y) l clear p q = absurd (nothing-body records d
 Runs-unique records d (Some x) None l clear p q = absurd (nothing-body records d x l q p)
 Runs-unique records d (Some x) (Some y) l clear p q = ap Some (body-unique records d x y clear p q)
 
-some-body : {B : Type 0} (o : Option B) → IsSome o → (b : B) × (o ≡ Some b)
+pub some-body : {B : Type 0} (o : Option B) → IsSome o → (b : B) × (o ≡ Some b)
 some-body None h = absurd (cc)
 some-body (Some b) h = (b, refl)
 

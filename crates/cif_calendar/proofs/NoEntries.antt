@@ -1,7 +1,6 @@
 -- Of a key without entries nothing runs.
 use Rattle.std.proofs.Common.{ℕ}
-use Rattle.cif_calendar.specs.Terms.{Terms, Records}
-use Rattle.cif_calendar.specs.Clash.{IsClearFrom}
+use Rattle.cif_calendar.proofs.Words.{Terms, Records, IsClearFrom}
 
 module _ {B : Type 0} (records : Records B) (none : (r : Terms B) → records r → ⊥) where
   pub none-clear : (first last : ℕ) → IsClearFrom records first last

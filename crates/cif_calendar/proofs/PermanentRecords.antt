@@ -1,11 +1,8 @@
 -- Records that are all permanent.
-use Rattle.std.proofs.Common.{◌≡◌, ℕ, sym, ◌∙◌, ap, arith, true≢false}
-use Rattle.std.specs.Prelude.{IsSome}
+use Rattle.std.proofs.Common.{◌≡◌, ℕ, sym, ◌∙◌, ap, arith, true≢false, IsSome}
 use Rattle.cif_columns.specs.Stp.{letter}
 use Rattle.cif_columns.specs.declared.stp.Stp.TheVariants.{P, C}
-use Rattle.cif_calendar.specs.Terms.{Terms, Records, AreLawful}
-use Rattle.cif_calendar.specs.Applies.{Applies}
-use Rattle.cif_calendar.specs.Wins.{Wins}
+use Rattle.cif_calendar.proofs.Words.{Terms, Records, Applies, Wins, AreLawful}
 
 module _ {B : Type 0} (records : Records B) where
   -- each that applies wins

@@ -1,11 +1,10 @@
 -- Pieces one after another, and the source of a day.
-use Rattle.std.proofs.Common.{◌≡◌, ℕ, zero, suc, ◌+◌, ◌<◌, ◌≤◌, List, [], ◌∷◌, ◌++◌, length, Bool, cond, refl, sym, ◌∙◌, ap}
-use Rattle.std.proofs.Common.{arith, ⊎_elim, get_or, ltb, ltb-true, ltb-false, true, false}
-use Rattle.std.specs.Prelude.{Contains}
+use Rattle.std.proofs.Common.{◌≡◌, ℕ, zero, suc, ◌+◌, ◌<◌, ◌≤◌, List, [], ◌∷◌, ◌++◌, length, Bool, cond, refl, sym, ◌∙◌, ap, arith, ⊎_elim}
+use Rattle.std.proofs.Common.{get_or, ltb, ltb-true, ltb-false, true, false, Contains}
 use Rattle.std.specs.List.Sorted.{IsNonDecreasingBy, IsPartitionPoint}
 use Rattle.std.proofs.lemmas.Bool.Decides.{leb_tells}
 use Rattle.cif_calendar.specs.Pieces.{Tiles, source_at, winner_of}
-use Rattle.cif_calendar.specs.declared.key_calendar.Piece.{Piece}
+use Rattle.cif_calendar.proofs.Words.{Piece}
 use Rattle.cif_calendar.proofs.Elements.{Contains-first, Contains-rest, Contains-cases}
 
 pub tiles-push : (ps : List Piece) (a b : ℕ) (p : Piece) → Tiles ps a b → p.first ≡ b → p.first ≤ p.last →

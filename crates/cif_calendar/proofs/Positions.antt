@@ -1,11 +1,8 @@
 -- The records at a key's positions are the records of the key.
-use Rattle.std.proofs.Common.{◌≡◌, ℕ, List, Option, None, Some, map, sym, ◌∙◌, ap, subst}
-use Rattle.std.specs.Prelude.{Contains, slice_get, IsNone, ◌↔◌}
-use Rattle.std.specs.Option.{option_map}
+use Rattle.std.proofs.Common.{◌≡◌, ℕ, List, Option, None, Some, map, sym, ◌∙◌, ap, subst, Contains, slice_get, IsNone, ◌↔◌, option_map}
 use Rattle.cif_columns.specs.declared.stp.Stp.TheVariants.{C}
 use Rattle.std.proofs.lemmas.Option.{same_Some, slice_get-map, slice_get-get_or, slice_get_within, get_or_from_slice_get}
-use Rattle.cif_calendar.specs.Terms.{Terms, SameRecords, AreLawful}
-use Rattle.cif_calendar.specs.Source.{IsChosen}
+use Rattle.cif_calendar.proofs.Words.{Terms, SameRecords, AreLawful, IsChosen}
 use Rattle.cif_calendar.specs.Keys.{keyed, of_key, ArePositionsOf}
 
 -- an element that a look-up finds is in the list, and an element of the list is found

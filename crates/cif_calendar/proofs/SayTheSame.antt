@@ -1,10 +1,8 @@
 -- When two lists of records say the same.
-use Rattle.std.proofs.Common.{ℕ, ◌≤◌, List}
-use Rattle.std.specs.Prelude.{◌↔◌}
-use Rattle.cif_calendar.specs.Terms.{Terms, AreLawful}
+use Rattle.std.proofs.Common.{ℕ, ◌≤◌, List, ◌↔◌}
+use Rattle.cif_calendar.proofs.Words.{Terms, AreLawful, BodyRuns}
 use Rattle.cif_calendar.specs.Keys.{of_key}
 use Rattle.cif_calendar.specs.Meaning.{EntriesSayTheSame}
-use Rattle.cif_calendar.specs.Runs.{BodyRuns}
 use Rattle.cif_calendar.proofs.Meaning.{Runs-from_bodies}
 
 module _ {K B : Type 0} where

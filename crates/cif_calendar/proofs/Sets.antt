@@ -1,9 +1,6 @@
 -- Sets with the same records have the same winners, the same clashes and the same runs.
 use Rattle.std.proofs.Common.{ℕ, Option, None, Some}
-use Rattle.cif_calendar.specs.Terms.{Terms, Records, SameRecords}
-use Rattle.cif_calendar.specs.Wins.{Wins}
-use Rattle.cif_calendar.specs.Clash.{IsClear, IsClash, IsClearFrom, IsFirstClash}
-use Rattle.cif_calendar.specs.Runs.{Runs}
+use Rattle.cif_calendar.proofs.Words.{Terms, Records, Wins, IsClear, IsClash, IsClearFrom, IsFirstClash, Runs, SameRecords}
 
 module _ {B : Type 0} (xs ys : Records B) (e : SameRecords xs ys) where
   pub Wins-same : (d : ℕ) (r : Terms B) → Wins xs d r → Wins ys d r

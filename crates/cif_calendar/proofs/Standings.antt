@@ -1,19 +1,13 @@
 -- Who leads on each weekday, as more members are looked at.
-use Rattle.std.proofs.Common.{◌≡◌, ℕ, ◌+◌, ◌<◌, ◌≤◌, List, [], ◌∷◌, ◌++◌, Some, replicate, length-set, get_or, set}
-use Rattle.std.proofs.Common.{◌≢◌, ◌⊎◌, inl, inr, arith, refl, ⊎_elim, sym, ◌∙◌, ap, subst, true, false}
-use Rattle.std.specs.Prelude.{slice_get}
+use Rattle.std.proofs.Common.{◌≡◌, ℕ, ◌+◌, ◌<◌, ◌≤◌, List, [], ◌∷◌, ◌++◌, Some, replicate, length-set, get_or, set, ◌≢◌, ◌⊎◌, inl, inr}
+use Rattle.std.proofs.Common.{arith, refl, ⊎_elim, sym, ◌∙◌, ap, subst, true, false, slice_get}
 use Rattle.std.proofs.lemmas.Bool.{cases_lt}
 use Rattle.std.proofs.lemmas.Option.{slice_get-get_or}
 use Rattle.std.proofs.lemmas.Grind.{get_or-set_at}
 use Rattle.std.proofs.lemmas.List.{get_or-set_other, get_or_past, get_or-replicate, set-get_or}
-use Rattle.cif_columns.specs.Day.{weekday_of}
-use Rattle.cif_calendar.specs.Terms.{Terms, Records}
-use Rattle.cif_calendar.specs.Applies.{Applies}
-use Rattle.cif_calendar.specs.Source.{IsChosen}
+use Rattle.cif_calendar.proofs.Words.{weekday_of, Terms, Records, Applies, IsChosen, Standing, Nobody, Leader}
 use Rattle.cif_calendar.specs.Pieces.{IsUnbroken}
 use Rattle.cif_calendar.specs.Steps.Standing.{AreBelow, Combines, IsBelow, LooksAt, Stands}
-use Rattle.cif_calendar.specs.declared.standing.Standing.{Standing}
-use Rattle.cif_calendar.specs.declared.standing.Standing.TheVariants.{Nobody, Leader}
 use Rattle.cif_calendar.proofs.Winning.{nobody-combines, one-leads, one-none}
 
 -- The weekdays one by one: each before k has had a step, and the others are as they were.

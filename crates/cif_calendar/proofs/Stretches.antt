@@ -1,19 +1,34 @@
 -- Stretches one after another, and those of two sets of members together.
-use Rattle.std.proofs.Common.{◌≡◌, ℕ, ◌+◌, ◌<◌, ◌≤◌, List, [], ◌∷◌, ◌++◌, Some, length, get_or, All, replicate}
-use Rattle.std.proofs.Common.{arith, refl, ⊎_elim, inl, inr, sym, ◌∙◌, ap, subst}
-use Rattle.std.specs.Prelude.{◌⊎◌, slice_get}
+use Rattle.std.proofs.Common.{◌≡◌, ℕ, ◌+◌, ◌-◌, ◌<◌, ◌≤◌, List, [], ◌∷◌, ◌++◌, Some, length, get_or, All, replicate, arith, refl, ⊎_elim}
+use Rattle.std.proofs.Common.{inl, inr, sym, ◌∙◌, ap, subst, nat_cmp, is_le, rules, Bool, true, false, ◌⊎◌, slice_get}
 use Rattle.std.proofs.lemmas.Option.{slice_get-get_or}
-use Rattle.cif_columns.specs.Day.{weekday_of}
-use Rattle.cif_calendar.specs.Terms.{Terms, Records}
-use Rattle.cif_calendar.specs.Source.{IsChosen}
+use Rattle.std.specs.Ordering.{ord_min}
+use Rattle.cif_calendar.proofs.Words.{weekday_of, Applies, Terms, Records, IsChosen, Standing, Nobody, Leader}
 use Rattle.cif_calendar.specs.Pieces.{ChangesOn, IsUnbroken}
 use Rattle.cif_calendar.specs.Steps.Standing.{AreBelow, LooksAt, Stands}
-use Rattle.cif_calendar.specs.Steps.Stretches.{AreBehind, AreStretches, IsEndFor, IsJoint, IsPart, IsStretch}
-use Rattle.cif_calendar.specs.declared.standing.Standing.{Standing}
-use Rattle.cif_calendar.specs.declared.standing.Standing.TheVariants.{Nobody, Leader}
+use Rattle.cif_calendar.specs.Steps.Stretches.{AreBehind, AreStretches, IsJoint, IsPart, IsStretch}
 use Rattle.cif_calendar.specs.declared.stretch.Stretch.{Stretch}
-use Rattle.cif_calendar.proofs.Standings.{below-same, covered-back, stands-more, stands-none, stands-skip}
+use Rattle.cif_calendar.proofs.Standings.{below-same, stands-more, stands-none, stands-skip}
 use Rattle.cif_calendar.proofs.Winning.{IsUnion, chosen-one, chosen-union, one-chosen, union-swap}
+
+-- what a test of two days tells
+pub day_upto : (a b : ℕ) (test : Bool) → test ≡ is_le (nat_cmp a b) → (test ≡ true → a ≤ b) × (test ≡ false → b < a)
+day_upto a b test is = (λ yes. search rules, λ no. search rules)
+
+pub some-before : (a b : ℕ) → a < b → 0 < b
+some-before a b less = omega arith
+
+-- the sooner of two days
+pub sooner : (a b day : ℕ) → day ≡ ord_min nat_cmp a b → (day ≤ a) × (day ≤ b) × ((day ≡ a) ⊎ (day ≡ b))
+sooner a b day is = (search rules, search rules, search rules)
+
+-- from day `first` to day `end` the record doesn't begin or end, and `end` is `last` or the day before it does, if that is sooner
+record IsEndFor {B : Type 0} (r : Terms B) (first last end : ℕ) : Type 0 where
+  from : first ≤ end
+  upto : end ≤ last
+  begins : first < r.first → end < r.first
+  ends : first ≤ r.last → end ≤ r.last
+  breaks : (end ≡ last) ⊎ ((end + 1 ≡ r.first) ⊎ (end + 1 ≡ r.last + 1))
 
 -- how far the days are alike, by fewer days and by more records
 unbroken-within : {B : Type 0} (records : Records B) (first last from upto : ℕ) → first ≤ from → upto ≤ last →
@@ -65,20 +80,19 @@ module _ {B : Type 0} (xs : List (Terms B)) (members looked : List ℕ) (end : �
     none : (r : Terms B) → IsChosen xs [] r → ⊥
     none r c = let (k, below, is) = c.member in omega arith
 
-  -- then the record r is, which the member with number k has, and by which the stretch goes up to day `to`
+  -- then the record r is, which the member with number k has
   module _ (first k i : ℕ) (r : Terms B) (member : slice_get members k ≡ Some i) (at : slice_get xs i ≡ Some r) (s : Stretch)
-      (h : IsStretch xs members looked end first s) (to : ℕ) (e : IsEndFor r first s.last to) where
-    alone : IsUnbroken (IsChosen xs (i ∷ [])) first to
-    alone = unbroken-one xs i r at first to e.begins e.ends
-
-    stretch-more : (standings : List Standing) → AreBelow (length members) standings → ((d : ℕ) → first ≤ d → d ≤ to →
+      (h : IsStretch xs members looked end first s) (to : ℕ) where
+    stretch-more : IsEndFor r first s.last to → (standings : List Standing) → AreBelow (length members) standings →
+        ((d : ℕ) → first ≤ d → d ≤ to →
         Stands xs members (IsChosen xs (looked ++ i ∷ [])) d (get_or standings (weekday_of d) Nobody)) →
         IsStretch xs members (looked ++ i ∷ []) end first (record { last = to; standings = standings })
-    stretch-more standings below stands = let both = chosen-union xs looked (i ∷ []) in record {
+    stretch-more e standings below stands = let both = chosen-union xs looked (i ∷ []) in record {
       in_order = e.from;
       upto = omega (arith, e.upto, h.upto);
       unbroken = unbroken-both _ _ _ both first to
-          (unbroken-within (IsChosen xs looked) first s.last first to (omega arith) e.upto h.unbroken) alone;
+          (unbroken-within (IsChosen xs looked) first s.last first to (omega arith) e.upto h.unbroken)
+          (unbroken-one xs i r at first to e.begins e.ends);
       change = ⊎_elim
           (λ same. rw same (changes-kept _ _ _ both (s.last + 1 ≡ end) (s.last + 1) h.change))
           (λ c. inr (r, both.right r (chosen-one xs i r at), c))
@@ -87,19 +101,53 @@ module _ {B : Type 0} (xs : List (Terms B)) (members looked : List ℕ) (end : �
       stands = stands;
     }
 
-    pub stretch-looked : (standings : List Standing) → AreBelow (length members) standings → (r.first ≤ first) × (first ≤ r.last) →
+    -- where it doesn't apply
+    stretch-passed : IsEndFor r first s.last to → ((d : ℕ) → first ≤ d → d ≤ to → Applies r d → ⊥) →
+        IsStretch xs members (looked ++ i ∷ []) end first (record { last = to; standings = s.standings })
+    stretch-passed e off = stretch-more e s.standings h.below (λ d from upto.
+        stands-skip xs members looked k i r member at d _ (h.stands d from (omega (arith, e.upto))) (off d from upto))
+
+    -- it begins later
+    pub stretch-begins : (begin before : ℕ) → begin ≡ r.first → first < begin → before ≡ begin - 1 → to ≡ ord_min nat_cmp s.last before →
+        r.first ≤ r.last → IsStretch xs members (looked ++ i ∷ []) end first (record { last = to; standings = s.standings })
+    stretch-begins begin before is later sooner_is least up = let m = sooner s.last before to least in stretch-passed
+        (record {
+          from = omega (arith, m.2, h.in_order);
+          upto = m.0;
+          begins = λ _. omega (arith, m.1);
+          ends = λ _. omega (arith, m.1);
+          breaks = ⊎_elim (λ a. inl a) (λ b. inr (inl (omega arith))) m.2;
+        })
+        (λ d low high on. omega (arith, m.1, on.begun))
+
+    -- it has ended
+    pub stretch-ended : to ≡ s.last → r.first ≤ first → r.last < first →
+        IsStretch xs members (looked ++ i ∷ []) end first (record { last = to; standings = s.standings })
+    stretch-ended same begun ended = stretch-passed
+        (record {
+          from = omega (arith, h.in_order);
+          upto = omega arith;
+          begins = λ late. absurd (omega arith);
+          ends = λ late. absurd (omega arith);
+          breaks = inl same;
+        })
+        (λ d low high on. omega (arith, ended, on.unfinished))
+
+    -- it lies over the first day
+    pub stretch-looked : (standings : List Standing) → AreBelow (length members) standings → to ≡ ord_min nat_cmp s.last r.last →
+        r.first ≤ first → first ≤ r.last →
         ((w : ℕ) → w < 7 → LooksAt xs members r.days (replicate 7 (Leader k)) w (get_or s.standings w Nobody) (get_or standings w Nobody)) →
         IsStretch xs members (looked ++ i ∷ []) end first (record { last = to; standings = standings })
-    stretch-looked standings below covered each = stretch-more standings below (λ d from upto.
-        let last : to ≤ r.last = e.ends covered.1 in
-        stands-more xs members looked k i r member at d _ (h.stands d from (omega (arith, e.upto))) _
-        (omega (arith, covered.0)) (omega arith) (each (weekday_of d) (omega arith)))
-
-    pub stretch-passed : ((r.first ≤ first) × (first ≤ r.last) → ⊥) →
-        IsStretch xs members (looked ++ i ∷ []) end first (record { last = to; standings = s.standings })
-    stretch-passed off = stretch-more s.standings h.below (λ d from upto.
-        stands-skip xs members looked k i r member at d _ (h.stands d from (omega (arith, e.upto)))
-        (λ on. off (covered-back (IsChosen xs (i ∷ [])) first to alone d r (chosen-one xs i r at) from upto on)))
+    stretch-looked standings below least begun unfinished each = let m = sooner s.last r.last to least in stretch-more
+        (record {
+          from = omega (arith, m.2, unfinished, h.in_order);
+          upto = m.0;
+          begins = λ late. absurd (omega arith);
+          ends = λ _. m.1;
+          breaks = ⊎_elim (λ a. inl a) (λ b. inr (inr (ap (λ n. n + 1) b))) m.2;
+        })
+        standings below (λ d from upto. stands-more xs members looked k i r member at d _ (h.stands d from (omega (arith, m.0))) _
+        (omega arith) (omega (arith, m.1)) (each (weekday_of d) (omega arith)))
 
   pub stretches-push : (from to next : ℕ) (ss : List Stretch) (s : Stretch) → next ≡ s.last + 1 → IsStretch xs members looked end to s →
       AreStretches xs members looked end from to ss → AreStretches xs members looked end from next (ss ++ s ∷ [])

@@ -1,21 +1,15 @@
 -- Members that are looked at together: who wins, and who leads.
 use Rattle.std.proofs.Common.{◌≡◌, ℕ, ◌<◌, ◌≤◌, List, [], ◌∷◌, ◌++◌, Option, Some, Bool, false, length, get_or, map, ap, subst, sym, ◌∙◌}
-use Rattle.std.proofs.Common.{arith, refl, ⊎_elim, inl, inr}
+use Rattle.std.proofs.Common.{arith, refl, ⊎_elim, inl, inr, IsSome, IsNone, IsTrue, slice_get, ◌⊎◌, option_map, option_and_then}
 use Rattle.std.proofs.lemmas.Bool.{false≢true}
-use Rattle.std.specs.Prelude.{IsSome, IsTrue, slice_get, ◌⊎◌}
 use Rattle.std.proofs.lemmas.List.Elements.{Contains-append_left, Contains-append_right, Contains-append_cases, Contains-get_or}
-use Rattle.std.specs.Option.{option_map, option_and_then}
 use Rattle.std.proofs.lemmas.Option.{same_Some, slice_get-get_or, slice_get-map, slice_get_read}
 use Rattle.cif_columns.specs.Stp.{letter}
 use Rattle.cif_columns.specs.declared.stp.Stp.{Stp}
 use Rattle.cif_columns.specs.declared.stp.Stp.TheVariants.{P, N, O, C}
-use Rattle.cif_calendar.specs.Terms.{Terms, Records}
-use Rattle.cif_calendar.specs.Applies.{Applies}
-use Rattle.cif_calendar.specs.Wins.{Wins}
-use Rattle.cif_calendar.specs.Source.{IsChosen, IsWinnerAt, body_at}
+use Rattle.cif_calendar.proofs.Words.{Terms, Records, Applies, IsClear, NothingRuns, Wins, IsChosen, IsWinnerAt, body_at, Standing, Nobody}
+use Rattle.cif_calendar.proofs.Words.{Leader, Disputed, AreLawful}
 use Rattle.cif_calendar.specs.Steps.Standing.{Combines, IsDisputed, IsRank, Leads, NoneApplies, Stands, StandsAt}
-use Rattle.cif_calendar.specs.declared.standing.Standing.{Standing}
-use Rattle.cif_calendar.specs.declared.standing.Standing.TheVariants.{Nobody, Leader, Disputed}
 use Rattle.cif_calendar.proofs.Elements.{Contains-first, Contains-cases}
 
 -- what a test that failed says
@@ -171,6 +165,7 @@ module _ {B : Type 0} (xs : List (Terms B)) (members : List ℕ) where
   pub combines_first : (one other : Standing) (a b : ℕ) → IsRank xs members one a → IsRank xs members other b → a < b →
       Combines xs members one other one
   combines_first one other a b is also before = record {
+    below = λ n a b. a;
     stands = λ ms ns d h k. stands-kept _ _ _ (chosen-union xs ms ns) d one (λ s c on.
         let j = rank-least _ d b other also k s c on in rank-behind a one s is (omega arith)) h;
   }
@@ -178,17 +173,20 @@ module _ {B : Type 0} (xs : List (Terms B)) (members : List ℕ) where
   pub combines_second : (one other : Standing) (a b : ℕ) → IsRank xs members one a → IsRank xs members other b → b < a →
       Combines xs members one other other
   combines_second one other a b is also before = record {
+    below = λ n a b. b;
     stands = λ ms ns d h k. stands-kept _ _ _ (union-swap _ _ _ (chosen-union xs ms ns)) d other (λ s c on.
         let j = rank-least _ d a one is h s c on in rank-behind b other s also (omega arith)) k;
   }
 
   pub nobody-combines : (one : Standing) → Combines xs members one Nobody one
   nobody-combines one = record {
+    below = λ n a b. a;
     stands = λ ms ns d h k. stands-kept _ _ _ (chosen-union xs ms ns) d one (λ s c on. absurd (k.none s c on)) h;
   }
 
   pub combines-nobody : (other : Standing) → Combines xs members Nobody other other
   combines-nobody other = record {
+    below = λ n a b. b;
     stands = λ ms ns d h k. stands-kept _ _ _ (union-swap _ _ _ (chosen-union xs ms ns)) d other (λ s c on. absurd (h.none s c on)) k;
   }
 
@@ -197,6 +195,7 @@ module _ {B : Type 0} (xs : List (Terms B)) (members : List ℕ) where
     pub disputed_combines : (k : ℕ) (other : Standing) → IsRank xs members (Disputed k) n → IsRank xs members other n →
         Combines xs members (Disputed k) other (Disputed k)
     disputed_combines k other is also = record {
+      below = λ n a b. a;
       stands = λ ms ns d (t, at, l) h. (
         t,
         at,
@@ -208,6 +207,7 @@ module _ {B : Type 0} (xs : List (Terms B)) (members : List ℕ) where
     pub combines_disputed : (k j : ℕ) → IsRank xs members (Leader k) n → IsRank xs members (Disputed j) n →
         Combines xs members (Leader k) (Disputed j) (Disputed j)
     combines_disputed k j is also = record {
+      below = λ n a b. b;
       stands = λ ms ns d h (t, at, l). (
         t,
         at,
@@ -220,6 +220,7 @@ module _ {B : Type 0} (xs : List (Terms B)) (members : List ℕ) where
       pub leaders_agree : body_at xs (slice_get members k) ≡ body_at xs (slice_get members j) →
           Combines xs members (Leader k) (Leader j) (Leader k)
       leaders_agree same = record {
+        below = λ n a b. a;
         stands = λ ms ns d (t, at, l) (v, at_v, m). (
           t,
           at,
@@ -230,6 +231,7 @@ module _ {B : Type 0} (xs : List (Terms B)) (members : List ℕ) where
       pub leaders_differ : (body_at xs (slice_get members k) ≡ body_at xs (slice_get members j) → ⊥) →
           Combines xs members (Leader k) (Leader j) (Disputed k)
       leaders_differ apart = record {
+        below = λ n a b. a;
         stands = λ ms ns d (t, at, l) (v, at_v, m). (
           t,
           at,
@@ -247,13 +249,28 @@ module _ {B : Type 0} (xs : List (Terms B)) (members : List ℕ) where
     record { wins = one-wins xs i r at d on; undisputed = λ s w. ap (λ (q : Terms B). q.body) (one-chosen xs i r at s w.listed) },
   )
 
-  -- the position of a leader with a body is a source
-  pub winner-at : (d k : ℕ) (t : Terms B) → k < length members → StandsAt xs members k t → IsSome t.body →
-      Stands xs members (IsChosen xs members) d (Leader k) → IsWinnerAt xs members d (get_or members k 0)
-  winner-at d k t below at some (s, is, leads) = record {
-    member = Contains-get_or members k 0 below;
-    winner = s;
-    at = rw (same_Some (get_or members k 0) is.position (sym (slice_get-get_or members k 0 below) ∙ is.member)) is.at;
-    wins = leads.wins;
-    runs = subst IsSome (sym (body-at k t at) ∙ body-at k s is) some;
-  }
+  -- a leader's body is that of all winners
+  leads-clear : (records : Records B) (d : ℕ) (t : Terms B) → Leads records d t → IsClear records d
+  leads-clear records d t leads = record { agree = λ r s v w. sym (leads.undisputed r v) ∙ leads.undisputed s w }
+
+  -- so nothing runs where a leader has no body
+  pub idle-leader : (records : Records B) (d k : ℕ) (t : Terms B) → AreLawful records → StandsAt xs members k t → IsNone t.body →
+      Stands xs members records d (Leader k) → IsClear records d × NothingRuns records d
+  idle-leader records d k t lawful at none (s, is, leads) = let same = sym (body-at k t at) ∙ body-at k s is in (
+    leads-clear records d s leads,
+    record { cancelled = λ r w. (lawful.cancelled r w.listed).0 (subst IsNone (same ∙ leads.undisputed r w) none) },
+  )
+
+  -- and else the leader's position is a source
+  pub winner-at : (d k : ℕ) (t : Terms B) → k < length members → StandsAt xs members k t → IsSome t.body → Stands xs members
+      (IsChosen xs members) d (Leader k) → IsClear (IsChosen xs members) d × IsWinnerAt xs members d (get_or members k 0)
+  winner-at d k t below at some (s, is, leads) = (
+    leads-clear (IsChosen xs members) d s leads,
+    record {
+      member = Contains-get_or members k 0 below;
+      winner = s;
+      at = rw (same_Some (get_or members k 0) is.position (sym (slice_get-get_or members k 0 below) ∙ is.member)) is.at;
+      wins = leads.wins;
+      runs = subst IsSome (sym (body-at k t at) ∙ body-at k s is) some;
+    },
+  )

@@ -164,9 +164,5 @@ impl Entry for Schedule {
 pub fn same_body<E: Entry>(one: &E, other: &E) -> bool
     ensures { IsTrue result ↔ ((E.terms one.now).body ≡ (E.terms other.now).body) }
 {
-    match (one.body(), other.body()) {
-        (Some(x), Some(y)) => x == y,
-        (None, None) => true,
-        _ => false,
-    }
+    one.body() == other.body()
 }

@@ -1,6 +1,6 @@
 //! The pieces of a calendar, one after another, and the calendar of a list of members.
 
-ghost use Rattle.std.specs.Prelude.{◌≡◌, ◌<◌, ◌≤◌, ◌+◌, ℕ, length, map, All, IfErr, IfOk};
+ghost use Rattle.std.specs.Prelude.{◌≡◌, ◌<◌, ℕ, length, map, All, IfErr, IfOk};
 ghost use Rattle.cif_calendar.specs.Calendar.{IsAnswer, IsFault};
 ghost use Rattle.cif_calendar.specs.Pieces.{IsPiece};
 ghost use Rattle.cif_calendar.specs.Source.{IsChosen};

@@ -4,10 +4,9 @@
 //! the number of an earlier one with its body, where that is known: links from number to number,
 //! which fall.
 
-ghost use Rattle.std.specs.Prelude.{◌≡◌, ◌<◌, ◌≤◌, ◌+◌, ◌↔◌, ◌⊎◌, ℕ, Some, None, length, map};
-ghost use Rattle.std.specs.Prelude.{All, IfErr, IfOk, IsTrue, OnOk, slice_index_or};
+ghost use Rattle.std.specs.Prelude.{◌≡◌, ◌<◌, ◌↔◌, ◌⊎◌, ℕ, Some, None, length, map};
+ghost use Rattle.std.specs.Prelude.{All, IsTrue, MatchResult, slice_index_or};
 ghost use Rattle.cif_columns.specs.Stp.{letter};
-ghost use Rattle.cif_calendar.specs.Terms.{Terms};
 ghost use Rattle.cif_calendar.specs.Clash.{IsClash, IsClear};
 ghost use Rattle.cif_calendar.specs.Source.{IsChosen, IsSource};
 ghost use Rattle.cif_calendar.specs.Steps.Standing.{AreAlike, AreBelow, Combines};
@@ -144,7 +143,6 @@ pub(crate) fn combine<E: Entry>(
     requires one { IsBelow (length members.now) one }
     requires other { IsBelow (length members.now) other }
     ensures alike { AreAlike (map E.terms entries.now) members.now alike.new }
-    ensures below { IsBelow (length members.now) result }
     ensures stands { Combines (map E.terms entries.now) members.now one other result }
 {
     let rank_of_one = rank(entries, members, one);
@@ -171,7 +169,6 @@ fn level<E: Entry>(
     requires one { IsBelow (length members.now) one }
     requires other { IsBelow (length members.now) other }
     ensures alike { AreAlike (map E.terms entries.now) members.now alike.new }
-    ensures below { IsBelow (length members.now) result }
     ensures stands { (n : ℕ) → IsRank (map E.terms entries.now) members.now one n →
         IsRank (map E.terms entries.now) members.now other n →
         Combines (map E.terms entries.now) members.now one other result }
@@ -236,9 +233,10 @@ pub(crate) fn winner_by<E: Entry>(
     requires leader { IsBelow (length members.now) standing }
     requires stands { Stands (map E.terms entries.now) members.now
         (IsChosen (map E.terms entries.now) members.now) day standing }
-    ensures clear { OnOk result (IsClear (IsChosen (map E.terms entries.now) members.now) day) }
-    ensures source { IfOk result (IsSource (map E.terms entries.now) members.now day) }
-    ensures clash { IfErr result (λ fault. (fault ≡ Ambiguous day)
+    ensures { MatchResult result
+        (λ source. IsClear (IsChosen (map E.terms entries.now) members.now) day
+        × IsSource (map E.terms entries.now) members.now day source)
+        (λ fault. (fault ≡ Ambiguous day)
         × IsClash (IsChosen (map E.terms entries.now) members.now) day) }
 {
     match standing {

@@ -1,9 +1,8 @@
 //! The stretches of dates on which no member begins or ends, and who leads on them.
 
-ghost use Rattle.std.specs.Prelude.{◌≡◌, ◌<◌, ◌≤◌, ◌+◌, ◌↔◌, length, map, All, IfOk, IsTrue};
-ghost use Rattle.cif_calendar.specs.Steps.Standing.{AreAlike, AreBelow};
-ghost use Rattle.cif_calendar.specs.Steps.Stretches.{AreBehind, AreStretchesOf, IsEndFor};
-ghost use Rattle.cif_calendar.specs.Steps.Stretches.{IsJoint, IsPart, IsStretch};
+ghost use Rattle.std.specs.Prelude.{◌<◌, ◌≤◌, ◌+◌, length, map, All, IfOk};
+ghost use Rattle.cif_calendar.specs.Steps.Standing.{AreAlike};
+ghost use Rattle.cif_calendar.specs.Steps.Stretches.{AreBehind, AreStretchesOf, IsPart, IsStretch};
 
 use crate::entry::Entry;
 use crate::key_calendar::Window;
@@ -23,35 +22,6 @@ pub(crate) struct Stretch {
     pub(crate) last: Day,
     /// Who leads on the dates of each weekday.
     pub(crate) standings: Standings,
-}
-
-/// Whether the day lies between the entry's first and last date, whatever its weekday.
-fn covers<E: Entry>(entry: &E, day: Day) -> bool
-    ensures { IsTrue result ↔
-        (((E.terms entry.now).first ≤ day) × (day ≤ (E.terms entry.now).last)) }
-{
-    entry.first() <= day && day <= entry.last()
-}
-
-/// The first day from `first` on after which the record has ended or begins; `end` where there is
-/// none before it.
-fn end_for<E: Entry>(entry: &E, first: Day, end: Day) -> Day
-    requires { first ≤ end }
-    ensures { IsEndFor (E.terms entry.now) first end result }
-{
-    let begin = entry.first();
-    if first < begin {
-        return match begin.previous() {
-            Some(before) if before < end => before,
-            _ => end,
-        };
-    }
-    let last = entry.last();
-    if first <= last && last < end {
-        last
-    } else {
-        end
-    }
 }
 
 /// The stretch that begins on `first`, in a window that ends on `last`, of the members in `part`, the
@@ -76,53 +46,29 @@ fn stretch_from<E: Entry>(
     let mut standings = [Standing::Nobody; 7];
     for (index, position) in part.iter().enumerate() {
         let entry = &entries[*position];
-        end = end_for(entry, first, end);
-        if covers(entry, first) {
-            let others = [Standing::Leader(number + index); 7];
-            look_at(
-                entries,
-                members,
-                alike,
-                &mut standings,
-                entry.days(),
-                &others,
-            );
+        let begin = entry.first();
+        if begin <= first {
+            let until = entry.last();
+            if first <= until {
+                end = end.min(until);
+                let others = [Standing::Leader(number + index); 7];
+                look_at(
+                    entries,
+                    members,
+                    alike,
+                    &mut standings,
+                    entry.days(),
+                    &others,
+                );
+            }
+        } else if let Some(before) = begin.previous() {
+            end = end.min(before);
         }
     }
     Stretch {
         last: end,
         standings,
     }
-}
-
-/// The stretch of two sets of members together, from a stretch of each; the two have a date in
-/// common.
-fn joint<E: Entry>(
-    entries: &[E],
-    members: &[usize],
-    alike: &mut [Option<usize>],
-    one: &Stretch,
-    other: &Stretch,
-) -> Stretch
-    requires positions { All (λ i. i < length entries.now) members.now }
-    requires alike { AreAlike (map E.terms entries.now) members.now alike.old }
-    requires one { AreBelow (length members.now) one.now.standings }
-    requires other { AreBelow (length members.now) other.now.standings }
-    ensures alike { AreAlike (map E.terms entries.now) members.now alike.new }
-    ensures joint { IsJoint (map E.terms entries.now) members.now one.now other.now result }
-{
-    let last = one.last.min(other.last);
-    let mut standings = one.standings;
-    let days = DaysRun::of([true; 7]);
-    look_at(
-        entries,
-        members,
-        alike,
-        &mut standings,
-        days,
-        &other.standings,
-    );
-    Stretch { last, standings }
 }
 
 /// The stretches that remain after the day, of which only the first may end by then.
@@ -202,11 +148,22 @@ pub(crate) fn stretches_of<E: Entry>(
     let mut left = lefts.as_slice();
     let mut right = rights.as_slice();
     let mut stretches = Vec::new(alloc);
+    let days = DaysRun::of([true; 7]);
     while let ([one, ..], [other, ..]) = (left, right) {
-        let stretch = joint(entries, members, alike, one, other);
-        left = behind(left, stretch.last);
-        right = behind(right, stretch.last);
-        stretches.push(stretch)?;
+        // Both have the next date, and nothing changes until the sooner of them ends.
+        let last = one.last.min(other.last);
+        let mut standings = one.standings;
+        look_at(
+            entries,
+            members,
+            alike,
+            &mut standings,
+            days,
+            &other.standings,
+        );
+        left = behind(left, last);
+        right = behind(right, last);
+        stretches.push(Stretch { last, standings })?;
     }
     Ok(stretches)
 }

@@ -1,15 +1,12 @@
 -- The spans that may not have ended by a week. On the days of these weeks they are all that count.
-use Rattle.std.proofs.Common.{◌≡◌, ◌⊎◌, inl, inr, ℕ, ◌-◌, ◌<◌, ◌≤◌, List, [], ◌∷◌, length, take, drop, get_or}
-use Rattle.std.proofs.Common.{refl, sym, ap, subst, arith, ⊎_elim}
-use Rattle.std.specs.Prelude.{Contains}
+use Rattle.std.proofs.Common.{◌≡◌, ◌⊎◌, inl, inr, ℕ, ◌-◌, ◌<◌, ◌≤◌, List, [], ◌∷◌, length, take, drop, get_or, refl, sym, ap, subst, arith}
+use Rattle.std.proofs.Common.{⊎_elim, Contains}
 use Rattle.std.specs.List.Sorted.{IsNonDecreasingBy}
 use Rattle.std.proofs.lemmas.Bool.{cases_lt}
 use Rattle.std.proofs.lemmas.List.{get_or_read_under, take_all}
 use Rattle.std.proofs.lemmas.List.Sorted.{IsNonDecreasingBy-drop}
-use Rattle.cif_columns.specs.Day.{week_of}
+use Rattle.cif_weeks.proofs.Words.{week_of, Span, Weeks}
 use Rattle.cif_calendar.proofs.Elements.{Contains-cases, Contains-rest}
-use Rattle.cif_weeks.specs.declared.span.Span.{Span}
-use Rattle.cif_weeks.specs.declared.span.Weeks.{Weeks}
 use Rattle.cif_weeks.specs.Steps.Spans.{AgreeOn, HasDay, HaveOneMask, IsAgreed, IsDisputed, Leads, Shows}
 
 -- the spans of p are some of those of q: all that have day n

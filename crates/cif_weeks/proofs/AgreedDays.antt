@@ -1,10 +1,7 @@
 -- On which weekdays two weeks have to agree, and weekday by weekday whether they do.
-use Rattle.std.proofs.Common.{◌≡◌, ℕ, ◌+◌, ◌-◌, ◌*◌, ◌<◌, ◌≤◌, Bool, List, arith, subst, sym}
-use Rattle.std.specs.Prelude.{◌↔◌}
-use Rattle.cif_columns.specs.DaysRun.{RunsOn}
-use Rattle.cif_weeks.specs.declared.form.Form.{Form}
-use Rattle.cif_weeks.specs.declared.form.Form.TheVariants.{Two}
-use Rattle.cif_weeks.specs.Window.{Window}
+use Rattle.std.proofs.Common.{◌≡◌, ℕ, ◌+◌, ◌-◌, ◌*◌, ◌<◌, ◌≤◌, Bool, List, arith, subst, sym, ⊎_elim, ◌↔◌}
+use Rattle.std.proofs.lemmas.Bool.{cases_lt}
+use Rattle.cif_weeks.proofs.Words.{RunsOn, Form, Two, Window}
 use Rattle.cif_weeks.specs.Steps.WeekMasks.{Counts, MasksAgree}
 
 -- form 2: a weekday counts where its date in the next week, as days from the first Monday, and that a week before lie in the window
@@ -25,6 +22,17 @@ counts-only window week next w is (n, in_week, day, within, later) = (omega (ari
 -- the masks agree on the weekdays before k
 pub record AgreeUpTo (form : Form) (window : Window) (next k : ℕ) (x y : List Bool) : Type 0 where
   pub below : (week w : ℕ) → week + 1 ≡ next → w < k → Counts form window week w → RunsOn x w ↔ RunsOn y w
+
+-- and on k too
+pub agree-more : {form : Form} {window : Window} {next k : ℕ} {x y : List Bool} → AgreeUpTo form window next k x y →
+    ((week : ℕ) → week + 1 ≡ next → Counts form window week k → RunsOn x k ↔ RunsOn y k) → AgreeUpTo form window next (k + 1) x y
+agree-more {form} {window} {k = k} {x} {y} h also = record {
+  below = λ week w is less counted. ⊎_elim
+      (λ sooner. h.below week w is sooner counted)
+      (λ from. let at : k ≡ w = omega arith in subst (λ v. RunsOn x v ↔ RunsOn y v) at
+      (also week is (subst (Counts form window week) (sym at) counted)))
+      (cases_lt w k);
+}
 
 -- equal masks agree on each weekday
 pub same-agree : (form : Form) (window : Window) (week : ℕ) (x y : List Bool) → x ≡ y → MasksAgree form window week x y

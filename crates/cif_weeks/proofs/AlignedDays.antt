@@ -1,12 +1,7 @@
 -- On which days of its weeks an aligned record applies.
 use Rattle.std.proofs.Common.{◌≡◌, inl, inr, ℕ, ◌+◌, ◌-◌, ◌*◌, ◌<◌, ◌≤◌, length, arith, sym, subst}
 use Rattle.std.proofs.lemmas.Bool.{cases_lt}
-use Rattle.cif_columns.specs.Day.{weekday_of, week_of}
-use Rattle.cif_columns.specs.DaysRun.{RunsOn}
-use Rattle.cif_weeks.specs.declared.form.Form.{Form}
-use Rattle.cif_weeks.specs.declared.form.Form.TheVariants.{One, Two}
-use Rattle.cif_weeks.specs.Window.{Window, IsWithin}
-use Rattle.cif_weeks.specs.Permanent.{Permanent}
+use Rattle.cif_weeks.proofs.Words.{weekday_of, week_of, RunsOn, Form, One, Two, Window, IsWithin, Permanent}
 use Rattle.cif_weeks.specs.Applies.{Applies, IsWeekOf}
 use Rattle.cif_weeks.specs.Aligned.{IsAlignedOne, IsAlignedTwo, IsAligned}
 use Rattle.cif_weeks.proofs.WeekDays.{week_of-rises, day_rises, day_rises_week, week_later, weekday_later}

@@ -1,18 +1,12 @@
 -- The runs of one body, week by week: weeks without a day of it, a run that begins, and one that goes on.
-use Rattle.std.proofs.Common.{◌≡◌, ◌⊎◌, ℕ, ◌+◌, ◌-◌, ◌*◌, ◌<◌, ◌≤◌, Bool, List, [], ◌∷◌, ◌++◌, get_or}
-use Rattle.std.proofs.Common.{length, length-append, refl, sym, ◌∙◌, ap, subst, arith, ⊎_elim, append_assoc}
-use Rattle.std.specs.Prelude.{◌↔◌, reverse}
+use Rattle.std.proofs.Common.{◌≡◌, ◌⊎◌, ℕ, ◌+◌, ◌-◌, ◌*◌, ◌<◌, ◌≤◌, Bool, List, [], ◌∷◌, ◌++◌, get_or, length, length-append, refl, sym}
+use Rattle.std.proofs.Common.{◌∙◌, ap, subst, arith, ⊎_elim, append_assoc, ◌↔◌, reverse, set}
 use Rattle.std.proofs.lemmas.List.{append-nil, reverse-append, reverse-reverse}
-use Rattle.std.proofs.Math.Seq.{get_or-append_seam}
+use Rattle.std.proofs.Math.Seq.{get_or-append_seam, set-append_seam}
 use Rattle.std.proofs.lemmas.Bool.{cases_lt}
-use Rattle.cif_columns.specs.Day.{IsDay, week_of, weekday_of}
-use Rattle.cif_columns.specs.DaysRun.{RunsOn, IsFirstOf, IsLastOf}
-use Rattle.cif_weeks.specs.declared.form.Form.{Form}
-use Rattle.cif_weeks.specs.declared.run.Run.{Run}
-use Rattle.cif_weeks.specs.declared.span.Span.{Span}
-use Rattle.cif_weeks.specs.declared.span.Weeks.{Weeks}
-use Rattle.cif_weeks.specs.Permanent.{Permanent}
-use Rattle.cif_weeks.specs.Window.{Window, IsWithin}
+use Rattle.cif_weeks.proofs.Words.{week_of, weekday_of, RunsOn, Form, Run, Span, Weeks, Permanent, Window, IsWithin}
+use Rattle.cif_columns.specs.Day.{IsDay}
+use Rattle.cif_columns.specs.DaysRun.{IsFirstOf, IsLastOf}
 use Rattle.cif_weeks.specs.Steps.BodyRuns.{AreBodyRuns, AreGrownTo, AreRunsOfBody, BreaksBefore, IsLatest, dates_of}
 use Rattle.cif_weeks.specs.Steps.Growing.{IsGrown}
 use Rattle.cif_weeks.specs.Steps.Spans.{HaveOneMask, IsAgreed, Shows}
@@ -203,6 +197,12 @@ last-made old runs (r ∷ before) place run are some at is =
     let same : run ≡ r = is ∙ ap (λ ys. get_or ys place run) cut ∙ ap (λ k. get_or ((old ++ reverse before) ++ r ∷ []) k run) here
     ∙ get_or-append_seam (old ++ reverse before) r [] run in
     (before, ap (λ v. v ∷ before) (sym same), cut ∙ ap (λ v. (old ++ reverse before) ++ v ∷ []) (sym same), here)
+
+-- another run takes its place
+pub last-set : (old runs before : List Run) (place : ℕ) (run it : Run) → runs ≡ (old ++ reverse before) ++ run ∷ [] →
+    place ≡ length (old ++ reverse before) → set runs place it ≡ old ++ reverse (it ∷ before)
+last-set old runs before place run it cut at = ap (λ ys. set ys place it) cut ∙ ap (λ k. set ((old ++ reverse before) ++ run ∷ []) k it) at
+    ∙ set-append_seam (old ++ reverse before) run [] it ∙ made-more old before it
 
 -- where the list is no longer than the old one, none is made
 pub none-made : (old runs made : List Run) → runs ≡ old ++ reverse made → length runs ≤ length old → made ≡ []

@@ -1,17 +1,11 @@
 -- The sources of a calendar and of its runs.
-use Rattle.std.proofs.Common.{◌≡◌, ◌≤◌, ℕ, Option, Some, List, [], ◌∷◌, IsSome, get_or, sym, subst}
-use Rattle.std.specs.Option.{option_and_then}
-use Rattle.std.specs.Prelude.{All}
+use Rattle.std.proofs.Common.{◌≡◌, ◌≤◌, ℕ, Option, Some, List, [], ◌∷◌, IsSome, get_or, sym, subst, All, option_and_then}
 use Rattle.std.specs.List.{AllZip}
 use Rattle.std.proofs.lemmas.List.Elements.{All-nil, All-cons, All-head, All-tail, Contains-get_or}
-use Rattle.cif_calendar.specs.Terms.{Terms}
+use Rattle.cif_weeks.proofs.Words.{Terms, Form, Run, Window, IsWithin, Permanent}
 use Rattle.cif_calendar.specs.Source.{IsSource, IsWinnerAt}
 use Rattle.cif_calendar.specs.Pieces.{source_at}
 use Rattle.cif_calendar.specs.Calendar.{CalendarParts, IsCalendar, body_on}
-use Rattle.cif_weeks.specs.declared.form.Form.{Form}
-use Rattle.cif_weeks.specs.declared.run.Run.{Run}
-use Rattle.cif_weeks.specs.Window.{Window, IsWithin}
-use Rattle.cif_weeks.specs.Permanent.{Permanent}
 use Rattle.cif_weeks.specs.Meets.{Meets}
 use Rattle.cif_weeks.specs.Runs.{AreSources, IsRunOf, AreCanonicalRuns, window_of}
 use Rattle.cif_weeks.proofs.AlignedDays.{tight}

@@ -1,11 +1,6 @@
 -- When the week after a record's last doesn't join it.
 use Rattle.std.proofs.Common.{◌≡◌, inl, inr, ℕ, ◌+◌, List, Bool, arith, sym, ◌∙◌, subst}
-use Rattle.cif_columns.specs.Day.{week_of, weekday_of}
-use Rattle.cif_columns.specs.DaysRun.{RunsOn}
-use Rattle.cif_weeks.specs.declared.form.Form.{Form}
-use Rattle.cif_weeks.specs.declared.form.Form.TheVariants.{One, Two}
-use Rattle.cif_weeks.specs.Window.{Window, IsWithin}
-use Rattle.cif_weeks.specs.Permanent.{Permanent}
+use Rattle.cif_weeks.proofs.Words.{week_of, weekday_of, RunsOn, Form, One, Two, Window, IsWithin, Permanent}
 use Rattle.cif_weeks.specs.Separate.{ExactlyOne}
 use Rattle.cif_weeks.specs.Steps.WeekMasks.{IsMask, MasksDiffer}
 use Rattle.cif_weeks.specs.Steps.Growing.{Breaks, IsGrown}

@@ -1,12 +1,7 @@
 -- Records that have grown: on which days they apply, that they are aligned, and the change where one ends and another begins.
 use Rattle.std.proofs.Common.{◌≡◌, inl, inr, ⊎_elim, ℕ, ◌+◌, ◌-◌, ◌*◌, ◌<◌, ◌≤◌, arith, refl, sym, subst}
 use Rattle.std.proofs.lemmas.Bool.{cases_lt}
-use Rattle.cif_columns.specs.Day.{week_of, weekday_of}
-use Rattle.cif_columns.specs.DaysRun.{RunsOn}
-use Rattle.cif_weeks.specs.declared.form.Form.{Form}
-use Rattle.cif_weeks.specs.declared.form.Form.TheVariants.{One, Two}
-use Rattle.cif_weeks.specs.Window.{Window, IsWithin}
-use Rattle.cif_weeks.specs.Permanent.{Permanent}
+use Rattle.cif_weeks.proofs.Words.{week_of, weekday_of, RunsOn, Form, One, Two, Window, IsWithin, Permanent}
 use Rattle.cif_weeks.specs.Applies.{Applies}
 use Rattle.cif_weeks.specs.Aligned.{IsAligned}
 use Rattle.cif_weeks.specs.Separate.{Change}

@@ -1,11 +1,6 @@
 -- Weeks with one mask: a record grows by all of them at once.
 use Rattle.std.proofs.Common.{◌≡◌, inl, zero, suc, ℕ, ◌+◌, ◌*◌, ◌≤◌, List, Bool, arith, refl, sym, subst, ⊎_elim}
-use Rattle.cif_columns.specs.Day.{week_of, weekday_of}
-use Rattle.cif_columns.specs.DaysRun.{RunsOn}
-use Rattle.cif_weeks.specs.declared.form.Form.{Form}
-use Rattle.cif_weeks.specs.declared.form.Form.TheVariants.{One, Two}
-use Rattle.cif_weeks.specs.Window.{Window, IsWithin}
-use Rattle.cif_weeks.specs.Permanent.{Permanent}
+use Rattle.cif_weeks.proofs.Words.{week_of, weekday_of, RunsOn, Form, One, Two, Window, IsWithin, Permanent}
 use Rattle.cif_weeks.specs.Steps.WeekMasks.{IsMask, MasksAgree}
 use Rattle.cif_weeks.specs.Steps.Growing.{IsGrown}
 use Rattle.cif_weeks.proofs.WeekDays.{week_later, week_of-next, weekday_of-next}

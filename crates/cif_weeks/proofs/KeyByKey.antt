@@ -1,14 +1,11 @@
 -- Canonical records, and those of one key more.
-use Rattle.std.proofs.Common.{◌≡◌, ◌⊎◌, inl, inr, ℕ, ◌<◌, List, [], ◌++◌, sym, ap, subst, refl, arith, ⊎_elim}
-use Rattle.std.specs.Prelude.{Contains, AllPairs, ◌↔◌}
+use Rattle.std.proofs.Common.{◌≡◌, ◌⊎◌, inl, inr, ℕ, ◌<◌, List, [], ◌++◌, sym, ap, subst, refl, arith, ⊎_elim, Contains, AllPairs, ◌↔◌}
 use Rattle.std.specs.Cmp.{IsTotalOrder}
 use Rattle.std.specs.declared.cmp.Ordering.{Ordering}
 use Rattle.std.specs.declared.cmp.Ordering.TheVariants.{Less}
 use Rattle.std.proofs.lemmas.List.Elements.{Contains-append_left, Contains-append_right, Contains-append_cases}
 use Rattle.cif_calendar.specs.Keys.{of_key}
-use Rattle.cif_weeks.specs.declared.form.Form.{Form}
-use Rattle.cif_weeks.specs.Window.{Window}
-use Rattle.cif_weeks.specs.Permanent.{Permanent, Permanents}
+use Rattle.cif_weeks.proofs.Words.{Form, Window, Permanent, Permanents}
 use Rattle.cif_weeks.specs.WhatRuns.{HasBody}
 use Rattle.cif_weeks.specs.HaveForm.{HaveForm}
 use Rattle.cif_weeks.specs.Canonical.{AreCanonical, Precedes, with_key}

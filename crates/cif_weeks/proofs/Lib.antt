@@ -29,3 +29,4 @@ pub mod Spans
 pub mod Unique
 pub mod UniqueByKey
 pub mod WeekDays
+pub mod Words

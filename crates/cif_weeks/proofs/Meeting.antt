@@ -1,10 +1,6 @@
 -- What suffices for a list to meet a form: conditions on its records in their order.
-use Rattle.std.proofs.Common.{◌≡◌, ◌⊎◌, inl, inr, ℕ, ◌≤◌, ◌↔◌, List, sym, subst}
-use Rattle.std.specs.Prelude.{AllPairs, Contains}
-use Rattle.cif_columns.specs.Day.{week_of}
-use Rattle.cif_weeks.specs.declared.form.Form.{Form}
-use Rattle.cif_weeks.specs.Window.{Window, IsWithin}
-use Rattle.cif_weeks.specs.Permanent.{Permanent}
+use Rattle.std.proofs.Common.{◌≡◌, ◌⊎◌, inl, inr, ℕ, ◌≤◌, ◌↔◌, List, sym, subst, AllPairs, Contains}
+use Rattle.cif_weeks.proofs.Words.{week_of, Form, Window, IsWithin, Permanent}
 use Rattle.cif_weeks.specs.Applies.{Applies}
 use Rattle.cif_weeks.specs.Aligned.{IsAligned}
 use Rattle.cif_weeks.specs.Separate.{AreSeparate}

@@ -1,25 +1,19 @@
 -- The spans of members, and from their runs the members' canonical records.
-use Rattle.std.proofs.Common.{◌≡◌, ◌≢◌, ◌⊎◌, inl, inr, ℕ, false, true, List, [], ◌∷◌, ◌++◌, Option, None, Some}
-use Rattle.std.proofs.Common.{arith, refl, sym, ◌∙◌, ap, subst, ⊎_elim}
-use Rattle.std.specs.Prelude.{Contains, slice_get}
-use Rattle.std.specs.Option.{is_some, option_and_then}
-use Rattle.std.proofs.lemmas.List.Elements.{All-contains, Contains-append_left, Contains-push, Contains-push_cases}
+use Rattle.std.proofs.Common.{◌≡◌, ◌⊎◌, inl, inr, ℕ, false, true, List, [], ◌∷◌, ◌++◌, Option, None, Some, arith, refl, sym, ◌∙◌, ap, subst}
+use Rattle.std.proofs.Common.{⊎_elim, Contains, slice_get, is_some, option_and_then}
+use Rattle.std.proofs.lemmas.List.Elements.{Contains-append_left, Contains-push, Contains-push_cases}
 use Rattle.std.proofs.lemmas.Option.{same_Some}
 use Rattle.cif_columns.specs.Stp.{letter}
 use Rattle.cif_columns.specs.declared.stp.Stp.{Stp}
 use Rattle.cif_columns.specs.declared.stp.Stp.TheVariants.{C, N, O, P}
 use Rattle.cif_calendar.specs.Applies.{Applies}
 use Rattle.cif_calendar.specs.Runs.{BodyRuns}
-use Rattle.cif_calendar.specs.Source.{IsChosen, body_at}
-use Rattle.cif_calendar.specs.Terms.{AreLawful, Terms}
+use Rattle.cif_weeks.proofs.Words.{IsChosen, body_at, Terms, Window, IsWithin, Form, Run, Span}
+use Rattle.cif_calendar.specs.Terms.{AreLawful}
 use Rattle.cif_calendar.specs.Wins.{Wins}
 use Rattle.cif_weeks.specs.MemberRuns.{AreRunsOfMembers, IsMembersRun}
 use Rattle.cif_weeks.specs.Steps.BodyRuns.{AreRunsOfSpans, HasBody}
 use Rattle.cif_weeks.specs.Steps.Spans.{AreSpansOf, IsMembersSpan, IsSourceAmong, IsSpanOf, Shows}
-use Rattle.cif_weeks.specs.Window.{Window, IsWithin}
-use Rattle.cif_weeks.specs.declared.form.Form.{Form}
-use Rattle.cif_weeks.specs.declared.run.Run.{Run}
-use Rattle.cif_weeks.specs.declared.span.Span.{Span}
 use Rattle.cif_weeks.proofs.JoinedLists.{zip-with}
 use Rattle.cif_weeks.proofs.MemberClash.{leads-winner}
 use Rattle.cif_weeks.proofs.Meeting.{have_form, say}
@@ -62,12 +56,11 @@ module _ {B : Type 0} (xs : List (Terms B)) (members : List ℕ) (window : Windo
 
   -- with its span they are one more
   module _ (span : Span) (of : IsSpanOf window r span) (body : body_at xs (Some span.source) ≡ body_at xs (Some position))
-      (among : IsSourceAmong xs spans position span.source) where
+      (among : IsSourceAmong xs spans 0 position span.source) where
     old-source : (s : Span) → Contains spans s → body_at xs (Some s.source) ≡ body_at xs (Some span.source) → s.source ≡ span.source
     old-source s listed same = ⊎_elim
-        (λ t. a.one_source s t.0 listed t.1 (same ∙ ap (λ v. body_at xs (Some v)) (sym t.2)) ∙ t.2)
-        (λ new. absurd (All-contains (λ (t : Span). body_at xs (Some t.source) ≢ body_at xs (Some position)) spans s new.1 listed
-        (same ∙ body)))
+        (λ (t, in_t, _, is). a.one_source s t listed in_t (same ∙ ap (λ v. body_at xs (Some v)) (sym is)) ∙ is)
+        (λ new. absurd (new.1 s listed (omega arith) (same ∙ body)))
         among
 
     source-cases : (s : Span) → Contains (spans ++ span ∷ []) s → Contains spans s ⊎ (span.source ≡ s.source)
@@ -87,7 +80,7 @@ module _ {B : Type 0} (xs : List (Terms B)) (members : List ℕ) (window : Windo
             span = of;
             body = own-body;
             source = ⊎_elim
-                (λ t. subst (Contains (members ++ position ∷ [])) t.2 (with-member t.0 t.1).source)
+                (λ (t, in_t, _, is). subst (Contains (members ++ position ∷ [])) is (with-member t in_t).source)
                 (λ new. subst (Contains (members ++ position ∷ [])) (sym new.0) (Contains-push members position))
                 among;
           }))

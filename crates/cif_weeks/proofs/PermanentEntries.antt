@@ -1,12 +1,11 @@
 -- What permanent records say as entries of the calendar.
-use Rattle.std.proofs.Common.{◌≡◌, ℕ, ◌≤◌, List, Some, get_or, sym, ◌∙◌, ap, subst}
-use Rattle.std.specs.Prelude.{◌↔◌, All, IsSome}
-use Rattle.std.specs.Option.{is_some}
+use Rattle.std.proofs.Common.{◌≡◌, ℕ, ◌≤◌, List, Some, get_or, sym, ◌∙◌, ap, subst, ◌↔◌, All, IsSome, is_some}
 use Rattle.std.specs.declared.cmp.Ordering.{Ordering}
 use Rattle.std.proofs.lemmas.List.Elements.{Contains-get_or}
 use Rattle.std.proofs.lemmas.Option.{same_Some}
 use Rattle.cif_columns.specs.declared.stp.Stp.TheVariants.{P}
-use Rattle.cif_calendar.specs.Terms.{Terms, AreLawful}
+use Rattle.cif_weeks.proofs.Words.{Terms, Form, Window, IsWithin, Permanent}
+use Rattle.cif_calendar.specs.Terms.{AreLawful}
 use Rattle.cif_calendar.specs.Applies as entry
 use Rattle.cif_calendar.specs.Clash.{IsClearFrom}
 use Rattle.cif_calendar.specs.Keys.{of_key, AreClear}
@@ -14,9 +13,7 @@ use Rattle.cif_calendar.specs.Meaning.{EntriesSayTheSame}
 use Rattle.cif_calendar.specs.Runs.{BodyRuns}
 use Rattle.cif_calendar.proofs.PermanentRecords.{Wins-permanent, AreLawful-permanent}
 use Rattle.cif_calendar.proofs.SayTheSame.{EntriesSayTheSame-from_bodies}
-use Rattle.cif_weeks.specs.declared.form.Form.{Form}
-use Rattle.cif_weeks.specs.Window.{Window, IsWithin}
-use Rattle.cif_weeks.specs.Permanent.{Permanent, terms_of, permanent_entries}
+use Rattle.cif_weeks.specs.Permanent.{terms_of, permanent_entries}
 use Rattle.cif_weeks.specs.Applies.{Applies}
 use Rattle.cif_weeks.specs.WhatRuns.{HasBody}
 use Rattle.cif_weeks.specs.Canonical.{AreCanonical, SayTheSameByKey}

@@ -1,20 +1,13 @@
 -- The runs of the spans of a calendar's pieces are the calendar's canonical records.
-use Rattle.std.proofs.Common.{◌≡◌, ℕ, ◌+◌, ◌<◌, List, Option, None, Some, map, get_or, arith, refl, sym, ◌∙◌, ap}
-use Rattle.std.specs.Prelude.{All, Contains, unwrap_or}
+use Rattle.std.proofs.Common.{◌≡◌, ℕ, ◌+◌, ◌<◌, List, Option, None, Some, map, get_or, arith, refl, sym, ◌∙◌, ap, All, Contains, unwrap_or}
 use Rattle.std.proofs.lemmas.List.Elements.{Contains-get_or}
 use Rattle.cif_calendar.specs.Calendar.{CalendarParts, body_on}
 use Rattle.cif_calendar.specs.Pieces.{source_at}
-use Rattle.cif_calendar.specs.Source.{body_at}
-use Rattle.cif_calendar.specs.Terms.{Terms}
-use Rattle.cif_weeks.specs.Permanent.{Permanent}
+use Rattle.cif_weeks.proofs.Words.{body_at, Terms, Permanent, IsWithin, Form, Run, Span}
 use Rattle.cif_weeks.specs.Runs.{AreCanonicalRuns, AreSources, IsRunOf, window_of}
 use Rattle.cif_weeks.specs.Steps.BodyRuns.{AreRunsOfSpans, HasBody}
 use Rattle.cif_weeks.specs.Steps.PieceSpans.{AreSpansOn, body_in, named}
 use Rattle.cif_weeks.specs.Steps.Spans.{HasDay, IsAgreed, Shows}
-use Rattle.cif_weeks.specs.Window.{IsWithin}
-use Rattle.cif_weeks.specs.declared.form.Form.{Form}
-use Rattle.cif_weeks.specs.declared.run.Run.{Run}
-use Rattle.cif_weeks.specs.declared.span.Span.{Span}
 use Rattle.cif_weeks.proofs.Growth.{inside}
 use Rattle.cif_weeks.proofs.JoinedLists.{zip-map, zip-with}
 use Rattle.cif_weeks.proofs.Meeting.{have_form, say}

@@ -1,31 +1,22 @@
 -- The spans of a calendar's pieces: one span more, one piece more, and all of them by their sources.
-use Rattle.std.proofs.Common.{◌≡◌, ◌⊎◌, inl, inr, ◌↔◌, ℕ, ◌+◌, ◌-◌, ◌<◌, ◌≤◌, Bool, true, false, List, [], ◌∷◌, ◌++◌, None, Some, length}
-use Rattle.std.proofs.Common.{get_or, drop, ltb, ltb-true, ltb-false, length-append, arith, refl, sym, ◌∙◌, ap, subst, ⊎_elim}
-use Rattle.std.specs.Prelude.{All, Contains, IsPermutation, slice_get}
-use Rattle.std.specs.List.Sorted.{IsNonDecreasingBy, IsPartitionPoint, IsPartitionedBy}
-use Rattle.std.proofs.lemmas.Bool.{cases_lt, le-ltb}
-use Rattle.std.proofs.lemmas.List.Elements.{All-contains, Contains-append_left, Contains-get_or, Contains-push, Contains-push_cases}
-use Rattle.std.proofs.lemmas.List.Sorted.{Contains-permutation, IsNonDecreasingBy-push, IsNonDecreasingBy-short}
-use Rattle.std.proofs.lemmas.List.Sorted.{IsPartitionedBy-ltb, IsPermutation-sym}
+use Rattle.std.proofs.Common.{◌≡◌, ◌⊎◌, inl, inr, ◌↔◌, ℕ, ◌+◌, ◌-◌, ◌<◌, ◌≤◌, Bool, List, [], ◌∷◌, ◌++◌, None, Some, length, get_or, drop}
+use Rattle.std.proofs.Common.{arith, refl, sym, ◌∙◌, ap, subst, ⊎_elim, All, Contains, IsPermutation, slice_get}
+use Rattle.std.proofs.lemmas.Bool.{cases_lt}
+use Rattle.std.proofs.lemmas.List.Elements.{Contains-append_left, Contains-get_or, Contains-push, Contains-push_cases}
+use Rattle.std.proofs.lemmas.List.Sorted.{Contains-permutation, IsNonDecreasingBy-push, IsNonDecreasingBy-short, IsPermutation-sym}
 use Rattle.std.proofs.lemmas.Option.{get_or_from_slice_get, slice_get-get_or, slice_get_within}
-use Rattle.std.proofs.lemmas.List.{drop_more, get_or_append_left}
-use Rattle.std.proofs.Math.Seq.{get_or-append_seam}
-use Rattle.cif_columns.specs.Day.{week_of, weekday_of}
-use Rattle.cif_columns.specs.DaysRun.{RunsOn}
+use Rattle.std.proofs.lemmas.List.{drop_more}
+use Rattle.cif_weeks.proofs.Words.{week_of, weekday_of, RunsOn, body_at, Terms, Span}
 use Rattle.cif_columns.specs.Stp.{letter}
 use Rattle.cif_columns.specs.declared.stp.Stp.TheVariants.{P}
 use Rattle.cif_calendar.specs.Calendar.{CalendarParts}
 use Rattle.cif_calendar.specs.Pieces.{Tiles, winner_of}
-use Rattle.cif_calendar.specs.Source.{body_at}
-use Rattle.cif_calendar.specs.Terms.{Terms}
 use Rattle.cif_calendar.specs.declared.key_calendar.Piece.{Piece}
 use Rattle.cif_calendar.proofs.PieceLists.{tiles-ends}
 use Rattle.cif_weeks.specs.Runs.{AreSources}
-use Rattle.cif_weeks.specs.Steps.PieceSpans.{AreInOrder, AreNear, AreSpansBefore, AreSpansOn, HasBodyOn, IsPieceSpan, IsWinnerOn}
-use Rattle.cif_weeks.specs.Steps.PieceSpans.{body_in, source_in}
+use Rattle.cif_weeks.specs.Steps.PieceSpans.{AreInOrder, AreNear, AreSpansBefore, AreSpansOn, HasBodyOn, IsPieceSpan, IsWinnerOn, body_in}
+use Rattle.cif_weeks.specs.Steps.PieceSpans.{source_in}
 use Rattle.cif_weeks.specs.Steps.Spans.{HasDay, IsSourceAmong}
-use Rattle.cif_weeks.specs.declared.span.Span.{Span}
-use Rattle.cif_weeks.proofs.Cuts.{Contains-drop, cut-cases, cut-rest}
 use Rattle.cif_weeks.proofs.Growth.{body-source, has-below, inside, source-body}
 use Rattle.cif_weeks.proofs.SourcesIn.{source_in-piece}
 use Rattle.cif_weeks.proofs.RisingLists.{Contains-none}
@@ -71,7 +62,7 @@ order-later later ended spans begin end o = record {
 }
 
 -- a span is added that begins and ends in these weeks
-pub order-more : (first last : ℕ) (spans : List Span) (u : Span) → u.first_week ≡ first → u.last_week ≡ last → AreInOrder first last spans →
+order-more : (first last : ℕ) (spans : List Span) (u : Span) → u.first_week ≡ first → u.last_week ≡ last → AreInOrder first last spans →
     AreInOrder first last (spans ++ u ∷ [])
 order-more first last spans u begins ends o = record {
   rising = IsNonDecreasingBy-push (λ (s : Span). s.last_week) spans u o.rising
@@ -86,55 +77,39 @@ order-more first last spans u begins ends o = record {
       (Contains-push_cases spans u s listed);
 }
 
-pub order-none : (first last : ℕ) → AreInOrder first last []
-order-none first last = record {
-  rising = IsNonDecreasingBy-short (λ (s : Span). s.last_week) [] (omega arith);
-  begun = λ s listed. absurd (Contains-none s listed);
-  ended = λ s listed. absurd (Contains-none s listed);
-}
-
--- the span ends before the week before this one, or it doesn't
-abbrev Gone : ℕ → Span → Type 0
-Gone week s = ltb (s.last_week + 1) week ≡ true
-
-abbrev Late : ℕ → Span → Type 0
-Late week s = ltb (s.last_week + 1) week ≡ false
-
--- the spans before this place do, and no others
-abbrev pub EndBefore : ℕ → List Span → ℕ → Type 0
-EndBefore week spans place = IsPartitionPoint (Gone week) (Late week) spans place
-
-pub rises-for : (week : ℕ) (spans : List Span) → IsNonDecreasingBy (λ (s : Span). s.last_week) spans →
-    IsPartitionedBy (λ (s : Span). ltb (s.last_week + 1) week) spans
-rises-for week spans rising = IsPartitionedBy-ltb (λ (s : Span). s.last_week + 1) spans week
-    (λ i j d upto below. omega (arith, rising i j d upto below))
-
--- a span is added that doesn't end before the week
-pub point-more : (week : ℕ) (spans : List Span) (u : Span) (place : ℕ) → place ≤ length spans → week ≤ u.last_week + 1 →
-    EndBefore week spans place → EndBefore week (spans ++ u ∷ []) place
-point-more week spans u place within late point = (
-  λ k d from below. subst (Gone week) (sym (get_or_append_left spans (u ∷ []) d k (omega arith))) (point.0 k d from below),
-  λ k d from below. ⊎_elim
-      (λ old. subst (Late week) (sym (get_or_append_left spans (u ∷ []) d k old)) (point.1 k d from old))
-      (λ end. let at : k ≡ length spans = omega (arith, length-append spans (u ∷ [])) in
-      subst (Late week) (sym (ap (λ j. get_or (spans ++ u ∷ []) j d) at ∙ get_or-append_seam spans u [] d))
-      (le-ltb (u.last_week + 1) week late))
-      (cases_lt k (length spans)),
-)
-
 -- a span that shows the body on the day is still there
 still : (Is : Span → Type 0) (spans : List Span) (n : ℕ) (u : Span) → ((s : Span) × Contains spans s × HasDay s n × Is s) →
     (s : Span) × Contains (spans ++ u ∷ []) s × HasDay s n × Is s
 still Is spans n u (s, listed, has, of) = (s, Contains-append_left spans (u ∷ []) s listed, has, of)
 
-near-sym : (s t : Span) → AreNear s t → AreNear t s
-near-sym s t h = record { reaches = h.reached; reached = h.reaches }
-
 -- the days before the piece, and those of its days whose weekdays are taken
 abbrev pub KnownIn : Piece → List Bool → ℕ → Type 0
 KnownIn p taken n = (n < p.first) ⊎ ((p.first ≤ n) × (n ≤ p.last) × RunsOn taken (weekday_of n))
 
+-- one weekday more, which is taken if it has a winner
+done-more : (p : Piece) (taken both : List Bool) (weekday : ℕ) → ((w i : ℕ) → w < weekday → IsWinnerOn p w i → RunsOn taken w) →
+    ((w : ℕ) → RunsOn taken w → RunsOn both w) → ((i : ℕ) → IsWinnerOn p weekday i → RunsOn both weekday) →
+    (w i : ℕ) → w < weekday + 1 → IsWinnerOn p w i → RunsOn both w
+done-more p taken both weekday old also it w i less wins = ⊎_elim
+    (λ sooner. also w (old w i sooner wins))
+    (λ from. let at : weekday ≡ w = omega arith in
+    subst (RunsOn both) at (it i (subst (λ v. IsWinnerOn p v i) (sym at) wins)))
+    (cases_lt w weekday)
+
 module _ {B : Type 0} (xs : List (Terms B)) (c : CalendarParts) where
+  -- The days before the piece are known, and those of its weekdays that are taken. Before `weekday` each that has a winner is.
+  pub record AreTaken (p : Piece) (weekday : ℕ) (taken : List Bool) (spans : List Span) : Type 0 where
+    pub of : IsPieceOf c p
+    pub are : AreSpansOn xs c (KnownIn p taken) spans
+    pub order : AreInOrder (week_of p.first) (week_of p.last) spans
+    pub done : (w i : ℕ) → w < weekday → IsWinnerOn p w i → RunsOn taken w
+
+  -- a weekday is passed that is taken or has no winner
+  pub taken-same : {p : Piece} {weekday : ℕ} {taken : List Bool} {spans : List Span} → AreTaken p weekday taken spans →
+      ((i : ℕ) → IsWinnerOn p weekday i → RunsOn taken weekday) → AreTaken p (weekday + 1) taken spans
+  taken-same {p} {weekday} {taken} l it =
+      record { of = l.of; are = l.are; order = l.order; done = done-more p taken taken weekday l.done (λ v on. on) it }
+
   -- of other days it is known what runs, if of all of them that have a body
   pub spans-known : {known other : ℕ → Type 0} (spans : List Span) → ((n : ℕ) (b : B) → other n → body_in xs c n ≡ Some b → known n) →
       AreSpansOn xs c known spans → AreSpansOn xs c other spans
@@ -170,12 +145,12 @@ module _ {B : Type 0} (xs : List (Terms B)) (c : CalendarParts) where
           (source_in-piece c p of.tiles of.listed n from upto ∙ ap (λ v. get_or p.winners v None) day ∙ is)
 
       -- one span more
-      module _ (spans : List Span) (taken days both : List Bool) (u : Span) (winner weekday ended : ℕ)
-          (order : AreInOrder (week_of p.first) (week_of p.last) spans) (point : EndBefore (week_of p.first) spans ended)
+      module _ (spans : List Span) (taken days both : List Bool) (u : Span) (winner weekday : ℕ)
+          (l : AreTaken p weekday taken spans)
           (own : (n : ℕ) → HasDay u n ↔ ((p.first ≤ n) × (n ≤ p.last) × RunsOn days (weekday_of n)))
           (begins : u.first_week ≡ week_of p.first) (ends : u.last_week ≡ week_of p.last) (is_P : u.letter ≡ letter P)
           (same : body_at xs (Some u.source) ≡ body_at xs (Some winner))
-          (among : IsSourceAmong xs (drop ended spans) winner u.source)
+          (among : IsSourceAmong xs spans (week_of p.first) winner u.source)
           (wins : IsWinnerOn p weekday winner)
           (of_body : (w : ℕ) → RunsOn days w ↔ HasBodyOn xs p u.source w)
           (united : (w : ℕ) → RunsOn both w ↔ (RunsOn taken w ⊎ RunsOn days w)) where
@@ -188,35 +163,20 @@ module _ {B : Type 0} (xs : List (Terms B)) (c : CalendarParts) where
             let (i, (_, is), one) = (of_body (weekday_of n)).0 on in
             ap (body_at xs) (source_in-piece c p of.tiles of.listed n from upto ∙ is) ∙ sym one
 
-        near : (s : Span) → Contains (drop ended spans) s → Contains spans s × (week_of p.first ≤ s.last_week + 1)
-        near s h =
-            let (listed, late) = cut-rest spans ended (Gone (week_of p.first)) (Late (week_of p.first)) point s h in
-            (listed, ltb-false (s.last_week + 1) (week_of p.first) late)
-
         -- an earlier span that is near the new one, with its body, is one of those that were looked at
         old-source : (s : Span) → Contains spans s → AreNear s u → body_at xs (Some s.source) ≡ body_at xs (Some u.source) →
-            AreSpansOn xs c (KnownIn p taken) spans → s.source ≡ u.source
-        old-source s in_s close one a =
-            let in_near : Contains (drop ended spans) s = ⊎_elim
-            (λ gone. absurd (omega (arith, close.reached, ltb-true (s.last_week + 1) (week_of p.first) gone.1)))
-            (λ h. h.0)
-            (cut-cases spans ended (Gone (week_of p.first)) (Late (week_of p.first)) point s in_s) in
-            ⊎_elim
-            (λ h.
-            let (t, in_t, is) = h in
-            let (there, late) = near t in_t in
-            let (_, late_s) = near s in_near in
-            a.one_source s t in_s there
+            s.source ≡ u.source
+        old-source s in_s close one = ⊎_elim
+            (λ (t, in_t, late, is). l.are.one_source s t in_s in_t
             (record {
-              reaches = omega (arith, order.begun s in_s);
-              reached = omega (arith, order.begun t there);
+              reaches = omega (arith, l.order.begun s in_s, late);
+              reached = omega (arith, l.order.begun t in_t, close.reached, begins);
             }) (one ∙ ap (λ v. body_at xs (Some v)) (sym is)) ∙ is)
-            (λ h. absurd (All-contains (λ (v : Span). (body_at xs (Some v.source) ≡ body_at xs (Some winner)) → ⊥) (drop ended spans) s
-            h.1 in_near (one ∙ same)))
+            (λ new. absurd (new.1 s in_s (omega (arith, close.reached, begins)) (one ∙ same)))
             among
 
-        pub spans-more : AreSpansOn xs c (KnownIn p taken) spans → AreSpansOn xs c (KnownIn p both) (spans ++ u ∷ [])
-        spans-more a = record {
+        spans-more : AreSpansOn xs c (KnownIn p both) (spans ++ u ∷ [])
+        spans-more = let a = l.are in record {
           each = λ s in_s. ⊎_elim
               (λ old. a.each s old)
               (λ is. subst (λ v. IsPieceSpan xs c v) is (record {
@@ -240,15 +200,24 @@ module _ {B : Type 0} (xs : List (Terms B)) (c : CalendarParts) where
               (λ old. ⊎_elim
               (λ other. a.one_source s t old other close one)
               (λ is. subst (λ (v : Span). s.source ≡ v.source) is (old-source s old
-              (subst (λ v. AreNear s v) (sym is) close) (one ∙ ap (λ (v : Span). body_at xs (Some v.source)) (sym is)) a))
+              (subst (λ v. AreNear s v) (sym is) close) (one ∙ ap (λ (v : Span). body_at xs (Some v.source)) (sym is))))
               (Contains-push_cases spans u t in_t))
               (λ is. ⊎_elim
               (λ other. subst (λ (v : Span). v.source ≡ t.source) is (sym (old-source t other
-              (near-sym u t (subst (λ v. AreNear v t) (sym is) close))
-              (sym one ∙ ap (λ (v : Span). body_at xs (Some v.source)) (sym is)) a)))
+              (let h : AreNear u t = subst (λ v. AreNear v t) (sym is) close in record { reaches = h.reached; reached = h.reaches })
+              (sym one ∙ ap (λ (v : Span). body_at xs (Some v.source)) (sym is)))))
               (λ same_t. ap (λ (v : Span). v.source) (sym is ∙ same_t))
               (Contains-push_cases spans u t in_t))
               (Contains-push_cases spans u s in_s);
+        }
+
+        pub taken-more : AreTaken p (weekday + 1) both (spans ++ u ∷ [])
+        taken-more = record {
+          of = of;
+          are = spans-more;
+          order = order-more (week_of p.first) (week_of p.last) spans u begins ends l.order;
+          done = done-more p taken both weekday l.done (λ v on. (united v).1 (inl on))
+              (λ i also. (united weekday).1 (inr ((of_body weekday).1 (winner, wins, same))));
         }
 
       -- all weekdays that have a winner are taken
@@ -270,17 +239,22 @@ module _ {B : Type 0} (xs : List (Terms B)) (c : CalendarParts) where
       source-below size w i source long wins same =
           let (b, has) = winner-body w i wins in subst (λ v. source < v) long (has-below xs c sources source b (same ∙ has))
 
-    pub spans-below : {known : ℕ → Type 0} (size ended : ℕ) (spans : List Span) → length xs ≡ size → AreSpansOn xs c known spans →
-        All (λ (s : Span). s.source < size) (drop ended spans)
-    spans-below size ended spans long a = λ k d below.
-        let s = get_or (drop ended spans) k d in
-        let (n, from, within, is) = Contains-drop spans ended s (Contains-get_or (drop ended spans) k d below) in
-        let e = a.each s (n, within, is) in
-        subst (λ v. s.source < v) long (has-below xs c sources s.source e.body e.has)
+    pub spans-below : {known : ℕ → Type 0} (size : ℕ) (spans : List Span) → length xs ≡ size → AreSpansOn xs c known spans →
+        All (λ (s : Span). s.source < size) spans
+    spans-below size spans long a = λ k d below.
+        let e = a.each (get_or spans k d) (Contains-get_or spans k d below) in
+        subst (λ v. (get_or spans k d).source < v) long (has-below xs c sources (get_or spans k d).source e.body e.has)
 
     -- before the first piece there is no span
     pub spans-before_first : AreSpansBefore xs c c.first []
-    spans-before_first = record { are = spans-none; order = order-none (week_of c.first) (week_of c.first) }
+    spans-before_first = record {
+      are = spans-none;
+      order = record {
+        rising = IsNonDecreasingBy-short (λ (s : Span). s.last_week) [] (omega arith);
+        begun = λ s listed. absurd (Contains-none s listed);
+        ended = λ s listed. absurd (Contains-none s listed);
+      };
+    }
 
   -- the spans in another order
   pub spans-sorted : {known : ℕ → Type 0} (spans sorted : List Span) → IsPermutation spans sorted → AreSpansOn xs c known spans →

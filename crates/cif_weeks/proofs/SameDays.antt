@@ -1,10 +1,6 @@
 -- Runs of the same days: what is known of them over one set of days is known over the other.
 use Rattle.std.proofs.Common.{inl, inr, ℕ, ◌+◌, List, Bool}
-use Rattle.cif_columns.specs.Day.{week_of}
-use Rattle.cif_weeks.specs.declared.form.Form.{Form}
-use Rattle.cif_weeks.specs.declared.form.Form.TheVariants.{One, Two}
-use Rattle.cif_weeks.specs.Permanent.{Permanent}
-use Rattle.cif_weeks.specs.Window.{Window}
+use Rattle.cif_weeks.proofs.Words.{week_of, Form, One, Two, Permanent, Window}
 use Rattle.cif_weeks.specs.Steps.Growing.{Breaks, Fits, IsGrown}
 use Rattle.cif_weeks.specs.Steps.WeekMasks.{IsMask}
 

@@ -1,10 +1,6 @@
 -- Separate records in order: one ends in a week before that in which the other begins.
 use Rattle.std.proofs.Common.{◌≡◌, inl, inr, ◌↔◌, ℕ, ◌+◌, ◌<◌, ◌≤◌, arith, sym, ◌∙◌, subst}
-use Rattle.cif_columns.specs.Day.{week_of}
-use Rattle.cif_weeks.specs.declared.form.Form.{Form}
-use Rattle.cif_weeks.specs.declared.form.Form.TheVariants.{Two}
-use Rattle.cif_weeks.specs.Window.{Window, IsWithin}
-use Rattle.cif_weeks.specs.Permanent.{Permanent}
+use Rattle.cif_weeks.proofs.Words.{week_of, Form, Two, Window, IsWithin, Permanent}
 use Rattle.cif_weeks.specs.Applies.{Applies}
 use Rattle.cif_weeks.specs.Separate.{EitherApplies, ExactlyOne, ChangeBetween, Change, AreSeparate}
 use Rattle.cif_weeks.proofs.WeekDays.{week_of-rises, week_of-next, weekday_of-next, same_day}

@@ -1,18 +1,14 @@
 -- The runs of a calendar's spans, one source after another: the spans of the first source that is left, and those of the others.
-use Rattle.std.proofs.Common.{◌≡◌, ◌≢◌, inl, inr, ℕ, ◌+◌, ◌<◌, ◌≤◌, true, false, List, [], ◌++◌, length, take, drop, get_or, leb}
-use Rattle.std.proofs.Common.{arith, sym, ◌∙◌, ap, subst, ⊎_elim, length-take, length-drop}
-use Rattle.std.specs.Prelude.{All, Contains}
+use Rattle.std.proofs.Common.{◌≡◌, ◌≢◌, inl, inr, ℕ, ◌+◌, ◌<◌, ◌≤◌, true, false, List, [], ◌++◌, length, take, drop, get_or, leb, arith}
+use Rattle.std.proofs.Common.{sym, ◌∙◌, ap, subst, ⊎_elim, length-take, length-drop, All, Contains, is_lt, nat_cmp}
 use Rattle.std.specs.List.Sorted.{IsNonDecreasingBy, IsPartitionPoint}
-use Rattle.std.specs.Ordering.{is_lt, nat_cmp, ordering_then}
+use Rattle.std.specs.Ordering.{ordering_then}
 use Rattle.std.proofs.lemmas.Bool.{cases_lt, leb-false, leb-true}
 use Rattle.std.proofs.lemmas.Bool.Decides.{nat_tests}
 use Rattle.std.proofs.lemmas.List.{get_or-drop, get_or-take, get_or_default}
 use Rattle.std.proofs.lemmas.List.Elements.{All-contains}
 use Rattle.std.proofs.lemmas.List.Sorted.{IsNonDecreasingBy-drop, IsNonDecreasingBy-from_all_adjacent}
-use Rattle.cif_weeks.specs.declared.form.Form.{Form}
-use Rattle.cif_weeks.specs.declared.run.Run.{Run}
-use Rattle.cif_weeks.specs.declared.span.Span.{Span}
-use Rattle.cif_weeks.specs.Window.{Window}
+use Rattle.cif_weeks.proofs.Words.{Form, Run, Span, Window}
 use Rattle.cif_weeks.specs.Steps.BodyRuns.{AreRunsOfBody, HasBody, HasSource}
 use Rattle.cif_weeks.specs.Steps.PieceSpans.{AreBySource}
 use Rattle.cif_weeks.specs.Steps.Spans.{IsAgreed, IsDisputed, Shows}

@@ -1,12 +1,11 @@
 -- The source of a day, and none outside the window.
-use Rattle.std.proofs.Common.{◌≡◌, ℕ, ◌+◌, ◌<◌, ◌≤◌, Some, None, leb, sym, ◌∙◌, ⊎_elim, arith}
-use Rattle.std.specs.Prelude.{Contains}
+use Rattle.std.proofs.Common.{◌≡◌, ℕ, ◌+◌, ◌<◌, ◌≤◌, Some, None, leb, sym, ◌∙◌, ⊎_elim, arith, Contains}
 use Rattle.std.proofs.lemmas.Bool.{cond-true, cond-false, cases_lt, le-leb, lt-leb}
 use Rattle.cif_calendar.specs.Pieces.{Tiles, source_at, winner_of}
 use Rattle.cif_calendar.specs.Calendar.{CalendarParts}
 use Rattle.cif_calendar.specs.declared.key_calendar.Piece.{Piece}
 use Rattle.cif_calendar.proofs.PieceLists.{source_at-piece, tiles-ends, tiles-from}
-use Rattle.cif_weeks.specs.Window.{IsWithin}
+use Rattle.cif_weeks.proofs.Words.{IsWithin}
 use Rattle.cif_weeks.specs.Runs.{window_of}
 use Rattle.cif_weeks.specs.Steps.PieceSpans.{source_in}
 

@@ -1,26 +1,17 @@
 -- The records of runs that are made from spans: one for each run, with the body at its source.
-use Rattle.std.proofs.Common.{◌≡◌, ℕ, ◌+◌, ◌<◌, ◌≤◌, List, [], ◌∷◌, Option, Some}
-use Rattle.std.proofs.Common.{arith, refl, sym, ◌∙◌, ap, subst, ⊎_elim}
-use Rattle.std.specs.Prelude.{AllPairs, Contains, slice_get}
+use Rattle.std.proofs.Common.{◌≡◌, ℕ, ◌+◌, ◌<◌, ◌≤◌, List, [], ◌∷◌, Option, Some, arith, refl, sym, ◌∙◌, ap, subst, ⊎_elim, AllPairs}
+use Rattle.std.proofs.Common.{Contains, slice_get}
 use Rattle.std.specs.List.{AllZip}
 use Rattle.std.proofs.lemmas.Bool.{cases_lt}
 use Rattle.std.proofs.lemmas.Option.{same_Some, slice_get_within, slice_get-get_or, get_or_from_slice_get}
-use Rattle.cif_columns.specs.Day.{week_of}
-use Rattle.cif_calendar.specs.Source.{body_at}
-use Rattle.cif_calendar.specs.Terms.{Terms}
+use Rattle.cif_weeks.proofs.Words.{week_of, body_at, Terms, Permanent, Window, IsWithin, Form, One, Two, Run, Span}
 use Rattle.cif_calendar.proofs.Elements.{Contains-first, Contains-rest}
 use Rattle.cif_calendar.proofs.Positions.{at-contains, contains-at}
-use Rattle.cif_weeks.specs.Permanent.{Permanent}
 use Rattle.cif_weeks.specs.Runs.{record_of}
 use Rattle.cif_weeks.specs.Steps.BodyRuns.{AreRunsOfSpans, HasBody, IsSpansRun, dates_of}
 use Rattle.cif_weeks.specs.Steps.Growing.{Breaks, Fits, IsApartFrom, IsGrown}
 use Rattle.cif_weeks.specs.Steps.PieceSpans.{AreNear}
 use Rattle.cif_weeks.specs.Steps.Spans.{Leads, Shows}
-use Rattle.cif_weeks.specs.Window.{Window, IsWithin}
-use Rattle.cif_weeks.specs.declared.form.Form.{Form}
-use Rattle.cif_weeks.specs.declared.form.Form.TheVariants.{One, Two}
-use Rattle.cif_weeks.specs.declared.run.Run.{Run}
-use Rattle.cif_weeks.specs.declared.span.Span.{Span}
 use Rattle.cif_weeks.proofs.Grown.{grown_aligned, grown_applies, grown_change, grown_near, grown_runs}
 use Rattle.cif_weeks.proofs.JoinedLists.{zip-at, zip-back}
 use Rattle.cif_weeks.proofs.Meeting.{MeetsInOrder}

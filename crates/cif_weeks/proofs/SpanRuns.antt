@@ -1,7 +1,6 @@
 -- The runs of few records: those of one source after another.
-use Rattle.std.proofs.Common.{◌≡◌, ◌≢◌, ◌⊎◌, inl, inr, ℕ, ◌+◌, ◌<◌, ◌≤◌, ◌==◌, Bool, false, List, [], ◌∷◌, ◌++◌, reverse, get_or}
-use Rattle.std.proofs.Common.{arith, refl, sym, ◌∙◌, ap, subst, ⊎_elim}
-use Rattle.std.specs.Prelude.{All, AllPairs, Contains, IsPermutation}
+use Rattle.std.proofs.Common.{◌≡◌, ◌≢◌, ◌⊎◌, inl, inr, ℕ, ◌+◌, ◌<◌, ◌≤◌, ◌==◌, Bool, false, List, [], ◌∷◌, ◌++◌, reverse, get_or, arith}
+use Rattle.std.proofs.Common.{refl, sym, ◌∙◌, ap, subst, ⊎_elim, All, AllPairs, Contains, IsPermutation}
 use Rattle.std.specs.List.Sorted.{IsNonDecreasingBy}
 use Rattle.std.proofs.lemmas.Bool.{cases_lt}
 use Rattle.std.proofs.lemmas.Bool.Decides.{nat_tests}
@@ -10,14 +9,10 @@ use Rattle.std.proofs.lemmas.List.Elements.{Contains-get_or, Contains-push, Cont
 use Rattle.std.proofs.lemmas.List.Kept.{AllPairs-cons}
 use Rattle.std.proofs.lemmas.List.Sorted.{Contains-permutation, IsPermutation-reverse, IsPermutation-sym}
 use Rattle.std.proofs.lemmas.Map.Keys.{IsDistinct-IsPermutation, IsDistinct-from_apart, apart_from_distinct}
-use Rattle.cif_columns.specs.Day.{week_of}
+use Rattle.cif_weeks.proofs.Words.{week_of, Form, Run, Span, Window}
 use Rattle.cif_calendar.proofs.Elements.{Contains-cases, Contains-first, Contains-rest}
-use Rattle.cif_weeks.specs.declared.form.Form.{Form}
-use Rattle.cif_weeks.specs.declared.run.Run.{Run}
-use Rattle.cif_weeks.specs.declared.span.Span.{Span}
-use Rattle.cif_weeks.specs.Window.{Window}
-use Rattle.cif_weeks.specs.Steps.BodyRuns.{AreBodyRuns, AreRunsOfBody, AreRunsOfSpans, EndsBefore, HasBody, HasSource}
-use Rattle.cif_weeks.specs.Steps.BodyRuns.{HasWeekOf, IsLatest, dates_of}
+use Rattle.cif_weeks.specs.Steps.BodyRuns.{AreBodyRuns, AreRunsOfBody, AreRunsOfSpans, EndsBefore, HasBody, HasSource, HasWeekOf, IsLatest}
+use Rattle.cif_weeks.specs.Steps.BodyRuns.{dates_of}
 use Rattle.cif_weeks.specs.Steps.Growing.{IsGrown}
 use Rattle.cif_weeks.specs.Steps.Spans.{IsAgreed, Shows}
 use Rattle.cif_weeks.proofs.JoinedLists.{AllPairs-append}

@@ -1,22 +1,16 @@
 -- The masks of a span's days week by week, and of the days that some of the spans so far have, span by span.
 use Rattle.std.proofs.Common.{◌≡◌, ◌≢◌, ◌⊎◌, inl, inr, ◌↔◌, ℕ, ◌+◌, ◌-◌, ◌*◌, ◌<◌, ◌≤◌, List, [], ◌∷◌, ◌++◌, Bool, length, take, get_or}
-use Rattle.std.proofs.Common.{true, is_lt, nat_cmp, refl, sym, ◌∙◌, ap, subst, arith, rules, ⊎_elim}
+use Rattle.std.proofs.Common.{true, is_lt, nat_cmp, refl, sym, ◌∙◌, ap, subst, arith, rules, ⊎_elim, Contains}
 use Rattle.std.specs.Ordering.{ord_max, ord_min}
-use Rattle.std.specs.Prelude.{Contains}
 use Rattle.std.proofs.lemmas.Bool.{cases_lt}
 use Rattle.std.specs.List.Sorted.{IsNonDecreasingBy}
 use Rattle.std.proofs.lemmas.List.{get_or-take, get_or_default, get_or_read_under, length-take, take-append-drop, take_all, take_more}
 use Rattle.std.proofs.lemmas.List.Elements.{Contains-append_left, Contains-push, Contains-push_cases}
-use Rattle.cif_columns.specs.Day.{week_of, weekday_of}
-use Rattle.cif_columns.specs.DaysRun.{RunsOn}
+use Rattle.cif_weeks.proofs.Words.{week_of, weekday_of, RunsOn, Terms, Span, Weeks, IsWithin, Window}
 use Rattle.cif_columns.specs.Stp.{letter}
 use Rattle.cif_calendar.specs.Applies.{Applies}
-use Rattle.cif_calendar.specs.Terms.{Terms}
-use Rattle.cif_weeks.specs.declared.span.Span.{Span}
-use Rattle.cif_weeks.specs.declared.span.Weeks.{Weeks}
 use Rattle.cif_weeks.specs.Steps.Spans.{AgreeOn, HasDay, HaveOneMask, IsAgreed, IsDisputed, IsSpanOf, Leads, Shows}
 use Rattle.cif_weeks.specs.Steps.WeekMasks.{IsMask}
-use Rattle.cif_weeks.specs.Window.{IsWithin, Window}
 use Rattle.cif_weeks.proofs.Masks.{mask_runs}
 use Rattle.cif_weeks.proofs.WeekDays.{RunsOn-below, same_or_other}
 

@@ -1,13 +1,7 @@
 -- Two sets of records that have one form and say the same have the same records.
-use Rattle.std.proofs.Common.{◌≡◌, ◌≢◌, inl, inr, ℕ, ◌+◌, ◌-◌, ◌<◌, ◌≤◌, List, Bool, Option, arith, refl, sym, ◌∙◌, ap, subst}
-use Rattle.std.specs.Prelude.{Contains}
+use Rattle.std.proofs.Common.{◌≡◌, ◌≢◌, inl, inr, ℕ, ◌+◌, ◌-◌, ◌<◌, ◌≤◌, List, Bool, Option, arith, refl, sym, ◌∙◌, ap, subst, Contains}
 use Rattle.std.proofs.lemmas.Bool.{cases_lt, cases_eq}
-use Rattle.cif_columns.specs.Day.{week_of}
-use Rattle.cif_columns.specs.DaysRun.{RunsOn}
-use Rattle.cif_weeks.specs.declared.form.Form.{Form}
-use Rattle.cif_weeks.specs.declared.form.Form.TheVariants.{One, Two}
-use Rattle.cif_weeks.specs.Window.{Window}
-use Rattle.cif_weeks.specs.Permanent.{Permanent, Permanents}
+use Rattle.cif_weeks.proofs.Words.{week_of, RunsOn, Form, One, Two, Window, Permanent, Permanents}
 use Rattle.cif_weeks.specs.Applies.{Applies, IsWeekOf}
 use Rattle.cif_weeks.specs.Aligned.{IsAlignedOne, IsAlignedTwo, IsAligned}
 use Rattle.cif_weeks.specs.Separate.{EitherApplies, ChangeBetween, Change, AreSeparate}

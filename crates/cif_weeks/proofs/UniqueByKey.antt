@@ -1,11 +1,8 @@
 -- Canonical lists of all keys that say the same are equal.
-use Rattle.std.proofs.Common.{◌≡◌, inl, inr, ℕ, ◌<◌, List, Option, arith, sym}
-use Rattle.std.specs.Prelude.{Contains}
+use Rattle.std.proofs.Common.{◌≡◌, inl, inr, ℕ, ◌<◌, List, Option, arith, sym, Contains}
 use Rattle.std.specs.declared.cmp.Ordering.{Ordering}
 use Rattle.std.specs.Cmp.{IsTotalOrder}
-use Rattle.cif_weeks.specs.declared.form.Form.{Form}
-use Rattle.cif_weeks.specs.Window.{Window}
-use Rattle.cif_weeks.specs.Permanent.{Permanent}
+use Rattle.cif_weeks.proofs.Words.{Form, Window, Permanent}
 use Rattle.cif_weeks.specs.WhatRuns.{SayTheSame}
 use Rattle.cif_calendar.specs.Keys.{of_key}
 use Rattle.cif_weeks.specs.Canonical.{Precedes, AreCanonical, SayWhatRunsByKey, SayTheSameByKey}

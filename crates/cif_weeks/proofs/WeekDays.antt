@@ -3,8 +3,7 @@ use Rattle.std.proofs.Common.{◌≡◌, ◌≢◌, ◌⊎◌, inl, inr, ⊎_eli
 use Rattle.std.proofs.Common.{length, arith, refl, ap}
 use Rattle.std.proofs.lemmas.Bool.{cases_lt}
 use Rattle.std.proofs.lemmas.Option.{slice_get_within}
-use Rattle.cif_columns.specs.Day.{weekday_of, week_of}
-use Rattle.cif_columns.specs.DaysRun.{RunsOn}
+use Rattle.cif_weeks.proofs.Words.{weekday_of, week_of, RunsOn}
 
 -- a later day is in no earlier week
 pub week_of-rises : (m n : ℕ) → m ≤ n → week_of m ≤ week_of n

@@ -1,6 +1,6 @@
 //! The canonical runs of a calendar, body by body, from the spans of its pieces.
 
-ghost use Rattle.std.specs.Prelude.{◌≡◌, ◌<◌, ◌≤◌, ◌+◌, ◌↔◌, ℕ, All, Contains, IfOk, List, Some, length};
+ghost use Rattle.std.specs.Prelude.{◌≡◌, ◌<◌, ◌+◌, ◌↔◌, ℕ, All, Contains, IfOk, Some, length};
 ghost use Rattle.std.specs.Prelude.{map, slice_get, []};
 ghost use Rattle.cif_columns.specs.DaysRun.{RunsOn};
 ghost use Rattle.cif_calendar.specs.declared.key_calendar.Piece.{Piece};
@@ -68,16 +68,11 @@ fn add_piece<E: Entry>(
         AreSpansBefore (map E.terms entries.now) calendar.now (piece.last + 1) spans.new.items) }
 {
     let piece = &calendar.pieces()[number];
-    let week = piece.first.week();
-    let ended = spans
-        .as_slice()
-        .partition_point(|span| span.last_week + 1 < week);
     let mut taken = no_days();
     for weekday in 0..7u8 {
         if let Some(winner) = winner_on(piece, weekday) {
             if !taken.has(weekday) {
-                let (_, near) = spans.as_slice().split_at(ended);
-                let source = source_of(entries, near, winner);
+                let source = source_of(entries, spans.as_slice(), piece.first.week(), winner);
                 let days = days_of(entries, piece, source);
                 spans.push(Span::between(piece.first, piece.last, days, b'P', source))?;
                 taken = taken.union(days);

@@ -1,12 +1,12 @@
 //! The canonical runs of few records, body by body and without a calendar.
 
-ghost use Rattle.std.specs.Prelude.{◌≡◌, ◌≢◌, ◌<◌, ◌≤◌, ◌↔◌, ◌⊎◌, [], All, IfOk, IsTrue, MatchBool};
+ghost use Rattle.std.specs.Prelude.{◌≡◌, ◌≢◌, ◌<◌, ◌↔◌, ◌⊎◌, [], All, IfOk, IsTrue, MatchBool};
 ghost use Rattle.std.specs.Prelude.{ℕ, Some, length, map};
 ghost use Rattle.std.specs.List.Sorted.{IsNonDecreasingBy};
 ghost use Rattle.cif_calendar.specs.Source.{body_at};
 ghost use Rattle.cif_weeks.specs.MemberRuns.{AreRunsOfMembers, HaveClash};
 ghost use Rattle.cif_weeks.specs.Steps.BodyRuns.{AreRunsOfSpans, HasBody, HasSource};
-ghost use Rattle.cif_weeks.specs.Steps.Spans.{AreSpansOf, IsDisputed, IsSourceAmong, Shows};
+ghost use Rattle.cif_weeks.specs.Steps.Spans.{IsDisputed, IsSourceAmong, Shows};
 ghost use Rattle.cif_weeks.specs.Window.{IsWithin, window_from};
 
 use crate::body_runs::add_body_runs;
@@ -75,15 +75,28 @@ pub(crate) fn have_one_body<E: Entry>(entries: &[E], one: usize, other: usize) -
 }
 
 /// The position that stands for the body of the entry at `position`: the source of a span with this
-/// body, or `position` itself if there is none.
-pub(crate) fn source_of<E: Entry>(entries: &[E], spans: &[Span], position: usize) -> usize
+/// body, or `position` itself if there is none. Spans that end before the week before `week` don't
+/// count; where there are any, the spans rise by their last weeks.
+pub(crate) fn source_of<E: Entry>(
+    entries: &[E],
+    spans: &[Span],
+    week: u32,
+    position: usize,
+) -> usize
     requires position { position < length entries.now }
     requires sources { All (λ s. s.source < length entries.now) spans.now }
+    requires order { 0 < week → IsNonDecreasingBy (λ s. s.last_week) spans.now }
     ensures body { body_at (map E.terms entries.now) (Some result)
         ≡ body_at (map E.terms entries.now) (Some position) }
-    ensures source { IsSourceAmong (map E.terms entries.now) spans.now position result }
+    ensures source { IsSourceAmong (map E.terms entries.now) spans.now week position result }
 {
-    for span in spans {
+    let mut place = spans.len();
+    while 0 < place {
+        place -= 1;
+        let span = &spans[place];
+        if span.last_week + 1 < week {
+            break;
+        }
         if have_one_body(entries, span.source, position) {
             return span.source;
         }
@@ -117,7 +130,7 @@ pub fn runs_of_few<E: Entry>(
     runs.clear();
     let mut spans = ArrayVec::<Span, FEW>::new();
     for position in members {
-        let source = source_of(entries, spans.as_slice(), *position);
+        let source = source_of(entries, spans.as_slice(), 0, *position);
         if let Some(span) = Span::of(&entries[*position], source, window) {
             spans.push(span);
         }

@@ -23,5 +23,5 @@ pub(crate) fn sort_by_first(runs: &mut Vec<Run>)
     ensures permutation { IsPermutation runs.old.items runs.new.items }
     ensures order { IsNonDecreasingBy (λ r. r.first) runs.new.items }
 {
-    runs.sort_unstable_by_key(|run| run.first.number());
+    runs.sort_unstable_by_key(|run| run.first);
 }

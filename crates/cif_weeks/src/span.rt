@@ -74,13 +74,17 @@ impl Span {
         let before = days.intersection(DaysRun::between(0, last.weekday() + 1));
         let (first_week, last_week) = (first.week(), last.week());
         last.fits();
-        let both = after.intersection(before);
-        let is_one_week = first_week == last_week;
+        let (first_days, last_days) = if first_week == last_week {
+            let both = after.intersection(before);
+            (both, both)
+        } else {
+            (after, before)
+        };
         Span {
             first_week,
             last_week,
-            first_days: if is_one_week { both } else { after },
-            last_days: if is_one_week { both } else { before },
+            first_days,
+            last_days,
             days,
             letter,
             source,

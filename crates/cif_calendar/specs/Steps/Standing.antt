@@ -57,6 +57,7 @@ IsRank {B} xs members (Disputed k) n = (t : Terms B) → StandsAt xs members k t
 
 -- u is the standing of two sets of members together, where s is that of one and t that of the other
 pub record Combines {B : Type 0} (xs : List (Terms B)) (members : List ℕ) (s t u : Standing) : Type 0 where
+  pub below : (n : ℕ) → IsBelow n s → IsBelow n t → IsBelow n u
   pub stands : (ms ns : List ℕ) (d : ℕ) → Stands xs members (IsChosen xs ms) d s → Stands xs members (IsChosen xs ns) d t →
       Stands xs members (IsChosen xs (ms ++ ns)) d u
 

@@ -20,14 +20,6 @@ pub record IsStretch {B : Type 0} (xs : List (Terms B)) (members looked : List �
   pub stands : (d : ℕ) → first ≤ d → d ≤ s.last →
       Stands xs members (IsChosen xs looked) d (slice_index_or s.standings (weekday_of d) Nobody)
 
--- from day `first` to day `end` the record doesn't begin or end, and `end` is `last` or the day before it does, if that is sooner
-pub record IsEndFor {B : Type 0} (r : Terms B) (first last end : ℕ) : Type 0 where
-  pub from : first ≤ end
-  pub upto : end ≤ last
-  pub begins : first < r.first → end < r.first
-  pub ends : first ≤ r.last → end ≤ r.last
-  pub breaks : (end ≡ last) ⊎ ((end + 1 ≡ r.first) ⊎ (end + 1 ≡ r.last + 1))
-
 -- stretches from day `first` to the day before `to`
 abbrev pub AreStretches : {B : Type 0} → List (Terms B) → List ℕ → List ℕ → ℕ → ℕ → ℕ → List Stretch → Type 0
 AreStretches xs members looked end first to [] = first ≡ to

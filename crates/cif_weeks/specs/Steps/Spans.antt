@@ -1,5 +1,5 @@
 -- Steps to the runs of few records: the days that each has in a window, and on which it leads. No public clause cites them.
-use Rattle.std.specs.Prelude.{◌≡◌, ℕ, ◌≢◌, ◌⊎◌, ◌<◌, ◌≤◌, List, Some, All, Contains, ◌↔◌}
+use Rattle.std.specs.Prelude.{◌≡◌, ℕ, ◌≢◌, ◌⊎◌, ◌+◌, ◌<◌, ◌≤◌, List, Some, Contains, ◌↔◌}
 use Rattle.cif_columns.specs.Day.{week_of, weekday_of}
 use Rattle.cif_columns.specs.DaysRun.{RunsOn}
 use Rattle.cif_columns.specs.Stp.{letter}
@@ -40,10 +40,12 @@ pub record AreSpansOf {B : Type 0} (xs : List (Terms B)) (members : List ℕ) (w
   pub one_source : (s t : Span) → Contains spans s → Contains spans t → body_at xs (Some s.source) ≡ body_at xs (Some t.source) →
       s.source ≡ t.source
 
--- The source is that of one of the spans, or it is the position itself, and none of them has a source with its body.
-abbrev pub IsSourceAmong : {B : Type 0} → List (Terms B) → List Span → ℕ → ℕ → Type 0
-IsSourceAmong xs spans position source = ((s : Span) × Contains spans s × (s.source ≡ source))
-    ⊎ ((source ≡ position) × All (λ s. body_at xs (Some s.source) ≢ body_at xs (Some position)) spans)
+-- Of the spans that don't end before the week before this one: the source is that of one of them, or it is the position itself, and
+-- none of them has a source with its body.
+abbrev pub IsSourceAmong : {B : Type 0} → List (Terms B) → List Span → ℕ → ℕ → ℕ → Type 0
+IsSourceAmong xs spans week position source =
+    ((s : Span) × Contains spans s × (week ≤ s.last_week + 1) × (s.source ≡ source)) ⊎ ((source ≡ position) × ((s : Span) →
+    Contains spans s → week ≤ s.last_week + 1 → body_at xs (Some s.source) ≢ body_at xs (Some position)))
 
 -- the span has day n, and none that has it has a letter before its own
 pub record Leads (spans : List Span) (n : ℕ) (s : Span) : Type 0 where

@@ -1,9 +1,10 @@
 -- One piece more is laid (`laid-more`), all are the calendar (`laid-all`), and a clash is the window's first (`laid-fault`).
-use Rattle.std.proofs.Common.{◌≡◌, ◌<◌, ◌+◌, ◌∙◌, ap, map, subst, sym, Err}
+use Rattle.std.proofs.Common.{◌≡◌, ◌<◌, ◌+◌, ◌∙◌, ap, map, refl, subst, sym, Err}
 use Rattle.std.proofs.lemmas.List.{drop_all}
 use Rattle.std.proofs.lemmas.Result.{err_from_is_err_and}
 use Rattle.cif_calendar.specs.Calendar.{IsAnswer}
-use Rattle.cif_calendar.proofs.LaidPieces.{laid-all, laid-fault, laid-more, laid-none, stretch-laid}
+use Rattle.cif_calendar.specs.declared.key_calendar.CalendarFault.TheVariants.{Memory}
+use Rattle.cif_calendar.proofs.LaidPieces.{laid-all, laid-fault, laid-memory, laid-more, laid-none, stretch-laid}
 use Rattle.cif_calendar.proofs.pieces.calendar_of.Goals as goal
 use Rattle.cif_calendar.proofs.pieces.calendar_of.Goals.{in-Some, in_default-next_up_to}
 
@@ -32,3 +33,6 @@ loop-stretch-preserved g c =
 pub returns : goal.returns
 returns g c = rw c.new.ensures (laid-all _ _ _ _ _ _ _ c.loop-stretch.invariant
     (drop_all c.loop-stretch.stretch-index c.args.stretches.now c.loop-stretch-test.false))
+
+pub returns-in_default : goal.returns-in_default
+returns-in_default g c = laid-memory _ _ _ _ (Err Memory) refl

@@ -1,7 +1,7 @@
 -- One day more sets its weekday's winner; among seven days that is no other day's, so the others stay (`week-more`). The winners of the
 -- first week are those of the whole piece (`piece-from_week`).
 use Rattle.std.proofs.Common.{◌≡◌, ◌+◌, ◌∙◌, arith, length-set, map, min, refl, subst}
-use Rattle.cif_columns.specs.Day.{weekday_of}
+use Rattle.cif_calendar.proofs.Words.{weekday_of}
 use Rattle.cif_calendar.proofs.Alike.{IsWeekFrom, piece-from_week, week-more}
 use Rattle.cif_calendar.proofs.pieces.judge.Goals as goal
 use Rattle.cif_calendar.proofs.pieces.judge.Goals.{else-loop-test, then-loop-test+in_ok-winners+in-None}
@@ -18,7 +18,7 @@ loop-preserved g c = let is = c.loop.invariant in record {
   upto = omega (arith, c.in-Some.ensures);
   week = week-more (map g.E.Entry.terms c.args.entries.now) c.args.members.now c.args.first c.loop.day c.from-weekday.result c.in-Some.next
       c.loop.winners c.in_ok-winners.field-0 (c.from-weekday.ensures ∙ c.weekday.ensures.value) c.in-Some.ensures.1 is.seven (omega arith)
-      (omega arith) c.in_ok-winners.ensures.source c.in_ok-winners.ensures.clear is.week;
+      (omega arith) c.in_ok-winners.ensures.1 c.in_ok-winners.ensures.0 is.week;
 }
 
 pub returns-clause-piece : goal.returns-clause-piece
@@ -35,6 +35,6 @@ returns-clause-piece g c =
             | then-loop-test+in_ok-winners+in-None w ↦ rw w.winners-is (week-more xs members c.args.first c.loop.day w.from-weekday.result
                 (min (c.args.stretch.now.last + 1) (c.args.first + 7)) c.loop.winners w.in_ok-winners.field-0
                 (w.from-weekday.ensures ∙ w.weekday.ensures.value) (omega (arith, w.in-None.ensures)) is.seven (omega arith) (omega arith)
-                w.in_ok-winners.ensures.source w.in_ok-winners.ensures.clear is.week)
+                w.in_ok-winners.ensures.1 w.in_ok-winners.ensures.0 is.week)
           ]),
     )

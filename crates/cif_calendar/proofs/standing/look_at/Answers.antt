@@ -1,9 +1,21 @@
 -- One of the weekdays is looked at, and another stays as it was (`stepped`, `stepped-same`).
-use Rattle.std.proofs.Common.{refl, inl, inr}
+use Rattle.std.proofs.Common.{arith, refl, inl, inr}
 use Rattle.cif_calendar.proofs.Standings.{stepped, stepped-same}
 use Rattle.cif_calendar.proofs.Winning.{refuted}
 use Rattle.cif_calendar.proofs.standing.look_at.Goals as goal
 use Rattle.cif_calendar.proofs.standing.look_at.Goals.{then-has, else-has}
+
+pub loop-weekday-init : goal.loop-weekday-init
+loop-weekday-init g c = record {
+  alike = c.requires.alike;
+  stepped = record { below = c.requires.below; each = λ w less. absurd (omega arith); rest = λ w upto. refl };
+}
+
+pub combine-requires-clause-one : goal.combine-requires-clause-one
+combine-requires-clause-one g c = c.loop-weekday.invariant.stepped.below.below c.from-place.result
+
+pub combine-requires-clause-other : goal.combine-requires-clause-other
+combine-requires-clause-other g c = c.requires.others.below c.from-place.result
 
 pub loop-weekday-preserved : goal.loop-weekday-preserved
 loop-weekday-preserved g c =
@@ -11,7 +23,9 @@ loop-weekday-preserved g c =
       | then-has w ↦ record {
         alike = rw w.alike-is w.combine.ensures.alike;
         stepped = rw w.standings-is (stepped _ _ _ _ _ c.loop-weekday-test.true c.loop-weekday.invariant.stepped _ _ w.from-place.ensures
-            w.combine.ensures.below (inl (c.has.ensures.0 w.if-has.true, rw w.from-place.ensures at w.combine.ensures.stands)));
+            (w.combine.ensures.stands.below _ (c.loop-weekday.invariant.stepped.below.below w.from-place.result)
+            (c.requires.others.below w.from-place.result))
+            (inl (c.has.ensures.0 w.if-has.true, rw w.from-place.ensures at w.combine.ensures.stands)));
       }
       | else-has w ↦ record {
         alike = rw w.alike-is c.loop-weekday.invariant.alike;

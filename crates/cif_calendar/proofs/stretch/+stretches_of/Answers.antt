@@ -1,9 +1,12 @@
 -- One stretch more of both halves together (`merged-more`), until all of a half are merged (`merged-all`).
 use Rattle.std.proofs.Common.{rules, ◌/◌, List, ℕ, length, map, refl, subst, take-append-drop}
 use Rattle.std.proofs.lemmas.Result.{IfOk-from_err}
-use Rattle.cif_calendar.specs.Steps.Stretches.{AreStretchesOf}
-use Rattle.cif_calendar.proofs.Stretches.{fewer-left, first-below, merged-all, merged-more}
+use Rattle.cif_calendar.specs.Steps.Stretches.{AreStretchesOf, IsJoint}
+use Rattle.cif_calendar.proofs.Standings.{looked-all}
+use Rattle.cif_calendar.proofs.Stretches.{fewer-left, first-below, merged-all, merged-more, sooner}
+use Rattle.cif_calendar.proofs.stretch.+stretches_of.Given.{Over}
 use Rattle.cif_calendar.proofs.stretch.+stretches_of.Goals as goal
+use Rattle.cif_calendar.proofs.stretch.+stretches_of.Goals.{After-look_at, After-one-item, In-len1-up-len1-up}
 
 pub loop-left-init : goal.loop-left-init
 loop-left-init g t c = record {
@@ -16,20 +19,38 @@ loop-left-init g t c = record {
   };
 }
 
-pub joint-stretch-requires-clause-one : goal.joint-stretch-requires-clause-one
-joint-stretch-requires-clause-one g t c = first-below _ c.args.members.now _ _ _ _ c.loop-left.left.now c.one-item.result
-    (search rules) c.one-item.is c.loop-left.invariant.merged.of_left
+pub bounds-one-0 : goal.bounds-one-0
+bounds-one-0 g t c = search rules
 
-pub joint-stretch-requires-clause-other : goal.joint-stretch-requires-clause-other
-joint-stretch-requires-clause-other g t c = first-below _ c.args.members.now _ _ _ _ c.loop-left.right.now c.other-item.result
-    (search rules) c.other-item.is c.loop-left.invariant.merged.of_right
+pub bounds-other-0 : goal.bounds-other-0
+bounds-other-0 g t c = search rules
+
+pub look_at-requires-clause-below : goal.look_at-requires-clause-below
+look_at-requires-clause-below g t c = first-below _ c.args.members.now _ _ _ _ c.loop-left.left.now c.one-item.result
+    (bounds-one-0 g t (goal.at.look_at-requires-clause-below g t c).In-len1-up-len1-up) c.one-item.is c.loop-left.invariant.merged.of_left
+
+pub look_at-requires-clause-others : goal.look_at-requires-clause-others
+look_at-requires-clause-others g t c = first-below _ c.args.members.now _ _ _ _ c.loop-left.right.now c.other-item.result
+    (bounds-other-0 g t (goal.at.look_at-requires-clause-others g t c).After-one-item) c.other-item.is c.loop-left.invariant.merged.of_right
+
+-- the stretch of both ends with the sooner of them
+joint : (g : Over) (t : ℕ) (c : After-look_at g t) → IsJoint (map g.E.Entry.terms c.args.entries.now) c.args.members.now
+    c.one-item.result c.other-item.result (record { last = c.min-last.result; standings = c.look_at.new.standings })
+joint g t c = let m = sooner c.one-item.result.last c.other-item.result.last c.min-last.result c.min-last.ensures in record {
+  upto_one = m.0;
+  upto_other = m.1;
+  ends = m.2;
+  below = c.look_at.ensures.below;
+  each = λ w below. looked-all _ c.args.members.now c.other-item.result.standings w _ _ below
+      (rw c.of-days.ensures at (c.look_at.ensures.each w below));
+}
 
 pub loop-left-preserved : goal.loop-left-preserved
-loop-left-preserved g t c = record {
-  alike = c.joint-stretch.ensures.alike;
+loop-left-preserved g t c = let at = goal.at.loop-left-preserved g t c in record {
+  alike = c.look_at.ensures.alike;
   merged = merged-more _ _ _ _ _ _ _ c.loop-left.left.now c.loop-left.right.now _ _ _ _ c.one-item.result c.other-item.result _
-      (search rules) (search rules) c.one-item.is c.other-item.is c.joint-stretch.ensures.joint c.behind-left.ensures
-      c.behind-right.ensures c.in_ok-push.ensures.items c.loop-left.invariant.merged;
+      (bounds-one-0 g t at.In-len1-up-len1-up) (bounds-other-0 g t at.After-one-item) c.one-item.is c.other-item.is
+      (joint g t at.After-look_at) c.behind-left.ensures c.behind-right.ensures c.in_ok-push.ensures.items c.loop-left.invariant.merged;
 }
 
 pub returns-clause-stretches : goal.returns-clause-stretches
@@ -38,9 +59,10 @@ returns-clause-stretches g t c = subst (λ (part : List ℕ). AreStretchesOf (ma
     (merged-all _ _ _ _ _ _ _ c.loop-left.left.now c.loop-left.right.now _ (search rules) c.loop-left.invariant.merged)
 
 pub loop-left-smaller : goal.loop-left-smaller
-loop-left-smaller g t c = fewer-left c.loop-left.left.now c.loop-left.right.now c.behind-left.result.now c.behind-right.result.now
-    c.one-item.result c.other-item.result _ _ _ (search rules) (search rules) c.one-item.is c.other-item.is c.joint-stretch.ensures.joint
-    c.behind-left.ensures c.behind-right.ensures
+loop-left-smaller g t c = let at = goal.at.loop-left-smaller g t c in
+    fewer-left c.loop-left.left.now c.loop-left.right.now c.behind-left.result.now c.behind-right.result.now
+    c.one-item.result c.other-item.result _ _ _ (bounds-one-0 g t at.In-len1-up-len1-up) (bounds-other-0 g t at.After-one-item)
+    c.one-item.is c.other-item.is (joint g t at.After-look_at) c.behind-left.ensures c.behind-right.ensures
 
 pub returns-in_err-lefts-clause-stretches : goal.returns-in_err-lefts-clause-stretches
 returns-in_err-lefts-clause-stretches g t c = IfOk-from_err _ _ c.from_residual.ensures.0

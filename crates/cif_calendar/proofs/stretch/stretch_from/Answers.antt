@@ -1,10 +1,13 @@
--- One member more lies over the first day (`stretch-looked`), or doesn't (`stretch-passed`).
-use Rattle.std.proofs.Common.{◌+◌, [], get_or, length, map, refl, take, take_all}
+-- One member more begins later, has ended (`stretch-begins`, `stretch-ended`), or lies over the first day (`stretch-looked`).
+use Rattle.std.proofs.Common.{◌+◌, [], arith, get_or, length, map, refl, take, take_all}
 use Rattle.std.proofs.lemmas.List.{take_more}
-use Rattle.cif_calendar.proofs.Stretches.{part-all, part-at, stretch-looked, stretch-none, stretch-passed}
-use Rattle.cif_calendar.proofs.Winning.{refuted, terms_at}
+use Rattle.cif_calendar.proofs.Standings.{below-same}
+use Rattle.cif_calendar.proofs.Stretches.{day_upto, part-all, part-at, some-before, stretch-begins, stretch-ended, stretch-looked}
+use Rattle.cif_calendar.proofs.Stretches.{stretch-none}
+use Rattle.cif_calendar.proofs.Winning.{terms_at}
+use Rattle.cif_calendar.proofs.Words.{Leader}
 use Rattle.cif_calendar.proofs.stretch.stretch_from.Goals as goal
-use Rattle.cif_calendar.proofs.stretch.stretch_from.Goals.{then-covers, else-covers}
+use Rattle.cif_calendar.proofs.stretch.stretch_from.Goals.{then-le+then-le-2, then-le+else-le-2, else-le+in-Some, else-le+in_default}
 
 pub loop-index-init : goal.loop-index-init
 loop-index-init g c = record {
@@ -12,6 +15,10 @@ loop-index-init g c = record {
   stretch = stretch-none (map g.E.Entry.terms c.args.entries.now) c.args.members.now [] (c.args.last + 1) c.args.first c.args.last
       c.requires.in_order refl;
 }
+
+pub bounds-entries-position : goal.bounds-entries-position
+bounds-entries-position g c = part-all _ c.args.number _ c.requires.part (length c.args.entries.now) c.requires.positions
+    c.loop-index.index 0 c.loop-index-test.true
 
 pub loop-index-preserved : goal.loop-index-preserved
 loop-index-preserved g c =
@@ -23,19 +30,37 @@ loop-index-preserved g c =
     c.index-entries-position.is in
     let member = part-at c.args.members.now c.args.number part c.requires.part k 0 here in
     let old = c.loop-index.invariant in
-    let ends = c.end_for-end.ensures in
-    elim c.if-covers.branch [
-      | then-covers w ↦ record {
+    let first = c.first-begin.ensures in
+    let begun = day_upto c.first-begin.result c.args.first c.le.result c.le.ensures in
+    elim c.if-le.branch [
+      | then-le+then-le-2 w ↦ record {
         alike = rw w.alike-is w.look_at.ensures.alike;
-        stretch = rw (w.standings-is, take_more part k 0 here) (stretch-looked _ _ (take k part) _ _ _ _ _ member at _ old.stretch _ ends
-            _ w.look_at.ensures.below (c.covers.ensures.0 w.if-covers.true) (rw w.days.ensures at w.look_at.ensures.each));
+        stretch = rw (w.standings-is, w.end-is, take_more part k 0 here) (stretch-looked _ _ (take k part) _ _ _ _ _ member at _ old.stretch
+            w.min-end.result w.look_at.new.standings w.look_at.ensures.below (rw w.last-until.ensures at w.min-end.ensures)
+            (rw first at (begun.0 w.if-le.true))
+            (rw w.last-until.ensures at
+            ((day_upto c.args.first w.last-until.result w.le-then-le.result w.le-then-le.ensures).0 w.if-le-2.true))
+            (rw w.days.ensures at w.look_at.ensures.each));
       }
-      | else-covers w ↦ record {
+      | then-le+else-le-2 w ↦ record {
         alike = rw w.alike-is old.alike;
-        stretch = rw (w.standings-is, take_more part k 0 here) (stretch-passed _ _ (take k part) _ _ _ _ _ member at _ old.stretch _ ends
-            (refuted c.covers.result c.covers.ensures w.if-covers.false));
+        stretch = rw (w.standings-is, w.end-is, take_more part k 0 here) (stretch-ended _ _ (take k part) _ _ _ _ _ member at _ old.stretch
+            _ refl (rw first at (begun.0 w.if-le.true))
+            (rw w.last-until.ensures at
+            ((day_upto c.args.first w.last-until.result w.le-then-le.result w.le-then-le.ensures).1 w.if-le-2.false)));
       }
+      | else-le+in-Some w ↦ record {
+        alike = rw w.alike-is old.alike;
+        stretch = rw (w.standings-is, w.end-is, take_more part k 0 here) (stretch-begins _ _ (take k part) _ _ _ _ _ member at _
+            old.stretch _ c.first-begin.result w.in-Some.before first (begun.1 w.if-le.false) w.in-Some.ensures.1 w.min-end-in-Some.ensures
+            (g.met.E.Entry.dates_ordered c.index-entries-position.result));
+      }
+      | else-le+in_default w ↦ absurd (w.in_default.ensures (some-before _ _ (begun.1 w.if-le.false)))
     ]
 
 pub returns-clause-stretch : goal.returns-clause-stretch
 returns-clause-stretch g c = rw (take_all c.loop-index.index c.args.part.now c.loop-index-test.false) at c.loop-index.invariant.stretch
+
+pub look_at-requires-clause-others : goal.look_at-requires-clause-others
+look_at-requires-clause-others g c = below-same (length c.args.members.now) (Leader (c.args.number + c.loop-index.index))
+    (omega (arith, c.loop-index-test.true, c.requires.part.within))

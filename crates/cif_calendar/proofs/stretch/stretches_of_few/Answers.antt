@@ -1,5 +1,6 @@
 -- One stretch more (`stretches-push`).
 use Rattle.std.proofs.Common.{arith, ◌+◌}
+use Rattle.std.proofs.lemmas.Result.{IfOk-from_err}
 use Rattle.cif_calendar.proofs.Stretches.{stretches-push}
 use Rattle.cif_calendar.proofs.stretch.stretches_of_few.Goals as goal
 
@@ -17,3 +18,6 @@ returns-in-None-clause-stretches g c = let is = c.stretch_from-stretch.ensures i
     rw c.in_ok-push.ensures.items (stretches-push _ _ _ _ c.args.window.now.first _ (c.args.window.now.last + 1)
     c.loop-stretches.stretches.items c.stretch_from-stretch.result (omega (arith, c.in-None.ensures, is.stretch.upto)) is.stretch
     c.loop-stretches.invariant.stretches)
+
+pub returns-in_err-push-clause-stretches : goal.returns-in_err-push-clause-stretches
+returns-in_err-push-clause-stretches g c = IfOk-from_err _ _ c.from_residual.ensures.0

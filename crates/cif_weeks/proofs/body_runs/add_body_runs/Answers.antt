@@ -2,8 +2,7 @@
 -- the runs are made (`body-made`).
 use Rattle.std.proofs.Common.{inl, [], sym, ◌∙◌, ◌+◌, ◌<◌, ◌≤◌, ℕ, arith, ⊎_elim}
 use Rattle.std.proofs.lemmas.Bool.{cases_lt}
-use Rattle.cif_columns.specs.Day.{week_of}
-use Rattle.cif_weeks.specs.Window.{window_from}
+use Rattle.cif_weeks.proofs.Words.{week_of, window_from}
 use Rattle.cif_weeks.specs.Steps.Spans.{Shows}
 use Rattle.cif_weeks.proofs.ActiveSpans.{SameOn, agree-all, disputed-all, left-fewer, left-later, left-same, mask-all}
 use Rattle.cif_weeks.proofs.ActiveSpans.{none-after, none-before}

@@ -1,8 +1,7 @@
 -- The runs of the body in the weeks before `week` are made, and where it is shown in these weeks the spans agree. The spans that
 -- aren't left have ended.
 use Rattle.std.proofs.Common.{◌+◌, ◌-◌, ◌<◌, ℕ, length}
-use Rattle.cif_columns.specs.Day.{week_of}
-use Rattle.cif_weeks.specs.Window.{window_from}
+use Rattle.cif_weeks.proofs.Words.{week_of, window_from}
 use Rattle.cif_weeks.specs.Steps.BodyRuns.{AreGrownTo}
 use Rattle.cif_weeks.specs.Steps.Spans.{IsAgreed, Shows}
 use Rattle.cif_weeks.proofs.ActiveSpans.{AreLeft}

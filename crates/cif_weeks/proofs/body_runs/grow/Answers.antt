@@ -1,17 +1,14 @@
 -- Weeks without a day change nothing (`body-idle`); else the run goes on in them (`grow-longer`), or one begins (`grow-first`,
 -- `grow-next`).
-use Rattle.std.proofs.Common.{◌≡◌, ◌+◌, ◌-◌, ◌<◌, [], ◌∷◌, ◌++◌, length, reverse, set, sym, ◌∙◌, ap, subst, arith, refl}
-use Rattle.std.proofs.Math.Seq.{set-append_seam}
-use Rattle.cif_columns.specs.Day.{week_of, weekday_of}
-use Rattle.cif_weeks.specs.Window.{window_from}
+use Rattle.std.proofs.Common.{◌≡◌, ◌+◌, ◌-◌, ◌<◌, [], ◌∷◌, length, sym, ◌∙◌, ap, subst, arith, refl}
+use Rattle.cif_weeks.proofs.Words.{week_of, weekday_of, window_from, Run}
 use Rattle.cif_weeks.specs.Steps.BodyRuns.{AreBodyRuns}
 use Rattle.cif_weeks.specs.Steps.Spans.{Shows}
-use Rattle.cif_weeks.specs.declared.run.Run.{Run}
-use Rattle.cif_weeks.proofs.BodyRuns.{body-idle, first-date, last-date, last-made, made-more, none-made}
-use Rattle.cif_weeks.proofs.BodyRuns.{grow-longer, grow-first, grow-next}
+use Rattle.cif_weeks.proofs.BodyRuns.{body-idle, first-date, grow-first, grow-longer, grow-next, last-date, last-made, last-set, made-more}
+use Rattle.cif_weeks.proofs.BodyRuns.{none-made}
 use Rattle.cif_weeks.proofs.body_runs.grow.Goals as goal
-use Rattle.cif_weeks.proofs.body_runs.grow.Goals.{then-start-len+else-week, else-start-len}
-use Rattle.cif_weeks.proofs.body_runs.grow.Goals.{else-week-via-then-week+else-agree, else-week-via-else-week}
+use Rattle.cif_weeks.proofs.body_runs.grow.Goals.{then-start-len+else-week, else-start-len, else-week-via-then-week+else-agree}
+use Rattle.cif_weeks.proofs.body_runs.grow.Goals.{else-week-via-else-week}
 
 pub returns-in_default : goal.returns-in_default
 returns-in_default c old start (made, are, body) =
@@ -38,8 +35,7 @@ returns-then-agree c old start (made, are, body) =
     let (before, is, cut, at) = last-made old a.runs.now.items made place run are some long c.index-run.ensures in
     let it : Run = record { first = run.first; last = c.day_of-last.result; days = c.union-days.result; source = run.source } in (
       it ∷ before,
-      ap (λ ys. set ys place it) cut ∙ ap (λ k. set ((old ++ reverse before) ++ run ∷ []) k it) at
-          ∙ set-append_seam (old ++ reverse before) run [] it ∙ made-more old before it,
+      last-set old a.runs.now.items before place run it cut at,
       grow-longer a.form window (Shows a.spans.now a.source) a.source r.inside a.week a.weeks.last a.weeks r.weeks c.in-Some.first_weekday
           c.in-Some-last.last_weekday c.in-Some.ensures.found c.in-Some-last.ensures.found c.day_of-last.result c.day_of-last.ensures before
           run c.union-days.result (subst (AreBodyRuns a.form window (Shows a.spans.now a.source) a.source a.week) is body)

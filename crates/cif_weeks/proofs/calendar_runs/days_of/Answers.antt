@@ -1,9 +1,8 @@
 -- One weekday more.
 use Rattle.std.proofs.Common.{◌≡◌, ◌⊎◌, inl, inr, ◌↔◌, ℕ, ◌+◌, ◌<◌, Bool, List, None, Some, map, arith, sym, ◌∙◌, ap, subst, ⊎_elim}
 use Rattle.std.proofs.lemmas.Bool.{cases_lt}
-use Rattle.cif_columns.specs.DaysRun.{RunsOn}
+use Rattle.cif_weeks.proofs.Words.{RunsOn, body_at}
 use Rattle.std.proofs.lemmas.Option.{same_Some}
-use Rattle.cif_calendar.specs.Source.{body_at}
 use Rattle.cif_calendar.proofs.Winning.{refuted}
 use Rattle.cif_weeks.specs.Steps.PieceSpans.{HasBodyOn}
 use Rattle.cif_weeks.proofs.calendar_runs.days_of.Goals as goal

@@ -1,6 +1,5 @@
 -- The run at this place begins in the window, and takes its name (`map_over_more`); at the end all have theirs.
-use Rattle.std.proofs.Common.{◌≡◌, ◌+◌, ◌++◌, map, take, drop, set, sym, ◌∙◌, ap, subst}
-use Rattle.std.specs.Option.{unwrap_or}
+use Rattle.std.proofs.Common.{◌≡◌, ◌+◌, ◌++◌, map, take, drop, set, sym, ◌∙◌, ap, subst, unwrap_or}
 use Rattle.std.proofs.lemmas.List.Edits.{map_over_more}
 use Rattle.cif_calendar.specs.Pieces.{source_at}
 use Rattle.cif_weeks.specs.Steps.PieceSpans.{named}

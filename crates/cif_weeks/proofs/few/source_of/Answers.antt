@@ -1,22 +1,47 @@
--- The span that was found is listed; at the end all have been looked at.
-use Rattle.std.proofs.Common.{◌≢◌, Some, arith, inl, inr, map, refl, sym}
-use Rattle.std.proofs.lemmas.List.{take_all}
-use Rattle.std.proofs.lemmas.List.Elements.{All-push}
+-- The span that was found is listed; at the end all have been looked at, or those that are left end no later than one that is too early.
+use Rattle.std.proofs.Common.{◌≡◌, ◌≢◌, ◌-◌, Some, arith, ap, get_or, inl, inr, map, refl, subst, sym, ◌∙◌, ⊎_elim}
+use Rattle.std.proofs.lemmas.Bool.{cases_lt}
+use Rattle.std.proofs.lemmas.List.{get_or_default}
 use Rattle.cif_calendar.proofs.Winning.{refuted}
-use Rattle.cif_calendar.specs.Source.{body_at}
-use Rattle.cif_weeks.specs.declared.span.Span.{Span}
-use Rattle.cif_weeks.proofs.Spans.{take_next}
+use Rattle.cif_weeks.proofs.Words.{body_at, Span}
 use Rattle.cif_weeks.proofs.few.source_of.Goals as goal
 
 pub returns-then-have_one_body-clause-source : goal.returns-then-have_one_body-clause-source
-returns-then-have_one_body-clause-source g c =
-    inl (c.span-item.result, (c.loop-span.span-index, c.loop-span-test.true, sym c.span-item.is), refl)
+returns-then-have_one_body-clause-source g c = inl (
+  c.index-spans-place.result,
+  (c.loop-place.place - 1, omega arith, sym c.index-spans-place.is),
+  omega arith,
+  refl,
+)
 
-pub returns-clause-source : goal.returns-clause-source
-returns-clause-source g c = inr (refl, rw (take_all c.loop-span.span-index c.args.spans.now (omega arith)) at c.loop-span.invariant)
+pub loop-place-preserved : goal.loop-place-preserved
+loop-place-preserved g c = let xs = map g.E.Entry.terms c.args.entries.now in record {
+  within = omega arith;
+  none = λ k s from below at. ⊎_elim
+      (λ less.
+      let here : c.loop-place.place - 1 ≡ k = omega arith in
+      let same : c.index-spans-place.result ≡ s = c.index-spans-place.is
+      ∙ ap (λ j. get_or c.args.spans.now j c.index-spans-place.result) here
+      ∙ get_or_default c.args.spans.now k c.index-spans-place.result s below ∙ at in
+      subst (λ (v : Span). body_at xs (Some v.source) ≢ body_at xs (Some c.args.position)) same
+      (refuted _ c.have_one_body.ensures c.if-have_one_body.false))
+      (λ later. c.loop-place.invariant.none k s later below at)
+      (cases_lt k c.loop-place.place);
+}
 
-pub loop-span-preserved : goal.loop-span-preserved
-loop-span-preserved g c = let xs = map g.E.Entry.terms c.args.entries.now in
-    rw (take_next c.args.spans.now c.loop-span.span-index c.span-item.result c.loop-span-test.true c.span-item.is)
-    (All-push (λ (s : Span). body_at xs (Some s.source) ≢ body_at xs (Some c.args.position)) _ _ c.loop-span.invariant
-    (refuted _ c.have_one_body.ensures c.if-have_one_body.false))
+pub returns-after-loop-place-clause-source : goal.returns-after-loop-place-clause-source
+returns-after-loop-place-clause-source g c = inr (refl, λ s (k, below, at) near. c.loop-place.invariant.none k s (omega arith) below at)
+
+pub returns-then-span-week-clause-source : goal.returns-then-span-week-clause-source
+returns-then-span-week-clause-source g c = inr (
+  refl,
+  λ s (k, below, at) near. ⊎_elim
+      (λ less.
+      let rises = c.requires.order (omega arith) k (c.loop-place.place - 1) s (omega arith) (omega arith) in
+      let first = ap (λ (v : Span). v.last_week) at in
+      let here = ap (λ (v : Span). v.last_week)
+      (c.index-spans-place.is ∙ get_or_default c.args.spans.now (c.loop-place.place - 1) c.index-spans-place.result s (omega arith)) in
+      absurd (omega (arith, rises, first, here, near, c.if-span-week.true)))
+      (λ later. c.loop-place.invariant.none k s later below at)
+      (cases_lt k c.loop-place.place),
+)

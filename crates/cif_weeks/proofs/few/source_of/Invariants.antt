@@ -1,11 +1,14 @@
--- None of the spans so far has a source with the body.
-use Rattle.std.proofs.Common.{◌≢◌, Some, map, take}
-use Rattle.std.specs.Prelude.{All}
-use Rattle.cif_calendar.specs.Source.{body_at}
-use Rattle.cif_weeks.specs.declared.span.Span.{Span}
+-- None of the spans from `place` on has a source with the body.
+use Rattle.std.proofs.Common.{◌≡◌, ◌≢◌, ℕ, ◌<◌, ◌≤◌, Some, get_or, length, map}
+use Rattle.cif_weeks.proofs.Words.{body_at, Span}
 use Rattle.cif_weeks.proofs.few.source_of.Given as goal
 
-abbrev pub invariant-loop-span : goal.invariant-loop-span
-invariant-loop-span g l =
-    let xs = map g.E.Entry.terms l.entries in
-    All (λ (s : Span). body_at xs (Some s.source) ≢ body_at xs (Some l.position)) (take l.span-index l.spans)
+abbrev pub invariant-loop-place : goal.invariant-loop-place
+invariant-loop-place g l = let xs = map g.E.Entry.terms l.entries in record {
+  within : l.place ≤ length l.spans;
+  none : (k : ℕ) (s : Span) → l.place ≤ k → k < length l.spans → get_or l.spans k s ≡ s →
+      body_at xs (Some s.source) ≢ body_at xs (Some l.position);
+}
+
+abbrev pub decreases-loop-place : goal.decreases-loop-place
+decreases-loop-place g l = l.place

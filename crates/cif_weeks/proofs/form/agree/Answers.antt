@@ -1,5 +1,5 @@
 -- What equal masks come to has to be told week by week (`same-agree`).
-use Rattle.cif_weeks.specs.Window.{window_from}
+use Rattle.cif_weeks.proofs.Words.{window_from}
 use Rattle.cif_weeks.proofs.AgreedDays.{same-agree}
 use Rattle.cif_weeks.proofs.form.agree.Goals as goal
 

@@ -1,7 +1,7 @@
 -- The span has the days of the record in the window (`span-of`); where it has none (`span-none`), there is no span.
 use Rattle.std.proofs.Common.{ap, ◌∙◌, nat_cmp}
 use Rattle.std.specs.Ordering.{ord_max, ord_min}
-use Rattle.cif_weeks.specs.Window.{window_from}
+use Rattle.cif_weeks.proofs.Words.{window_from}
 use Rattle.cif_weeks.proofs.Spans.{day-later, span-none, span-of}
 use Rattle.cif_weeks.proofs.span.Span.of.Goals as goal
 
