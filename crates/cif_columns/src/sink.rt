@@ -6,15 +6,23 @@ ghost use Rattle.std.specs.Io.KnownBytes.{Keeps, WriteAppends};
 
 use crate::line::Line;
 use std::alloc::Allocator;
+use std::error::Error;
 use std::fs::File;
-use std::io;
 use std::io::{BufWriter, Print, Printer, Stderr, Stdout, Write};
-use thiserror::Error;
+use std::{fmt, io};
 
 /// The sink's writer has failed, or has taken none of some bytes, in this call or an earlier one.
-#[derive(Clone, Copy, Debug, PartialEq, Eq, Error)]
-#[error("the output can't be written")]
+#[derive(Clone, Copy, Debug, PartialEq, Eq)]
 pub struct WriteFault;
+
+/// What a user is told.
+impl fmt::Display for WriteFault {
+    fn fmt<W: fmt::Write>(&self, f: &mut fmt::Formatter<W>) -> fmt::Result {
+        f.write_str("the output can't be written")
+    }
+}
+
+impl Error for WriteFault {}
 
 /// A writer, and whether it has failed.
 #[derive(Drop)]

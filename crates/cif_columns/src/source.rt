@@ -4,15 +4,23 @@ ghost use Rattle.std.specs.Io.{ReadsAtMost};
 ghost use Rattle.std.specs.Io.KnownBytes.{ReadConsumes};
 
 use std::alloc::Allocator;
+use std::error::Error;
 use std::fs::File;
-use std::io;
 use std::io::{BufReader, Read, Stdin, StdinLock};
-use thiserror::Error;
+use std::{fmt, io};
 
 /// The source's reader has failed, in this read or an earlier one.
-#[derive(Clone, Copy, Debug, PartialEq, Eq, Error)]
-#[error("the input can't be read")]
+#[derive(Clone, Copy, Debug, PartialEq, Eq)]
 pub struct ReadFault;
+
+/// What a user is told.
+impl fmt::Display for ReadFault {
+    fn fmt<W: fmt::Write>(&self, f: &mut fmt::Formatter<W>) -> fmt::Result {
+        f.write_str("the input can't be read")
+    }
+}
+
+impl Error for ReadFault {}
 
 /// A reader, and whether it has failed.
 #[derive(Drop)]

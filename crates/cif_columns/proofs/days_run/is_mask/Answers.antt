@@ -1,0 +1,11 @@
+-- One column more is one more test (`list_all_more`).
+use Rattle.std.proofs.Common.{◌&&◌, ◌∙◌, ap, arith, get_or, sym}
+use Rattle.std.proofs.lemmas.List.Folds.{list_all_more}
+use Rattle.cif_columns.specs.DaysRun.{is_flag}
+use Rattle.cif_columns.proofs.days_run.is_mask.Goals as goal
+
+pub loop-c-preserved : goal.loop-c-preserved
+loop-c-preserved c =
+    let i = c.loop-c.c-index in
+    let columns = c.args.columns.now in
+    ap (λ all. all && is_flag (get_or columns i 0)) c.loop-c.invariant ∙ sym (list_all_more is_flag columns i 0 (omega arith))
