@@ -11,11 +11,12 @@ use std::fmt;
 use std::marker::Model;
 
 /// Whether these are the digits of an hour and a minute, `HHMM`.
+// Here and below each test is made, whatever the others say: that takes less than branches do.
 fn is_hhmm(a: u8, b: u8, c: u8, d: u8) -> bool
     ensures { result ≡ is_clock a b c d }
 {
     match (number_of(a, b), number_of(c, d)) {
-        (Some(hour), Some(minute)) => hour < 24 && minute < 60,
+        (Some(hour), Some(minute)) => (hour < 24) & (minute < 60),
         _ => false,
     }
 }
@@ -53,7 +54,7 @@ fn is_work_time(columns: &[u8; 5]) -> bool
     ensures { result ≡ is_working columns.now }
 {
     let [a, b, c, d, e] = *columns;
-    is_blank(columns) || (is_hhmm(a, b, c, d) && (e == b' ' || e == b'H'))
+    is_blank(columns) | (is_hhmm(a, b, c, d) & ((e == b' ') | (e == b'H')))
 }
 
 /// Its columns, in quotes.
@@ -124,7 +125,7 @@ fn is_public_time(columns: &[u8; 4]) -> bool
     ensures { result ≡ is_public columns.now }
 {
     let [a, b, c, d] = *columns;
-    is_blank(columns) || is_hhmm(a, b, c, d)
+    is_blank(columns) | is_hhmm(a, b, c, d)
 }
 
 /// Its columns, in quotes.
