@@ -1,7 +1,7 @@
 -- A range of the buffer that begins later is the held bytes without their first (`range_rest`): what stands after the line.
 use Rattle.std.proofs.Common.{◌+◌, ◌≤◌, ◌∙◌, length, arith, drop, sym, ap}
 use Rattle.cif_columns.specs.FirstLine.{line_of}
-use Rattle.cif_columns.proofs.DecidedLines.{feed_line}
+use Rattle.cif_columns.proofs.DecidedLines.{feed_line, far_line}
 use Rattle.cif_columns.proofs.FoundInHeld.{decides_first}
 use Rattle.cif_columns.proofs.HeldBytes.{range_rest, range_length}
 use Rattle.cif_columns.proofs.ahead.Ahead.decided.Goals as goal
@@ -19,3 +19,8 @@ returns-in-Some-clause-found c =
     rw (c.of_content-found.ensures, ← held)
     (decides_first c.args.is_full c.as_slice-held.result.now _ (line_of c.stripped.result.now)
     (line.1 ∙ ap line_of (sym c.stripped.ensures)) (rest ∙ ap (λ n. drop (n + 1) c.as_slice-held.result.now) feed.found) line.0)
+
+pub returns-clause-found : goal.returns-clause-found
+returns-clause-found c =
+    rw (← c.as_slice-held.ensures)
+    (far_line c.args.is_full c.as_slice-held.result.now c.if-is_full.false (omega arith) c.in_default.ensures.none)

@@ -1,5 +1,5 @@
 -- What it takes stands behind what it has kept (`take-put_mid`).
-use Rattle.std.proofs.Common.{◌≡◌, ◌+◌, ◌-◌, ◌++◌, length, take, arith, ap, ◌∙◌, length-take}
+use Rattle.std.proofs.Common.{◌≡◌, ◌+◌, ◌-◌, ◌++◌, length, take, arith, ap, ◌∙◌, length-take, refl}
 use Rattle.std.proofs.lemmas.Slice.{take-put_mid}
 use Rattle.cif_columns.proofs.TrialPieces.{one_more}
 use Rattle.cif_columns.proofs.trials.TrialWriterWrite.write.Goals as goal
@@ -18,3 +18,9 @@ returns-then-self-clause-stuck c _ _ = one_more _ _ c.saturating_add-self-2.ensu
 
 pub returns-else-self-clause-errors : goal.returns-else-self-clause-errors
 returns-else-self-clause-errors c _ = one_more _ _ c.saturating_add-self-2.ensures
+
+pub returns-then-n-min-clause-stuck : goal.returns-then-n-min-clause-stuck
+returns-then-n-min-clause-stuck c none some = absurd (omega (arith, none, some))
+
+pub returns-then-self-clause-fine : goal.returns-then-self-clause-fine
+returns-then-self-clause-fine c takes = absurd (omega (arith, takes refl))
