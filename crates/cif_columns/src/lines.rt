@@ -162,7 +162,9 @@ impl<'a> LineSlice<'a> {
     pub fn is(&self, other: &LineSlice<'_>) -> bool
         ensures { IsTrue result ↔ (self.now ≡ other.now) }
     {
+        self.are_lines();
+        other.are_lines();
         // One behind another they are compared by many bytes at a time.
-        self.texts.as_flattened() == other.texts.as_flattened()
+        self.text() == other.text()
     }
 }

@@ -84,7 +84,7 @@ impl<'a> Read for TrialReader<'a> {
                 End::Stop => {}
                 End::Fail => {
                     self.failures = self.failures.saturating_add(1);
-                    return Err(io::ErrorKind::Other.into());
+                    return Err(io::Error::from(io::ErrorKind::Other));
                 }
                 End::Again(place) => self.rest = &self.bytes[place..],
             }
@@ -191,7 +191,7 @@ impl Write for TrialWriter {
         if self.zero {
             Ok(0)
         } else {
-            Err(io::ErrorKind::Other.into())
+            Err(io::Error::from(io::ErrorKind::Other))
         }
     }
 
