@@ -34,6 +34,26 @@ pub decided_some : (f : Bool) (p : List ℕ) → is_decided f p ≡ true → 0 <
 unfolding is_decided
 decided_some f p d = grind (arith, nat_tests)
 
+pub decided_full : (f : Bool) (p : List ℕ) → f ≡ true → 0 < length p → (is_decided f p ≡ true) × (first_line f p ≡ Err TooManyLines)
+unfolding is_decided first_line
+decided_full f p full some = (grind (arith, nat_tests), rw full)
+
+pub decided_feed : (f : Bool) (p : List ℕ) → has_line_feed p ≡ true → is_decided f p ≡ true
+unfolding is_decided
+decided_feed f p feed = grind (arith, nat_tests)
+
+pub decided_long : (f : Bool) (p : List ℕ) → 82 ≤ length p → is_decided f p ≡ true
+unfolding is_decided
+decided_long f p long = grind (arith, nat_tests)
+
+pub undecided_empty : (f : Bool) (p : List ℕ) → f ≡ true → length p ≡ 0 → is_decided f p ≡ false
+unfolding is_decided
+undecided_empty f p full none = grind (arith, nat_tests)
+
+pub undecided_part : (f : Bool) (p : List ℕ) → f ≡ false → length p < 82 → min 82 (length p) ≤ place p → is_decided f p ≡ false
+unfolding is_decided
+undecided_part f p room short far = grind (arith, nat_tests)
+
 -- ---- the last content
 
 pub last_line : (f : Bool) (p : List ℕ) → is_decided f p ≡ false → 0 < length p → first_line f p ≡ line_of p

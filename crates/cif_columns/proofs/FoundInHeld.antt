@@ -6,9 +6,7 @@ use Rattle.cif_columns.specs.declared.ahead.Found.{Found}
 use Rattle.cif_columns.specs.declared.ahead.Found.TheVariants.{Next, End, Refused, Failed}
 use Rattle.cif_columns.specs.declared.refusal.Refusal.{Refusal}
 use Rattle.cif_columns.specs.FirstLine.{first_line, after_content, has_line_feed, is_decided}
-use Rattle.cif_columns.specs.Ahead.{Decides, FindReads, Finds, IfNext, found_of}
-use Rattle.cif_columns.specs.Source.{HasReadOn}
-use Rattle.cif_columns.specs.declared.source.Source.{Source}
+use Rattle.cif_columns.specs.Ahead.{Decides, Finds, IfNext, found_of}
 use Rattle.cif_columns.proofs.DecidedLines.{decided_some, decided_more, after_more}
 
 -- a first line as it is found: decided, or the last
@@ -62,17 +60,3 @@ found_not_full f bytes rest (Next line) d = line_not_full f bytes line d.1
 found_not_full f bytes rest End d = tt
 found_not_full f bytes rest (Refused why) d = tt
 found_not_full f bytes rest Failed d = tt
-
--- what isn't a failure owes its source what a read that went on does
-pub decided_going : (f : Bool) (held rest : List ℕ) (found : Found) → Decides f held found rest → found ≢ Failed
-decided_going f held rest (Next line) d = λ e. absurd (cc)
-decided_going f held rest End d = absurd d
-decided_going f held rest (Refused why) d = λ e. absurd (cc)
-decided_going f held rest Failed d = absurd d
-
-pub found_reads : {R : Type 0} {errors : R → Option ℕ} (s t : Source R) (found : Found) → found ≢ Failed → HasReadOn errors s t
-    → FindReads errors s t found
-found_reads s t (Next line) going on = on
-found_reads s t End going on = on
-found_reads s t (Refused why) going on = on
-found_reads s t Failed going on = absurd (going refl)

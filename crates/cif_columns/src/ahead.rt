@@ -139,7 +139,6 @@ impl Ahead {
     }
 
     /// What the held bytes decide, if their first line is known whatever follows them.
-    #[tactic(auto, unfolding(crate::specs::FirstLine::first_line, crate::specs::FirstLine::is_decided))]
     fn decided(&mut self, is_full: bool) -> Option<Found>
         ensures found { IfSome result (λ found.
             Decides is_full (held_bytes self.old) found (held_bytes self.new)) }

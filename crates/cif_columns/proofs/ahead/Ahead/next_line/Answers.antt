@@ -5,7 +5,7 @@ use Rattle.cif_columns.specs.Ahead.{held_bytes}
 use Rattle.cif_columns.proofs.DecidedLines.{undecided_short}
 use Rattle.cif_columns.proofs.LineReasons.{reason_decided, reason_found}
 use Rattle.cif_columns.proofs.ReadSources.{failed_after, read_on_both}
-use Rattle.cif_columns.proofs.FoundInHeld.{found_more, decided_going, decided_not_full, found_not_full, found_reads}
+use Rattle.cif_columns.proofs.FoundInHeld.{found_more, decided_not_full, found_not_full}
 use Rattle.cif_columns.proofs.ahead.Ahead.next_line.Goals as goal
 
 pub returns-in-Some-clause-found : goal.returns-in-Some-clause-found
@@ -46,15 +46,3 @@ returns-in-Some-clause-reason g c = reason_decided _ _ _ _ c.in-Some.ensures.fou
 
 pub returns-in-Ok-false-clause-reason : goal.returns-in-Ok-false-clause-reason
 returns-in-Ok-false-clause-reason g c = reason_found _ _ _ _ c.last.ensures.found
-
-pub returns-in-Some-clause-device : goal.returns-in-Some-clause-device
-returns-in-Some-clause-device g c =
-    found_reads _ _ c.in-Some.found (decided_going _ _ _ _ c.in-Some.ensures.found) c.loop-found.invariant.read_on
-
-pub returns-in-Ok-false-clause-device : goal.returns-in-Ok-false-clause-device
-returns-in-Ok-false-clause-device g c =
-    found_reads _ _ c.last.result c.last.ensures.going
-    (read_on_both _ _ _ _ c.loop-found.invariant.read_on c.in-Ok-false.ensures.device.1)
-
-pub returns-in-Some-clause-undecided : goal.returns-in-Some-clause-undecided
-returns-in-Some-clause-undecided g c failed = absurd (decided_going _ _ _ _ c.in-Some.ensures.found failed)
