@@ -54,3 +54,10 @@ returns-clause-found c =
 
 pub returns-clause-decided : goal.returns-clause-decided
 returns-clause-decided c _ = rw (← c.as_slice-held.ensures) (decided_long c.args.is_full c.as_slice-held.result.now (omega arith))
+
+pub invariant_of-self : goal.invariant_of-self
+invariant_of-self c =
+    let this = c.args.self.now in
+    let within : this.start + (c.in-Some.at + 1) ≤ this.end =
+    omega (arith, c.in-Some.ensures.within, ap length c.as_slice-held.ensures, range_length this.buf this.start this.end, this.ordered) in
+    record { ordered = within; in_bounds = this.in_bounds }
