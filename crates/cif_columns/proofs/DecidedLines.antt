@@ -1,6 +1,6 @@
 -- When the first line of bytes is known, whatever follows them.
-use Rattle.std.proofs.Common.{◌≡◌, ℕ, ◌+◌, ◌-◌, ◌<◌, ◌≤◌, Bool, true, false, not, cond, nat_eq, List, [], ◌∷◌, ◌++◌, length, take, drop}
-use Rattle.std.proofs.Common.{Ok, Err, refl, sym, ap, ◌∙◌, arith, length-append, length-take, ltb-false, drop_of_length-le, ne_eqb, ◌≢◌}
+use Rattle.std.proofs.Common.{◌≡◌, ℕ, ◌+◌, ◌-◌, ◌<◌, ◌≤◌, Bool, true, false, not, cond, nat_eq, List, [], ◌∷◌, ◌++◌, length, take, drop, Ok}
+use Rattle.std.proofs.Common.{Err, refl, sym, ap, ◌∙◌, arith, length-append, length-take, ltb-false, drop_of_length-le, ne_eqb, ◌≢◌, min}
 use Rattle.std.proofs.lemmas.Bool.Decides.{nat_tests}
 use Rattle.std.proofs.lemmas.Bool.{ltb-true}
 use Rattle.std.proofs.lemmas.List.{take-append-le, drop-append-le}
@@ -33,6 +33,26 @@ undecided_not_full f p d some = grind (arith, nat_tests)
 pub decided_some : (f : Bool) (p : List ℕ) → is_decided f p ≡ true → 0 < length p
 unfolding is_decided
 decided_some f p d = grind (arith, nat_tests)
+
+pub decided_full : (f : Bool) (p : List ℕ) → f ≡ true → 0 < length p → (is_decided f p ≡ true) × (first_line f p ≡ Err TooManyLines)
+unfolding is_decided first_line
+decided_full f p full some = (grind (arith, nat_tests), rw full)
+
+pub decided_feed : (f : Bool) (p : List ℕ) → has_line_feed p ≡ true → is_decided f p ≡ true
+unfolding is_decided
+decided_feed f p feed = grind (arith, nat_tests)
+
+pub decided_long : (f : Bool) (p : List ℕ) → 82 ≤ length p → is_decided f p ≡ true
+unfolding is_decided
+decided_long f p long = grind (arith, nat_tests)
+
+pub undecided_empty : (f : Bool) (p : List ℕ) → f ≡ true → length p ≡ 0 → is_decided f p ≡ false
+unfolding is_decided
+undecided_empty f p full none = grind (arith, nat_tests)
+
+pub undecided_part : (f : Bool) (p : List ℕ) → f ≡ false → length p < 82 → min 82 (length p) ≤ place p → is_decided f p ≡ false
+unfolding is_decided
+undecided_part f p room short far = grind (arith, nat_tests)
 
 -- ---- the last content
 
@@ -102,6 +122,22 @@ module _ (p more : List ℕ) where
           let farther = place-append_out p more far in
           bad_length (first_content (p ++ more)) (long_content (p ++ more) (omega (arith, length-append p more)) (omega (arith, farther)))
           ∙ sym (bad_length (first_content p) (long_content p long (omega arith)))
+
+-- bytes with a line feed, and such as are too long for one
+pub feed_line : (f : Bool) (held : List ℕ) (at : ℕ) → f ≡ false → at ≡ place held → at < length held
+    → (has_line_feed held ≡ true) × (first_line f held ≡ line_of (strip_carriage_return (take at held)))
+unfolding first_line
+feed_line f held at room is within =
+    let feed : has_line_feed held ≡ true = grind (arith, nat_tests) in (
+      feed,
+      rw room (ap (λ b. line_of (cond b (strip_carriage_return (take (place held) held)) held)) feed
+          ∙ ap (λ n. line_of (strip_carriage_return (take n held))) (sym is)),
+    )
+
+pub far_line : (f : Bool) (held : List ℕ) → f ≡ false → 82 ≤ length held → min 82 (length held) ≤ place held
+    → first_line f held ≡ Err BadLength
+unfolding first_line
+far_line f held room long far = rw room (bad_length held [] (first_content held) (long_content held [] held long (omega arith)))
 
 -- ---- the contents, one by one
 

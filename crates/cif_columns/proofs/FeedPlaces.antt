@@ -1,25 +1,14 @@
 -- Where the first line feed of bytes stands, in a prefix of them and in more of them.
-use Rattle.std.proofs.Common.{◌≡◌, ℕ, zero, suc, ◌+◌, ◌<◌, ◌≤◌, min, Bool, true, false, not, cond, nat_lt, List, [], ◌∷◌, ◌++◌, length}
-use Rattle.std.proofs.Common.{take, refl, sym, ap, ◌∙◌, arith, get_or, Option, Some, None, IfSome, IfNone, eq-eqb, length-take, ltb-false}
-use Rattle.std.proofs.lemmas.Grind.{common_steps}
+use Rattle.std.proofs.Common.{◌≡◌, ℕ, zero, suc, ◌+◌, ◌<◌, ◌≤◌, Bool, true, false, not, cond, List, [], ◌∷◌, ◌++◌, length}
+use Rattle.std.proofs.Common.{take, refl, sym, ap, ◌∙◌, arith, get_or, eq-eqb, ◌≢◌, ⊎_elim}
 use Rattle.std.proofs.lemmas.Bool.Decides.{nat_tests}
-use Rattle.std.proofs.lemmas.Option.{cond_some}
-use Rattle.std.proofs.lemmas.Bool.{and_parts, ltb-true}
-use Rattle.std.specs.List.{position_or_len, position, list_all}
+use Rattle.std.proofs.lemmas.Bool.{and_parts, cases_lt, eqb-true, false≢true}
+use Rattle.std.proofs.lemmas.List.Sums.{fails_before_first, passes_at_first}
+use Rattle.std.specs.List.{position_or_len, list_all}
 use Rattle.cif_columns.specs.FirstLine.{is_line_feed, is_printable}
 
 abbrev pub place : List ℕ → ℕ
 place xs = position_or_len is_line_feed xs
-
--- a prefix has the same place, or none
-pub place-front : (xs : List ℕ) (n : ℕ) → place (take n xs) ≡ min n (place xs)
-place-front [] n = grind (arith, common_steps)
-place-front (x ∷ xs) zero = grind (arith, common_steps)
-place-front (x ∷ xs) (suc n) = at (not (is_line_feed x)) (place-front xs n)
-  where
-    at : (b : Bool) → place (take n xs) ≡ min n (place xs) → cond b (1 + place (take n xs)) 0 ≡ min (suc n) (cond b (1 + place xs) 0)
-    at true h = omega arith
-    at false h = omega arith
 
 pub place-append_in : (xs ys : List ℕ) → place xs < length xs → place (xs ++ ys) ≡ place xs
 place-append_in [] ys h = absurd (omega arith)
@@ -51,22 +40,21 @@ place-printable (suc n) (x ∷ xs) h p e =
     ap (λ b. cond b (1 + place xs) 0) (printable_no_feed x both.0) ∙ ap (λ m. 1 + m) (place-printable n xs (omega arith) both.1 e)
     ∙ omega arith
 
--- what a search of a prefix finds, and what it tells where it finds none
-module _ (xs : List ℕ) (m : ℕ) (within : m ≤ length xs) where
-  front : (place (take m xs) ≡ min m (place xs)) × (length (take m xs) ≡ m)
-  front = (place-front xs m, simp length-take (omega arith))
+-- the first byte that is a line feed, of those from a place on before which none is
+module _ (xs : List ℕ) (at : ℕ) (below : at < length xs) (none : at ≤ place xs) where
+  pub place_here : get_or xs at 0 ≡ 10 → at ≡ place xs
+  place_here e =
+      ⊎_elim
+      (λ (before : at < place xs). absurd (false≢true (sym (fails_before_first is_line_feed xs at 0 before) ∙ eq-eqb _ 10 e)))
+      (λ from. omega arith)
+      (cases_lt at (place xs))
 
-  pub found_in_front : (o : Option ℕ) → o ≡ position is_line_feed (take m xs) → IfSome o (λ at. at ≡ place xs)
-  found_in_front None e = tt
-  found_in_front (Some at) e =
-      let is = cond_some (nat_lt (place (take m xs)) (length (take m xs))) (place (take m xs)) at (sym e) in
-      let below = ltb-true (place (take m xs)) (length (take m xs)) is.0 in
-      omega (arith, front, is.1, below)
-
-  pub none_in_front : (o : Option ℕ) → o ≡ position is_line_feed (take m xs) → IfNone o (m ≤ place xs)
-  none_in_front (Some at) e = tt
-  none_in_front None e = at (nat_lt (place (take m xs)) (length (take m xs))) refl e
-    where
-      at : (b : Bool) → b ≡ nat_lt (place (take m xs)) (length (take m xs)) → None ≡ cond b (Some (place (take m xs))) None → m ≤ place xs
-      at true is e = absurd (cc)
-      at false is e = omega (arith, front, ltb-false (place (take m xs)) (length (take m xs)) (sym is))
+  pub place_later : get_or xs at 0 ≢ 10 → at + 1 ≤ place xs
+  place_later other =
+      ⊎_elim
+      (λ (before : at < place xs). omega arith)
+      (λ from.
+      let here : place xs ≡ at = omega arith in
+      let feed = passes_at_first is_line_feed xs 0 (omega (arith, here)) in
+      absurd (other (eqb-true _ 10 (rw here at feed))))
+      (cases_lt at (place xs))

@@ -1,12 +1,28 @@
 -- What is found in the held bytes is found in all that is left.
-use Rattle.std.proofs.Common.{◌≡◌, ℕ, Bool, true, false, List, ◌++◌, length, Option, Some, None, IfSome, Ok, refl, sym, ap, ◌∙◌, arith}
-use Rattle.std.proofs.Common.{length-append}
+use Rattle.std.proofs.Common.{◌≡◌, ◌≢◌, ℕ, ◌<◌, Bool, true, false, List, ◌++◌, length, Option, Some, None, IfSome, Result, Ok, Err, refl}
+use Rattle.std.proofs.Common.{sym, ap, ◌∙◌, arith, length-append}
 use Rattle.std.specs.Io.KnownBytes.{Keeps, prepend_known}
 use Rattle.cif_columns.specs.declared.ahead.Found.{Found}
 use Rattle.cif_columns.specs.declared.ahead.Found.TheVariants.{Next, End, Refused, Failed}
-use Rattle.cif_columns.specs.FirstLine.{first_line, after_content, is_decided}
-use Rattle.cif_columns.specs.Ahead.{Decides, Finds, IfNext}
+use Rattle.cif_columns.specs.declared.refusal.Refusal.{Refusal}
+use Rattle.cif_columns.specs.FirstLine.{first_line, after_content, has_line_feed, is_decided}
+use Rattle.cif_columns.specs.Ahead.{Decides, Finds, IfNext, found_of}
 use Rattle.cif_columns.proofs.DecidedLines.{decided_some, decided_more, after_more}
+
+-- a first line as it is found: decided, or the last
+pub decides_first : (f : Bool) (held rest : List ℕ) (first : Result (List ℕ) Refusal) → first_line f held ≡ first
+    → rest ≡ after_content held → has_line_feed held ≡ true → Decides f held (found_of first) rest
+decides_first f held rest (Ok line) is after feed = (is, after, feed)
+decides_first f held rest (Err why) is after feed = is
+
+pub finds_last : (f : Bool) (bytes : List ℕ) (rest : Option (List ℕ)) (first : Result (List ℕ) Refusal) → 0 < length bytes
+    → first_line f bytes ≡ first → rest ≡ Some (after_content bytes) → Finds f bytes (found_of first) rest
+finds_last f bytes rest (Ok line) some is after = (some, is, after)
+finds_last f bytes rest (Err why) some is after = (some, is)
+
+pub never_failed : (first : Result (List ℕ) Refusal) → found_of first ≢ Failed
+never_failed (Ok line) = λ e. absurd (cc)
+never_failed (Err why) = λ e. absurd (cc)
 
 module _ (is_full : Bool) where
   pub found_more : (a rem : Option (List ℕ)) (held rest : List ℕ) (found : Found) → Keeps a (prepend_known held rem)

@@ -6,10 +6,9 @@ use Rattle.std.proofs.lemmas.List.{get_or-map, length-map, length-take, map-appe
 use Rattle.std.proofs.lemmas.List.Elements.{All-append, All-cons, All-map, All-nil, All-tail}
 use Rattle.std.proofs.lemmas.List.Folds.{flat_map-map}
 use Rattle.std.proofs.Math.Seq.{take-append_seam}
-use Rattle.cif_columns.specs.Contents.{contents_of, lines_text}
+use Rattle.cif_columns.specs.Contents.{lines_text}
 use Rattle.cif_columns.specs.Line.{ArePrintable, IsLine}
 use Rattle.cif_columns.specs.Lines.{IsLineText, lines_in}
-use Rattle.cif_columns.proofs.PlainLines.{contents-lines_text}
 
 -- a line with its line feed
 abbrev line_text : List ℕ → List ℕ
@@ -72,10 +71,3 @@ text_of_line line width printable =
       printable = subst ArePrintable (sym front) printable;
       ended = ap (λ l. l ++ (10 ∷ [])) (sym front);
     }
-
--- lines with one text are the same
-pub same_from_text : (xs ys : List (List ℕ)) → All IsLineText xs → All IsLineText ys
-    → lines_text (lines_in xs) ≡ lines_text (lines_in ys) → lines_in xs ≡ lines_in ys
-same_from_text xs ys h k e =
-    sym (contents-lines_text (lines_in xs) (are_lines xs h)) ∙ ap contents_of e
-    ∙ contents-lines_text (lines_in ys) (are_lines ys k)

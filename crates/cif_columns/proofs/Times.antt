@@ -6,6 +6,7 @@ use Rattle.std.proofs.lemmas.Bool.Decides.{nat_tests}
 use Rattle.std.proofs.lemmas.List.Elements.{All-nil, All-cons, All-append, All-replicate}
 use Rattle.std.proofs.lemmas.Slice.Eq.{text_from_reads}
 use Rattle.std.specs.Char.{is_ascii_digit}
+use Rattle.std.specs.Cmp.Lexicographic.{pointwise}
 use Rattle.cif_columns.specs.Clock.{IsHourMinute, is_clock, is_blank}
 use Rattle.cif_columns.specs.Digits.{two_digits}
 use Rattle.cif_columns.specs.Line.{IsPrintable, ArePrintable}
@@ -57,6 +58,11 @@ is_clock-digits hour minute h m =
     let in_day : nat_lt hour 24 ≡ true = grind (arith, nat_tests) in
     let in_hour : nat_lt minute 60 ≡ true = grind (arith, nat_tests) in
     rw (a, b, c, d, hours, minutes, in_day, in_hour)
+
+-- a comparison with spaces tests them
+pub spaces_are : (columns : List ℕ) → pointwise nat_eq columns (replicate (length columns) 32) ≡ is_blank columns
+spaces_are [] = refl
+spaces_are (c ∷ columns) = ap (λ b. nat_eq c 32 && b) (spaces_are columns)
 
 -- columns that are all spaces
 blank_is : (columns : List ℕ) → is_blank columns ≡ true → columns ≡ replicate (length columns) 32

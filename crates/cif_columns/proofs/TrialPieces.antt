@@ -1,23 +1,39 @@
--- A piece that a trial reader gives is consumed.
-use Rattle.std.proofs.Common.{◌≡◌, ℕ, ◌+◌, ◌<◌, List, [], ◌++◌, length, take, drop, sym, ap, ◌∙◌, arith, Ok, take-append-drop}
-use Rattle.std.proofs.Common.{drop_of_length-le}
-use Rattle.std.proofs.lemmas.List.{drop-drop}
+-- A piece that a trial reader gives is consumed, and its failures are counted.
+use Rattle.std.proofs.Common.{◌≡◌, ℕ, ◌+◌, ◌-◌, ◌^◌, ◌<◌, min, Bool, true, false, cond, nat_lt, List, ◌++◌, length, Result, Ok, Err, Some}
+use Rattle.std.proofs.Common.{None, IfSome, ap, arith, refl, sym, ◌∙◌}
+use Rattle.std.proofs.lemmas.Bool.{ltb-true}
+use Rattle.std.proofs.lemmas.Bool.Decides.{nat_tests}
+use Rattle.std.proofs.lemmas.List.{take-append-le}
+use Rattle.std.specs.Io.{ReadsAtMost}
 use Rattle.std.specs.Io.KnownBytes.{ReadConsumes}
+use Rattle.std.specs.Option.{IsSomeAnd}
+use Rattle.cif_columns.specs.Devices.{OneError, told_count}
 use Rattle.cif_columns.specs.declared.trials.End.{End}
 use Rattle.cif_columns.specs.declared.trials.End.TheVariants.{Stop, Fail, Again}
 use Rattle.cif_columns.specs.End.{bytes_left}
 
-module _ (bytes buf : List ℕ) (at n : ℕ) (given : take n buf ≡ take n (drop at bytes))
-    (none : n ≡ 0 → 0 < length buf → length (drop at bytes) ≡ 0) where
-  piece : drop at bytes ≡ take n buf ++ drop (at + n) bytes
-  piece = sym (take-append-drop n (drop at bytes)) ∙ ap (λ l. l ++ drop n (drop at bytes)) (sym given)
-      ∙ ap (λ l. take n buf ++ l) (drop-drop n at bytes)
+-- what a slice gives to the front of a buffer is consumed, if there is room in front where there is some
+module _ {E : Type 0} (rest left piece more : List ℕ) (room : 0 < length (piece ++ more) → 0 < length piece) where
+  known : (r : Result ℕ E) → ReadsAtMost r piece → ReadConsumes (Some rest) (Some left) r piece
+      → ReadConsumes (Some rest) (Some left) r (piece ++ more)
+  known (Ok n) few gave =
+      (gave.0 ∙ ap (λ l. l ++ left) (sym (take-append-le n piece more few.0)), λ zero some. gave.1 zero (room some))
+  known (Err e) few gave = gave
 
-  at_end : n ≡ 0 → 0 < length buf → drop (at + n) bytes ≡ []
-  at_end zero room = sym (drop-drop n at bytes) ∙ drop_of_length-le (drop at bytes) {i = n} (omega (arith, none zero room))
+  pub piece_consumed : (r : Result ℕ E) (end : End) → ReadsAtMost r piece → ReadConsumes (Some rest) (Some left) r piece
+      → ReadConsumes (bytes_left end rest) (bytes_left end left) r (piece ++ more)
+  piece_consumed r Stop few gave = known r few gave
+  piece_consumed r Fail few gave = known r few gave
+  piece_consumed (Ok n) (Again place) few gave = (tt, λ _ _. tt)
+  piece_consumed (Err e) (Again place) few gave = tt
 
-  pub piece_consumed : (E : Type 0) (end : End)
-      → ReadConsumes {E = E} (bytes_left end (drop at bytes)) (bytes_left end (drop (at + n) bytes)) (Ok n) buf
-  piece_consumed E Stop = (piece, at_end)
-  piece_consumed E Fail = (piece, at_end)
-  piece_consumed E (Again place) = (tt, λ _ _. tt)
+-- one failure more
+pub one_more : (n m : ℕ) → m ≡ min (n + 1) (2 ^ 64 - 1) → OneError (told_count n) (told_count m)
+one_more n m e = at (nat_lt m (2 ^ 64 - 1)) refl
+  where
+    at : (b : Bool) → nat_lt m (2 ^ 64 - 1) ≡ b → IfSome (cond b (Some m) None) (λ k. IsSomeAnd (told_count n) (λ j. k ≡ j + 1))
+    at false test = tt
+    at true test =
+        let below = ltb-true m (2 ^ 64 - 1) test in
+        let told : nat_lt n (2 ^ 64 - 1) ≡ true = grind (arith, nat_tests) in
+        rw told (omega (arith, below))

@@ -1,5 +1,5 @@
 -- What is read ahead of the lines, and what is found first in it.
-use Rattle.std.specs.Prelude.{◌≡◌, ℕ, ◌<◌, Bool, true, List, [], length, slice_range, Option, Some, Ok, Err}
+use Rattle.std.specs.Prelude.{◌≡◌, ℕ, ◌<◌, Bool, true, List, [], length, slice_range, Option, Some, Result, Ok, Err}
 use Rattle.std.specs.Io.KnownBytes.{prepend_known}
 use Rattle.cif_columns.specs.declared.ahead.Ahead.{Ahead}
 use Rattle.cif_columns.specs.declared.ahead.Found.{Found}
@@ -16,6 +16,11 @@ held_bytes a = slice_range a.buf a.start a.end
 -- the bytes that are held, and then those that the reader has left, where they are known
 abbrev pub known_left : {R : Type 0} → (R → Option (List ℕ)) → Ahead → Source R → Option (List ℕ)
 known_left remaining a s = prepend_known (held_bytes a) (remaining s.reader)
+
+-- what a content is found as, by the line that it is or the reason why it is none
+abbrev pub found_of : Result (List ℕ) Refusal → Found
+found_of (Ok line) = Next line
+found_of (Err why) = Refused why
 
 -- what the held bytes decide, and what is held after it
 abbrev pub Decides : Bool → List ℕ → Found → List ℕ → Type 0

@@ -1,12 +1,11 @@
 //! The bytes that are read ahead of the lines, and the line that stands first in them.
-ghost use Rattle.std.specs.Prelude.{◌≡◌, ◌<◌, ◌≤◌, [], ◌≢◌, ◌↔◌, Some, Ok, OnErr};
-ghost use Rattle.std.specs.Prelude.{IfSome, IfNone, IsSome, IsTrue, IsOk, length, take, drop, true};
+ghost use Rattle.std.specs.Prelude.{◌≡◌, ◌<◌, ◌≤◌, [], ◌≢◌, Some, Ok, OnErr};
+ghost use Rattle.std.specs.Prelude.{IfSome, IfNone, IsSome, IsTrue, length, take, drop, true};
 ghost use Rattle.std.specs.Prelude.{false, slice_index, min};
 ghost use Rattle.std.specs.Io.KnownBytes.{Keeps, IsAtEnd};
-ghost use Rattle.std.specs.List.{position, position_or_len};
+ghost use Rattle.std.specs.List.{position_or_len};
 ghost use Rattle.std.specs.Str.Lines.{strip_carriage_return};
-ghost use Rattle.cif_columns.specs.FirstLine.{is_decided, is_line_feed};
-ghost use Rattle.cif_columns.specs.FirstLine.{has_line_feed, line_of, first_line, after_content};
+ghost use Rattle.cif_columns.specs.FirstLine.{is_decided, is_line_feed, line_of};
 ghost use Rattle.cif_columns.specs.Source.{Reads, reader_of, source_failed};
 ghost use Rattle.cif_columns.specs.declared.ahead.TheConstants.{AHEAD, LONGEST_LINE};
 
@@ -23,6 +22,23 @@ pub(crate) enum Found {
     End,
     Refused(Refusal),
     Failed,
+}
+
+impl Found {
+    ghost use Rattle.cif_columns.specs.Ahead.{found_of};
+
+    /// A content as a line, or why it is none.
+    fn of_content(content: &[u8]) -> Found
+        ensures { result ≡ found_of (line_of content.now) }
+    {
+        let Some(columns) = content.as_array::<LINE_WIDTH>() else {
+            return Found::Refused(Refusal::BadLength);
+        };
+        match Line::of(*columns) {
+            Some(line) => Found::Next(line),
+            None => Found::Refused(Refusal::BadByte),
+        }
+    }
 }
 
 /// The bytes that are read and not yet given: `buf[start..end]`.
@@ -122,7 +138,7 @@ impl Ahead {
         self.start += LINE_TEXT_WIDTH;
     }
 
-    /// What the held bytes decide, if they do.
+    /// What the held bytes decide, if their first line is known whatever follows them.
     fn decided(&mut self, is_full: bool) -> Option<Found>
         ensures found { IfSome result (λ found.
             Decides is_full (held_bytes self.old) found (held_bytes self.new)) }
@@ -130,14 +146,22 @@ impl Ahead {
         ensures none { IfNone result (is_decided is_full (held_bytes self.old) ≡ false) }
         ensures kept { IfNone result (held_bytes self.new ≡ held_bytes self.old) }
     {
-        let FirstLine { line, taken } = first_line_of(self.as_slice(), is_full)?;
-        match line {
-            Ok(line) => {
-                self.start += taken;
-                Some(Found::Next(line))
+        let held = self.as_slice();
+        if is_full {
+            if held.is_empty() {
+                return None;
             }
-            Err(why) => Some(Found::Refused(why)),
+            return Some(Found::Refused(Refusal::TooManyLines));
         }
+        if let Some(at) = line_feed(held) {
+            let found = Found::of_content(stripped(&held[..at]));
+            self.start += at + 1;
+            return Some(found);
+        }
+        if held.len() < LONGEST_LINE {
+            return None;
+        }
+        Some(Found::Refused(Refusal::BadLength))
     }
 
     /// What the held bytes are, where no others follow.
@@ -150,13 +174,9 @@ impl Ahead {
         if held.is_empty() {
             return Found::End;
         }
-        match line_of_content(held) {
-            Ok(line) => {
-                self.start = self.end;
-                Found::Next(line)
-            }
-            Err(why) => Found::Refused(why),
-        }
+        let found = Found::of_content(held);
+        self.start = self.end;
+        found
     }
 
     /// What stands first in the held bytes and those that the source gives after them.
@@ -191,44 +211,6 @@ impl Ahead {
 /// many bytes and no line feed the first line is too long, whatever follows.
 pub(crate) const LONGEST_LINE: usize = LINE_WIDTH + 2;
 
-/// A decided line and how many bytes it takes with its ending, or why it is none; then `taken` says
-/// nothing.
-pub(crate) struct FirstLine {
-    pub(crate) line: Result<Line, Refusal>,
-    pub(crate) taken: usize,
-}
-
-/// The first line of the bytes, where whatever follows them it is known.
-#[tactic(auto, unfolding(crate::specs::FirstLine::first_line, crate::specs::FirstLine::is_decided))]
-pub(crate) fn first_line_of(bytes: &[u8], is_full: bool) -> Option<FirstLine>
-    ensures decided { IsSome result ↔ IsTrue (is_decided is_full bytes.now) }
-    ensures line { IfSome result (λ first. first.line ≡ first_line is_full bytes.now) }
-    ensures within { IfSome result (λ first. first.taken ≤ length bytes.now) }
-    ensures rest { IfSome result (λ first. IsOk first.line
-        → drop first.taken bytes.now ≡ after_content bytes.now) }
-    ensures ended { IfSome result (λ first. IsOk first.line → IsTrue (has_line_feed bytes.now)) }
-{
-    if is_full {
-        if bytes.is_empty() {
-            return None;
-        }
-        let line = Err(Refusal::TooManyLines);
-        return Some(FirstLine { line, taken: 0 });
-    }
-    if let Some(at) = line_feed(bytes) {
-        let line = line_of_content(stripped(&bytes[..at]));
-        return Some(FirstLine {
-            line,
-            taken: at + 1,
-        });
-    }
-    if bytes.len() < LONGEST_LINE {
-        return None;
-    }
-    let line = Err(Refusal::BadLength);
-    Some(FirstLine { line, taken: 0 })
-}
-
 /// Where the first line feed is, if it is among the bytes of a line of the greatest length.
 fn line_feed(bytes: &[u8]) -> Option<usize>
     ensures found { IfSome result (λ at. at ≡ position_or_len is_line_feed bytes.now) }
@@ -236,14 +218,12 @@ fn line_feed(bytes: &[u8]) -> Option<usize>
     ensures none { IfNone result (min 82 (length bytes.now)
         ≤ position_or_len is_line_feed bytes.now) }
 {
-    position(&bytes[..bytes.len().min(LONGEST_LINE)])
-}
-
-/// Where the first line feed is.
-fn position(bytes: &[u8]) -> Option<usize>
-    ensures { result ≡ position is_line_feed bytes.now }
-{
-    bytes.iter().position(|b| *b == b'\n')
+    for at in 0..bytes.len().min(LONGEST_LINE) {
+        if bytes[at] == b'\n' {
+            return Some(at);
+        }
+    }
+    None
 }
 
 /// The bytes without the one carriage return at their end.
@@ -253,15 +233,5 @@ fn stripped(bytes: &[u8]) -> &[u8]
     match bytes {
         [front @ .., b'\r'] => front,
         _ => bytes,
-    }
-}
-
-/// A content as a line, or why it is none.
-pub(crate) fn line_of_content(content: &[u8]) -> Result<Line, Refusal>
-    ensures { result ≡ line_of content.now }
-{
-    match content.as_array::<LINE_WIDTH>() {
-        Some(columns) => Line::of(*columns).ok_or(Refusal::BadByte),
-        None => Err(Refusal::BadLength),
     }
 }

@@ -6,29 +6,32 @@ ghost use Rattle.cif_columns.specs.PublicTime.{is_public_time as is_public};
 ghost use Rattle.cif_columns.specs.WorkTime.{is_work_time as is_working};
 
 use crate::day::number_of;
+use crate::line::debug;
+use std::fmt;
 use std::marker::Model;
 
 /// Whether these are the digits of an hour and a minute, `HHMM`.
-pub(crate) fn is_hhmm(a: u8, b: u8, c: u8, d: u8) -> bool
+// Here and below each test is made, whatever the others say: that takes less than branches do.
+fn is_hhmm(a: u8, b: u8, c: u8, d: u8) -> bool
     ensures { result ≡ is_clock a b c d }
 {
     match (number_of(a, b), number_of(c, d)) {
-        (Some(hour), Some(minute)) => hour < 24 && minute < 60,
+        (Some(hour), Some(minute)) => (hour < 24) & (minute < 60),
         _ => false,
     }
 }
 
 /// Whether all are spaces.
-pub(crate) fn is_blank(columns: &[u8]) -> bool
+fn is_blank<const N: usize>(columns: &[u8; N]) -> bool
     ensures { result ≡ all_spaces columns.now }
 {
-    columns.iter().all(|c| *c == b' ')
+    *columns == [b' '; N]
 }
 
 /// A working time, kept as it stands in its five columns: five spaces, or `HHMM` with an hour
 /// from 00 to 23 and a minute from 00 to 59 and then a space, or `H` for half a minute more
 /// (the CIF End User Specification). A clause sees the columns. Its order is that of the bytes.
-#[derive(Clone, Copy, Debug, PartialEq, Eq, PartialOrd, Ord, Hash)]
+#[derive(Clone, Copy, PartialEq, Eq, PartialOrd, Ord, Hash)]
 pub struct WorkTime {
     columns: [u8; 5],
 }
@@ -51,7 +54,14 @@ fn is_work_time(columns: &[u8; 5]) -> bool
     ensures { result ≡ is_working columns.now }
 {
     let [a, b, c, d, e] = *columns;
-    is_blank(columns) || (is_hhmm(a, b, c, d) && (e == b' ' || e == b'H'))
+    is_blank(columns) | (is_hhmm(a, b, c, d) & ((e == b' ') | (e == b'H')))
+}
+
+/// Its columns, in quotes.
+impl fmt::Debug for WorkTime {
+    fn fmt<W: fmt::Write>(&self, f: &mut fmt::Formatter<W>) -> fmt::Result {
+        debug(&self.write(), f)
+    }
 }
 
 impl WorkTime {
@@ -92,7 +102,7 @@ impl WorkTime {
 /// A public time, kept as it stands in its four columns: four spaces, or `HHMM` with an hour
 /// from 00 to 23 and a minute from 00 to 59 (the CIF End User Specification). `0000` and blank
 /// differ. A clause sees the columns. Its order is that of the bytes.
-#[derive(Clone, Copy, Debug, PartialEq, Eq, PartialOrd, Ord, Hash)]
+#[derive(Clone, Copy, PartialEq, Eq, PartialOrd, Ord, Hash)]
 pub struct PublicTime {
     columns: [u8; 4],
 }
@@ -115,7 +125,14 @@ fn is_public_time(columns: &[u8; 4]) -> bool
     ensures { result ≡ is_public columns.now }
 {
     let [a, b, c, d] = *columns;
-    is_blank(columns) || is_hhmm(a, b, c, d)
+    is_blank(columns) | is_hhmm(a, b, c, d)
+}
+
+/// Its columns, in quotes.
+impl fmt::Debug for PublicTime {
+    fn fmt<W: fmt::Write>(&self, f: &mut fmt::Formatter<W>) -> fmt::Result {
+        debug(&self.write(), f)
+    }
 }
 
 impl PublicTime {

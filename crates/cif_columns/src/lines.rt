@@ -5,7 +5,7 @@ ghost use Rattle.cif_columns.specs.Contents.{lines_text};
 ghost use Rattle.cif_columns.specs.Line.{IsLine};
 ghost use Rattle.cif_columns.specs.Lines.{IsLineText, lines_in};
 
-use crate::line::{LINE_TEXT_WIDTH, LINE_WIDTH, Line};
+use crate::line::{LINE_TEXT_WIDTH, LINE_WIDTH, Line, array_of};
 use std::alloc::{AllocError, Global};
 use std::marker::Model;
 
@@ -117,10 +117,7 @@ impl<'a> LineSlice<'a> {
         ensures { result ≡ slice_index_or self.now at [] }
     {
         let texts = self.texts;
-        match texts[at].first_chunk::<LINE_WIDTH>() {
-            Some(columns) => Line::of_printable(columns),
-            None => unreachable!(),
-        }
+        Line::of_printable(array_of(&texts[at][..LINE_WIDTH]))
     }
 
     /// The lines behind the first `count`.
@@ -162,7 +159,9 @@ impl<'a> LineSlice<'a> {
     pub fn is(&self, other: &LineSlice<'_>) -> bool
         ensures { IsTrue result ↔ (self.now ≡ other.now) }
     {
+        self.are_lines();
+        other.are_lines();
         // One behind another they are compared by many bytes at a time.
-        self.texts.as_flattened() == other.texts.as_flattened()
+        self.text() == other.text()
     }
 }

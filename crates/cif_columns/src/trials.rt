@@ -1,6 +1,6 @@
 //! A reader and a writer for tests, which fail where they are told to.
 ghost use Rattle.std.specs.Prelude.{◌≡◌, ◌+◌, ◌-◌, ◌^◌, ◌<◌, ◌≤◌, [], Some, IsTrue, IfOk, IsErr};
-ghost use Rattle.std.specs.Prelude.{min, length, take, drop};
+ghost use Rattle.std.specs.Prelude.{min, length, take};
 ghost use Rattle.std.specs.Io.{ReadsAtMost, WritesAtMost};
 ghost use Rattle.std.specs.Io.KnownBytes.{ReadConsumes, Keeps, WriteAppends};
 ghost use Rattle.cif_columns.specs.Devices.{TellsErrors, OneError, told_count};
@@ -27,12 +27,11 @@ pub enum End {
 #[derive(Drop)]
 pub struct TrialReader<'a> {
     bytes: &'a [u8],
-    at: usize,
+    rest: &'a [u8],
     step: usize,
     end: End,
     calls: u64,
     failures: u64,
-    ghost within: { at ≤ length bytes.now },
     ghost moves: { 0 < step },
     ghost goes_on: { IsTrue (ends_below end (length bytes.now)) },
 }
@@ -50,7 +49,7 @@ impl<'a> TrialReader<'a> {
     {
         TrialReader {
             bytes,
-            at: 0,
+            rest: bytes,
             step,
             end,
             calls: 0,
@@ -69,7 +68,7 @@ impl<'a> TrialReader<'a> {
 impl<'a> Read for TrialReader<'a> {
     ghost use Rattle.cif_columns.specs.TrialReader.{read_calls};
 
-    ghost remaining = { λ r. bytes_left r.end (drop r.at r.bytes.now) };
+    ghost remaining = { λ r. bytes_left r.end r.rest.now };
 
     fn read(&mut self, buf: &mut [u8]) -> io::Result<usize>
         ensures bound { ReadsAtMost result buf.new }
@@ -80,21 +79,19 @@ impl<'a> Read for TrialReader<'a> {
         ensures calls { read_calls self.new ≡ min (read_calls self.old + 1) (2 ^ 64 - 1) }
     {
         self.calls = self.calls.saturating_add(1);
-        if self.at == self.bytes.len() && !buf.is_empty() {
+        // There is room for a byte, and none is left.
+        if self.rest.len() < buf.len().min(1) {
             match self.end {
                 End::Stop => {}
                 End::Fail => {
                     self.failures = self.failures.saturating_add(1);
-                    return Err(io::ErrorKind::Other.into());
+                    return Err(io::Error::from(io::ErrorKind::Other));
                 }
-                End::Again(place) => self.at = place,
+                End::Again(place) => self.rest = &self.bytes[place..],
             }
         }
-        let rest = &self.bytes[self.at..];
-        let n = rest.len().min(buf.len()).min(self.step);
-        buf[..n].copy_from_slice(&rest[..n]);
-        self.at += n;
-        Ok(n)
+        let most = buf.len().min(self.step);
+        self.rest.read(&mut buf[..most])
     }
 }
 
@@ -186,7 +183,8 @@ impl Write for TrialWriter {
     {
         self.calls = self.calls.saturating_add(1);
         let n = buf.len().min(self.takes - self.len);
-        if n > 0 || buf.is_empty() {
+        // Of some bytes one at least has to be taken.
+        if n >= buf.len().min(1) {
             self.kept[self.len..self.len + n].copy_from_slice(&buf[..n]);
             self.len += n;
             return Ok(n);
@@ -195,7 +193,7 @@ impl Write for TrialWriter {
         if self.zero {
             Ok(0)
         } else {
-            Err(io::ErrorKind::Other.into())
+            Err(io::Error::from(io::ErrorKind::Other))
         }
     }
 

@@ -10,7 +10,7 @@ offset_bounds-texts-at c = omega (arith, c.self.told, place_in_texts _ _ _ c.sel
 pub of_printable-requires : goal.of_printable-requires
 of_printable-requires c =
     let below = place_in_texts _ _ _ c.self.view_is c.requires in
-    subst ArePrintable (sym c.in-Some.ensures.cases.same) (c.self.invariant c.args.at _ below).printable
+    subst ArePrintable (sym c.array_of.ensures) (c.self.invariant c.args.at _ below).printable
 
 pub returns : goal.returns
-returns c = c.of_printable.ensures ∙ c.in-Some.ensures.cases.same ∙ line_in _ _ _ _ c.self.view_is c.requires
+returns c = c.of_printable.ensures ∙ c.array_of.ensures ∙ line_in _ _ _ _ c.self.view_is c.requires

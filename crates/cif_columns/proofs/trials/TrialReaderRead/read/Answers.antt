@@ -1,27 +1,34 @@
--- By cases: from its place on a piece is consumed (`piece_consumed`); of bytes that begin again none are known.
-use Rattle.std.proofs.Common.{◌≡◌, ◌<◌, ◌++◌, length, drop, arith, ◌∙◌, length-append, length-take}
-use Rattle.std.proofs.lemmas.List.{length-drop, take_at, take_rest}
-use Rattle.cif_columns.proofs.TrialPieces.{piece_consumed}
+-- A slice gives a piece, which is consumed (`piece_consumed`); of bytes that begin again none are known.
+use Rattle.std.proofs.Common.{◌<◌, ◌++◌, length, drop, arith, length-append}
+use Rattle.std.proofs.lemmas.List.{length-drop, length-take}
+use Rattle.cif_columns.proofs.TrialPieces.{piece_consumed, one_more}
 use Rattle.cif_columns.proofs.trials.TrialReaderRead.read.Goals as goal
-use Rattle.cif_columns.proofs.trials.TrialReaderRead.read.Goals.{then-self+then-not-is_empty+in-Stop}
-use Rattle.cif_columns.proofs.trials.TrialReaderRead.read.Goals.{then-self+then-not-is_empty+in-Again, else-self}
+use Rattle.cif_columns.proofs.trials.TrialReaderRead.read.Goals.{then-self-min+in-Stop, then-self-min+in-Again, else-self-min}
 
 pub returns-clause-bytes : goal.returns-clause-bytes
 returns-clause-bytes c =
     let this = c.args.self.now in
-    let old = c.args.buf.now in
-    let place = c.if-self.self.1.1.0 in
-    let n = c.min-n.result in
-    let piece = c.copy_from_slice.new.self in
-    let wide : length piece ≡ n = omega (arith, c.copy_from_slice.ensures.len, length-take n old) in
-    let shortest = simp take_rest at c.min.ensures in
-    let same = simp take_rest at c.copy_from_slice.ensures.after in
-    let none : n ≡ 0 → 0 < length (piece ++ drop n old) → length (drop place this.bytes.now) ≡ 0 = λ zero room.
-    omega (arith, zero, room, this.moves, shortest, c.min-n.ensures, length-append piece (drop n old), length-drop n old, wide) in
-    let consumed = piece_consumed this.bytes.now (piece ++ drop n old) place n (take_at piece (drop n old) n wide ∙ same) none
-    (Unit {0}) this.end in
-    elim c.if-self.branch [
-      | then-self+then-not-is_empty+in-Stop w ↦ rw w.self-is (rw w.self-is at consumed)
-      | then-self+then-not-is_empty+in-Again w ↦ rw w.in-Again.is (tt, λ _ _. tt)
-      | else-self w ↦ rw w.self-is (rw w.self-is at consumed)
+    let buf = c.args.buf.now in
+    let most = c.min-most.result in
+    let piece = c.read.new.buf in
+    let room : 0 < length (piece ++ drop most buf) → 0 < length piece = λ some.
+    omega (
+      arith,
+      some,
+      this.moves,
+      c.min-most.ensures,
+      c.read.auto.buf,
+      length-append piece (drop most buf),
+      length-drop most buf,
+      length-take most buf,
+    ) in
+    let consumed = piece_consumed c.if-self-min.self.1.1.0.now c.read.new.self.now piece (drop most buf) room c.read.result this.end
+    c.read.ensures.bound c.read.ensures.bytes in
+    elim c.if-self-min.branch [
+      | then-self-min+in-Stop w ↦ rw w.self-is at consumed
+      | then-self-min+in-Again w ↦ rw w.in-Again.is (rw w.in-Again.is at consumed)
+      | else-self-min w ↦ rw w.self-is at consumed
     ]
+
+pub returns-in-Fail-clause-errors : goal.returns-in-Fail-clause-errors
+returns-in-Fail-clause-errors c = one_more _ _ c.saturating_add-self-in-Fail.ensures

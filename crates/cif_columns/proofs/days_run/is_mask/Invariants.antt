@@ -1,0 +1,8 @@
+-- `all` is the test of the columns so far.
+use Rattle.std.proofs.Common.{◌≡◌, take}
+use Rattle.std.specs.List.{list_all}
+use Rattle.cif_columns.specs.DaysRun.{is_flag}
+use Rattle.cif_columns.proofs.days_run.is_mask.Given as goal
+
+abbrev pub invariant-loop-c : goal.invariant-loop-c
+invariant-loop-c l = l.all ≡ list_all is_flag (take l.c-index l.columns)
