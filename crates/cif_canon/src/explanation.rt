@@ -2,7 +2,6 @@
 ghost use Rattle.std.specs.Prelude.{◌≡◌, ◌+◌, ◌≤◌, ◌++◌, ℕ, List, IfErr};
 ghost use Rattle.std.specs.List.{flat_map};
 ghost use Rattle.arrayvec.specs.ArrayString.{array_string_len};
-ghost use Rattle.cif_columns.specs.Sink.{Writes};
 ghost use Rattle.cif_extract.specs.ExtractParts.{extract_parts};
 ghost use Rattle.cif_canon.specs.Explanation.{IsExplanation, IsExplanationFault};
 ghost use Rattle.cif_canon.specs.Explanation.{mark_columns, said_of_association, said_of_train};
@@ -10,6 +9,7 @@ ghost use Rattle.cif_canon.specs.Explanation.{terms_fields};
 ghost use Rattle.cif_canon.specs.Normalised.{FaultWrites, IfWritten};
 ghost use Rattle.cif_canon.specs.Steps.Explanation.{explained_of};
 ghost use Rattle.cif_canon.specs.Steps.Fields.{after};
+ghost use Rattle.cif_canon.specs.Steps.Writing.{IsAppended};
 ghost use Rattle.cif_canon.specs.declared.layout.Format.TheVariants.{Text};
 
 use crate::asked::check_within;
@@ -18,9 +18,10 @@ use crate::layout::{
     ASSOCIATION, Format, LONGEST, Layout, NO_ASSOCIATION, NO_TRAIN, heading, push_association,
     push_field, push_fields, push_left_out, push_train, started,
 };
+use crate::writing::{answer, append};
 use arrayvec::ArrayString;
 use cif_calendar::Entry;
-use cif_columns::{Day, Sink, Uid, WriteDevice, WriteFault};
+use cif_columns::{Day, Sink, Uid, WriteDevice};
 use cif_extract::{Extract, Fault, Schedule};
 use cif_records::Association;
 use std::alloc::Global;
@@ -78,10 +79,10 @@ pub fn explain_listing<W: WriteDevice>(
         "mark\tkind\tstp_indicator\tfirst_date\tlast_date\tdays_run\tuid",
         ASSOCIATION,
     );
-    sink.write_all(names.as_str().as_bytes())?;
-    write_marked(format, associations.as_slice(), sink)?;
-    write_marked(format, trains.as_slice(), sink)?;
-    Ok(())
+    append(names.as_str(), sink);
+    write_marked(format, associations.as_slice(), sink);
+    write_marked(format, trains.as_slice(), sink);
+    answer(sink)
 }
 
 /// Appends the lines of the records.
@@ -89,19 +90,14 @@ fn write_marked<E: ExplainedEntry, W: WriteDevice>(
     format: Format,
     marked: &[Marked<'_, E>],
     sink: &mut Sink<W>,
-) -> Result<(), WriteFault>
-    ensures { Writes W.contents W.write_errors
+)
+    ensures { IsAppended W.contents W.write_errors
         (flat_map (λ one. E.line format (explained_of E.key E.terms one)) marked.now)
-        sink.old sink.new result }
+        sink.old sink.new }
 {
-    // If no record applies, no write tells that the sink has failed.
-    if sink.failed() {
-        return Err(WriteFault);
-    }
     for one in marked {
-        sink.write_all(one.entry.line(format, one.mark).as_str().as_bytes())?;
+        append(one.entry.line(format, one.mark).as_str(), sink);
     }
-    Ok(())
 }
 
 /// The six columns of a mark.
