@@ -63,21 +63,21 @@ module _ {W : Type 0} (contents : W → Option (List ℕ)) (errors : W → Optio
       subst (λ (f : Fault). FaultWrites {A = A} contents errors text s t (Err f)) (sym fault)
       (answered {A = A} text s t (Err why) ok failed h)
 
-text-more : {A : Type 0} (text : A → List ℕ) (items : List A) (n : ℕ) (item : A) → n < length items → item ≡ get_or items n item →
-    flat_map text (take n items) ++ text item ≡ flat_map text (take (n + 1) items)
-text-more text items n item below is =
-    sym (ap (flat_map text) (take_more items n item below ∙ ap (λ i. take n items ++ (i ∷ [])) (sym is))
-    ∙ flat_map-append text (take n items) (item ∷ [])
-    ∙ ap (λ (l : List ℕ). flat_map text (take n items) ++ l) (append-nil (text item)))
+-- the texts of items, one after another: of one more, of those so far, and of all
+module _ {A W : Type 0} (contents : W → Option (List ℕ)) (errors : W → Option ℕ) (text : A → List ℕ) where
+  pub behind : (done : List A) (item : A) (s t u : Sink W) → IsAppended contents errors (flat_map text done) s t →
+      IsAppended contents errors (text item) t u → IsAppended contents errors (flat_map text (done ++ (item ∷ []))) s u
+  behind done item s t u so_far h =
+      text-is contents errors (flat_map text done ++ text item) (flat_map text (done ++ (item ∷ []))) s u
+      (sym (flat_map-append text done (item ∷ []) ∙ ap (λ (l : List ℕ). flat_map text done ++ l) (append-nil (text item))))
+      (both contents errors (flat_map text done) (text item) s t u so_far h)
 
--- the texts of items, one after another: of those so far, and of all
-module _ {A W : Type 0} (contents : W → Option (List ℕ)) (errors : W → Option ℕ) (text : A → List ℕ) (items : List A) (n : ℕ)
-    (s t : Sink W) (so_far : IsAppended contents errors (flat_map text (take n items)) s t) where
-  pub one-more : (item : A) (u : Sink W) → n < length items → item ≡ get_or items n item → IsAppended contents errors (text item) t u →
-      IsAppended contents errors (flat_map text (take (n + 1) items)) s u
-  one-more item u below is h =
-      text-is contents errors (flat_map text (take n items) ++ text item) (flat_map text (take (n + 1) items)) s u
-      (text-more text items n item below is) (both contents errors (flat_map text (take n items)) (text item) s t u so_far h)
+  module _ (items : List A) (n : ℕ) (s t : Sink W) (so_far : IsAppended contents errors (flat_map text (take n items)) s t) where
+    pub one-more : (item : A) (u : Sink W) → n < length items → item ≡ get_or items n item →
+        IsAppended contents errors (text item) t u → IsAppended contents errors (flat_map text (take (n + 1) items)) s u
+    one-more item u below is h =
+        subst (λ l. IsAppended contents errors (flat_map text l) s u)
+        (ap (λ i. take n items ++ (i ∷ [])) is ∙ sym (take_more items n item below)) (behind (take n items) item s t u so_far h)
 
-  pub all-items : length items ≤ n → IsAppended contents errors (flat_map text items) s t
-  all-items over = subst (λ l. IsAppended contents errors (flat_map text l) s t) (take_all n items over) so_far
+    pub all-items : length items ≤ n → IsAppended contents errors (flat_map text items) s t
+    all-items over = subst (λ l. IsAppended contents errors (flat_map text l) s t) (take_all n items over) so_far

@@ -1,40 +1,26 @@
 -- The text of calls that are written one after another, and of the rows of a table that has them.
-use Rattle.std.proofs.Common.{◌≡◌, ℕ, List, [], ◌∷◌, ◌++◌, Option, codes, refl, sym, ap, ap₂, ◌∙◌, subst, append-nil, append_assoc}
+use Rattle.std.proofs.Common.{◌≡◌, ℕ, List, [], ◌∷◌, ◌++◌, codes, refl, sym, ap, ap₂, ◌∙◌, append-nil, append_assoc}
 use Rattle.std.proofs.Common.{if◌then◌else◌}
 use Rattle.std.specs.List.{flat_map}
-use Rattle.std.proofs.lemmas.Grind.{flat_map-append}
-use Rattle.cif_columns.specs.declared.sink.Sink.{Sink}
 use Rattle.cif_extract.specs.BodyParts.{BodyParts}
 use Rattle.cif_extract.specs.declared.call.Call.{Call}
 use Rattle.cif_extract.specs.declared.call.Call.TheVariants.{At, Turn}
 use Rattle.cif_canon.specs.Calls.{call_text, calls_text}
 use Rattle.cif_canon.specs.Fields.{fields_text, line_of}
 use Rattle.cif_canon.specs.Steps.Fields.{row_and_calls, row_lines}
-use Rattle.cif_canon.specs.Steps.Writing.{IsAppended}
 use Rattle.cif_canon.specs.Views.{lines_of_row, with_calls}
 use Rattle.cif_canon.specs.declared.layout.Format.{Format}
 use Rattle.cif_canon.specs.declared.layout.Format.TheVariants.{Text, Tsv}
 use Rattle.cif_canon.specs.declared.layout.Layout.{Layout}
-use Rattle.cif_canon.proofs.AppendedTexts.{both}
 use Rattle.cif_canon.proofs.ViewLines.{joined-rows}
 
-module _ {W X : Type 0} (contents : W → Option (List ℕ)) (errors : W → Option ℕ) (text : X → List ℕ) (all done left : List X)
-    (s t : Sink W) (so_far : IsAppended contents errors (flat_map text done) s t) (split : done ++ left ≡ all) where
-  -- nothing is left
-  pub all-appended : left ≡ [] → IsAppended contents errors (flat_map text all) s t
-  all-appended none =
-      subst (λ (xs : List X). IsAppended contents errors (flat_map text xs) s t)
-      (sym (append-nil done) ∙ ap (λ (xs : List X). done ++ xs) (sym none) ∙ split) so_far
+-- one more of all is done, or none is left
+module _ {X : Type 0} (all done left : List X) (split : done ++ left ≡ all) where
+  pub one-done : (x : X) (later : List X) → left ≡ x ∷ later → (done ++ (x ∷ [])) ++ later ≡ all
+  one-done x later first = append_assoc done (x ∷ []) later ∙ ap (λ (xs : List X). done ++ xs) (sym first) ∙ split
 
-  module _ (x : X) (later : List X) (first : left ≡ x ∷ later) (u : Sink W) where
-    pub one-more : (done ++ (x ∷ [])) ++ later ≡ all
-    one-more = append_assoc done (x ∷ []) later ∙ ap (λ (xs : List X). done ++ xs) (sym first) ∙ split
-
-    pub one-appended : IsAppended contents errors (text x) t u → IsAppended contents errors (flat_map text (done ++ (x ∷ []))) s u
-    one-appended h =
-        subst (λ (l : List ℕ). IsAppended contents errors l s u)
-        (sym (flat_map-append text done (x ∷ []) ∙ ap (λ (l : List ℕ). flat_map text done ++ l) (append-nil (text x))))
-        (both contents errors (flat_map text done) (text x) s t u so_far h)
+  pub all-done : left ≡ [] → done ≡ all
+  all-done none = sym (append-nil done) ∙ ap (λ (xs : List X). done ++ xs) (sym none) ∙ split
 
 -- a call's line behind the row of its train
 line-behind : (first : List ℕ) (row : List (List ℕ)) (field : List ℕ) (fields : List (List ℕ)) →
