@@ -1,8 +1,9 @@
 //! The locations of a canonical extract, and those that only one of two lists has.
-ghost use Rattle.std.specs.Prelude.{◌↔◌, ◌+◌, ◌<◌, Contains, IfNone, IfOk, IfSome, List, length};
+ghost use Rattle.std.specs.Prelude.{◌↔◌, ◌+◌, ◌<◌, Contains, IfOk, List, length};
 ghost use Rattle.cif_records.specs.declared.tiploc.Tiploc.{Tiploc};
 ghost use Rattle.cif_canon.specs.Comparison.{IsFirstTiploc};
 ghost use Rattle.cif_canon.specs.Differences.{AreDifferentTiplocs};
+ghost use Rattle.cif_canon.specs.Steps.Differences.{IsFirstOrNone};
 ghost use Rattle.cif_canon.specs.Steps.OnlySides.{AreSifting, IsFirstOrder};
 ghost use Rattle.cif_canon.specs.Steps.Tiplocs.{AreDistinct};
 
@@ -28,9 +29,8 @@ pub(crate) fn first_different_tiploc(
     left: &[Tiploc],
     right: &[Tiploc],
 ) -> Result<Option<Tiploc>, AllocError>
-    ensures none { IfOk result (λ found. IfNone found ((t : Tiploc)
-        → Contains left.now t ↔ Contains right.now t)) }
-    ensures some { IfOk result (λ found. IfSome found (IsFirstTiploc left.now right.now)) }
+    ensures { IfOk result (IsFirstOrNone ((t : Tiploc) → Contains left.now t ↔ Contains right.now t)
+        (IsFirstTiploc left.now right.now)) }
 {
     let found = different_tiplocs(alloc, left, right)?;
     match found.as_slice().first() {

@@ -23,7 +23,10 @@ returns-clause-fault c =
     IfErr-weaker c.check_clear-2.result _ _
     (λ why h. compare-fault x y y same (λ clash first. inr (c.in_ok-check_clear.ensures.ok, first)) why h) c.check_clear-2.ensures.fault
 
-pub returns-clause-window : goal.returns-clause-window
-returns-clause-window c =
-    on_ok_weaker c.check_clear-2.result (λ clear. one-window c.args.left.now.header c.args.right.now.header _ _ c.ne.ensures
-    c.if-ne.false c.ne-else-ne.ensures c.if-ne-2.false) c.check_clear-2.ensures.ok
+pub returns-clause-ok : goal.returns-clause-ok
+returns-clause-ok c =
+    on_ok_weaker c.check_clear-2.result (λ clear. record {
+      window = one-window c.args.left.now.header c.args.right.now.header _ _ c.ne.ensures c.if-ne.false c.ne-else-ne.ensures c.if-ne-2.false;
+      left = c.in_ok-check_clear.ensures.ok;
+      right = clear;
+    }) c.check_clear-2.ensures.ok

@@ -51,7 +51,7 @@ fronts g c =
     let ys = keyed g.E.Entry.key g.E.Entry.terms c.args.right.now in
     let l = c.loop-first.left_rest.now in
     let r = c.loop-first.right_rest.now in
-    let s = c.in-Some.ensures.some in
+    let s = c.in-Some.ensures in
     rw (s.left_split.front_is, s.left_split.later_is, s.right_split.front_is, s.right_split.later_is)
     (are-fronts cmp g.met.E.Key.Ord.total
     (same_key-cmp g.E.Key.PartialEq.eq cmp g.met.E.Key.Ord.matches_eq g.met.E.Entry.same_key) xs ys c.args.window.now.first
@@ -60,12 +60,12 @@ fronts g c =
 
 pub clear_calendar-requires-clause-within : goal.clear_calendar-requires-clause-within
 clear_calendar-requires-clause-within g c =
-    subst (λ (is : List ℕ). All (λ i. i < length c.args.left.now) is) (sym c.in-Some.ensures.some.left_split.front_is)
+    subst (λ (is : List ℕ). All (λ i. i < length c.args.left.now) is) (sym c.in-Some.ensures.left_split.front_is)
     (All-take (λ i. i < length c.args.left.now) _ _ c.loop-first.invariant.left_within)
 
 pub clear_calendar-requires-in-Some-clause-within : goal.clear_calendar-requires-in-Some-clause-within
 clear_calendar-requires-in-Some-clause-within g c =
-    subst (λ (is : List ℕ). All (λ i. i < length c.args.right.now) is) (sym c.in-Some.ensures.some.right_split.front_is)
+    subst (λ (is : List ℕ). All (λ i. i < length c.args.right.now) is) (sym c.in-Some.ensures.right_split.front_is)
     (All-take (λ i. i < length c.args.right.now) _ _ c.loop-first.invariant.right_within)
 
 pub clear_calendar-requires-clause-clear : goal.clear_calendar-requires-clause-clear
@@ -90,9 +90,9 @@ first_day-requires g c = record {
   right = calendar_sources _ _ _ _ _ c.in_ok-other.ensures;
 }
 
-pub returns-in-Some-first_day-clause-some : goal.returns-in-Some-first_day-clause-some
-returns-in-Some-first_day-clause-some g c =
-    let both = fronts g (goal.at.returns-in-Some-first_day-clause-some g c).In-Some in
+pub returns-in-Some-first_day : goal.returns-in-Some-first_day
+returns-in-Some-first_day g c =
+    let both = fronts g (goal.at.returns-in-Some-first_day g c).In-Some in
     let k = g.E.Entry.key c.in-Some.first.entry.now in
     let first = c.args.window.now.first in
     let last = c.args.window.now.last in
@@ -117,7 +117,7 @@ loop-first-smaller g c = (fronts g (goal.at.loop-first-smaller g c).In-Some).sma
 pub loop-first-preserved : goal.loop-first-preserved
 loop-first-preserved g c =
     let both = fronts g (goal.at.loop-first-preserved g c).In-Some in
-    let s = c.in-Some.ensures.some in
+    let s = c.in-Some.ensures in
     let is = c.in_ok-one.ensures.first_is in
     let ends = c.in_ok-one.ensures.last_is in record {
       left_within = subst (λ (rest : List ℕ). All (λ i. i < length c.args.left.now) rest) (sym s.left_split.later_is)
@@ -131,28 +131,20 @@ loop-first-preserved g c =
           c.in_ok-other.ensures d from upto (c.in_default-first_day.ensures d (omega (arith, from, is)) (omega (arith, upto, ends))));
     }
 
-pub returns-clause-none : goal.returns-clause-none
-returns-clause-none g c =
+pub returns : goal.returns
+returns g c =
     let same = same_key-cmp g.E.Key.PartialEq.eq g.E.Key.Ord.cmp g.met.E.Key.Ord.matches_eq g.met.E.Entry.same_key in
-    let none = c.in_default.ensures.none in
+    let none = c.in_default.ensures in
     all-alike g.E.Key.Ord.cmp g.met.E.Key.Ord.total same _ _ _ _ _ _ c.loop-first.invariant.alike none.0 none.1
 
-pub returns-in_err-right_positions-clause-none : goal.returns-in_err-right_positions-clause-none
-returns-in_err-right_positions-clause-none g c =
-    IfOk-from_err c.from_residual-in_err-right_positions.result _ c.from_residual-in_err-right_positions.ensures.0
+pub returns-in_err-left_positions : goal.returns-in_err-left_positions
+returns-in_err-left_positions g c = IfOk-from_err c.from_residual.result _ c.from_residual.ensures.0
 
-pub returns-in_err-right_positions-clause-some : goal.returns-in_err-right_positions-clause-some
-returns-in_err-right_positions-clause-some g c =
-    IfOk-from_err c.from_residual-in_err-right_positions.result _ c.from_residual-in_err-right_positions.ensures.0
+pub returns-in_err-right_positions : goal.returns-in_err-right_positions
+returns-in_err-right_positions g c = IfOk-from_err c.from_residual-in_err-right_positions.result _ c.from_residual-in_err-right_positions.ensures.0
 
-pub returns-in_err-one-clause-none : goal.returns-in_err-one-clause-none
-returns-in_err-one-clause-none g c = IfOk-from_err c.from_residual-in_err-one.result _ c.from_residual-in_err-one.ensures.0
+pub returns-in_err-one : goal.returns-in_err-one
+returns-in_err-one g c = IfOk-from_err c.from_residual-in_err-one.result _ c.from_residual-in_err-one.ensures.0
 
-pub returns-in_err-one-clause-some : goal.returns-in_err-one-clause-some
-returns-in_err-one-clause-some g c = IfOk-from_err c.from_residual-in_err-one.result _ c.from_residual-in_err-one.ensures.0
-
-pub returns-in_err-other-clause-none : goal.returns-in_err-other-clause-none
-returns-in_err-other-clause-none g c = IfOk-from_err c.from_residual-in_err-other.result _ c.from_residual-in_err-other.ensures.0
-
-pub returns-in_err-other-clause-some : goal.returns-in_err-other-clause-some
-returns-in_err-other-clause-some g c = IfOk-from_err c.from_residual-in_err-other.result _ c.from_residual-in_err-other.ensures.0
+pub returns-in_err-other : goal.returns-in_err-other
+returns-in_err-other g c = IfOk-from_err c.from_residual-in_err-other.result _ c.from_residual-in_err-other.ensures.0
