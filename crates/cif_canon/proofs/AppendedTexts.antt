@@ -7,7 +7,7 @@ use Rattle.std.proofs.KnownBytes.{Appends-nil}
 use Rattle.std.proofs.lemmas.Bool.{false≢true}
 use Rattle.std.proofs.lemmas.Grind.{flat_map-append}
 use Rattle.std.proofs.lemmas.List.{take_all, take_more}
-use Rattle.cif_columns.specs.Sink.{HasFailed, HasWritten, Writes, sink_failed, writer_of}
+use Rattle.cif_columns.specs.Sink.{HasFailed, Writes, sink_failed, writer_of}
 use Rattle.cif_columns.specs.declared.sink.Sink.{Sink}
 use Rattle.cif_columns.proofs.WrittenTexts.{failed_first, failed_second, written_both, written_nothing}
 use Rattle.cif_extract.specs.declared.fault.Fault.{Fault}

@@ -5,8 +5,8 @@ ghost use Rattle.cif_calendar.specs.Keys.{keyed};
 ghost use Rattle.cif_columns.specs.Sink.{Writes};
 ghost use Rattle.cif_extract.specs.declared.fault.Fault.TheVariants.{Write};
 ghost use Rattle.cif_canon.specs.Differences.{mark, marked_text, marked_tiploc};
-ghost use Rattle.cif_canon.specs.Steps.OnlySides.{HasMoved};
-ghost use Rattle.cif_canon.specs.Steps.Sides.{HasSidedRecord, sided_run_text};
+ghost use Rattle.cif_canon.specs.Steps.OnlySides.{HasMovedOf};
+ghost use Rattle.cif_canon.specs.Steps.Sides.{HasSidedRecord, at_side, sided_run_text};
 ghost use Rattle.cif_canon.specs.Steps.Writing.{IsAppended};
 
 use crate::canonical_form::{RecordLines, write_run};
@@ -37,17 +37,30 @@ pub struct Sided<T> {
     pub it: T,
 }
 
-/// Appends the first of the items of a side, and gives the others.
-pub(crate) fn push_first<'x, T: Copy + Drop>(
+/// Appends the first item of this side, and gives the others of both sides.
+pub(crate) fn push_next<'x, T: Copy + Drop>(
     found: &mut Vec<Sided<T>>,
     side: Side,
-    items: &'x [T],
-) -> Result<&'x [T], AllocError>
-    requires { 0 < length items.now }
-    ensures { IfOk result (λ rest. HasMoved side items.now rest.now found.old.items found.new.items) }
+    lefts: &'x [T],
+    rights: &'x [T],
+) -> Result<(&'x [T], &'x [T]), AllocError>
+    requires { 0 < length (at_side lefts.now rights.now side) }
+    ensures { IfOk result (λ rest. HasMovedOf side lefts.now rights.now rest.0.now rest.1.now
+        found.old.items found.new.items) }
 {
-    found.push(Sided { side, it: items[0] })?;
-    Ok(&items[1..])
+    match side {
+        Side::Left => {
+            found.push(Sided { side, it: lefts[0] })?;
+            Ok((&lefts[1..], rights))
+        }
+        Side::Right => {
+            found.push(Sided {
+                side,
+                it: rights[0],
+            })?;
+            Ok((lefts, &rights[1..]))
+        }
+    }
 }
 
 /// What is before each line of a side.

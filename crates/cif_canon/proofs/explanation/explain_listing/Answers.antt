@@ -1,5 +1,5 @@
 -- Heading, associations and trains are the explanation (`explanation`).
-use Rattle.std.proofs.Common.{◌∙◌, List, ◌++◌, map, sym, subst}
+use Rattle.std.proofs.Common.{◌∙◌, ◌++◌, map, sym, subst}
 use Rattle.std.specs.Cmp.Lexicographic.{slice_cmp}
 use Rattle.std.specs.List.{flat_map}
 use Rattle.std.specs.Ordering.{nat_cmp}
