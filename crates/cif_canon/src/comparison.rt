@@ -14,7 +14,7 @@ ghost use Rattle.cif_canon.specs.Comparison.{IsFirstDifference, comparison_line}
 ghost use Rattle.cif_canon.specs.Steps.Differences.{AreAlikeBy, AreComparable, FindsOther};
 ghost use Rattle.cif_canon.specs.Steps.Differences.{HasBodies, IsBodied, IsFirstOrNone};
 
-use crate::records::{check_clear, window_of};
+use crate::records::{extract_runs, window_of};
 use crate::tiplocs::first_different_tiploc;
 use crate::turns::{NamedEntry, first_key, positions_by_key};
 use arrayvec::ArrayString;
@@ -22,6 +22,7 @@ use cif_calendar::{Calendar, CalendarFault, Entry, Piece, Window, calendar_in_ro
 use cif_columns::{Day, Sink, Uid, WriteDevice, WriteFault, as_text};
 use cif_extract::{Clash, Extract, Fault};
 use cif_records::{AssocKey, Tiploc};
+use cif_weeks::Form;
 use std::alloc::{AllocError, Global};
 
 /// The bytes of the longest line: that of a location.
@@ -108,8 +109,10 @@ pub(crate) fn check_comparable(alloc: Global, left: &Extract, right: &Extract) -
     if left.header.first != right.header.first || left.header.last != right.header.last {
         return Err(Fault::WindowsDiffer);
     }
-    check_clear(alloc, left)?;
-    check_clear(alloc, right)
+    // A clash is found where the runs are made.
+    extract_runs(alloc, left, Form::Two)?;
+    extract_runs(alloc, right, Form::Two)?;
+    Ok(())
 }
 
 /// How two clear extracts with one window compare.
