@@ -30,14 +30,17 @@ loop-first-init g c =
       alike = alike-nothing cmp g.met.E.Key.Ord.total same xs ys c.args.window.now.first c.args.window.now.last _ _ left right;
     }
 
-pub first_key-requires : goal.first_key-requires
-first_key-requires g c =
-    let before = c.loop-first.invariant in record {
-      left = before.left_within;
-      right = before.right_within;
-      left_rising = before.alike.left_rising;
-      right_rising = before.alike.right_rising;
-    }
+pub first_key-requires-clause-left : goal.first_key-requires-clause-left
+first_key-requires-clause-left g c = c.loop-first.invariant.left_within
+
+pub first_key-requires-clause-right : goal.first_key-requires-clause-right
+first_key-requires-clause-right g c = c.loop-first.invariant.right_within
+
+pub first_key-requires-clause-left_rising : goal.first_key-requires-clause-left_rising
+first_key-requires-clause-left_rising g c = c.loop-first.invariant.alike.left_rising
+
+pub first_key-requires-clause-right_rising : goal.first_key-requires-clause-right_rising
+first_key-requires-clause-right_rising g c = c.loop-first.invariant.alike.right_rising
 
 -- the fronts of both rests, as they were split off
 fronts : (g : Over) (c : In-Some g) →
@@ -82,13 +85,17 @@ clear_calendar-requires-in-Some-clause-clear g c =
     clear-positions g.E.Entry.key g.E.Entry.terms c.args.right.now k c.in-Some.first.right.now (fronts g here).right
     c.args.window.now.first c.args.window.now.last (c.requires.right.key k)
 
-pub first_day-requires : goal.first_day-requires
-first_day-requires g c = record {
-  first = c.in_ok-other.ensures.first_is ∙ sym c.in_ok-one.ensures.first_is;
-  last = c.in_ok-other.ensures.last_is ∙ sym c.in_ok-one.ensures.last_is;
-  left = calendar_sources _ _ _ _ _ c.in_ok-one.ensures;
-  right = calendar_sources _ _ _ _ _ c.in_ok-other.ensures;
-}
+pub first_day-requires-clause-first : goal.first_day-requires-clause-first
+first_day-requires-clause-first g c = c.in_ok-other.ensures.first_is ∙ sym c.in_ok-one.ensures.first_is
+
+pub first_day-requires-clause-last : goal.first_day-requires-clause-last
+first_day-requires-clause-last g c = c.in_ok-other.ensures.last_is ∙ sym c.in_ok-one.ensures.last_is
+
+pub first_day-requires-clause-left : goal.first_day-requires-clause-left
+first_day-requires-clause-left g c = calendar_sources _ _ _ _ _ c.in_ok-one.ensures
+
+pub first_day-requires-clause-right : goal.first_day-requires-clause-right
+first_day-requires-clause-right g c = calendar_sources _ _ _ _ _ c.in_ok-other.ensures
 
 pub returns-in-Some-first_day : goal.returns-in-Some-first_day
 returns-in-Some-first_day g c =

@@ -40,14 +40,17 @@ loop-first-init g c =
       found = subst (λ (runs : List (Sided Run)). AreFound cmp window xs ys l r runs) (sym c.new-found.ensures.items) none;
     }
 
-pub first_key-requires : goal.first_key-requires
-first_key-requires g c =
-    let before = c.loop-first.invariant in record {
-      left = before.left_within;
-      right = before.right_within;
-      left_rising = before.found.passed.left_rising;
-      right_rising = before.found.passed.right_rising;
-    }
+pub first_key-requires-clause-left : goal.first_key-requires-clause-left
+first_key-requires-clause-left g c = c.loop-first.invariant.left_within
+
+pub first_key-requires-clause-right : goal.first_key-requires-clause-right
+first_key-requires-clause-right g c = c.loop-first.invariant.right_within
+
+pub first_key-requires-clause-left_rising : goal.first_key-requires-clause-left_rising
+first_key-requires-clause-left_rising g c = c.loop-first.invariant.found.passed.left_rising
+
+pub first_key-requires-clause-right_rising : goal.first_key-requires-clause-right_rising
+first_key-requires-clause-right_rising g c = c.loop-first.invariant.found.passed.right_rising
 
 -- the fronts of both rests, as they were split off
 fronts : (g : Over) (c : In-Some g) →
@@ -95,13 +98,17 @@ clear_calendar-requires-in-Some-clause-clear g c =
     clear-positions g.E.Entry.key g.E.Entry.terms c.args.right.now k c.in-Some.first.right.now (fronts g here).right
     c.args.window.now.first c.args.window.now.last (c.requires.right.key k)
 
-pub push_differences-requires : goal.push_differences-requires
-push_differences-requires g c = record {
-  first = c.in_ok-other.ensures.first_is ∙ sym c.in_ok-one.ensures.first_is;
-  last = c.in_ok-other.ensures.last_is ∙ sym c.in_ok-one.ensures.last_is;
-  left = calendar_sources _ _ _ _ _ c.in_ok-one.ensures;
-  right = calendar_sources _ _ _ _ _ c.in_ok-other.ensures;
-}
+pub push_differences-requires-clause-first : goal.push_differences-requires-clause-first
+push_differences-requires-clause-first g c = c.in_ok-other.ensures.first_is ∙ sym c.in_ok-one.ensures.first_is
+
+pub push_differences-requires-clause-last : goal.push_differences-requires-clause-last
+push_differences-requires-clause-last g c = c.in_ok-other.ensures.last_is ∙ sym c.in_ok-one.ensures.last_is
+
+pub push_differences-requires-clause-left : goal.push_differences-requires-clause-left
+push_differences-requires-clause-left g c = calendar_sources _ _ _ _ _ c.in_ok-one.ensures
+
+pub push_differences-requires-clause-right : goal.push_differences-requires-clause-right
+push_differences-requires-clause-right g c = calendar_sources _ _ _ _ _ c.in_ok-other.ensures
 
 pub loop-first-smaller : goal.loop-first-smaller
 loop-first-smaller g c = (fronts g (goal.at.loop-first-smaller g c).In-Some).smaller

@@ -39,10 +39,14 @@ returns g c = record {
   };
 }
 
-pub first_entry-requires : goal.first_entry-requires
-first_entry-requires g c = record {
-  left = c.requires.left;
-  right = c.requires.right;
-  left_rising = c.requires.left_rising;
-  right_rising = c.requires.right_rising;
-}
+pub first_entry-requires-clause-left : goal.first_entry-requires-clause-left
+first_entry-requires-clause-left g c = c.requires.left
+
+pub first_entry-requires-clause-right : goal.first_entry-requires-clause-right
+first_entry-requires-clause-right g c = c.requires.right
+
+pub first_entry-requires-clause-left_rising : goal.first_entry-requires-clause-left_rising
+first_entry-requires-clause-left_rising g c = c.requires.left_rising
+
+pub first_entry-requires-clause-right_rising : goal.first_entry-requires-clause-right_rising
+first_entry-requires-clause-right_rising g c = c.requires.right_rising
