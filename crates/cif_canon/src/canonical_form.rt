@@ -1,5 +1,5 @@
 //! The canonical form of an extract: its counts and its lines.
-ghost use Rattle.std.specs.Prelude.{◌≡◌, ◌≤◌, All, IfErr, IsTrue};
+ghost use Rattle.std.specs.Prelude.{◌≡◌, ◌<◌, ◌≤◌, All, IfErr, IsTrue, length};
 ghost use Rattle.std.specs.List.{flat_map};
 ghost use Rattle.cif_calendar.specs.Entries.{association_entries, schedule_entries};
 ghost use Rattle.cif_calendar.specs.Keys.{keyed};
@@ -108,6 +108,7 @@ impl<'a> Canon<'a> {
         ensures writes { Writes W.contents W.write_errors self.now.text sink.old sink.new result }
         ensures fault { IfErr result (λ fault. fault ≡ Write) }
     {
+        // The sink keeps the failure of each part.
         let extract = self.extract;
         let _ = write_head(&extract.header, sink);
         write_tiplocs(self.tiplocs.as_slice(), sink);
@@ -209,7 +210,8 @@ pub(crate) fn write_runs<E: Entry, L: RecordLines<E>, W: WriteDevice>(
     runs: &[Run],
     sink: &mut Sink<W>,
 )
-    requires { All (HasRecord (keyed E.key E.terms entries.now)) runs.now }
+    requires within { All (λ run. run.source < length entries.now) runs.now }
+    requires records { All (HasRecord (keyed E.key E.terms entries.now)) runs.now }
     ensures { IsAppended W.contents W.write_errors
         (flat_map (run_text (L.text lines.now) (keyed E.key E.terms entries.now)) runs.now)
         sink.old sink.new }
@@ -224,7 +226,8 @@ pub(crate) fn write_runs<E: Entry, L: RecordLines<E>, W: WriteDevice>(
 
 /// Looks at the bodies that the runs' records have.
 fn look_ahead<E: Entry, L: RecordLines<E>>(lines: &L, entries: &[E], runs: &[Run])
-    requires { All (HasRecord (keyed E.key E.terms entries.now)) runs.now }
+    requires within { All (λ run. run.source < length entries.now) runs.now }
+    requires records { All (HasRecord (keyed E.key E.terms entries.now)) runs.now }
 {
     for run in runs {
         match entries[run.source].body() {
@@ -241,7 +244,8 @@ pub(crate) fn write_run<E: Entry, L: RecordLines<E>, W: WriteDevice>(
     run: &Run,
     sink: &mut Sink<W>,
 )
-    requires { HasRecord (keyed E.key E.terms entries.now) run.now }
+    requires within { run.now.source < length entries.now }
+    requires record { HasRecord (keyed E.key E.terms entries.now) run.now }
     ensures { IsAppended W.contents W.write_errors
         (run_text (L.text lines.now) (keyed E.key E.terms entries.now) run.now)
         sink.old sink.new }

@@ -10,16 +10,29 @@ use Rattle.cif_canon.specs.Asked.{header_window}
 use Rattle.cif_canon.specs.Steps.Views.{association_on, train_on}
 use Rattle.cif_canon.specs.Views.{day_heading}
 use Rattle.cif_canon.proofs.AppendedTexts.{both, fault-answered, text-is}
+use Rattle.cif_canon.proofs.RunTexts.{sources-within}
 use Rattle.cif_canon.proofs.ViewTexts.{associations-text, day-view, have-lines, sliced, trains-text, written-so}
 use Rattle.cif_canon.proofs.views.day_listing.Goals as goal
 
-pub write_runs-requires : goal.write_runs-requires
-write_runs-requires g c =
+pub write_runs-requires-clause-within : goal.write_runs-requires-clause-within
+write_runs-requires-clause-within g c =
+    sources-within association_entry c.as_slice.result.now c.as_slice-2.result.now
+    (have-lines key_cmp Two (header_window c.args.extract.now.header) association_entry c.as_slice.result.now _ c.as_slice-2.result.now _
+    c.as_slice.ensures.value c.as_slice-2.ensures.value c.in_ok-runs.ensures.associations)
+
+pub write_runs-requires-clause-records : goal.write_runs-requires-clause-records
+write_runs-requires-clause-records g c =
     have-lines key_cmp Two (header_window c.args.extract.now.header) association_entry c.as_slice.result.now _ c.as_slice-2.result.now _
     c.as_slice.ensures.value c.as_slice-2.ensures.value c.in_ok-runs.ensures.associations
 
-pub write_runs-requires-2 : goal.write_runs-requires-2
-write_runs-requires-2 g c =
+pub write_runs-requires-2-clause-within : goal.write_runs-requires-2-clause-within
+write_runs-requires-2-clause-within g c =
+    sources-within schedule_entry c.as_slice-3.result.now c.as_slice-4.result.now
+    (have-lines (slice_cmp nat_cmp) Two (header_window c.args.extract.now.header) schedule_entry c.as_slice-3.result.now _
+    c.as_slice-4.result.now _ c.as_slice-3.ensures.value c.as_slice-4.ensures.value c.in_ok-runs.ensures.schedules)
+
+pub write_runs-requires-2-clause-records : goal.write_runs-requires-2-clause-records
+write_runs-requires-2-clause-records g c =
     have-lines (slice_cmp nat_cmp) Two (header_window c.args.extract.now.header) schedule_entry c.as_slice-3.result.now _
     c.as_slice-4.result.now _ c.as_slice-3.ensures.value c.as_slice-4.ensures.value c.in_ok-runs.ensures.schedules
 

@@ -10,11 +10,18 @@ use Rattle.cif_canon.specs.Steps.Texts.{run_text}
 use Rattle.cif_canon.specs.Steps.Views.{schedule_of}
 use Rattle.cif_canon.specs.Views.{train_heading}
 use Rattle.cif_canon.proofs.AppendedTexts.{both, fault-answered, text-is}
+use Rattle.cif_canon.proofs.RunTexts.{sources-within}
 use Rattle.cif_canon.proofs.ViewTexts.{have-lines, sliced, train-view, written-so}
 use Rattle.cif_canon.proofs.views.train_listing.Goals as goal
 
-pub write_runs-requires : goal.write_runs-requires
-write_runs-requires g c =
+pub write_runs-requires-clause-within : goal.write_runs-requires-clause-within
+write_runs-requires-clause-within g c =
+    sources-within schedule_entry c.as_slice.result.now c.as_slice-2.result.now
+    (have-lines (slice_cmp nat_cmp) c.args.form (header_window c.args.extract.now.header) schedule_entry c.as_slice.result.now _
+    c.as_slice-2.result.now _ c.as_slice.ensures.value c.as_slice-2.ensures.value c.in_ok-runs.ensures.schedules)
+
+pub write_runs-requires-clause-records : goal.write_runs-requires-clause-records
+write_runs-requires-clause-records g c =
     have-lines (slice_cmp nat_cmp) c.args.form (header_window c.args.extract.now.header) schedule_entry c.as_slice.result.now _
     c.as_slice-2.result.now _ c.as_slice.ensures.value c.as_slice-2.ensures.value c.in_ok-runs.ensures.schedules
 

@@ -1,8 +1,10 @@
 -- Five parts are appended one behind another (`canon-appended`).
 use Rattle.std.proofs.Common.{ap}
+use Rattle.cif_calendar.specs.Entries.{association_entry, schedule_entry}
 use Rattle.cif_extract.specs.ExtractParts.{extract_parts}
 use Rattle.cif_canon.specs.Canon.{CanonParts}
 use Rattle.cif_canon.proofs.AppendedTexts.{answered, appended, text-is}
+use Rattle.cif_canon.proofs.RunTexts.{sources-within}
 use Rattle.cif_canon.proofs.WrittenCanon.{canon-appended}
 use Rattle.cif_canon.proofs.canonical_form.Canon.write.Goals as goal
 
@@ -18,8 +20,18 @@ returns-clause-writes g c =
     (rw (c.as_slice-4.ensures.value, c.as_slice-5.ensures.value) at c.write_runs-2.ensures)
     (appended _ _ _ _ _ c.write_trailer.result c.write_trailer.ensures)))
 
-pub write_runs-requires : goal.write_runs-requires
-write_runs-requires g c = rw (c.as_slice-2.ensures.value, c.as_slice-3.ensures.value) c.self.invariant.0
+pub write_runs-requires-clause-within : goal.write_runs-requires-clause-within
+write_runs-requires-clause-within g c =
+    sources-within association_entry c.as_slice-2.result.now c.as_slice-3.result.now
+    (rw (c.as_slice-2.ensures.value, c.as_slice-3.ensures.value) c.self.invariant.0)
 
-pub write_runs-requires-2 : goal.write_runs-requires-2
-write_runs-requires-2 g c = rw (c.as_slice-4.ensures.value, c.as_slice-5.ensures.value) c.self.invariant.1
+pub write_runs-requires-clause-records : goal.write_runs-requires-clause-records
+write_runs-requires-clause-records g c = rw (c.as_slice-2.ensures.value, c.as_slice-3.ensures.value) c.self.invariant.0
+
+pub write_runs-requires-2-clause-within : goal.write_runs-requires-2-clause-within
+write_runs-requires-2-clause-within g c =
+    sources-within schedule_entry c.as_slice-4.result.now c.as_slice-5.result.now
+    (rw (c.as_slice-4.ensures.value, c.as_slice-5.ensures.value) c.self.invariant.1)
+
+pub write_runs-requires-2-clause-records : goal.write_runs-requires-2-clause-records
+write_runs-requires-2-clause-records g c = rw (c.as_slice-4.ensures.value, c.as_slice-5.ensures.value) c.self.invariant.1
