@@ -32,7 +32,8 @@ pub returns-clause-ok : goal.returns-clause-ok
 returns-clause-ok c =
     let left = c.in_ok-extract_runs.ensures in
     let right = c.in_ok-extract_runs-2.ensures in record {
-      window = one-window c.args.left.now.header c.args.right.now.header _ _ c.ne.ensures c.if-ne.false c.ne-else-ne.ensures c.if-ne-2.false;
+      window = one-window c.args.left.now.header c.args.right.now.header _ _ c.ne.ensures c.if-ne.false c.ne-else-ne.ensures
+          c.if-ne-2.false;
       left = record { associations = left.associations.clear; schedules = left.schedules.clear };
       right = record { associations = right.associations.clear; schedules = right.schedules.clear };
     }

@@ -148,7 +148,8 @@ pub returns-in_err-left_positions : goal.returns-in_err-left_positions
 returns-in_err-left_positions g c = IfOk-from_err c.from_residual.result _ c.from_residual.ensures.0
 
 pub returns-in_err-right_positions : goal.returns-in_err-right_positions
-returns-in_err-right_positions g c = IfOk-from_err c.from_residual-in_err-right_positions.result _ c.from_residual-in_err-right_positions.ensures.0
+returns-in_err-right_positions g c =
+    IfOk-from_err c.from_residual-in_err-right_positions.result _ c.from_residual-in_err-right_positions.ensures.0
 
 pub returns-in_err-one : goal.returns-in_err-one
 returns-in_err-one g c = IfOk-from_err c.from_residual-in_err-one.result _ c.from_residual-in_err-one.ensures.0

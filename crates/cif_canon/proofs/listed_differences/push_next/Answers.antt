@@ -13,7 +13,8 @@ pub returns-in_err-push-in-Left : goal.returns-in_err-push-in-Left
 returns-in_err-push-in-Left g c = IfOk-from_err c.from_residual.result _ c.from_residual.ensures.0
 
 pub returns-in_err-push-in-Right : goal.returns-in_err-push-in-Right
-returns-in_err-push-in-Right g c = IfOk-from_err c.from_residual-in_err-push-in-Right.result _ c.from_residual-in_err-push-in-Right.ensures.0
+returns-in_err-push-in-Right g c =
+    IfOk-from_err c.from_residual-in_err-push-in-Right.result _ c.from_residual-in_err-push-in-Right.ensures.0
 
 pub returns-in_ok-push-in-Left : goal.returns-in_ok-push-in-Left
 returns-in_ok-push-in-Left g c = rw c.in-Left.is (

@@ -21,7 +21,8 @@ returns-in-Err-clause-fault g c = rw c.fault_of.ensures (λ k p.
 pub returns-clause-runs : goal.returns-clause-runs
 returns-clause-runs g c k p =
     key-records g.E.Entry.key g.E.Entry.terms c.args.entries.now k c.args.members.now p c.args.window.now.first c.args.window.now.last
-    c.in-Ok-calendar_in_room.calendar c.in-Ok-calendar_in_room.ensures.calendar g.met.E.Entry.cancelled c.args.form c.in-Ok-runs_in_room.runs.items c.in-Ok-runs_in_room.ensures
+    c.in-Ok-calendar_in_room.calendar c.in-Ok-calendar_in_room.ensures.calendar g.met.E.Entry.cancelled c.args.form
+    c.in-Ok-runs_in_room.runs.items c.in-Ok-runs_in_room.ensures
 
 pub runs_of_few-requires : goal.runs_of_few-requires
 runs_of_few-requires g c = c.requires.within
