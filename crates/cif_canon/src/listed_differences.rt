@@ -146,7 +146,8 @@ fn write_sided_run<E: Entry, L: RecordLines<E>, W: WriteDevice>(
     run: &Sided<Run>,
     sink: &mut Sink<W>,
 )
-    requires { HasSidedRecord (keyed E.key E.terms left.now) (keyed E.key E.terms right.now) run.now }
+    requires within { run.now.it.source < length (at_side left.now right.now run.now.side) }
+    requires record { HasSidedRecord (keyed E.key E.terms left.now) (keyed E.key E.terms right.now) run.now }
     ensures { IsAppended W.contents W.write_errors
         (sided_run_text (L.text left_lines.now) (keyed E.key E.terms left.now)
         (L.text right_lines.now) (keyed E.key E.terms right.now) run.now)
@@ -167,7 +168,8 @@ pub(crate) fn write_sided_runs<E: Entry, L: RecordLines<E>, W: WriteDevice>(
     runs: &[Sided<Run>],
     sink: &mut Sink<W>,
 )
-    requires { All (HasSidedRecord (keyed E.key E.terms left.now) (keyed E.key E.terms right.now)) runs.now }
+    requires within { All (λ run. run.it.source < length (at_side left.now right.now run.side)) runs.now }
+    requires records { All (HasSidedRecord (keyed E.key E.terms left.now) (keyed E.key E.terms right.now)) runs.now }
     ensures { IsAppended W.contents W.write_errors
         (flat_map (sided_run_text (L.text left_lines.now) (keyed E.key E.terms left.now)
         (L.text right_lines.now) (keyed E.key E.terms right.now)) runs.now)

@@ -1,20 +1,17 @@
 -- The run's record is that of its side.
-use Rattle.cif_canon.proofs.RunTexts.{record-within}
 use Rattle.cif_canon.proofs.listed_differences.write_sided_run.Goals as goal
 
 pub write_run-requires-clause-within : goal.write_run-requires-clause-within
-write_run-requires-clause-within g c =
-    record-within (λ e. (g.E.Entry.key e, g.E.Entry.terms e)) c.args.left.now c.args.run.now.it (rw c.in-Left.is at c.requires)
+write_run-requires-clause-within g c = rw c.in-Left.is at c.requires.within
 
 pub write_run-requires-clause-record : goal.write_run-requires-clause-record
-write_run-requires-clause-record g c = rw c.in-Left.is at c.requires
+write_run-requires-clause-record g c = rw c.in-Left.is at c.requires.record
 
 pub write_run-requires-in-Right-clause-within : goal.write_run-requires-in-Right-clause-within
-write_run-requires-in-Right-clause-within g c =
-    record-within (λ e. (g.E.Entry.key e, g.E.Entry.terms e)) c.args.right.now c.args.run.now.it (rw c.in-Right.is at c.requires)
+write_run-requires-in-Right-clause-within g c = rw c.in-Right.is at c.requires.within
 
 pub write_run-requires-in-Right-clause-record : goal.write_run-requires-in-Right-clause-record
-write_run-requires-in-Right-clause-record g c = rw c.in-Right.is at c.requires
+write_run-requires-in-Right-clause-record g c = rw c.in-Right.is at c.requires.record
 
 pub returns-in-Left : goal.returns-in-Left
 returns-in-Left g c = rw c.in-Left.is c.write_run.ensures

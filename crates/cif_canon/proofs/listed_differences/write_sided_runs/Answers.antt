@@ -1,7 +1,9 @@
 -- The text is a fold over runs: one more goes behind it (`one-more`); each run has a record on its side.
-use Rattle.std.proofs.Common.{sym, subst}
+use Rattle.std.proofs.Common.{◌<◌, length, sym, subst}
 use Rattle.cif_calendar.specs.Keys.{keyed}
-use Rattle.cif_canon.specs.Steps.Sides.{HasSidedRecord, sided_run_text}
+use Rattle.cif_weeks.specs.declared.run.Run.{Run}
+use Rattle.cif_canon.specs.Steps.Sides.{HasSidedRecord, at_side, sided_run_text}
+use Rattle.cif_canon.specs.declared.listed_differences.Sided.{Sided}
 use Rattle.cif_canon.proofs.AppendedTexts.{all-items, nothing, one-more}
 use Rattle.cif_canon.proofs.listed_differences.write_sided_runs.Goals as goal
 
@@ -15,11 +17,16 @@ loop-run-preserved g c =
     c.args.runs.now c.loop-run.run-index _ _ c.loop-run.invariant c.run-item.result _ c.loop-run-test.true c.run-item.is
     c.write_sided_run.ensures
 
-pub write_sided_run-requires : goal.write_sided_run-requires
-write_sided_run-requires g c =
+pub write_sided_run-requires-clause-within : goal.write_sided_run-requires-clause-within
+write_sided_run-requires-clause-within g c =
+    subst (λ (run : Sided Run). run.it.source < length (at_side c.args.left.now c.args.right.now run.side)) (sym c.run-item.is)
+    (c.requires.within c.loop-run.run-index c.run-item.result c.loop-run-test.true)
+
+pub write_sided_run-requires-clause-record : goal.write_sided_run-requires-clause-record
+write_sided_run-requires-clause-record g c =
     subst (HasSidedRecord (keyed g.E.Entry.key g.E.Entry.terms c.args.left.now) (keyed g.E.Entry.key g.E.Entry.terms c.args.right.now))
     (sym c.run-item.is)
-    (c.requires c.loop-run.run-index c.run-item.result c.loop-run-test.true)
+    (c.requires.records c.loop-run.run-index c.run-item.result c.loop-run-test.true)
 
 pub returns : goal.returns
 returns g c =

@@ -1,7 +1,9 @@
 -- Three parts are appended one behind another (`differences-appended`).
 use Rattle.std.proofs.Common.{ap}
+use Rattle.cif_calendar.specs.Entries.{association_entry, schedule_entry}
 use Rattle.cif_canon.specs.Differences.{differences_text}
 use Rattle.cif_canon.proofs.AppendedTexts.{answered, text-is}
+use Rattle.cif_canon.proofs.SidedTexts.{sided-within}
 use Rattle.cif_canon.proofs.WrittenDifferences.{differences-appended}
 use Rattle.cif_canon.proofs.listed_differences.Differences.write.Goals as goal
 
@@ -17,8 +19,20 @@ returns-clause-writes g c =
     (rw (c.as_slice-2.ensures.value, c.as_slice-3.ensures.value, c.as_slice-4.ensures.value) at c.write_sided_runs.ensures)
     (rw (c.as_slice-5.ensures.value, c.as_slice-6.ensures.value, c.as_slice-7.ensures.value) at c.write_sided_runs-2.ensures)))
 
-pub write_sided_runs-requires : goal.write_sided_runs-requires
-write_sided_runs-requires g c = rw (c.as_slice-2.ensures.value, c.as_slice-3.ensures.value, c.as_slice-4.ensures.value) c.self.invariant.0
+pub write_sided_runs-requires-clause-within : goal.write_sided_runs-requires-clause-within
+write_sided_runs-requires-clause-within g c =
+    sided-within association_entry c.as_slice-2.result.now c.as_slice-3.result.now c.as_slice-4.result.now
+    (rw (c.as_slice-2.ensures.value, c.as_slice-3.ensures.value, c.as_slice-4.ensures.value) c.self.invariant.0)
 
-pub write_sided_runs-requires-2 : goal.write_sided_runs-requires-2
-write_sided_runs-requires-2 g c = rw (c.as_slice-5.ensures.value, c.as_slice-6.ensures.value, c.as_slice-7.ensures.value) c.self.invariant.1
+pub write_sided_runs-requires-clause-records : goal.write_sided_runs-requires-clause-records
+write_sided_runs-requires-clause-records g c =
+    rw (c.as_slice-2.ensures.value, c.as_slice-3.ensures.value, c.as_slice-4.ensures.value) c.self.invariant.0
+
+pub write_sided_runs-requires-2-clause-within : goal.write_sided_runs-requires-2-clause-within
+write_sided_runs-requires-2-clause-within g c =
+    sided-within schedule_entry c.as_slice-5.result.now c.as_slice-6.result.now c.as_slice-7.result.now
+    (rw (c.as_slice-5.ensures.value, c.as_slice-6.ensures.value, c.as_slice-7.ensures.value) c.self.invariant.1)
+
+pub write_sided_runs-requires-2-clause-records : goal.write_sided_runs-requires-2-clause-records
+write_sided_runs-requires-2-clause-records g c =
+    rw (c.as_slice-5.ensures.value, c.as_slice-6.ensures.value, c.as_slice-7.ensures.value) c.self.invariant.1
