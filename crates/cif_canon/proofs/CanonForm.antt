@@ -6,6 +6,8 @@ use Rattle.std.specs.Ordering.{nat_cmp}
 use Rattle.cif_calendar.specs.Keys.{AreClear}
 use Rattle.cif_extract.specs.ExtractParts.{ExtractParts}
 use Rattle.cif_extract.specs.declared.fault.Clash.TheVariants as named
+use Rattle.cif_extract.specs.declared.fault.Fault.{Fault}
+use Rattle.cif_extract.specs.declared.fault.Fault.TheVariants as fault
 use Rattle.cif_records.specs.AssocKey.{key_cmp}
 use Rattle.cif_records.specs.declared.header.Header.{Header}
 use Rattle.cif_records.specs.declared.tiploc.Tiploc.{Tiploc}
@@ -20,9 +22,7 @@ use Rattle.cif_canon.specs.Counts.{counts_of}
 use Rattle.cif_canon.specs.declared.canonical_form.Counts.{Counts}
 use Rattle.cif_calendar.specs.Entries.{association_entries, schedule_entries}
 use Rattle.cif_canon.specs.Fault.{IsCanonFault, IsFirstClashIn}
-use Rattle.cif_canon.specs.Steps.Records.{AreCanonicalRecords, IsRecordsFault, extract_fault}
-use Rattle.cif_canon.specs.declared.records.RecordsFault.{RecordsFault}
-use Rattle.cif_canon.specs.declared.records.RecordsFault.TheVariants.{Clash, Memory}
+use Rattle.cif_canon.specs.Steps.Records.{AreCanonicalRecords, IsRecordsFault}
 use Rattle.cif_weeks.specs.Window.{Window, window_from}
 use Rattle.cif_canon.specs.Steps.Texts.{HasRecord, canon_text}
 use Rattle.cif_canon.specs.Steps.Tiplocs.{AreDistinct}
@@ -43,17 +43,27 @@ of_slice says h first last xs ys f l is a =
     (subst (λ n. says (window_from h.first n) xs) l (subst (λ n. says (window_from n last) xs) f a))
 
 -- why there are no canonical records of associations, or of schedules where there are some of associations
-pub associations-fault : (x : ExtractParts) (fault : RecordsFault) →
-    IsRecordsFault key_cmp named.Association (association_entries x.associations) (header_window x.header) fault →
-    IsCanonFault x (extract_fault fault)
-associations-fault x (Clash clash) h = subst (IsFirstClashIn x) (sym h.is) h.first
-associations-fault x Memory h = tt
+pub associations-fault : (x : ExtractParts) (why : Fault) →
+    IsRecordsFault key_cmp named.Association (association_entries x.associations) (header_window x.header) why → IsCanonFault x why
+associations-fault x (fault.Ambiguous clash) h = subst (IsFirstClashIn x) (sym h.is) h.first
+associations-fault x fault.Memory h = tt
+associations-fault x (fault.Refused line why) h = absurd h
+associations-fault x fault.WindowsDiffer h = absurd h
+associations-fault x fault.OutsideWindow h = absurd h
+associations-fault x fault.WindowReversed h = absurd h
+associations-fault x fault.Read h = absurd h
+associations-fault x fault.Write h = absurd h
 
-pub schedules-fault : (x : ExtractParts) → AreClear (association_entries x.associations) x.header.first x.header.last →
-    (fault : RecordsFault) → IsRecordsFault (slice_cmp nat_cmp) named.Train (schedule_entries x.schedules) (header_window x.header) fault →
-    IsCanonFault x (extract_fault fault)
-schedules-fault x clear (Clash clash) h = subst (IsFirstClashIn x) (sym h.is) (clear, h.first)
-schedules-fault x clear Memory h = tt
+pub schedules-fault : (x : ExtractParts) → AreClear (association_entries x.associations) x.header.first x.header.last → (why : Fault) →
+    IsRecordsFault (slice_cmp nat_cmp) named.Train (schedule_entries x.schedules) (header_window x.header) why → IsCanonFault x why
+schedules-fault x clear (fault.Ambiguous clash) h = subst (IsFirstClashIn x) (sym h.is) (clear, h.first)
+schedules-fault x clear fault.Memory h = tt
+schedules-fault x clear (fault.Refused line why) h = absurd h
+schedules-fault x clear fault.WindowsDiffer h = absurd h
+schedules-fault x clear fault.OutsideWindow h = absurd h
+schedules-fault x clear fault.WindowReversed h = absurd h
+schedules-fault x clear fault.Read h = absurd h
+schedules-fault x clear fault.Write h = absurd h
 
 module _ (form : Form) (x : ExtractParts) (tiplocs : List Tiploc) (distinct : AreDistinct x.tiplocs tiplocs) (associations : List Run)
     (a : AreCanonicalRecords key_cmp form (header_window x.header) (association_entries x.associations) associations) (schedules : List Run)

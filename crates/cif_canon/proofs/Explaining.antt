@@ -25,9 +25,9 @@ use Rattle.cif_columns.specs.Stp.{letter}
 use Rattle.cif_calendar.proofs.Positions.{at-contains, contains-at}
 use Rattle.cif_weeks.proofs.JoinedLists.{AllPairs-append, AllPairs-map, Contains-from_map, Contains-map}
 use Rattle.cif_canon.specs.Explanation.{AreExplained, Explained, IsMarked}
-use Rattle.cif_canon.specs.Steps.Explanation.{ArePlacedBelow, ArePlacedInOrder, IsAlike, IsBefore, IsLeast, IsMarkAmong}
+use Rattle.cif_canon.specs.Steps.Explanation.{AreMarked, ArePlacedBelow, ArePlacedInOrder, IsAlike, IsBefore, IsLeast, IsMarkAmong}
 use Rattle.cif_canon.specs.Steps.Explanation.{IsOpposed, IsPlaced}
-use Rattle.cif_canon.specs.Steps.Explanation.{Placed, opposed, placed_at, placed_cmp}
+use Rattle.cif_canon.specs.Steps.Explanation.{Placed, marked_as, opposed, placed_at, placed_cmp, unmarked}
 use Rattle.cif_canon.specs.declared.explained.Mark.{Mark}
 use Rattle.cif_canon.specs.declared.explained.Mark.TheVariants as mark
 
@@ -229,10 +229,6 @@ module _ {X K B : Type 0} (of : X → Placed K B) (cmp : K → K → Ordering) (
 
 -- ---- marks among all records
 
--- a record without its mark
-abbrev pub unmarked : {K B : Type 0} → Explained K B → Placed K B
-unmarked e = placed_at e.place e.key e.terms
-
 module _ {K B : Type 0} (cmp : K → K → Ordering) (train_of : K → List ℕ) (entries : List (K × Terms B)) (u : List ℕ) (d : ℕ)
     (placed : List (Placed K B)) (are : ArePlacedInOrder cmp train_of entries u d placed) where
   -- a record of a key of the train that applies is among them
@@ -294,9 +290,8 @@ module _ {K B : Type 0} (cmp : K → K → Ordering) (train_of : K → List ℕ)
         absurd (omega (arith, le, h.earlier))
 
   -- records with their marks are explained
-  pub explained : (es : List (Explained K B)) → map unmarked es ≡ placed
-      → All (λ (e : Explained K B). IsMarkAmong placed (unmarked e) e.mark) es → AreExplained cmp train_of entries u d es
-  explained es same marks = record {
+  pub explained : (es : List (Explained K B)) → AreMarked placed placed es → AreExplained cmp train_of entries u d es
+  explained es (same, marks) = record {
     rising = λ i j e lt below.
         let rise = subst (AllPairs (λ p q. placed_cmp cmp p q ≡ Less)) (sym same) are.rising in
         let within : j < length (map unmarked es) = omega (arith, below, length-map es unmarked) in
@@ -323,37 +318,14 @@ module _ {K B : Type 0} (cmp : K → K → Ordering) (train_of : K → List ℕ)
         let e = found.0 in
         (e.mark, subst (Contains es) (ap (λ (q : Placed K B). marked_as q e.mark) found.2) found.1);
   }
-    where
-      marked_as : Placed K B → Mark → Explained K B
-      marked_as q m = record { place = q.place; key = q.key; terms = q.terms; mark = m }
 
--- ---- marks, one after another
-
-module _ {X Y K B : Type 0} (of : X → Placed K B) (to : Y → Explained K B) (applying : List X) where
-  abbrev pub HasMark : Explained K B → Type 0
-  HasMark e = IsMarkAmong (map of applying) (unmarked e) e.mark
-
-  -- the first n records have their marks
-  abbrev pub AreMarked : ℕ → List Y → Type 0
-  AreMarked n marked = (map unmarked (map to marked) ≡ map of (take n applying)) × All HasMark (map to marked)
-
-  pub none_marked : (marked : List Y) → marked ≡ [] → AreMarked 0 marked
-  none_marked marked none = subst (AreMarked 0) (sym none) (refl, All-nil _)
-
-  pub one_marked : (n : ℕ) (old new : List Y) (y : Y) (x : X) → new ≡ old ++ (y ∷ []) → n < length applying → x ≡ get_or applying n x
-      → unmarked (to y) ≡ of x → IsMarkAmong (map of applying) (unmarked (to y)) (to y).mark → AreMarked n old → AreMarked (n + 1) new
-  one_marked n old new y x are below is same mark h =
-      let longer : map to new ≡ map to old ++ (to y ∷ []) = ap (map to) are ∙ map-append to old (y ∷ []) in (
-        ap (map unmarked) longer
-            ∙ map-append unmarked (map to old) (to y ∷ [])
-            ∙ ap₂ (λ ps p. ps ++ (p ∷ [])) h.0 same
-            ∙ sym (map-take_more of applying n x below is),
-        subst (All HasMark) (sym longer)
-            (All-append HasMark (map to old) (to y ∷ []) h.1 (All-one HasMark (to y) mark)),
-      )
-
-  pub all_marked : (n : ℕ) (marked : List Y) → length applying ≤ n → n ≤ length applying → AreMarked n marked
-      → AreMarked (length applying) marked
-  all_marked n marked from upto h =
-      let end : n ≡ length applying = omega (arith, from, upto) in
-      subst (λ k. AreMarked k marked) end h
+-- one record more with its mark
+pub one_marked : {X K B : Type 0} (of : X → Placed K B) (applying : List X) (n : ℕ) (old : List (Explained K B)) (e : Explained K B) (x : X)
+    → n < length applying → x ≡ get_or applying n x → unmarked e ≡ of x → IsMarkAmong (map of applying) (unmarked e) e.mark
+    → AreMarked (map of applying) (map of (take n applying)) old
+    → AreMarked (map of applying) (map of (take (n + 1) applying)) (old ++ (e ∷ []))
+one_marked {K = K} {B = B} of applying n old e x below is same mark h =
+    let HasMark : Explained K B → Type 0 = λ e. IsMarkAmong (map of applying) (unmarked e) e.mark in (
+      map-append unmarked old (e ∷ []) ∙ ap₂ (λ ps p. ps ++ (p ∷ [])) h.0 same ∙ sym (map-take_more of applying n x below is),
+      All-append HasMark old (e ∷ []) h.1 (All-one HasMark e mark),
+    )

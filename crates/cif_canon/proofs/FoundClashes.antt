@@ -1,5 +1,5 @@
 -- The clashes are found key by key, over positions in the order of their keys.
-use Rattle.std.proofs.Common.{◌≡◌, ◌⊎◌, inl, inr, ℕ, ◌<◌, List, [], ◌∷◌, ◌++◌, map, take, drop, length, get_or}
+use Rattle.std.proofs.Common.{◌≡◌, inl, inr, ℕ, ◌<◌, List, [], ◌∷◌, ◌++◌, map, take, drop, length, get_or}
 use Rattle.std.proofs.Common.{refl, sym, ◌∙◌, ap, subst, arith, ⊎_elim, append_assoc, append-nil}
 use Rattle.std.specs.Prelude.{AllPairs, Contains}
 use Rattle.std.specs.Cmp.{IsTotalOrder}
@@ -23,7 +23,7 @@ use Rattle.cif_extract.specs.declared.fault.Clash.{Clash}
 use Rattle.cif_weeks.proofs.RisingLists.{Contains-none}
 use Rattle.cif_canon.specs.Clashes.{AreClashes}
 use Rattle.cif_canon.specs.Steps.Clashes.{AreAdded, IsAddedOfKey, IsClashAdded, IsFaultAdded}
-use Rattle.cif_canon.specs.Steps.Turns.{AnyHasKey, AreOfFirstKey, HasKey, IsRising}
+use Rattle.cif_canon.specs.Steps.Turns.{AnyHasKey, AreOfFirstKey, IsRising}
 use Rattle.cif_canon.proofs.ComparedKeys.{HasPassed, key-or-later, later-less, left-before, passed-more, turn}
 use Rattle.cif_canon.proofs.KeyRecords.{key-is}
 use Rattle.cif_canon.proofs.KeyTurns.{decided, first-leads, no-entry, rising-after}

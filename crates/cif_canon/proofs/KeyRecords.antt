@@ -24,7 +24,7 @@ use Rattle.cif_weeks.specs.Window.{Window, IsWithin, window_from}
 use Rattle.cif_weeks.specs.declared.form.Form.{Form}
 use Rattle.cif_weeks.specs.declared.run.Run.{Run}
 use Rattle.cif_weeks.proofs.CalendarSources.{firsts-within}
-use Rattle.cif_canon.specs.Steps.Records.{IsRunOf, AreRunsOfKey, IsKeyFault, records_fault}
+use Rattle.cif_canon.specs.Steps.Records.{IsRunOf, AreRunsOfKey, IsKeyFault, extract_fault}
 use Rattle.cif_canon.proofs.KeyPositions.{has-key}
 use Rattle.cif_canon.proofs.KeyTurns.{one-key}
 
@@ -39,7 +39,7 @@ module _ {E K B : Type 0} (key : E → K) (terms : E → Terms B) (es : List E) 
   -- a fault of the key's calendar is one of the key
   pub key_fault : (name : K → ℕ → Clash) (i : ℕ) → Contains members i → (e : E) → i < length es → e ≡ get_or es i e →
       (first last : ℕ) (fault : CalendarFault) → IsFault (IsChosen (map terms es) members) first last fault →
-      IsKeyFault name (window_from first last) (keyed key terms es) k (records_fault (name (key e)) fault)
+      IsKeyFault name (window_from first last) (keyed key terms es) k (extract_fault (name (key e)) fault)
   key_fault name i member e below at first last Memory h = tt
   key_fault name i member e below at first last (Ambiguous day) h =
       (day, ap (λ j. name j day) (key-is i member e below at), key-fault key terms es k members p first last (Ambiguous day) h)

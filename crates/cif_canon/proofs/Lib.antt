@@ -1,3 +1,4 @@
+pub mod AppendedTexts
 pub mod BothRead
 pub mod CallTexts
 pub mod CanonForm
@@ -44,4 +45,3 @@ pub mod ViewLines
 pub mod ViewTexts
 pub mod WrittenCanon
 pub mod WrittenDifferences
-pub mod WrittenLists

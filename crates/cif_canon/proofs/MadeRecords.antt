@@ -14,6 +14,8 @@ use Rattle.cif_calendar.specs.Terms.{Terms, AreLawful}
 use Rattle.cif_calendar.specs.Keys.{of_key, ArePositionsOf}
 use Rattle.cif_calendar.proofs.NoEntries.{none-clear}
 use Rattle.cif_extract.specs.declared.fault.Clash as named
+use Rattle.cif_extract.specs.declared.fault.Fault.{Fault}
+use Rattle.cif_extract.specs.declared.fault.Fault.TheVariants as fault
 use Rattle.cif_weeks.specs.Canonical.{AreCanonical, with_key}
 use Rattle.cif_weeks.specs.Permanent.{Permanent, Permanents}
 use Rattle.cif_weeks.specs.Window.{Window}
@@ -25,8 +27,6 @@ use Rattle.cif_weeks.proofs.PermanentEntries.{records-meaning}
 use Rattle.cif_weeks.proofs.RisingLists.{Contains-none, less_one_way, not_less}
 use Rattle.cif_canon.specs.Steps.Records.{IsRunOf, AreSaid, AreRunsOfKey, AreCanonicalRecords, IsKeyFault, IsRecordsFault}
 use Rattle.cif_canon.specs.Steps.Turns.{HasKey, AnyHasKey, IsRising, AreOfFirstKey}
-use Rattle.cif_canon.specs.declared.records.RecordsFault.{RecordsFault}
-use Rattle.cif_canon.specs.declared.records.RecordsFault.TheVariants.{Clash, Memory}
 use Rattle.cif_canon.proofs.KeyTurns.{decided, first-leads, no-entry, one-key, rising-after}
 
 -- sets of records that are the same say the same of a key
@@ -129,10 +129,16 @@ module _ {K B : Type 0} (cmp : K → K → Ordering) (form : Form) (window : Win
         (either any.position any.member)
 
     -- a fault of the run's key is the first, as the keys before are clear
-    pub made-fault : (name : K → ℕ → named.Clash) (fault : RecordsFault) →
-        ((k : K) → ArePositionsOf es k (take n rest) → IsKeyFault name window es k fault) → IsRecordsFault cmp name es window fault
-    made-fault name Memory f = tt
-    made-fault name (Clash clash) f =
+    pub made-fault : (name : K → ℕ → named.Clash) (why : Fault) →
+        ((k : K) → ArePositionsOf es k (take n rest) → IsKeyFault name window es k why) → IsRecordsFault cmp name es window why
+    made-fault name (fault.Refused line why) f = absurd (f run.key turn)
+    made-fault name fault.WindowsDiffer f = absurd (f run.key turn)
+    made-fault name fault.OutsideWindow f = absurd (f run.key turn)
+    made-fault name fault.WindowReversed f = absurd (f run.key turn)
+    made-fault name fault.Read f = absurd (f run.key turn)
+    made-fault name fault.Write f = absurd (f run.key turn)
+    made-fault name fault.Memory f = tt
+    made-fault name (fault.Ambiguous clash) f =
         let (day, is, first) = f run.key turn in record {
           key = run.key;
           day = day;

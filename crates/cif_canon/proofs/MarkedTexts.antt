@@ -42,12 +42,6 @@ module _ (side : Side) (uid : List ℕ) (first last : ℕ) (days : List Bool) (p
       ap (λ (line : List ℕ). line ∷ rest) is
       ∙ ap (λ (lines : List (List ℕ)). plain_line (basic_rows uid first last days P (Some p.detail)) ∷ lines) are
 
-  pub marked-basic : marked_text side (basic ∷ []) ++ marked_text side (map plain_line (map record_table (body_records p)))
-      ≡ marked_text side (schedule_lines uid first last days P (Some p))
-  marked-basic =
-      marked-first side basic (map plain_line (map record_table (body_records p)))
-      ∙ ap (marked_text side) (schedule-all (map plain_line (map record_table (body_records p))) refl)
-
   pub marked-kept : (rest : List (List ℕ)) → KeepAll rest (map record_table (body_records p)) →
       marked_text side (basic ∷ []) ++ marked_text side rest ≡ marked_text side (schedule_lines uid first last days P (Some p))
   marked-kept rest kept =

@@ -1,6 +1,6 @@
 -- Runs of both sides in one list.
-use Rattle.std.proofs.Common.{◌≡◌, ◌⊎◌, inl, inr, ℕ, zero, suc, ◌<◌, ◌≤◌, Bool, true, false, List, [], ◌∷◌, ◌++◌, Some, None}
-use Rattle.std.proofs.Common.{refl, sym, ap, ◌∙◌, subst, arith, ⊎_elim, append_assoc, append-nil, true≢false}
+use Rattle.std.proofs.Common.{◌≡◌, ◌⊎◌, inl, inr, ℕ, zero, suc, ◌+◌, ◌<◌, ◌≤◌, Bool, true, false, List, [], ◌∷◌, ◌++◌, Some, None}
+use Rattle.std.proofs.Common.{refl, sym, ap, ◌∙◌, subst, arith, length, ⊎_elim, append_assoc, append-nil, true≢false}
 use Rattle.std.specs.Prelude.{AllPairs, Contains, if◌then◌else◌}
 use Rattle.std.proofs.lemmas.List.Elements.{Contains-append_cases}
 use Rattle.cif_calendar.proofs.Elements.{Contains-first, Contains-rest, Contains-cases}
@@ -8,8 +8,9 @@ use Rattle.cif_weeks.specs.declared.run.Run.{Run}
 use Rattle.cif_weeks.proofs.JoinedLists.{AllPairs-append}
 use Rattle.cif_weeks.proofs.RisingLists.{Contains-none}
 use Rattle.cif_canon.specs.Differences.{is_side, of_side}
-use Rattle.cif_canon.specs.Steps.OnlySides.{AreAppendedRuns, AreMergedRuns, AreMerging, AreRisingRuns, HasMoved}
+use Rattle.cif_canon.specs.Steps.OnlySides.{AreAppendedRuns, AreMergedRuns, AreMerging, AreRisingRuns, HasMoved, HasMovedOf}
 use Rattle.cif_canon.specs.Steps.OnlySides.{IsFirstSide, RunComesBefore}
+use Rattle.cif_canon.specs.Steps.Sides.{at_side}
 use Rattle.cif_canon.specs.declared.listed_differences.Side.{Side}
 use Rattle.cif_canon.specs.declared.listed_differences.Side.TheVariants.{Left, Right}
 use Rattle.cif_canon.specs.declared.listed_differences.Sided.{Sided}
@@ -184,17 +185,44 @@ module _ (lefts rights : List Run) (old : List (Sided Run)) where
         }
 
     -- the same, as the first of a list has moved
-    pub moved-left : (l r rest : List Run) → IsFirstSide l r (Some Left) → HasMoved Left l rest new next →
+    moved-left : (l r rest : List Run) → IsFirstSide l r (Some Left) → HasMoved Left l rest new next →
         AreMerging lefts rights l r old new → AreMerging lefts rights rest r old next
     moved-left l r rest first moved m =
         merging-left moved.item rest r (subst (λ (z : List Run). IsFirstSide z r (Some Left)) moved.items_are first)
         (subst (λ (z : List Run). AreMerging lefts rights z r old new) moved.items_are m) moved.new_is
 
-    pub moved-right : (l r rest : List Run) → IsFirstSide l r (Some Right) → HasMoved Right r rest new next →
+    moved-right : (l r rest : List Run) → IsFirstSide l r (Some Right) → HasMoved Right r rest new next →
         AreMerging lefts rights l r old new → AreMerging lefts rights l rest old next
     moved-right l r rest first moved m =
         merging-right moved.item l rest (subst (λ (z : List Run). IsFirstSide l z (Some Right)) moved.items_are first)
         (subst (λ (z : List Run). AreMerging lefts rights l z old new) moved.items_are m) moved.new_is
+
+    pub moved-of : (side : Side) (l r l' r' : List Run) → IsFirstSide l r (Some side) → HasMovedOf side l r l' r' new next →
+        AreMerging lefts rights l r old new → AreMerging lefts rights l' r' old next
+    moved-of Left l r l' r' first (moved, same) m =
+        subst (λ (z : List Run). AreMerging lefts rights l' z old next) (sym same) (moved-left l r l' first moved m)
+    moved-of Right l r l' r' first (moved, same) m =
+        subst (λ (z : List Run). AreMerging lefts rights z r' old next) (sym same) (moved-right l r r' first moved m)
+
+-- the side of the first run has one
+pub side-there : (side : Side) (l r : List Run) → IsFirstSide l r (Some side) → 0 < length (at_side l r side)
+side-there Left [] [] h = absurd h
+side-there Left [] (y ∷ r) h = absurd h
+side-there Left (x ∷ l) r h = omega arith
+side-there Right [] [] h = absurd h
+side-there Right (x ∷ l) [] h = absurd h
+side-there Right [] (y ∷ r) h = omega arith
+side-there Right (x ∷ l) (y ∷ r) h = omega arith
+
+-- what has moved is left no more
+pub moved-smaller : {T : Type 0} (side : Side) (l r l' r' : List T) (old new : List (Sided T)) → HasMovedOf side l r l' r' old new →
+    length l' + length r' < length l + length r
+moved-smaller {T = T} Left l r l' r' old new (moved, same) =
+    subst (λ (z : List T). length l' + length z < length l + length r) (sym same)
+    (subst (λ (z : List T). length l' + length r < length z + length r) (sym moved.items_are) (omega arith))
+moved-smaller {T = T} Right l r l' r' old new (moved, same) =
+    subst (λ (z : List T). length z + length r' < length l + length r) (sym same)
+    (subst (λ (z : List T). length l + length r' < length l + length z) (sym moved.items_are) (omega arith))
 
 pub nothing-first : (l r : List Run) → IsFirstSide l r None → (l ≡ []) × (r ≡ [])
 nothing-first [] [] h = (refl, refl)

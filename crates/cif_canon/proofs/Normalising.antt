@@ -123,9 +123,14 @@ pub fault-writes : {W A : Type 0} (contents : W → Option (List ℕ)) (errors :
 fault-writes contents errors text old new result f failed write h =
     subst (FaultWrites contents errors text old new) (sym (failed ∙ ap Err write)) h
 
-unsaid : (bytes : Option (List ℕ)) → IfSome bytes (λ known. Unit {0})
+pub unsaid : (bytes : Option (List ℕ)) → IfSome bytes (λ known. Unit {0})
 unsaid (Some known) = tt
 unsaid None = tt
+
+pub whatever : (start : Option (List ℕ)) (P : List ℕ → ExtractParts → Type 0) →
+    IfSome start (λ bytes. (x : ExtractParts) → P bytes x → Unit {0})
+whatever (Some bytes) P = λ x accepted. tt
+whatever None P = tt
 
 -- a fault before anything is written
 module _ {W : Type 0} (contents : W → Option (List ℕ)) (errors : W → Option ℕ) (start : Option (List ℕ)) (form : Form) (asked : Asked)
@@ -192,11 +197,18 @@ module _ (max : ℕ) (asked : Asked) (start after : Option (List ℕ)) {A : Type
   pub write-accepted : IfSome start (λ bytes. (x : ExtractParts) → IsAcceptedWithin max asked x bytes → IfErr result IsDeviceOrMemory)
   write-accepted =
       subst (λ (r : Result A Fault). IfSome start (λ bytes. (x : ExtractParts) → IsAcceptedWithin max asked x bytes →
-      IfErr r IsDeviceOrMemory)) (sym is) (whatever start)
-    where
-      whatever : (start : Option (List ℕ)) → IfSome start (λ bytes. (x : ExtractParts) → IsAcceptedWithin max asked x bytes → Unit {0})
-      whatever (Some bytes) = λ x accepted. tt
-      whatever None = tt
+      IfErr r IsDeviceOrMemory)) (sym is) (whatever start (λ bytes x. IsAcceptedWithin max asked x bytes))
 
   pub write-answers : IfErr result (IsOfNormalise max)
   write-answers = subst (λ (r : Result A Fault). IfErr r (IsOfNormalise max)) (sym is) tt
+
+-- a fault of `check` is one of `normalise`
+pub check-normalise : (max : ℕ) (f : Fault) → IsOfCheck max f → IsOfNormalise max f
+check-normalise max (fault.Refused line why) h = h
+check-normalise max (fault.Ambiguous clash) h = h
+check-normalise max fault.WindowsDiffer h = h
+check-normalise max fault.OutsideWindow h = h
+check-normalise max fault.WindowReversed h = h
+check-normalise max fault.Read h = h
+check-normalise max fault.Write h = absurd h
+check-normalise max fault.Memory h = h

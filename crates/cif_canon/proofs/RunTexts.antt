@@ -1,6 +1,6 @@
 -- What is written of a run is the text of its record.
 use Rattle.std.proofs.Common.{◌≡◌, ℕ, ◌<◌, ◌≤◌, List, Option, None, Some, map, length, get_or, refl, sym, ap, ◌∙◌, arith, subst}
-use Rattle.std.specs.Prelude.{slice_get}
+use Rattle.std.specs.Prelude.{All, slice_get}
 use Rattle.std.specs.Option.{option_and_then, option_map}
 use Rattle.std.proofs.lemmas.List.{length-map}
 use Rattle.std.proofs.lemmas.Option.{same_Some, slice_get_within}
@@ -27,6 +27,10 @@ record-within {X} {K} {B} entry xs run h = found (slice_get (map entry xs) run.s
         option_and_then (λ (e : K × Terms B). option_map (λ b. (e.0, record_of run b)) e.1.body) o ≡ Some h.it → run.source < length xs
     found None is e = absurd (cc)
     found (Some e) is f = omega (arith, slice_get_within (map entry xs) run.source e (sym is), length-map xs entry)
+
+pub sources-within : {X K B : Type 0} (entry : X → K × Terms B) (xs : List X) (runs : List Run) → All (HasRecord (map entry xs)) runs →
+    All (λ (run : Run). run.source < length xs) runs
+sources-within entry xs runs h n run below = record-within entry xs (get_or runs n run) (h n run below)
 
 -- the text of a run, by the value that stands at its source
 pub run-text : {X K B : Type 0} (entry : X → K × Terms B) (xs : List X) (run : Run) (x : X) (b : B)

@@ -1,5 +1,5 @@
 -- The records of runs with their sides, and their text.
-use Rattle.std.proofs.Common.{◌≡◌, ℕ, ◌≤◌, Bool, length, List, [], ◌∷◌, ◌++◌, Option, None, Some, refl, sym, ap, ◌∙◌}
+use Rattle.std.proofs.Common.{◌≡◌, ℕ, ◌<◌, ◌≤◌, Bool, get_or, length, map, List, [], ◌∷◌, ◌++◌, Option, None, Some, refl, sym, ap, ◌∙◌}
 use Rattle.std.specs.Prelude.{All, IsTrue, ◌↔◌}
 use Rattle.std.specs.List.{AllZip, flat_map}
 use Rattle.std.proofs.lemmas.List.Elements.{All-nil, All-cons, All-head, All-tail}
@@ -14,11 +14,11 @@ use Rattle.cif_weeks.specs.declared.run.Run.{Run}
 use Rattle.cif_canon.specs.Differences.{AreNone}
 use Rattle.cif_canon.specs.Steps.OnlySides.{IsSidedRunOf}
 use Rattle.cif_canon.specs.Steps.Sides.{HasSidedRecord, at_side, sided_records, sided_run_text, with_record}
-use Rattle.cif_canon.specs.Steps.Texts.{record_at, text_if}
+use Rattle.cif_canon.specs.Steps.Texts.{HasRecord, record_at, text_if}
 use Rattle.cif_canon.specs.declared.listed_differences.Side.{Side}
 use Rattle.cif_canon.specs.declared.listed_differences.Side.TheVariants.{Left, Right}
 use Rattle.cif_canon.specs.declared.listed_differences.Sided.{Sided}
-use Rattle.cif_canon.proofs.RunTexts.{record-of_entry}
+use Rattle.cif_canon.proofs.RunTexts.{record-of_entry, record-within}
 
 module _ {K B : Type 0} (xs ys : List (K × Terms B)) where
   -- the text of a list of runs is that of their records
@@ -85,6 +85,17 @@ module _ {K B : Type 0} (xs ys : List (K × Terms B)) where
       let there = All-head (HasSidedRecord xs ys) s runs all in
       absurd (let no : (record { side = s.side; it = there.it }) ∷ sided_records xs ys runs ≡ [] =
       sym (ap (λ o. with_record s.side o (sided_records xs ys runs)) there.is) ∙ h in cc)
+
+-- the source of a run with a record is a position of its side
+module _ {X K B : Type 0} (entry : X → K × Terms B) (xs ys : List X) where
+  side-within : (side : Side) (run : Run) → HasRecord (at_side (map entry xs) (map entry ys) side) run →
+      run.source < length (at_side xs ys side)
+  side-within Left run h = record-within entry xs run h
+  side-within Right run h = record-within entry ys run h
+
+  pub sided-within : (runs : List (Sided Run)) → All (HasSidedRecord (map entry xs) (map entry ys)) runs →
+      All (λ (run : Sided Run). run.it.source < length (at_side xs ys run.side)) runs
+  sided-within runs h n run below = let s = get_or runs n run in side-within s.side s.it (h n run below)
 
 -- no location and no run are no difference
 pub none-listed : (tiplocs : List (Sided Tiploc)) (xa ya : List (AssocKey × Terms AssocBody)) (ra : List (Sided Run)) →

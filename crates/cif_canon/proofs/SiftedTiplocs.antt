@@ -11,7 +11,7 @@ use Rattle.cif_records.specs.declared.tiploc.Tiploc.{Tiploc}
 use Rattle.cif_weeks.proofs.JoinedLists.{AllPairs-append}
 use Rattle.cif_weeks.proofs.RisingLists.{Contains-none}
 use Rattle.cif_canon.specs.Differences.{AreDifferentTiplocs, of_side}
-use Rattle.cif_canon.specs.Steps.OnlySides.{AreSifting, HasMoved, IsFirstOrder}
+use Rattle.cif_canon.specs.Steps.OnlySides.{AreSifting, HasMoved, HasMovedOf, IsFirstOrder}
 use Rattle.cif_canon.specs.Steps.Tiplocs.{AreDistinct}
 use Rattle.cif_canon.specs.declared.listed_differences.Side.TheVariants.{Left, Right}
 use Rattle.cif_canon.specs.declared.listed_differences.Sided.{Sided}
@@ -243,17 +243,27 @@ module _ (lefts rights : List Tiploc) where
           right_rising = pairs-tail Before y r a.right_rising;
         }
 
-    pub moved-left : (l r rest : List Tiploc) → IsFirstOrder l r (Some Less) → HasMoved Left l rest found next →
+    moved-left : (l r rest : List Tiploc) → IsFirstOrder l r (Some Less) → HasMoved Left l rest found next →
         AreSifting lefts rights l r found → AreSifting lefts rights rest r next
     moved-left l r rest first moved a =
         sifting-left moved.item rest r (subst (λ (z : List Tiploc). IsFirstOrder z r (Some Less)) moved.items_are first)
         (subst (λ (z : List Tiploc). AreSifting lefts rights z r found) moved.items_are a) moved.new_is
 
-    pub moved-right : (l r rest : List Tiploc) → IsFirstOrder l r (Some Greater) → HasMoved Right r rest found next →
+    moved-right : (l r rest : List Tiploc) → IsFirstOrder l r (Some Greater) → HasMoved Right r rest found next →
         AreSifting lefts rights l r found → AreSifting lefts rights l rest next
     moved-right l r rest first moved a =
         sifting-right moved.item l rest (subst (λ (z : List Tiploc). IsFirstOrder l z (Some Greater)) moved.items_are first)
         (subst (λ (z : List Tiploc). AreSifting lefts rights l z found) moved.items_are a) moved.new_is
+
+    pub left-moved : (l r l' r' : List Tiploc) → IsFirstOrder l r (Some Less) → HasMovedOf Left l r l' r' found next →
+        AreSifting lefts rights l r found → AreSifting lefts rights l' r' next
+    left-moved l r l' r' first (moved, same) a =
+        subst (λ (z : List Tiploc). AreSifting lefts rights l' z next) (sym same) (moved-left l r l' first moved a)
+
+    pub right-moved : (l r l' r' : List Tiploc) → IsFirstOrder l r (Some Greater) → HasMovedOf Right l r l' r' found next →
+        AreSifting lefts rights l r found → AreSifting lefts rights l' r' next
+    right-moved l r l' r' first (moved, same) a =
+        subst (λ (z : List Tiploc). AreSifting lefts rights z r' next) (sym same) (moved-right l r r' first moved a)
 
   -- both have it
   sifting-both : (x : Tiploc) (l r : List Tiploc) (found : List (Sided Tiploc)) → AreSifting lefts rights (x ∷ l) (x ∷ r) found →

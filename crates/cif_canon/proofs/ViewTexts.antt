@@ -1,5 +1,5 @@
 -- What is written for the views is their text.
-use Rattle.std.proofs.Common.{◌≡◌, ℕ, List, ◌++◌, map, Option, Result, Ok, Err, sym, ap, ◌∙◌, subst}
+use Rattle.std.proofs.Common.{◌≡◌, ℕ, List, ◌++◌, map, Result, Ok, Err, sym, ap, ◌∙◌, subst}
 use Rattle.std.specs.Cmp.Lexicographic.{nat_list_cmp_total, pointwise, slice_cmp}
 use Rattle.std.specs.List.{flat_map}
 use Rattle.std.specs.Ordering.{nat_cmp}
@@ -8,9 +8,6 @@ use Rattle.std.specs.declared.cmp.Ordering.{Ordering}
 use Rattle.cif_calendar.specs.Terms.{Terms}
 use Rattle.cif_weeks.proofs.PermanentEntries.{canonical-dated}
 use Rattle.cif_calendar.specs.Entries.{association_entries, schedule_entries}
-use Rattle.cif_columns.specs.Sink.{HasFailed, HasWritten}
-use Rattle.cif_columns.specs.declared.sink.Sink.{Sink}
-use Rattle.cif_columns.proofs.WrittenTexts.{failed_first, failed_second}
 use Rattle.cif_extract.specs.BodyParts.{BodyParts}
 use Rattle.cif_extract.specs.ExtractParts.{ExtractParts}
 use Rattle.cif_extract.specs.declared.fault.Fault.{Fault}
@@ -21,7 +18,7 @@ use Rattle.cif_weeks.specs.Window.{Window, IsWithin}
 use Rattle.cif_weeks.specs.declared.form.Form.{Form}
 use Rattle.cif_weeks.specs.declared.run.Run.{Run}
 use Rattle.cif_canon.specs.Asked.{header_window}
-use Rattle.cif_canon.specs.Normalised.{FaultWrites, IfWritten}
+use Rattle.cif_canon.specs.Normalised.{IfWritten}
 use Rattle.cif_canon.specs.Steps.Records.{AreCanonicalRecords}
 use Rattle.cif_canon.specs.Steps.Texts.{HasRecord, run_text}
 use Rattle.cif_canon.specs.Steps.Views.{applies_on, association_on, schedule_of, train_on}
@@ -51,19 +48,6 @@ have-lines cmp form window entry xs ys runs own same is a =
     subst (λ zs. All (HasRecord (map entry zs)) runs) (sym same)
     (subst (λ rs. All (HasRecord (map entry ys)) rs) (sym is)
     (have-records (map entry ys) own a.records a.runs_of (canonical-dated cmp form window a.records a.canonical)))
-
--- a prefix of a text went out
-pub fails : {W A : Type 0} (contents : W → Option (List ℕ)) (errors : W → Option ℕ) (text : List ℕ) (s t : Sink W)
-    (result : Result A Fault) → result ≡ Err Write → HasFailed contents errors text s t → FaultWrites contents errors text s t result
-fails contents errors text s t result failed h = subst (FaultWrites contents errors text s t) (sym failed) h
-
-module _ {W A : Type 0} (contents : W → Option (List ℕ)) (errors : W → Option ℕ) (a b : List ℕ) (s t u : Sink W) (result : Result A Fault)
-    (failed : result ≡ Err Write) where
-  pub fails-first : HasFailed contents errors a s t → FaultWrites contents errors (a ++ b) s t result
-  fails-first h = fails contents errors (a ++ b) s t result failed (failed_first contents errors a b s t h)
-
-  pub fails-second : HasWritten contents errors a s t → HasFailed contents errors b t u → FaultWrites contents errors (a ++ b) s u result
-  fails-second w h = fails contents errors (a ++ b) s u result failed (failed_second contents errors a b s t u w h)
 
 -- the lines of the associations' runs on a day, and of the trains'
 abbrev pub associations-text : Layout → ExtractParts → ℕ → List Run → List ℕ

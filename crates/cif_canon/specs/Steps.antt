@@ -10,3 +10,4 @@ pub mod Texts
 pub mod Tiplocs
 pub mod Turns
 pub mod Views
+pub mod Writing

@@ -1,17 +1,18 @@
 //! The lines of a train's calls.
-ghost use Rattle.std.specs.Prelude.{◌≡◌, ◌+◌, ◌≤◌, ◌++◌, ◌∷◌, false, length, map};
+ghost use Rattle.std.specs.Prelude.{◌≡◌, ◌+◌, ◌≤◌, ◌++◌, ◌∷◌, length, map};
 ghost use Rattle.std.specs.List.{flat_map};
 ghost use Rattle.arrayvec.specs.ArrayString.{array_string_len};
 ghost use Rattle.cif_columns.specs.Line.{ArePrintable};
-ghost use Rattle.cif_columns.specs.Sink.{Writes, sink_failed};
 ghost use Rattle.cif_canon.specs.Calls.{call_text, calls_text, origin_fields, stop_fields};
 ghost use Rattle.cif_canon.specs.Calls.{terminus_fields};
 ghost use Rattle.cif_canon.specs.Fields.{line_of};
 ghost use Rattle.cif_canon.specs.Steps.Fields.{AreFields, row_lines, width};
+ghost use Rattle.cif_canon.specs.Steps.Writing.{IsAppended};
 
 use crate::layout::{Format, LONGEST, Layout, push_fields, started};
+use crate::writing::append;
 use arrayvec::ArrayString;
-use cif_columns::{Sink, WriteDevice, WriteFault};
+use cif_columns::{Sink, WriteDevice};
 use cif_extract::{Body, Call, Calls};
 use cif_records::{Origin, Stop, Terminus};
 
@@ -105,32 +106,22 @@ fn terminus_line(format: Format, terminus: &Terminus) -> ArrayString<LONGEST>
 }
 
 /// Appends what stands before a call's line, and the line.
-fn write_both<W: WriteDevice>(
-    before: &str,
-    line: &ArrayString<LONGEST>,
-    sink: &mut Sink<W>,
-) -> Result<(), WriteFault>
-    ensures { Writes W.contents W.write_errors (before.now ++ line.now.bytes) sink.old sink.new result }
+fn write_both<W: WriteDevice>(before: &str, line: &ArrayString<LONGEST>, sink: &mut Sink<W>)
+    ensures { IsAppended W.contents W.write_errors (before.now ++ line.now.bytes) sink.old sink.new }
 {
-    sink.write_all(before.as_bytes())?;
-    sink.write_all(line.as_str().as_bytes())
+    append(before, sink);
+    append(line.as_str(), sink);
 }
 
 /// Appends the line of what is on the way; a change has none.
-fn write_call<W: WriteDevice>(
-    format: Format,
-    before: &str,
-    call: &Call,
-    sink: &mut Sink<W>,
-) -> Result<(), WriteFault>
-    requires { sink_failed sink.old ≡ false }
-    ensures { Writes W.contents W.write_errors
+fn write_call<W: WriteDevice>(format: Format, before: &str, call: &Call, sink: &mut Sink<W>)
+    ensures { IsAppended W.contents W.write_errors
         (call_text (λ fields. before.now ++ line_of format fields) call.now)
-        sink.old sink.new result }
+        sink.old sink.new }
 {
     match call {
         Call::At(stop) => write_both(before, &stop_line(format, stop), sink),
-        Call::Turn(_) => Ok(()),
+        Call::Turn(_) => {}
     }
 }
 
@@ -140,34 +131,26 @@ fn write_calls_between<W: WriteDevice>(
     before: &str,
     calls: Calls<'_>,
     sink: &mut Sink<W>,
-) -> Result<(), WriteFault>
-    requires { sink_failed sink.old ≡ false }
-    ensures { Writes W.contents W.write_errors
+)
+    ensures { IsAppended W.contents W.write_errors
         (flat_map (call_text (λ fields. before.now ++ line_of format fields)) calls.entry)
-        sink.old sink.new result }
+        sink.old sink.new }
 {
     let mut calls = calls;
     while let Some(call) = calls.next() {
-        write_call(format, before, &call, sink)?;
+        write_call(format, before, &call, sink);
     }
-    Ok(())
 }
 
 /// Appends the lines of the body's calls, each with what stands before it.
-fn write_calls<W: WriteDevice>(
-    format: Format,
-    before: &str,
-    body: &Body,
-    sink: &mut Sink<W>,
-) -> Result<(), WriteFault>
-    requires { sink_failed sink.old ≡ false }
-    ensures { Writes W.contents W.write_errors
+fn write_calls<W: WriteDevice>(format: Format, before: &str, body: &Body, sink: &mut Sink<W>)
+    ensures { IsAppended W.contents W.write_errors
         (calls_text (λ fields. before.now ++ line_of format fields) body.now)
-        sink.old sink.new result }
+        sink.old sink.new }
 {
-    write_both(before, &origin_line(format, &body.origin()), sink)?;
-    write_calls_between(format, before, body.calls(), sink)?;
-    write_both(before, &terminus_line(format, &body.terminus()), sink)
+    write_both(before, &origin_line(format, &body.origin()), sink);
+    write_calls_between(format, before, body.calls(), sink);
+    write_both(before, &terminus_line(format, &body.terminus()), sink);
 }
 
 /// Appends the lines of a train with this row, and those of its calls if they are listed.
@@ -176,27 +159,26 @@ pub(crate) fn write_train<W: WriteDevice>(
     row: ArrayString<LONGEST>,
     body: &Body,
     sink: &mut Sink<W>,
-) -> Result<(), WriteFault>
-    requires going { sink_failed sink.old ≡ false }
-    requires room { array_string_len row + 1 ≤ LONGEST }
-    ensures { Writes W.contents W.write_errors (row_lines layout row.bytes body.now)
-        sink.old sink.new result }
+)
+    requires { array_string_len row + 1 ≤ LONGEST }
+    ensures { IsAppended W.contents W.write_errors (row_lines layout row.bytes body.now)
+        sink.old sink.new }
 {
     let mut row = row;
     if layout.calls {
         match layout.format {
             Format::Text => {
                 row.push_str("\n");
-                sink.write_all(row.as_str().as_bytes())?;
-                write_calls(Format::Text, "", body, sink)
+                append(row.as_str(), sink);
+                write_calls(Format::Text, "", body, sink);
             }
             Format::Tsv => {
                 row.push_str("\t");
-                write_calls(Format::Tsv, row.as_str(), body, sink)
+                write_calls(Format::Tsv, row.as_str(), body, sink);
             }
         }
     } else {
         row.push_str("\n");
-        sink.write_all(row.as_str().as_bytes())
+        append(row.as_str(), sink);
     }
 }

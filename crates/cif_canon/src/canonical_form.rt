@@ -1,15 +1,17 @@
 //! The canonical form of an extract: its counts and its lines.
-ghost use Rattle.std.specs.Prelude.{◌≡◌, ◌≤◌, All, IfErr, IsTrue, false};
+ghost use Rattle.std.specs.Prelude.{◌≡◌, ◌<◌, ◌≤◌, All, IfErr, IsTrue, length};
 ghost use Rattle.std.specs.List.{flat_map};
 ghost use Rattle.cif_calendar.specs.Entries.{association_entries, schedule_entries};
 ghost use Rattle.cif_calendar.specs.Keys.{keyed};
-ghost use Rattle.cif_columns.specs.Sink.{Writes, sink_failed};
+ghost use Rattle.cif_columns.specs.Sink.{Writes};
 ghost use Rattle.cif_extract.specs.declared.fault.Fault.TheVariants.{Write};
 ghost use Rattle.cif_weeks.specs.Runs.{record_of};
 ghost use Rattle.cif_canon.specs.Counts.{counts_line};
 ghost use Rattle.cif_canon.specs.Steps.Texts.{HasRecord, tiploc_text, run_text};
+ghost use Rattle.cif_canon.specs.Steps.Writing.{IsAppended};
 
 use crate::records::AT_ONCE;
+use crate::writing::answer;
 use arrayvec::ArrayString;
 use cif_calendar::Entry;
 use cif_columns::{Sink, Uid, WriteDevice, WriteFault};
@@ -106,36 +108,34 @@ impl<'a> Canon<'a> {
         ensures writes { Writes W.contents W.write_errors self.now.text sink.old sink.new result }
         ensures fault { IfErr result (λ fault. fault ≡ Write) }
     {
+        // The sink keeps the failure of each part.
         let extract = self.extract;
-        write_head(&extract.header, sink)?;
-        write_tiplocs(self.tiplocs.as_slice(), sink)?;
+        let _ = write_head(&extract.header, sink);
+        write_tiplocs(self.tiplocs.as_slice(), sink);
         write_runs(
             &PlainLines,
             extract.associations.as_slice(),
             self.associations.as_slice(),
             sink,
-        )?;
+        );
         write_runs(
             &PlainLines,
             extract.schedules.as_slice(),
             self.schedules.as_slice(),
             sink,
-        )?;
-        write_trailer(sink)?;
-        Ok(())
+        );
+        let _ = write_trailer(sink);
+        answer(sink)
     }
 }
 
 /// Appends the lines of the locations.
-fn write_tiplocs<W: WriteDevice>(tiplocs: &[Tiploc], sink: &mut Sink<W>) -> Result<(), WriteFault>
-    requires { sink_failed sink.old ≡ false }
-    ensures { Writes W.contents W.write_errors (flat_map tiploc_text tiplocs.now)
-        sink.old sink.new result }
+fn write_tiplocs<W: WriteDevice>(tiplocs: &[Tiploc], sink: &mut Sink<W>)
+    ensures { IsAppended W.contents W.write_errors (flat_map tiploc_text tiplocs.now) sink.old sink.new }
 {
     for tiploc in tiplocs {
-        write_tiploc(tiploc, sink)?;
+        let _ = write_tiploc(tiploc, sink);
     }
-    Ok(())
 }
 
 /// The bytes of the longest line: three numbers of twenty digits each.
@@ -197,11 +197,10 @@ pub(crate) trait RecordLines<E: Entry> {
         body: &E::Body,
         run: &Run,
         sink: &mut Sink<W>,
-    ) -> Result<(), WriteFault>
-        requires going { sink_failed sink.old ≡ false }
-        requires in_order { run.now.first ≤ run.now.last }
-        ensures { Writes W.contents W.write_errors
-            (text self.now (key.now, record_of run.now body.now)) sink.old sink.new result };
+    )
+        requires { run.now.first ≤ run.now.last }
+        ensures { IsAppended W.contents W.write_errors
+            (text self.now (key.now, record_of run.now body.now)) sink.old sink.new };
 }
 
 /// Appends the lines of the runs' records.
@@ -210,28 +209,25 @@ pub(crate) fn write_runs<E: Entry, L: RecordLines<E>, W: WriteDevice>(
     entries: &[E],
     runs: &[Run],
     sink: &mut Sink<W>,
-) -> Result<(), WriteFault>
-    requires { All (HasRecord (keyed E.key E.terms entries.now)) runs.now }
-    ensures { Writes W.contents W.write_errors
+)
+    requires within { All (λ run. run.source < length entries.now) runs.now }
+    requires records { All (HasRecord (keyed E.key E.terms entries.now)) runs.now }
+    ensures { IsAppended W.contents W.write_errors
         (flat_map (run_text (L.text lines.now) (keyed E.key E.terms entries.now)) runs.now)
-        sink.old sink.new result }
+        sink.old sink.new }
 {
-    // If no line is written, no write tells that the sink has failed.
-    if sink.failed() {
-        return Err(WriteFault);
-    }
     for (at, run) in runs.iter().enumerate() {
         if at % AT_ONCE == 0 {
             look_ahead(lines, entries, &runs[at..runs.len().min(at + AT_ONCE)]);
         }
-        write_run(lines, entries, run, sink)?;
+        write_run(lines, entries, run, sink);
     }
-    Ok(())
 }
 
 /// Looks at the bodies that the runs' records have.
 fn look_ahead<E: Entry, L: RecordLines<E>>(lines: &L, entries: &[E], runs: &[Run])
-    requires { All (HasRecord (keyed E.key E.terms entries.now)) runs.now }
+    requires within { All (λ run. run.source < length entries.now) runs.now }
+    requires records { All (HasRecord (keyed E.key E.terms entries.now)) runs.now }
 {
     for run in runs {
         match entries[run.source].body() {
@@ -247,12 +243,12 @@ pub(crate) fn write_run<E: Entry, L: RecordLines<E>, W: WriteDevice>(
     entries: &[E],
     run: &Run,
     sink: &mut Sink<W>,
-) -> Result<(), WriteFault>
-    requires going { sink_failed sink.old ≡ false }
+)
+    requires within { run.now.source < length entries.now }
     requires record { HasRecord (keyed E.key E.terms entries.now) run.now }
-    ensures { Writes W.contents W.write_errors
+    ensures { IsAppended W.contents W.write_errors
         (run_text (L.text lines.now) (keyed E.key E.terms entries.now) run.now)
-        sink.old sink.new result }
+        sink.old sink.new }
 {
     let entry = &entries[run.source];
     match entry.body() {
@@ -276,8 +272,8 @@ impl RecordLines<Association> for PlainLines {
         body: &AssocBody,
         run: &Run,
         sink: &mut Sink<W>,
-    ) -> Result<(), WriteFault> {
-        write_association(key, body, run.first, run.last, run.days, sink)
+    ) {
+        let _ = write_association(key, body, run.first, run.last, run.days, sink);
     }
 }
 
@@ -290,13 +286,7 @@ impl RecordLines<Schedule> for PlainLines {
         body.is_at_hand()
     }
 
-    fn write_record<W: WriteDevice>(
-        &self,
-        uid: &Uid,
-        body: &Body,
-        run: &Run,
-        sink: &mut Sink<W>,
-    ) -> Result<(), WriteFault> {
-        write_schedule(uid, body, run.first, run.last, run.days, sink)
+    fn write_record<W: WriteDevice>(&self, uid: &Uid, body: &Body, run: &Run, sink: &mut Sink<W>) {
+        let _ = write_schedule(uid, body, run.first, run.last, run.days, sink);
     }
 }

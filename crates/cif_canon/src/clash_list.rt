@@ -3,9 +3,11 @@ ghost use Rattle.std.specs.Prelude.{◌≡◌, ◌↔◌, [], IfErr, IsTrue};
 ghost use Rattle.cif_columns.specs.Sink.{Writes};
 ghost use Rattle.cif_extract.specs.declared.fault.Fault.TheVariants.{Write};
 ghost use Rattle.cif_canon.specs.Clashes.{clash_line, clashes_text};
+ghost use Rattle.cif_canon.specs.Steps.Writing.{IsAppended};
 
+use crate::writing::{answer, append};
 use arrayvec::ArrayString;
-use cif_columns::{Sink, WriteDevice, WriteFault};
+use cif_columns::{Sink, WriteDevice};
 use cif_extract::{Clash, Fault};
 use std::marker::Model;
 
@@ -48,23 +50,18 @@ impl Clashes {
         ensures writes { Writes W.contents W.write_errors (clashes_text self.now) sink.old sink.new result }
         ensures fault { IfErr result (λ fault. fault ≡ Write) }
     {
-        write_clashes(self.found.as_slice(), sink)?;
-        Ok(())
+        write_clashes(self.found.as_slice(), sink);
+        answer(sink)
     }
 }
 
 /// Appends the lines of the clashes.
-fn write_clashes<W: WriteDevice>(clashes: &[Clash], sink: &mut Sink<W>) -> Result<(), WriteFault>
-    ensures { Writes W.contents W.write_errors (clashes_text clashes.now) sink.old sink.new result }
+fn write_clashes<W: WriteDevice>(clashes: &[Clash], sink: &mut Sink<W>)
+    ensures { IsAppended W.contents W.write_errors (clashes_text clashes.now) sink.old sink.new }
 {
-    // If there is no clash, no write tells that the sink has failed.
-    if sink.failed() {
-        return Err(WriteFault);
-    }
     for clash in clashes {
-        sink.write_all(line_of(clash).as_str().as_bytes())?;
+        append(line_of(clash).as_str(), sink);
     }
-    Ok(())
 }
 
 /// The line of a clash.

@@ -1,5 +1,5 @@
 //! How two extracts compare: the first difference, and the line that names it.
-ghost use Rattle.std.specs.Prelude.{◌≡◌, ◌↔◌, ◌≤◌, ◌<◌, IfErr, IfOk, OnOk, ℕ, All, IfNone, IfSome};
+ghost use Rattle.std.specs.Prelude.{◌≡◌, ◌↔◌, ◌≤◌, ◌<◌, IfErr, IfOk, OnOk, ℕ, All};
 ghost use Rattle.std.specs.Prelude.{IsTrue, length, map};
 ghost use Rattle.cif_calendar.specs.Calendar.{IsCalendar, body_on};
 ghost use Rattle.cif_calendar.specs.Clash.{IsClearFrom};
@@ -9,13 +9,12 @@ ghost use Rattle.cif_calendar.specs.Source.{IsChosen, body_at};
 ghost use Rattle.cif_columns.specs.Sink.{Writes};
 ghost use Rattle.cif_extract.specs.ExtractParts.{extract_parts};
 ghost use Rattle.cif_weeks.specs.Runs.{AreSources};
-ghost use Rattle.cif_canon.specs.Accepted.{IsClearExtract};
-ghost use Rattle.cif_canon.specs.Asked.{header_window};
 ghost use Rattle.cif_canon.specs.Comparison.{AreCompared, IsCompareFault, IsComparison};
 ghost use Rattle.cif_canon.specs.Comparison.{IsFirstDifference, comparison_line};
-ghost use Rattle.cif_canon.specs.Steps.Differences.{AreAlikeBy, FindsOther, HasBodies, IsBodied};
+ghost use Rattle.cif_canon.specs.Steps.Differences.{AreAlikeBy, AreComparable, FindsOther};
+ghost use Rattle.cif_canon.specs.Steps.Differences.{HasBodies, IsBodied, IsFirstOrNone};
 
-use crate::records::{check_clear, window_of};
+use crate::records::{extract_runs, window_of};
 use crate::tiplocs::first_different_tiploc;
 use crate::turns::{NamedEntry, first_key, positions_by_key};
 use arrayvec::ArrayString;
@@ -23,6 +22,7 @@ use cif_calendar::{Calendar, CalendarFault, Entry, Piece, Window, calendar_in_ro
 use cif_columns::{Day, Sink, Uid, WriteDevice, WriteFault, as_text};
 use cif_extract::{Clash, Extract, Fault};
 use cif_records::{AssocKey, Tiploc};
+use cif_weeks::Form;
 use std::alloc::{AllocError, Global};
 
 /// The bytes of the longest line: that of a location.
@@ -102,18 +102,17 @@ pub fn compare(alloc: Global, left: &Extract, right: &Extract) -> Result<Compari
 /// Whether two extracts can be compared: they have one window, and neither has a clash in it.
 /// Otherwise the fault is that of `compare`.
 pub(crate) fn check_comparable(alloc: Global, left: &Extract, right: &Extract) -> Result<(), Fault>
-    ensures window { OnOk result
-        (header_window left.now.header ≡ header_window right.now.header) }
-    ensures left { OnOk result (IsClearExtract (extract_parts left.now)) }
-    ensures right { OnOk result (IsClearExtract (extract_parts right.now)) }
+    ensures ok { OnOk result (AreComparable (extract_parts left.now) (extract_parts right.now)) }
     ensures fault { IfErr result
         (IsCompareFault (extract_parts left.now) (extract_parts right.now)) }
 {
     if left.header.first != right.header.first || left.header.last != right.header.last {
         return Err(Fault::WindowsDiffer);
     }
-    check_clear(alloc, left)?;
-    check_clear(alloc, right)
+    // A clash is found where the runs are made.
+    extract_runs(alloc, left, Form::Two)?;
+    extract_runs(alloc, right, Form::Two)?;
+    Ok(())
 }
 
 /// How two clear extracts with one window compare.
@@ -122,9 +121,7 @@ fn first_found<'x>(
     left: &'x Extract,
     right: &'x Extract,
 ) -> Result<Comparison, AllocError>
-    requires left { IsClearExtract (extract_parts left.now) }
-    requires right { IsClearExtract (extract_parts right.now) }
-    requires window { header_window left.now.header ≡ header_window right.now.header }
+    requires { AreComparable (extract_parts left.now) (extract_parts right.now) }
     ensures { IfOk result (IsComparison (extract_parts left.now) (extract_parts right.now)) }
 {
     if let Some(tiploc) = first_different_tiploc(
@@ -171,10 +168,10 @@ where
     E::Key: Drop,
     requires left { AreClear (keyed E.key E.terms left.now) window.now.first window.now.last }
     requires right { AreClear (keyed E.key E.terms right.now) window.now.first window.now.last }
-    ensures none { IfOk result (λ found. IfNone found (EntriesSayTheSame (keyed E.key E.terms left.now)
-        (keyed E.key E.terms right.now) window.now.first window.now.last)) }
-    ensures some { IfOk result (λ found. IfSome found (λ it. IsFirstDifference E.Key.cmp
-        (keyed E.key E.terms left.now) (keyed E.key E.terms right.now)
+    ensures { IfOk result (IsFirstOrNone
+        (EntriesSayTheSame (keyed E.key E.terms left.now) (keyed E.key E.terms right.now)
+        window.now.first window.now.last)
+        (λ it. IsFirstDifference E.Key.cmp (keyed E.key E.terms left.now) (keyed E.key E.terms right.now)
         window.now.first window.now.last (E.key it.0.now) it.1)) }
 {
     let left_positions = positions_by_key(alloc, left)?;

@@ -18,7 +18,7 @@ ghost use Rattle.cif_canon.specs.declared.listed_differences.Sided.{Sided};
 
 use crate::Differences;
 use crate::comparison::{check_comparable, clear_calendar, earlier, first_day, have_same_body};
-use crate::listed_differences::{Side, Sided, push_first};
+use crate::listed_differences::{Side, Sided, push_next};
 use crate::records::window_of;
 use crate::tiplocs::different_tiplocs;
 use crate::turns::{NamedEntry, first_key, positions_by_key};
@@ -87,32 +87,6 @@ fn first_side(left: &[Run], right: &[Run]) -> Option<Side>
             } else {
                 Some(Side::Right)
             }
-        }
-    }
-}
-
-/// Appends the run that comes first, which is of this side, and gives the others of both sides.
-fn push_next<'x>(
-    found: &mut Vec<Sided<Run>>,
-    side: Side,
-    lefts: &'x [Run],
-    rights: &'x [Run],
-) -> Result<(&'x [Run], &'x [Run]), AllocError>
-    requires { IsFirstSide lefts.now rights.now (Some side) }
-    ensures merging { IfOk result (λ rest. (left right : List Run) (old : List (Sided Run)) →
-        AreMerging left right lefts.now rights.now old found.old.items →
-        AreMerging left right rest.0.now rest.1.now old found.new.items) }
-    ensures smaller { IfOk result (λ rest. length rest.0.now + length rest.1.now
-        < length lefts.now + length rights.now) }
-{
-    match side {
-        Side::Left => {
-            let rest = push_first(found, Side::Left, lefts)?;
-            Ok((rest, rights))
-        }
-        Side::Right => {
-            let rest = push_first(found, Side::Right, rights)?;
-            Ok((lefts, rest))
         }
     }
 }

@@ -1,11 +1,10 @@
-//! The records of a train that apply on a day, with their marks.
+//! The records of a train that apply on a day, and their marks.
 ghost use Rattle.std.specs.Prelude.{◌≡◌, ◌↔◌, ◌+◌, ◌++◌, ◌∷◌, [], ℕ, List, IfOk, IsTrue};
 ghost use Rattle.std.specs.Prelude.{map};
 ghost use Rattle.cif_calendar.specs.Applies.{Applies};
 ghost use Rattle.cif_calendar.specs.Keys.{keyed};
-ghost use Rattle.cif_canon.specs.Explanation.{AreExplained};
 ghost use Rattle.cif_canon.specs.Steps.Explanation.{ArePlacedInOrder, IsMarkAmong};
-ghost use Rattle.cif_canon.specs.Steps.Explanation.{Placed, explained_of, opposed, placed_at};
+ghost use Rattle.cif_canon.specs.Steps.Explanation.{Placed, opposed, placed_at};
 ghost use Rattle.cif_canon.specs.Steps.Explanation.{placed_cmp, placed_of};
 
 use crate::layout::{Format, LONGEST};
@@ -54,19 +53,10 @@ pub(crate) trait ExplainedEntry: Entry {
 
 /// A record of the train that applies on the day.
 #[derive(Drop)]
-struct Applying<'a, E> {
-    entry: &'a E,
-    /// Its position among the entries.
-    place: usize,
-}
-
-/// A record of the train that applies on the day, with its mark.
-#[derive(Drop)]
-pub(crate) struct Marked<'a, E> {
+pub(crate) struct Applying<'a, E> {
     pub(crate) entry: &'a E,
     /// Its position among the entries.
-    pub(crate) place: usize,
-    pub(crate) mark: Mark,
+    place: usize,
 }
 
 /// Whether it is a record of the train that applies on the day.
@@ -97,7 +87,7 @@ fn order<E: Entry>(one: &Applying<'_, E>, other: &Applying<'_, E>) -> Ordering
 }
 
 /// The records of the train that apply on the day, by key, letter and place.
-fn records_on<'a, E: ExplainedEntry>(
+pub(crate) fn records_on<'a, E: ExplainedEntry>(
     alloc: Global,
     entries: &'a [E],
     uid: &Uid,
@@ -151,7 +141,7 @@ fn mark_beside<E: Entry>(mark: Mark, one: &E, other: &E) -> Mark
 }
 
 /// The mark of a record among those that apply.
-fn mark_of<E: Entry>(applying: &[Applying<'_, E>], one: &E) -> Mark
+pub(crate) fn mark_of<E: Entry>(applying: &[Applying<'_, E>], one: &E) -> Mark
     ensures { (place : ℕ) → IsMarkAmong (map (placed_of E.key E.terms) applying.now)
         (placed_at place (E.key one.now) (E.terms one.now)) result }
 {
@@ -160,28 +150,4 @@ fn mark_of<E: Entry>(applying: &[Applying<'_, E>], one: &E) -> Mark
         mark = mark_beside(mark, one, other.entry);
     }
     mark
-}
-
-/// The records of the train that apply on the day, in the order of their keys, letters and places,
-/// with their marks.
-pub(crate) fn marked_records<'a, E: ExplainedEntry>(
-    alloc: Global,
-    entries: &'a [E],
-    uid: &Uid,
-    day: Day,
-) -> Result<Vec<Marked<'a, E>>, AllocError>
-    ensures { IfOk result (λ marked. AreExplained E.Key.cmp E.train_of
-        (keyed E.key E.terms entries.now) uid.now day
-        (map (explained_of E.key E.terms) marked.items)) }
-{
-    let applying = records_on(alloc, entries, uid, day)?;
-    let mut marked = Vec::with_capacity(alloc, applying.len())?;
-    for one in applying.as_slice() {
-        marked.push(Marked {
-            entry: one.entry,
-            place: one.place,
-            mark: mark_of(applying.as_slice(), one.entry),
-        })?;
-    }
-    Ok(marked)
 }

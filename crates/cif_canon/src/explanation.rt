@@ -1,26 +1,25 @@
 //! Why a train runs on a day or doesn't: a line for each record, with its mark.
-ghost use Rattle.std.specs.Prelude.{◌≡◌, ◌+◌, ◌≤◌, ◌++◌, ℕ, List, IfErr};
-ghost use Rattle.std.specs.List.{flat_map};
+ghost use Rattle.std.specs.Prelude.{◌≡◌, ◌+◌, ◌≤◌, ◌++◌, ℕ, List, IfErr, map};
 ghost use Rattle.arrayvec.specs.ArrayString.{array_string_len};
-ghost use Rattle.cif_columns.specs.Sink.{Writes};
 ghost use Rattle.cif_extract.specs.ExtractParts.{extract_parts};
 ghost use Rattle.cif_canon.specs.Explanation.{IsExplanation, IsExplanationFault};
 ghost use Rattle.cif_canon.specs.Explanation.{mark_columns, said_of_association, said_of_train};
 ghost use Rattle.cif_canon.specs.Explanation.{terms_fields};
 ghost use Rattle.cif_canon.specs.Normalised.{FaultWrites, IfWritten};
-ghost use Rattle.cif_canon.specs.Steps.Explanation.{explained_of};
+ghost use Rattle.cif_canon.specs.Steps.Explanation.{AreMarkedOn, placed_of};
 ghost use Rattle.cif_canon.specs.Steps.Fields.{after};
 ghost use Rattle.cif_canon.specs.declared.layout.Format.TheVariants.{Text};
 
 use crate::asked::check_within;
-use crate::explained::{ExplainedEntry, Mark, Marked, marked_records};
+use crate::explained::{Applying, ExplainedEntry, Mark, mark_of, records_on};
 use crate::layout::{
     ASSOCIATION, Format, LONGEST, Layout, NO_ASSOCIATION, NO_TRAIN, heading, push_association,
     push_field, push_fields, push_left_out, push_train, started,
 };
+use crate::writing::{answer, append};
 use arrayvec::ArrayString;
 use cif_calendar::Entry;
-use cif_columns::{Day, Sink, Uid, WriteDevice, WriteFault};
+use cif_columns::{Day, Sink, Uid, WriteDevice};
 use cif_extract::{Extract, Fault, Schedule};
 use cif_records::Association;
 use std::alloc::Global;
@@ -63,10 +62,10 @@ pub fn explain_listing<W: WriteDevice>(
     ensures fault { IfErr result (IsExplanationFault (extract_parts extract.now) day) }
 {
     check_within(&extract.header, day)?;
-    let Ok(associations) = marked_records(alloc, extract.associations.as_slice(), uid, day) else {
+    let Ok(associations) = records_on(alloc, extract.associations.as_slice(), uid, day) else {
         return Err(Fault::Memory);
     };
-    let Ok(trains) = marked_records(alloc, extract.schedules.as_slice(), uid, day) else {
+    let Ok(trains) = records_on(alloc, extract.schedules.as_slice(), uid, day) else {
         return Err(Fault::Memory);
     };
     let layout = Layout {
@@ -78,30 +77,26 @@ pub fn explain_listing<W: WriteDevice>(
         "mark\tkind\tstp_indicator\tfirst_date\tlast_date\tdays_run\tuid",
         ASSOCIATION,
     );
-    sink.write_all(names.as_str().as_bytes())?;
-    write_marked(format, associations.as_slice(), sink)?;
-    write_marked(format, trains.as_slice(), sink)?;
-    Ok(())
+    append(names.as_str(), sink);
+    write_marked(format, associations.as_slice(), sink);
+    write_marked(format, trains.as_slice(), sink);
+    answer(sink)
 }
 
-/// Appends the lines of the records.
+/// Appends the lines of the records that apply, with their marks.
 fn write_marked<E: ExplainedEntry, W: WriteDevice>(
     format: Format,
-    marked: &[Marked<'_, E>],
+    applying: &[Applying<'_, E>],
     sink: &mut Sink<W>,
-) -> Result<(), WriteFault>
-    ensures { Writes W.contents W.write_errors
-        (flat_map (λ one. E.line format (explained_of E.key E.terms one)) marked.now)
-        sink.old sink.new result }
+)
+    ensures { AreMarkedOn W.contents W.write_errors (E.line format)
+        (map (placed_of E.key E.terms) applying.now) (map (placed_of E.key E.terms) applying.now)
+        sink.old sink.new }
 {
-    // If no record applies, no write tells that the sink has failed.
-    if sink.failed() {
-        return Err(WriteFault);
+    for one in applying {
+        let mark = mark_of(applying, one.entry);
+        append(one.entry.line(format, mark).as_str(), sink);
     }
-    for one in marked {
-        sink.write_all(one.entry.line(format, one.mark).as_str().as_bytes())?;
-    }
-    Ok(())
 }
 
 /// The six columns of a mark.

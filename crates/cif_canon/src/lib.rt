@@ -20,6 +20,7 @@ mod records;
 mod tiplocs;
 mod turns;
 mod views;
+mod writing;
 
 pub use all_clashes::clashes;
 pub use asked::{Asked, narrow};

@@ -1,17 +1,18 @@
 //! The differences of two extracts, and their lines, each behind the mark of its side.
 ghost use Rattle.std.specs.Prelude.{◌<◌, ◌≡◌, ◌∷◌, [], ◌↔◌, IfOk, All, IfErr, IsTrue, length};
-ghost use Rattle.std.specs.Prelude.{false};
 ghost use Rattle.std.specs.List.{flat_map};
 ghost use Rattle.cif_calendar.specs.Keys.{keyed};
-ghost use Rattle.cif_columns.specs.Sink.{Writes, sink_failed};
+ghost use Rattle.cif_columns.specs.Sink.{Writes};
 ghost use Rattle.cif_extract.specs.declared.fault.Fault.TheVariants.{Write};
 ghost use Rattle.cif_canon.specs.Differences.{mark, marked_text, marked_tiploc};
-ghost use Rattle.cif_canon.specs.Steps.OnlySides.{HasMoved};
-ghost use Rattle.cif_canon.specs.Steps.Sides.{HasSidedRecord, sided_run_text};
+ghost use Rattle.cif_canon.specs.Steps.OnlySides.{HasMovedOf};
+ghost use Rattle.cif_canon.specs.Steps.Sides.{HasSidedRecord, at_side, sided_run_text};
+ghost use Rattle.cif_canon.specs.Steps.Writing.{IsAppended};
 
 use crate::canonical_form::{RecordLines, write_run};
+use crate::writing::{answer, append};
 use cif_calendar::Entry;
-use cif_columns::{Line, LineSlice, Sink, Uid, WriteDevice, WriteFault};
+use cif_columns::{Line, LineSlice, Sink, Uid, WriteDevice};
 use cif_extract::{Body, Extract, Fault, Schedule};
 use cif_records::{AssocBody, AssocKey, Association, Basic, Tiploc};
 use cif_weeks::Run;
@@ -36,57 +37,59 @@ pub struct Sided<T> {
     pub it: T,
 }
 
-/// Appends the first of the items of a side, and gives the others.
-pub(crate) fn push_first<'x, T: Copy + Drop>(
+/// Appends the first item of this side, and gives the others of both sides.
+pub(crate) fn push_next<'x, T: Copy + Drop>(
     found: &mut Vec<Sided<T>>,
     side: Side,
-    items: &'x [T],
-) -> Result<&'x [T], AllocError>
-    requires { 0 < length items.now }
-    ensures { IfOk result (λ rest. HasMoved side items.now rest.now found.old.items found.new.items) }
+    lefts: &'x [T],
+    rights: &'x [T],
+) -> Result<(&'x [T], &'x [T]), AllocError>
+    requires { 0 < length (at_side lefts.now rights.now side) }
+    ensures { IfOk result (λ rest. HasMovedOf side lefts.now rights.now rest.0.now rest.1.now
+        found.old.items found.new.items) }
 {
-    found.push(Sided { side, it: items[0] })?;
-    Ok(&items[1..])
+    match side {
+        Side::Left => {
+            found.push(Sided { side, it: lefts[0] })?;
+            Ok((&lefts[1..], rights))
+        }
+        Side::Right => {
+            found.push(Sided {
+                side,
+                it: rights[0],
+            })?;
+            Ok((lefts, &rights[1..]))
+        }
+    }
 }
 
 /// What is before each line of a side.
-fn mark_of(side: Side) -> &'static [u8]
+fn mark_of(side: Side) -> &'static str
     ensures { result.now ≡ mark side }
 {
     match side {
-        Side::Left => b"< ",
-        Side::Right => b"> ",
+        Side::Left => "< ",
+        Side::Right => "> ",
     }
 }
 
 /// Appends the line behind the mark of its side, and a line feed.
-fn write_marked<W: WriteDevice>(
-    side: Side,
-    line: &Line,
-    sink: &mut Sink<W>,
-) -> Result<(), WriteFault>
-    ensures { Writes W.contents W.write_errors (marked_text side (line.now ∷ []))
-        sink.old sink.new result }
+fn write_marked<W: WriteDevice>(side: Side, line: &Line, sink: &mut Sink<W>)
+    ensures { IsAppended W.contents W.write_errors (marked_text side (line.now ∷ []))
+        sink.old sink.new }
 {
-    sink.write_all(mark_of(side))?;
-    sink.write_line(line)
+    append(mark_of(side), sink);
+    let _ = sink.write_line(line);
 }
 
 /// Appends the lines, as `write_marked` does.
-fn write_marked_lines<W: WriteDevice>(
-    side: Side,
-    lines: &LineSlice<'_>,
-    sink: &mut Sink<W>,
-) -> Result<(), WriteFault>
-    requires { sink_failed sink.old ≡ false }
-    ensures { Writes W.contents W.write_errors (marked_text side lines.now)
-        sink.old sink.new result }
+fn write_marked_lines<W: WriteDevice>(side: Side, lines: &LineSlice<'_>, sink: &mut Sink<W>)
+    ensures { IsAppended W.contents W.write_errors (marked_text side lines.now) sink.old sink.new }
 {
     let count = lines.len();
     for i in 0..count {
-        write_marked(side, &lines.line(i), sink)?;
+        write_marked(side, &lines.line(i), sink);
     }
-    Ok(())
 }
 
 /// The plain lines of records, behind the mark of a side.
@@ -106,9 +109,9 @@ impl RecordLines<Association> for MarkedLines {
         body: &AssocBody,
         run: &Run,
         sink: &mut Sink<W>,
-    ) -> Result<(), WriteFault> {
+    ) {
         let line = Association::permanent_line(key, body, run.first, run.last, run.days);
-        write_marked(self.side, &line, sink)
+        write_marked(self.side, &line, sink);
     }
 }
 
@@ -117,35 +120,21 @@ impl RecordLines<Schedule> for MarkedLines {
 
     ghost text = { λ lines e. marked_schedule (record { side = lines.side; it = e }) };
 
-    fn write_record<W: WriteDevice>(
-        &self,
-        uid: &Uid,
-        body: &Body,
-        run: &Run,
-        sink: &mut Sink<W>,
-    ) -> Result<(), WriteFault> {
+    fn write_record<W: WriteDevice>(&self, uid: &Uid, body: &Body, run: &Run, sink: &mut Sink<W>) {
         let basic = Basic::permanent_line(uid, &body.detail_line(), run.first, run.last, run.days);
-        write_marked(self.side, &basic, sink)?;
-        write_marked_lines(self.side, &body.further_lines(), sink)
+        write_marked(self.side, &basic, sink);
+        write_marked_lines(self.side, &body.further_lines(), sink);
     }
 }
 
 /// Appends the lines of the locations.
-pub(crate) fn write_marked_tiplocs<W: WriteDevice>(
-    tiplocs: &[Sided<Tiploc>],
-    sink: &mut Sink<W>,
-) -> Result<(), WriteFault>
-    ensures { Writes W.contents W.write_errors (flat_map marked_tiploc tiplocs.now)
-        sink.old sink.new result }
+pub(crate) fn write_marked_tiplocs<W: WriteDevice>(tiplocs: &[Sided<Tiploc>], sink: &mut Sink<W>)
+    ensures { IsAppended W.contents W.write_errors (flat_map marked_tiploc tiplocs.now)
+        sink.old sink.new }
 {
-    // If no line is written, no write tells that the sink has failed.
-    if sink.failed() {
-        return Err(WriteFault);
-    }
     for tiploc in tiplocs {
-        write_marked(tiploc.side, &tiploc.it.write(), sink)?;
+        write_marked(tiploc.side, &tiploc.it.write(), sink);
     }
-    Ok(())
 }
 
 /// Appends the lines of the run's record, which is of an entry of its side.
@@ -156,13 +145,13 @@ fn write_sided_run<E: Entry, L: RecordLines<E>, W: WriteDevice>(
     right: &[E],
     run: &Sided<Run>,
     sink: &mut Sink<W>,
-) -> Result<(), WriteFault>
-    requires going { sink_failed sink.old ≡ false }
+)
+    requires within { run.now.it.source < length (at_side left.now right.now run.now.side) }
     requires record { HasSidedRecord (keyed E.key E.terms left.now) (keyed E.key E.terms right.now) run.now }
-    ensures { Writes W.contents W.write_errors
+    ensures { IsAppended W.contents W.write_errors
         (sided_run_text (L.text left_lines.now) (keyed E.key E.terms left.now)
         (L.text right_lines.now) (keyed E.key E.terms right.now) run.now)
-        sink.old sink.new result }
+        sink.old sink.new }
 {
     match run.side {
         Side::Left => write_run(left_lines, left, &run.it, sink),
@@ -178,20 +167,17 @@ pub(crate) fn write_sided_runs<E: Entry, L: RecordLines<E>, W: WriteDevice>(
     right: &[E],
     runs: &[Sided<Run>],
     sink: &mut Sink<W>,
-) -> Result<(), WriteFault>
-    requires { All (HasSidedRecord (keyed E.key E.terms left.now) (keyed E.key E.terms right.now)) runs.now }
-    ensures { Writes W.contents W.write_errors
+)
+    requires within { All (λ run. run.it.source < length (at_side left.now right.now run.side)) runs.now }
+    requires records { All (HasSidedRecord (keyed E.key E.terms left.now) (keyed E.key E.terms right.now)) runs.now }
+    ensures { IsAppended W.contents W.write_errors
         (flat_map (sided_run_text (L.text left_lines.now) (keyed E.key E.terms left.now)
         (L.text right_lines.now) (keyed E.key E.terms right.now)) runs.now)
-        sink.old sink.new result }
+        sink.old sink.new }
 {
-    if sink.failed() {
-        return Err(WriteFault);
-    }
     for run in runs {
-        write_sided_run(left_lines, left, right_lines, right, run, sink)?;
+        write_sided_run(left_lines, left, right_lines, right, run, sink);
     }
-    Ok(())
 }
 
 /// What only one of two extracts says, as canonical records of each side. Their bodies are borrowed
@@ -290,7 +276,7 @@ impl<'a> Differences<'a> {
         let (left, right) = (self.left, self.right);
         let left_lines = MarkedLines { side: Side::Left };
         let right_lines = MarkedLines { side: Side::Right };
-        write_marked_tiplocs(self.tiplocs.as_slice(), sink)?;
+        write_marked_tiplocs(self.tiplocs.as_slice(), sink);
         write_sided_runs(
             &left_lines,
             left.associations.as_slice(),
@@ -298,7 +284,7 @@ impl<'a> Differences<'a> {
             right.associations.as_slice(),
             self.associations.as_slice(),
             sink,
-        )?;
+        );
         write_sided_runs(
             &left_lines,
             left.schedules.as_slice(),
@@ -306,8 +292,8 @@ impl<'a> Differences<'a> {
             right.schedules.as_slice(),
             self.schedules.as_slice(),
             sink,
-        )?;
-        Ok(())
+        );
+        answer(sink)
     }
 }
 

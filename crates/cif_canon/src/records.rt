@@ -1,25 +1,24 @@
 //! The canonical records of an extract, key by key.
-ghost use Rattle.std.specs.Prelude.{◌≡◌, ◌<◌, IfErr, IfOk, OnOk, All, length};
+ghost use Rattle.std.specs.Prelude.{◌≡◌, ◌<◌, IfErr, IfOk, All, length};
 ghost use Rattle.std.specs.Cmp.Lexicographic.{slice_cmp};
 ghost use Rattle.std.specs.Ordering.{nat_cmp};
 ghost use Rattle.cif_calendar.specs.Entries.{association_entries, schedule_entries};
 ghost use Rattle.cif_calendar.specs.Keys.{ArePositionsOf, keyed};
 ghost use Rattle.cif_extract.specs.ExtractParts.{extract_parts};
 ghost use Rattle.cif_records.specs.AssocKey.{key_cmp};
-ghost use Rattle.cif_canon.specs.Accepted.{IsClearExtract};
 ghost use Rattle.cif_canon.specs.Asked.{header_window};
 ghost use Rattle.cif_canon.specs.Fault.{IsCanonFault};
 ghost use Rattle.cif_canon.specs.Steps.Records.{AreCanonicalRecords, IsRecordsFault};
-ghost use Rattle.cif_canon.specs.Steps.Records.{AreRunsOfKey, IsKeyFault, records_fault};
+ghost use Rattle.cif_canon.specs.Steps.Records.{AreRunsOfKey, IsKeyFault, extract_fault};
 ghost use Rattle.cif_weeks.specs.Window.{window_from};
 ghost use Rattle.cif_weeks.specs.declared.form.Form.{Form as AForm};
 
 use crate::turns::{NamedEntry, count_of_first_key, positions_by_key};
 use cif_calendar::{CalendarFault, Entry, Piece, Window, calendar_in_room};
 use cif_columns::Day;
-use cif_extract::{Clash, Extract, Fault};
+use cif_extract::{Extract, Fault};
 use cif_weeks::{Form, Run, runs_in_room, runs_of_few};
-use std::alloc::{AllocError, Global};
+use std::alloc::Global;
 
 /// The runs of an extract's canonical records in a form, by kind, each rising by key and first date.
 #[derive(Drop)]
@@ -52,16 +51,6 @@ pub(crate) fn extract_runs(
     })
 }
 
-/// Checks that the extract is clear: that it has no clash in its window. Otherwise the fault is that
-/// of `extract_runs`, which finds a clash where it makes the runs.
-pub(crate) fn check_clear(alloc: Global, extract: &Extract) -> Result<(), Fault>
-    ensures ok { OnOk result (IsClearExtract (extract_parts extract.now)) }
-    ensures fault { IfErr result (IsCanonFault (extract_parts extract.now)) }
-{
-    extract_runs(alloc, extract, Form::Two)?;
-    Ok(())
-}
-
 /// The window of the extract.
 pub(crate) fn window_of(extract: &Extract) -> Window
     ensures first { result.first ≡ extract.now.header.first }
@@ -73,45 +62,13 @@ pub(crate) fn window_of(extract: &Extract) -> Window
     }
 }
 
-/// Why there are no canonical records.
-#[derive(Drop)]
-pub(crate) enum RecordsFault {
-    /// Two winners of a day have different bodies.
-    Clash(Clash),
-    /// Memory ran out.
-    Memory,
-}
-
-impl From<RecordsFault> for Fault {
-    ghost use Rattle.cif_canon.specs.Steps.Records.{extract_fault};
-
-    ghost from_gives = { λ why fault. fault ≡ extract_fault why };
-
-    fn from(fault: RecordsFault) -> Fault {
-        match fault {
-            RecordsFault::Clash(clash) => Fault::Ambiguous(clash),
-            RecordsFault::Memory => Fault::Memory,
-        }
-    }
-}
-
-impl From<AllocError> for RecordsFault {
-    ghost use Rattle.cif_canon.specs.declared.records.RecordsFault.TheVariants.{Memory};
-
-    ghost from_gives = { λ _ fault. fault ≡ Memory };
-
-    fn from(_error: AllocError) -> RecordsFault {
-        RecordsFault::Memory
-    }
-}
-
-/// A fault of the calendar of the entry's key, as one of the records.
-fn fault_of<E: NamedEntry>(fault: CalendarFault, entry: &E) -> RecordsFault
-    ensures { result ≡ records_fault (E.clash_of (E.key entry.now)) fault }
+/// A fault of the calendar of the entry's key, as one of the extract.
+fn fault_of<E: NamedEntry>(fault: CalendarFault, entry: &E) -> Fault
+    ensures { result ≡ extract_fault (E.clash_of (E.key entry.now)) fault }
 {
     match fault {
-        CalendarFault::Ambiguous(day) => RecordsFault::Clash(entry.clash_on(day)),
-        CalendarFault::Memory => RecordsFault::Memory,
+        CalendarFault::Ambiguous(day) => Fault::Ambiguous(entry.clash_on(day)),
+        CalendarFault::Memory => Fault::Memory,
     }
 }
 
@@ -131,7 +88,7 @@ fn runs_of_key<E: NamedEntry>(
     members: &[usize],
     window: &Window,
     form: Form,
-) -> Result<KeyRoom, RecordsFault>
+) -> Result<KeyRoom, Fault>
     requires within { All (λ i. i < length entries.now) members.now }
     requires some { 0 < length members.now }
     ensures runs { IfOk result (λ room. (k : E.Key) →
@@ -145,7 +102,9 @@ fn runs_of_key<E: NamedEntry>(
 {
     let KeyRoom { pieces, runs } = room;
     let mut runs = runs;
-    let are_made = runs_of_few(&mut runs, entries, members, window, form)?;
+    let Ok(are_made) = runs_of_few(&mut runs, entries, members, window, form) else {
+        return Err(Fault::Memory);
+    };
     if are_made {
         return Ok(KeyRoom { pieces, runs });
     }
@@ -153,7 +112,9 @@ fn runs_of_key<E: NamedEntry>(
         Ok(calendar) => calendar,
         Err(fault) => return Err(fault_of(fault, &entries[members[0]])),
     };
-    let runs = runs_in_room(runs, entries, &calendar, form)?;
+    let Ok(runs) = runs_in_room(runs, entries, &calendar, form) else {
+        return Err(Fault::Memory);
+    };
     Ok(KeyRoom {
         pieces: calendar.into_room(),
         runs,
@@ -181,14 +142,14 @@ fn look_ahead<E: Entry>(entries: &[E], positions: &[usize])
 /// say what its entries say of the window, rising by first date. The source of a run is the
 /// position of an entry with the record's key and body.
 ///
-/// `Clash` comes only where on some date two winners of a key have different bodies, and names the
-/// first such key and its first such date; `Memory` where memory ran out.
+/// Ambiguous comes only where on some date two winners of a key have different bodies, and names the
+/// first such key and its first such date; Memory where memory ran out.
 pub(crate) fn canonical_records<E: NamedEntry>(
     alloc: Global,
     entries: &[E],
     window: &Window,
     form: Form,
-) -> Result<Vec<Run>, RecordsFault>
+) -> Result<Vec<Run>, Fault>
 where
     E::Key: Drop,
     ensures records { IfOk result (λ runs.
@@ -197,7 +158,9 @@ where
     ensures fault { IfErr result (IsRecordsFault E.Key.cmp E.clash_of (keyed E.key E.terms entries.now)
         (window_from window.now.first window.now.last)) }
 {
-    let positions = positions_by_key(alloc, entries)?;
+    let Ok(positions) = positions_by_key(alloc, entries) else {
+        return Err(Fault::Memory);
+    };
     let mut all = Vec::new(alloc);
     let mut room = KeyRoom {
         pieces: Vec::new(alloc),
@@ -213,7 +176,9 @@ where
         let (members, later) = rest.split_at(count_of_first_key(entries, rest));
         looked_at = looked_at.saturating_sub(members.len());
         room = runs_of_key(room, entries, members, window, form)?;
-        all.extend_from_slice(room.runs.as_slice())?;
+        let Ok(()) = all.extend_from_slice(room.runs.as_slice()) else {
+            return Err(Fault::Memory);
+        };
         rest = later;
     }
     Ok(all)

@@ -1,12 +1,13 @@
 //! The locations of a canonical extract, and those that only one of two lists has.
-ghost use Rattle.std.specs.Prelude.{◌↔◌, ◌+◌, ◌<◌, Contains, IfNone, IfOk, IfSome, List, length};
+ghost use Rattle.std.specs.Prelude.{◌↔◌, ◌+◌, ◌<◌, Contains, IfOk, List, length};
 ghost use Rattle.cif_records.specs.declared.tiploc.Tiploc.{Tiploc};
 ghost use Rattle.cif_canon.specs.Comparison.{IsFirstTiploc};
 ghost use Rattle.cif_canon.specs.Differences.{AreDifferentTiplocs};
+ghost use Rattle.cif_canon.specs.Steps.Differences.{IsFirstOrNone};
 ghost use Rattle.cif_canon.specs.Steps.OnlySides.{AreSifting, IsFirstOrder};
 ghost use Rattle.cif_canon.specs.Steps.Tiplocs.{AreDistinct};
 
-use crate::listed_differences::{Side, Sided, push_first};
+use crate::listed_differences::{Side, Sided, push_next};
 use cif_records::Tiploc;
 use std::alloc::{AllocError, Global};
 use std::cmp::Ordering;
@@ -28,9 +29,8 @@ pub(crate) fn first_different_tiploc(
     left: &[Tiploc],
     right: &[Tiploc],
 ) -> Result<Option<Tiploc>, AllocError>
-    ensures none { IfOk result (λ found. IfNone found ((t : Tiploc)
-        → Contains left.now t ↔ Contains right.now t)) }
-    ensures some { IfOk result (λ found. IfSome found (IsFirstTiploc left.now right.now)) }
+    ensures { IfOk result (IsFirstOrNone ((t : Tiploc) → Contains left.now t ↔ Contains right.now t)
+        (IsFirstTiploc left.now right.now)) }
 {
     let found = different_tiplocs(alloc, left, right)?;
     match found.as_slice().first() {
@@ -53,7 +53,7 @@ fn first_order(left: &[Tiploc], right: &[Tiploc]) -> Option<Ordering>
 }
 
 /// Passes the first locations of both lists, or the lesser of the two, which is then found.
-fn push_next<'x>(
+fn pass_first<'x>(
     found: &mut Vec<Sided<Tiploc>>,
     order: Ordering,
     lefts: &'x [Tiploc],
@@ -67,14 +67,8 @@ fn push_next<'x>(
         < length lefts.now + length rights.now) }
 {
     match order {
-        Ordering::Less => {
-            let rest = push_first(found, Side::Left, lefts)?;
-            Ok((rest, rights))
-        }
-        Ordering::Greater => {
-            let rest = push_first(found, Side::Right, rights)?;
-            Ok((lefts, rest))
-        }
+        Ordering::Less => push_next(found, Side::Left, lefts, rights),
+        Ordering::Greater => push_next(found, Side::Right, lefts, rights),
         Ordering::Equal => Ok((&lefts[1..], &rights[1..])),
     }
 }
@@ -93,7 +87,7 @@ pub(crate) fn different_tiplocs(
     let mut rights = right.as_slice();
     let mut found = Vec::new(alloc);
     while let Some(order) = first_order(lefts, rights) {
-        let rest = push_next(&mut found, order, lefts, rights)?;
+        let rest = pass_first(&mut found, order, lefts, rights)?;
         lefts = rest.0;
         rights = rest.1;
     }

@@ -1,8 +1,9 @@
 //! The positions of entries in the order of their keys.
 ghost use Rattle.std.specs.Prelude.{◌≡◌, ◌<◌, All, length, map};
-ghost use Rattle.std.specs.Prelude.{IfNone, IfOk, IfSome, OnOk};
+ghost use Rattle.std.specs.Prelude.{IfOk, OnOk};
 ghost use Rattle.std.specs.List.Sorted.{IsPermutation};
 ghost use Rattle.cif_calendar.specs.Keys.{keyed};
+ghost use Rattle.cif_canon.specs.Steps.Differences.{IsFirstOrNone};
 ghost use Rattle.cif_canon.specs.Steps.Turns.{AreAllByKey, AreFrom, AreOfFirstKey};
 ghost use Rattle.cif_canon.specs.Steps.Turns.{AreRisingTurns, IsFirstKey, IsFirstOfBoth, IsFront, IsRising};
 
@@ -154,11 +155,10 @@ pub(crate) fn first_key<'a, 'p, E: Entry>(
     requires right { All (λ i. i < length right.now) right_positions.now }
     requires left_rising { IsRising E.Key.cmp (keyed E.key E.terms left.now) left_positions.now }
     requires right_rising { IsRising E.Key.cmp (keyed E.key E.terms right.now) right_positions.now }
-    ensures none { IfNone result
-        ((length left_positions.now ≡ 0) × (length right_positions.now ≡ 0)) }
-    ensures some { IfSome result (λ first. IsFirstKey E.Key.cmp (keyed E.key E.terms left.now)
-        left_positions.now (keyed E.key E.terms right.now) right_positions.now (E.key first.entry.now)
-        first.left.now first.left_later.now first.right.now first.right_later.now) }
+    ensures { IsFirstOrNone ((length left_positions.now ≡ 0) × (length right_positions.now ≡ 0))
+        (λ first. IsFirstKey E.Key.cmp (keyed E.key E.terms left.now) left_positions.now
+        (keyed E.key E.terms right.now) right_positions.now (E.key first.entry.now)
+        first.left.now first.left_later.now first.right.now first.right_later.now) result }
 {
     let Some(entry) = first_entry(left, left_positions, right, right_positions) else {
         return None;
@@ -188,10 +188,9 @@ fn first_entry<'a, E: Entry>(
     requires right { All (λ i. i < length right.now) right_positions.now }
     requires left_rising { IsRising E.Key.cmp (keyed E.key E.terms left.now) left_positions.now }
     requires right_rising { IsRising E.Key.cmp (keyed E.key E.terms right.now) right_positions.now }
-    ensures none { IfNone result
-        ((length left_positions.now ≡ 0) × (length right_positions.now ≡ 0)) }
-    ensures some { IfSome result (λ entry. IsFirstOfBoth E.Key.cmp (keyed E.key E.terms left.now)
-        left_positions.now (keyed E.key E.terms right.now) right_positions.now (E.key entry.now)) }
+    ensures { IsFirstOrNone ((length left_positions.now ≡ 0) × (length right_positions.now ≡ 0))
+        (λ entry. IsFirstOfBoth E.Key.cmp (keyed E.key E.terms left.now) left_positions.now
+        (keyed E.key E.terms right.now) right_positions.now (E.key entry.now)) result }
 {
     match (left_positions.first(), right_positions.first()) {
         (Some(i), Some(j)) => {

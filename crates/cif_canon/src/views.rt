@@ -14,7 +14,8 @@ use crate::layout::{
     ASSOCIATION, Format, Layout, association_line, heading, schedule_row, train_row,
 };
 use crate::records::extract_runs;
-use cif_columns::{Day, Sink, Uid, WriteDevice, WriteFault};
+use crate::writing::{answer, append};
+use cif_columns::{Day, Sink, Uid, WriteDevice};
 use cif_extract::{Body, Extract, Fault, Schedule};
 use cif_records::{AssocBody, AssocKey, Association};
 use cif_weeks::{Form, Run};
@@ -60,21 +61,21 @@ pub fn day_listing<W: WriteDevice>(
     check_within(&extract.header, day)?;
     let runs = extract_runs(alloc, extract, Form::Two)?;
     let names = heading(layout, "kind\tuid", ASSOCIATION);
-    sink.write_all(names.as_str().as_bytes())?;
+    append(names.as_str(), sink);
     let lines = LinesOfDay { day, layout };
     write_runs(
         &lines,
         extract.associations.as_slice(),
         runs.associations.as_slice(),
         sink,
-    )?;
+    );
     write_runs(
         &lines,
         extract.schedules.as_slice(),
         runs.schedules.as_slice(),
         sink,
-    )?;
-    Ok(())
+    );
+    answer(sink)
 }
 
 /// Whether the run applies on the day.
@@ -102,11 +103,9 @@ impl RecordLines<Association> for LinesOfDay {
         body: &AssocBody,
         run: &Run,
         sink: &mut Sink<W>,
-    ) -> Result<(), WriteFault> {
+    ) {
         if applies_on(run, self.day) {
-            sink.write_all(association_line(self.layout, key, body).as_str().as_bytes())
-        } else {
-            Ok(())
+            append(association_line(self.layout, key, body).as_str(), sink);
         }
     }
 }
@@ -116,22 +115,14 @@ impl RecordLines<Schedule> for LinesOfDay {
 
     ghost text = { λ lines. train_on lines.layout lines.day };
 
-    fn write_record<W: WriteDevice>(
-        &self,
-        uid: &Uid,
-        body: &Body,
-        run: &Run,
-        sink: &mut Sink<W>,
-    ) -> Result<(), WriteFault> {
+    fn write_record<W: WriteDevice>(&self, uid: &Uid, body: &Body, run: &Run, sink: &mut Sink<W>) {
         if applies_on(run, self.day) {
             write_train(
                 self.layout,
                 train_row(self.layout.format, uid, body),
                 body,
                 sink,
-            )
-        } else {
-            Ok(())
+            );
         }
     }
 }
@@ -178,14 +169,14 @@ pub fn train_listing<W: WriteDevice>(
 {
     let runs = extract_runs(alloc, extract, form)?;
     let names = heading(layout, "first_date\tlast_date\tdays_run", "");
-    sink.write_all(names.as_str().as_bytes())?;
+    append(names.as_str(), sink);
     write_runs(
         &LinesOfTrain { uid: *uid, layout },
         extract.schedules.as_slice(),
         runs.schedules.as_slice(),
         sink,
-    )?;
-    Ok(())
+    );
+    answer(sink)
 }
 
 /// The lines of one train's records.
@@ -200,22 +191,14 @@ impl RecordLines<Schedule> for LinesOfTrain {
 
     ghost text = { λ lines. schedule_of lines.layout lines.uid };
 
-    fn write_record<W: WriteDevice>(
-        &self,
-        uid: &Uid,
-        body: &Body,
-        run: &Run,
-        sink: &mut Sink<W>,
-    ) -> Result<(), WriteFault> {
+    fn write_record<W: WriteDevice>(&self, uid: &Uid, body: &Body, run: &Run, sink: &mut Sink<W>) {
         if *uid == self.uid {
             write_train(
                 self.layout,
                 schedule_row(self.layout.format, run, body),
                 body,
                 sink,
-            )
-        } else {
-            Ok(())
+            );
         }
     }
 }

@@ -1,9 +1,12 @@
--- The first day on which two calendars differ. No public clause cites it.
+-- Extracts that are compared, and the first day on which two calendars differ. No public clause cites it.
 use Rattle.std.specs.Prelude.{◌≡◌, ℕ, ◌≤◌, ◌<◌, List, Option, Some, None, IsSome}
 use Rattle.cif_calendar.specs.Pieces.{winner_of}
 use Rattle.cif_calendar.specs.Source.{body_at}
 use Rattle.cif_calendar.specs.Terms.{Terms}
 use Rattle.cif_calendar.specs.declared.key_calendar.Piece.{Piece}
+use Rattle.cif_extract.specs.ExtractParts.{ExtractParts}
+use Rattle.cif_canon.specs.Accepted.{IsClearExtract}
+use Rattle.cif_canon.specs.Asked.{header_window}
 
 -- it holds of the days from `first` to `last` before this one, and not of this one
 pub record IsFirstOther (alike : ℕ → Type 0) (first last day : ℕ) : Type 0 where
@@ -28,3 +31,14 @@ AreAlikeBy xs p ys q d = body_at xs (winner_of p d) ≡ body_at ys (winner_of q 
 -- on each day from `first` to `last` the piece's winner is one with a body
 pub record HasBodies {B : Type 0} (xs : List (Terms B)) (p : Piece) (first last : ℕ) : Type 0 where
   pub bodied : (d : ℕ) → first ≤ d → d ≤ last → IsBodied xs (winner_of p d)
+
+-- it is the first, or there is none
+abbrev pub IsFirstOrNone : {A : Type 0} → Type 0 → (A → Type 0) → Option A → Type 0
+IsFirstOrNone none is_first None = none
+IsFirstOrNone none is_first (Some first) = is_first first
+
+-- two extracts that can be compared: they have one window, and neither has a clash in it
+pub record AreComparable (x y : ExtractParts) : Type 0 where
+  pub window : header_window x.header ≡ header_window y.header
+  pub left : IsClearExtract x
+  pub right : IsClearExtract y

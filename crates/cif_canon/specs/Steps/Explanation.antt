@@ -1,14 +1,16 @@
 -- The records of a train that apply on a day, and how they are marked one by one. No public clause cites it.
-use Rattle.std.specs.Prelude.{◌≡◌, ◌≢◌, ℕ, ◌<◌, ◌≤◌, List, Some, All, AllPairs, Contains, slice_get}
+use Rattle.std.specs.Prelude.{◌≡◌, ◌≢◌, ℕ, ◌<◌, ◌≤◌, List, Option, Some, All, AllPairs, Contains, map, slice_get}
+use Rattle.std.specs.List.{flat_map}
 use Rattle.std.specs.Ordering.{nat_cmp, ordering_then}
 use Rattle.std.specs.declared.cmp.Ordering.{Ordering}
 use Rattle.std.specs.declared.cmp.Ordering.TheVariants.{Less}
 use Rattle.cif_calendar.specs.Applies.{Applies}
 use Rattle.cif_calendar.specs.Terms.{Terms}
 use Rattle.cif_columns.specs.Stp.{letter}
+use Rattle.cif_columns.specs.declared.sink.Sink.{Sink}
 use Rattle.cif_canon.specs.Explanation.{Explained}
+use Rattle.cif_canon.specs.Steps.Writing.{IsAppended}
 use Rattle.cif_canon.specs.declared.explained.Applying.{Applying}
-use Rattle.cif_canon.specs.declared.explained.Marked.{Marked}
 use Rattle.cif_canon.specs.declared.explained.Mark.{Mark}
 use Rattle.cif_canon.specs.declared.explained.Mark.TheVariants as mark
 
@@ -25,9 +27,13 @@ placed_at place key terms = record { place = place; key = key; terms = terms }
 abbrev pub placed_of : {E K B : Type 0} → (E → K) → (E → Terms B) → Applying E → Placed K B
 placed_of key terms a = placed_at a.place (key a.entry.now) (terms a.entry.now)
 
-abbrev pub explained_of : {E K B : Type 0} → (E → K) → (E → Terms B) → Marked E → Explained K B
-explained_of key terms m =
-    record { place = m.place; key = key m.entry.now; terms = terms m.entry.now; mark = m.mark }
+-- a record without its mark
+abbrev pub unmarked : {K B : Type 0} → Explained K B → Placed K B
+unmarked e = placed_at e.place e.key e.terms
+
+-- a record with this mark
+abbrev pub marked_as : {K B : Type 0} → Placed K B → Mark → Explained K B
+marked_as p mark = record { place = p.place; key = p.key; terms = p.terms; mark = mark }
 
 -- the order of explained records, which doesn't look at marks
 abbrev pub placed_cmp : {K B : Type 0} → (K → K → Ordering) → Placed K B → Placed K B → Ordering
@@ -89,3 +95,13 @@ abbrev pub opposed : Mark → Mark
 opposed mark.Wins = mark.Clash
 opposed mark.Clash = mark.Clash
 opposed mark.Hidden = mark.Hidden
+
+-- these are some of the records, each with its mark among all of them
+abbrev pub AreMarked : {K B : Type 0} → List (Placed K B) → List (Placed K B) → List (Explained K B) → Type 0
+AreMarked all some marked = (map unmarked marked ≡ some) × All (λ e. IsMarkAmong all (unmarked e) e.mark) marked
+
+-- and their lines have been appended
+abbrev pub AreMarkedOn : {W K B : Type 0} → (W → Option (List ℕ)) → (W → Option ℕ) → (Explained K B → List ℕ)
+    → List (Placed K B) → List (Placed K B) → Sink W → Sink W → Type 0
+AreMarkedOn {K = K} {B = B} contents errors line all some old new =
+    (marked : List (Explained K B)) × AreMarked all some marked × IsAppended contents errors (flat_map line marked) old new

@@ -126,6 +126,11 @@ pub record HasMoved {T : Type 0} (side : Side) (items rest : List T) (old new : 
   pub items_are : items ≡ item ∷ rest
   pub new_is : new ≡ old ++ (record { side = side; it = item } ∷ [])
 
+-- the first item of a side has moved, and those of the other side are left
+abbrev pub HasMovedOf : {T : Type 0} → Side → List T → List T → List T → List T → List (Sided T) → List (Sided T) → Type 0
+HasMovedOf Left lefts rights l r old new = HasMoved Left lefts l old new × (r ≡ rights)
+HasMovedOf Right lefts rights l r old new = HasMoved Right rights r old new × (l ≡ lefts)
+
 -- what a key's two calendars say by themselves is behind the runs that were found
 pub record AreKeyDifferences {B : Type 0} (xs : List (Terms B)) (c : CalendarParts) (ys : List (Terms B)) (e : CalendarParts)
     (old new : List (Sided Run)) : Type 0 where

@@ -20,8 +20,6 @@ use Rattle.cif_weeks.specs.WhatRuns.{HasBody}
 use Rattle.cif_weeks.specs.Window.{Window, IsWithin}
 use Rattle.cif_weeks.specs.declared.form.Form.{Form}
 use Rattle.cif_weeks.specs.declared.run.Run.{Run}
-use Rattle.cif_canon.specs.declared.records.RecordsFault.{RecordsFault}
-use Rattle.cif_canon.specs.declared.records.RecordsFault.TheVariants as why
 
 -- The run has the dates and the mask of the record of e, and its source is the position of an entry with e's key and the record's
 -- body.
@@ -54,21 +52,17 @@ pub record AreRunsOfKey {K B : Type 0} (form : Form) (window : Window) (entries 
   pub have_form : HaveForm form window (Contains records)
   pub said : AreSaid window entries k (Contains records)
 
--- a fault of the calendar of a key as one of the records, by the name of the key's clash on a day
-abbrev pub records_fault : (ℕ → Clash) → CalendarFault → RecordsFault
-records_fault name (calendar.Ambiguous day) = why.Clash (name day)
-records_fault name calendar.Memory = why.Memory
-
--- a fault of the records as one of the extract
-abbrev pub extract_fault : RecordsFault → Fault
-extract_fault (why.Clash clash) = fault.Ambiguous clash
-extract_fault why.Memory = fault.Memory
+-- a fault of the calendar of a key as one of the extract, by the name of the key's clash on a day
+abbrev pub extract_fault : (ℕ → Clash) → CalendarFault → Fault
+extract_fault name (calendar.Ambiguous day) = fault.Ambiguous (name day)
+extract_fault name calendar.Memory = fault.Memory
 
 -- what a fault says of key k
-abbrev pub IsKeyFault : {K B : Type 0} → (K → ℕ → Clash) → Window → List (K × Terms B) → K → RecordsFault → Type 0
-IsKeyFault name window entries k (why.Clash clash) =
+abbrev pub IsKeyFault : {K B : Type 0} → (K → ℕ → Clash) → Window → List (K × Terms B) → K → Fault → Type 0
+IsKeyFault name window entries k (fault.Ambiguous clash) =
     (day : ℕ) × (clash ≡ name k day) × IsFirstClash (of_key entries k) window.first window.last day
-IsKeyFault name window entries k why.Memory = ⊤
+IsKeyFault name window entries k fault.Memory = ⊤
+IsKeyFault name window entries k _ = ⊥
 
 -- the clash is the first one of the entries, by the name of its key and its day
 pub record IsFirstNamed {K B : Type 0} (cmp : K → K → Ordering) (name : K → ℕ → Clash) (entries : List (K × Terms B)) (window : Window)
@@ -79,6 +73,7 @@ pub record IsFirstNamed {K B : Type 0} (cmp : K → K → Ordering) (name : K �
   pub first : IsFirstClashOf cmp entries window.first window.last key day
 
 -- what a fault says of the entries
-abbrev pub IsRecordsFault : {K B : Type 0} → (K → K → Ordering) → (K → ℕ → Clash) → List (K × Terms B) → Window → RecordsFault → Type 0
-IsRecordsFault cmp name entries window (why.Clash clash) = IsFirstNamed cmp name entries window clash
-IsRecordsFault cmp name entries window why.Memory = ⊤
+abbrev pub IsRecordsFault : {K B : Type 0} → (K → K → Ordering) → (K → ℕ → Clash) → List (K × Terms B) → Window → Fault → Type 0
+IsRecordsFault cmp name entries window (fault.Ambiguous clash) = IsFirstNamed cmp name entries window clash
+IsRecordsFault cmp name entries window fault.Memory = ⊤
+IsRecordsFault cmp name entries window _ = ⊥

@@ -1,10 +1,11 @@
 -- Each run has a record, and so the entry at its source has a body (`has-body`).
-use Rattle.std.proofs.Common.{◌∙◌, ap, subst, sym}
+use Rattle.std.proofs.Common.{◌<◌, ◌∙◌, ap, length, subst, sym}
 use Rattle.std.specs.Option.{option_copied}
 use Rattle.std.proofs.lemmas.Bool.{false≢true}
 use Rattle.cif_calendar.specs.Keys.{keyed}
+use Rattle.cif_weeks.specs.declared.run.Run.{Run}
 use Rattle.cif_canon.specs.Steps.Texts.{HasRecord}
-use Rattle.cif_canon.proofs.RunTexts.{has-body, record-within}
+use Rattle.cif_canon.proofs.RunTexts.{has-body}
 use Rattle.cif_canon.proofs.canonical_form.look_ahead.Given.{Over}
 use Rattle.cif_canon.proofs.canonical_form.look_ahead.Goals as goal
 use Rattle.cif_canon.proofs.canonical_form.look_ahead.Goals.{After-run-item}
@@ -12,11 +13,12 @@ use Rattle.cif_canon.proofs.canonical_form.look_ahead.Goals.{in_default-via-in-S
 
 has : (g : Over) (c : After-run-item g) → HasRecord (keyed g.E.Entry.key g.E.Entry.terms c.args.entries.now) c.run-item.result
 has g c = subst (HasRecord (keyed g.E.Entry.key g.E.Entry.terms c.args.entries.now)) (sym c.run-item.is)
-    (c.requires c.loop-run.run-index c.run-item.result c.loop-run-test.true)
+    (c.requires.records c.loop-run.run-index c.run-item.result c.loop-run-test.true)
 
 pub bounds-entries-run : goal.bounds-entries-run
 bounds-entries-run g c =
-    record-within (λ e. (g.E.Entry.key e, g.E.Entry.terms e)) c.args.entries.now c.run-item.result (has g c)
+    subst (λ (run : Run). run.source < length c.args.entries.now) (sym c.run-item.is)
+    (c.requires.within c.loop-run.run-index c.run-item.result c.loop-run-test.true)
 
 pub unreachable-requires : goal.unreachable-requires
 unreachable-requires g c =

@@ -2,12 +2,12 @@
 use Rattle.std.proofs.Common.{take}
 use Rattle.std.specs.List.{flat_map}
 use Rattle.cif_calendar.specs.Keys.{keyed}
-use Rattle.cif_columns.specs.Sink.{HasWritten}
 use Rattle.cif_canon.specs.Steps.Texts.{run_text}
+use Rattle.cif_canon.specs.Steps.Writing.{IsAppended}
 use Rattle.cif_canon.proofs.canonical_form.write_runs.Given as goal
 
 abbrev pub invariant-loop-at : goal.invariant-loop-at
 invariant-loop-at g l =
-    HasWritten g.W.Write.contents g.W.WriteDevice.write_errors
+    IsAppended g.W.Write.contents g.W.WriteDevice.write_errors
     (flat_map (run_text (g.L.RecordLines.text l.lines) (keyed g.E.Entry.key g.E.Entry.terms l.entries)) (take l.at l.runs))
     l.initial.sink l.sink

@@ -30,14 +30,17 @@ loop-first-init g c =
       alike = alike-nothing cmp g.met.E.Key.Ord.total same xs ys c.args.window.now.first c.args.window.now.last _ _ left right;
     }
 
-pub first_key-requires : goal.first_key-requires
-first_key-requires g c =
-    let before = c.loop-first.invariant in record {
-      left = before.left_within;
-      right = before.right_within;
-      left_rising = before.alike.left_rising;
-      right_rising = before.alike.right_rising;
-    }
+pub first_key-requires-clause-left : goal.first_key-requires-clause-left
+first_key-requires-clause-left g c = c.loop-first.invariant.left_within
+
+pub first_key-requires-clause-right : goal.first_key-requires-clause-right
+first_key-requires-clause-right g c = c.loop-first.invariant.right_within
+
+pub first_key-requires-clause-left_rising : goal.first_key-requires-clause-left_rising
+first_key-requires-clause-left_rising g c = c.loop-first.invariant.alike.left_rising
+
+pub first_key-requires-clause-right_rising : goal.first_key-requires-clause-right_rising
+first_key-requires-clause-right_rising g c = c.loop-first.invariant.alike.right_rising
 
 -- the fronts of both rests, as they were split off
 fronts : (g : Over) (c : In-Some g) →
@@ -51,7 +54,7 @@ fronts g c =
     let ys = keyed g.E.Entry.key g.E.Entry.terms c.args.right.now in
     let l = c.loop-first.left_rest.now in
     let r = c.loop-first.right_rest.now in
-    let s = c.in-Some.ensures.some in
+    let s = c.in-Some.ensures in
     rw (s.left_split.front_is, s.left_split.later_is, s.right_split.front_is, s.right_split.later_is)
     (are-fronts cmp g.met.E.Key.Ord.total
     (same_key-cmp g.E.Key.PartialEq.eq cmp g.met.E.Key.Ord.matches_eq g.met.E.Entry.same_key) xs ys c.args.window.now.first
@@ -60,12 +63,12 @@ fronts g c =
 
 pub clear_calendar-requires-clause-within : goal.clear_calendar-requires-clause-within
 clear_calendar-requires-clause-within g c =
-    subst (λ (is : List ℕ). All (λ i. i < length c.args.left.now) is) (sym c.in-Some.ensures.some.left_split.front_is)
+    subst (λ (is : List ℕ). All (λ i. i < length c.args.left.now) is) (sym c.in-Some.ensures.left_split.front_is)
     (All-take (λ i. i < length c.args.left.now) _ _ c.loop-first.invariant.left_within)
 
 pub clear_calendar-requires-in-Some-clause-within : goal.clear_calendar-requires-in-Some-clause-within
 clear_calendar-requires-in-Some-clause-within g c =
-    subst (λ (is : List ℕ). All (λ i. i < length c.args.right.now) is) (sym c.in-Some.ensures.some.right_split.front_is)
+    subst (λ (is : List ℕ). All (λ i. i < length c.args.right.now) is) (sym c.in-Some.ensures.right_split.front_is)
     (All-take (λ i. i < length c.args.right.now) _ _ c.loop-first.invariant.right_within)
 
 pub clear_calendar-requires-clause-clear : goal.clear_calendar-requires-clause-clear
@@ -82,17 +85,21 @@ clear_calendar-requires-in-Some-clause-clear g c =
     clear-positions g.E.Entry.key g.E.Entry.terms c.args.right.now k c.in-Some.first.right.now (fronts g here).right
     c.args.window.now.first c.args.window.now.last (c.requires.right.key k)
 
-pub first_day-requires : goal.first_day-requires
-first_day-requires g c = record {
-  first = c.in_ok-other.ensures.first_is ∙ sym c.in_ok-one.ensures.first_is;
-  last = c.in_ok-other.ensures.last_is ∙ sym c.in_ok-one.ensures.last_is;
-  left = calendar_sources _ _ _ _ _ c.in_ok-one.ensures;
-  right = calendar_sources _ _ _ _ _ c.in_ok-other.ensures;
-}
+pub first_day-requires-clause-first : goal.first_day-requires-clause-first
+first_day-requires-clause-first g c = c.in_ok-other.ensures.first_is ∙ sym c.in_ok-one.ensures.first_is
 
-pub returns-in-Some-first_day-clause-some : goal.returns-in-Some-first_day-clause-some
-returns-in-Some-first_day-clause-some g c =
-    let both = fronts g (goal.at.returns-in-Some-first_day-clause-some g c).In-Some in
+pub first_day-requires-clause-last : goal.first_day-requires-clause-last
+first_day-requires-clause-last g c = c.in_ok-other.ensures.last_is ∙ sym c.in_ok-one.ensures.last_is
+
+pub first_day-requires-clause-left : goal.first_day-requires-clause-left
+first_day-requires-clause-left g c = calendar_sources _ _ _ _ _ c.in_ok-one.ensures
+
+pub first_day-requires-clause-right : goal.first_day-requires-clause-right
+first_day-requires-clause-right g c = calendar_sources _ _ _ _ _ c.in_ok-other.ensures
+
+pub returns-in-Some-first_day : goal.returns-in-Some-first_day
+returns-in-Some-first_day g c =
+    let both = fronts g (goal.at.returns-in-Some-first_day g c).In-Some in
     let k = g.E.Entry.key c.in-Some.first.entry.now in
     let first = c.args.window.now.first in
     let last = c.args.window.now.last in
@@ -117,7 +124,7 @@ loop-first-smaller g c = (fronts g (goal.at.loop-first-smaller g c).In-Some).sma
 pub loop-first-preserved : goal.loop-first-preserved
 loop-first-preserved g c =
     let both = fronts g (goal.at.loop-first-preserved g c).In-Some in
-    let s = c.in-Some.ensures.some in
+    let s = c.in-Some.ensures in
     let is = c.in_ok-one.ensures.first_is in
     let ends = c.in_ok-one.ensures.last_is in record {
       left_within = subst (λ (rest : List ℕ). All (λ i. i < length c.args.left.now) rest) (sym s.left_split.later_is)
@@ -131,28 +138,21 @@ loop-first-preserved g c =
           c.in_ok-other.ensures d from upto (c.in_default-first_day.ensures d (omega (arith, from, is)) (omega (arith, upto, ends))));
     }
 
-pub returns-clause-none : goal.returns-clause-none
-returns-clause-none g c =
+pub returns : goal.returns
+returns g c =
     let same = same_key-cmp g.E.Key.PartialEq.eq g.E.Key.Ord.cmp g.met.E.Key.Ord.matches_eq g.met.E.Entry.same_key in
-    let none = c.in_default.ensures.none in
+    let none = c.in_default.ensures in
     all-alike g.E.Key.Ord.cmp g.met.E.Key.Ord.total same _ _ _ _ _ _ c.loop-first.invariant.alike none.0 none.1
 
-pub returns-in_err-right_positions-clause-none : goal.returns-in_err-right_positions-clause-none
-returns-in_err-right_positions-clause-none g c =
+pub returns-in_err-left_positions : goal.returns-in_err-left_positions
+returns-in_err-left_positions g c = IfOk-from_err c.from_residual.result _ c.from_residual.ensures.0
+
+pub returns-in_err-right_positions : goal.returns-in_err-right_positions
+returns-in_err-right_positions g c =
     IfOk-from_err c.from_residual-in_err-right_positions.result _ c.from_residual-in_err-right_positions.ensures.0
 
-pub returns-in_err-right_positions-clause-some : goal.returns-in_err-right_positions-clause-some
-returns-in_err-right_positions-clause-some g c =
-    IfOk-from_err c.from_residual-in_err-right_positions.result _ c.from_residual-in_err-right_positions.ensures.0
+pub returns-in_err-one : goal.returns-in_err-one
+returns-in_err-one g c = IfOk-from_err c.from_residual-in_err-one.result _ c.from_residual-in_err-one.ensures.0
 
-pub returns-in_err-one-clause-none : goal.returns-in_err-one-clause-none
-returns-in_err-one-clause-none g c = IfOk-from_err c.from_residual-in_err-one.result _ c.from_residual-in_err-one.ensures.0
-
-pub returns-in_err-one-clause-some : goal.returns-in_err-one-clause-some
-returns-in_err-one-clause-some g c = IfOk-from_err c.from_residual-in_err-one.result _ c.from_residual-in_err-one.ensures.0
-
-pub returns-in_err-other-clause-none : goal.returns-in_err-other-clause-none
-returns-in_err-other-clause-none g c = IfOk-from_err c.from_residual-in_err-other.result _ c.from_residual-in_err-other.ensures.0
-
-pub returns-in_err-other-clause-some : goal.returns-in_err-other-clause-some
-returns-in_err-other-clause-some g c = IfOk-from_err c.from_residual-in_err-other.result _ c.from_residual-in_err-other.ensures.0
+pub returns-in_err-other : goal.returns-in_err-other
+returns-in_err-other g c = IfOk-from_err c.from_residual-in_err-other.result _ c.from_residual-in_err-other.ensures.0

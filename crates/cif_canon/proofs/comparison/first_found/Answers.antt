@@ -35,14 +35,14 @@ first_difference-requires-2-clause-right c =
 
 -- no location differs
 tiplocs : (c : In_default) → (t : Tiploc) → Contains c.args.left.now.tiplocs.items t ↔ Contains c.args.right.now.tiplocs.items t
-tiplocs c = rw (c.in_default.is, c.as_slice.ensures.value, c.as_slice-2.ensures.value) at c.in_ok-tiploc.ensures.none
+tiplocs c = rw (c.in_default.is, c.as_slice.ensures.value, c.as_slice-2.ensures.value) at c.in_ok-tiploc.ensures
 
 pub returns-in-Ok-Some : goal.returns-in-Ok-Some
 returns-in-Ok-Some c =
     let window = c.window_of-window.ensures in
     let found =
     rw (c.in-Ok-Some.field-0-is, c.as_slice-3.ensures.value, c.as_slice-4.ensures.value, window.first, window.last) at
-    c.in-Ok-Some.ensures.some in
+    c.in-Ok-Some.ensures in
     (tiplocs (goal.at.returns-in-Ok-Some c).In_default, rw c.copy.ensures found)
 
 -- nor an association
@@ -51,14 +51,14 @@ associations : (c : In-Ok-None) → EntriesSayTheSame (association_entries c.arg
 associations c =
     let window = c.window_of-window.ensures in
     rw (c.in-Ok-None.field-0-is, c.as_slice-3.ensures.value, c.as_slice-4.ensures.value, window.first, window.last) at
-    c.in-Ok-None.ensures.none
+    c.in-Ok-None.ensures
 
 pub returns-in-Ok-Some-first_difference : goal.returns-in-Ok-Some-first_difference
 returns-in-Ok-Some-first_difference c =
     let at = goal.at.returns-in-Ok-Some-first_difference c in
     let is = c.in-Ok-Some-first_difference in
     let window = c.window_of-window.ensures in
-    let found = rw (is.field-0-is, c.as_slice-5.ensures.value, c.as_slice-6.ensures.value, window.first, window.last) at is.ensures.some in
+    let found = rw (is.field-0-is, c.as_slice-5.ensures.value, c.as_slice-6.ensures.value, window.first, window.last) at is.ensures in
     (tiplocs at.In_default, associations at.In-Ok-None, found)
 
 pub returns-in-Ok-None-first_difference : goal.returns-in-Ok-None-first_difference
@@ -66,5 +66,5 @@ returns-in-Ok-None-first_difference c =
     let at = goal.at.returns-in-Ok-None-first_difference c in
     let is = c.in-Ok-None-first_difference in
     let window = c.window_of-window.ensures in
-    let same = rw (is.field-0-is, c.as_slice-5.ensures.value, c.as_slice-6.ensures.value, window.first, window.last) at is.ensures.none in
+    let same = rw (is.field-0-is, c.as_slice-5.ensures.value, c.as_slice-6.ensures.value, window.first, window.last) at is.ensures in
     record { tiplocs = tiplocs at.In_default; associations = associations at.In-Ok-None; schedules = same }

@@ -15,10 +15,10 @@ use Rattle.cif_canon.proofs.differing.differences.Goals.{After-window_of-window,
 
 -- the window is that of the right extract too
 right_first : (c : After-window_of-window) → c.window_of-window.result.first ≡ c.args.right.now.header.first
-right_first c = c.window_of-window.ensures.first ∙ ap (λ (w : Window). w.first) c.in_ok-check_comparable.ensures.window
+right_first c = c.window_of-window.ensures.first ∙ ap (λ (w : Window). w.first) c.in_ok-check_comparable.ensures.ok.window
 
 right_last : (c : After-window_of-window) → c.window_of-window.result.last ≡ c.args.right.now.header.last
-right_last c = c.window_of-window.ensures.last ∙ ap (λ (w : Window). w.last) c.in_ok-check_comparable.ensures.window
+right_last c = c.window_of-window.ensures.last ∙ ap (λ (w : Window). w.last) c.in_ok-check_comparable.ensures.ok.window
 
 tiplocs : (c : In-Ok) →
     AreDifferentTiplocs c.args.left.now.tiplocs.items c.args.right.now.tiplocs.items c.in-Ok.tiplocs.items
@@ -41,22 +41,22 @@ schedules c =
 pub different_records-requires-clause-left : goal.different_records-requires-clause-left
 different_records-requires-clause-left c =
     rw (c.as_slice-3.ensures.value, c.window_of-window.ensures.first, c.window_of-window.ensures.last)
-    c.in_ok-check_comparable.ensures.left.associations
+    c.in_ok-check_comparable.ensures.ok.left.associations
 
 pub different_records-requires-clause-right : goal.different_records-requires-clause-right
 different_records-requires-clause-right c =
     let at = (goal.at.different_records-requires-clause-right c).After-window_of-window in
-    rw (c.as_slice-4.ensures.value, right_first at, right_last at) c.in_ok-check_comparable.ensures.right.associations
+    rw (c.as_slice-4.ensures.value, right_first at, right_last at) c.in_ok-check_comparable.ensures.ok.right.associations
 
 pub different_records-requires-2-clause-left : goal.different_records-requires-2-clause-left
 different_records-requires-2-clause-left c =
     rw (c.as_slice-5.ensures.value, c.window_of-window.ensures.first, c.window_of-window.ensures.last)
-    c.in_ok-check_comparable.ensures.left.schedules
+    c.in_ok-check_comparable.ensures.ok.left.schedules
 
 pub different_records-requires-2-clause-right : goal.different_records-requires-2-clause-right
 different_records-requires-2-clause-right c =
     let at = (goal.at.different_records-requires-2-clause-right c).After-window_of-window in
-    rw (c.as_slice-6.ensures.value, right_first at, right_last at) c.in_ok-check_comparable.ensures.right.schedules
+    rw (c.as_slice-6.ensures.value, right_first at, right_last at) c.in_ok-check_comparable.ensures.ok.right.schedules
 
 pub of-requires-clause-associations : goal.of-requires-clause-associations
 of-requires-clause-associations c =
@@ -74,7 +74,7 @@ of-requires-clause-schedules c =
 pub returns-clause-ok : goal.returns-clause-ok
 returns-clause-ok c =
     let at = goal.at.returns-clause-ok c in
-    let clear = c.in_ok-check_comparable.ensures in
+    let clear = c.in_ok-check_comparable.ensures.ok in
     are-differences (extract_parts c.args.left.now) (extract_parts c.args.right.now) clear.window clear.left clear.right
     c.in-Ok.tiplocs.items (tiplocs at.In-Ok) c.in-Ok-different_records.associations.items (associations at.In-Ok-different_records)
     c.in-Ok-different_records-2.schedules.items (schedules at.In-Ok-different_records-2) c.of.result c.of.ensures
@@ -82,7 +82,7 @@ returns-clause-ok c =
 pub returns-clause-same : goal.returns-clause-same
 returns-clause-same c =
     let at = goal.at.returns-clause-same c in
-    let clear = c.in_ok-check_comparable.ensures in
+    let clear = c.in_ok-check_comparable.ensures.ok in
     none-agree (extract_parts c.args.left.now) (extract_parts c.args.right.now) clear.window clear.left clear.right
     c.in-Ok.tiplocs.items (tiplocs at.In-Ok) c.in-Ok-different_records.associations.items (associations at.In-Ok-different_records)
     c.in-Ok-different_records-2.schedules.items (schedules at.In-Ok-different_records-2) c.of.result c.of.ensures
@@ -90,7 +90,7 @@ returns-clause-same c =
 pub returns-clause-turn : goal.returns-clause-turn
 returns-clause-turn c =
     let at = goal.at.returns-clause-turn c in
-    let clear = c.in_ok-check_comparable.ensures in
+    let clear = c.in_ok-check_comparable.ensures.ok in
     turn-left (extract_parts c.args.left.now) (extract_parts c.args.right.now) clear.window clear.left clear.right
     c.in-Ok.tiplocs.items (tiplocs at.In-Ok) c.in-Ok-different_records.associations.items (associations at.In-Ok-different_records)
     c.in-Ok-different_records-2.schedules.items (schedules at.In-Ok-different_records-2) c.of.result c.of.ensures

@@ -40,14 +40,17 @@ loop-first-init g c =
       found = subst (λ (runs : List (Sided Run)). AreFound cmp window xs ys l r runs) (sym c.new-found.ensures.items) none;
     }
 
-pub first_key-requires : goal.first_key-requires
-first_key-requires g c =
-    let before = c.loop-first.invariant in record {
-      left = before.left_within;
-      right = before.right_within;
-      left_rising = before.found.passed.left_rising;
-      right_rising = before.found.passed.right_rising;
-    }
+pub first_key-requires-clause-left : goal.first_key-requires-clause-left
+first_key-requires-clause-left g c = c.loop-first.invariant.left_within
+
+pub first_key-requires-clause-right : goal.first_key-requires-clause-right
+first_key-requires-clause-right g c = c.loop-first.invariant.right_within
+
+pub first_key-requires-clause-left_rising : goal.first_key-requires-clause-left_rising
+first_key-requires-clause-left_rising g c = c.loop-first.invariant.found.passed.left_rising
+
+pub first_key-requires-clause-right_rising : goal.first_key-requires-clause-right_rising
+first_key-requires-clause-right_rising g c = c.loop-first.invariant.found.passed.right_rising
 
 -- the fronts of both rests, as they were split off
 fronts : (g : Over) (c : In-Some g) →
@@ -63,7 +66,7 @@ fronts g c =
     let l = c.loop-first.left_rest.now in
     let r = c.loop-first.right_rest.now in
     let found = c.loop-first.invariant.found in
-    let s = c.in-Some.ensures.some in
+    let s = c.in-Some.ensures in
     rw (s.left_split.front_is, s.left_split.later_is, s.right_split.front_is, s.right_split.later_is)
     (turns cmp g.met.E.Key.Ord.total
     (same_key-cmp g.E.Key.PartialEq.eq cmp g.met.E.Key.Ord.matches_eq g.met.E.Entry.same_key) xs ys c.args.window.now.first
@@ -73,12 +76,12 @@ fronts g c =
 
 pub clear_calendar-requires-clause-within : goal.clear_calendar-requires-clause-within
 clear_calendar-requires-clause-within g c =
-    subst (λ (is : List ℕ). All (λ i. i < length c.args.left.now) is) (sym c.in-Some.ensures.some.left_split.front_is)
+    subst (λ (is : List ℕ). All (λ i. i < length c.args.left.now) is) (sym c.in-Some.ensures.left_split.front_is)
     (All-take (λ i. i < length c.args.left.now) _ _ c.loop-first.invariant.left_within)
 
 pub clear_calendar-requires-in-Some-clause-within : goal.clear_calendar-requires-in-Some-clause-within
 clear_calendar-requires-in-Some-clause-within g c =
-    subst (λ (is : List ℕ). All (λ i. i < length c.args.right.now) is) (sym c.in-Some.ensures.some.right_split.front_is)
+    subst (λ (is : List ℕ). All (λ i. i < length c.args.right.now) is) (sym c.in-Some.ensures.right_split.front_is)
     (All-take (λ i. i < length c.args.right.now) _ _ c.loop-first.invariant.right_within)
 
 pub clear_calendar-requires-clause-clear : goal.clear_calendar-requires-clause-clear
@@ -95,13 +98,17 @@ clear_calendar-requires-in-Some-clause-clear g c =
     clear-positions g.E.Entry.key g.E.Entry.terms c.args.right.now k c.in-Some.first.right.now (fronts g here).right
     c.args.window.now.first c.args.window.now.last (c.requires.right.key k)
 
-pub push_differences-requires : goal.push_differences-requires
-push_differences-requires g c = record {
-  first = c.in_ok-other.ensures.first_is ∙ sym c.in_ok-one.ensures.first_is;
-  last = c.in_ok-other.ensures.last_is ∙ sym c.in_ok-one.ensures.last_is;
-  left = calendar_sources _ _ _ _ _ c.in_ok-one.ensures;
-  right = calendar_sources _ _ _ _ _ c.in_ok-other.ensures;
-}
+pub push_differences-requires-clause-first : goal.push_differences-requires-clause-first
+push_differences-requires-clause-first g c = c.in_ok-other.ensures.first_is ∙ sym c.in_ok-one.ensures.first_is
+
+pub push_differences-requires-clause-last : goal.push_differences-requires-clause-last
+push_differences-requires-clause-last g c = c.in_ok-other.ensures.last_is ∙ sym c.in_ok-one.ensures.last_is
+
+pub push_differences-requires-clause-left : goal.push_differences-requires-clause-left
+push_differences-requires-clause-left g c = calendar_sources _ _ _ _ _ c.in_ok-one.ensures
+
+pub push_differences-requires-clause-right : goal.push_differences-requires-clause-right
+push_differences-requires-clause-right g c = calendar_sources _ _ _ _ _ c.in_ok-other.ensures
 
 pub loop-first-smaller : goal.loop-first-smaller
 loop-first-smaller g c = (fronts g (goal.at.loop-first-smaller g c).In-Some).smaller
@@ -122,14 +129,14 @@ loop-first-preserved g c =
     let one = c.in_ok-one.ensures in
     let other = c.in_ok-other.ensures in
     let d = c.in_ok-push_differences.ensures in
-    let f = c.in-Some.ensures.some in
+    let f = c.in-Some.ensures in
     record {
-      left_within = subst (λ (rest : List ℕ). All (λ i. i < length es) rest) (sym c.in-Some.ensures.some.left_split.later_is)
+      left_within = subst (λ (rest : List ℕ). All (λ i. i < length es) rest) (sym c.in-Some.ensures.left_split.later_is)
           (All-drop (λ i. i < length es) _ _ c.loop-first.invariant.left_within);
-      right_within = subst (λ (rest : List ℕ). All (λ i. i < length fs) rest) (sym c.in-Some.ensures.some.right_split.later_is)
+      right_within = subst (λ (rest : List ℕ). All (λ i. i < length fs) rest) (sym c.in-Some.ensures.right_split.later_is)
           (All-drop (λ i. i < length fs) _ _ c.loop-first.invariant.right_within);
       found =
-          rw (c.in-Some.ensures.some.left_split.later_is, c.in-Some.ensures.some.right_split.later_is)
+          rw (c.in-Some.ensures.left_split.later_is, c.in-Some.ensures.right_split.later_is)
           (found-key cmp g.met.E.Key.Ord.total (window_from first last) (keyed key terms es) (keyed key terms fs)
           c.loop-first.left_rest.now c.loop-first.right_rest.now c.loop-first.found.items c.loop-first.invariant.found k f.first.has d.lefts
           d.rights
@@ -150,12 +157,15 @@ returns g c =
     let ys = keyed g.E.Entry.key g.E.Entry.terms c.args.right.now in
     let window = window_from c.args.window.now.first c.args.window.now.last in
     let same = same_key-cmp g.E.Key.PartialEq.eq cmp g.met.E.Key.Ord.matches_eq g.met.E.Entry.same_key in
-    let none = c.in_default.ensures.none in
+    let none = c.in_default.ensures in
     found-all cmp g.met.E.Key.Ord.total same window xs ys c.loop-first.found.items
     (subst (λ (l : List ℕ). AreFound cmp window xs ys l [] c.loop-first.found.items)
     (nil_from_length c.loop-first.left_rest.now none.0)
     (subst (λ (r : List ℕ). AreFound cmp window xs ys c.loop-first.left_rest.now r c.loop-first.found.items)
     (nil_from_length c.loop-first.right_rest.now none.1) c.loop-first.invariant.found))
+
+pub returns-in_err-left_positions : goal.returns-in_err-left_positions
+returns-in_err-left_positions g c = IfOk-from_err c.from_residual.result _ c.from_residual.ensures.0
 
 pub returns-in_err-right_positions : goal.returns-in_err-right_positions
 returns-in_err-right_positions g c =

@@ -19,19 +19,23 @@ returns-in-None g c =
       appended = merged-none c.args.found.now.items;
     }
 
-pub only_runs-requires-in-Some : goal.only_runs-requires-in-Some
-only_runs-requires-in-Some g c = record {
-  first = sym c.requires.first;
-  last = sym c.requires.last;
-  left = c.requires.right;
-  right = c.requires.left;
-}
+pub only_runs-requires-in-Some-clause-first : goal.only_runs-requires-in-Some-clause-first
+only_runs-requires-in-Some-clause-first g c = sym c.requires.first
 
-pub push_merged-requires : goal.push_merged-requires
-push_merged-requires g c = record {
-  left = subst AreRisingRuns (sym c.as_slice.ensures.value) c.in_ok-lefts-in-Some.ensures.rising;
-  right = subst AreRisingRuns (sym c.as_slice-in-Some.ensures.value) c.in_ok-rights-in-Some.ensures.rising;
-}
+pub only_runs-requires-in-Some-clause-last : goal.only_runs-requires-in-Some-clause-last
+only_runs-requires-in-Some-clause-last g c = sym c.requires.last
+
+pub only_runs-requires-in-Some-clause-left : goal.only_runs-requires-in-Some-clause-left
+only_runs-requires-in-Some-clause-left g c = c.requires.right
+
+pub only_runs-requires-in-Some-clause-right : goal.only_runs-requires-in-Some-clause-right
+only_runs-requires-in-Some-clause-right g c = c.requires.left
+
+pub push_merged-requires-clause-left : goal.push_merged-requires-clause-left
+push_merged-requires-clause-left g c = subst AreRisingRuns (sym c.as_slice.ensures.value) c.in_ok-lefts-in-Some.ensures.rising
+
+pub push_merged-requires-clause-right : goal.push_merged-requires-clause-right
+push_merged-requires-clause-right g c = subst AreRisingRuns (sym c.as_slice-in-Some.ensures.value) c.in_ok-rights-in-Some.ensures.rising
 
 pub returns-in_ok-rights-in-Some : goal.returns-in_ok-rights-in-Some
 returns-in_ok-rights-in-Some g c =

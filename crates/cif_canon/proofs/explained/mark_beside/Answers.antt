@@ -1,5 +1,5 @@
 -- One more record changes a mark only if it has the key, and an earlier letter or the same one and another body (`Explaining`).
-use Rattle.std.proofs.Common.{◌≡◌, true, false, not, arith, subst, sym, ap, ◌∙◌}
+use Rattle.std.proofs.Common.{◌≡◌, false, not, arith, subst, sym, ap, ◌∙◌}
 use Rattle.std.proofs.lemmas.Bool.{false≢true}
 use Rattle.cif_columns.specs.Stp.{letter}
 use Rattle.cif_canon.specs.Steps.Explanation.{IsMarkAmong}

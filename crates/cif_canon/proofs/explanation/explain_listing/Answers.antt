@@ -1,95 +1,37 @@
--- Heading, associations and trains are the explanation (`explanation`); a fault leaves a prefix.
-use Rattle.std.proofs.Common.{◌≡◌, ◌∙◌, List, ◌++◌, map, refl, sym, subst}
+-- Heading, associations and trains are the explanation (`explanation`).
+use Rattle.std.proofs.Common.{◌∙◌, ◌++◌, map, sym, subst}
 use Rattle.std.specs.Cmp.Lexicographic.{slice_cmp}
+use Rattle.std.specs.List.{flat_map}
 use Rattle.std.specs.Ordering.{nat_cmp}
 use Rattle.cif_calendar.specs.Entries.{association_entries, association_terms, schedule_entries, schedule_terms}
-use Rattle.cif_columns.specs.Sink.{HasFailed, HasWritten}
-use Rattle.cif_columns.proofs.WrittenTexts.{failed_first, failed_second, written_both}
 use Rattle.cif_extract.specs.ExtractParts.{extract_parts}
 use Rattle.cif_extract.specs.declared.extract.Schedule.{Schedule}
 use Rattle.cif_records.specs.AssocKey.{key_cmp}
 use Rattle.cif_records.specs.declared.association.Association.{Association}
-use Rattle.cif_canon.specs.Explanation.{AreExplained, IsExplanation, base_of, explanation_heading, itself}
-use Rattle.cif_canon.specs.Steps.Explanation.{explained_of}
-use Rattle.cif_canon.specs.declared.explained.Marked.{Marked}
-use Rattle.cif_canon.proofs.ExplainedTexts.{associations-lines, explanation, trains-lines}
-use Rattle.cif_canon.proofs.HandedFaults.{at-fault}
-use Rattle.cif_canon.proofs.ViewTexts.{fails-first, fails-second, written-so}
-use Rattle.cif_canon.proofs.explanation.explain_listing.Given.{Over}
+use Rattle.cif_canon.specs.Explanation.{base_of, explained_association_line, explained_train_line, explanation_heading, itself}
+use Rattle.cif_canon.specs.Steps.Explanation.{ArePlacedInOrder, placed_of}
+use Rattle.cif_canon.proofs.AppendedTexts.{both, fault-answered, text-is}
+use Rattle.cif_canon.proofs.ExplainedTexts.{explanation}
+use Rattle.cif_canon.proofs.ViewTexts.{written-so}
 use Rattle.cif_canon.proofs.explanation.explain_listing.Goals as goal
-use Rattle.cif_canon.proofs.explanation.explain_listing.Goals.{In-Ok-marked_records, In_ok-write_all}
-
--- heading and lines of the records that were found, also of slices of them
-explains : (g : Over) (c : In-Ok-marked_records g) (ones : List (Marked Association)) (others : List (Marked Schedule))
-    → ones ≡ c.in-Ok.associations.items → others ≡ c.in-Ok-marked_records.trains.items
-    → IsExplanation c.args.format (extract_parts c.args.extract.now) c.args.uid.now c.args.day
-    (explanation_heading c.args.format ++ (associations-lines c.args.format ones ++ trains-lines c.args.format others))
-explains g c ones others are be =
-    let x = extract_parts c.args.extract.now in
-    explanation c.args.format x c.args.uid.now c.args.day c.in_ok-check_within.ensures.ok
-    c.as_slice.result.now ones c.as_slice.ensures.value
-    (subst (λ es. AreExplained key_cmp base_of (association_entries c.as_slice.result.now) c.args.uid.now c.args.day
-    (map (explained_of (λ (a : Association). a.key) association_terms) es)) (sym are) c.in-Ok.ensures)
-    c.as_slice-2.result.now others c.as_slice-2.ensures.value
-    (subst (λ es. AreExplained (slice_cmp nat_cmp) itself (schedule_entries c.as_slice-2.result.now) c.args.uid.now c.args.day
-    (map (explained_of (λ (s : Schedule). s.uid) schedule_terms) es)) (sym be) c.in-Ok-marked_records.ensures)
-
--- the heading was written
-headed : (g : Over) (c : In_ok-write_all g) →
-    HasWritten g.W.Write.contents g.W.WriteDevice.write_errors (explanation_heading c.args.format) c.args.sink.now c.write_all.new.self
-headed g c =
-    subst (λ t. HasWritten g.W.Write.contents g.W.WriteDevice.write_errors t c.args.sink.now c.write_all.new.self)
-    (c.as_bytes.ensures.value ∙ c.as_str.ensures.value ∙ c.heading-names.ensures) c.in_ok-write_all.ensures
-
-pub returns-in_err-write_all-clause-view : goal.returns-in_err-write_all-clause-view
-returns-in_err-write_all-clause-view g c =
-    let head = explanation_heading c.args.format in
-    let one = associations-lines c.args.format c.in-Ok.associations.items in
-    let other = trains-lines c.args.format c.in-Ok-marked_records.trains.items in
-    let result = c.from_residual-in_err-write_all.result in (
-      head ++ (one ++ other),
-      fails-first _ _ head (one ++ other) _ _ c.write_all.new.self result (at-fault result _ c.from_residual-in_err-write_all.ensures.1)
-          (subst (λ t. HasFailed g.W.Write.contents g.W.WriteDevice.write_errors t c.args.sink.now c.write_all.new.self)
-          (c.as_bytes.ensures.value ∙ c.as_str.ensures.value ∙ c.heading-names.ensures) c.in_err-write_all.ensures),
-      written-so result _ (explains g (goal.at.returns-in_err-write_all-clause-view g c).In-Ok-marked_records _ _ refl refl),
-    )
-
-pub returns-in_err-write_marked-clause-view : goal.returns-in_err-write_marked-clause-view
-returns-in_err-write_marked-clause-view g c =
-    let at = goal.at.returns-in_err-write_marked-clause-view g c in
-    let head = explanation_heading c.args.format in
-    let one = associations-lines c.args.format c.as_slice-3.result.now in
-    let other = trains-lines c.args.format c.in-Ok-marked_records.trains.items in
-    let result = c.from_residual-in_err-write_marked.result in (
-      head ++ (one ++ other),
-      fails-second _ _ head (one ++ other) _ _ c.write_marked.new.sink result
-          (at-fault result _ c.from_residual-in_err-write_marked.ensures.1) (headed g at.In_ok-write_all)
-          (failed_first _ _ one other _ _ c.in_err-write_marked.ensures),
-      written-so result _ (explains g at.In-Ok-marked_records _ _ c.as_slice-3.ensures.value refl),
-    )
-
-pub returns-in_err-write_marked-2-clause-view : goal.returns-in_err-write_marked-2-clause-view
-returns-in_err-write_marked-2-clause-view g c =
-    let at = goal.at.returns-in_err-write_marked-2-clause-view g c in
-    let head = explanation_heading c.args.format in
-    let one = associations-lines c.args.format c.as_slice-3.result.now in
-    let other = trains-lines c.args.format c.as_slice-4.result.now in
-    let result = c.from_residual-in_err-write_marked-2.result in (
-      head ++ (one ++ other),
-      fails-second _ _ head (one ++ other) _ _ c.write_marked-2.new.sink result
-          (at-fault result _ c.from_residual-in_err-write_marked-2.ensures.1) (headed g at.In_ok-write_all)
-          (failed_second _ _ one other _ _ _ c.in_ok-write_marked.ensures c.in_err-write_marked-2.ensures),
-      written-so result _ (explains g at.In-Ok-marked_records _ _ c.as_slice-3.ensures.value c.as_slice-4.ensures.value),
-    )
 
 pub returns-clause-view : goal.returns-clause-view
 returns-clause-view g c =
-    let at = goal.at.returns-clause-view g c in
+    let ones = c.write_marked.ensures in
+    let others = c.write_marked-2.ensures in
     let head = explanation_heading c.args.format in
-    let one = associations-lines c.args.format c.as_slice-3.result.now in
-    let other = trains-lines c.args.format c.as_slice-4.result.now in (
+    let one = flat_map (explained_association_line c.args.format) ones.0 in
+    let other = flat_map (explained_train_line c.args.format) others.0 in (
       head ++ (one ++ other),
-      written_both _ _ head (one ++ other) _ _ _ (headed g at.In_ok-write_all)
-          (written_both _ _ one other _ _ _ c.in_ok-write_marked.ensures c.in_ok-write_marked-2.ensures),
-      explains g at.In-Ok-marked_records _ _ c.as_slice-3.ensures.value c.as_slice-4.ensures.value,
+      fault-answered _ _ _ _ _ c.answer.result c.answer.ensures.ok c.answer.ensures.failed c.answer.ensures.fault
+          (both _ _ head (one ++ other) _ _ _ (text-is _ _ _ _ _ _ (c.as_str.ensures.value ∙ c.heading-names.ensures) c.append.ensures)
+          (both _ _ one other _ _ _ ones.2 others.2)),
+      written-so c.answer.result _ (explanation c.args.format (extract_parts c.args.extract.now) c.args.uid.now c.args.day
+          c.in_ok-check_within.ensures.ok c.as_slice.result.now _ ones.0 c.as_slice.ensures.value
+          (subst (λ es. ArePlacedInOrder key_cmp base_of (association_entries c.as_slice.result.now) c.args.uid.now c.args.day
+          (map (placed_of (λ (a : Association). a.key) association_terms) es)) (sym c.as_slice-3.ensures.value) c.in-Ok.ensures)
+          ones.1 c.as_slice-2.result.now _ others.0 c.as_slice-2.ensures.value
+          (subst (λ es. ArePlacedInOrder (slice_cmp nat_cmp) itself (schedule_entries c.as_slice-2.result.now) c.args.uid.now c.args.day
+          (map (placed_of (λ (s : Schedule). s.uid) schedule_terms) es)) (sym c.as_slice-4.ensures.value) c.in-Ok-records_on.ensures)
+          others.1),
     )

@@ -1,12 +1,10 @@
--- What is written is the lines of the records so far.
-use Rattle.std.proofs.Common.{take}
-use Rattle.std.specs.List.{flat_map}
-use Rattle.cif_columns.specs.Sink.{HasWritten}
-use Rattle.cif_canon.specs.Steps.Explanation.{explained_of}
+-- The records so far have their marks among all, and what is written is their lines.
+use Rattle.std.proofs.Common.{map, take}
+use Rattle.cif_canon.specs.Steps.Explanation.{AreMarkedOn, placed_of}
 use Rattle.cif_canon.proofs.explanation.write_marked.Given as goal
 
 abbrev pub invariant-loop-one : goal.invariant-loop-one
 invariant-loop-one g l =
-    HasWritten g.W.Write.contents g.W.WriteDevice.write_errors
-    (flat_map (λ one. g.E.ExplainedEntry.line l.format (explained_of g.E.Entry.key g.E.Entry.terms one)) (take l.one-index l.marked))
-    l.initial.sink l.sink
+    AreMarkedOn g.W.Write.contents g.W.WriteDevice.write_errors (g.E.ExplainedEntry.line l.format)
+    (map (placed_of g.E.Entry.key g.E.Entry.terms) l.applying)
+    (map (placed_of g.E.Entry.key g.E.Entry.terms) (take l.one-index l.applying)) l.initial.sink l.sink

@@ -1,11 +1,11 @@
 -- What is written is the text of the locations so far.
 use Rattle.std.proofs.Common.{take}
 use Rattle.std.specs.List.{flat_map}
-use Rattle.cif_columns.specs.Sink.{HasWritten}
 use Rattle.cif_canon.specs.Differences.{marked_tiploc}
+use Rattle.cif_canon.specs.Steps.Writing.{IsAppended}
 use Rattle.cif_canon.proofs.listed_differences.write_marked_tiplocs.Given as goal
 
 abbrev pub invariant-loop-tiploc : goal.invariant-loop-tiploc
 invariant-loop-tiploc g l =
-    HasWritten g.W.Write.contents g.W.WriteDevice.write_errors (flat_map marked_tiploc (take l.tiploc-index l.tiplocs))
+    IsAppended g.W.Write.contents g.W.WriteDevice.write_errors (flat_map marked_tiploc (take l.tiploc-index l.tiplocs))
     l.initial.sink l.sink

@@ -2,13 +2,13 @@
 use Rattle.std.proofs.Common.{take}
 use Rattle.std.specs.List.{flat_map}
 use Rattle.cif_calendar.specs.Keys.{keyed}
-use Rattle.cif_columns.specs.Sink.{HasWritten}
 use Rattle.cif_canon.specs.Steps.Sides.{sided_run_text}
+use Rattle.cif_canon.specs.Steps.Writing.{IsAppended}
 use Rattle.cif_canon.proofs.listed_differences.write_sided_runs.Given as goal
 
 abbrev pub invariant-loop-run : goal.invariant-loop-run
 invariant-loop-run g l =
-    HasWritten g.W.Write.contents g.W.WriteDevice.write_errors
+    IsAppended g.W.Write.contents g.W.WriteDevice.write_errors
     (flat_map (sided_run_text (g.L.RecordLines.text l.left_lines) (keyed g.E.Entry.key g.E.Entry.terms l.left)
     (g.L.RecordLines.text l.right_lines) (keyed g.E.Entry.key g.E.Entry.terms l.right)) (take l.run-index l.runs))
     l.initial.sink l.sink

@@ -6,8 +6,8 @@ use Rattle.cif_extract.specs.ExtractParts.{extract_parts}
 use Rattle.cif_extract.specs.declared.fault.Fault.TheVariants.{Read}
 use Rattle.cif_canon.specs.Fault.{IsCanonFault, IsOfCheck}
 use Rattle.cif_canon.proofs.BothRead.{read-on}
-use Rattle.cif_canon.proofs.HandedFaults.{at-fault, hands}
-use Rattle.cif_canon.proofs.Normalising.{canon-of_check}
+use Rattle.cif_canon.proofs.HandedFaults.{at-fault, hands, no-ok}
+use Rattle.cif_canon.proofs.Normalising.{canon-of_check, unsaid, whatever}
 use Rattle.cif_canon.proofs.Normalising.{counted-text, known-accepted, known-canon_accepted, known-canon_fault}
 use Rattle.cif_canon.proofs.normal_form.check_keeping.Goals as goal
 
@@ -58,3 +58,32 @@ returns-in_err-extract-clause-answers g c =
 pub returns-in_err-extract-clause-source : goal.returns-in_err-extract-clause-source
 returns-in_err-extract-clause-source g c =
     rw (at-fault c.from_residual.result c.in_err-extract.field-0.0 c.from_residual.ensures.1) c.in_err-extract.ensures.source
+
+pub returns-in_err-extract-clause-ok : goal.returns-in_err-extract-clause-ok
+returns-in_err-extract-clause-ok g c = no-ok c.from_residual.result c.in_err-extract.field-0.0 c.from_residual.ensures.1 _ _
+
+pub returns-in_err-canon-clause-ok : goal.returns-in_err-canon-clause-ok
+returns-in_err-canon-clause-ok g c =
+    no-ok c.from_residual-in_err-canon.result c.in_err-canon.field-0.0 c.from_residual-in_err-canon.ensures.1 _ _
+
+pub returns-in_err-extract-clause-end : goal.returns-in_err-extract-clause-end
+returns-in_err-extract-clause-end g c = rw (at-fault c.from_residual.result c.in_err-extract.field-0.0 c.from_residual.ensures.1) tt
+
+pub returns-in_err-canon-clause-end : goal.returns-in_err-canon-clause-end
+returns-in_err-canon-clause-end g c =
+    rw (at-fault c.from_residual-in_err-canon.result c.in_err-canon.field-0.0 c.from_residual-in_err-canon.ensures.1) tt
+
+pub returns-clause-fault : goal.returns-clause-fault
+returns-clause-fault g c = unsaid _
+
+pub returns-clause-accepted : goal.returns-clause-accepted
+returns-clause-accepted g c = whatever _ _
+
+pub returns-clause-answers : goal.returns-clause-answers
+returns-clause-answers g c = tt
+
+pub returns-clause-source : goal.returns-clause-source
+returns-clause-source g c = c.in_ok-extract.ensures.source
+
+pub returns-clause-end : goal.returns-clause-end
+returns-clause-end g c = c.in_ok-extract.ensures.end

@@ -7,7 +7,7 @@ use Rattle.cif_extract.specs.declared.fault.Fault.TheVariants.{Read}
 use Rattle.cif_canon.proofs.BothRead.{read-on}
 use Rattle.cif_canon.proofs.HandedFaults.{at-fault, hands}
 use Rattle.cif_canon.specs.Fault.{IsCanonFault, IsOfCheck, IsOfNormalise}
-use Rattle.cif_canon.proofs.Normalising.{canon-of_check}
+use Rattle.cif_canon.proofs.Normalising.{canon-of_check, check-normalise, unsaid, whatever}
 use Rattle.cif_canon.proofs.Normalising.{fails-silently, fault-writes, known-accepted, known-canon_accepted, known-canon_fault}
 use Rattle.cif_canon.proofs.Normalising.{normalises-prefix, normalises-whole, write-accepted, write-answers, write-fault}
 use Rattle.cif_canon.proofs.normal_form.normalise_keeping.Goals as goal
@@ -112,3 +112,34 @@ returns-in_err-extract-clause-fault g c =
 pub returns-in_err-extract-clause-source : goal.returns-in_err-extract-clause-source
 returns-in_err-extract-clause-source g c =
     rw (at-fault c.from_residual.result c.in_err-extract.field-0.0 c.from_residual.ensures.1) c.in_err-extract.ensures.source
+
+pub returns-in_err-extract-clause-answers : goal.returns-in_err-extract-clause-answers
+returns-in_err-extract-clause-answers g c =
+    hands c.from_residual.result c.in_err-extract.field-0.0 c.from_residual.ensures.1 (IsOfNormalise c.args.max_lines)
+    (check-normalise c.args.max_lines c.in_err-extract.field-0.0 c.in_err-extract.ensures.answers)
+
+pub returns-in_err-write-clause-end : goal.returns-in_err-write-clause-end
+returns-in_err-write-clause-end g c =
+    rw (at-fault c.from_residual-in_err-write.result c.in_err-write.field-0.0 c.from_residual-in_err-write.ensures.1) tt
+
+pub returns-in_err-extract-clause-end : goal.returns-in_err-extract-clause-end
+returns-in_err-extract-clause-end g c = rw (at-fault c.from_residual.result c.in_err-extract.field-0.0 c.from_residual.ensures.1) tt
+
+pub returns-in_err-canon-clause-end : goal.returns-in_err-canon-clause-end
+returns-in_err-canon-clause-end g c =
+    rw (at-fault c.from_residual-in_err-canon.result c.in_err-canon.field-0.0 c.from_residual-in_err-canon.ensures.1) tt
+
+pub returns-clause-fault : goal.returns-clause-fault
+returns-clause-fault g c = unsaid _
+
+pub returns-clause-accepted : goal.returns-clause-accepted
+returns-clause-accepted g c = whatever _ _
+
+pub returns-clause-answers : goal.returns-clause-answers
+returns-clause-answers g c = tt
+
+pub returns-clause-source : goal.returns-clause-source
+returns-clause-source g c = c.in_ok-extract.ensures.source
+
+pub returns-clause-end : goal.returns-clause-end
+returns-clause-end g c = c.in_ok-extract.ensures.end

@@ -6,8 +6,8 @@ use Rattle.cif_extract.specs.ExtractParts.{extract_parts}
 use Rattle.cif_extract.specs.declared.fault.Fault.TheVariants.{Read}
 use Rattle.cif_canon.specs.Asked.{IsNarrowingFault}
 use Rattle.cif_canon.proofs.BothRead.{read-on}
-use Rattle.cif_canon.proofs.HandedFaults.{at-fault, hands}
-use Rattle.cif_canon.proofs.Normalising.{known-narrowing, spells-narrowed}
+use Rattle.cif_canon.proofs.HandedFaults.{at-fault, hands, no-ok}
+use Rattle.cif_canon.proofs.Normalising.{known-narrowing, spells-narrowed, unsaid}
 use Rattle.cif_canon.proofs.normal_form.read_narrowed.Goals as goal
 
 pub returns-in_err-narrow-clause-fault : goal.returns-in_err-narrow-clause-fault
@@ -32,3 +32,29 @@ returns-in_err-narrow-clause-source g c =
 pub returns-in_err-extract-clause-source : goal.returns-in_err-extract-clause-source
 returns-in_err-extract-clause-source g c =
     rw (at-fault c.from_residual.result c.in_err-extract.field-0.0 c.from_residual.ensures.1) c.in_err-extract.ensures.device
+
+pub returns-in_err-extract-clause-ok : goal.returns-in_err-extract-clause-ok
+returns-in_err-extract-clause-ok g c = no-ok c.from_residual.result c.in_err-extract.field-0.0 c.from_residual.ensures.1 _ _
+
+pub returns-in_err-narrow-clause-ok : goal.returns-in_err-narrow-clause-ok
+returns-in_err-narrow-clause-ok g c =
+    no-ok c.from_residual-in_err-narrow.result c.in_err-narrow.field-0.0 c.from_residual-in_err-narrow.ensures.1 _ _
+
+pub returns-in_err-extract-clause-end : goal.returns-in_err-extract-clause-end
+returns-in_err-extract-clause-end g c = rw (at-fault c.from_residual.result c.in_err-extract.field-0.0 c.from_residual.ensures.1) tt
+
+pub returns-in_err-narrow-clause-end : goal.returns-in_err-narrow-clause-end
+returns-in_err-narrow-clause-end g c =
+    rw (at-fault c.from_residual-in_err-narrow.result c.in_err-narrow.field-0.0 c.from_residual-in_err-narrow.ensures.1) tt
+
+pub returns-clause-fault : goal.returns-clause-fault
+returns-clause-fault g c = unsaid _
+
+pub returns-clause-answers : goal.returns-clause-answers
+returns-clause-answers g c = tt
+
+pub returns-clause-source : goal.returns-clause-source
+returns-clause-source g c = c.in_ok-extract.ensures.device
+
+pub returns-clause-end : goal.returns-clause-end
+returns-clause-end g c = c.in_ok-extract.ensures.end

@@ -10,7 +10,6 @@ use Rattle.cif_calendar.proofs.FirstClash.{same_key-cmp}
 use Rattle.cif_calendar.proofs.Positions.{AreLawful-of_key}
 use Rattle.cif_weeks.specs.declared.run.Run.{Run}
 use Rattle.cif_weeks.specs.Window.{window_from}
-use Rattle.cif_canon.proofs.HandedFaults.{at-fault}
 use Rattle.cif_canon.proofs.KeyPositions.{all-within}
 use Rattle.cif_canon.proofs.MadeRecords.{IsMade, made-nothing, made-key, made-fault, made-all}
 use Rattle.cif_canon.proofs.records.canonical_records.Goals as goal
@@ -20,12 +19,12 @@ loop-rest-init g c =
     let es = keyed g.E.Entry.key g.E.Entry.terms c.args.entries.now in
     let window = window_from c.args.window.now.first c.args.window.now.last in record {
       within = subst (λ (rest : List ℕ). All (λ i. i < length c.args.entries.now) rest) (sym c.as_slice-rest.ensures.value)
-          (all-within g.E.Entry.key g.E.Entry.terms c.args.entries.now c.in_ok-positions.positions.items c.in_ok-positions.ensures.within);
+          (all-within g.E.Entry.key g.E.Entry.terms c.args.entries.now c.in-Ok.positions.items c.in-Ok.ensures.within);
       made = subst (λ (runs : List Run). IsMade g.E.Key.Ord.cmp c.args.form window es runs c.as_slice-rest.result.now)
           (sym c.new-all.ensures.items)
           (subst (λ (rest : List ℕ). IsMade g.E.Key.Ord.cmp c.args.form window es [] rest) (sym c.as_slice-rest.ensures.value)
-          (made-nothing g.E.Key.Ord.cmp c.args.form window es c.in_ok-positions.positions.items
-          c.in_ok-positions.ensures.whole c.in_ok-positions.ensures.rising));
+          (made-nothing g.E.Key.Ord.cmp c.args.form window es c.in-Ok.positions.items
+          c.in-Ok.ensures.whole c.in-Ok.ensures.rising));
     }
 
 pub look_ahead-requires : goal.look_ahead-requires
@@ -67,7 +66,7 @@ loop-rest-preserved g c =
     record {
       within = subst (λ (rest : List ℕ). All (λ i. i < length c.args.entries.now) rest) (sym c.split_at.ensures.back)
           (All-drop (λ i. i < length c.args.entries.now) c.count_of_first_key.result c.loop-rest.rest.now c.loop-rest.invariant.within);
-      made = rw (c.in_ok-extend_from_slice.ensures.items, c.as_slice.ensures.value, c.split_at.ensures.back)
+      made = rw (c.in-Ok-extend_from_slice.ensures.items, c.as_slice.ensures.value, c.split_at.ensures.back)
           (made-key g.E.Key.Ord.cmp c.args.form window es g.met.E.Key.Ord.total same c.loop-rest.all.items c.loop-rest.rest.now
           c.loop-rest.invariant.made c.count_of_first_key.result c.count_of_first_key.ensures c.in_ok-room.room.runs.items
           (rw c.split_at.ensures.front at c.in_ok-room.ensures.runs));
@@ -78,7 +77,7 @@ returns-in_err-room-clause-fault g c =
     let es = keyed g.E.Entry.key g.E.Entry.terms c.args.entries.now in
     let window = window_from c.args.window.now.first c.args.window.now.last in
     let same = same_key-cmp g.E.Key.PartialEq.eq g.E.Key.Ord.cmp g.met.E.Key.Ord.matches_eq g.met.E.Entry.same_key in
-    let p = err_from_is_err_and c.from_residual-in_err-room.result c.from_residual-in_err-room.ensures.1 in
+    let p = err_from_is_err_and c.from_residual.result c.from_residual.ensures.1 in
     rw (p.1, p.2) (made-fault g.E.Key.Ord.cmp c.args.form window es g.met.E.Key.Ord.total same c.loop-rest.all.items c.loop-rest.rest.now
     c.loop-rest.invariant.made c.count_of_first_key.result c.count_of_first_key.ensures g.E.NamedEntry.clash_of c.in_err-room.field-0.0
     (rw c.split_at.ensures.front at c.in_err-room.ensures.fault))
@@ -91,10 +90,3 @@ returns-clause-records g c =
     (AreLawful-of_key g.E.Entry.key g.E.Entry.terms g.met.E.Entry.cancelled c.args.entries.now) c.loop-rest.all.items
     (subst (λ (rest : List ℕ). IsMade g.E.Key.Ord.cmp c.args.form window es c.loop-rest.all.items rest)
     (nil_from_length c.loop-rest.rest.now (eqb-true _ _ (sym c.loop-rest-test.ensures))) c.loop-rest.invariant.made)
-
-pub returns-in_err-positions-clause-fault : goal.returns-in_err-positions-clause-fault
-returns-in_err-positions-clause-fault g c = rw (at-fault c.from_residual.result _ c.from_residual.ensures.1) tt
-
-pub returns-in_err-extend_from_slice-clause-fault : goal.returns-in_err-extend_from_slice-clause-fault
-returns-in_err-extend_from_slice-clause-fault g c =
-    rw (at-fault c.from_residual-in_err-extend_from_slice.result _ c.from_residual-in_err-extend_from_slice.ensures.1) tt

@@ -3,7 +3,6 @@
 use Rattle.std.proofs.lemmas.List.Elements.{Contains-get_or}
 use Rattle.cif_weeks.specs.Window.{window_from}
 use Rattle.cif_weeks.proofs.CalendarSources.{calendar_sources}
-use Rattle.cif_canon.proofs.HandedFaults.{at-fault}
 use Rattle.cif_canon.proofs.KeyRecords.{key-records, key_fault, members-records}
 use Rattle.cif_canon.proofs.records.runs_of_key.Goals as goal
 
@@ -11,7 +10,7 @@ pub returns-then-are_made-clause-runs : goal.returns-then-are_made-clause-runs
 returns-then-are_made-clause-runs g c k p =
     members-records g.E.Entry.key g.E.Entry.terms c.args.entries.now k c.args.members.now p c.args.form
     (window_from c.args.window.now.first c.args.window.now.last) c.runs_of_few.new.runs.items
-    ((rw c.if-are_made.true at c.in_ok-are_made.ensures))
+    ((rw c.if-are_made.true at c.in-Ok.ensures))
 
 pub returns-in-Err-clause-fault : goal.returns-in-Err-clause-fault
 returns-in-Err-clause-fault g c = rw c.fault_of.ensures (λ k p.
@@ -22,7 +21,8 @@ returns-in-Err-clause-fault g c = rw c.fault_of.ensures (λ k p.
 pub returns-clause-runs : goal.returns-clause-runs
 returns-clause-runs g c k p =
     key-records g.E.Entry.key g.E.Entry.terms c.args.entries.now k c.args.members.now p c.args.window.now.first c.args.window.now.last
-    c.in-Ok.calendar c.in-Ok.ensures.calendar g.met.E.Entry.cancelled c.args.form c.in_ok-runs.runs.items c.in_ok-runs.ensures
+    c.in-Ok-calendar_in_room.calendar c.in-Ok-calendar_in_room.ensures.calendar g.met.E.Entry.cancelled c.args.form
+    c.in-Ok-runs_in_room.runs.items c.in-Ok-runs_in_room.ensures
 
 pub runs_of_few-requires : goal.runs_of_few-requires
 runs_of_few-requires g c = c.requires.within
@@ -31,14 +31,7 @@ pub calendar_in_room-requires : goal.calendar_in_room-requires
 calendar_in_room-requires g c = record { positions = c.requires.within }
 
 pub runs_in_room-requires : goal.runs_in_room-requires
-runs_in_room-requires g c = record { sources = calendar_sources _ _ _ _ _ c.in-Ok.ensures.calendar }
+runs_in_room-requires g c = record { sources = calendar_sources _ _ _ _ _ c.in-Ok-calendar_in_room.ensures.calendar }
 
 pub bounds-entries-members : goal.bounds-entries-members
 bounds-entries-members g c = c.requires.within 0 0 c.requires.some
-
-pub returns-in_err-are_made-clause-fault : goal.returns-in_err-are_made-clause-fault
-returns-in_err-are_made-clause-fault g c = rw (at-fault c.from_residual.result _ c.from_residual.ensures.1) (λ k p. tt)
-
-pub returns-in_err-runs-clause-fault : goal.returns-in_err-runs-clause-fault
-returns-in_err-runs-clause-fault g c =
-    rw (at-fault c.from_residual-in_err-runs.result _ c.from_residual-in_err-runs.ensures.1) (λ k p. tt)

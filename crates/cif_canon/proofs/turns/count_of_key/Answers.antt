@@ -1,5 +1,5 @@
 -- In the order of keys no position behind one with another key has this one (`front-ends`); or all have it (`front-of_all`).
-use Rattle.std.proofs.Common.{◌≡◌, true, false, not, get_or, length, take, sym, ◌∙◌, ap, subst, arith}
+use Rattle.std.proofs.Common.{◌≡◌, not, get_or, length, take, sym, ◌∙◌, ap, subst, arith}
 use Rattle.std.specs.Prelude.{All}
 use Rattle.std.proofs.lemmas.Bool.{false≢true}
 use Rattle.std.proofs.lemmas.List.Elements.{All-nil, All-more}

@@ -29,14 +29,14 @@ of-two g c =
     (c.is_lt.ensures ∙ ap is_lt (c.cmp.ensures ∙ ap (λ k. g.E.Key.Ord.cmp k c.key-in-Some-Some.result.now) c.key.ensures
     ∙ ap (g.E.Key.Ord.cmp (g.E.Entry.key c.index-right-j.result)) c.key-in-Some-Some.ensures))
 
-pub returns-then-is_lt-clause-some : goal.returns-then-is_lt-clause-some
-returns-then-is_lt-clause-some g c = (of-two g (goal.at.returns-then-is_lt-clause-some g c).After-is_lt).0 c.if-is_lt.true
+pub returns-then-is_lt : goal.returns-then-is_lt
+returns-then-is_lt g c = (of-two g (goal.at.returns-then-is_lt g c).After-is_lt).0 c.if-is_lt.true
 
-pub returns-else-is_lt-clause-some : goal.returns-else-is_lt-clause-some
-returns-else-is_lt-clause-some g c = (of-two g (goal.at.returns-else-is_lt-clause-some g c).After-is_lt).1 c.if-is_lt.false
+pub returns-else-is_lt : goal.returns-else-is_lt
+returns-else-is_lt g c = (of-two g (goal.at.returns-else-is_lt g c).After-is_lt).1 c.if-is_lt.false
 
-pub returns-in-Some-None-clause-some : goal.returns-in-Some-None-clause-some
-returns-in-Some-None-clause-some g c =
+pub returns-in-Some-None : goal.returns-in-Some-None
+returns-in-Some-None g c =
     let es = keyed g.E.Entry.key g.E.Entry.terms c.args.left.now in
     let fs = keyed g.E.Entry.key g.E.Entry.terms c.args.right.now in
     left-alone g.E.Key.Ord.cmp g.met.E.Key.Ord.total es c.args.left_positions.now c.requires.left_rising fs c.args.right_positions.now
@@ -46,8 +46,8 @@ returns-in-Some-None-clause-some g c =
     c.index-left-i-in-Some-None.result c.requires.left c.in-Some-None.ensures.item.3.0 c.in-Some-None.ensures.item.3.1
     c.index-left-i-in-Some-None.is) c.in-Some-None.ensures'.item.3
 
-pub returns-in-None-Some-clause-some : goal.returns-in-None-Some-clause-some
-returns-in-None-Some-clause-some g c =
+pub returns-in-None-Some : goal.returns-in-None-Some
+returns-in-None-Some g c =
     let es = keyed g.E.Entry.key g.E.Entry.terms c.args.left.now in
     let fs = keyed g.E.Entry.key g.E.Entry.terms c.args.right.now in
     right-alone g.E.Key.Ord.cmp g.met.E.Key.Ord.total es c.args.left_positions.now c.requires.left_rising fs c.args.right_positions.now
