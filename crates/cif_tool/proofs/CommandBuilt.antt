@@ -30,19 +30,13 @@ telling a = record a { top = record a.top { has_version = true } }
 abbrev requiring : App → App
 requiring a = record a { top = record a.top { subcommand_required = true } }
 
--- the program's own settings, in the order of their calls
-pub program_made : (name : Text) (version about after : Bor Text) (new versioned told more requires named : Command)
-    → app_of new ≡ new_app name → (out-Command new).has_globals ≡ false
-    → out-Command versioned ≡ record (out-Command new) { version = Some version }
-    → out-Command told ≡ record (out-Command versioned) { about = Some about }
-    → out-Command more ≡ record (out-Command told) { after_help = Some after }
-    → out-Command requires ≡ record (out-Command more) { subcommand_required = true }
-    → out-Command named ≡ record (out-Command requires) { bin_name = (out-Command named).bin_name } → IsCommand (program name) named
-program_made name version about after new versioned told more requires named made none v a m r n = record {
-  app = ap app_of_fields n ∙ (ap app_of_fields r
-      ∙ ap requiring (ap app_of_fields m ∙ (ap app_of_fields a ∙ (ap app_of_fields v ∙ ap telling made))));
-  local = ap (λ f. f.has_globals) n ∙ ap (λ f. f.has_globals) r ∙ ap (λ f. f.has_globals) m ∙ ap (λ f. f.has_globals) a
-      ∙ ap (λ f. f.has_globals) v ∙ none;
+-- the program's own settings
+pub program_made : (name : Text) (version : Bor Text) (made versioned requires : Command) → IsCommand (new_app name) made
+    → out-Command versioned ≡ record (out-Command made) { version = Some version }
+    → out-Command requires ≡ record (out-Command versioned) { subcommand_required = true } → IsCommand (program name) requires
+program_made name version made versioned requires is v r = record {
+  app = ap app_of_fields r ∙ ap requiring (ap app_of_fields v ∙ ap telling is.app);
+  local = ap (λ f. f.has_globals) r ∙ ap (λ f. f.has_globals) v ∙ is.local;
 }
 
 -- with the rest of what it is to take, the command is the whole

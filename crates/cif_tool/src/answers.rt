@@ -1,4 +1,5 @@
-//! What each command answers, for any devices, and which of them a job asks for.
+//! What each command answers, for any devices, and which of them a job asks for. The process ends after
+//! its command: what was read needn't be freed, as the system takes back the memory of all bodies at once.
 ghost use Rattle.cif_canon.specs.Fault.{IsNormaliseFault};
 ghost use Rattle.cif_canon.specs.Pair.{FaultOfBoth, ReadsBoth};
 ghost use Rattle.cif_columns.specs.declared.line_reader.TheConstants.{MAX_LINES};
@@ -40,9 +41,9 @@ pub fn answer_normalise<R: ReadDevice, W: WriteDevice>(
     ensures handed_on { IsHandedOn W.holds_nothing sink.new result }
 {
     let mut kept = None;
-    normalise_keeping(alloc, source, sink, MAX_LINES, asked, form, &mut kept)?;
-    // The process ends after this: the system takes back the memory of all bodies at once.
+    let written = normalise_keeping(alloc, source, sink, MAX_LINES, asked, form, &mut kept);
     mem::forget(kept);
+    written?;
     finish(Ok(()), sink, DONE)
 }
 
@@ -65,8 +66,9 @@ pub fn answer_check<R: ReadDevice, W: WriteDevice>(
     ensures handed_on { IsHandedOn W.holds_nothing sink.new result }
 {
     let mut kept = None;
-    let counts = check_keeping(alloc, source, MAX_LINES, asked, form, &mut kept)?;
+    let counts = check_keeping(alloc, source, MAX_LINES, asked, form, &mut kept);
     mem::forget(kept);
+    let counts = counts?;
     let written = write_counts(&counts, sink).map_err(Fault::from);
     finish(written, sink, DONE)
 }
@@ -92,7 +94,9 @@ pub fn answer_compare<R: ReadDevice, W: WriteDevice>(
     ensures handed_on { IsHandedOn W.holds_nothing sink.new result }
 {
     let (left, right) = read_pair(alloc, left, right, asked, common)?;
-    let comparison = compare(alloc, &left, &right)?;
+    let comparison = compare(alloc, &left, &right);
+    mem::forget((left, right));
+    let comparison = comparison?;
     let written = write_comparison(&comparison, sink).map_err(Fault::from);
     finish(written, sink, outcome(&comparison))
 }
@@ -139,7 +143,9 @@ pub fn answer_day<R: ReadDevice, W: WriteDevice>(
     ensures handed_on { IsHandedOn W.holds_nothing sink.new result }
 {
     let extract = read_extract(alloc, source, MAX_LINES)?;
-    finish(day_listing(alloc, &extract, day, sink, layout), sink, DONE)
+    let written = day_listing(alloc, &extract, day, sink, layout);
+    mem::forget(extract);
+    finish(written, sink, DONE)
 }
 
 /// Writes when the train runs, in this layout, and answers status 0.
@@ -162,11 +168,9 @@ pub fn answer_train<R: ReadDevice, W: WriteDevice>(
     ensures handed_on { IsHandedOn W.holds_nothing sink.new result }
 {
     let extract = read_narrowed(alloc, source, MAX_LINES, asked)?;
-    finish(
-        train_listing(alloc, &extract, uid, sink, form, layout),
-        sink,
-        DONE,
-    )
+    let written = train_listing(alloc, &extract, uid, sink, form, layout);
+    mem::forget(extract);
+    finish(written, sink, DONE)
 }
 
 /// Writes why the train runs on the day, or doesn't, in this format, and answers status 0.
@@ -187,11 +191,9 @@ pub fn answer_explain<R: ReadDevice, W: WriteDevice>(
     ensures handed_on { IsHandedOn W.holds_nothing sink.new result }
 {
     let extract = read_extract(alloc, source, MAX_LINES)?;
-    finish(
-        explain_listing(alloc, &extract, uid, day, sink, format),
-        sink,
-        DONE,
-    )
+    let written = explain_listing(alloc, &extract, uid, day, sink, format);
+    mem::forget(extract);
+    finish(written, sink, DONE)
 }
 
 /// Writes all clashes, and answers 0 where there is none, else 1.
@@ -211,7 +213,9 @@ pub fn answer_clashes<R: ReadDevice, W: WriteDevice>(
 {
     let mut extract = read_extract(alloc, source, MAX_LINES)?;
     narrow(&mut extract, asked)?;
-    let found = clashes(alloc, &extract)?;
+    let found = clashes(alloc, &extract);
+    mem::forget(extract);
+    let found = found?;
     finish(found.write(sink), sink, listed(found.is_empty()))
 }
 

@@ -185,6 +185,13 @@ fn arg_of<'a>(alloc: Global, given: Given<'a>, choices: &Choices<'a>) -> Arg<'a>
     }
 }
 
+/// A command of this name, and what help says of it.
+fn described<'a>(alloc: Global, name: &'a str, about: &'a str, more: &'a str) -> Command<'a>
+    ensures { IsCommand (new_app name.entry.now) result }
+{
+    Command::new(alloc, name).about(about).after_help(more)
+}
+
 /// The command, with the subcommand of these parts too.
 fn with_parts<'a>(
     alloc: Global,
@@ -196,9 +203,7 @@ fn with_parts<'a>(
     ensures { IfOk result (IsCommand (with_subcommand (app_of command.entry)
         (taking choices.now (new_app parts.now.name.now) parts.now.arguments.now).top)) }
 {
-    let mut subcommand = Command::new(alloc, parts.name)
-        .about(parts.about)
-        .after_help(parts.more);
+    let mut subcommand = described(alloc, parts.name, parts.about, parts.more);
     for which in parts.arguments {
         subcommand = subcommand.arg(arg_of(alloc, which.given(), choices))?;
     }
@@ -291,16 +296,13 @@ fn subcommands() -> &'static [Parts<'static>]
 fn program<'a>(alloc: Global, choices: &Choices<'a>) -> Result<Command<'a>, AllocError>
     ensures { IfOk result (IsCommand (cif choices.now)) }
 {
-    let mut command = Command::new(alloc, "cif")
+    let mut command = described(alloc, "cif", help::CIF, help::CIF_MORE)
         .version("0.1.0")
-        .about(help::CIF)
-        .after_help(help::CIF_MORE)
-        .subcommand_required(true)
-        .bin_name("cif")?;
+        .subcommand_required(true);
     for parts in subcommands() {
         command = with_parts(alloc, command, parts, choices)?;
     }
-    Ok(command)
+    command.bin_name("cif")
 }
 
 /// The matches that `clap` gives for the words, of which the first is the program's name.

@@ -27,13 +27,13 @@ pub fn run<R: Env + Files + Input + Print + AllocGlobal, E: Print>(rt: &R, error
     let mut errors = Sink::new(io::writer(errors));
     match words_of(rt) {
         Ok(words) => asked(rt, words, &mut errors),
-        Err(error) if error.kind() == ErrorKind::OutOfMemory => end(
-            &Err(Fault::Memory),
-            &mut errors,
-        ),
-        Err(_) => {
-            let _ = errors.write_all(NOT_TEXT.as_bytes());
-            MISTAKEN
+        Err(error) => {
+            if error.kind() == ErrorKind::OutOfMemory {
+                end(&Err(Fault::Memory), &mut errors)
+            } else {
+                let _ = errors.write_all(NOT_TEXT.as_bytes());
+                MISTAKEN
+            }
         }
     }
 }
@@ -46,7 +46,12 @@ fn asked<R: Env + Files + Input + Print + AllocGlobal, W: WriteDevice>(
 ) -> u8 {
     let verbose = is_verbose(words.as_slice());
     match job_of(rt.alloc(), words) {
-        Ok(job) => done(rt, &job, verbose, errors),
+        Ok(job) => {
+            let status = done(rt, &job, verbose, errors);
+            // The process ends after this: nothing is gained by freeing it.
+            mem::forget(job);
+            status
+        }
         Err(fault) => match words_of(rt) {
             Ok(words) => refused(rt, words.as_slice(), fault, verbose, errors),
             Err(_) => end(&Err(Fault::Memory), errors),
@@ -64,7 +69,7 @@ fn refused<R: Print + AllocGlobal, W: WriteDevice>(
     verbose: bool,
     errors: &mut Sink<W>,
 ) -> u8 {
-    let fault = escaped(rt.alloc(), words, fault);
+    let fault = escaped(rt.alloc(), words, &fault).unwrap_or(fault);
     let answer = explained(rt.alloc(), &fault, io::writer(rt), errors);
     let status = end(&answer, errors);
     if verbose {
@@ -161,19 +166,16 @@ fn explained<O: WriteDevice + Drop, W: WriteDevice>(
     }
 }
 
-/// Why the words are mistaken, with their control characters escaped: `clap`'s text has the words.
-/// Escaped words are mistaken in the same way.
-fn escaped(alloc: Global, words: &[String], fault: JobFault) -> JobFault {
+/// Why the words are mistaken with their control characters escaped, if they have some: `clap`'s text
+/// has the words. Escaped words are mistaken in the same way.
+fn escaped(alloc: Global, words: &[String], fault: &JobFault) -> Option<JobFault> {
     if fault.status() != MISTAKEN {
-        return fault;
+        return None;
     }
     match escaped_words(alloc, words) {
-        Ok(shown) if shown.as_slice() == words => fault,
-        Ok(shown) => match job_of(alloc, shown) {
-            Ok(_) => fault,
-            Err(shown) => shown,
-        },
-        Err(_) => JobFault::Memory,
+        Ok(shown) if shown.as_slice() != words => job_of(alloc, shown).err(),
+        Ok(_) => None,
+        Err(_) => Some(JobFault::Memory),
     }
 }
 

@@ -2,7 +2,6 @@
 use Rattle.std.proofs.Common.{◌∙◌, ◌||◌, ap, ap₂, sym}
 use Rattle.std.proofs.lemmas.List.{at_drop_all}
 use Rattle.std.proofs.lemmas.Result.{IfOk-weaker}
-use Rattle.clap.specs.Simple.{app_of_fields}
 use Rattle.clap.specs.Words.{App, app_of, with_subcommand}
 use Rattle.cif_tool.specs.CommandLine.{argument, taking}
 use Rattle.cif_tool.proofs.CommandBuilt.{argument_taken}
@@ -10,9 +9,8 @@ use Rattle.cif_tool.proofs.command_line.with_parts.Goals as goal
 
 pub loop-which-init : goal.loop-which-init
 loop-which-init c = record {
-  app = ap (λ (a : App). taking c.args.choices.now a c.args.parts.now.arguments.now)
-      (ap app_of_fields c.after_help-subcommand.ensures ∙ ap app_of_fields c.about.ensures ∙ c.new.ensures.app);
-  local = ap (λ f. f.has_globals) c.after_help-subcommand.ensures ∙ ap (λ f. f.has_globals) c.about.ensures ∙ c.new.ensures.local;
+  app = ap (λ (a : App). taking c.args.choices.now a c.args.parts.now.arguments.now) c.described-subcommand.ensures.app;
+  local = c.described-subcommand.ensures.local;
 }
 
 pub loop-which-preserved : goal.loop-which-preserved
