@@ -1,5 +1,4 @@
-//! What each command answers, for any devices, and which of them a job asks for. The process ends after
-//! its command: what was read needn't be freed, as the system takes back the memory of all bodies at once.
+//! What each command answers, for any devices, and which of them a job asks for.
 ghost use Rattle.cif_canon.specs.Fault.{IsNormaliseFault};
 ghost use Rattle.cif_canon.specs.Pair.{FaultOfBoth, ReadsBoth};
 ghost use Rattle.cif_columns.specs.declared.line_reader.TheConstants.{MAX_LINES};
@@ -41,9 +40,9 @@ pub fn answer_normalise<R: ReadDevice, W: WriteDevice>(
     ensures handed_on { IsHandedOn W.holds_nothing sink.new result }
 {
     let mut kept = None;
-    let written = normalise_keeping(alloc, source, sink, MAX_LINES, asked, form, &mut kept);
+    normalise_keeping(alloc, source, sink, MAX_LINES, asked, form, &mut kept)?;
+    // The process ends after this: the system takes back the memory of all bodies at once.
     mem::forget(kept);
-    written?;
     finish(Ok(()), sink, DONE)
 }
 
@@ -66,9 +65,8 @@ pub fn answer_check<R: ReadDevice, W: WriteDevice>(
     ensures handed_on { IsHandedOn W.holds_nothing sink.new result }
 {
     let mut kept = None;
-    let counts = check_keeping(alloc, source, MAX_LINES, asked, form, &mut kept);
+    let counts = check_keeping(alloc, source, MAX_LINES, asked, form, &mut kept)?;
     mem::forget(kept);
-    let counts = counts?;
     let written = write_counts(&counts, sink).map_err(Fault::from);
     finish(written, sink, DONE)
 }
@@ -94,9 +92,7 @@ pub fn answer_compare<R: ReadDevice, W: WriteDevice>(
     ensures handed_on { IsHandedOn W.holds_nothing sink.new result }
 {
     let (left, right) = read_pair(alloc, left, right, asked, common)?;
-    let comparison = compare(alloc, &left, &right);
-    mem::forget((left, right));
-    let comparison = comparison?;
+    let comparison = compare(alloc, &left, &right)?;
     let written = write_comparison(&comparison, sink).map_err(Fault::from);
     finish(written, sink, outcome(&comparison))
 }
@@ -143,9 +139,7 @@ pub fn answer_day<R: ReadDevice, W: WriteDevice>(
     ensures handed_on { IsHandedOn W.holds_nothing sink.new result }
 {
     let extract = read_extract(alloc, source, MAX_LINES)?;
-    let written = day_listing(alloc, &extract, day, sink, layout);
-    mem::forget(extract);
-    finish(written, sink, DONE)
+    finish(day_listing(alloc, &extract, day, sink, layout), sink, DONE)
 }
 
 /// Writes when the train runs, in this layout, and answers status 0.
@@ -168,9 +162,11 @@ pub fn answer_train<R: ReadDevice, W: WriteDevice>(
     ensures handed_on { IsHandedOn W.holds_nothing sink.new result }
 {
     let extract = read_narrowed(alloc, source, MAX_LINES, asked)?;
-    let written = train_listing(alloc, &extract, uid, sink, form, layout);
-    mem::forget(extract);
-    finish(written, sink, DONE)
+    finish(
+        train_listing(alloc, &extract, uid, sink, form, layout),
+        sink,
+        DONE,
+    )
 }
 
 /// Writes why the train runs on the day, or doesn't, in this format, and answers status 0.
@@ -191,9 +187,11 @@ pub fn answer_explain<R: ReadDevice, W: WriteDevice>(
     ensures handed_on { IsHandedOn W.holds_nothing sink.new result }
 {
     let extract = read_extract(alloc, source, MAX_LINES)?;
-    let written = explain_listing(alloc, &extract, uid, day, sink, format);
-    mem::forget(extract);
-    finish(written, sink, DONE)
+    finish(
+        explain_listing(alloc, &extract, uid, day, sink, format),
+        sink,
+        DONE,
+    )
 }
 
 /// Writes all clashes, and answers 0 where there is none, else 1.
@@ -213,9 +211,7 @@ pub fn answer_clashes<R: ReadDevice, W: WriteDevice>(
 {
     let mut extract = read_extract(alloc, source, MAX_LINES)?;
     narrow(&mut extract, asked)?;
-    let found = clashes(alloc, &extract);
-    mem::forget(extract);
-    let found = found?;
+    let found = clashes(alloc, &extract)?;
     finish(found.write(sink), sink, listed(found.is_empty()))
 }
 

@@ -28,7 +28,7 @@ returns-clause-answer g c =
 
 pub returns-clause-fault : goal.returns-clause-fault
 returns-clause-fault g c =
-    let after = g.R.Read.remaining (reader_of c.check_keeping-counts.new.source) in
+    let after = g.R.Read.remaining (reader_of c.check_keeping.new.source) in
     let call = c.map_err-written in
     let told = told-as _ _ _ _ _ _ _ c.write_counts.result call.result call.ensures.cases c.write_counts.ensures in
     known_so _ _ _ (λ bytes is.

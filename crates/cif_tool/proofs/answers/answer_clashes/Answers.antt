@@ -4,7 +4,6 @@ use Rattle.cif_columns.specs.Source.{reader_of}
 use Rattle.cif_columns.proofs.GivenLinesLaws.{known_so}
 use Rattle.cif_extract.specs.ExtractParts.{extract_parts}
 use Rattle.cif_extract.specs.declared.fault.Fault.TheVariants.{Read, Write}
-use Rattle.cif_canon.specs.Asked.{IsNarrowingFault}
 use Rattle.cif_canon.specs.Clashes.{clashes_text}
 use Rattle.cif_canon.proofs.HandedFaults.{at-fault, hands, known-fault}
 use Rattle.cif_tool.specs.Answer.{IsClashesRefusal}
@@ -21,13 +20,6 @@ returns-in_err-narrow-clause-fault g c =
     (λ bytes. IsClashesRefusal c.args.asked.now bytes after)
     (λ bytes spelled. inr (extract_parts c.in_ok-extract.extract, spelled, inl c.in_err-narrow.ensures.fault))
     c.in_ok-extract.ensures.ok
-
-pub returns-in_err-narrow-clause-answer : goal.returns-in_err-narrow-clause-answer
-returns-in_err-narrow-clause-answer g c =
-    let call = c.from_residual-in_err-narrow in
-    let f = c.in_err-narrow.field-0.0 in
-    fails-silently _ _ _ c.args.sink.now call.result f (at-fault call.result f call.ensures.1)
-    (λ is. subst (IsNarrowingFault c.args.asked.now (extract_parts c.in_ok-extract.extract).header) is c.in_err-narrow.ensures.fault)
 
 pub returns-in_err-found-clause-answer : goal.returns-in_err-found-clause-answer
 returns-in_err-found-clause-answer g c =
@@ -61,13 +53,6 @@ returns-clause-fault g c =
     only-fails _ _ _ (IsClashesRefusal c.args.asked.now bytes after) c.listed.result c.write.result c.write.new.sink
     c.finish.new.sink c.finish.result c.write.ensures.fault
     (inr (extract_parts c.in_ok-extract.extract, spelled, inr (inr refl))) c.finish.ensures.finishes) c.in_ok-extract.ensures.ok
-
-pub returns-in_err-narrow-clause-source : goal.returns-in_err-narrow-clause-source
-returns-in_err-narrow-clause-source g c =
-    let call = c.from_residual-in_err-narrow in
-    read-on _ _ _ call.result (hands call.result c.in_err-narrow.field-0.0 call.ensures.1 (λ f. f ≢ Read)
-    (λ is. subst (IsNarrowingFault c.args.asked.now (extract_parts c.in_ok-extract.extract).header) is c.in_err-narrow.ensures.fault))
-    c.in_ok-extract.ensures.device
 
 pub returns-in_err-found-clause-source : goal.returns-in_err-found-clause-source
 returns-in_err-found-clause-source g c =

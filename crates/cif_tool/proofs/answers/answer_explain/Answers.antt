@@ -13,7 +13,7 @@ use Rattle.cif_tool.proofs.answers.answer_explain.Goals as goal
 
 pub returns-clause-answer : goal.returns-clause-answer
 returns-clause-answer g c =
-    let call = c.explain_listing-written in
+    let call = c.explain_listing in
     let view = call.ensures.view in
     let x = extract_parts c.in_ok-extract.extract in
     handed _ _ _ _ view.0 0 _ call.result call.new.sink c.finish.new.sink c.finish.result view.1
@@ -24,7 +24,7 @@ pub returns-clause-fault : goal.returns-clause-fault
 returns-clause-fault g c =
     let after = g.R.Read.remaining (reader_of c.read_extract.new.source) in
     let x = extract_parts c.in_ok-extract.extract in
-    let call = c.explain_listing-written in
+    let call = c.explain_listing in
     known_so _ _ _ (λ bytes spelled.
     handed-fault _ _ _ (IsExplanationFault x c.args.day) (IsExplainRefusal c.args.day bytes after) 0 call.result call.new.sink
     c.finish.new.sink c.finish.result (λ f is. inr (x, spelled, is)) call.ensures.fault
@@ -33,7 +33,7 @@ returns-clause-fault g c =
 pub returns-clause-source : goal.returns-clause-source
 returns-clause-source g c =
     let x = extract_parts c.in_ok-extract.extract in
-    let call = c.explain_listing-written in
+    let call = c.explain_listing in
     read-on _ _ _ c.finish.result
     (handed-fault _ _ _ (IsExplanationFault x c.args.day) (λ f. f ≢ Read) 0 call.result call.new.sink c.finish.new.sink c.finish.result
     (λ f is read. subst (IsExplanationFault x c.args.day) read is) call.ensures.fault

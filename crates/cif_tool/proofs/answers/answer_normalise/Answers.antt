@@ -12,28 +12,28 @@ use Rattle.cif_canon.proofs.BothRead.{read-on}
 use Rattle.cif_tool.proofs.KnownAnswers.{normalise-answer, normalise-failed}
 use Rattle.cif_tool.proofs.answers.answer_normalise.Goals as goal
 
-pub returns-in_err-written-clause-answer : goal.returns-in_err-written-clause-answer
-returns-in_err-written-clause-answer g c =
-    let f = c.in_err-written.field-0.0 in
+pub returns-in_err-normalise_keeping-clause-answer : goal.returns-in_err-normalise_keeping-clause-answer
+returns-in_err-normalise_keeping-clause-answer g c =
+    let f = c.in_err-normalise_keeping.field-0.0 in
     let is = at-fault c.from_residual.result f c.from_residual.ensures.1 in
-    let made = c.in_err-written.ensures.normal in
-    fails _ _ _ _ made.0 0 Counts c.normalise_keeping-written.new.sink c.from_residual.result f is made.1
+    let made = c.in_err-normalise_keeping.ensures.normal in
+    fails _ _ _ _ made.0 0 Counts c.normalise_keeping.new.sink c.from_residual.result f is made.1
     (normalise-failed _ c.args.form c.args.asked.now made.0 f made.2)
 
 pub returns-clause-answer : goal.returns-clause-answer
 returns-clause-answer g c =
-    let made = c.in_ok-written.ensures.normal in
+    let made = c.in_ok-normalise_keeping.ensures.normal in
     let hands = c.finish.ensures.finishes in
-    flushed _ _ _ _ made.0 0 c.normalise_keeping-written.new.sink c.finish.new.sink c.finish.result made.1 hands.0 hands.1 hands.2
-    (normalise-answer _ c.args.form c.args.asked.now c.in_ok-written.field-0 made.0 made.2)
+    flushed _ _ _ _ made.0 0 c.normalise_keeping.new.sink c.finish.new.sink c.finish.result made.1 hands.0 hands.1 hands.2
+    (normalise-answer _ c.args.form c.args.asked.now c.in_ok-normalise_keeping.field-0 made.0 made.2)
 
 pub returns-clause-fault : goal.returns-clause-fault
 returns-clause-fault g c =
-    let after = g.R.Read.remaining (reader_of c.normalise_keeping-written.new.source) in
+    let after = g.R.Read.remaining (reader_of c.normalise_keeping.new.source) in
     known_so _ _ _ (λ bytes is. only-write (IsNormaliseFault MAX_LINES c.args.asked.now bytes after) c.finish.result
-    c.finish.ensures.finishes.2 tt) c.in_ok-written.ensures.normal.2
+    c.finish.ensures.finishes.2 tt) c.in_ok-normalise_keeping.ensures.normal.2
 
 pub returns-clause-source : goal.returns-clause-source
 returns-clause-source g c =
     read-on _ _ _ c.finish.result (only-write (λ f. f ≢ Read) c.finish.result c.finish.ensures.finishes.2 (λ is. cc))
-    c.in_ok-written.ensures.source
+    c.in_ok-normalise_keeping.ensures.source
