@@ -1,32 +1,45 @@
--- For each such command the job that was matched is put in.
+-- For each command the job that was matched is put in, and its function keeps each clause. A second source that it doesn't take is
+-- left alone.
+use Rattle.std.proofs.Common.{refl}
 use Rattle.cif_tool.proofs.answers.answer.Goals as goal
 
-pub returns-in-Compare-clause-answer : goal.returns-in-Compare-clause-answer
-returns-in-Compare-clause-answer g c = rw c.in-Compare.is c.answer_compare.ensures.answer
+pub returns-in-Normalise : goal.returns-in-Normalise
+returns-in-Normalise g c =
+    let e = c.answer_normalise.ensures in
+    rw c.in-Normalise.is record { answer = e.answer; fault = e.fault; sources = (e.source, e.end, refl); handed_on = e.handed_on }
 
-pub returns-in-Compare-clause-fault : goal.returns-in-Compare-clause-fault
-returns-in-Compare-clause-fault g c = rw c.in-Compare.is c.answer_compare.ensures.fault
+pub returns-in-Check : goal.returns-in-Check
+returns-in-Check g c =
+    let e = c.answer_check.ensures in
+    rw c.in-Check.is record { answer = e.answer; fault = e.fault; sources = (e.source, e.end, refl); handed_on = e.handed_on }
 
-pub returns-in-Diff-clause-answer : goal.returns-in-Diff-clause-answer
-returns-in-Diff-clause-answer g c = rw c.in-Diff.is c.answer_diff.ensures.answer
+pub returns-in-Compare : goal.returns-in-Compare
+returns-in-Compare g c =
+    let e = c.answer_compare.ensures in
+    rw c.in-Compare.is
+    record { answer = e.answer; fault = e.fault; sources = (e.sources, e.left_end, e.right_end); handed_on = e.handed_on }
 
-pub returns-in-Diff-clause-fault : goal.returns-in-Diff-clause-fault
-returns-in-Diff-clause-fault g c = rw c.in-Diff.is c.answer_diff.ensures.fault
+pub returns-in-Diff : goal.returns-in-Diff
+returns-in-Diff g c =
+    let e = c.answer_diff.ensures in
+    rw c.in-Diff.is record { answer = e.answer; fault = e.fault; sources = (e.sources, e.left_end, e.right_end); handed_on = e.handed_on }
 
-pub returns-in-Day-clause-answer : goal.returns-in-Day-clause-answer
-returns-in-Day-clause-answer g c = rw c.in-Day.is c.answer_day.ensures.answer
+pub returns-in-Day : goal.returns-in-Day
+returns-in-Day g c =
+    let e = c.answer_day.ensures in
+    rw c.in-Day.is record { answer = e.answer; fault = e.fault; sources = (e.source, e.end, refl); handed_on = e.handed_on }
 
-pub returns-in-Day-clause-fault : goal.returns-in-Day-clause-fault
-returns-in-Day-clause-fault g c = rw c.in-Day.is c.answer_day.ensures.fault
+pub returns-in-Train : goal.returns-in-Train
+returns-in-Train g c =
+    let e = c.answer_train.ensures in
+    rw c.in-Train.is record { answer = e.answer; fault = e.fault; sources = (e.source, e.end, refl); handed_on = e.handed_on }
 
-pub returns-in-Explain-clause-answer : goal.returns-in-Explain-clause-answer
-returns-in-Explain-clause-answer g c = rw c.in-Explain.is c.answer_explain.ensures.answer
+pub returns-in-Explain : goal.returns-in-Explain
+returns-in-Explain g c =
+    let e = c.answer_explain.ensures in
+    rw c.in-Explain.is record { answer = e.answer; fault = e.fault; sources = (e.source, e.end, refl); handed_on = e.handed_on }
 
-pub returns-in-Explain-clause-fault : goal.returns-in-Explain-clause-fault
-returns-in-Explain-clause-fault g c = rw c.in-Explain.is c.answer_explain.ensures.fault
-
-pub returns-in-Clashes-clause-answer : goal.returns-in-Clashes-clause-answer
-returns-in-Clashes-clause-answer g c = rw c.in-Clashes.is c.answer_clashes.ensures.answer
-
-pub returns-in-Clashes-clause-fault : goal.returns-in-Clashes-clause-fault
-returns-in-Clashes-clause-fault g c = rw c.in-Clashes.is c.answer_clashes.ensures.fault
+pub returns-in-Clashes : goal.returns-in-Clashes
+returns-in-Clashes g c =
+    let e = c.answer_clashes.ensures in
+    rw c.in-Clashes.is record { answer = e.answer; fault = e.fault; sources = (e.source, e.end, refl); handed_on = e.handed_on }
