@@ -1,5 +1,6 @@
 -- The text has to be named: the line of the counts, flushed or a prefix; of known bytes `check-answer` says that it answers.
-use Rattle.std.proofs.Common.{◌≢◌, refl, subst}
+use Rattle.std.proofs.Common.{◌≢◌, refl, subst, sym}
+use Rattle.cif_extract.specs.ReadFault.{FaultOf}
 use Rattle.cif_extract.specs.declared.fault.Fault.TheVariants.{Read}
 use Rattle.cif_canon.proofs.HandedFaults.{at-fault}
 use Rattle.cif_canon.specs.Counts.{counts_line}
@@ -17,6 +18,11 @@ returns-in_err-counts-clause-answer g c =
     let f = c.in_err-counts.field-0.0 in
     fails-silently _ _ _ c.args.sink.now c.from_residual.result f (at-fault c.from_residual.result f c.from_residual.ensures.1)
     (λ write. subst (IsOfCheck MAX_LINES) write c.in_err-counts.ensures.answers)
+
+pub returns-in_err-counts-clause-fault : goal.returns-in_err-counts-clause-fault
+returns-in_err-counts-clause-fault g c =
+    subst (FaultOf g.R.Read.remaining (IsNormaliseFault MAX_LINES c.args.asked.now) c.args.source.now c.check_keeping.new.source)
+    (sym (at-fault c.from_residual.result c.in_err-counts.field-0.0 c.from_residual.ensures.1)) c.in_err-counts.ensures.fault
 
 pub returns-clause-answer : goal.returns-clause-answer
 returns-clause-answer g c =

@@ -1,8 +1,9 @@
 -- The text has to be named: what `normalise` wrote, flushed or a prefix; of known bytes `normalise-answer` says that it answers.
-use Rattle.std.proofs.Common.{◌≢◌}
+use Rattle.std.proofs.Common.{◌≢◌, subst, sym}
 use Rattle.cif_columns.specs.Source.{reader_of}
 use Rattle.cif_columns.specs.declared.line_reader.TheConstants.{MAX_LINES}
 use Rattle.cif_columns.proofs.GivenLinesLaws.{known_so}
+use Rattle.cif_extract.specs.ReadFault.{FaultOf}
 use Rattle.cif_extract.specs.declared.fault.Fault.TheVariants.{Read}
 use Rattle.cif_canon.specs.Fault.{IsNormaliseFault}
 use Rattle.cif_canon.proofs.HandedFaults.{at-fault}
@@ -19,6 +20,12 @@ returns-in_err-normalise_keeping-clause-answer g c =
     let made = c.in_err-normalise_keeping.ensures.normal in
     fails _ _ _ _ made.0 0 Counts c.normalise_keeping.new.sink c.from_residual.result f is made.1
     (normalise-failed _ c.args.form c.args.asked.now made.0 f made.2)
+
+pub returns-in_err-normalise_keeping-clause-fault : goal.returns-in_err-normalise_keeping-clause-fault
+returns-in_err-normalise_keeping-clause-fault g c =
+    subst (FaultOf g.R.Read.remaining (IsNormaliseFault MAX_LINES c.args.asked.now) c.args.source.now c.normalise_keeping.new.source)
+    (sym (at-fault c.from_residual.result c.in_err-normalise_keeping.field-0.0 c.from_residual.ensures.1))
+    c.in_err-normalise_keeping.ensures.fault
 
 pub returns-clause-answer : goal.returns-clause-answer
 returns-clause-answer g c =
