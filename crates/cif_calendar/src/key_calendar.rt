@@ -108,11 +108,6 @@ impl Calendar {
     {
         self.pieces.as_slice()
     }
-
-    /// The room of its pieces, for another calendar. What it holds is not promised.
-    pub fn into_room(self) -> Vec<Piece> {
-        self.pieces
-    }
 }
 
 /// Why there is no calendar.

@@ -10,4 +10,4 @@ mod stretch;
 
 pub use entry::{Entry, same_body};
 pub use key_calendar::{Calendar, CalendarFault, Piece, Window};
-pub use pieces::{calendar, calendar_in_room};
+pub use pieces::calendar;

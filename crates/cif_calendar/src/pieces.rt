@@ -48,7 +48,7 @@ fn judge<E: Entry>(
 
 /// The calendar of the entries at `members`, from their stretches.
 fn calendar_of<E: Entry>(
-    room: Vec<Piece>,
+    alloc: Global,
     entries: &[E],
     members: &[usize],
     stretches: &[Stretch],
@@ -59,8 +59,7 @@ fn calendar_of<E: Entry>(
         stretches.now }
     ensures { IsAnswer (map E.terms entries.now) members.now window.first window.last result }
 {
-    let mut pieces = room;
-    pieces.clear();
+    let mut pieces = Vec::new(alloc);
     let mut first = window.first;
     for stretch in stretches {
         let Ok(()) = pieces.push(judge(entries, members, first, stretch)?) else {
@@ -79,6 +78,9 @@ fn calendar_of<E: Entry>(
 /// together, whatever their keys. `Ambiguous` comes where two winners of a date of the window have
 /// different bodies, and names the first such date; a clash among records that do not win is no
 /// fault. `Memory` comes where a request for memory was refused.
+///
+/// The stretches of many members are made from those of both halves: the time is proportional to
+/// their number times its logarithm.
 pub fn calendar<E: Entry>(
     alloc: Global,
     entries: &[E],
@@ -88,24 +90,6 @@ pub fn calendar<E: Entry>(
     requires positions { All (λ i. i < length entries.now) members.now }
     ensures { IsAnswer (map E.terms entries.now) members.now window.first window.last result }
 {
-    calendar_in_room(Vec::new(alloc), entries, members, window)
-}
-
-/// The same calendar, in the memory of pieces that are no longer needed: `Calendar::into_room` gives
-/// that of an earlier calendar.
-///
-/// The stretches of many members are made from those of both halves: the time is proportional to
-/// their number times its logarithm.
-pub fn calendar_in_room<E: Entry>(
-    room: Vec<Piece>,
-    entries: &[E],
-    members: &[usize],
-    window: Window,
-) -> Result<Calendar, CalendarFault>
-    requires positions { All (λ i. i < length entries.now) members.now }
-    ensures { IsAnswer (map E.terms entries.now) members.now window.first window.last result }
-{
-    let alloc = *room.allocator();
     let mut alike = vec![in alloc; None; members.len()]?;
     let stretches = stretches_of(
         alloc,
@@ -116,5 +100,5 @@ pub fn calendar_in_room<E: Entry>(
         members,
         &window,
     )?;
-    calendar_of(room, entries, members, stretches.as_slice(), window)
+    calendar_of(alloc, entries, members, stretches.as_slice(), window)
 }

@@ -18,7 +18,7 @@ use crate::records::{extract_runs, window_of};
 use crate::tiplocs::first_different_tiploc;
 use crate::turns::{NamedEntry, first_key, positions_by_key};
 use arrayvec::ArrayString;
-use cif_calendar::{Calendar, CalendarFault, Entry, Piece, Window, calendar_in_room, same_body};
+use cif_calendar::{Calendar, CalendarFault, Entry, Piece, Window, calendar, same_body};
 use cif_columns::{Day, Sink, Uid, WriteDevice, WriteFault, as_text};
 use cif_extract::{Clash, Extract, Fault};
 use cif_records::{AssocKey, Tiploc};
@@ -178,16 +178,12 @@ where
     let right_positions = positions_by_key(alloc, right)?;
     let mut left_rest = left_positions.as_slice();
     let mut right_rest = right_positions.as_slice();
-    let mut left_room = Vec::new(alloc);
-    let mut right_room = Vec::new(alloc);
     while let Some(first) = first_key(left, left_rest, right, right_rest) {
-        let one = clear_calendar(left_room, left, first.left, window)?;
-        let other = clear_calendar(right_room, right, first.right, window)?;
+        let one = clear_calendar(alloc, left, first.left, window)?;
+        let other = clear_calendar(alloc, right, first.right, window)?;
         if let Some(day) = first_day(left, &one, right, &other) {
             return Ok(Some((first.entry, day)));
         }
-        left_room = one.into_room();
-        right_room = other.into_room();
         left_rest = first.left_later;
         right_rest = first.right_later;
     }
@@ -196,7 +192,7 @@ where
 
 /// The calendar of the entries at `members`, which have no clash in the window.
 pub(crate) fn clear_calendar<E: Entry>(
-    room: Vec<Piece>,
+    alloc: Global,
     entries: &[E],
     members: &[usize],
     window: &Window,
@@ -207,7 +203,7 @@ pub(crate) fn clear_calendar<E: Entry>(
     ensures { IfOk result (IsCalendar (map E.terms entries.now) members.now
         window.now.first window.now.last) }
 {
-    match calendar_in_room(room, entries, members, *window) {
+    match calendar(alloc, entries, members, *window) {
         Ok(calendar) => Ok(calendar),
         Err(CalendarFault::Memory) => Err(AllocError),
         Err(CalendarFault::Ambiguous(_)) => unreachable!(),

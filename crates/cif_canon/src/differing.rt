@@ -157,15 +157,11 @@ where
     let right_positions = positions_by_key(alloc, right)?;
     let mut left_rest = left_positions.as_slice();
     let mut right_rest = right_positions.as_slice();
-    let mut left_room = Vec::new(alloc);
-    let mut right_room = Vec::new(alloc);
     let mut found = Vec::new(alloc);
     while let Some(first) = first_key(left, left_rest, right, right_rest) {
-        let one = clear_calendar(left_room, left, first.left, window)?;
-        let other = clear_calendar(right_room, right, first.right, window)?;
+        let one = clear_calendar(alloc, left, first.left, window)?;
+        let other = clear_calendar(alloc, right, first.right, window)?;
         push_differences(alloc, &mut found, left, &one, right, &other)?;
-        left_room = one.into_room();
-        right_room = other.into_room();
         left_rest = first.left_later;
         right_rest = first.right_later;
     }

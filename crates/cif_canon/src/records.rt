@@ -1,5 +1,5 @@
 //! The canonical records of an extract, key by key.
-ghost use Rattle.std.specs.Prelude.{◌≡◌, ◌<◌, IfErr, IfOk, All, length};
+ghost use Rattle.std.specs.Prelude.{◌≡◌, ◌<◌, IfErr, IfOk, OnOk, All, length};
 ghost use Rattle.std.specs.Cmp.Lexicographic.{slice_cmp};
 ghost use Rattle.std.specs.Ordering.{nat_cmp};
 ghost use Rattle.cif_calendar.specs.Entries.{association_entries, schedule_entries};
@@ -14,10 +14,10 @@ ghost use Rattle.cif_weeks.specs.Window.{window_from};
 ghost use Rattle.cif_weeks.specs.declared.form.Form.{Form as AForm};
 
 use crate::turns::{NamedEntry, count_of_first_key, positions_by_key};
-use cif_calendar::{CalendarFault, Entry, Piece, Window, calendar_in_room};
+use cif_calendar::{CalendarFault, Entry, Window, calendar};
 use cif_columns::Day;
 use cif_extract::{Extract, Fault};
-use cif_weeks::{Form, Run, runs_in_room, runs_of_few};
+use cif_weeks::{Form, Run, runs, runs_of_few};
 use std::alloc::Global;
 
 /// The runs of an extract's canonical records in a form, by kind, each rising by key and first date.
@@ -72,53 +72,43 @@ fn fault_of<E: NamedEntry>(fault: CalendarFault, entry: &E) -> Fault
     }
 }
 
-/// The pieces of a key's calendar and the runs of its canonical records. Those of the next key take
-/// their room.
-#[derive(Drop)]
-struct KeyRoom {
-    pieces: Vec<Piece>,
-    runs: Vec<Run>,
-}
-
-/// The runs of one key's canonical records, in the room of another key's. The key's entries are at
-/// `members`.
-fn runs_of_key<E: NamedEntry>(
-    room: KeyRoom,
+/// Makes the runs of one key's canonical records, in place of those that the list has. The key's
+/// entries are at `members`.
+fn make_runs_of_key<E: NamedEntry>(
+    alloc: Global,
+    made: &mut Vec<Run>,
     entries: &[E],
     members: &[usize],
     window: &Window,
     form: Form,
-) -> Result<KeyRoom, Fault>
+) -> Result<(), Fault>
     requires within { All (λ i. i < length entries.now) members.now }
     requires some { 0 < length members.now }
-    ensures runs { IfOk result (λ room. (k : E.Key) →
+    ensures runs { OnOk result ((k : E.Key) →
         ArePositionsOf (keyed E.key E.terms entries.now) k members.now →
         AreRunsOfKey form (window_from window.now.first window.now.last)
-        (keyed E.key E.terms entries.now) k room.runs.items) }
+        (keyed E.key E.terms entries.now) k made.new.items) }
     ensures fault { IfErr result (λ fault. (k : E.Key) →
         ArePositionsOf (keyed E.key E.terms entries.now) k members.now →
         IsKeyFault E.clash_of (window_from window.now.first window.now.last)
         (keyed E.key E.terms entries.now) k fault) }
 {
-    let KeyRoom { pieces, runs } = room;
-    let mut runs = runs;
-    let Ok(are_made) = runs_of_few(&mut runs, entries, members, window, form) else {
-        return Err(Fault::Memory);
-    };
-    if are_made {
-        return Ok(KeyRoom { pieces, runs });
+    match runs_of_few(made, entries, members, window, form) {
+        Ok(true) => return Ok(()),
+        Ok(false) => {}
+        Err(_) => return Err(Fault::Memory),
     }
-    let calendar = match calendar_in_room(pieces, entries, members, *window) {
+    let calendar = match calendar(alloc, entries, members, *window) {
         Ok(calendar) => calendar,
         Err(fault) => return Err(fault_of(fault, &entries[members[0]])),
     };
-    let Ok(runs) = runs_in_room(runs, entries, &calendar, form) else {
-        return Err(Fault::Memory);
-    };
-    Ok(KeyRoom {
-        pieces: calendar.into_room(),
-        runs,
-    })
+    match runs(alloc, entries, &calendar, form) {
+        Ok(runs) => {
+            *made = runs;
+            Ok(())
+        }
+        Err(_) => Err(Fault::Memory),
+    }
 }
 
 /// How many entries or records are looked at before they are worked on. In the order of their keys
@@ -162,10 +152,8 @@ where
         return Err(Fault::Memory);
     };
     let mut all = Vec::new(alloc);
-    let mut room = KeyRoom {
-        pieces: Vec::new(alloc),
-        runs: Vec::new(alloc),
-    };
+    // Those of the next key take their memory.
+    let mut runs = Vec::new(alloc);
     let mut rest = positions.as_slice();
     let mut looked_at = 0;
     while !rest.is_empty() {
@@ -175,8 +163,8 @@ where
         }
         let (members, later) = rest.split_at(count_of_first_key(entries, rest));
         looked_at = looked_at.saturating_sub(members.len());
-        room = runs_of_key(room, entries, members, window, form)?;
-        let Ok(()) = all.extend_from_slice(room.runs.as_slice()) else {
+        make_runs_of_key(alloc, &mut runs, entries, members, window, form)?;
+        let Ok(()) = all.extend_from_slice(runs.as_slice()) else {
             return Err(Fault::Memory);
         };
         rest = later;

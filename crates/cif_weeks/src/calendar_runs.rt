@@ -139,23 +139,8 @@ pub fn runs<E: Entry>(
     ensures { IfOk result (λ runs.
         AreCanonicalRuns form (map E.terms entries.now) calendar.now runs.items) }
 {
-    runs_in_room(Vec::new(alloc), entries, calendar, form)
-}
-
-/// The same runs, in the memory of runs that are no longer needed.
-pub fn runs_in_room<E: Entry>(
-    room: Vec<Run>,
-    entries: &[E],
-    calendar: &Calendar,
-    form: Form,
-) -> Result<Vec<Run>, AllocError>
-    requires sources { AreSources (map E.terms entries.now) calendar.now }
-    ensures { IfOk result (λ runs.
-        AreCanonicalRuns form (map E.terms entries.now) calendar.now runs.items) }
-{
-    let mut runs = room;
-    runs.clear();
-    let mut spans = Vec::new(*runs.allocator());
+    let mut runs = Vec::new(alloc);
+    let mut spans = Vec::new(alloc);
     for number in 0..calendar.pieces().len() {
         add_piece(&mut spans, entries, calendar, number)?;
     }

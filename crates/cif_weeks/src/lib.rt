@@ -10,7 +10,7 @@ pub mod laws;
 mod run;
 mod span;
 
-pub use calendar_runs::{runs, runs_in_room};
+pub use calendar_runs::runs;
 pub use few::runs_of_few;
 pub use form::Form;
 pub use run::Run;

@@ -9,7 +9,7 @@ use Rattle.cif_calendar.proofs.pieces.calendar_of.Goals as goal
 use Rattle.cif_calendar.proofs.pieces.calendar_of.Goals.{in-Some, in_default-next_up_to}
 
 pub loop-stretch-init : goal.loop-stretch-init
-loop-stretch-init g c = rw c.clear.ensures.items (laid-none _ _ _ _ c.args.stretches.now c.requires.stretches)
+loop-stretch-init g c = rw c.new-pieces.ensures.items (laid-none _ _ _ _ c.args.stretches.now c.requires.stretches)
 
 pub judge-requires-clause-stretch : goal.judge-requires-clause-stretch
 judge-requires-clause-stretch g c =

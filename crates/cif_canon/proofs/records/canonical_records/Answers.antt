@@ -39,13 +39,13 @@ count_of_first_key-requires-clause-rising g c = c.loop-rest.invariant.made.risin
 pub split_at-requires : goal.split_at-requires
 split_at-requires g c = c.count_of_first_key.ensures.front.upto
 
-pub runs_of_key-requires-clause-within : goal.runs_of_key-requires-clause-within
-runs_of_key-requires-clause-within g c =
+pub make_runs_of_key-requires-clause-within : goal.make_runs_of_key-requires-clause-within
+make_runs_of_key-requires-clause-within g c =
     subst (λ (front : List ℕ). All (λ i. i < length c.args.entries.now) front) (sym c.split_at.ensures.front)
     (All-take (λ i. i < length c.args.entries.now) _ _ c.loop-rest.invariant.within)
 
-pub runs_of_key-requires-clause-some : goal.runs_of_key-requires-clause-some
-runs_of_key-requires-clause-some g c =
+pub make_runs_of_key-requires-clause-some : goal.make_runs_of_key-requires-clause-some
+make_runs_of_key-requires-clause-some g c =
     let first = c.count_of_first_key.ensures in
     let front : length c.split_at.result.0.now ≡ c.count_of_first_key.result =
     ap length c.split_at.ensures.front ∙ length-take-le c.count_of_first_key.result c.loop-rest.rest.now first.front.upto in
@@ -68,19 +68,19 @@ loop-rest-preserved g c =
           (All-drop (λ i. i < length c.args.entries.now) c.count_of_first_key.result c.loop-rest.rest.now c.loop-rest.invariant.within);
       made = rw (c.in-Ok-extend_from_slice.ensures.items, c.as_slice.ensures.value, c.split_at.ensures.back)
           (made-key g.E.Key.Ord.cmp c.args.form window es g.met.E.Key.Ord.total same c.loop-rest.all.items c.loop-rest.rest.now
-          c.loop-rest.invariant.made c.count_of_first_key.result c.count_of_first_key.ensures c.in_ok-room.room.runs.items
-          (rw c.split_at.ensures.front at c.in_ok-room.ensures.runs));
+          c.loop-rest.invariant.made c.count_of_first_key.result c.count_of_first_key.ensures c.make_runs_of_key.new.made.items
+          (rw c.split_at.ensures.front at c.in_ok-make_runs_of_key.ensures.runs));
     }
 
-pub returns-in_err-room-clause-fault : goal.returns-in_err-room-clause-fault
-returns-in_err-room-clause-fault g c =
+pub returns-in_err-make_runs_of_key-clause-fault : goal.returns-in_err-make_runs_of_key-clause-fault
+returns-in_err-make_runs_of_key-clause-fault g c =
     let es = keyed g.E.Entry.key g.E.Entry.terms c.args.entries.now in
     let window = window_from c.args.window.now.first c.args.window.now.last in
     let same = same_key-cmp g.E.Key.PartialEq.eq g.E.Key.Ord.cmp g.met.E.Key.Ord.matches_eq g.met.E.Entry.same_key in
     let p = err_from_is_err_and c.from_residual.result c.from_residual.ensures.1 in
     rw (p.1, p.2) (made-fault g.E.Key.Ord.cmp c.args.form window es g.met.E.Key.Ord.total same c.loop-rest.all.items c.loop-rest.rest.now
-    c.loop-rest.invariant.made c.count_of_first_key.result c.count_of_first_key.ensures g.E.NamedEntry.clash_of c.in_err-room.field-0.0
-    (rw c.split_at.ensures.front at c.in_err-room.ensures.fault))
+    c.loop-rest.invariant.made c.count_of_first_key.result c.count_of_first_key.ensures g.E.NamedEntry.clash_of c.in_err-make_runs_of_key.field-0.0
+    (rw c.split_at.ensures.front at c.in_err-make_runs_of_key.ensures.fault))
 
 pub returns-clause-records : goal.returns-clause-records
 returns-clause-records g c =

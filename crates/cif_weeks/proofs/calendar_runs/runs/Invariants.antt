@@ -2,7 +2,7 @@
 use Rattle.std.proofs.Common.{◌+◌, ℕ, map, drop}
 use Rattle.cif_calendar.specs.Pieces.{Tiles}
 use Rattle.cif_weeks.specs.Steps.PieceSpans.{AreSpansBefore}
-use Rattle.cif_weeks.proofs.calendar_runs.runs_in_room.Given as goal
+use Rattle.cif_weeks.proofs.calendar_runs.runs.Given as goal
 
 abbrev pub invariant-loop-number : goal.invariant-loop-number
 invariant-loop-number g l = record {

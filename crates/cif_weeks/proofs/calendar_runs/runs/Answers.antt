@@ -10,9 +10,9 @@ use Rattle.cif_weeks.proofs.Words.{Span}
 use Rattle.cif_weeks.proofs.PieceRuns.{firsts-inside, pieces-agreed, pieces-bodied, pieces-canonical, pieces-inside, pieces-level}
 use Rattle.cif_weeks.proofs.PieceSpans.{no-piece, spans-before_first, spans-done, tiles-next}
 use Rattle.cif_weeks.proofs.SourceRuns.{by-source}
-use Rattle.cif_weeks.proofs.calendar_runs.runs_in_room.Given.{Over}
-use Rattle.cif_weeks.proofs.calendar_runs.runs_in_room.Goals as goal
-use Rattle.cif_weeks.proofs.calendar_runs.runs_in_room.Goals.{After-as_slice}
+use Rattle.cif_weeks.proofs.calendar_runs.runs.Given.{Over}
+use Rattle.cif_weeks.proofs.calendar_runs.runs.Goals as goal
+use Rattle.cif_weeks.proofs.calendar_runs.runs.Goals.{After-as_slice}
 
 pub loop-number-init : goal.loop-number-init
 loop-number-init g c = record {
@@ -56,7 +56,7 @@ add_runs_by_source-requires g c =
     let sources = c.requires.sources in
     let here = all g (goal.at.add_runs_by_source-requires g c).After-as_slice in
     record {
-      none = c.clear.ensures.items;
+      none = c.new-runs.ensures.items;
       inside = rw (c.window.ensures.first, c.window.ensures.last) (pieces-inside _ _ sources _ here);
       bodied = pieces-bodied _ _ sources _ here;
       level = pieces-level _ _ sources _ here;

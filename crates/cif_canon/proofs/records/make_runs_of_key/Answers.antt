@@ -4,34 +4,33 @@ use Rattle.std.proofs.lemmas.List.Elements.{Contains-get_or}
 use Rattle.cif_weeks.specs.Window.{window_from}
 use Rattle.cif_weeks.proofs.CalendarSources.{calendar_sources}
 use Rattle.cif_canon.proofs.KeyRecords.{key-records, key_fault, members-records}
-use Rattle.cif_canon.proofs.records.runs_of_key.Goals as goal
+use Rattle.cif_canon.proofs.records.make_runs_of_key.Goals as goal
 
-pub returns-then-are_made-clause-runs : goal.returns-then-are_made-clause-runs
-returns-then-are_made-clause-runs g c k p =
+pub returns-in-Ok-true-clause-runs : goal.returns-in-Ok-true-clause-runs
+returns-in-Ok-true-clause-runs g c k p =
     members-records g.E.Entry.key g.E.Entry.terms c.args.entries.now k c.args.members.now p c.args.form
-    (window_from c.args.window.now.first c.args.window.now.last) c.runs_of_few.new.runs.items
-    ((rw c.if-are_made.true at c.in-Ok.ensures))
+    (window_from c.args.window.now.first c.args.window.now.last) c.runs_of_few.new.runs.items (rw c.in-Ok-true.field-0-test at c.in-Ok-true.ensures)
 
-pub returns-in-Err-clause-fault : goal.returns-in-Err-clause-fault
-returns-in-Err-clause-fault g c = rw c.fault_of.ensures (λ k p.
+pub returns-in-Err-calendar-clause-fault : goal.returns-in-Err-calendar-clause-fault
+returns-in-Err-calendar-clause-fault g c = rw c.fault_of.ensures (λ k p.
     key_fault g.E.Entry.key g.E.Entry.terms c.args.entries.now k c.args.members.now p g.E.NamedEntry.clash_of _
     (Contains-get_or c.args.members.now 0 0 c.requires.some) c.index-entries-members.result (c.requires.within 0 0 c.requires.some)
-    c.index-entries-members.is c.args.window.now.first c.args.window.now.last c.in-Err.fault c.in-Err.ensures.fault)
+    c.index-entries-members.is c.args.window.now.first c.args.window.now.last c.in-Err-calendar.fault c.in-Err-calendar.ensures.fault)
 
-pub returns-clause-runs : goal.returns-clause-runs
-returns-clause-runs g c k p =
+pub returns-in-Ok-runs-clause-runs : goal.returns-in-Ok-runs-clause-runs
+returns-in-Ok-runs-clause-runs g c k p =
     key-records g.E.Entry.key g.E.Entry.terms c.args.entries.now k c.args.members.now p c.args.window.now.first c.args.window.now.last
-    c.in-Ok-calendar_in_room.calendar c.in-Ok-calendar_in_room.ensures.calendar g.met.E.Entry.cancelled c.args.form
-    c.in-Ok-runs_in_room.runs.items c.in-Ok-runs_in_room.ensures
+    c.in-Ok.calendar c.in-Ok.ensures.calendar g.met.E.Entry.cancelled c.args.form
+    c.in-Ok-runs.runs.items c.in-Ok-runs.ensures
 
 pub runs_of_few-requires : goal.runs_of_few-requires
 runs_of_few-requires g c = c.requires.within
 
-pub calendar_in_room-requires : goal.calendar_in_room-requires
-calendar_in_room-requires g c = record { positions = c.requires.within }
+pub calendar-requires : goal.calendar-requires
+calendar-requires g c = record { positions = c.requires.within }
 
-pub runs_in_room-requires : goal.runs_in_room-requires
-runs_in_room-requires g c = record { sources = calendar_sources _ _ _ _ _ c.in-Ok-calendar_in_room.ensures.calendar }
+pub runs-requires : goal.runs-requires
+runs-requires g c = record { sources = calendar_sources _ _ _ _ _ c.in-Ok.ensures.calendar }
 
 pub bounds-entries-members : goal.bounds-entries-members
 bounds-entries-members g c = c.requires.within 0 0 c.requires.some
