@@ -69,10 +69,10 @@ impl LineReader {
         ensures { IsNext R.remaining R.read_errors self.old source.old result self.new source.new }
     {
         let mut line = Line::blank();
-        if self.read_line(source, &mut line)? {
-            Ok(Some(line))
-        } else {
-            Ok(None)
+        match self.read_line(source, &mut line) {
+            Ok(true) => Ok(Some(line)),
+            Ok(false) => Ok(None),
+            Err(fault) => Err(fault),
         }
     }
 
