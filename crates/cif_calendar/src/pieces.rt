@@ -66,9 +66,7 @@ fn calendar_of<E: Entry>(
         let Ok(()) = pieces.push(judge(entries, members, first, stretch)?) else {
             return Err(CalendarFault::Memory);
         };
-        if let Some(next) = stretch.last.next_up_to(window.last) {
-            first = next;
-        }
+        first = stretch.last.next_up_to(window.last).unwrap_or(first);
     }
     Ok(Calendar::new(window, pieces))
 }
@@ -106,8 +104,10 @@ pub fn calendar_in_room<E: Entry>(
     ensures { IsAnswer (map E.terms entries.now) members.now window.first window.last result }
 {
     let alloc = *room.allocator();
-    let mut alike = vec![in alloc; None; members.len()]?;
-    let stretches = stretches_of(
+    let Ok(mut alike) = vec![in alloc; None; members.len()] else {
+        return Err(CalendarFault::Memory);
+    };
+    let Ok(stretches) = stretches_of(
         alloc,
         entries,
         members,
@@ -115,6 +115,8 @@ pub fn calendar_in_room<E: Entry>(
         0,
         members,
         &window,
-    )?;
+    ) else {
+        return Err(CalendarFault::Memory);
+    };
     calendar_of(room, entries, members, stretches.as_slice(), window)
 }
