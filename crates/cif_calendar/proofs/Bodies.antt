@@ -1,11 +1,20 @@
 -- Which members are known to have one body.
-use Rattle.std.proofs.Common.{◌≡◌, ℕ, List, Option, Some, None, get_or, ⊎_elim, sym, ◌∙◌, subst, ◌⊎◌, ◌↔◌}
+use Rattle.std.proofs.Common.{◌≡◌, ℕ, List, Option, Some, None, get_or, length, replicate, ⊎_elim, sym, ◌∙◌, subst, ◌⊎◌, ◌↔◌, arith}
+use Rattle.std.proofs.lemmas.Bool.{cases_lt}
+use Rattle.std.proofs.lemmas.List.{get_or-replicate, get_or_past, length-replicate}
 use Rattle.std.proofs.lemmas.Option.{same_Some}
 use Rattle.cif_calendar.proofs.Words.{Terms}
 use Rattle.cif_calendar.specs.Steps.Standing.{AreAlike, HaveOneBody, StandsAt}
 use Rattle.cif_calendar.proofs.Winning.{body-at}
 
 module _ {B : Type 0} (xs : List (Terms B)) (members : List ℕ) where
+  -- at first nothing is known
+  pub alike-none : AreAlike xs members (replicate (length members) None)
+  alike-none k j is = absurd (let none : None ≡ Some j = sym (⊎_elim
+      (λ below. get_or-replicate (length members) k None None below)
+      (λ past. get_or_past (replicate (length members) None) k None (omega (arith, length-replicate {A = Option ℕ} (length members) None)))
+      (cases_lt k (length members))) ∙ is in cc)
+
   -- what is noted is known
   pub alike-noted : (old new : List (Option ℕ)) (number earlier : ℕ) → HaveOneBody xs members number earlier →
       ((k : ℕ) → (get_or new k None ≡ get_or old k None) ⊎ ((k ≡ number) × (get_or new k None ≡ Some earlier))) →

@@ -1,6 +1,6 @@
 -- The pieces of a window so far.
 use Rattle.std.proofs.Common.{◌≡◌, ℕ, ◌+◌, ◌*◌, ◌<◌, ◌≤◌, List, [], ◌∷◌, ◌++◌, length, length-append, All, subst, sym, ap, arith, ⊎_elim}
-use Rattle.std.proofs.Common.{inl, inr, refl, Ok, Err, drop, get_or, ◌∙◌, ◌⊎◌, IsErrAnd, Result}
+use Rattle.std.proofs.Common.{inl, inr, refl, Ok, Err, Option, None, Some, drop, SomeIff, unwrap_or, get_or, ◌∙◌, ◌⊎◌, IsErrAnd, Result}
 use Rattle.std.proofs.lemmas.List.{drop_more}
 use Rattle.std.proofs.lemmas.Bool.{cases_lt}
 use Rattle.std.proofs.lemmas.List.Elements.{All-nil, All-push, All-contains}
@@ -15,6 +15,11 @@ use Rattle.cif_calendar.proofs.FirstClash.{IsFirstClash-unique, first_clash-clea
 use Rattle.cif_calendar.proofs.Meaning.{Runs-from_source}
 use Rattle.cif_calendar.proofs.PieceLists.{IsInPiece, tiles-push, tiles-find, tiles-from, source_at-piece}
 use Rattle.cif_calendar.proofs.FewPieces.{left, left-le, left-next}
+
+-- the next day, where there is one
+pub next-day : (o : Option ℕ) (P : Type 0) (day first : ℕ) → SomeIff o P day → P → unwrap_or o first ≡ day
+next-day None P day first none p = absurd (none p)
+next-day (Some n) P day first is p = is.1
 
 -- The pieces ps stand from day `from` to the day before `to`. They begin on boundaries of the window and are few. Those of the stretches
 -- that are left follow, from day `first` on.
@@ -79,6 +84,9 @@ module _ {B : Type 0} (xs : List (Terms B)) (members : List ℕ) (from last : �
       )
 
     -- no stretch is left: the pieces are the calendar
+    pub laid-tiles : ss ≡ [] → Tiles ps from (last + 1)
+    laid-tiles none = subst (Tiles ps from) (rw none at l.ahead) l.tiles
+
     pub laid-all : ss ≡ [] → IsAnswer xs members from last (Ok (record { first = from; last = last; pieces = ps }))
     laid-all none = record {
       calendar = record {

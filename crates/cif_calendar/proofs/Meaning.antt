@@ -9,8 +9,7 @@ none-some r b e n = let h = rw e at n in cc
 -- where a body runs, something runs
 pub nothing-body : {B : Type 0} (records : Records B) (d : ℕ) (b : B) → AreLawful records → NothingRuns records d →
     BodyRuns records d b → ⊥
-nothing-body records d b l n q =
-    none-some q.winner b q.body ((l.cancelled q.winner q.wins.listed).1 (n.cancelled q.winner q.wins))
+nothing-body records d b l n q = none-some q.winner b q.body ((l.cancelled q.winner q.wins.listed).1 (n.cancelled q.winner q.wins))
 
 -- where no body runs, nothing does
 no_body-cancelled : {B : Type 0} (records : Records B) (d : ℕ) → AreLawful records → ((b : B) → BodyRuns records d b → ⊥) →
@@ -32,8 +31,7 @@ Runs-from_bodies xs ys d lawful_xs lawful_ys same (Some b) runs = (same b).0 run
 -- one body runs
 pub body-unique : {B : Type 0} (records : Records B) (d : ℕ) (a b : B) → IsClear records d → BodyRuns records d a →
     BodyRuns records d b → a ≡ b
-body-unique records d a b clear p q =
-    let h : Some a ≡ Some b = sym p.body ∙ clear.agree p.winner q.winner p.wins q.wins ∙ q.body in cc
+body-unique records d a b clear p q = let h : Some a ≡ Some b = sym p.body ∙ clear.agree p.winner q.winner p.wins q.wins ∙ q.body in cc
 
 -- what runs is one thing
 pub Runs-unique : {B : Type 0} (records : Records B) (d : ℕ) (a b : Option B) → AreLawful records → IsClear records d →

@@ -28,8 +28,7 @@ module _ {E K B : Type 0} (key : E → K) (terms : E → Terms B) where
   module _ (cancelled : (e : E) → IsNone (terms e).body ↔ ((terms e).letter ≡ C)) where
     chosen-cancelled : (o : Option E) (r : Terms B) → option_map terms o ≡ Some r → IsNone r.body ↔ (r.letter ≡ C)
     chosen-cancelled None r e = absurd (cc)
-    chosen-cancelled (Some x) r e =
-        subst (λ (s : Terms B). IsNone s.body ↔ (s.letter ≡ C)) (same_Some (terms x) r e) (cancelled x)
+    chosen-cancelled (Some x) r e = subst (λ (s : Terms B). IsNone s.body ↔ (s.letter ≡ C)) (same_Some (terms x) r e) (cancelled x)
 
     pub AreLawful-chosen : (es : List E) (members : List ℕ) → AreLawful (IsChosen (map terms es) members)
     AreLawful-chosen es members = record {

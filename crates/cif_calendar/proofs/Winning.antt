@@ -184,36 +184,34 @@ module _ {B : Type 0} (xs : List (Terms B)) (members : List ℕ) where
     stands = λ ms ns d h k. stands-kept _ _ _ (chosen-union xs ms ns) d one (λ s c on. absurd (k.none s c on)) h;
   }
 
-  pub combines-nobody : (other : Standing) → Combines xs members Nobody other other
-  combines-nobody other = record {
-    below = λ n a b. b;
-    stands = λ ms ns d h k. stands-kept _ _ _ (union-swap _ _ _ (chosen-union xs ms ns)) d other (λ s c on. absurd (h.none s c on)) k;
-  }
-
   -- where those who lead have one letter
   module _ (n : ℕ) where
-    pub disputed_combines : (k : ℕ) (other : Standing) → IsRank xs members (Disputed k) n → IsRank xs members other n →
-        Combines xs members (Disputed k) other (Disputed k)
-    disputed_combines k other is also = record {
+    -- one who is no leader stays, or is nobody as the other is
+    pub first-stays : (one other : Standing) → ((k : ℕ) → one ≡ Leader k → ⊥) → IsRank xs members one n → IsRank xs members other n →
+        Combines xs members one other one
+    first-stays Nobody other apart is also = record {
       below = λ n a b. a;
-      stands = λ ms ns d (t, at, l) h. (
-        t,
-        at,
-        disputed-kept _ _ _ (chosen-union xs ms ns) d t l (λ s c on.
-            let e = is t at in let j = rank-least _ d n other also h s c on in omega arith),
-      );
+      stands = λ ms ns d h i. stands-kept _ _ _ (chosen-union xs ms ns) d Nobody (λ s c on.
+          let j = rank-least _ d n other also i s c on in let top = letter-below s.letter in omega arith) h;
+    }
+    first-stays (Leader k) other apart is also = absurd (apart k refl)
+    first-stays (Disputed k) other apart is also = record {
+      below = λ n a b. a;
+      stands = λ ms ns d (t, at, l) h. let kept = disputed-kept _ _ _ (chosen-union xs ms ns) d t l in
+          (t, at, kept (λ s c on. let e = is t at in let j = rank-least _ d n other also h s c on in omega arith));
     }
 
-    pub combines_disputed : (k j : ℕ) → IsRank xs members (Leader k) n → IsRank xs members (Disputed j) n →
-        Combines xs members (Leader k) (Disputed j) (Disputed j)
-    combines_disputed k j is also = record {
+    pub other-stays : (k : ℕ) (other : Standing) → ((j : ℕ) → other ≡ Leader j → ⊥) → IsRank xs members (Leader k) n →
+        IsRank xs members other n → Combines xs members (Leader k) other other
+    other-stays k Nobody apart is also = record {
+      below = λ n a b. tt;
+      stands = λ ms ns d (t, at, l) h. absurd (let e = is t at in let top = letter-below t.letter in omega arith);
+    }
+    other-stays k (Leader j) apart is also = absurd (apart j refl)
+    other-stays k (Disputed j) apart is also = record {
       below = λ n a b. b;
-      stands = λ ms ns d h (t, at, l). (
-        t,
-        at,
-        disputed-kept _ _ _ (union-swap _ _ _ (chosen-union xs ms ns)) d t l (λ s c on.
-            let e = also t at in let i = rank-least _ d n (Leader k) is h s c on in omega arith),
-      );
+      stands = λ ms ns d h (t, at, l). let kept = disputed-kept _ _ _ (union-swap _ _ _ (chosen-union xs ms ns)) d t l in
+          (t, at, kept (λ s c on. let e = also t at in let i = rank-least _ d n (Leader k) is h s c on in omega arith));
     }
 
     module _ (k j : ℕ) (is : IsRank xs members (Leader k) n) (also : IsRank xs members (Leader j) n) where

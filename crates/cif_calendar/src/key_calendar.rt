@@ -111,7 +111,7 @@ impl Calendar {
 }
 
 /// Why there is no calendar.
-#[derive(Clone, Copy, Debug, PartialEq, Eq)]
+#[derive(Clone, Copy, PartialEq, Eq)]
 pub enum CalendarFault {
     /// Two winners of this date have different bodies; it is the first such date of the window.
     Ambiguous(Day),
@@ -138,11 +138,16 @@ impl fmt::Display for CalendarFault {
     fn fmt<W: fmt::Write>(&self, f: &mut fmt::Formatter<W>) -> fmt::Result {
         match self {
             CalendarFault::Ambiguous(day) => {
-                f.write_str("Ambiguous on ")?;
-                f.write_str(as_text(&day.to_yymmdd()))
+                write!(f, "Ambiguous on {}", as_text(&day.to_yymmdd()))
             }
             CalendarFault::Memory => f.write_str("Memory"),
         }
+    }
+}
+
+impl fmt::Debug for CalendarFault {
+    fn fmt<W: fmt::Write>(&self, f: &mut fmt::Formatter<W>) -> fmt::Result {
+        fmt::Display::fmt(self, f)
     }
 }
 

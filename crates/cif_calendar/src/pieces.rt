@@ -65,9 +65,7 @@ fn calendar_of<E: Entry>(
         let Ok(()) = pieces.push(judge(entries, members, first, stretch)?) else {
             return Err(CalendarFault::Memory);
         };
-        if let Some(next) = stretch.last.next_up_to(window.last) {
-            first = next;
-        }
+        first = stretch.last.next_up_to(window.last).unwrap_or(first);
     }
     Ok(Calendar::new(window, pieces))
 }
@@ -90,8 +88,10 @@ pub fn calendar<E: Entry>(
     requires positions { All (λ i. i < length entries.now) members.now }
     ensures { IsAnswer (map E.terms entries.now) members.now window.first window.last result }
 {
-    let mut alike = vec![in alloc; None; members.len()]?;
-    let stretches = stretches_of(
+    let Ok(mut alike) = vec![in alloc; None; members.len()] else {
+        return Err(CalendarFault::Memory);
+    };
+    let Ok(stretches) = stretches_of(
         alloc,
         entries,
         members,
@@ -99,6 +99,8 @@ pub fn calendar<E: Entry>(
         0,
         members,
         &window,
-    )?;
+    ) else {
+        return Err(CalendarFault::Memory);
+    };
     calendar_of(alloc, entries, members, stretches.as_slice(), window)
 }

@@ -156,7 +156,7 @@ pub(crate) fn combine<E: Entry>(
     }
 }
 
-/// The same, where those who lead have one letter.
+/// The same, where those who lead have one letter, or both have nobody. Who is disputed stays so.
 fn level<E: Entry>(
     entries: &[E],
     members: &[usize],
@@ -173,20 +173,16 @@ fn level<E: Entry>(
         IsRank (map E.terms entries.now) members.now other n →
         Combines (map E.terms entries.now) members.now one other result }
 {
-    match one {
-        Standing::Nobody => other,
-        Standing::Disputed(_) => one,
-        Standing::Leader(leader) => match other {
-            Standing::Nobody => one,
-            Standing::Disputed(_) => other,
-            Standing::Leader(rival) => {
-                if have_one_body(entries, members, alike, leader, rival) {
-                    one
-                } else {
-                    Standing::Disputed(leader)
-                }
-            }
-        },
+    let Standing::Leader(leader) = one else {
+        return one;
+    };
+    let Standing::Leader(rival) = other else {
+        return other;
+    };
+    if have_one_body(entries, members, alike, leader, rival) {
+        one
+    } else {
+        Standing::Disputed(leader)
     }
 }
 

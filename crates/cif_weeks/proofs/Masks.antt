@@ -11,8 +11,7 @@ module _ (on : ℕ → Type 0) (week : ℕ) where
       let (k, week_k, day_k, runs) = m.only (weekday_of n) has in subst on (same_day k n (week_k ∙ sym at) day_k) runs
 
   has_weekdays : (x y : List Bool) → IsMask on week x → IsMask on week y → (w : ℕ) → RunsOn x w → RunsOn y w
-  has_weekdays x y mx my w has =
-      let (n, at, day, runs) = mx.only w has in subst (λ v. RunsOn y v) day (my.shows n at runs)
+  has_weekdays x y mx my w has = let (n, at, day, runs) = mx.only w has in subst (λ v. RunsOn y v) day (my.shows n at runs)
 
   -- the days have one mask in a week
   pub one_mask : (x y : List Bool) → IsMask on week x → IsMask on week y → x ≡ y

@@ -49,8 +49,7 @@ module _ {X : Type 0} (R : X → X → Type 0) (one_way : IsOneWay R) where
   -- a member of one list that comes after its head x is no head of the other list, if that begins with x too
   not_head : (x y z : X) (zs : List X) → x ≡ y → R x z → (y ≡ z) ⊎ Contains zs z → Contains zs z
   not_head x y z zs same after (inr in_zs) = in_zs
-  not_head x y z zs same after (inl is) =
-      let loop : R x x = subst (λ w. R x w) (sym (same ∙ is)) after in absurd (one_way x x loop loop)
+  not_head x y z zs same after (inl is) = let loop : R x x = subst (λ w. R x w) (sym (same ∙ is)) after in absurd (one_way x x loop loop)
 
   -- so such lists with the same members are equal
   pub same_members : (xs ys : List X) → AllPairs R xs → AllPairs R ys

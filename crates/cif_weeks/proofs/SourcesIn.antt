@@ -11,8 +11,7 @@ use Rattle.cif_weeks.specs.Steps.PieceSpans.{source_in}
 
 module _ (c : CalendarParts) (n : ℕ) where
   pub source_in-within : c.first ≤ n → n ≤ c.last → source_in c n ≡ source_at c.pieces n
-  source_in-within from upto =
-      cond-true (leb c.first n) _ _ (le-leb c.first n from) ∙ cond-true (leb n c.last) _ _ (le-leb n c.last upto)
+  source_in-within from upto = cond-true (leb c.first n) _ _ (le-leb c.first n from) ∙ cond-true (leb n c.last) _ _ (le-leb n c.last upto)
 
   pub source_in-before : n < c.first → source_in c n ≡ None
   source_in-before h = cond-false (leb c.first n) _ _ (lt-leb c.first n h)

@@ -45,8 +45,7 @@ module _ {B : Type 0} (window : Window) (r : Terms B) (first last : ℕ) (begins
   }
 
   pub span-none : last < first → (n : ℕ) → IsWithin window n → ¬ Applies r n
-  span-none none n within on =
-      omega (arith, none, from-both.2, upto-both.2, on.begun, on.unfinished, within.from, within.upto)
+  span-none none n within on = omega (arith, none, from-both.2, upto-both.2, on.begun, on.unfinished, within.from, within.upto)
 
 -- a week of the span has this mask
 pub span-mask : (s : Span) (week : ℕ) (days : List Bool) → s.first_week ≤ week → week ≤ s.last_week → length days ≡ 7

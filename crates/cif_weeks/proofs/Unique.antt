@@ -44,13 +44,11 @@ module _ {B : Type 0} (window : Window) (r s t : Permanent B) (week : ℕ)
   -- in s's last week t doesn't apply, and in t's first week s doesn't
   applies_last : (m : ℕ) → week_of m ≡ week → EitherApplies s t m → Applies s m
   applies_last m at (inl h) = h
-  applies_last m at (inr h) =
-      let begun : week_of t.first ≤ week_of m = (week_of-applies t m h).begun in absurd (omega arith)
+  applies_last m at (inr h) = let begun : week_of t.first ≤ week_of m = (week_of-applies t m h).begun in absurd (omega arith)
 
   applies_first : (n : ℕ) → week_of n ≡ week + 1 → EitherApplies s t n → Applies t n
   applies_first n at (inr h) = h
-  applies_first n at (inl h) =
-      let unfinished : week_of n ≤ week_of s.last = (week_of-applies s n h).unfinished in absurd (omega arith)
+  applies_first n at (inl h) = let unfinished : week_of n ≤ week_of s.last = (week_of-applies s n h).unfinished in absurd (omega arith)
 
   module _ (a : IsAlignedTwo window r) (m n : ℕ) (change : ChangeBetween window s t m n) where
     at_last : week_of m ≡ week

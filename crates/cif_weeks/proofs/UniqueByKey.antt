@@ -23,8 +23,7 @@ module _ {K B : Type 0} (cmp : K → K → Ordering) (total : IsTotalOrder cmp) 
   module _ (form : Form) (window : Window) where
     members : (xs ys : List (K × Permanent B)) → AreCanonical cmp form window xs → AreCanonical cmp form window ys
         → ((k : K) → SayTheSame window (of_key xs k) (of_key ys k)) → (z : K × Permanent B) → Contains xs z → Contains ys z
-    members xs ys x y same (k, r) in_xs =
-        member form window (of_key xs k) (of_key ys k) (x.have_form k) (y.have_form k) (same k) r in_xs
+    members xs ys x y same (k, r) in_xs = member form window (of_key xs k) (of_key ys k) (x.have_form k) (y.have_form k) (same k) r in_xs
 
     -- canonical lists that say the same are equal
     pub unique_same : (xs ys : List (K × Permanent B)) → AreCanonical cmp form window xs → AreCanonical cmp form window ys

@@ -49,15 +49,9 @@ pub(crate) fn agree(form: Form, window: &Window, next: u32, before: DaysRun, day
         (MasksAgree form (window_from window.now.first window.now.last) week before days)
         (MasksDiffer form (window_from window.now.first window.now.last) week before days) }
 {
-    before.is(days) || agree_by_weekday(form, window, next, before, days)
-}
-
-/// The same, weekday by weekday.
-fn agree_by_weekday(form: Form, window: &Window, next: u32, before: DaysRun, days: DaysRun) -> bool
-    ensures { (week : ℕ) → week + 1 ≡ next → MatchBool result
-        (MasksAgree form (window_from window.now.first window.now.last) week before days)
-        (MasksDiffer form (window_from window.now.first window.now.last) week before days) }
-{
+    if before.is(days) {
+        return true;
+    }
     for weekday in 0..7u8 {
         if before.has(weekday) != days.has(weekday) && counts(form, window, next, weekday) {
             return false;

@@ -4,9 +4,8 @@ use Rattle.std.proofs.lemmas.List.{drop_all}
 use Rattle.std.proofs.lemmas.Result.{err_from_is_err_and}
 use Rattle.cif_calendar.specs.Calendar.{IsAnswer}
 use Rattle.cif_calendar.specs.declared.key_calendar.CalendarFault.TheVariants.{Memory}
-use Rattle.cif_calendar.proofs.LaidPieces.{laid-all, laid-fault, laid-memory, laid-more, laid-none, stretch-laid}
+use Rattle.cif_calendar.proofs.LaidPieces.{laid-all, laid-fault, laid-memory, laid-more, laid-none, laid-tiles, next-day, stretch-laid}
 use Rattle.cif_calendar.proofs.pieces.calendar_of.Goals as goal
-use Rattle.cif_calendar.proofs.pieces.calendar_of.Goals.{in-Some, in_default-next_up_to}
 
 pub loop-stretch-init : goal.loop-stretch-init
 loop-stretch-init g c = rw c.new-pieces.ensures.items (laid-none _ _ _ _ c.args.stretches.now c.requires.stretches)
@@ -23,12 +22,13 @@ returns-in_err-judge g c = let p = err_from_is_err_and c.from_residual.result c.
 
 pub loop-stretch-preserved : goal.loop-stretch-preserved
 loop-stretch-preserved g c =
-    let next : c.stretch-item.result.last < c.args.window.last → c.match-next_up_to.first ≡ c.stretch-item.result.last + 1 =
-    λ less. elim c.match-next_up_to.branch [
-      | in-Some w ↦ w.first-is ∙ w.in-Some.ensures.1
-      | in_default-next_up_to w ↦ absurd (w.in_default-next_up_to.ensures less)
-    ] in laid-more _ _ _ _ _ _ c.args.stretches.now _ _ c.loop-stretch-test.true c.stretch-item.is c.loop-stretch.invariant
-    c.match-next_up_to.first c.push.new.self.items _ next c.in-Ok.ensures.items c.in_ok-judge.ensures.piece
+    laid-more _ _ _ _ _ _ c.args.stretches.now _ _ c.loop-stretch-test.true c.stretch-item.is c.loop-stretch.invariant
+    c.unwrap_or-first.result c.push.new.self.items _
+    (λ less. c.unwrap_or-first.ensures ∙ next-day _ _ _ _ c.next_up_to.ensures less) c.in-Ok.ensures.items c.in_ok-judge.ensures.piece
+
+pub new-requires : goal.new-requires
+new-requires g c = laid-tiles (map g.E.Entry.terms c.args.entries.now) c.args.members.now _ _ _ _ _ c.loop-stretch.invariant
+    (drop_all c.loop-stretch.stretch-index c.args.stretches.now c.loop-stretch-test.false)
 
 pub returns : goal.returns
 returns g c = rw c.new.ensures (laid-all _ _ _ _ _ _ _ c.loop-stretch.invariant

@@ -1,21 +1,13 @@
 -- Of one letter: two leaders agree or differ (`leaders_agree`, `leaders_differ`), and who is disputed stays so.
-use Rattle.cif_calendar.proofs.Winning.{combines_disputed, combines-nobody, disputed_combines, leaders_agree, leaders_differ}
-use Rattle.cif_calendar.proofs.Winning.{nobody-combines, refuted}
+use Rattle.cif_calendar.proofs.Winning.{first-stays, leaders_agree, leaders_differ, other-stays, refuted}
 use Rattle.cif_calendar.proofs.standing.level.Goals as goal
 
-pub returns-in-Nobody-clause-stands : goal.returns-in-Nobody-clause-stands
-returns-in-Nobody-clause-stands g c n is also = rw c.in-Nobody.is (combines-nobody _ _ c.args.other)
+pub returns-in_default-clause-stands : goal.returns-in_default-clause-stands
+returns-in_default-clause-stands g c n is also = first-stays _ _ n c.args.one c.args.other c.in_default.not-Leader is also
 
-pub returns-in-Disputed-clause-stands : goal.returns-in-Disputed-clause-stands
-returns-in-Disputed-clause-stands g c n is also =
-    rw c.in-Disputed.is (disputed_combines _ _ n c.in-Disputed.field-0 c.args.other (rw c.in-Disputed.is at is) also)
-
-pub returns-in-Nobody-other-clause-stands : goal.returns-in-Nobody-other-clause-stands
-returns-in-Nobody-other-clause-stands g c n is also = rw (c.in-Leader.is, c.in-Nobody-other.is) (nobody-combines _ _ _)
-
-pub returns-in-Disputed-other-clause-stands : goal.returns-in-Disputed-other-clause-stands
-returns-in-Disputed-other-clause-stands g c n is also = rw (c.in-Leader.is, c.in-Disputed-other.is)
-    (combines_disputed _ _ n c.in-Leader.leader _ (rw c.in-Leader.is at is) (rw c.in-Disputed-other.is at also))
+pub returns-in_default-other-clause-stands : goal.returns-in_default-other-clause-stands
+returns-in_default-other-clause-stands g c n is also =
+    rw c.in-Leader.is (other-stays _ _ n c.in-Leader.leader c.args.other c.in_default-other.not-Leader (rw c.in-Leader.is at is) also)
 
 pub returns-then-have_one_body-clause-stands : goal.returns-then-have_one_body-clause-stands
 returns-then-have_one_body-clause-stands g c n is also = rw (c.in-Leader.is, c.in-Leader-other.is)

@@ -41,34 +41,46 @@ joint g t c = let m = sooner c.one-item.result.last c.other-item.result.last c.m
   upto_other = m.1;
   ends = m.2;
   below = c.look_at.ensures.below;
-  each = λ w below. looked-all _ c.args.members.now c.other-item.result.standings w _ _ below
+  each = λ w below. looked-all (map g.E.Entry.terms c.args.entries.now) c.args.members.now c.other-item.result.standings w _ _ below
       (rw c.of-days.ensures at (c.look_at.ensures.each w below));
 }
 
 pub loop-left-preserved : goal.loop-left-preserved
 loop-left-preserved g t c = let at = goal.at.loop-left-preserved g t c in record {
   alike = c.look_at.ensures.alike;
-  merged = merged-more _ _ _ _ _ _ _ c.loop-left.left.now c.loop-left.right.now _ _ _ _ c.one-item.result c.other-item.result _
+  merged = merged-more (map g.E.Entry.terms c.args.entries.now) c.args.members.now _ _ _ _ _ c.loop-left.left.now c.loop-left.right.now
+      c.behind-left.result.now c.behind-right.result.now c.loop-left.stretches.items c.push.new.self.items c.one-item.result
+      c.other-item.result (record { last = c.min-last.result; standings = c.look_at.new.standings })
       (bounds-one-0 g t at.In-len1-up-len1-up) (bounds-other-0 g t at.After-one-item) c.one-item.is c.other-item.is
       (joint g t at.After-look_at) c.behind-left.ensures c.behind-right.ensures c.in_ok-push.ensures.items c.loop-left.invariant.merged;
 }
 
-pub returns-clause-stretches : goal.returns-clause-stretches
-returns-clause-stretches g t c = subst (λ (part : List ℕ). AreStretchesOf (map g.E.Entry.terms c.args.entries.now) c.args.members.now part
-    c.args.window.now c.loop-left.stretches.items) (take-append-drop (length c.args.part.now / 2) c.args.part.now)
-    (merged-all _ _ _ _ _ _ _ c.loop-left.left.now c.loop-left.right.now _ (search rules) c.loop-left.invariant.merged)
+pub returns : goal.returns
+returns g t c = record {
+  alike = c.loop-left.invariant.alike;
+  stretches = subst (λ (part : List ℕ). AreStretchesOf (map g.E.Entry.terms c.args.entries.now) c.args.members.now part
+      c.args.window.now c.loop-left.stretches.items) (take-append-drop (length c.args.part.now / 2) c.args.part.now)
+      (merged-all (map g.E.Entry.terms c.args.entries.now) c.args.members.now _ _ _ _ _ c.loop-left.left.now c.loop-left.right.now _
+      (search rules) c.loop-left.invariant.merged);
+}
 
 pub loop-left-smaller : goal.loop-left-smaller
 loop-left-smaller g t c = let at = goal.at.loop-left-smaller g t c in
     fewer-left c.loop-left.left.now c.loop-left.right.now c.behind-left.result.now c.behind-right.result.now
-    c.one-item.result c.other-item.result _ _ _ (bounds-one-0 g t at.In-len1-up-len1-up) (bounds-other-0 g t at.After-one-item)
-    c.one-item.is c.other-item.is (joint g t at.After-look_at) c.behind-left.ensures c.behind-right.ensures
+    c.one-item.result c.other-item.result (record { last = c.min-last.result; standings = c.look_at.new.standings })
+    (map g.E.Entry.terms c.args.entries.now) c.args.members.now (bounds-one-0 g t at.In-len1-up-len1-up)
+    (bounds-other-0 g t at.After-one-item) c.one-item.is c.other-item.is (joint g t at.After-look_at) c.behind-left.ensures
+    c.behind-right.ensures
 
-pub returns-in_err-lefts-clause-stretches : goal.returns-in_err-lefts-clause-stretches
-returns-in_err-lefts-clause-stretches g t c = IfOk-from_err _ _ c.from_residual.ensures.0
+pub returns-then-part-le-FEW : goal.returns-then-part-le-FEW
+returns-then-part-le-FEW g t c = record { alike = c.stretches_of_few.ensures.alike; stretches = c.stretches_of_few.ensures.stretches }
 
-pub returns-in_err-rights-clause-stretches : goal.returns-in_err-rights-clause-stretches
-returns-in_err-rights-clause-stretches g t c = IfOk-from_err _ _ c.from_residual-in_err-rights.ensures.0
+pub returns-in_err-lefts : goal.returns-in_err-lefts
+returns-in_err-lefts g t c = record { alike = c.in_err-lefts.ensures.alike; stretches = IfOk-from_err _ _ c.from_residual.ensures.0 }
 
-pub returns-in_err-push-clause-stretches : goal.returns-in_err-push-clause-stretches
-returns-in_err-push-clause-stretches g t c = IfOk-from_err _ _ c.from_residual-in_err-push.ensures.0
+pub returns-in_err-rights : goal.returns-in_err-rights
+returns-in_err-rights g t c =
+    record { alike = c.in_err-rights.ensures.alike; stretches = IfOk-from_err _ _ c.from_residual-in_err-rights.ensures.0 }
+
+pub returns-in_err-push : goal.returns-in_err-push
+returns-in_err-push g t c = record { alike = c.look_at.ensures.alike; stretches = IfOk-from_err _ _ c.from_residual-in_err-push.ensures.0 }

@@ -22,6 +22,7 @@ bounds-entries-position g c = part-all _ c.args.number _ c.requires.part (length
 
 pub loop-index-preserved : goal.loop-index-preserved
 loop-index-preserved g c =
+    let xs = map g.E.Entry.terms c.args.entries.now in
     let part = c.args.part.now in
     let k = c.loop-index.index in
     let here = c.loop-index-test.true in
@@ -35,8 +36,8 @@ loop-index-preserved g c =
     elim c.if-le.branch [
       | then-le+then-le-2 w ↦ record {
         alike = rw w.alike-is w.look_at.ensures.alike;
-        stretch = rw (w.standings-is, w.end-is, take_more part k 0 here) (stretch-looked _ _ (take k part) _ _ _ _ _ member at _ old.stretch
-            w.min-end.result w.look_at.new.standings w.look_at.ensures.below (rw w.last-until.ensures at w.min-end.ensures)
+        stretch = rw (w.standings-is, w.end-is, take_more part k 0 here) (stretch-looked xs _ (take k part) _ _ _ _ _ member at _
+            old.stretch w.min-end.result w.look_at.new.standings w.look_at.ensures.below (rw w.last-until.ensures at w.min-end.ensures)
             (rw first at (begun.0 w.if-le.true))
             (rw w.last-until.ensures at
             ((day_upto c.args.first w.last-until.result w.le-then-le.result w.le-then-le.ensures).0 w.if-le-2.true))
@@ -44,14 +45,14 @@ loop-index-preserved g c =
       }
       | then-le+else-le-2 w ↦ record {
         alike = rw w.alike-is old.alike;
-        stretch = rw (w.standings-is, w.end-is, take_more part k 0 here) (stretch-ended _ _ (take k part) _ _ _ _ _ member at _ old.stretch
+        stretch = rw (w.standings-is, w.end-is, take_more part k 0 here) (stretch-ended xs _ (take k part) _ _ _ _ _ member at _ old.stretch
             _ refl (rw first at (begun.0 w.if-le.true))
             (rw w.last-until.ensures at
             ((day_upto c.args.first w.last-until.result w.le-then-le.result w.le-then-le.ensures).1 w.if-le-2.false)));
       }
       | else-le+in-Some w ↦ record {
         alike = rw w.alike-is old.alike;
-        stretch = rw (w.standings-is, w.end-is, take_more part k 0 here) (stretch-begins _ _ (take k part) _ _ _ _ _ member at _
+        stretch = rw (w.standings-is, w.end-is, take_more part k 0 here) (stretch-begins xs _ (take k part) _ _ _ _ _ member at _
             old.stretch _ c.first-begin.result w.in-Some.before first (begun.1 w.if-le.false) w.in-Some.ensures.1 w.min-end-in-Some.ensures
             (g.met.E.Entry.dates_ordered c.index-entries-position.result));
       }

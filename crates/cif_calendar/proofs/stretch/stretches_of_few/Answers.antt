@@ -1,5 +1,5 @@
 -- One stretch more (`stretches-push`).
-use Rattle.std.proofs.Common.{arith, ◌+◌}
+use Rattle.std.proofs.Common.{arith, map, ◌+◌}
 use Rattle.std.proofs.lemmas.Result.{IfOk-from_err}
 use Rattle.cif_calendar.proofs.Stretches.{stretches-push}
 use Rattle.cif_calendar.proofs.stretch.stretches_of_few.Goals as goal
@@ -9,15 +9,17 @@ loop-stretches-preserved g c = let is = c.stretch_from-stretch.ensures in record
   from = omega (arith, c.in-Some.ensures, is.stretch.in_order);
   upto = omega (arith, c.in-Some.ensures);
   alike = is.alike;
-  stretches = rw c.in_ok-push.ensures.items (stretches-push _ _ _ _ c.args.window.now.first _ _
+  stretches = rw c.in_ok-push.ensures.items (stretches-push (map g.E.Entry.terms c.args.entries.now) _ _ _ c.args.window.now.first _ _
       c.loop-stretches.stretches.items _ c.in-Some.ensures.1 is.stretch c.loop-stretches.invariant.stretches);
 }
 
-pub returns-in-None-clause-stretches : goal.returns-in-None-clause-stretches
-returns-in-None-clause-stretches g c = let is = c.stretch_from-stretch.ensures in
-    rw c.in_ok-push.ensures.items (stretches-push _ _ _ _ c.args.window.now.first _ (c.args.window.now.last + 1)
-    c.loop-stretches.stretches.items c.stretch_from-stretch.result (omega (arith, c.in-None.ensures, is.stretch.upto)) is.stretch
-    c.loop-stretches.invariant.stretches)
+pub returns-in-None : goal.returns-in-None
+returns-in-None g c = let is = c.stretch_from-stretch.ensures in record {
+  alike = is.alike;
+  stretches = rw c.in_ok-push.ensures.items (stretches-push (map g.E.Entry.terms c.args.entries.now) _ _ _ c.args.window.now.first _
+      (c.args.window.now.last + 1) c.loop-stretches.stretches.items c.stretch_from-stretch.result
+      (omega (arith, c.in-None.ensures, is.stretch.upto)) is.stretch c.loop-stretches.invariant.stretches);
+}
 
-pub returns-in_err-push-clause-stretches : goal.returns-in_err-push-clause-stretches
-returns-in_err-push-clause-stretches g c = IfOk-from_err _ _ c.from_residual.ensures.0
+pub returns-in_err-push : goal.returns-in_err-push
+returns-in_err-push g c = record { alike = c.stretch_from-stretch.ensures.alike; stretches = IfOk-from_err _ _ c.from_residual.ensures.0 }

@@ -28,6 +28,5 @@ loop-span-preserved c =
     ]
 
 pub returns-clause-weeks : goal.returns-clause-weeks
-returns-clause-weeks c n s =
-    rw (take_all c.loop-span.span-index c.args.spans.now c.loop-span-test.false) at c.loop-span.invariant.weeks n
+returns-clause-weeks c n s = rw (take_all c.loop-span.span-index c.args.spans.now c.loop-span-test.false) at c.loop-span.invariant.weeks n
     (record { it = s.it; listed = s.listed; is = s.is; on = s.leads.has })

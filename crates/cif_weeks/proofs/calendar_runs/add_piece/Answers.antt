@@ -56,11 +56,11 @@ loop-weekday-preserved g c =
           let e = w.between.ensures in
           rw (w.spans-is, w.taken-is, w.in_ok-push.ensures.items) (taken-more xs c.args.calendar.now c.requires.sources p l.of spans taken
           w.days_of-days.result w.union-taken.result w.between.result w.in-Some.winner weekday l e.days e.first_week e.last_week e.letter
-          (ap (λ s. body_at xs (Some s)) e.source ∙ w.source_of-source.ensures.body)
+          (rw e.source w.source_of-source.ensures.body)
           (rw (e.source, ← w.as_slice.ensures.value, ← w.week.ensures) w.source_of-source.ensures.source)
           ((c.winner_on.ensures w.in-Some.winner).0 w.in-Some.is) (rw (← e.source) at w.days_of-days.ensures) w.union-taken.ensures.runs)
       | in-Some+else-not-has w ↦ rw (w.spans-is, w.taken-is) (taken-same xs _ l (λ i wins. w.has.ensures.0 w.if-not-has.false))
-      | in_default w ↦ rw (w.spans-is, w.taken-is) (taken-same xs _ l (λ i wins.
+      | in_default w ↦ rw (w.spans-is, w.taken-is) (taken-same xs c.args.calendar.now l (λ i wins.
           let none : None ≡ Some i = sym w.in_default.is ∙ (c.winner_on.ensures i).1 wins in absurd (cc)))
     ]
 

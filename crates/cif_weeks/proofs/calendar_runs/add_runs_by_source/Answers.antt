@@ -70,6 +70,5 @@ loop-left-preserved c =
     })
 
 pub returns : goal.returns
-returns c =
-    runs-sorted _ _ _ c.sort_by_first.ensures.order (runs-permuted _ _ _ c.sort_by_first.ensures.permutation
+returns c = runs-sorted _ _ _ c.sort_by_first.ensures.order (runs-permuted _ _ _ c.sort_by_first.ensures.permutation
     (runs-all _ _ _ c.loop-left.left.now _ c.requires.bodied c.in_default.len_below c.loop-left.invariant.runs))

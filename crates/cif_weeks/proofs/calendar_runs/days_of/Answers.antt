@@ -10,16 +10,16 @@ use Rattle.cif_weeks.proofs.calendar_runs.days_of.Goals.{in-Some+then-have_one_b
 
 module _ (Has : ℕ → Type 0) (weekday : ℕ) where
   -- the weekday has it
-  more : (days both : List Bool) → ((w : ℕ) → RunsOn days w ↔ ((w < weekday) × Has w)) →
-      ((w : ℕ) → RunsOn both w ↔ (RunsOn days w ⊎ (w ≡ weekday))) → Has weekday → (w : ℕ) → RunsOn both w ↔ ((w < weekday + 1) × Has w)
-  more days both old union has w = (
+  more : (days only both : List Bool) → ((w : ℕ) → RunsOn days w ↔ ((w < weekday) × Has w)) → ((w : ℕ) → RunsOn only w ↔ (w ≡ weekday)) →
+      ((w : ℕ) → RunsOn both w ↔ (RunsOn days w ⊎ RunsOn only w)) → Has weekday → (w : ℕ) → RunsOn both w ↔ ((w < weekday + 1) × Has w)
+  more days only both old one union has w = (
     λ on. ⊎_elim
         (λ o. let (less, h) = (old w).0 o in (omega arith, h))
-        (λ same. (omega arith, subst Has (sym same) has))
+        (λ o. let same = (one w).0 o in (omega (arith, same), subst Has (sym same) has))
         ((union w).0 on),
     λ h. (union w).1 (⊎_elim
         (λ less. inl ((old w).1 (less, h.1)))
-        (λ from. inr (omega (arith, h.0)))
+        (λ from. inr ((one w).1 (omega (arith, h.0))))
         (cases_lt w weekday)),
   )
 
@@ -42,12 +42,8 @@ loop-weekday-preserved g c =
     let xs = map g.E.Entry.terms c.args.entries.now in
     let wins = HasBodyOn xs c.args.piece.now c.args.source in
     elim c.match-winner_on.branch [
-      | in-Some+then-have_one_body w ↦ rw w.days-is (more wins c.loop-weekday.weekday c.loop-weekday.days w.union-days.result
-          c.loop-weekday.invariant
-          (λ v. (
-            λ on. ⊎_elim inl (λ o. inr ((w.only.ensures.runs v).0 o)) ((w.union-days.ensures.runs v).0 on),
-            λ h. (w.union-days.ensures.runs v).1 (⊎_elim inl (λ o. inr ((w.only.ensures.runs v).1 o)) h),
-          )) (
+      | in-Some+then-have_one_body w ↦ rw w.days-is (more wins c.loop-weekday.weekday c.loop-weekday.days w.only.result w.union-days.result
+          c.loop-weekday.invariant w.only.ensures.runs w.union-days.ensures.runs (
             w.in-Some.winner,
             (c.winner_on.ensures w.in-Some.winner).0 w.in-Some.is,
             w.have_one_body.ensures.0 w.if-have_one_body.true,

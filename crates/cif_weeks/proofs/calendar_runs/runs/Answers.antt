@@ -46,7 +46,7 @@ loop-number-preserved g c =
 all : (g : Over) (c : After-as_slice g) → AreSpansOn (map g.E.Entry.terms c.args.entries.now) c.args.calendar.now
     (λ n. n < c.args.calendar.now.last + 1) c.as_slice.result.now
 all g c = let i = c.loop-number.invariant in
-    rw c.as_slice.ensures.value (spans-done _ c.args.calendar.now c.loop-number.spans.items _ i.limit
+    rw c.as_slice.ensures.value (spans-done (map g.E.Entry.terms c.args.entries.now) c.args.calendar.now c.loop-number.spans.items _ i.limit
     (drop_all c.loop-number.number c.args.calendar.now.pieces
     (omega (arith, c.loop-number-test.false, ap length c.pieces-number-end.ensures.pieces))) i.tiles
     c.sort_unstable_by_key.ensures.permutation i.before.are)
@@ -61,7 +61,7 @@ add_runs_by_source-requires g c =
       bodied = pieces-bodied _ _ sources _ here;
       level = pieces-level _ _ sources _ here;
       agreed = pieces-agreed _ _ sources _ here;
-      order = rw c.as_slice.ensures.value (by-source _ (λ k d below.
+      order = rw c.as_slice.ensures.value (by-source c.sort_unstable_by_key.new.self.items (λ k d below.
           c.sort_unstable_by_key.ensures.sorted (λ (s : Span). (s.source, s.first_week))
           (answers_always _ _ _ (λ f a r f' called. search rules)) k d (omega arith) below));
     }

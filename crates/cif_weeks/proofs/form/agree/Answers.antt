@@ -1,10 +1,22 @@
--- What equal masks come to has to be told week by week (`same-agree`).
+-- Equal masks agree (`same-agree`). Else one weekday more, which doesn't count or on which the masks are alike (`agree-more`).
+use Rattle.std.proofs.Common.{◌≡◌, rules, sym, ◌∙◌}
+use Rattle.cif_calendar.proofs.Winning.{refuted}
 use Rattle.cif_weeks.proofs.Words.{window_from}
-use Rattle.cif_weeks.proofs.AgreedDays.{same-agree}
+use Rattle.cif_weeks.proofs.AgreedDays.{agree-more, same-agree}
 use Rattle.cif_weeks.proofs.form.agree.Goals as goal
+use Rattle.cif_weeks.proofs.form.agree.Goals.{else-has-via-then-has+else-counts, else-has-via-else-has}
 
 pub returns-then-is : goal.returns-then-is
-returns-then-is c = λ week next.
+returns-then-is c week next =
     let a = c.args in
-    let agreed = same-agree a.form (window_from a.window.now.first a.window.now.last) week a.before a.days (c.is.ensures.0 c.if-is.true) in
-    rw c.if-is.true agreed
+    same-agree a.form (window_from a.window.now.first a.window.now.last) week a.before a.days (c.is.ensures.0 c.if-is.true)
+
+pub loop-weekday-preserved : goal.loop-weekday-preserved
+loop-weekday-preserved c = agree-more c.loop-weekday.invariant (λ week is counted. elim c.else-has.branch [
+  | else-has-via-then-has+else-counts w ↦ absurd (refuted _ (w.counts.ensures week is) w.if-counts.false counted)
+  | else-has-via-else-has w ↦
+      let same : c.has.result ≡ c.has-in-loop-weekday.result = search rules in (
+        λ on. c.has-in-loop-weekday.ensures.0 (sym same ∙ c.has.ensures.1 on),
+        λ on. c.has.ensures.0 (same ∙ c.has-in-loop-weekday.ensures.1 on),
+      )
+])

@@ -1,6 +1,5 @@
 -- The span has the days of the record in the window (`span-of`); where it has none (`span-none`), there is no span.
-use Rattle.std.proofs.Common.{ap, ◌∙◌, nat_cmp}
-use Rattle.std.specs.Ordering.{ord_max, ord_min}
+use Rattle.std.proofs.Common.{◌∙◌}
 use Rattle.cif_weeks.proofs.Words.{window_from}
 use Rattle.cif_weeks.proofs.Spans.{day-later, span-none, span-of}
 use Rattle.cif_weeks.proofs.span.Span.of.Goals as goal
@@ -8,14 +7,12 @@ use Rattle.cif_weeks.proofs.span.Span.of.Goals as goal
 pub returns-then-lt-clause-none : goal.returns-then-lt-clause-none
 returns-then-lt-clause-none g c = let w = c.args.window.now in
     span-none (window_from w.first w.last) (g.E.Entry.terms c.args.entry.now) c.max-first.result c.min-last.result
-    (c.max-first.ensures ∙ ap (λ d. ord_max nat_cmp d w.first) c.first.ensures)
-    (c.min-last.ensures ∙ ap (λ d. ord_min nat_cmp d w.last) c.last.ensures)
+    (rw c.first.ensures at c.max-first.ensures) (rw c.last.ensures at c.min-last.ensures)
     (day-later _ _ c.lt.result c.lt.ensures c.if-lt.true)
 
 pub returns-clause-some : goal.returns-clause-some
 returns-clause-some g c = let w = c.args.window.now in
     span-of (window_from w.first w.last) (g.E.Entry.terms c.args.entry.now) c.max-first.result c.min-last.result
-    (c.max-first.ensures ∙ ap (λ d. ord_max nat_cmp d w.first) c.first.ensures)
-    (c.min-last.ensures ∙ ap (λ d. ord_min nat_cmp d w.last) c.last.ensures)
+    (rw c.first.ensures at c.max-first.ensures) (rw c.last.ensures at c.min-last.ensures)
     c.between.result (rw c.letter.ensures at (c.between.ensures.letter ∙ c.write-letter.ensures.columns))
     (rw c.days.ensures at c.between.ensures.days)
