@@ -165,7 +165,12 @@ pub fn canon<'a>(alloc: Global, extract: &'a Extract, form: Form) -> Result<Cano
     };
     let runs = extract_runs(alloc, extract, form)?;
     extract.fits();
-    Ok(Canon::of(extract, tiplocs, runs.associations, runs.schedules))
+    Ok(Canon {
+        extract,
+        tiplocs,
+        associations: runs.associations,
+        schedules: runs.schedules,
+    })
 }
 
 /// The bytes of the longest line: that of associations that clash.
