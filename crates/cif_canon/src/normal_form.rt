@@ -129,7 +129,10 @@ pub fn check_keeping<R: ReadDevice>(
 {
     let extract = read_narrowed(alloc, source, max_lines, asked)?;
     let extract = kept.insert(extract);
-    Ok(canon(alloc, extract, form)?.counts())
+    match canon(alloc, extract, form) {
+        Ok(canon) => Ok(canon.counts()),
+        Err(fault) => Err(fault),
+    }
 }
 
 /// The extract that the source's lines spell, narrowed to the window that is asked for. A fault is
