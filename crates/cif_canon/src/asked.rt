@@ -1,12 +1,10 @@
 //! The window that is asked for, and extracts that are narrowed to it.
-ghost use Rattle.std.specs.Prelude.{◌≡◌, IfErr, IfOk, IfSome, unwrap_or};
+ghost use Rattle.std.specs.Prelude.{◌≡◌, IfErr, IfOk};
 ghost use Rattle.cif_extract.specs.ExtractParts.{extract_parts};
 ghost use Rattle.cif_extract.specs.declared.fault.Fault.TheVariants.{OutsideWindow};
 ghost use Rattle.cif_weeks.specs.Window.{IsWithin};
-ghost use Rattle.cif_canon.specs.Asked.{AskedDatesAreWithin, IsNarrowed, IsNarrowingFault};
-ghost use Rattle.cif_canon.specs.Asked.{header_window, window_asked as window_asked_of};
+ghost use Rattle.cif_canon.specs.Asked.{IsNarrowed, IsNarrowingFault, header_window};
 
-use cif_calendar::Window;
 use cif_columns::Day;
 use cif_extract::{Extract, Fault};
 use cif_records::Header;
@@ -33,41 +31,15 @@ pub fn narrow(extract: &mut Extract, asked: &Asked) -> Result<(), Fault>
     ensures fault { IfErr result (IsNarrowingFault asked.now extract.old.header) }
     ensures unchanged { IfErr result (λ _. extract.new ≡ extract.old) }
 {
-    let window = window_asked(&extract.header, asked)?;
-    extract.header = extract.header.with_window(window.first, window.last);
+    let first = asked.from.unwrap_or(extract.header.first);
+    let last = asked.to.unwrap_or(extract.header.last);
+    check_within(&extract.header, first)?;
+    check_within(&extract.header, last)?;
+    if first > last {
+        return Err(Fault::WindowReversed);
+    }
+    extract.header = extract.header.with_window(first, last);
     Ok(())
-}
-
-/// The window that is asked for of an extract with this header.
-fn window_asked(header: &Header, asked: &Asked) -> Result<Window, Fault>
-    ensures ok { IfOk result (λ window. AskedDatesAreWithin asked.now header.now
-        × (window.first ≡ (window_asked_of asked.now header.now).first)
-        × (window.last ≡ (window_asked_of asked.now header.now).last)) }
-    ensures fault { IfErr result (IsNarrowingFault asked.now header.now) }
-{
-    let first = date_asked(header, asked.from, header.first)?;
-    let last = date_asked(header, asked.to, header.last)?;
-    if first <= last {
-        Ok(Window { first, last })
-    } else {
-        Err(Fault::WindowReversed)
-    }
-}
-
-/// The date that is given, which has to be in the header's window, or else the header's own.
-fn date_asked(header: &Header, given: Option<Day>, own: Day) -> Result<Day, Fault>
-    ensures ok { IfOk result (λ day. IfSome given (IsWithin (header_window header.now))
-        × (day ≡ unwrap_or given own)) }
-    ensures fault { IfErr result (λ fault. (fault ≡ OutsideWindow)
-        × ¬ IfSome given (IsWithin (header_window header.now))) }
-{
-    match given {
-        Some(day) => {
-            check_within(header, day)?;
-            Ok(day)
-        }
-        None => Ok(own),
-    }
 }
 
 /// Whether the date is in the header's window: OutsideWindow comes where it isn't.

@@ -1,7 +1,6 @@
 //! The canonical form of an extract: its counts and its lines.
 ghost use Rattle.std.specs.Prelude.{◌≡◌, ◌<◌, ◌≤◌, All, IfErr, IsTrue, length};
 ghost use Rattle.std.specs.List.{flat_map};
-ghost use Rattle.cif_calendar.specs.Entries.{association_entries, schedule_entries};
 ghost use Rattle.cif_calendar.specs.Keys.{keyed};
 ghost use Rattle.cif_columns.specs.Sink.{Writes};
 ghost use Rattle.cif_extract.specs.declared.fault.Fault.TheVariants.{Write};
@@ -28,14 +27,14 @@ use std::marker::Model;
 /// its counts.
 #[derive(Debug, Drop)]
 pub struct Canon<'a> {
-    extract: &'a Extract,
+    pub(crate) extract: &'a Extract,
     /// The locations, each once, rising.
-    tiplocs: Vec<Tiploc>,
+    pub(crate) tiplocs: Vec<Tiploc>,
     /// The records of associations, rising by key and first date. The source of each is the
     /// position of an association with its key and body.
-    associations: Vec<Run>,
+    pub(crate) associations: Vec<Run>,
     /// Those of schedules.
-    schedules: Vec<Run>,
+    pub(crate) schedules: Vec<Run>,
 }
 
 impl<'a> Model for Canon<'a> {
@@ -62,35 +61,6 @@ impl<'a> Model for Canon<'a> {
 }
 
 impl<'a> Canon<'a> {
-    ghost use Rattle.std.specs.Prelude.{length};
-    ghost use Rattle.cif_extract.specs.ExtractParts.{extract_parts};
-    ghost use Rattle.cif_canon.specs.Steps.Texts.{canon_text};
-
-    /// The canonical form of these locations and of the records of these runs.
-    pub(crate) fn of(
-        extract: &'a Extract,
-        tiplocs: Vec<Tiploc>,
-        associations: Vec<Run>,
-        schedules: Vec<Run>,
-    ) -> Canon<'a>
-        requires associations { All (HasRecord (association_entries extract.now.associations.items)) associations.items }
-        requires schedules { All (HasRecord (schedule_entries extract.now.schedules.items)) schedules.items }
-        ensures text { result.text ≡
-            canon_text (extract_parts extract.now) tiplocs.items associations.items schedules.items }
-        ensures counts { result.counts ≡ record {
-          tiplocs = length tiplocs.items;
-          associations = length associations.items;
-          schedules = length schedules.items;
-        } }
-    {
-        Canon {
-            extract,
-            tiplocs,
-            associations,
-            schedules,
-        }
-    }
-
     /// How many records the canonical form has, by kind.
     pub fn counts(&self) -> Counts
         ensures { result ≡ self.now.counts }
@@ -198,7 +168,7 @@ pub(crate) trait RecordLines<E: Entry> {
         run: &Run,
         sink: &mut Sink<W>,
     )
-        requires { run.now.first ≤ run.now.last }
+        requires in_order { run.now.first ≤ run.now.last }
         ensures { IsAppended W.contents W.write_errors
             (text self.now (key.now, record_of run.now body.now)) sink.old sink.new };
 }

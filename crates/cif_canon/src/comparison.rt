@@ -15,7 +15,7 @@ ghost use Rattle.cif_canon.specs.Steps.Differences.{AreAlikeBy, AreComparable, F
 ghost use Rattle.cif_canon.specs.Steps.Differences.{HasBodies, IsBodied, IsFirstOrNone};
 
 use crate::records::{extract_runs, window_of};
-use crate::tiplocs::first_different_tiploc;
+use crate::tiplocs::different_tiplocs;
 use crate::turns::{NamedEntry, first_key, positions_by_key};
 use arrayvec::ArrayString;
 use cif_calendar::{Calendar, CalendarFault, Entry, Piece, Window, calendar, same_body};
@@ -24,12 +24,13 @@ use cif_extract::{Clash, Extract, Fault};
 use cif_records::{AssocKey, Tiploc};
 use cif_weeks::Form;
 use std::alloc::{AllocError, Global};
+use std::fmt;
 
 /// The bytes of the longest line: that of a location.
 const LONGEST: usize = 89;
 
 /// How two extracts compare in their window: whether they agree, and else the first difference.
-#[derive(Debug, Drop, PartialEq, Eq)]
+#[derive(Drop, PartialEq, Eq)]
 pub enum Comparison {
     /// They have the same locations, and on each date the same associations hold and the same trains
     /// run, with the same bodies.
@@ -42,6 +43,13 @@ pub enum Comparison {
     /// The locations and the associations agree. The least train, and its first date, of which they
     /// say different things.
     Train(Uid, Day),
+}
+
+/// Its line, without the line feed.
+impl fmt::Debug for Comparison {
+    fn fmt<W: fmt::Write>(&self, f: &mut fmt::Formatter<W>) -> fmt::Result {
+        f.write_str(line_of(self).as_str().trim_end())
+    }
 }
 
 /// Appends the line that says how two extracts compare, with its line feed.
@@ -124,12 +132,11 @@ fn first_found<'x>(
     requires { AreComparable (extract_parts left.now) (extract_parts right.now) }
     ensures { IfOk result (IsComparison (extract_parts left.now) (extract_parts right.now)) }
 {
-    if let Some(tiploc) = first_different_tiploc(
-        alloc,
-        left.tiplocs.as_slice(),
-        right.tiplocs.as_slice(),
-    )? {
-        return Ok(Comparison::Tiploc(tiploc));
+    {
+        let tiplocs = different_tiplocs(alloc, left.tiplocs.as_slice(), right.tiplocs.as_slice())?;
+        if let Some(first) = tiplocs.as_slice().first() {
+            return Ok(Comparison::Tiploc(first.it));
+        }
     }
     let window = window_of(left);
     match first_difference(

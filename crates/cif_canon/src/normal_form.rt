@@ -129,7 +129,10 @@ pub fn check_keeping<R: ReadDevice>(
 {
     let extract = read_narrowed(alloc, source, max_lines, asked)?;
     let extract = kept.insert(extract);
-    Ok(canon(alloc, extract, form)?.counts())
+    match canon(alloc, extract, form) {
+        Ok(canon) => Ok(canon.counts()),
+        Err(fault) => Err(fault),
+    }
 }
 
 /// The extract that the source's lines spell, narrowed to the window that is asked for. A fault is
@@ -165,7 +168,12 @@ pub fn canon<'a>(alloc: Global, extract: &'a Extract, form: Form) -> Result<Cano
     };
     let runs = extract_runs(alloc, extract, form)?;
     extract.fits();
-    Ok(Canon::of(extract, tiplocs, runs.associations, runs.schedules))
+    Ok(Canon {
+        extract,
+        tiplocs,
+        associations: runs.associations,
+        schedules: runs.schedules,
+    })
 }
 
 /// The bytes of the longest line: that of associations that clash.

@@ -118,7 +118,7 @@ pub(crate) const AT_ONCE: usize = 16;
 /// Looks at the entries at the positions: each first date is one, but to know it, the entry has to
 /// come from memory.
 fn look_ahead<E: Entry>(entries: &[E], positions: &[usize])
-    requires { All (λ i. i < length entries.now) positions.now }
+    requires within { All (λ i. i < length entries.now) positions.now }
 {
     for i in positions {
         match Day::from_number(entries[*i].first().number()) {

@@ -1,9 +1,7 @@
 //! The locations of a canonical extract, and those that only one of two lists has.
-ghost use Rattle.std.specs.Prelude.{◌↔◌, ◌+◌, ◌<◌, Contains, IfOk, List, length};
+ghost use Rattle.std.specs.Prelude.{◌+◌, ◌<◌, IfOk, List, length};
 ghost use Rattle.cif_records.specs.declared.tiploc.Tiploc.{Tiploc};
-ghost use Rattle.cif_canon.specs.Comparison.{IsFirstTiploc};
 ghost use Rattle.cif_canon.specs.Differences.{AreDifferentTiplocs};
-ghost use Rattle.cif_canon.specs.Steps.Differences.{IsFirstOrNone};
 ghost use Rattle.cif_canon.specs.Steps.OnlySides.{AreSifting, IsFirstOrder};
 ghost use Rattle.cif_canon.specs.Steps.Tiplocs.{AreDistinct};
 
@@ -16,27 +14,10 @@ use std::cmp::Ordering;
 pub(crate) fn distinct_tiplocs(alloc: Global, tiplocs: &[Tiploc]) -> Result<Vec<Tiploc>, AllocError>
     ensures { IfOk result (λ distinct. AreDistinct tiplocs.now distinct.items) }
 {
-    let mut distinct = Vec::with_capacity(alloc, tiplocs.len())?;
-    distinct.extend_from_slice(tiplocs)?;
+    let mut distinct = Vec::from_slice(alloc, tiplocs)?;
     distinct.sort_unstable();
     distinct.dedup();
     Ok(distinct)
-}
-
-/// The least location, by its columns, that only one of the two lists has.
-pub(crate) fn first_different_tiploc(
-    alloc: Global,
-    left: &[Tiploc],
-    right: &[Tiploc],
-) -> Result<Option<Tiploc>, AllocError>
-    ensures { IfOk result (IsFirstOrNone ((t : Tiploc) → Contains left.now t ↔ Contains right.now t)
-        (IsFirstTiploc left.now right.now)) }
-{
-    let found = different_tiplocs(alloc, left, right)?;
-    match found.as_slice().first() {
-        Some(first) => Ok(Some(first.it)),
-        None => Ok(None),
-    }
 }
 
 /// How the first locations of two lists compare, where one that is absent is the greater; none where

@@ -26,4 +26,4 @@ unreachable-requires g c =
 
 pub write_record-requires : goal.write_record-requires
 write_record-requires g c =
-    dates-in_order (keyed g.E.Entry.key g.E.Entry.terms c.args.entries.now) c.args.run.now c.requires.record
+    record { in_order = dates-in_order (keyed g.E.Entry.key g.E.Entry.terms c.args.entries.now) c.args.run.now c.requires.record }

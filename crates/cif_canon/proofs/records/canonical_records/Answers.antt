@@ -28,7 +28,7 @@ loop-rest-init g c =
     }
 
 pub look_ahead-requires : goal.look_ahead-requires
-look_ahead-requires g c = All-take (λ i. i < length c.args.entries.now) _ _ c.loop-rest.invariant.within
+look_ahead-requires g c = record { within = All-take (λ i. i < length c.args.entries.now) _ _ c.loop-rest.invariant.within }
 
 pub count_of_first_key-requires-clause-within : goal.count_of_first_key-requires-clause-within
 count_of_first_key-requires-clause-within g c = c.loop-rest.invariant.within
