@@ -6,7 +6,6 @@ use Rattle.cif_extract.specs.OrderOfRecords.{after_further, may_stand}
 use Rattle.cif_extract.specs.Steps.Reading.{GoesOnPlainly, IsFurther, IsKeepable, IsTaken, Progress, keeping, kept, refusal_here, step}
 use Rattle.cif_extract.specs.Steps.Reading.{IsKept, UnlessMemory, UnlessRefused, with_kept}
 use Rattle.cif_extract.specs.declared.place.Place.{Place}
-use Rattle.cif_extract.specs.declared.place.Place.TheVariants as at
 use Rattle.cif_extract.specs.declared.reading.TakeFault.{TakeFault}
 use Rattle.cif_extract.specs.declared.reading.TakeFault.TheVariants as untaken
 use Rattle.cif_records.specs.Checks.{IsJudged}

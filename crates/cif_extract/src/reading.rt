@@ -60,14 +60,13 @@ pub fn read_extract<R: ReadDevice>(
             lines.pass_line();
             continue;
         }
-        let is_line = lines.read_line(source, &mut line)?;
-        if is_line {
-            match reading.take(alloc, &line) {
+        match lines.read_line(source, &mut line) {
+            Ok(true) => match reading.take(alloc, &line) {
                 Ok(()) => {}
                 Err(fault) => return Err(fault.at_line(lines.line_number())),
-            }
-        } else {
-            return reading.finish(lines.line_number());
+            },
+            Ok(false) => return reading.finish(lines.line_number()),
+            Err(fault) => return Err(Fault::from(fault)),
         }
     }
 }

@@ -14,6 +14,9 @@ at_most_one : (some : Bool) → from_bool some ≤ 1
 at_most_one true = omega arith
 at_most_one false = omega arith
 
+pub overflow_add-from : goal.overflow_add-from
+overflow_add-from c = omega (arith, c.from.ensures, at_most_one c.eq-has_extra.result)
+
 pub behind-requires : goal.behind-requires
 behind-requires c =
     let h = kept_view c.self.inside.lines c.args.self.now c.self.invariant c.self.view_is in

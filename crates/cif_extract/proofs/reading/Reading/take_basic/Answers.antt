@@ -1,5 +1,5 @@
 -- Only terms were read: the BS that the line spells has the detail that stands there (`detail_there`), or none, by its letter.
-use Rattle.std.proofs.Common.{refl, sym, ◌≡◌, ◌∙◌, ap, List, [], ◌∷◌, ℕ, true, false}
+use Rattle.std.proofs.Common.{sym, ◌≡◌, ◌∙◌, ap, true, false}
 use Rattle.cif_extract.specs.Steps.Reading.{progress_of}
 use Rattle.cif_records.specs.Bodies.{has_body}
 use Rattle.cif_records.specs.Detail.{detail_in}
