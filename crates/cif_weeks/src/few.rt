@@ -117,7 +117,7 @@ pub fn runs_of_few<E: Entry>(
     window: &Window,
     form: Form,
 ) -> Result<bool, AllocError>
-    requires { All (λ i. i < length entries.now) members.now }
+    requires within { All (λ i. i < length entries.now) members.now }
     ensures { IfOk result (λ made. MatchBool made
         (AreRunsOfMembers form (map E.terms entries.now) members.now
         (window_from window.now.first window.now.last) runs.new.items)

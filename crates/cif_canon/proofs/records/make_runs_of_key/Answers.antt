@@ -9,7 +9,8 @@ use Rattle.cif_canon.proofs.records.make_runs_of_key.Goals as goal
 pub returns-in-Ok-true-clause-runs : goal.returns-in-Ok-true-clause-runs
 returns-in-Ok-true-clause-runs g c k p =
     members-records g.E.Entry.key g.E.Entry.terms c.args.entries.now k c.args.members.now p c.args.form
-    (window_from c.args.window.now.first c.args.window.now.last) c.runs_of_few.new.runs.items (rw c.in-Ok-true.field-0-test at c.in-Ok-true.ensures)
+    (window_from c.args.window.now.first c.args.window.now.last) c.runs_of_few.new.runs.items
+    (rw c.in-Ok-true.field-0-test at c.in-Ok-true.ensures)
 
 pub returns-in-Err-calendar-clause-fault : goal.returns-in-Err-calendar-clause-fault
 returns-in-Err-calendar-clause-fault g c = rw c.fault_of.ensures (λ k p.
@@ -23,8 +24,8 @@ returns-in-Ok-runs-clause-runs g c k p =
     c.in-Ok.calendar c.in-Ok.ensures.calendar g.met.E.Entry.cancelled c.args.form
     c.in-Ok-runs.runs.items c.in-Ok-runs.ensures
 
-pub runs_of_few-requires : goal.runs_of_few-requires
-runs_of_few-requires g c = c.requires.within
+pub runs_of_few-requires-clause-within : goal.runs_of_few-requires-clause-within
+runs_of_few-requires-clause-within g c = c.requires.within
 
 pub calendar-requires : goal.calendar-requires
 calendar-requires g c = record { positions = c.requires.within }

@@ -21,14 +21,14 @@ use Rattle.cif_weeks.proofs.few.runs_of_few.Goals.{After-as_slice-2, in-Some, in
 pub source_of-source-requires-clause-sources : goal.source_of-source-requires-clause-sources
 source_of-source-requires-clause-sources g c =
     let below = λ (j : ℕ). j < length c.args.entries.now in
-    rw c.as_slice.ensures.value (λ k d within. All-contains below _ _ (All-take below _ c.args.members.now c.requires)
+    rw c.as_slice.ensures.value (λ k d within. All-contains below _ _ (All-take below _ c.args.members.now c.requires.within)
     (c.loop-position.invariant.are.each (get_or c.loop-position.spans.items k d) (Contains-get_or _ k d within)).source)
 
 pub loop-position-preserved : goal.loop-position-preserved
 loop-position-preserved g c =
     let i = c.loop-position.position-index in
     let at = terms_at g.E.Entry.terms c.args.entries.now (get_or c.args.members.now i 0) c.index-entries-position.result
-    (c.requires i 0 c.loop-position-test.true) c.index-entries-position.is in
+    (c.requires.within i 0 c.loop-position-test.true) c.index-entries-position.is in
     let are = c.loop-position.invariant.are in
     let of = c.source_of-source.ensures in
     rw (take_more c.args.members.now i 0 c.loop-position-test.true) (elim c.match-of.branch [
