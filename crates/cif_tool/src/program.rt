@@ -7,7 +7,7 @@ use crate::job::{Job, JobFault};
 use crate::status::{MISTAKEN, end};
 use crate::words::job_of;
 use arrayvec::ArrayString;
-use cif_columns::{Sink, Source, WriteDevice};
+use cif_columns::{ReadDevice, Sink, Source, WriteDevice};
 use cif_extract::Fault;
 use std::alloc::{AllocError, Global};
 use std::env::Env;
@@ -108,13 +108,14 @@ fn done<R: Files + Input + Print + AllocGlobal, W: WriteDevice>(
         Some(_) => ("LEFT, ", "RIGHT, "),
         None => ("", ""),
     };
-    let mut left = Source::new(ExtractInput::of(rt, side, file));
-    let mut right = Source::new(ExtractInput::of(rt, right_side, right_file));
-    let (answer, failure) = answered(rt.alloc(), job, &mut left, &mut right, io::writer(rt));
+    let alloc = rt.alloc();
+    let mut left = ExtractInput::of(rt, side, file);
+    let mut right = ExtractInput::of(rt, right_side, right_file);
+    let (answer, failure) = answered(alloc, job, &mut left, &mut right, io::writer(rt));
     let status = end(&answer, errors);
     if verbose {
         advise(
-            rt.alloc(),
+            alloc,
             &answer,
             failure,
             left.reader(),
@@ -122,16 +123,19 @@ fn done<R: Files + Input + Print + AllocGlobal, W: WriteDevice>(
             errors,
         );
     }
+    // As in `asked`.
+    mem::forget(left);
+    mem::forget(right);
     status
 }
 
 /// Answers the job on the output. With the answer comes the system's number of the error that a write
 /// ended with.
-fn answered<'a, R: Files + Input, W: Write + Drop>(
+fn answered<R: ReadDevice, W: Write + Drop>(
     alloc: Global,
     job: &Job,
-    left: &mut Source<ExtractInput<'a, R>>,
-    right: &mut Source<ExtractInput<'a, R>>,
+    left: &mut Source<R>,
+    right: &mut Source<R>,
     output: W,
 ) -> (Result<u8, Fault>, Option<i32>) {
     match BufWriter::with_capacity(alloc, OUTPUT_BUFFER, Output::new(output)) {
