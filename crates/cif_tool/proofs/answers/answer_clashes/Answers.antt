@@ -4,7 +4,6 @@ use Rattle.cif_columns.specs.Source.{reader_of}
 use Rattle.cif_columns.proofs.GivenLinesLaws.{known_so}
 use Rattle.cif_extract.specs.ExtractParts.{extract_parts}
 use Rattle.cif_extract.specs.declared.fault.Fault.TheVariants.{Read, Write}
-use Rattle.cif_canon.specs.Asked.{IsNarrowingFault}
 use Rattle.cif_canon.specs.Clashes.{clashes_text}
 use Rattle.cif_canon.proofs.HandedFaults.{at-fault, hands, known-fault}
 use Rattle.cif_tool.specs.Answer.{IsClashesRefusal}
@@ -13,19 +12,6 @@ use Rattle.cif_tool.proofs.Answered.{fails-silently, handed-text, only-fails}
 use Rattle.cif_canon.proofs.BothRead.{read-on}
 use Rattle.cif_tool.proofs.KnownAnswers.{clashes-answer}
 use Rattle.cif_tool.proofs.answers.answer_clashes.Goals as goal
-
-pub returns-in_err-extract-clause-fault : goal.returns-in_err-extract-clause-fault
-returns-in_err-extract-clause-fault g c =
-    let after = g.R.Read.remaining (reader_of c.read_extract.new.source) in
-    known-fault c.from_residual.result c.in_err-extract.field-0.0 c.from_residual.ensures.1 _ _
-    (λ bytes. IsClashesRefusal c.args.asked.now bytes after) (λ bytes is. inl is) c.in_err-extract.ensures.fault
-
-pub returns-in_err-narrow-clause-answer : goal.returns-in_err-narrow-clause-answer
-returns-in_err-narrow-clause-answer g c =
-    let call = c.from_residual-in_err-narrow in
-    let f = c.in_err-narrow.field-0.0 in
-    fails-silently _ _ _ c.args.sink.now call.result f (at-fault call.result f call.ensures.1)
-    (λ write. subst (IsNarrowingFault c.args.asked.now c.in_ok-extract.extract.header) write c.in_err-narrow.ensures.fault)
 
 pub returns-in_err-narrow-clause-fault : goal.returns-in_err-narrow-clause-fault
 returns-in_err-narrow-clause-fault g c =
@@ -67,13 +53,6 @@ returns-clause-fault g c =
     only-fails _ _ _ (IsClashesRefusal c.args.asked.now bytes after) c.listed.result c.write.result c.write.new.sink
     c.finish.new.sink c.finish.result c.write.ensures.fault
     (inr (extract_parts c.in_ok-extract.extract, spelled, inr (inr refl))) c.finish.ensures.finishes) c.in_ok-extract.ensures.ok
-
-pub returns-in_err-narrow-clause-source : goal.returns-in_err-narrow-clause-source
-returns-in_err-narrow-clause-source g c =
-    let call = c.from_residual-in_err-narrow in
-    read-on _ _ _ call.result (hands call.result c.in_err-narrow.field-0.0 call.ensures.1 (λ f. f ≢ Read)
-    (λ read. subst (IsNarrowingFault c.args.asked.now c.in_ok-extract.extract.header) read c.in_err-narrow.ensures.fault))
-    c.in_ok-extract.ensures.device
 
 pub returns-in_err-found-clause-source : goal.returns-in_err-found-clause-source
 returns-in_err-found-clause-source g c =
