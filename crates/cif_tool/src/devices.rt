@@ -153,28 +153,19 @@ impl<F: Read + Drop> ReadDevice for AgainInput<F> {
     }
 }
 
-/// A writer, and the system's number of the error that a write ended with.
+/// A writer, and where the system's number of the error goes that a write ended with.
 #[derive(Drop)]
-pub(crate) struct Output<W> {
-    writer: W,
-    pub(crate) failure: Option<i32>,
+pub(crate) struct Output<'a, W> {
+    pub(crate) writer: W,
+    pub(crate) failure: &'a mut Option<i32>,
 }
 
-impl<W: Write> Output<W> {
-    pub(crate) fn new(writer: W) -> Self {
-        Output {
-            writer,
-            failure: None,
-        }
-    }
-}
-
-impl<W: Write> Write for Output<W> {
+impl<W: Write> Write for Output<'_, W> {
     fn write(&mut self, bytes: &[u8]) -> io::Result<usize> {
         match self.writer.write(bytes) {
             Ok(count) => Ok(count),
             Err(error) => {
-                self.failure = error.raw_os_error();
+                *self.failure = error.raw_os_error();
                 Err(error)
             }
         }
@@ -185,7 +176,7 @@ impl<W: Write> Write for Output<W> {
     }
 }
 
-impl<W: Write> WriteDevice for Output<W> {
+impl<W: Write> WriteDevice for Output<'_, W> {
     fn write_once(&mut self, bytes: &[u8]) -> io::Result<usize> {
         self.write(bytes)
     }
