@@ -128,9 +128,6 @@ fn done<R: Files + Input + Print + AllocGlobal, W: WriteDevice>(
             errors,
         );
     }
-    // As in `asked`.
-    mem::forget(left);
-    mem::forget(right);
     status
 }
 
