@@ -3,7 +3,7 @@ ghost use Rattle.std.specs.Io.{ReadsAtMost};
 
 use crate::words::is_standard;
 use arrayvec::ArrayVec;
-use cif_columns::{LINE_WIDTH, Line, ReadDevice, WriteDevice};
+use cif_columns::{LINE_WIDTH, Line, ReadDevice, Source, WriteDevice};
 use cif_records::Header;
 use std::fs::OpenFile;
 use std::io::{Read, Seek, SeekFrom, Write};
@@ -37,20 +37,18 @@ enum Device<'a, R: Files + Input> {
 
 impl<'a, R: Files + Input> ExtractInput<'a, R> {
     /// The file of this name, or the standard input where there is none or it is `-`.
-    pub(crate) fn of(rt: &'a R, side: &'static str, file: Option<&'a str>) -> Self {
-        ExtractInput {
+    pub(crate) fn of(rt: &'a R, side: &'static str, file: Option<&'a str>) -> Source<Self> {
+        let (name, device) = match file {
+            Some(name) if !is_standard(name) => (name, Device::Named { files: rt, name }),
+            _ => ("standard input", Device::Unlocked(rt)),
+        };
+        Source::new(ExtractInput {
             side,
-            name: match file {
-                Some(name) if !is_standard(name) => name,
-                _ => "standard input",
-            },
-            device: match file {
-                Some(name) if !is_standard(name) => Device::Named { files: rt, name },
-                _ => Device::Unlocked(rt),
-            },
+            name,
+            device,
             start: ArrayVec::new(),
             failure: None,
-        }
+        })
     }
 
     /// Of two inputs the side, with what separates it from the name.
@@ -155,28 +153,19 @@ impl<F: Read + Drop> ReadDevice for AgainInput<F> {
     }
 }
 
-/// A writer, and the system's number of the error that a write ended with.
+/// A writer, and where the system's number of the error goes that a write ended with.
 #[derive(Drop)]
-pub(crate) struct Output<W> {
-    writer: W,
-    pub(crate) failure: Option<i32>,
+pub(crate) struct Output<'a, W> {
+    pub(crate) writer: W,
+    pub(crate) failure: &'a mut Option<i32>,
 }
 
-impl<W: Write> Output<W> {
-    pub(crate) fn new(writer: W) -> Self {
-        Output {
-            writer,
-            failure: None,
-        }
-    }
-}
-
-impl<W: Write> Write for Output<W> {
+impl<W: Write> Write for Output<'_, W> {
     fn write(&mut self, bytes: &[u8]) -> io::Result<usize> {
         match self.writer.write(bytes) {
             Ok(count) => Ok(count),
             Err(error) => {
-                self.failure = error.raw_os_error();
+                *self.failure = error.raw_os_error();
                 Err(error)
             }
         }
@@ -187,7 +176,7 @@ impl<W: Write> Write for Output<W> {
     }
 }
 
-impl<W: Write> WriteDevice for Output<W> {
+impl<W: Write> WriteDevice for Output<'_, W> {
     fn write_once(&mut self, bytes: &[u8]) -> io::Result<usize> {
         self.write(bytes)
     }

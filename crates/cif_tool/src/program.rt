@@ -7,11 +7,11 @@ use crate::job::{Job, JobFault};
 use crate::status::{MISTAKEN, end};
 use crate::words::job_of;
 use arrayvec::ArrayString;
-use cif_columns::{Sink, Source, WriteDevice};
+use cif_columns::{ReadDevice, Sink, Source, WriteDevice};
 use cif_extract::Fault;
 use std::alloc::{AllocError, Global};
 use std::env::Env;
-use std::io::{BufWriter, ErrorKind, Write};
+use std::io::{BufWriter, ErrorKind};
 use std::rt::Files;
 use std::{env, io, mem};
 
@@ -52,23 +52,23 @@ fn asked<R: Env + Files + Input + Print + AllocGlobal, W: WriteDevice>(
             mem::forget(job);
             status
         }
-        Err(fault) => match words_of(rt) {
-            Ok(words) => refused(rt, words.as_slice(), fault, verbose, errors),
-            Err(_) => end(&Err(Fault::Memory), errors),
-        },
+        Err(fault) => refused(rt, fault, verbose, errors),
     }
 }
 
 /// Says why the words ask for nothing, and returns the status to exit with.
 // Inlined, it would keep its faults on the stack while the job is done.
 #[inline(never)]
-fn refused<R: Print + AllocGlobal, W: WriteDevice>(
+fn refused<R: Env + Print + AllocGlobal, W: WriteDevice>(
     rt: &R,
-    words: &[String],
     fault: JobFault,
     verbose: bool,
     errors: &mut Sink<W>,
 ) -> u8 {
+    let Ok(words) = words_of(rt) else {
+        return end(&Err(Fault::Memory), errors);
+    };
+    let words = words.as_slice();
     let fault = escaped(rt.alloc(), words, &fault).unwrap_or(fault);
     let answer = explained(rt.alloc(), &fault, io::writer(rt), errors);
     let status = end(&answer, errors);
@@ -108,13 +108,19 @@ fn done<R: Files + Input + Print + AllocGlobal, W: WriteDevice>(
         Some(_) => ("LEFT, ", "RIGHT, "),
         None => ("", ""),
     };
-    let mut left = Source::new(ExtractInput::of(rt, side, file));
-    let mut right = Source::new(ExtractInput::of(rt, right_side, right_file));
-    let (answer, failure) = answered(rt.alloc(), job, &mut left, &mut right, io::writer(rt));
+    let alloc = rt.alloc();
+    let mut left = ExtractInput::of(rt, side, file);
+    let mut right = ExtractInput::of(rt, right_side, right_file);
+    let mut failure = None;
+    let output = Output {
+        writer: io::writer(rt),
+        failure: &mut failure,
+    };
+    let answer = answered(alloc, job, &mut left, &mut right, output);
     let status = end(&answer, errors);
     if verbose {
         advise(
-            rt.alloc(),
+            alloc,
             &answer,
             failure,
             left.reader(),
@@ -125,25 +131,23 @@ fn done<R: Files + Input + Print + AllocGlobal, W: WriteDevice>(
     status
 }
 
-/// Answers the job on the output. With the answer comes the system's number of the error that a write
-/// ended with.
-fn answered<'a, R: Files + Input, W: Write + Drop>(
+/// Answers the job on the output.
+fn answered<R: ReadDevice, W: WriteDevice + Drop>(
     alloc: Global,
     job: &Job,
-    left: &mut Source<ExtractInput<'a, R>>,
-    right: &mut Source<ExtractInput<'a, R>>,
+    left: &mut Source<R>,
+    right: &mut Source<R>,
     output: W,
-) -> (Result<u8, Fault>, Option<i32>) {
-    match BufWriter::with_capacity(alloc, OUTPUT_BUFFER, Output::new(output)) {
+) -> Result<u8, Fault> {
+    match BufWriter::with_capacity(alloc, OUTPUT_BUFFER, output) {
         Ok(output) => {
             let mut output = Sink::new(output);
             let answer = answer(alloc, job, left, right, &mut output);
-            let failure = output.writer().get_ref().failure;
             // A `BufWriter` that is dropped writes what it holds, also after a failure.
             mem::forget(output);
-            (answer, failure)
+            answer
         }
-        Err(_) => (Err(Fault::Memory), None),
+        Err(_) => Err(Fault::Memory),
     }
 }
 
