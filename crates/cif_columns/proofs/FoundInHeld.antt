@@ -1,7 +1,7 @@
 -- What is found in the held bytes is found in all that is left.
 use Rattle.std.proofs.Common.{◌≡◌, ◌≢◌, ℕ, ◌<◌, Bool, true, false, List, ◌++◌, length, Option, Some, None, IfSome, Result, Ok, Err, refl}
-use Rattle.std.proofs.Common.{sym, ap, ◌∙◌, arith, append-nil, length-append, subst}
-use Rattle.std.specs.Io.KnownBytes.{IsAtEnd, Keeps, prepend_known}
+use Rattle.std.proofs.Common.{sym, ap, ◌∙◌, arith, length-append}
+use Rattle.std.specs.Io.KnownBytes.{Keeps, prepend_known}
 use Rattle.cif_columns.specs.declared.ahead.Found.{Found}
 use Rattle.cif_columns.specs.declared.ahead.Found.TheVariants.{Next, End, Refused, Failed}
 use Rattle.cif_columns.specs.declared.refusal.Refusal.{Refusal}
@@ -41,16 +41,6 @@ module _ (is_full : Bool) where
     ap (first_line is_full) (sym k) ∙ decided_more held y is_full d ∙ f,
   )
   found_more (Some x) (Some y) held rest Failed k d f = absurd f
-
-  -- where no bytes follow, the held bytes are all that is left
-  pub found_last : (a rem : Option (List ℕ)) (held rest : List ℕ) (found : Found) → Keeps a (prepend_known held rem) → IsAtEnd rem
-      → Finds is_full held found (Some rest) → IfSome a (λ bytes. Finds is_full bytes found (prepend_known rest rem))
-  found_last None rem held rest found k e f = tt
-  found_last (Some x) None held rest found k e f = absurd k
-  found_last (Some x) (Some y) held rest found k e f =
-      let all : held ≡ x = sym (append-nil held) ∙ ap (λ l. held ++ l) (sym e) ∙ k in
-      let after : rest ≡ rest ++ y = sym (append-nil rest) ∙ ap (λ l. rest ++ l) (sym e) in
-      subst (λ bytes. Finds is_full bytes found (Some (rest ++ y))) all (subst (λ l. Finds is_full held found (Some l)) after f)
 
 -- a line that is one too many is none
 pub line_not_full : (f : Bool) (bytes line : List ℕ) → first_line f bytes ≡ Ok line → f ≡ false

@@ -11,7 +11,7 @@ ghost use Rattle.cif_columns.specs.declared.ahead.TheConstants.{AHEAD, LONGEST_L
 
 use crate::line::{LINE_TEXT_WIDTH, LINE_WIDTH, Line};
 use crate::refusal::Refusal;
-use crate::source::{ReadDevice, Source};
+use crate::source::{ReadDevice, ReadFault, Source};
 
 // A read gives about two hundred lines. The buffer lies on the stack.
 const AHEAD: usize = 16_384;
@@ -68,6 +68,31 @@ impl Ahead {
         ensures { result.now ≡ held_bytes self.now }
     {
         &self.buf[self.start..self.end]
+    }
+
+    /// Moves the held bytes to the front, reads once behind them, and returns whether any bytes came.
+    fn fill<R: ReadDevice>(&mut self, source: &mut Source<R>) -> Result<bool, ReadFault>
+        requires { length (held_bytes self.old) < LONGEST_LINE }
+        ensures bytes { Keeps (known_left R.remaining self.old source.old)
+            (known_left R.remaining self.new source.new) }
+        ensures more { result ≡ Ok true
+            → length (held_bytes self.old) < length (held_bytes self.new) }
+        ensures end { result ≡ Ok false → (held_bytes self.new ≡ held_bytes self.old)
+            × IsAtEnd (R.remaining (reader_of source.new)) }
+        ensures err { OnErr result (held_bytes self.new ≡ held_bytes self.old) }
+        ensures device { Reads R.read_errors source.old source.new result }
+    {
+        let len = self.end - self.start;
+        self.buf.copy_within(self.start..self.end, 0);
+        self.start = 0;
+        self.end = len;
+        match source.read(&mut self.buf[len..]) {
+            Ok(n) => {
+                self.end += n;
+                Ok(n > 0)
+            }
+            Err(fault) => Err(fault),
+        }
     }
 }
 
@@ -173,16 +198,9 @@ impl Ahead {
             if let Some(found) = self.decided(is_full) {
                 return found;
             }
-            // The held bytes move to the front, and are read behind.
-            let len = self.end - self.start;
-            self.buf.copy_within(self.start..self.end, 0);
-            self.start = 0;
-            self.end = len;
-            match source.read(&mut self.buf[len..]) {
-                Ok(0) => return self.last(is_full),
-                Ok(n) => {
-                    self.end += n;
-                }
+            match self.fill(source) {
+                Ok(true) => {}
+                Ok(false) => return self.last(is_full),
                 Err(_) => return Found::Failed,
             }
         }
