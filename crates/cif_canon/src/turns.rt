@@ -1,11 +1,9 @@
 //! The positions of entries in the order of their keys.
-ghost use Rattle.std.specs.Prelude.{◌≡◌, ◌<◌, All, length, map};
-ghost use Rattle.std.specs.Prelude.{IfOk, OnOk};
-ghost use Rattle.std.specs.List.Sorted.{IsPermutation};
+ghost use Rattle.std.specs.Prelude.{◌≡◌, ◌<◌, All, IfOk, length, option_map, slice_get};
 ghost use Rattle.cif_calendar.specs.Keys.{keyed};
 ghost use Rattle.cif_canon.specs.Steps.Differences.{IsFirstOrNone};
 ghost use Rattle.cif_canon.specs.Steps.Turns.{AreAllByKey, AreFrom, AreOfFirstKey};
-ghost use Rattle.cif_canon.specs.Steps.Turns.{AreRisingTurns, IsFirstKey, IsFirstOfBoth, IsFront, IsRising};
+ghost use Rattle.cif_canon.specs.Steps.Turns.{IsFirstKey, IsFirstOfBoth, IsFront, IsRising};
 
 use cif_calendar::Entry;
 use cif_columns::{Day, Uid};
@@ -58,32 +56,6 @@ impl NamedEntry for Schedule {
     }
 }
 
-/// The position of an entry, with its key: a sort that looked for the keys among the entries would
-/// wait for memory at each comparison.
-#[derive(Drop)]
-struct Turn<K: Drop> {
-    key: K,
-    position: usize,
-}
-
-/// Puts the turns in the order of their keys. Those that are in it are not sorted.
-fn sort_turns<K: Ord + Drop>(turns: &mut Vec<Turn<K>>) -> Result<(), AllocError>
-    ensures all { OnOk result (IsPermutation turns.old.items turns.new.items) }
-    ensures rising { OnOk result (AreRisingTurns K.cmp turns.new.items) }
-{
-    if turns.is_sorted_by(|one, other| one.key.cmp(&other.key).is_le()) {
-        return Ok(());
-    }
-    turns.sort_by(|one, other| one.key.cmp(&other.key))
-}
-
-/// The positions of the turns.
-fn positions_of<K: Drop>(alloc: Global, turns: &[Turn<K>]) -> Result<Vec<usize>, AllocError>
-    ensures { IfOk result (λ positions. positions.items ≡ map (λ t. t.position) turns.now) }
-{
-    turns.iter().map(|turn| turn.position).collect(alloc)
-}
-
 /// The positions of all entries, in the order of their keys.
 pub(crate) fn positions_by_key<E: NamedEntry>(
     alloc: Global,
@@ -94,15 +66,20 @@ where
     ensures { IfOk result (λ positions.
         AreAllByKey E.Key.cmp (keyed E.key E.terms entries.now) positions.items) }
 {
-    let mut turns = Vec::with_capacity(alloc, entries.len())?;
-    for (position, entry) in entries.iter().enumerate() {
-        turns.push(Turn {
-            key: entry.copied_key(),
-            position,
-        })?;
-    }
-    sort_turns(&mut turns)?;
-    positions_of(alloc, turns.as_slice())
+    let mut positions: Vec<usize> = (0..entries.len()).collect(alloc)?;
+    // A sort that looked for the keys among the entries would wait for memory at each comparison.
+    positions.sort_by_cached_key(
+        |i|
+            ensures key { result ≡ option_map E.key (slice_get entries.entry.now i.now) }
+            ensures same { entries.exit ≡ entries.entry }
+        {
+            match entries.get(*i) {
+                Some(entry) => Some(entry.copied_key()),
+                None => None,
+            }
+        },
+    )?;
+    Ok(positions)
 }
 
 /// How many of the positions, from the first on, are of entries with one key. The positions are in

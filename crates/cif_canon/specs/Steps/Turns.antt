@@ -5,7 +5,6 @@ use Rattle.std.specs.Ordering.{is_gt}
 use Rattle.std.specs.declared.cmp.Ordering.{Ordering}
 use Rattle.std.specs.declared.cmp.Ordering.TheVariants.{Less}
 use Rattle.cif_calendar.specs.Terms.{Terms}
-use Rattle.cif_canon.specs.declared.turns.Turn.{Turn}
 
 -- at this position stands an entry of key k
 pub record HasKey {K B : Type 0} (entries : List (K × Terms B)) (position : ℕ) (k : K) : Type 0 where
@@ -70,12 +69,3 @@ pub record AreAllByKey {K B : Type 0} (cmp : K → K → Ordering) (entries : Li
   pub within : All (λ i. i < length entries) positions
   pub whole : (i : ℕ) → i < length entries → Contains positions i
   pub rising : IsRising cmp entries positions
-
--- entries with these keys, from this position on
-abbrev pub turns_from : {K : Type 0} → ℕ → List K → List (Turn K)
-turns_from n [] = []
-turns_from n (key ∷ keys) = record { key = key; position = n } ∷ turns_from (n + 1) keys
-
--- no turn's key is after that of a later one
-abbrev pub AreRisingTurns : {K : Type 0} → (K → K → Ordering) → List (Turn K) → Type 0
-AreRisingTurns cmp turns = AllPairs (λ s t. is_gt (cmp s.key t.key) ≡ false) turns

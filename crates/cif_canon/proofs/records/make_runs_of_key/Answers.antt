@@ -24,8 +24,8 @@ returns-in-Ok-runs-clause-runs g c k p =
     c.in-Ok.calendar c.in-Ok.ensures.calendar g.met.E.Entry.cancelled c.args.form
     c.in-Ok-runs.runs.items c.in-Ok-runs.ensures
 
-pub runs_of_few-requires-clause-within : goal.runs_of_few-requires-clause-within
-runs_of_few-requires-clause-within g c = c.requires.within
+pub runs_of_few-requires : goal.runs_of_few-requires
+runs_of_few-requires g c = record { within = c.requires.within }
 
 pub calendar-requires : goal.calendar-requires
 calendar-requires g c = record { positions = c.requires.within }
