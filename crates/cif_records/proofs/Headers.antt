@@ -115,20 +115,17 @@ module _ (h : Header) where
       & (subst (λ d. (length d ≡ 6) × ArePrintable d) last_digits (wide_part 52 6 0 refl, printable_part 52 6))
       & tt & tt
 
-  -- its plain columns one behind another are its columns
-  pub put-columns : (front : List ℕ) →
-      ((((front ++ kept 3 46 h.columns) ++ codes "F") ++ kept 48 48 h.columns) ++ ddmmyy_of h.first) ++ ddmmyy_of h.last
-      ≡ front ++ h.columns
-  put-columns front =
+  -- its columns are its plain columns one behind another
+  pub columns-parts : (rest : List ℕ) → h.columns ++ rest
+      ≡ kept 3 46 h.columns ++ (codes "F" ++ (kept 48 48 h.columns ++ (ddmmyy_of h.first ++ (ddmmyy_of h.last ++ rest))))
+  columns-parts rest =
       let a = kept 3 46 h.columns in
       let b = kept 48 48 h.columns in
       let c = ddmmyy_of h.first in
       let d = ddmmyy_of h.last in
-      append_assoc (((front ++ a) ++ codes "F") ++ b) c d
-      ∙ append_assoc ((front ++ a) ++ codes "F") b (c ++ d)
-      ∙ append_assoc (front ++ a) (codes "F") (b ++ (c ++ d))
-      ∙ append_assoc front a (codes "F" ++ (b ++ (c ++ d)))
-      ∙ ap (λ (l : List ℕ). front ++ l) (sym columns_are)
+      ap (λ (l : List ℕ). l ++ rest) columns_are
+      ∙ append_assoc a (codes "F" ++ (b ++ (c ++ d))) rest
+      ∙ ap (λ (l : List ℕ). a ++ (codes "F" ++ l)) (append_assoc b (c ++ d) rest ∙ ap (λ (l : List ℕ). b ++ l) (append_assoc c d rest))
 
 -- what the type keeps of its fields
 abbrev Facts : List ℕ × ℕ × ℕ → Type 0

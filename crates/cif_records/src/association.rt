@@ -187,7 +187,8 @@ impl Association {
             (association_rows key.now first last days letter (Some body.now)) }
         ensures fits { AllFit (association_rows key.now first last days letter (Some body.now)) }
     {
-        line.put_columns(b"AAN");
+        line.put_columns(b"AA");
+        line.put_columns(b"N");
         key.base.put_on(line);
         key.associated.put_on(line);
         first.put_on(line);

@@ -2,7 +2,6 @@
 ghost use Rattle.std.specs.Prelude.{◌≡◌, ◌≤◌, [], length, Ok, Option, Some, is_some};
 ghost use Rattle.cif_columns.specs.Field.{AllFit, AllStandIn, columns, plain_line};
 ghost use Rattle.cif_columns.specs.Line.{IsLine};
-ghost use Rattle.cif_columns.specs.LineBuilder.{put_all};
 ghost use Rattle.cif_columns.specs.declared.stp.Stp.TheVariants.{P};
 ghost use Rattle.cif_records.specs.Bodies.{has_body};
 ghost use Rattle.cif_records.specs.Checks.{IsJudged};
@@ -168,12 +167,13 @@ impl BasicTerms {
     fn put_rows(&self, detail: &Line, line: &mut LineBuilder)
         requires { line.old ≡ [] }
         ensures columns { (d : Option Detail) → columns 30 78 detail.now ≡ plain_line (detail_rows d)
-            → line.new ≡ put_all [] (terms_rows self.now d) }
+            → line.new ≡ plain_line (terms_rows self.now d) }
         ensures width { length line.new ≡ 80 }
         ensures fits { (d : Option Detail) → AllFit (detail_rows d) → AllFit (terms_rows self.now d) }
         ensures line { IsLine detail.now }
     {
-        line.put_columns(b"BSN");
+        line.put_columns(b"BS");
+        line.put_columns(b"N");
         self.uid.put_on(line);
         self.first.put_on(line);
         self.last.put_on(line);

@@ -1,5 +1,5 @@
 //! A change of a train on the way of a journey.
-ghost use Rattle.std.specs.Prelude.{◌≡◌, Ok, length, slice_range};
+ghost use Rattle.std.specs.Prelude.{◌≡◌, Ok, slice_range};
 ghost use Rattle.cif_columns.specs.Field.{AllFit, plain_line};
 ghost use Rattle.cif_columns.specs.LineBuilder.{put_all};
 ghost use Rattle.cif_records.specs.Checks.{IsJudged};
@@ -139,9 +139,7 @@ impl Change {
 
     /// Appends columns 3 to 40.
     fn put_front(&self, line: &mut LineBuilder)
-        requires { length line.old ≡ 2 }
         ensures columns { line.new ≡ put_all line.old (slice_range (change_table self.now) 1 12) }
-        ensures width { length line.new ≡ 40 }
         ensures fits { AllFit (slice_range (change_table self.now) 1 12) }
     {
         self.location.put_on(line);
@@ -159,9 +157,7 @@ impl Change {
 
     /// Appends columns 41 to 75.
     fn put_back(&self, line: &mut LineBuilder)
-        requires { length line.old ≡ 40 }
         ensures columns { line.new ≡ put_all line.old (slice_range (change_table self.now) 12 22) }
-        ensures width { length line.new ≡ 75 }
         ensures fits { AllFit (slice_range (change_table self.now) 12 22) }
     {
         self.characteristics.put_on(line);

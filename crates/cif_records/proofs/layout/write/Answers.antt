@@ -7,12 +7,14 @@ use Rattle.cif_records.proofs.layout.write.Goals as goal
 pub finish-requires : goal.finish-requires
 finish-requires g c =
     let table = g.R.Layout.table c.args.value.now in
-    subst (λ line. length line ≡ 80) (sym (c.put_rows.ensures.columns ∙ put_all-plain_line table))
+    subst (λ line. length line ≡ 80) (sym (c.put_rows.ensures.columns
+    ∙ put_all-plain_line table (g.met.R.Layout.whole c.args.value.now) c.put_rows.ensures.fits))
     (length-plain_line table (g.met.R.Layout.whole c.args.value.now) c.put_rows.ensures.fits)
 
 pub returns-clause-plain : goal.returns-clause-plain
 returns-clause-plain g c =
-    c.finish.ensures ∙ c.put_rows.ensures.columns ∙ put_all-plain_line (g.R.Layout.table c.args.value.now)
+    c.finish.ensures ∙ c.put_rows.ensures.columns
+    ∙ put_all-plain_line (g.R.Layout.table c.args.value.now) (g.met.R.Layout.whole c.args.value.now) c.put_rows.ensures.fits
 
 pub returns-clause-again : goal.returns-clause-again
 returns-clause-again g c =

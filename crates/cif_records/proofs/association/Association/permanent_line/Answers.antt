@@ -10,14 +10,14 @@ pub finish-requires : goal.finish-requires
 finish-requires c =
     let a = c.args in
     let table = association_rows a.key.now a.first a.last a.days P (Some a.body.now) in
-    subst (λ line. length line ≡ 80) (sym (c.put_fields.ensures.columns ∙ put_all-plain_line table))
+    subst (λ line. length line ≡ 80) (sym (c.put_fields.ensures.columns ∙ put_all-plain_line table refl c.put_fields.ensures.fits))
     (length-plain_line table refl c.put_fields.ensures.fits)
 
 pub returns-clause-plain : goal.returns-clause-plain
 returns-clause-plain c =
     let a = c.args in
     c.finish.ensures ∙ c.put_fields.ensures.columns
-    ∙ put_all-plain_line (association_rows a.key.now a.first a.last a.days P (Some a.body.now))
+    ∙ put_all-plain_line (association_rows a.key.now a.first a.last a.days P (Some a.body.now)) refl c.put_fields.ensures.fits
 
 pub returns-clause-again : goal.returns-clause-again
 returns-clause-again c =

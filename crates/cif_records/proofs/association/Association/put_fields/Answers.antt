@@ -1,17 +1,17 @@
--- Each row is put behind those before (`put`), and fits, as the call that put it says.
+-- Each row is put behind those before (`onto`), and fits, as the call that put it says.
 use Rattle.std.proofs.Common.{codes, refl}
 use Rattle.cif_columns.proofs.PrintableBytes.{printable_fact}
-use Rattle.cif_records.proofs.Rows.{◌&◌, put}
+use Rattle.cif_records.proofs.Rows.{◌&◌, onto}
 use Rattle.cif_records.proofs.association.Association.put_fields.Goals as goal
 
 pub returns-clause-columns : goal.returns-clause-columns
 returns-clause-columns c =
-    put _ c.put_on-13.ensures.columns (put _ c.put_spare.ensures.columns (put _ c.put_on-12.ensures.columns (
-    put _ c.put_on-11.ensures.columns (put _ c.put_on-10.ensures.columns (put _ c.put_on-9.ensures.columns (
-    put _ c.put_on-8.ensures.columns (put _ c.put_on-7.ensures.columns (put _ c.put_on-6.ensures.columns (
-    put _ c.put_on-5.ensures.columns (put _ c.put_on-4.ensures.columns (put _ c.put_on-3.ensures.columns (
-    put _ c.put_on-2.ensures.columns (put _ c.put_on.ensures.columns (
-    put _ c.put_columns.ensures.columns c.requires))))))))))))))
+    onto _ c.put_on-13.ensures.columns (onto _ c.put_spare.ensures.columns (onto _ c.put_on-12.ensures.columns (
+    onto _ c.put_on-11.ensures.columns (onto _ c.put_on-10.ensures.columns (onto _ c.put_on-9.ensures.columns (
+    onto _ c.put_on-8.ensures.columns (onto _ c.put_on-7.ensures.columns (onto _ c.put_on-6.ensures.columns (
+    onto _ c.put_on-5.ensures.columns (onto _ c.put_on-4.ensures.columns (onto _ c.put_on-3.ensures.columns (
+    onto _ c.put_on-2.ensures.columns (onto _ c.put_on.ensures.columns (
+    onto _ c.put_columns-2.ensures.columns (onto _ c.put_columns.ensures.columns c.requires)))))))))))))))
 
 pub returns-clause-fits : goal.returns-clause-fits
 returns-clause-fits c =

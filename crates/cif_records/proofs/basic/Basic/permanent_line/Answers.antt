@@ -1,8 +1,5 @@
 -- Columns 30 to 78 are put as they stand: `detail_columns` has them as the detail's plain ones.
 use Rattle.std.proofs.Common.{Some, ◌∙◌}
-use Rattle.cif_columns.specs.declared.stp.Stp.TheVariants.{P}
-use Rattle.cif_columns.proofs.Parts.{put_all-plain_line}
-use Rattle.cif_records.specs.Basic.{basic_rows}
 use Rattle.cif_records.proofs.Details.{detail_columns}
 use Rattle.cif_records.proofs.basic.Basic.permanent_line.Goals as goal
 
@@ -11,4 +8,3 @@ returns c = λ d is.
     let a = c.args in
     let put = c.put_rows.ensures in
     c.finish.ensures ∙ put.columns (Some d) (detail_columns d a.detail.now put.line.width is)
-    ∙ put_all-plain_line (basic_rows a.uid.now a.first a.last a.days P (Some d))

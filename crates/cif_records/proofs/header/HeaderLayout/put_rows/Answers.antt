@@ -1,16 +1,23 @@
--- Columns 3 to 60 are put at once, and the table has them in parts: `put-columns` says that these are the same.
-use Rattle.std.proofs.Common.{ℕ, List, ◌++◌, replicate, codes, ap, sym, ◌∙◌}
-use Rattle.cif_records.proofs.Headers.{fits, put-columns}
+-- Columns 3 to 60 are put at once, and the table has them in parts: `columns-parts` says that these are the same.
+use Rattle.std.proofs.Common.{◌≡◌, ℕ, List, [], ◌∷◌, ◌++◌, codes, ap, refl, sym, ◌∙◌}
+use Rattle.cif_columns.specs.Field.{exactly, row, spare}
+use Rattle.cif_columns.specs.LineBuilder.{put_all}
+use Rattle.cif_columns.proofs.Parts.{put_all-plain_line}
+use Rattle.cif_columns.proofs.PrintableBytes.{printable_fact}
+use Rattle.cif_records.specs.Header.{header_table}
+use Rattle.cif_records.proofs.Headers.{columns-parts, fits}
+use Rattle.cif_records.proofs.Rows.{◌&◌, onto}
 use Rattle.cif_records.proofs.header.HeaderLayout.put_rows.Goals as goal
 
 pub returns-clause-columns : goal.returns-clause-columns
 returns-clause-columns c =
     let h = c.args.self.now in
-    c.put_spare.ensures.columns
-    ∙ ap (λ (l : List ℕ). l ++ replicate 20 32)
-    (c.put_columns-2.ensures.columns ∙ ap (λ
-    (l : List ℕ). l ++ h.columns) (c.put_columns.ensures.columns ∙ ap (λ (l : List ℕ). l ++ codes "HD") c.requires)
-    ∙ sym (put-columns h (codes "HD")))
+    let rows = row 1 2 (exactly (codes "HD")) ∷ row 3 60 (exactly h.columns) ∷ row 61 80 spare ∷ [] in
+    let put : c.put_spare.new.self ≡ put_all [] rows =
+    onto _ c.put_spare.ensures.columns (onto _ c.put_columns-2.ensures.columns (onto _ c.put_columns.ensures.columns c.requires)) in
+    put ∙ put_all-plain_line rows refl ((refl & printable_fact (codes "HD") refl) & (h.wide & h.printable) & tt & tt)
+    ∙ ap (λ (l : List ℕ). codes "HD" ++ l) (columns-parts h _)
+    ∙ sym (put_all-plain_line (header_table h) refl (fits h))
 
 pub returns-clause-fits : goal.returns-clause-fits
 returns-clause-fits c = fits c.args.self.now

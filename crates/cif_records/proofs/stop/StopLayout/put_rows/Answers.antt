@@ -1,8 +1,17 @@
--- Each row fits, as the call that put it says.
+-- Each row is put behind those before (`onto`), and fits, as the call that put it says.
 use Rattle.std.proofs.Common.{codes, refl}
 use Rattle.cif_columns.proofs.PrintableBytes.{printable_fact}
-use Rattle.cif_records.proofs.Rows.{◌&◌}
+use Rattle.cif_records.proofs.Rows.{◌&◌, onto}
 use Rattle.cif_records.proofs.stop.StopLayout.put_rows.Goals as goal
+
+pub returns-clause-columns : goal.returns-clause-columns
+returns-clause-columns c =
+    onto _ c.put_spare.ensures.columns (onto _ c.put_on-14.ensures.columns (onto _ c.put_on-13.ensures.columns
+    (onto _ c.put_on-12.ensures.columns (onto _ c.put_on-11.ensures.columns (onto _ c.put_on-10.ensures.columns
+    (onto _ c.put_on-9.ensures.columns (onto _ c.put_on-8.ensures.columns (onto _ c.put_on-7.ensures.columns
+    (onto _ c.put_on-6.ensures.columns (onto _ c.put_on-5.ensures.columns (onto _ c.put_on-4.ensures.columns
+    (onto _ c.put_on-3.ensures.columns (onto _ c.put_on-2.ensures.columns (onto _ c.put_on.ensures.columns
+    (onto _ c.put_columns.ensures.columns c.requires)))))))))))))))
 
 pub returns-clause-fits : goal.returns-clause-fits
 returns-clause-fits c =
