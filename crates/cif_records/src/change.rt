@@ -1,7 +1,6 @@
 //! A change of a train on the way of a journey.
-ghost use Rattle.std.specs.Prelude.{◌≡◌, Ok, slice_range};
-ghost use Rattle.cif_columns.specs.Field.{AllFit, plain_line};
-ghost use Rattle.cif_columns.specs.LineBuilder.{put_all};
+ghost use Rattle.std.specs.Prelude.{◌≡◌, Ok};
+ghost use Rattle.cif_columns.specs.Field.{plain_line};
 ghost use Rattle.cif_records.specs.Checks.{IsJudged};
 
 use crate::layout::{self, Layout, check_letters};
@@ -75,8 +74,27 @@ impl Layout for Change {
 
     fn put_rows(&self, line: &mut LineBuilder) {
         line.put_columns(b"CR");
-        self.put_front(line);
-        self.put_back(line);
+        self.location.put_on(line);
+        self.suffix.put_on(line);
+        self.category.put_on(line);
+        self.identity.put_on(line);
+        self.headcode.put_on(line);
+        self.course.put_on(line);
+        self.service_code.put_on(line);
+        self.sector.put_on(line);
+        self.power.put_on(line);
+        self.timing_load.put_on(line);
+        self.speed.put_on(line);
+        self.characteristics.put_on(line);
+        self.class.put_on(line);
+        self.sleepers.put_on(line);
+        self.reservations.put_on(line);
+        self.connection.put_on(line);
+        self.catering.put_on(line);
+        self.branding.put_on(line);
+        self.traction.put_on(line);
+        self.uic.put_on(line);
+        self.reserved_a.put_on(line);
         line.put_spare::<5>();
     }
 
@@ -135,40 +153,5 @@ impl Change {
         ensures again { SpellsChange result self.now }
     {
         layout::write(self)
-    }
-
-    /// Appends columns 3 to 40.
-    fn put_front(&self, line: &mut LineBuilder)
-        ensures columns { line.new ≡ put_all line.old (slice_range (change_table self.now) 1 12) }
-        ensures fits { AllFit (slice_range (change_table self.now) 1 12) }
-    {
-        self.location.put_on(line);
-        self.suffix.put_on(line);
-        self.category.put_on(line);
-        self.identity.put_on(line);
-        self.headcode.put_on(line);
-        self.course.put_on(line);
-        self.service_code.put_on(line);
-        self.sector.put_on(line);
-        self.power.put_on(line);
-        self.timing_load.put_on(line);
-        self.speed.put_on(line);
-    }
-
-    /// Appends columns 41 to 75.
-    fn put_back(&self, line: &mut LineBuilder)
-        ensures columns { line.new ≡ put_all line.old (slice_range (change_table self.now) 12 22) }
-        ensures fits { AllFit (slice_range (change_table self.now) 12 22) }
-    {
-        self.characteristics.put_on(line);
-        self.class.put_on(line);
-        self.sleepers.put_on(line);
-        self.reservations.put_on(line);
-        self.connection.put_on(line);
-        self.catering.put_on(line);
-        self.branding.put_on(line);
-        self.traction.put_on(line);
-        self.uic.put_on(line);
-        self.reserved_a.put_on(line);
     }
 }

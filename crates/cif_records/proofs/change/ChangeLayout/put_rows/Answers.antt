@@ -1,14 +1,25 @@
--- What fits in columns 3 to 40 and in columns 41 to 75, and what was put there, is of parts of the table: `fits-append` joins them.
-use Rattle.std.proofs.Common.{codes, drop, refl}
-use Rattle.std.specs.List.{slice_range}
-use Rattle.cif_columns.proofs.Parts.{fits-append}
+-- Each row is put behind those before (`onto`), and fits, as the call that put it says.
+use Rattle.std.proofs.Common.{codes, refl}
 use Rattle.cif_columns.proofs.PrintableBytes.{printable_fact}
-use Rattle.cif_records.specs.Change.{change_table}
-use Rattle.cif_records.proofs.Rows.{◌&◌}
+use Rattle.cif_records.proofs.Rows.{◌&◌, onto}
 use Rattle.cif_records.proofs.change.ChangeLayout.put_rows.Goals as goal
+
+pub returns-clause-columns : goal.returns-clause-columns
+returns-clause-columns c =
+    onto _ c.put_spare.ensures.columns (onto _ c.put_on-21.ensures.columns (onto _ c.put_on-20.ensures.columns
+    (onto _ c.put_on-19.ensures.columns (onto _ c.put_on-18.ensures.columns (onto _ c.put_on-17.ensures.columns
+    (onto _ c.put_on-16.ensures.columns (onto _ c.put_on-15.ensures.columns (onto _ c.put_on-14.ensures.columns
+    (onto _ c.put_on-13.ensures.columns (onto _ c.put_on-12.ensures.columns (onto _ c.put_on-11.ensures.columns
+    (onto _ c.put_on-10.ensures.columns (onto _ c.put_on-9.ensures.columns (onto _ c.put_on-8.ensures.columns
+    (onto _ c.put_on-7.ensures.columns (onto _ c.put_on-6.ensures.columns (onto _ c.put_on-5.ensures.columns
+    (onto _ c.put_on-4.ensures.columns (onto _ c.put_on-3.ensures.columns (onto _ c.put_on-2.ensures.columns
+    (onto _ c.put_on.ensures.columns (onto _ c.put_columns.ensures.columns c.requires))))))))))))))))))))))
 
 pub returns-clause-fits : goal.returns-clause-fits
 returns-clause-fits c =
-    let table = change_table c.args.self.now in
-    let back = fits-append (slice_range table 12 22) (drop 22 table) c.put_back.ensures.fits (tt & tt) in
-    (refl & printable_fact (codes "CR") refl) & fits-append (slice_range table 1 12) (drop 12 table) c.put_front.ensures.fits back
+    (refl & printable_fact (codes "CR") refl) & c.put_on.ensures.fits & c.put_on-2.ensures.fits & c.put_on-3.ensures.fits
+    & c.put_on-4.ensures.fits & c.put_on-5.ensures.fits & c.put_on-6.ensures.fits & c.put_on-7.ensures.fits & c.put_on-8.ensures.fits
+    & c.put_on-9.ensures.fits & c.put_on-10.ensures.fits & c.put_on-11.ensures.fits & c.put_on-12.ensures.fits
+    & c.put_on-13.ensures.fits & c.put_on-14.ensures.fits & c.put_on-15.ensures.fits & c.put_on-16.ensures.fits
+    & c.put_on-17.ensures.fits & c.put_on-18.ensures.fits & c.put_on-19.ensures.fits & c.put_on-20.ensures.fits
+    & c.put_on-21.ensures.fits & tt & tt
