@@ -79,7 +79,7 @@ impl<'a> Read for TrialReader<'a> {
         ensures calls { read_calls self.new ≡ min (read_calls self.old + 1) (2 ^ 64 - 1) }
     {
         self.calls = self.calls.saturating_add(1);
-        // There is room for a byte, and none is left.
+        // `buf` has room, and no byte is left for it.
         if self.rest.len() < buf.len().min(1) {
             match self.end {
                 End::Stop => {}
@@ -183,7 +183,7 @@ impl Write for TrialWriter {
     {
         self.calls = self.calls.saturating_add(1);
         let n = buf.len().min(self.takes - self.len);
-        // Of some bytes one at least has to be taken.
+        // A write of some bytes takes at least one of them, or fails.
         if n >= buf.len().min(1) {
             self.kept[self.len..self.len + n].copy_from_slice(&buf[..n]);
             self.len += n;

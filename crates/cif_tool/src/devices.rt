@@ -3,7 +3,7 @@ ghost use Rattle.std.specs.Io.{ReadsAtMost};
 
 use crate::words::is_standard;
 use arrayvec::ArrayVec;
-use cif_columns::{LINE_WIDTH, Line, ReadDevice, Source, WriteDevice};
+use cif_columns::{LINE_WIDTH, Line, ReadDevice, WriteDevice};
 use cif_records::Header;
 use std::fs::OpenFile;
 use std::io::{Read, Seek, SeekFrom, Write};
@@ -37,18 +37,18 @@ enum Device<'a, R: Files + Input> {
 
 impl<'a, R: Files + Input> ExtractInput<'a, R> {
     /// The file of this name, or the standard input where there is none or it is `-`.
-    pub(crate) fn of(rt: &'a R, side: &'static str, file: Option<&'a str>) -> Source<Self> {
+    pub(crate) fn of(rt: &'a R, side: &'static str, file: Option<&'a str>) -> Self {
         let (name, device) = match file {
             Some(name) if !is_standard(name) => (name, Device::Named { files: rt, name }),
             _ => ("standard input", Device::Unlocked(rt)),
         };
-        Source::new(ExtractInput {
+        ExtractInput {
             side,
             name,
             device,
             start: ArrayVec::new(),
             failure: None,
-        })
+        }
     }
 
     /// Of two inputs the side, with what separates it from the name.

@@ -109,8 +109,8 @@ fn done<R: Files + Input + Print + AllocGlobal, W: WriteDevice>(
         None => ("", ""),
     };
     let alloc = rt.alloc();
-    let mut left = ExtractInput::of(rt, side, file);
-    let mut right = ExtractInput::of(rt, right_side, right_file);
+    let mut left = Source::new(ExtractInput::of(rt, side, file));
+    let mut right = Source::new(ExtractInput::of(rt, right_side, right_file));
     let mut failure = None;
     let output = Output {
         writer: io::writer(rt),
