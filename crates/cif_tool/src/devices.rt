@@ -38,14 +38,17 @@ enum Device<'a, R: Files + Input> {
 impl<'a, R: Files + Input> ExtractInput<'a, R> {
     /// The file of this name, or the standard input where there is none or it is `-`.
     pub(crate) fn of(rt: &'a R, side: &'static str, file: Option<&'a str>) -> Self {
-        let (name, device) = match file {
-            Some(name) if !is_standard(name) => (name, Device::Named { files: rt, name }),
-            _ => ("standard input", Device::Unlocked(rt)),
-        };
         ExtractInput {
             side,
-            name,
-            device,
+            name: match file {
+                Some(name) if !is_standard(name) => name,
+                _ => "standard input",
+            },
+            // Made where it stays: it is some kilobytes large, and stands in the frame of main.
+            device: match file {
+                Some(name) if !is_standard(name) => Device::Named { files: rt, name },
+                _ => Device::Unlocked(rt),
+            },
             start: ArrayVec::new(),
             failure: None,
         }
