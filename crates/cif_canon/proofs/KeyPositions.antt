@@ -3,7 +3,7 @@ use Rattle.std.proofs.Common.{◌≡◌, ℕ, ◌+◌, ◌<◌, Bool, List, true
 use Rattle.std.proofs.Common.{refl, sym, arith}
 use Rattle.std.specs.Prelude.{Contains, All}
 use Rattle.std.specs.List.{range_with_len}
-use Rattle.std.specs.Ordering.{is_gt, is_lt, is_le, ordering_reverse}
+use Rattle.std.specs.Ordering.{is_gt, is_lt, ordering_reverse}
 use Rattle.std.specs.declared.cmp.Ordering.{Ordering}
 use Rattle.std.specs.declared.cmp.Ordering.TheVariants.{Less, Equal, Greater}
 use Rattle.std.proofs.lemmas.List.{length-map}
@@ -35,11 +35,6 @@ pub not_gt : (o : Ordering) → is_lt o ≡ false → is_gt (ordering_reverse o)
 not_gt Less h = h
 not_gt Equal h = refl
 not_gt Greater h = refl
-
-pub not_lt : (o : Ordering) → is_le o ≡ true → is_lt (ordering_reverse o) ≡ false
-not_lt Less h = refl
-not_lt Equal h = refl
-not_lt Greater h = sym h
 
 module _ {E K B : Type 0} (key : E → K) (terms : E → Terms B) where
   -- the key at an entry's position

@@ -37,9 +37,9 @@ pub mod ReadPairs
 pub mod RunTexts
 pub mod RunningRecords
 pub mod SameExtracts
-pub mod SortedTurns
 pub mod SidedTexts
 pub mod SiftedTiplocs
+pub mod SortedPositions
 pub mod Unique
 pub mod ViewLines
 pub mod ViewTexts

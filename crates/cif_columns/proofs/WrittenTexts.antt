@@ -1,9 +1,6 @@
 -- Texts that are written one after another.
-use Rattle.std.proofs.Common.{◌≡◌, ℕ, false, List, [], ◌∷◌, ◌++◌, Option, Result, Ok, Err, IsErr, refl, sym, ap, subst}
-use Rattle.std.proofs.Common.{◌+◌, ◌<◌, ◌∙◌, append_assoc, append-nil, drop, get_or, length, take, take-append-drop}
-use Rattle.std.specs.List.{flat_map}
-use Rattle.std.proofs.lemmas.Grind.{flat_map-append}
-use Rattle.std.proofs.lemmas.List.{take_more}
+use Rattle.std.proofs.Common.{◌≡◌, ℕ, false, List, [], ◌++◌, Option, Result, Ok, Err, IsErr, refl, sym, ap, subst}
+use Rattle.std.proofs.Common.{◌∙◌, append_assoc}
 use Rattle.std.proofs.lemmas.Bool.{false≢true}
 use Rattle.std.proofs.KnownBytes.{Appends-nil, Appends-trans}
 use Rattle.cif_columns.specs.Devices.{OneError}
@@ -64,33 +61,3 @@ module _ {W : Type 0} (contents : W → Option (List ℕ)) (errors : W → Optio
       → HasFailed contents errors text s t → Writes contents errors text s t result
   writes_err text s t (Ok done) e h = absurd (false≢true e)
   writes_err text s t (Err fault) e h = h
-
--- the texts of items, one after another: of those so far, and of one more
-module _ {A : Type 0} (text : A → List ℕ) (items : List A) (n : ℕ) (item : A) (below : n < length items) (is : item ≡ get_or items n item)
-  where
-    text_more : flat_map text (take (n + 1) items) ≡ flat_map text (take n items) ++ text item
-    text_more =
-        ap (flat_map text) (take_more items n item below ∙ ap (λ i. take n items ++ (i ∷ [])) (sym is))
-        ∙ flat_map-append text (take n items) (item ∷ [])
-        ∙ ap (λ (l : List ℕ). flat_map text (take n items) ++ l) (append-nil (text item))
-
-    text_split : flat_map text items ≡ (flat_map text (take n items) ++ text item) ++ flat_map text (drop (n + 1) items)
-    text_split =
-        ap (flat_map text) (sym (take-append-drop (n + 1) items))
-        ∙ flat_map-append text (take (n + 1) items) (drop (n + 1) items)
-        ∙ ap (λ (l : List ℕ). l ++ flat_map text (drop (n + 1) items)) text_more
-
-    module _ {W : Type 0} (contents : W → Option (List ℕ)) (errors : W → Option ℕ) (s t u : Sink W)
-        (so_far : HasWritten contents errors (flat_map text (take n items)) s t) where
-      -- one more has been written
-      pub item_written : HasWritten contents errors (text item) t u → HasWritten contents errors (flat_map text (take (n + 1) items)) s u
-      item_written h =
-          subst (λ l. HasWritten contents errors l s u) (sym text_more)
-          (written_both contents errors (flat_map text (take n items)) (text item) s t u so_far h)
-
-      -- the writing of one more has failed
-      pub item_failed : HasFailed contents errors (text item) t u → HasFailed contents errors (flat_map text items) s u
-      item_failed h =
-          subst (λ l. HasFailed contents errors l s u) (sym text_split)
-          (failed_first contents errors (flat_map text (take n items) ++ text item) (flat_map text (drop (n + 1) items)) s u
-          (failed_second contents errors (flat_map text (take n items)) (text item) s t u so_far h))

@@ -1,5 +1,5 @@
 -- The positions of entries in the order of their keys, one key after another. No public clause cites them.
-use Rattle.std.specs.Prelude.{◌≡◌, ◌⊎◌, ℕ, ◌+◌, ◌<◌, ◌≤◌, List, [], ◌∷◌, Some, All, AllPairs, Contains, slice_get, length}
+use Rattle.std.specs.Prelude.{◌≡◌, ◌⊎◌, ℕ, ◌<◌, ◌≤◌, List, Some, All, AllPairs, Contains, slice_get, length}
 use Rattle.std.specs.Prelude.{take, drop, false}
 use Rattle.std.specs.Ordering.{is_gt}
 use Rattle.std.specs.declared.cmp.Ordering.{Ordering}

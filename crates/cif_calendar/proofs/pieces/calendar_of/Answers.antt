@@ -1,5 +1,5 @@
 -- One piece more is laid (`laid-more`), all are the calendar (`laid-all`), and a clash is the window's first (`laid-fault`).
-use Rattle.std.proofs.Common.{◌≡◌, ◌<◌, ◌+◌, ◌∙◌, ap, map, refl, subst, sym, Err}
+use Rattle.std.proofs.Common.{◌∙◌, ap, map, refl, subst, sym, Err}
 use Rattle.std.proofs.lemmas.List.{drop_all}
 use Rattle.std.proofs.lemmas.Result.{err_from_is_err_and}
 use Rattle.cif_calendar.specs.Calendar.{IsAnswer}

@@ -79,7 +79,8 @@ returns-in_err-make_runs_of_key-clause-fault g c =
     let same = same_key-cmp g.E.Key.PartialEq.eq g.E.Key.Ord.cmp g.met.E.Key.Ord.matches_eq g.met.E.Entry.same_key in
     let p = err_from_is_err_and c.from_residual.result c.from_residual.ensures.1 in
     rw (p.1, p.2) (made-fault g.E.Key.Ord.cmp c.args.form window es g.met.E.Key.Ord.total same c.loop-rest.all.items c.loop-rest.rest.now
-    c.loop-rest.invariant.made c.count_of_first_key.result c.count_of_first_key.ensures g.E.NamedEntry.clash_of c.in_err-make_runs_of_key.field-0.0
+    c.loop-rest.invariant.made c.count_of_first_key.result c.count_of_first_key.ensures g.E.NamedEntry.clash_of
+    c.in_err-make_runs_of_key.field-0.0
     (rw c.split_at.ensures.front at c.in_err-make_runs_of_key.ensures.fault))
 
 pub returns-clause-records : goal.returns-clause-records

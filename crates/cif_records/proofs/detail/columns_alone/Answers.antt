@@ -1,5 +1,5 @@
 -- Three rows are put, which are a whole table.
-use Rattle.std.proofs.Common.{◌≡◌, ◌∙◌, ℕ, List, [], ◌∷◌, ◌++◌, ap, append-nil, arith, length, refl, replicate}
+use Rattle.std.proofs.Common.{◌≡◌, ◌∙◌, ℕ, List, [], ◌∷◌, ◌++◌, ap, arith, length, refl, replicate}
 use Rattle.cif_columns.specs.Field.{AllFit, Row, exactly, plain_line, row, spare}
 use Rattle.cif_columns.specs.LineBuilder.{put_all}
 use Rattle.cif_columns.proofs.Parts.{length-plain_line, put_all-plain_line}

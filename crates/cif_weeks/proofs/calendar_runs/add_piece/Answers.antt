@@ -1,8 +1,8 @@
 -- One weekday more: a span for its winner's body (`taken-more`), or none where it is taken or has no winner (`taken-same`).
-use Rattle.std.proofs.Common.{◌≡◌, ◌+◌, None, Some, map, refl, sym, ◌∙◌, ap, subst, arith, ⊎_elim}
+use Rattle.std.proofs.Common.{◌≡◌, ◌+◌, None, Some, map, refl, sym, ◌∙◌, subst, arith, ⊎_elim}
 use Rattle.std.proofs.lemmas.List.{length-map}
 use Rattle.std.proofs.lemmas.Option.{same_Some}
-use Rattle.cif_weeks.proofs.Words.{week_of, weekday_of, body_at}
+use Rattle.cif_weeks.proofs.Words.{week_of, weekday_of}
 use Rattle.cif_calendar.specs.declared.key_calendar.Piece.{Piece}
 use Rattle.cif_weeks.specs.Steps.PieceSpans.{AreSpansBefore}
 use Rattle.cif_weeks.proofs.PieceSpans.{order-later, piece-at, source-below, spans-all, spans-below, spans-known, taken-more, taken-same}
