@@ -2,10 +2,14 @@
 # Installs cif below a prefix, or removes it: `install.sh --help` has the details.
 #
 # All files are copied first, each into its folder, and then renamed. If anything fails, the files that were there
-# before are put back.
+# before are put back. No path goes through `$(..)`, which would lose a line feed at its end.
 set -u
 umask 022
-top=$(CDPATH='' cd -- "$(dirname -- "$0")" && pwd) || exit 1
+case $0 in
+-*/*) top=./${0%/*} ;;
+*/*) top=${0%/*} ;;
+*) top=. ;;
+esac
 
 usage() {
     cat << 'END'
@@ -42,26 +46,30 @@ each() {
 }
 
 report() {
-    echo "install.sh: $*" >&2
+    printf 'install.sh: %s\n' "$*" >&2
     return 1
 }
 
-# folder PATH: makes the folder and its missing parents, and adds them to $made, the last first
+# folder PATH: makes the folder and its missing parents; $made_1 to $made_$made are those that it made
 folder() {
     [ -d "$1" ] && return
-    folder "$(dirname -- "$1")" || return
-    made="$1
-$made"
-    mkdir -- "$1"
+    case $1 in
+    ?*/*) folder "${1%/*}" || return ;;
+    esac
+    # `a/.` and `a/..` are there once `a` is.
+    [ -d "$1" ] && return
+    mkdir -- "$1" || return
+    made=$((made + 1))
+    eval "made_$made=\$1"
 }
 
 copy() {
-    folder "$(dirname -- "$3")" && cp -- "$1" "$3.new.$$" && chmod "$2" "$3.new.$$"
+    folder "${3%/*}" && cp -- "$1" "$3.new.$$" && chmod -- "$2" "$3.new.$$"
 }
 
 keep_old() {
-    if [ -d "$3" ]; then
-        report "$3 is a folder"
+    if [ -e "$3" ] && [ ! -f "$3" ]; then
+        report "$3 isn't a file"
     elif [ -e "$3" ] || [ -L "$3" ]; then
         cp -pP -- "$3" "$3.old.$$"
     fi
@@ -75,7 +83,7 @@ undo() {
     if [ "$renaming" = no ] || [ -e "$3.new.$$" ]; then
         rm -f -- "$3.new.$$" "$3.old.$$"
     elif [ -e "$3.old.$$" ] || [ -L "$3.old.$$" ]; then
-        mv -f -- "$3.old.$$" "$3"
+        mv -f -- "$3.old.$$" "$3" || report "the older file is $3.old.$$"
     else
         rm -f -- "$3"
     fi
@@ -87,22 +95,25 @@ clear_old() {
 }
 
 name_place() {
-    echo "$3"
+    printf '%s\n' "$3"
 }
 
+# remove: removes what it can of the files, so that no call of it fails
 remove() {
-    if [ -d "$3" ] && [ ! -L "$3" ]; then
-        report "$3 is a folder"
-    elif [ -e "$3" ] || [ -L "$3" ]; then
-        rm -f -- "$3" && echo "$3"
+    if [ -f "$3" ] || [ -L "$3" ]; then
+        found=yes
+        rm -f -- "$3" && name_place "$@" || status=1
+    elif [ -e "$3" ]; then
+        report "$3 isn't a file" || status=1
     fi
 }
 
 give_up() {
     trap '' 1 2 15
     each undo
-    echo "$made" | while IFS= read -r path; do
-        [ -z "$path" ] || rmdir -- "$path" 2> /dev/null
+    while [ "$made" -gt 0 ]; do
+        eval "rmdir -- \"\$made_$made\"" 2> /dev/null
+        made=$((made - 1))
     done
     report "nothing is installed"
     exit 1
@@ -144,17 +155,13 @@ case $cif in
 */*) ;;
 *) cif=./$cif ;;
 esac
-made=
-renaming=no
 
 if [ $step = uninstall ]; then
+    found=no
     status=0
-    removed=$(each remove) || status=1
-    if [ -n "$removed" ]; then
-        echo "$removed"
-    elif [ $status -eq 0 ]; then
-        report "cif isn't installed below $1"
-        status=1
+    each remove
+    if [ $found = no ] && [ $status -eq 0 ]; then
+        report "cif isn't installed below ${base:-/}" || status=1
     fi
     exit $status
 fi
@@ -169,12 +176,17 @@ case $("$cif" --version 2> /dev/null < /dev/null) in
     exit 1
     ;;
 esac
-trap give_up 1 2 15
-if ! each copy || ! each keep_old; then
+made=0
+renaming=no
+stopped=no
+trap 'stopped=yes' 1 2 15
+if ! each copy || ! each keep_old || [ $stopped = yes ]; then
     give_up
 fi
 renaming=yes
-each rename || give_up
+if ! each rename || [ $stopped = yes ]; then
+    give_up
+fi
 trap '' 1 2 15
 each clear_old
-each name_place
+each name_place || :

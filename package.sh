@@ -11,10 +11,17 @@
 # PATH_TO_CIF is the built program. Without it, that is crates/cif_tool/out/cif_tool. VERSION is what the program
 # prints. The Debian package depends on the packages of the libraries that `ldd` lists. Every time stamp is that of the
 # program, or SOURCE_DATE_EPOCH, so the same files give the same bytes. Debian's base system has all that this needs.
+#
+# If anything fails, the files of FOLDER are as they were before.
 set -eu
 umask 022
 export LC_ALL=C
-top=$(CDPATH='' cd -- "$(dirname -- "$0")" && pwd)
+unset CDPATH
+case $0 in
+-*/*) top=./${0%/*} ;;
+*/*) top=${0%/*} ;;
+*) top=. ;;
+esac
 case ${1-} in
 '' | -*) set -- ;;
 esac
@@ -22,19 +29,38 @@ if [ $# -lt 1 ] || [ $# -gt 2 ]; then
     echo "usage: package.sh FOLDER [PATH_TO_CIF]" >&2
     exit 2
 fi
+folder=${1%/}
+own=
+packages=
 work=$(mktemp -d)
-trap 'rm -rf "$work"' 0
+
+# finish STATUS: unless it is 0, puts back the files of FOLDER; then it removes what this run has written elsewhere
+finish() {
+    trap '' 1 2 15
+    for file in $packages; do
+        if [ "$1" -eq 0 ] || [ -e "$own/new/$file" ]; then
+            :
+        elif [ -e "$own/old/$file" ] || [ -L "$own/old/$file" ]; then
+            mv -f -- "$own/old/$file" "$folder/$file"
+        else
+            rm -f -- "$folder/$file"
+        fi
+    done
+    rm -rf -- "$work" ${own:+"$own"}
+    if [ "$1" -ne 0 ]; then
+        echo "package.sh: no package is made" >&2
+    fi
+}
+trap 'finish $?' 0
 trap 'exit 1' 1 2 15
 
 # The files of the Debian package. install.sh refuses a program that isn't cif.
 root=$work/root
 DESTDIR=$root "$top/install.sh" /usr "${2-$top/crates/cif_tool/out/cif_tool}" > /dev/null
-mkdir -p -- "$1"
-folder=$(CDPATH='' cd -- "$1" && pwd)
 cif=$root/usr/bin/cif
 version=$("$cif" --version)
 version=${version#cif }
-time=${SOURCE_DATE_EPOCH:-$(stat -c %Y "${2-$top/crates/cif_tool/out/cif_tool}")}
+time=${SOURCE_DATE_EPOCH:-$(stat -c %Y -- "${2-$top/crates/cif_tool/out/cif_tool}")}
 
 # put MODE PLACE FILE..: copies the files into the folder PLACE
 put() {
@@ -99,7 +125,23 @@ tar --sort=name --owner=0 --group=0 --numeric-owner --mtime="@$time" -C "$work" 
 gzip -9n "$work/$name.tar"
 
 (cd "$work" && sha256sum "$name.tar.gz" "$deb") > "$work/cif-$version.sha256"
-for file in "$name.tar.gz" "$deb" "cif-$version.sha256"; do
-    mv -f "$work/$file" "$folder"
-    echo "$folder/$file"
+set -- "$name.tar.gz" "$deb" "cif-$version.sha256"
+
+# The packages, and the files in their places, are copied first, so that nothing is left to do but to rename.
+mkdir -p -- "$folder/"
+own=$(mktemp -d -- "$folder/.cif.XXXXXX")
+mkdir "$own/new" "$own/old"
+for file; do
+    cp -- "$work/$file" "$own/new"
+    if [ -e "$folder/$file" ] && [ ! -f "$folder/$file" ]; then
+        echo "package.sh: $folder/$file isn't a file" >&2
+        exit 1
+    elif [ -e "$folder/$file" ] || [ -L "$folder/$file" ]; then
+        cp -pP -- "$folder/$file" "$own/old"
+    fi
+done
+packages=$*
+for file; do
+    mv -f -- "$own/new/$file" "$folder/$file"
+    printf '%s\n' "$folder/$file"
 done
