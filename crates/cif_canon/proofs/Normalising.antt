@@ -16,6 +16,7 @@ use Rattle.cif_canon.specs.Accepted.{IsAcceptedWithin, IsClearExtract, SpellsNar
 use Rattle.cif_canon.specs.Asked.{AskedDatesAreWithin, IsNarrowed, IsNarrowingFault, window_asked}
 use Rattle.cif_canon.specs.Canon.{CanonParts, IsCanonOf}
 use Rattle.cif_canon.specs.Fault.{IsCanonFault, IsDeviceOrMemory, IsFirstClashIn, IsNormaliseFault, IsOfCheck, IsOfNormalise}
+use Rattle.cif_canon.specs.Fault.{IsOfReadNarrowed, IsReadNarrowedFault}
 use Rattle.cif_canon.specs.Normalised.{FaultWrites, IsNormalised, Normalises}
 use Rattle.cif_canon.specs.declared.asked.Asked.{Asked}
 use Rattle.cif_canon.specs.declared.canonical_form.Counts.{Counts}
@@ -27,7 +28,7 @@ use Rattle.cif_canon.proofs.NormalForms.{one-narrowed}
 module _ (max : ℕ) (asked : Asked) (bytes : List ℕ) where
   -- a window that can't be asked for
   pub narrowing-fault : (after : Option (List ℕ)) (whole : ExtractParts) → BytesSpellWithin max bytes whole → (f : Fault) →
-      IsNarrowingFault asked whole.header f → IsNormaliseFault max asked bytes after f
+      IsNarrowingFault asked whole.header f → IsReadNarrowedFault max asked bytes after f
   narrowing-fault after whole s fault.OutsideWindow h = record { whole = whole; spelled = s; fault_is = h }
   narrowing-fault after whole s fault.WindowReversed h = record { whole = whole; spelled = s; fault_is = h }
   narrowing-fault after whole s (fault.Refused line why) h = absurd h
@@ -36,6 +37,18 @@ module _ (max : ℕ) (asked : Asked) (bytes : List ℕ) where
   narrowing-fault after whole s fault.Read h = absurd h
   narrowing-fault after whole s fault.Write h = absurd h
   narrowing-fault after whole s fault.Memory h = absurd h
+
+  -- bytes that aren't read
+  pub narrowed-fault : (after : Option (List ℕ)) (f : Fault) → IsReadNarrowedFault max asked bytes after f →
+      IsNormaliseFault max asked bytes after f
+  narrowed-fault after (fault.Refused line why) h = h
+  narrowed-fault after (fault.Ambiguous clash) h = absurd h
+  narrowed-fault after fault.WindowsDiffer h = h
+  narrowed-fault after fault.OutsideWindow h = h
+  narrowed-fault after fault.WindowReversed h = h
+  narrowed-fault after fault.Read h = h
+  narrowed-fault after fault.Write h = absurd h
+  narrowed-fault after fault.Memory h = h
 
   -- an extract without a canonical form
   pub canon-fault : (after : Option (List ℕ)) (x : ExtractParts) → SpellsNarrowed max asked x bytes → (f : Fault) → IsCanonFault x f →
@@ -162,9 +175,17 @@ module _ (max : ℕ) (asked : Asked) (start after : Option (List ℕ)) {A : Type
 
   pub known-narrowing : (whole : ExtractParts) → IsNarrowingFault asked whole.header f →
       IfSome start (λ bytes. BytesSpellWithin max bytes whole) →
-      IfSome start (λ bytes. IfErr result (IsNormaliseFault max asked bytes after))
+      IfSome start (λ bytes. IfErr result (IsReadNarrowedFault max asked bytes after))
   known-narrowing whole h s =
       known-fault result f handed start _ _ (λ bytes spelled. narrowing-fault max asked bytes after whole spelled f h) s
+
+  module _ (h : IfSome start (λ bytes. IsReadNarrowedFault max asked bytes after f)) where
+    pub known-read_fault : IfSome start (λ bytes. IfErr result (IsNormaliseFault max asked bytes after))
+    known-read_fault = known-fault result f handed start _ _ (λ bytes. narrowed-fault max asked bytes after f) h
+
+    pub known-read_accepted : IfSome start (λ bytes. (x : ExtractParts) → IsAcceptedWithin max asked x bytes →
+        IfErr result IsDeviceOrMemory)
+    known-read_accepted = known-accepted (known_so start _ _ (λ bytes. narrowed-fault max asked bytes after f) h)
 
   module _ (x : ExtractParts) (h : IsCanonFault x f) (s : IfSome start (SpellsNarrowed max asked x)) where
     pub known-canon_fault : IfSome start (λ bytes. IfErr result (IsNormaliseFault max asked bytes after))
@@ -202,13 +223,13 @@ module _ (max : ℕ) (asked : Asked) (start after : Option (List ℕ)) {A : Type
   pub write-answers : IfErr result (IsOfNormalise max)
   write-answers = subst (λ (r : Result A Fault). IfErr r (IsOfNormalise max)) (sym is) tt
 
--- a fault of `check` is one of `normalise`
-pub check-normalise : (max : ℕ) (f : Fault) → IsOfCheck max f → IsOfNormalise max f
-check-normalise max (fault.Refused line why) h = h
-check-normalise max (fault.Ambiguous clash) h = h
-check-normalise max fault.WindowsDiffer h = h
-check-normalise max fault.OutsideWindow h = h
-check-normalise max fault.WindowReversed h = h
-check-normalise max fault.Read h = h
-check-normalise max fault.Write h = absurd h
-check-normalise max fault.Memory h = h
+-- a fault of `read_narrowed` is one of `check` and of `normalise`
+pub narrowed-of_check : (max : ℕ) (f : Fault) → IsOfReadNarrowed max f → IsOfCheck max f × IsOfNormalise max f
+narrowed-of_check max (fault.Refused line why) h = (h, h)
+narrowed-of_check max (fault.Ambiguous clash) h = absurd h
+narrowed-of_check max fault.WindowsDiffer h = absurd h
+narrowed-of_check max fault.OutsideWindow h = (h, h)
+narrowed-of_check max fault.WindowReversed h = (h, h)
+narrowed-of_check max fault.Read h = (h, h)
+narrowed-of_check max fault.Write h = absurd h
+narrowed-of_check max fault.Memory h = (h, h)

@@ -9,8 +9,7 @@ use Rattle.cif_extract.specs.SpellsExtract.{BytesSpellWithin}
 use Rattle.cif_extract.specs.declared.fault.Clash.{Clash}
 use Rattle.cif_extract.specs.declared.fault.Clash.TheVariants.{Association, Train}
 use Rattle.cif_extract.specs.declared.fault.Fault.{Fault}
-use Rattle.cif_extract.specs.declared.fault.Fault.TheVariants.{Refused, Ambiguous, WindowsDiffer, OutsideWindow, WindowReversed}
-use Rattle.cif_extract.specs.declared.fault.Fault.TheVariants.{Read, Write, Memory}
+use Rattle.cif_extract.specs.declared.fault.Fault.TheVariants.{Ambiguous, OutsideWindow, WindowReversed, Read, Write, Memory}
 use Rattle.cif_records.specs.AssocKey.{key_cmp}
 use Rattle.cif_canon.specs.Accepted.{SpellsNarrowed}
 use Rattle.cif_canon.specs.Asked.{IsNarrowingFault}
@@ -44,26 +43,33 @@ pub record SpellsOtherWindow (max : ℕ) (asked : Asked) (bytes : List ℕ) (fau
   pub spelled : BytesSpellWithin max bytes whole
   pub fault_is : IsNarrowingFault asked whole.header fault
 
--- Why bytes have no canonical form for the window that is asked for, or can't be read, where `after` is what the reader has left then:
--- the first refusal, or else a window that can't be asked for, or else the first clash.
+-- Why bytes aren't read as an extract for the window that is asked for, where `after` is what the reader has left then: the first
+-- refusal, or else a window that can't be asked for.
+abbrev pub IsReadNarrowedFault : ℕ → Asked → List ℕ → Option (List ℕ) → Fault → Type 0
+IsReadNarrowedFault max asked bytes after OutsideWindow = SpellsOtherWindow max asked bytes OutsideWindow
+IsReadNarrowedFault max asked bytes after WindowReversed = SpellsOtherWindow max asked bytes WindowReversed
+IsReadNarrowedFault max asked bytes after fault = IsReadFault max bytes after fault
+
+-- Why they have no canonical form for it: they aren't read so, or else the first clash; or it can't be written.
 abbrev pub IsNormaliseFault : ℕ → Asked → List ℕ → Option (List ℕ) → Fault → Type 0
 IsNormaliseFault max asked bytes after (Ambiguous clash) = SpellsClash max asked bytes clash
-IsNormaliseFault max asked bytes after OutsideWindow = SpellsOtherWindow max asked bytes OutsideWindow
-IsNormaliseFault max asked bytes after WindowReversed = SpellsOtherWindow max asked bytes WindowReversed
-IsNormaliseFault max asked bytes after WindowsDiffer = ⊥
 IsNormaliseFault max asked bytes after Write = ⊤
-IsNormaliseFault max asked bytes after fault = IsReadFault max bytes after fault
+IsNormaliseFault max asked bytes after fault = IsReadNarrowedFault max asked bytes after fault
 
--- the faults of `normalise`, for any devices
-abbrev pub IsOfNormalise : ℕ → Fault → Type 0
-IsOfNormalise max (Refused line why) = IsOfReading max (Refused line why)
-IsOfNormalise max WindowsDiffer = ⊥
-IsOfNormalise max _ = ⊤
+-- the faults of reading an extract for a window that is asked for, for any source
+abbrev pub IsOfReadNarrowed : ℕ → Fault → Type 0
+IsOfReadNarrowed max OutsideWindow = ⊤
+IsOfReadNarrowed max WindowReversed = ⊤
+IsOfReadNarrowed max fault = IsOfReading max fault
 
--- and those of `check`, which writes nothing
+-- those of `check`, and those of `normalise`, for any devices
 abbrev pub IsOfCheck : ℕ → Fault → Type 0
-IsOfCheck max Write = ⊥
-IsOfCheck max fault = IsOfNormalise max fault
+IsOfCheck max (Ambiguous clash) = ⊤
+IsOfCheck max fault = IsOfReadNarrowed max fault
+
+abbrev pub IsOfNormalise : ℕ → Fault → Type 0
+IsOfNormalise max Write = ⊤
+IsOfNormalise max fault = IsOfCheck max fault
 
 -- a fault that says nothing of the bytes: a device failed, or memory ran out
 abbrev pub IsDeviceOrMemory : Fault → Type 0

@@ -42,32 +42,37 @@ pub record ReadAsPair (asked : Asked) (common : Bool) (left right : Option (List
   pub right_spelled : IfSome right (λ bytes. BytesSpellWithin MAX_LINES bytes right_whole)
   pub narrowed : AreNarrowed asked common left_whole right_whole x y
 
--- Why two whole extracts have no answer: the window that is asked for doesn't fit the left one's, or else it doesn't fit the right one's,
--- or else the narrowed ones aren't compared; or the answer can't be written.
+-- Why two whole extracts aren't narrowed: the window that is asked for doesn't fit the left one's, or else it doesn't fit the right one's.
 abbrev pub IsPairRefusal : Asked → ExtractParts → ExtractParts → Fault → Type 0
 IsPairRefusal asked left_whole right_whole fault = IsNarrowingFault asked left_whole.header fault
-    ⊎ ((left : ExtractParts) × IsNarrowed asked left_whole left × (IsNarrowingFault asked right_whole.header fault
-    ⊎ ((right : ExtractParts) × IsNarrowed asked right_whole right × (IsCompareFault left right fault ⊎ (fault ≡ Write)))))
+    ⊎ ((left : ExtractParts) × IsNarrowed asked left_whole left × IsNarrowingFault asked right_whole.header fault)
 
--- Why the right input has no answer beside a left extract: its first refusal, or else why the two extracts have none.
+-- Why the right input isn't read beside a left extract: its first refusal, or else why the two extracts aren't narrowed.
 abbrev pub IsRightRefusal : Asked → Bool → ExtractParts → List ℕ → Option (List ℕ) → Fault → Type 0
 IsRightRefusal asked common left bytes after fault = IsReadFault MAX_LINES bytes after fault
     ⊎ ((right : ExtractParts) × BytesSpellWithin MAX_LINES bytes right
     × IsPairRefusal (asked_of_both common asked left right) left right fault)
 
--- Why `compare` and `diff` have no answer to the left input and the right one, of which `after` and `right_after` are left then: the
--- first refusal of the left one, and then Untouched holds of the right one; or else why the right one has none.
-abbrev pub IsCompareRefusal : Asked → Bool → List ℕ → Option (List ℕ) → Type 0 → Option (List ℕ) → Option (List ℕ) → Fault → Type 0
-IsCompareRefusal asked common bytes after Untouched right right_after fault =
+-- Why the left input and the right one aren't read, of which `after` and `right_after` are left then: the first refusal of the left one,
+-- and then Untouched holds of the right one; or else why the right one isn't read.
+abbrev pub IsPairFault : Asked → Bool → List ℕ → Option (List ℕ) → Type 0 → Option (List ℕ) → Option (List ℕ) → Fault → Type 0
+IsPairFault asked common bytes after Untouched right right_after fault =
     (IsReadFault MAX_LINES bytes after fault × Untouched)
     ⊎ ((left : ExtractParts) × BytesSpellWithin MAX_LINES bytes left
     × IfSome right (λ right_bytes. IsRightRefusal asked common left right_bytes right_after fault))
 
--- where the bytes that the left reader gives are known, a fault is why there is no answer to them and to what the right one gives
-abbrev pub FaultOfBoth : {R A : Type 0} → (R → Option (List ℕ)) → Asked → Bool → Source R → Source R → Source R → Source R →
-    Result A Fault → Type 0
-FaultOfBoth remaining asked common left left_new right right_new result =
-    FaultOf remaining (λ bytes after fault. IsCompareRefusal asked common bytes after (right_new ≡ right) (remaining (reader_of right))
+-- Why `compare` and `diff` have no answer to them: they aren't read, or else what is read isn't compared; or the answer can't be written.
+abbrev pub IsCompareRefusal : Asked → Bool → List ℕ → Option (List ℕ) → Type 0 → Option (List ℕ) → Option (List ℕ) → Fault → Type 0
+IsCompareRefusal asked common bytes after Untouched right right_after fault =
+    IsPairFault asked common bytes after Untouched right right_after fault
+    ⊎ ((x y : ExtractParts) × ReadAsPair asked common (Some bytes) right x y × (IsCompareFault x y fault ⊎ (fault ≡ Write)))
+
+-- where the bytes that the left reader gives are known, a fault is one of these for them and for what the right one gives
+abbrev pub FaultOfBoth : {R A : Type 0} → (R → Option (List ℕ))
+    → (List ℕ → Option (List ℕ) → Type 0 → Option (List ℕ) → Option (List ℕ) → Fault → Type 0)
+    → Source R → Source R → Source R → Source R → Result A Fault → Type 0
+FaultOfBoth remaining IsFault left left_new right right_new result =
+    FaultOf remaining (λ bytes after fault. IsFault bytes after (right_new ≡ right) (remaining (reader_of right))
     (remaining (reader_of right_new)) fault) left left_new result
 
 -- What a command that reads a left and then a right source owes them: the right one is as it was where the left one isn't read on.

@@ -1,11 +1,9 @@
 //! The records of a train that apply on a day, and their marks.
-ghost use Rattle.std.specs.Prelude.{◌≡◌, ◌↔◌, ◌+◌, ◌++◌, ◌∷◌, [], ℕ, List, IfOk, IsTrue};
-ghost use Rattle.std.specs.Prelude.{map};
+ghost use Rattle.std.specs.Prelude.{◌≡◌, ◌↔◌, ◌+◌, ◌<◌, ℕ, IfOk, IsTrue, length, map};
 ghost use Rattle.cif_calendar.specs.Applies.{Applies};
 ghost use Rattle.cif_calendar.specs.Keys.{keyed};
-ghost use Rattle.cif_canon.specs.Steps.Explanation.{ArePlacedInOrder, IsMarkAmong};
-ghost use Rattle.cif_canon.specs.Steps.Explanation.{Placed, opposed, placed_at};
-ghost use Rattle.cif_canon.specs.Steps.Explanation.{placed_cmp, placed_of};
+ghost use Rattle.cif_canon.specs.Steps.Explanation.{ArePlacedInOrder, IsFirstOfKey, IsMarkAt};
+ghost use Rattle.cif_canon.specs.Steps.Explanation.{IsRisingBy, placed_cmp, placed_of};
 
 use crate::layout::{Format, LONGEST};
 use arrayvec::ArrayString;
@@ -107,47 +105,41 @@ pub(crate) fn records_on<'a, E: ExplainedEntry>(
     Ok(applying)
 }
 
-/// The mark beside another winner with another body.
-fn opposed(mark: Mark) -> Mark
-    ensures { result ≡ opposed mark }
+/// The mark of the record at `i` of those that apply. `before` is that of the one before it.
+pub(crate) fn mark_at<E: Entry>(applying: &[Applying<'_, E>], i: usize, before: Mark) -> Mark
+    requires within { i < length applying.now }
+    requires rising { IsRisingBy E.Key.cmp (map (placed_of E.key E.terms) applying.now) }
+    ensures { ((j : ℕ) → i ≡ j + 1 → IsMarkAt (map (placed_of E.key E.terms) applying.now) j before)
+        → IsMarkAt (map (placed_of E.key E.terms) applying.now) i result }
 {
-    match mark {
-        Mark::Wins => Mark::Clash,
-        _ => mark,
+    if i > 0 {
+        let (one, other) = (applying[i].entry, applying[i - 1].entry);
+        if one.key() == other.key() {
+            if one.letter().write() == other.letter().write() {
+                return before;
+            }
+            return Mark::Hidden;
+        }
     }
+    mark_of_first(applying, i)
 }
 
-/// The mark of a record once one more of those that apply is looked at.
-fn mark_beside<E: Entry>(mark: Mark, one: &E, other: &E) -> Mark
-    ensures { (place at : ℕ) (seen : List (Placed E.Key E.Body)) →
-        IsMarkAmong seen (placed_at place (E.key one.now) (E.terms one.now)) mark →
-        IsMarkAmong (seen ++ (placed_at at (E.key other.now) (E.terms other.now) ∷ []))
-        (placed_at place (E.key one.now) (E.terms one.now)) result }
+/// The mark of the record at `i` of those that apply, if it is the first of its key. Each of the
+/// key's records is looked at.
+fn mark_of_first<E: Entry>(applying: &[Applying<'_, E>], i: usize) -> Mark
+    requires within { i < length applying.now }
+    requires rising { IsRisingBy E.Key.cmp (map (placed_of E.key E.terms) applying.now) }
+    requires first { IsFirstOfKey (map (placed_of E.key E.terms) applying.now) i }
+    ensures { IsMarkAt (map (placed_of E.key E.terms) applying.now) i result }
 {
-    if other.key() != one.key() {
-        return mark;
+    let one = applying[i].entry;
+    for other in &applying[i + 1..] {
+        if other.entry.key() != one.key() {
+            return Mark::Wins;
+        }
+        if other.entry.letter().write() == one.letter().write() && !same_body(other.entry, one) {
+            return Mark::Clash;
+        }
     }
-    let (letter, other_letter) = (one.letter().write(), other.letter().write());
-    if other_letter < letter {
-        return Mark::Hidden;
-    }
-    if other_letter != letter {
-        return mark;
-    }
-    if same_body(other, one) {
-        return mark;
-    }
-    opposed(mark)
-}
-
-/// The mark of a record among those that apply.
-pub(crate) fn mark_of<E: Entry>(applying: &[Applying<'_, E>], one: &E) -> Mark
-    ensures { (place : ℕ) → IsMarkAmong (map (placed_of E.key E.terms) applying.now)
-        (placed_at place (E.key one.now) (E.terms one.now)) result }
-{
-    let mut mark = Mark::Wins;
-    for other in applying {
-        mark = mark_beside(mark, one, other.entry);
-    }
-    mark
+    Mark::Wins
 }

@@ -6,12 +6,12 @@ ghost use Rattle.cif_canon.specs.Explanation.{IsExplanation, IsExplanationFault}
 ghost use Rattle.cif_canon.specs.Explanation.{mark_columns, said_of_association, said_of_train};
 ghost use Rattle.cif_canon.specs.Explanation.{terms_fields};
 ghost use Rattle.cif_canon.specs.Normalised.{FaultWrites, IfWritten};
-ghost use Rattle.cif_canon.specs.Steps.Explanation.{AreMarkedOn, placed_of};
+ghost use Rattle.cif_canon.specs.Steps.Explanation.{AreMarkedOn, IsRisingBy, placed_of};
 ghost use Rattle.cif_canon.specs.Steps.Fields.{after};
 ghost use Rattle.cif_canon.specs.declared.layout.Format.TheVariants.{Text};
 
 use crate::asked::check_within;
-use crate::explained::{Applying, ExplainedEntry, Mark, mark_of, records_on};
+use crate::explained::{Applying, ExplainedEntry, Mark, mark_at, records_on};
 use crate::layout::{
     ASSOCIATION, Format, LONGEST, Layout, NO_ASSOCIATION, NO_TRAIN, heading, push_association,
     push_field, push_fields, push_left_out, push_train, started,
@@ -89,12 +89,14 @@ fn write_marked<E: ExplainedEntry, W: WriteDevice>(
     applying: &[Applying<'_, E>],
     sink: &mut Sink<W>,
 )
+    requires rising { IsRisingBy E.Key.cmp (map (placed_of E.key E.terms) applying.now) }
     ensures { AreMarkedOn W.contents W.write_errors (E.line format)
         (map (placed_of E.key E.terms) applying.now) (map (placed_of E.key E.terms) applying.now)
         sink.old sink.new }
 {
-    for one in applying {
-        let mark = mark_of(applying, one.entry);
+    let mut mark = Mark::Wins;
+    for (i, one) in applying.iter().enumerate() {
+        mark = mark_at(applying, i, mark);
         append(one.entry.line(format, mark).as_str(), sink);
     }
 }

@@ -8,7 +8,8 @@ ghost use Rattle.cif_extract.specs.ReadFault.{FaultOf, FaultReads, LeavesNothing
 ghost use Rattle.cif_canon.specs.Accepted.{IsAcceptedWithin, SpellsNarrowed};
 ghost use Rattle.cif_canon.specs.Canon.{IsCanonOf};
 ghost use Rattle.cif_canon.specs.Fault.{IsDeviceOrMemory, IsNormaliseFault, IsOfCheck};
-ghost use Rattle.cif_canon.specs.Fault.{IsOfNormalise, IsCanonFault};
+ghost use Rattle.cif_canon.specs.Fault.{IsOfNormalise, IsOfReadNarrowed, IsCanonFault};
+ghost use Rattle.cif_canon.specs.Fault.{IsReadNarrowedFault};
 ghost use Rattle.cif_canon.specs.Normalised.{FaultWrites, IsNormalised, Normalises};
 ghost use Rattle.cif_canon.specs.Report.{fault_line};
 
@@ -146,9 +147,9 @@ pub fn read_narrowed<R: ReadDevice>(
     requires within { max_lines ≤ MAX_LINES }
     ensures ok { IfSome (R.remaining (reader_of source.old)) (λ bytes. IfOk result (λ extract.
         SpellsNarrowed max_lines asked.now (extract_parts extract) bytes)) }
-    ensures fault { FaultOf R.remaining (IsNormaliseFault max_lines asked.now)
+    ensures fault { FaultOf R.remaining (IsReadNarrowedFault max_lines asked.now)
         source.old source.new result }
-    ensures answers { IfErr result (IsOfCheck max_lines) }
+    ensures answers { IfErr result (IsOfReadNarrowed max_lines) }
     ensures source { FaultReads R.read_errors source.old source.new result }
     ensures end { LeavesNothing R.remaining source.old source.new result }
 {

@@ -1,10 +1,12 @@
 //! Two extracts, in a window that is asked for of both.
-ghost use Rattle.std.specs.Prelude.{◌≡◌, ◌≢◌, IfErr, IfOk};
+ghost use Rattle.std.specs.Prelude.{◌≡◌, IfErr, IfOk};
 ghost use Rattle.cif_columns.specs.Source.{reader_of};
+ghost use Rattle.cif_columns.specs.declared.line_reader.TheConstants.{MAX_LINES};
 ghost use Rattle.cif_extract.specs.ExtractParts.{extract_parts};
 ghost use Rattle.cif_extract.specs.ReadFault.{LeavesNothing};
-ghost use Rattle.cif_extract.specs.declared.fault.Fault.TheVariants.{Write};
-ghost use Rattle.cif_canon.specs.Pair.{FaultOfBoth, ReadAsPair, ReadsBoth, asked_of_both};
+ghost use Rattle.cif_canon.specs.Fault.{IsOfReadNarrowed};
+ghost use Rattle.cif_canon.specs.Pair.{FaultOfBoth, IsPairFault, ReadAsPair, ReadsBoth};
+ghost use Rattle.cif_canon.specs.Pair.{asked_of_both};
 
 use crate::{Asked, narrow};
 use cif_columns::{MAX_LINES, ReadDevice, Source};
@@ -28,9 +30,9 @@ pub fn read_pair<R: ReadDevice>(
     ensures ok { IfOk result (λ pair. ReadAsPair asked.now common
         (R.remaining (reader_of left.old)) (R.remaining (reader_of right.old))
         (extract_parts pair.0) (extract_parts pair.1)) }
-    ensures fault { FaultOfBoth R.remaining asked.now common
+    ensures fault { FaultOfBoth R.remaining (IsPairFault asked.now common)
         left.old left.new right.old right.new result }
-    ensures silent { IfErr result (λ fault. fault ≢ Write) }
+    ensures answers { IfErr result (IsOfReadNarrowed MAX_LINES) }
     ensures sources { ReadsBoth R.read_errors left.old left.new right.old right.new result }
     ensures left_end { LeavesNothing R.remaining left.old left.new result }
     ensures right_end { LeavesNothing R.remaining right.old right.new result }

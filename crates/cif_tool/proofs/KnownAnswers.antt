@@ -18,7 +18,6 @@ use Rattle.cif_canon.specs.Differences.{AreDifferences, AreNone, DifferencesPart
 use Rattle.cif_canon.specs.Explanation.{IsExplanation}
 use Rattle.cif_canon.specs.Normalised.{IfWritten, IsNormalised, Normalises}
 use Rattle.cif_canon.specs.Pair.{IsCompareRefusal, ReadAsPair, SpellPair}
-use Rattle.cif_canon.proofs.ReadPairs.{spelled-refused}
 use Rattle.cif_canon.specs.Views.{IsDayView, IsTrainView}
 use Rattle.cif_canon.specs.declared.asked.Asked.{Asked}
 use Rattle.cif_canon.specs.declared.comparison.Comparison.{Comparison}
@@ -147,6 +146,10 @@ module _ (asked : Asked) (common : Bool) (left right : Option (List ℕ)) (x y :
       IfSome left (λ bytes. IfErr result (IsCompareRefusal asked common bytes after Untouched right right_after))
   compare-refused after right_after Untouched result f hands h =
       known_so left (λ bytes. BytesSpellWithin MAX_LINES bytes read.left_whole) _ (λ bytes s.
-      hands (IsCompareRefusal asked common bytes after Untouched right right_after)
-      (spelled-refused asked common right bytes after right_after Untouched read.left_whole read.right_whole s read.right_spelled f _ refl
-      (inr (x, read.narrowed.left, inr (y, read.narrowed.right, h))))) read.left_spelled
+      hands (IsCompareRefusal asked common bytes after Untouched right right_after) (inr (x, y, record {
+        left_whole = read.left_whole;
+        right_whole = read.right_whole;
+        left_spelled = s;
+        right_spelled = read.right_spelled;
+        narrowed = read.narrowed;
+      }, h))) read.left_spelled

@@ -21,7 +21,7 @@ use Rattle.cif_canon.specs.Differences.{AreDifferences, AreNone, DifferencesPart
 use Rattle.cif_canon.specs.Explanation.{IsExplanation, IsExplanationFault}
 use Rattle.cif_canon.specs.Fault.{IsNormaliseFault}
 use Rattle.cif_canon.specs.Normalised.{FaultWrites, IsNormalised}
-use Rattle.cif_canon.specs.Pair.{FaultOfBoth, ReadsBoth, SpellPair}
+use Rattle.cif_canon.specs.Pair.{FaultOfBoth, IsCompareRefusal, ReadsBoth, SpellPair}
 use Rattle.cif_canon.specs.Views.{IsDayFault, IsDayView, IsTrainView}
 use Rattle.cif_canon.specs.declared.asked.Asked.{Asked}
 use Rattle.cif_canon.specs.declared.comparison.Comparison.{Comparison}
@@ -182,9 +182,9 @@ IsJobFault remaining (Normalise file asked form) source source_new right right_n
 IsJobFault remaining (Check file asked form) source source_new right right_new result =
     FaultOf remaining (IsNormaliseFault MAX_LINES asked) source source_new result
 IsJobFault remaining (Compare left_file right_file asked common) source source_new right right_new result =
-    FaultOfBoth remaining asked common source source_new right right_new result
+    FaultOfBoth remaining (IsCompareRefusal asked common) source source_new right right_new result
 IsJobFault remaining (Diff left_file right_file asked common) source source_new right right_new result =
-    FaultOfBoth remaining asked common source source_new right right_new result
+    FaultOfBoth remaining (IsCompareRefusal asked common) source source_new right right_new result
 IsJobFault remaining (Day day file layout) source source_new right right_new result =
     FaultOf remaining (IsDayRefusal day) source source_new result
 IsJobFault remaining (Train uid file asked form layout) source source_new right right_new result =

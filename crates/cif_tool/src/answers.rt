@@ -1,6 +1,6 @@
 //! What each command answers, for any devices, and which of them a job asks for.
 ghost use Rattle.cif_canon.specs.Fault.{IsNormaliseFault};
-ghost use Rattle.cif_canon.specs.Pair.{FaultOfBoth, ReadsBoth};
+ghost use Rattle.cif_canon.specs.Pair.{FaultOfBoth, IsCompareRefusal, ReadsBoth};
 ghost use Rattle.cif_columns.specs.declared.line_reader.TheConstants.{MAX_LINES};
 ghost use Rattle.cif_extract.specs.ReadFault.{FaultOf, FaultReads, LeavesNothing};
 ghost use Rattle.cif_tool.specs.Answer.{Answers, IsCheckAnswer, IsClashesAnswer, IsClashesRefusal};
@@ -84,7 +84,7 @@ pub fn answer_compare<R: ReadDevice, W: WriteDevice>(
     ensures answer { Answers W.contents W.write_errors
         (OfBoth R.remaining (IsCompareAnswer asked.now common) left.old right.old)
         sink.old sink.new result }
-    ensures fault { FaultOfBoth R.remaining asked.now common
+    ensures fault { FaultOfBoth R.remaining (IsCompareRefusal asked.now common)
         left.old left.new right.old right.new result }
     ensures sources { ReadsBoth R.read_errors left.old left.new right.old right.new result }
     ensures left_end { LeavesNothing R.remaining left.old left.new result }
@@ -110,7 +110,7 @@ pub fn answer_diff<R: ReadDevice, W: WriteDevice>(
     ensures answer { Answers W.contents W.write_errors
         (OfBoth R.remaining (IsDiffAnswer asked.now common) left.old right.old)
         sink.old sink.new result }
-    ensures fault { FaultOfBoth R.remaining asked.now common
+    ensures fault { FaultOfBoth R.remaining (IsCompareRefusal asked.now common)
         left.old left.new right.old right.new result }
     ensures sources { ReadsBoth R.read_errors left.old left.new right.old right.new result }
     ensures left_end { LeavesNothing R.remaining left.old left.new result }

@@ -1,5 +1,5 @@
 -- The records of a train that apply on a day, and how they are marked one by one. No public clause cites it.
-use Rattle.std.specs.Prelude.{◌≡◌, ◌≢◌, ℕ, ◌<◌, ◌≤◌, List, Option, Some, All, AllPairs, Contains, map, slice_get}
+use Rattle.std.specs.Prelude.{◌≡◌, ◌≢◌, ℕ, ◌+◌, ◌<◌, ◌≤◌, List, Option, Some, All, AllPairs, Contains, HoldsAt, map, slice_get}
 use Rattle.std.specs.List.{flat_map}
 use Rattle.std.specs.Ordering.{nat_cmp, ordering_then}
 use Rattle.std.specs.declared.cmp.Ordering.{Ordering}
@@ -41,6 +41,10 @@ placed_cmp cmp r s =
     ordering_then (cmp r.key s.key)
     (ordering_then (nat_cmp (letter r.terms.letter) (letter s.terms.letter)) (nat_cmp r.place s.place))
 
+-- the records are in this order
+abbrev pub IsRisingBy : {K B : Type 0} → (K → K → Ordering) → List (Placed K B) → Type 0
+IsRisingBy cmp placed = AllPairs (λ p q. placed_cmp cmp p q ≡ Less) placed
+
 -- it stands at its place, is one of train u, and applies on day d
 pub record IsPlaced {K B : Type 0} (train_of : K → List ℕ) (entries : List (K × Terms B)) (u : List ℕ) (d : ℕ) (p : Placed K B)
     : Type 0 where
@@ -61,44 +65,62 @@ pub record ArePlacedInOrder {K B : Type 0} (cmp : K → K → Ordering) (train_o
     (u : List ℕ) (d : ℕ) (placed : List (Placed K B)) : Type 0 where
   pub found : All (IsPlaced train_of entries u d) placed
   pub all : (p : Placed K B) → IsPlaced train_of entries u d p → Contains placed p
-  pub rising : AllPairs (λ p q. placed_cmp cmp p q ≡ Less) placed
+  pub rising : IsRisingBy cmp placed
 
--- a record of p's key with an earlier letter, and one with p's letter and another body
-pub record IsBefore {K B : Type 0} (seen : List (Placed K B)) (p : Placed K B) : Type 0 where
+-- one of the records has this key and this letter
+pub record IsLevel {K B : Type 0} (placed : List (Placed K B)) (k : K) (l : ℕ) (p : Placed K B) : Type 0 where
+  pub member : Contains placed p
+  pub key : p.key ≡ k
+  pub same_letter : letter p.terms.letter ≡ l
+
+-- a record of the key has an earlier letter
+pub record IsBefore {K B : Type 0} (placed : List (Placed K B)) (k : K) (l : ℕ) : Type 0 where
   pub other : Placed K B
-  pub member : Contains seen other
-  pub key : other.key ≡ p.key
-  pub earlier : letter other.terms.letter < letter p.terms.letter
+  pub member : Contains placed other
+  pub key : other.key ≡ k
+  pub earlier : letter other.terms.letter < l
 
-pub record IsOpposed {K B : Type 0} (seen : List (Placed K B)) (p : Placed K B) : Type 0 where
+-- no record of the key has an earlier letter
+abbrev pub IsLeast : {K B : Type 0} → List (Placed K B) → K → ℕ → Type 0
+IsLeast {K} {B} placed k l = (p : Placed K B) → Contains placed p → p.key ≡ k → l ≤ letter p.terms.letter
+
+-- all records of the key with this letter have one body
+abbrev pub AreAlike : {K B : Type 0} → List (Placed K B) → K → ℕ → Type 0
+AreAlike {K} {B} placed k l = (p q : Placed K B) → IsLevel placed k l p → IsLevel placed k l q → p.terms.body ≡ q.terms.body
+
+-- two of them have different bodies
+pub record AreOpposed {K B : Type 0} (placed : List (Placed K B)) (k : K) (l : ℕ) : Type 0 where
+  pub one : Placed K B
   pub other : Placed K B
-  pub member : Contains seen other
-  pub key : other.key ≡ p.key
-  pub same_letter : letter other.terms.letter ≡ letter p.terms.letter
-  pub bodies_differ : other.terms.body ≢ p.terms.body
+  pub one_level : IsLevel placed k l one
+  pub other_level : IsLevel placed k l other
+  pub bodies_differ : one.terms.body ≢ other.terms.body
 
--- no record of p's key has an earlier letter; nor has one of p's letter another body
-abbrev pub IsLeast : {K B : Type 0} → Placed K B → Placed K B → Type 0
-IsLeast p q = q.key ≡ p.key → letter p.terms.letter ≤ letter q.terms.letter
+-- the record right before the one at position i has another key
+abbrev pub IsFirstOfKey : {K B : Type 0} → List (Placed K B) → ℕ → Type 0
+IsFirstOfKey {K} {B} placed i =
+    (p q : Placed K B) (a : Contains placed p) (b : Contains placed q) → a.0 ≡ i → i ≡ b.0 + 1 → q.key ≢ p.key
 
-abbrev pub IsAlike : {K B : Type 0} → Placed K B → Placed K B → Type 0
-IsAlike p q = q.key ≡ p.key → letter q.terms.letter ≡ letter p.terms.letter → q.terms.body ≡ p.terms.body
+-- q has p's key, and its body if it has its letter
+abbrev pub IsLike : {K B : Type 0} → Placed K B → Placed K B → Type 0
+IsLike p q = (q.key ≡ p.key) × (letter q.terms.letter ≡ letter p.terms.letter → q.terms.body ≡ p.terms.body)
 
--- the mark of p by the records that were seen
-abbrev pub IsMarkAmong : {K B : Type 0} → List (Placed K B) → Placed K B → Mark → Type 0
-IsMarkAmong seen p mark.Wins = All (IsLeast p) seen × All (IsAlike p) seen
-IsMarkAmong seen p mark.Clash = All (IsLeast p) seen × IsOpposed seen p
-IsMarkAmong seen p mark.Hidden = IsBefore seen p
+-- the mark of the records with this key and this letter, among all
+abbrev pub IsMarkAmong : {K B : Type 0} → List (Placed K B) → K → ℕ → Mark → Type 0
+IsMarkAmong placed k l mark.Wins = IsLeast placed k l × AreAlike placed k l
+IsMarkAmong placed k l mark.Clash = IsLeast placed k l × AreOpposed placed k l
+IsMarkAmong placed k l mark.Hidden = IsBefore placed k l
 
--- the mark of a winner beside one with another body
-abbrev pub opposed : Mark → Mark
-opposed mark.Wins = mark.Clash
-opposed mark.Clash = mark.Clash
-opposed mark.Hidden = mark.Hidden
+-- the mark of this record among all, and of the record at a position
+abbrev pub IsMarkOf : {K B : Type 0} → List (Placed K B) → Placed K B → Mark → Type 0
+IsMarkOf placed p m = IsMarkAmong placed p.key (letter p.terms.letter) m
+
+abbrev pub IsMarkAt : {K B : Type 0} → List (Placed K B) → ℕ → Mark → Type 0
+IsMarkAt placed i m = HoldsAt (λ p. IsMarkOf placed p m) placed i
 
 -- these are some of the records, each with its mark among all of them
 abbrev pub AreMarked : {K B : Type 0} → List (Placed K B) → List (Placed K B) → List (Explained K B) → Type 0
-AreMarked all some marked = (map unmarked marked ≡ some) × All (λ e. IsMarkAmong all (unmarked e) e.mark) marked
+AreMarked all some marked = (map unmarked marked ≡ some) × All (λ e. IsMarkOf all (unmarked e) e.mark) marked
 
 -- and their lines have been appended
 abbrev pub AreMarkedOn : {W K B : Type 0} → (W → Option (List ℕ)) → (W → Option ℕ) → (Explained K B → List ℕ)

@@ -35,3 +35,9 @@ returns-clause-view g c =
           (map (placed_of (λ (s : Schedule). s.uid) schedule_terms) es)) (sym c.as_slice-4.ensures.value) c.in-Ok-records_on.ensures)
           others.1),
     )
+
+pub write_marked-requires : goal.write_marked-requires
+write_marked-requires g c = record { rising = rw c.as_slice-3.ensures.value c.in-Ok.ensures.rising }
+
+pub write_marked-requires-2 : goal.write_marked-requires-2
+write_marked-requires-2 g c = record { rising = rw c.as_slice-4.ensures.value c.in-Ok-records_on.ensures.rising }

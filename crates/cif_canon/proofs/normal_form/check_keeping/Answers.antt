@@ -3,17 +3,18 @@ use Rattle.std.proofs.Common.{Err, refl, subst}
 use Rattle.cif_columns.specs.Source.{reader_of}
 use Rattle.cif_columns.proofs.GivenLinesLaws.{known_so}
 use Rattle.cif_extract.specs.ExtractParts.{extract_parts}
-use Rattle.cif_canon.specs.Fault.{IsCanonFault}
+use Rattle.cif_canon.specs.Fault.{IsCanonFault, IsOfCheck}
 use Rattle.cif_canon.specs.declared.canonical_form.Counts.{Counts}
 use Rattle.cif_canon.proofs.BothRead.{read-on}
-use Rattle.cif_canon.proofs.HandedFaults.{at-fault, no-ok}
-use Rattle.cif_canon.proofs.Normalising.{canon-of_check, unsaid, whatever}
-use Rattle.cif_canon.proofs.Normalising.{counted-text, known-accepted, known-canon_accepted, known-canon_fault}
+use Rattle.cif_canon.proofs.HandedFaults.{at-fault, hands, no-ok}
+use Rattle.cif_canon.proofs.Normalising.{canon-of_check, narrowed-of_check, unsaid, whatever}
+use Rattle.cif_canon.proofs.Normalising.{counted-text, known-canon_accepted, known-canon_fault}
+use Rattle.cif_canon.proofs.Normalising.{known-read_accepted, known-read_fault}
 use Rattle.cif_canon.proofs.normal_form.check_keeping.Goals as goal
 
 pub returns-in_err-extract-clause-accepted : goal.returns-in_err-extract-clause-accepted
 returns-in_err-extract-clause-accepted g c =
-    known-accepted c.args.max_lines c.args.asked.now _ (g.R.Read.remaining (reader_of c.read_narrowed.new.source)) c.from_residual.result
+    known-read_accepted c.args.max_lines c.args.asked.now _ (g.R.Read.remaining (reader_of c.read_narrowed.new.source)) c.from_residual.result
     c.in_err-extract.field-0.0 c.from_residual.ensures.1 c.in_err-extract.ensures.fault
 
 pub returns-in-Err-clause-fault : goal.returns-in-Err-clause-fault
@@ -45,11 +46,13 @@ returns-in-Err-clause-source g c =
 
 pub returns-in_err-extract-clause-fault : goal.returns-in_err-extract-clause-fault
 returns-in_err-extract-clause-fault g c =
-    rw (at-fault c.from_residual.result c.in_err-extract.field-0.0 c.from_residual.ensures.1) c.in_err-extract.ensures.fault
+    known-read_fault c.args.max_lines c.args.asked.now _ (g.R.Read.remaining (reader_of c.read_narrowed.new.source)) c.from_residual.result
+    c.in_err-extract.field-0.0 c.from_residual.ensures.1 c.in_err-extract.ensures.fault
 
 pub returns-in_err-extract-clause-answers : goal.returns-in_err-extract-clause-answers
 returns-in_err-extract-clause-answers g c =
-    rw (at-fault c.from_residual.result c.in_err-extract.field-0.0 c.from_residual.ensures.1) c.in_err-extract.ensures.answers
+    hands c.from_residual.result c.in_err-extract.field-0.0 c.from_residual.ensures.1 (IsOfCheck c.args.max_lines)
+    (narrowed-of_check c.args.max_lines c.in_err-extract.field-0.0 c.in_err-extract.ensures.answers).0
 
 pub returns-in_err-extract-clause-source : goal.returns-in_err-extract-clause-source
 returns-in_err-extract-clause-source g c =

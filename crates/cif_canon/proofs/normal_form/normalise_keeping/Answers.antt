@@ -6,9 +6,10 @@ use Rattle.cif_extract.specs.ExtractParts.{extract_parts}
 use Rattle.cif_extract.specs.declared.fault.Fault.TheVariants.{Read}
 use Rattle.cif_canon.proofs.BothRead.{read-on}
 use Rattle.cif_canon.proofs.HandedFaults.{at-fault, hands}
-use Rattle.cif_canon.specs.Fault.{IsCanonFault, IsOfCheck, IsOfNormalise}
-use Rattle.cif_canon.proofs.Normalising.{canon-of_check, check-normalise, unsaid, whatever}
-use Rattle.cif_canon.proofs.Normalising.{fails-silently, fault-writes, known-accepted, known-canon_accepted, known-canon_fault}
+use Rattle.cif_canon.specs.Fault.{IsCanonFault, IsOfNormalise, IsOfReadNarrowed}
+use Rattle.cif_canon.proofs.Normalising.{canon-of_check, narrowed-of_check, unsaid, whatever}
+use Rattle.cif_canon.proofs.Normalising.{fails-silently, fault-writes, known-canon_accepted, known-canon_fault}
+use Rattle.cif_canon.proofs.Normalising.{known-read_accepted, known-read_fault}
 use Rattle.cif_canon.proofs.Normalising.{normalises-prefix, normalises-whole, write-accepted, write-answers, write-fault}
 use Rattle.cif_canon.proofs.normal_form.normalise_keeping.Goals as goal
 
@@ -17,7 +18,7 @@ returns-in_err-extract-clause-normal g c =
     let f = c.in_err-extract.field-0.0 in
     fails-silently _ _ _ c.args.form c.args.asked.now c.args.max_lines c.args.sink.now c.from_residual.result f
     (at-fault c.from_residual.result f c.from_residual.ensures.1)
-    (λ write. subst (IsOfCheck c.args.max_lines) write c.in_err-extract.ensures.answers)
+    (λ write. subst (IsOfReadNarrowed c.args.max_lines) write c.in_err-extract.ensures.answers)
 
 pub returns-in_err-canon-clause-normal : goal.returns-in_err-canon-clause-normal
 returns-in_err-canon-clause-normal g c =
@@ -29,7 +30,7 @@ returns-in_err-canon-clause-normal g c =
 
 pub returns-in_err-extract-clause-accepted : goal.returns-in_err-extract-clause-accepted
 returns-in_err-extract-clause-accepted g c =
-    known-accepted c.args.max_lines c.args.asked.now _ (g.R.Read.remaining (reader_of c.read_narrowed.new.source)) c.from_residual.result
+    known-read_accepted c.args.max_lines c.args.asked.now _ (g.R.Read.remaining (reader_of c.read_narrowed.new.source)) c.from_residual.result
     c.in_err-extract.field-0.0 c.from_residual.ensures.1 c.in_err-extract.ensures.fault
 
 pub returns-in_err-canon-clause-fault : goal.returns-in_err-canon-clause-fault
@@ -107,7 +108,8 @@ returns-in_err-write-clause-source g c =
 
 pub returns-in_err-extract-clause-fault : goal.returns-in_err-extract-clause-fault
 returns-in_err-extract-clause-fault g c =
-    rw (at-fault c.from_residual.result c.in_err-extract.field-0.0 c.from_residual.ensures.1) c.in_err-extract.ensures.fault
+    known-read_fault c.args.max_lines c.args.asked.now _ (g.R.Read.remaining (reader_of c.read_narrowed.new.source)) c.from_residual.result
+    c.in_err-extract.field-0.0 c.from_residual.ensures.1 c.in_err-extract.ensures.fault
 
 pub returns-in_err-extract-clause-source : goal.returns-in_err-extract-clause-source
 returns-in_err-extract-clause-source g c =
@@ -116,7 +118,7 @@ returns-in_err-extract-clause-source g c =
 pub returns-in_err-extract-clause-answers : goal.returns-in_err-extract-clause-answers
 returns-in_err-extract-clause-answers g c =
     hands c.from_residual.result c.in_err-extract.field-0.0 c.from_residual.ensures.1 (IsOfNormalise c.args.max_lines)
-    (check-normalise c.args.max_lines c.in_err-extract.field-0.0 c.in_err-extract.ensures.answers)
+    (narrowed-of_check c.args.max_lines c.in_err-extract.field-0.0 c.in_err-extract.ensures.answers).1
 
 pub returns-in_err-write-clause-end : goal.returns-in_err-write-clause-end
 returns-in_err-write-clause-end g c =

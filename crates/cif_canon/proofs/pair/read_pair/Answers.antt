@@ -1,28 +1,26 @@
 -- Each fault is told of known bytes of the left input, and then of the right (`spelled-refused`).
 use Rattle.std.proofs.Common.{◌≢◌, IfErr, inl, inr, refl, subst}
 use Rattle.cif_columns.proofs.GivenLinesLaws.{known_so}
-use Rattle.cif_columns.specs.declared.line_reader.TheConstants.{MAX_LINES}
 use Rattle.cif_extract.specs.ExtractParts.{extract_parts}
-use Rattle.cif_extract.specs.ReadFault.{IsOfReading}
-use Rattle.cif_extract.specs.declared.fault.Fault.TheVariants.{Read, Write}
+use Rattle.cif_extract.specs.declared.fault.Fault.TheVariants.{Read}
 use Rattle.cif_canon.specs.Asked.{IsNarrowingFault}
 use Rattle.cif_canon.proofs.BothRead.{both-read}
 use Rattle.cif_canon.proofs.HandedFaults.{at-fault, hands}
-use Rattle.cif_canon.specs.Pair.{IsCompareRefusal}
+use Rattle.cif_canon.specs.Pair.{IsPairFault}
 use Rattle.cif_canon.proofs.ReadPairs.{are-narrowed, spelled-refused}
 use Rattle.cif_canon.proofs.pair.read_pair.Goals as goal
 
 pub returns-in_err-left-clause-fault : goal.returns-in_err-left-clause-fault
 returns-in_err-left-clause-fault g c =
     let call = c.from_residual in
-    known_so _ _ (λ bytes. IfErr call.result (IsCompareRefusal c.args.asked.now c.args.common bytes _ _ _ _)) (λ bytes fault.
+    known_so _ _ (λ bytes. IfErr call.result (IsPairFault c.args.asked.now c.args.common bytes _ _ _ _)) (λ bytes fault.
     hands call.result c.in_err-left.field-0.0 call.ensures.1 _ (inl (fault, refl)))
     c.in_err-left.ensures.fault
 
 pub returns-in_err-right-clause-fault : goal.returns-in_err-right-clause-fault
 returns-in_err-right-clause-fault g c =
     let call = c.from_residual-in_err-right in
-    known_so _ _ (λ bytes. IfErr call.result (IsCompareRefusal c.args.asked.now c.args.common bytes _ _ _ _)) (λ bytes s.
+    known_so _ _ (λ bytes. IfErr call.result (IsPairFault c.args.asked.now c.args.common bytes _ _ _ _)) (λ bytes s.
     hands call.result c.in_err-right.field-0.0 call.ensures.1 _
     (inr (extract_parts c.in_ok-left.left, s, known_so _ _ _ (λ other fault. inl fault) c.in_err-right.ensures.fault)))
     c.in_ok-left.ensures.ok
@@ -41,7 +39,7 @@ returns-in_err-narrow-2-clause-fault g c =
     known_so _ _ _ (λ bytes s. hands call.result c.in_err-narrow-2.field-0.0 call.ensures.1 _
     (spelled-refused c.args.asked.now c.args.common _ bytes _ _ _ (extract_parts c.in_ok-left.left) (extract_parts c.in_ok-right.right) s
     c.in_ok-right.ensures.ok c.in_err-narrow-2.field-0.0 c.asked_of_both-asked.result c.asked_of_both-asked.ensures
-    (inr (extract_parts c.narrow.new.extract, c.in_ok-narrow.ensures.ok, inl c.in_err-narrow-2.ensures.fault)))) c.in_ok-left.ensures.ok
+    (inr (extract_parts c.narrow.new.extract, c.in_ok-narrow.ensures.ok, c.in_err-narrow-2.ensures.fault)))) c.in_ok-left.ensures.ok
 
 pub returns-clause-ok : goal.returns-clause-ok
 returns-clause-ok g c = record {
@@ -53,32 +51,12 @@ returns-clause-ok g c = record {
       c.in_ok-narrow.ensures.ok c.in_ok-narrow-2.ensures.ok;
 }
 
-pub returns-in_err-left-clause-silent : goal.returns-in_err-left-clause-silent
-returns-in_err-left-clause-silent g c =
-    hands c.from_residual.result c.in_err-left.field-0.0 c.from_residual.ensures.1 (λ f. f ≢ Write)
-    (λ write. subst (IsOfReading MAX_LINES) write c.in_err-left.ensures.answers)
-
-pub returns-in_err-right-clause-silent : goal.returns-in_err-right-clause-silent
-returns-in_err-right-clause-silent g c =
-    hands c.from_residual-in_err-right.result c.in_err-right.field-0.0 c.from_residual-in_err-right.ensures.1 (λ f. f ≢ Write)
-    (λ write. subst (IsOfReading MAX_LINES) write c.in_err-right.ensures.answers)
-
-pub returns-in_err-narrow-clause-silent : goal.returns-in_err-narrow-clause-silent
-returns-in_err-narrow-clause-silent g c =
-    hands c.from_residual-in_err-narrow.result c.in_err-narrow.field-0.0 c.from_residual-in_err-narrow.ensures.1 (λ f. f ≢ Write)
-    (λ write. subst (IsNarrowingFault c.asked_of_both-asked.result c.in_ok-left.left.header) write c.in_err-narrow.ensures.fault)
-
 pub returns-in_err-narrow-clause-sources : goal.returns-in_err-narrow-clause-sources
 returns-in_err-narrow-clause-sources g c =
     let call = c.from_residual-in_err-narrow in
     both-read _ _ _ _ _ call.result (inr (c.in_ok-left.ensures.device, c.in_ok-right.ensures.device))
     (hands call.result c.in_err-narrow.field-0.0 call.ensures.1 (λ f. f ≢ Read)
     (λ read. subst (IsNarrowingFault c.asked_of_both-asked.result c.in_ok-left.left.header) read c.in_err-narrow.ensures.fault))
-
-pub returns-in_err-narrow-2-clause-silent : goal.returns-in_err-narrow-2-clause-silent
-returns-in_err-narrow-2-clause-silent g c =
-    hands c.from_residual-in_err-narrow-2.result c.in_err-narrow-2.field-0.0 c.from_residual-in_err-narrow-2.ensures.1 (λ f. f ≢ Write)
-    (λ write. subst (IsNarrowingFault c.asked_of_both-asked.result c.in_ok-right.right.header) write c.in_err-narrow-2.ensures.fault)
 
 pub returns-in_err-narrow-2-clause-sources : goal.returns-in_err-narrow-2-clause-sources
 returns-in_err-narrow-2-clause-sources g c =
