@@ -21,8 +21,8 @@ use cif_extract::{Extract, Fault, read_extract};
 use cif_weeks::Form;
 use std::alloc::Global;
 
-/// The extracts that a command has read, narrowed to its window. A command with one input leaves it in
-/// `left`; one that judges no calendar leaves none.
+/// The extracts that a command has read, which it leaves to its caller: that of one input in `left`.
+/// `explain` and `clashes`, which report no clash, leave none.
 #[derive(Drop)]
 pub struct Kept {
     pub left: Option<Extract>,
@@ -244,7 +244,7 @@ fn finish<W: WriteDevice>(
 }
 
 /// Writes what the job's command answers of its input, and of `compare` and `diff` of the right one too; the
-/// answer is the status. What it has read is left in `kept`.
+/// answer is the status. The extracts that it has read are left in `kept`.
 pub fn answer<R: ReadDevice, W: WriteDevice>(
     alloc: Global,
     job: &Job,
