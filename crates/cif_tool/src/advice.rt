@@ -98,8 +98,8 @@ fn add_window<R: Files + Input>(input: &ExtractInput<'_, R>, message: &mut Messa
 
 // ---- a clash
 
-/// Adds which records clash, and of which input. The left one is looked at first, as by `compare` and
-/// `differences`; whether one of them has the clash, unless memory ran out.
+/// Adds which records clash, and of which input: the left one is looked at first, as `compare` and
+/// `differences` do. Whether one has the clash; Memory where that isn't known.
 fn add_clash<R: Files + Input>(
     alloc: Global,
     clash: &Clash,
@@ -114,7 +114,8 @@ fn add_clash<R: Files + Input>(
     add_records(alloc, clash, right, &mut kept.right, message)
 }
 
-/// Adds which records of the extract clash; whether there are any.
+/// Adds which records of the clash's key clash in this extract; whether any do. The extract loses those of
+/// other keys.
 fn add_records<R: Files + Input>(
     alloc: Global,
     clash: &Clash,

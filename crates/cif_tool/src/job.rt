@@ -134,7 +134,7 @@ impl JobFault {
         output: &mut Sink<O>,
         errors: &mut Sink<E>,
     ) -> Result<u8, Fault>
-        ensures explains { Explains O.contents O.write_errors E.contents E.write_errors self.now
+        ensures answer { Explains O.contents O.write_errors E.contents E.write_errors self.now
             output.old output.new errors.old errors.new result }
         ensures handed_on { status_of self.now ≡ 0 → IsHandedOn O.holds_nothing output.new result }
     {

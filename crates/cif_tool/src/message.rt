@@ -1,10 +1,11 @@
-//! What is said on standard error beyond the line that names a fault.
+//! A message on standard error: its lines, and what is escaped in it.
 use arrayvec::ArrayString;
 use cif_columns::{Sink, WriteDevice};
 use std::alloc::{AllocError, Global};
 use std::fmt::Write;
 
-/// Lines for the standard error, gathered so that one write takes them.
+/// Lines for the standard error, beyond that which names a fault. They are gathered, so that one write takes
+/// them all.
 #[derive(Drop)]
 pub(crate) struct Message {
     text: Vec<u8>,
