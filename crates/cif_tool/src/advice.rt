@@ -1,184 +1,167 @@
 //! What `--verbose` says on standard error beyond the line that names a fault. It is said when the answer is decided
 //! and changes nothing of it.
-use crate::devices::{AgainInput, ExtractInput, LONGEST, LineAgain, START, line_again};
+use crate::answers::Kept;
+use crate::devices::{ExtractInput, LONGEST, LineAgain, START, line_again};
 use crate::job::JobFault;
-use crate::program::escape;
+use crate::message::Message;
 use crate::refused_columns::{RefusedColumns, columns_refused};
 use crate::words::mistaken_word;
 use arrayvec::ArrayString;
 use cif_canon::explain_view;
-use cif_columns::{Day, LINE_WIDTH, MAX_LINES, Refusal, Sink, Source, Uid, WriteDevice, as_text};
-use cif_extract::{Clash, Extract, Fault, read_extract};
+use cif_columns::{LINE_WIDTH, MAX_LINES, Refusal, Sink, WriteDevice, as_text};
+use cif_extract::{Clash, Extract, Fault};
 use itoa::Buffer;
 use std::alloc::Global;
 use std::rt::Files;
 use std::{io, str};
 
-/// Writes the parts as one line, indented by two spaces. Control characters, which a file's name or an
-/// argument may have, are escaped. That it can't be written changes nothing.
-fn tell<W: WriteDevice>(errors: &mut Sink<W>, parts: &[&str]) {
-    let _ = errors.write_all(b"  ");
-    for part in parts {
-        for c in part.chars() {
-            let _ = errors.write_all(escape(c).as_bytes());
-        }
-    }
-    let _ = errors.write_all(b"\n");
-}
-
-/// Says which input it is about.
-fn tell_input<W: WriteDevice>(errors: &mut Sink<W>, side: &str, name: &str) {
-    tell(errors, &["in ", side, name]);
-}
-
 /// Says more of the answer, or what helps with its fault: `failure` is the system's number of the error
 /// that a write ended with. A job with one input has read nothing of `right`.
-pub(crate) fn advise<'a, 'b, R: Files + Input, W: WriteDevice>(
+pub(crate) fn advise<R: Files + Input, W: WriteDevice>(
+    alloc: Global,
+    answer: &Result<u8, Fault>,
+    failure: Option<i32>,
+    left: &ExtractInput<'_, R>,
+    right: &ExtractInput<'_, R>,
+    kept: &mut Kept,
+    errors: &mut Sink<W>,
+) {
+    let mut message = Message::new(alloc);
+    add_advice(alloc, answer, failure, left, right, kept, &mut message);
+    message.tell(errors);
+}
+
+/// Adds what is said of the answer.
+fn add_advice<'a, 'b, R: Files + Input>(
     alloc: Global,
     answer: &Result<u8, Fault>,
     failure: Option<i32>,
     left: &'a ExtractInput<'b, R>,
     right: &'a ExtractInput<'b, R>,
-    errors: &mut Sink<W>,
+    kept: &mut Kept,
+    message: &mut Message,
 ) {
     let last = if right.is_touched() { right } else { left };
     match answer {
         Ok(_) | Err(Fault::OutsideWindow | Fault::WindowsDiffer) => {
-            tell_window(left, errors);
-            tell_window(right, errors);
+            add_window(left, message);
+            add_window(right, message);
             if let Err(Fault::WindowsDiffer) = answer {
-                tell(errors, &["--common compares the dates that both have"]);
+                message.line(&["--common compares the dates that both have"]);
             }
         }
         Err(Fault::WindowReversed) => {
-            tell(errors, &["the date of --from is after the date of --to"]);
+            message.line(&["the date of --from is after the date of --to"]);
         }
-        Err(Fault::Refused { line, why }) => tell_refusal(last, *line, *why, errors),
-        Err(Fault::Read) => tell_failure(alloc, last.side(), last.name(), last.failure, errors),
-        Err(Fault::Write) => tell_failure(alloc, "", "standard output", failure, errors),
-        Err(Fault::Ambiguous(clash)) => tell_clash(alloc, clash, left, right, errors),
+        Err(Fault::Refused { line, why }) => add_refusal(last, *line, *why, message),
+        Err(Fault::Read) => add_failure(alloc, last.side(), last.name(), last.failure, message),
+        Err(Fault::Write) => add_failure(alloc, "", "standard output", failure, message),
+        Err(Fault::Ambiguous(clash)) => {
+            let _ = add_clash(alloc, clash, left, right, kept, message);
+        }
         Err(Fault::Memory) => {}
     }
 }
 
-/// Says what wasn't read or written, and why if the system told it, by the number of the error.
-fn tell_failure<W: WriteDevice>(
-    alloc: Global,
-    side: &str,
-    name: &str,
-    failure: Option<i32>,
-    errors: &mut Sink<W>,
-) {
+/// Adds which input it is about.
+fn add_input<R: Files + Input>(input: &ExtractInput<'_, R>, message: &mut Message) {
+    message.line(&["in ", input.side(), input.name()]);
+}
+
+/// Adds what wasn't read or written, and why if the system told it, by the number of the error.
+fn add_failure(alloc: Global, side: &str, name: &str, failure: Option<i32>, message: &mut Message) {
     let reason = match failure {
         Some(number) => io::Error::from_raw_os_error(number).to_string(alloc).ok(),
         None => None,
     };
     match reason {
-        Some(reason) => tell(errors, &["in ", side, name, ": ", reason.as_str()]),
-        None => tell_input(errors, side, name),
+        Some(reason) => message.line(&["in ", side, name, ": ", reason.as_str()]),
+        None => message.line(&["in ", side, name]),
     }
 }
 
-/// Says the window of the input, if it begins with a header.
-fn tell_window<R: Files + Input, W: WriteDevice>(
-    input: &ExtractInput<'_, R>,
-    errors: &mut Sink<W>,
-) {
+/// Adds the window of the input, if it begins with a header.
+fn add_window<R: Files + Input>(input: &ExtractInput<'_, R>, message: &mut Message) {
     if let Some(header) = input.header() {
         let first = header.first.to_yymmdd();
         let last = header.last.to_yymmdd();
-        tell(
-            errors,
-            &[
-                input.side(),
-                input.name(),
-                " has the window ",
-                as_text(&first),
-                " to ",
-                as_text(&last),
-            ],
-        );
+        message.line(&[
+            input.side(),
+            input.name(),
+            " has the window ",
+            as_text(&first),
+            " to ",
+            as_text(&last),
+        ]);
     }
 }
 
 // ---- a clash
 
-/// Says which records clash, of the first input that has such and can be read again, or else how to list
-/// them.
-fn tell_clash<R: Files + Input, W: WriteDevice>(
+/// Adds which records clash, and of which input: the left one is looked at first, as `compare` and
+/// `differences` do. Whether one has the clash; Memory where that isn't known.
+fn add_clash<R: Files + Input>(
     alloc: Global,
     clash: &Clash,
     left: &ExtractInput<'_, R>,
     right: &ExtractInput<'_, R>,
-    errors: &mut Sink<W>,
-) {
-    let (uid, day) = match clash {
-        Clash::Association(key, day) => (&key.base, *day),
-        Clash::Train(uid, day) => (uid, *day),
-    };
-    if !tell_records(alloc, uid, day, left, errors)
-        && !tell_records(alloc, uid, day, right, errors)
-    {
-        let uid = uid.write();
-        let date = day.to_yymmdd();
-        tell(
-            errors,
-            &[
-                "to list the records that clash: cif explain '",
-                as_text(&uid),
-                "' ",
-                as_text(&date),
-            ],
-        );
+    kept: &mut Kept,
+    message: &mut Message,
+) -> Result<bool, Fault> {
+    if add_records(alloc, clash, left, &mut kept.left, message)? {
+        return Ok(true);
     }
+    add_records(alloc, clash, right, &mut kept.right, message)
 }
 
-/// Says which records of the train clash on the day, if the input can be read again; the answer is
-/// whether there are any.
-fn tell_records<R: Files + Input, W: WriteDevice>(
+/// Adds which records of the clash's key clash in this extract; whether any do. The extract loses those of
+/// other keys.
+fn add_records<R: Files + Input>(
     alloc: Global,
-    uid: &Uid,
-    day: Day,
+    clash: &Clash,
     input: &ExtractInput<'_, R>,
-    errors: &mut Sink<W>,
-) -> bool {
-    let Some(extract) = extract_again(alloc, input) else {
-        return false;
+    kept: &mut Option<Extract>,
+    message: &mut Message,
+) -> Result<bool, Fault> {
+    let Some(extract) = kept else {
+        return Ok(false);
     };
     let mut view = Sink::new(Vec::new(alloc));
-    match explain_view(alloc, &extract, uid, day, &mut view) {
-        Ok(()) => tell_marked(view.writer().as_slice(), input, errors),
-        Err(_) => false,
+    match clash {
+        Clash::Association(key, day) => {
+            extract.schedules.clear();
+            extract.associations.retain(|one| one.key == *key);
+            explain_view(alloc, extract, &key.base, *day, &mut view)?;
+        }
+        Clash::Train(uid, day) => {
+            extract.associations.clear();
+            extract.schedules.retain(|one| one.uid == *uid);
+            explain_view(alloc, extract, uid, *day, &mut view)?;
+        }
     }
+    Ok(add_clashing(view.writer().as_slice(), input, message))
 }
 
-/// Says those lines of an explanation by the input that are marked as clashes; the answer is whether
-/// there are any.
-fn tell_marked<R: Files + Input, W: WriteDevice>(
+/// Adds those lines of an explanation by the input that are marked as clashes; whether there are any.
+fn add_clashing<R: Files + Input>(
     view: &[u8],
     input: &ExtractInput<'_, R>,
-    errors: &mut Sink<W>,
+    message: &mut Message,
 ) -> bool {
     let mut found = false;
     for line in str::from_utf8(view).unwrap_or("").lines() {
         if line.starts_with("clash ") {
             if !found {
-                tell_input(errors, input.side(), input.name());
+                add_input(input, message);
             }
             found = true;
-            tell(errors, &[line]);
+            message.line(&[line]);
         }
     }
     found
 }
 
-/// The extract, read again from a file.
-fn extract_again<R: Files + Input>(alloc: Global, input: &ExtractInput<'_, R>) -> Option<Extract> {
-    let again = AgainInput {
-        file: input.again()?,
-    };
-    read_extract(alloc, &mut Source::new(again), MAX_LINES).ok()
-}
+// ---- a mistaken word
 
 /// Says which of the words is mistaken, and what it must be.
 pub(crate) fn advise_on_word<W: WriteDevice>(
@@ -193,7 +176,9 @@ pub(crate) fn advise_on_word<W: WriteDevice>(
         JobFault::Usage(_) | JobFault::OneInput | JobFault::Memory => return,
     };
     if let Some(word) = mistaken_word(alloc, words, fault) {
-        tell(errors, &["'", word, must]);
+        let mut message = Message::new(alloc);
+        message.line(&["'", word, must]);
+        message.tell(errors);
     }
 }
 
@@ -205,32 +190,29 @@ const BLANKS: &str =
 const CARETS: &str =
     "^^^^^^^^^^^^^^^^^^^^^^^^^^^^^^^^^^^^^^^^^^^^^^^^^^^^^^^^^^^^^^^^^^^^^^^^^^^^^^^^";
 
-/// Says what is wrong with the line of this number.
-fn tell_refusal<R: Files + Input, W: WriteDevice>(
+/// Adds what is wrong with the line of this number.
+fn add_refusal<R: Files + Input>(
     input: &ExtractInput<'_, R>,
     number: u64,
     why: Refusal,
-    errors: &mut Sink<W>,
+    message: &mut Message,
 ) {
-    tell_input(errors, input.side(), input.name());
+    add_input(input, message);
     let format = if number == 1 {
         format_of(input.start.as_slice())
     } else {
         None
     };
     match (format, why) {
-        (Some(format), _) => tell(errors, &["the input looks like ", format]),
-        (None, Refusal::Truncated) => tell(errors, &["the input ends before its trailer, ZZ"]),
+        (Some(format), _) => message.line(&["the input looks like ", format]),
+        (None, Refusal::Truncated) => message.line(&["the input ends before its trailer, ZZ"]),
         (None, Refusal::TooManyLines) => {
             let mut limit = Buffer::new();
-            tell(
-                errors,
-                &["an extract has at most ", limit.format(MAX_LINES), " lines"],
-            );
+            message.line(&["an extract has at most ", limit.format(MAX_LINES), " lines"]);
         }
         (None, _) => {
             if let Some(line) = refused_line(input, number) {
-                tell_line(&line, why, errors);
+                add_line(&line, why, message);
             }
         }
     }
@@ -273,45 +255,42 @@ fn refused_line<R: Files + Input>(input: &ExtractInput<'_, R>, number: u64) -> O
     }
 }
 
-/// Says the line, which of its columns are refused, and what must stand there.
-fn tell_line<W: WriteDevice>(line: &LineAgain, why: Refusal, errors: &mut Sink<W>) {
-    tell(errors, &[shown(line.bytes.as_slice()).as_str()]);
+/// Adds the line, which of its columns are refused, and what must stand there.
+fn add_line(line: &LineAgain, why: Refusal, message: &mut Message) {
+    message.line(&[shown(line.bytes.as_slice()).as_str()]);
     if why == Refusal::BadLength {
-        tell_length(line.length, line.known, errors);
+        add_length(line.length, line.known, message);
     } else if let Some(refused) = columns_refused(line.bytes.as_slice(), why) {
-        tell_columns(&refused, errors);
+        add_columns(&refused, message);
     }
 }
 
-/// Says which columns are refused, under the line, and what must stand there.
-fn tell_columns<W: WriteDevice>(refused: &RefusedColumns, errors: &mut Sink<W>) {
+/// Adds which columns are refused, under the line, and what must stand there.
+fn add_columns(refused: &RefusedColumns, message: &mut Message) {
     let before = refused.first.saturating_sub(1);
     let blanks = BLANKS.get(..before).unwrap_or("");
     let carets = CARETS.get(before..refused.last).unwrap_or("");
-    tell(errors, &[blanks, carets]);
+    message.line(&[blanks, carets]);
     let mut first = Buffer::new();
     let mut last = Buffer::new();
     let first = first.format(refused.first);
     let last = last.format(refused.last);
     if refused.first == refused.last {
-        tell(errors, &["column ", first, ": ", refused.what]);
+        message.line(&["column ", first, ": ", refused.what]);
     } else {
-        tell(errors, &["columns ", first, "-", last, ": ", refused.what]);
+        message.line(&["columns ", first, "-", last, ": ", refused.what]);
     }
 }
 
-/// Says how long a line is, of which so many bytes are known.
-fn tell_length<W: WriteDevice>(length: usize, known: usize, errors: &mut Sink<W>) {
+/// Adds how long a line is, of which so many bytes are known.
+fn add_length(length: usize, known: usize, message: &mut Message) {
     if length < known {
         let mut columns = Buffer::new();
-        tell(
-            errors,
-            &["the line has ", columns.format(length), " columns, not 80"],
-        );
+        message.line(&["the line has ", columns.format(length), " columns, not 80"]);
     } else if known == LONGEST {
-        tell(errors, &["the line has thousands of columns, not 80"]);
+        message.line(&["the line has thousands of columns, not 80"]);
     } else {
-        tell(errors, &["the line has more than 80 columns"]);
+        message.line(&["the line has more than 80 columns"]);
     }
 }
 

@@ -17,10 +17,17 @@ use cif_canon::{
     write_comparison, write_counts,
 };
 use cif_columns::{Day, MAX_LINES, ReadDevice, Sink, Source, Uid, WriteDevice};
-use cif_extract::{Fault, read_extract};
+use cif_extract::{Extract, Fault, read_extract};
 use cif_weeks::Form;
 use std::alloc::Global;
-use std::mem;
+
+/// The extracts that a command has read, which it leaves to its caller: that of one input in `left`.
+/// `explain` and `clashes`, which report no clash, leave none.
+#[derive(Drop)]
+pub struct Kept {
+    pub left: Option<Extract>,
+    pub right: Option<Extract>,
+}
 
 /// Writes the canonical extract of what the source gives, and answers status 0.
 pub fn answer_normalise<R: ReadDevice, W: WriteDevice>(
@@ -29,6 +36,7 @@ pub fn answer_normalise<R: ReadDevice, W: WriteDevice>(
     sink: &mut Sink<W>,
     asked: &Asked,
     form: Form,
+    kept: &mut Option<Extract>,
 ) -> Result<u8, Fault>
     ensures answer { Answers W.contents W.write_errors
         (OfInput R.remaining (IsNormaliseAnswer form asked.now) source.old)
@@ -39,10 +47,7 @@ pub fn answer_normalise<R: ReadDevice, W: WriteDevice>(
     ensures end { LeavesNothing R.remaining source.old source.new result }
     ensures handed_on { IsHandedOn W.holds_nothing sink.new result }
 {
-    let mut kept = None;
-    normalise_keeping(alloc, source, sink, MAX_LINES, asked, form, &mut kept)?;
-    // The process ends after this: the system takes back the memory of all bodies at once.
-    mem::forget(kept);
+    normalise_keeping(alloc, source, sink, MAX_LINES, asked, form, kept)?;
     finish(Ok(()), sink, DONE)
 }
 
@@ -54,6 +59,7 @@ pub fn answer_check<R: ReadDevice, W: WriteDevice>(
     sink: &mut Sink<W>,
     asked: &Asked,
     form: Form,
+    kept: &mut Option<Extract>,
 ) -> Result<u8, Fault>
     ensures answer { Answers W.contents W.write_errors
         (OfInput R.remaining (IsCheckAnswer form asked.now) source.old)
@@ -64,9 +70,7 @@ pub fn answer_check<R: ReadDevice, W: WriteDevice>(
     ensures end { LeavesNothing R.remaining source.old source.new result }
     ensures handed_on { IsHandedOn W.holds_nothing sink.new result }
 {
-    let mut kept = None;
-    let counts = check_keeping(alloc, source, MAX_LINES, asked, form, &mut kept)?;
-    mem::forget(kept);
+    let counts = check_keeping(alloc, source, MAX_LINES, asked, form, kept)?;
     let written = write_counts(&counts, sink).map_err(Fault::from);
     finish(written, sink, DONE)
 }
@@ -80,6 +84,7 @@ pub fn answer_compare<R: ReadDevice, W: WriteDevice>(
     sink: &mut Sink<W>,
     asked: &Asked,
     common: bool,
+    kept: &mut Kept,
 ) -> Result<u8, Fault>
     ensures answer { Answers W.contents W.write_errors
         (OfBoth R.remaining (IsCompareAnswer asked.now common) left.old right.old)
@@ -92,7 +97,9 @@ pub fn answer_compare<R: ReadDevice, W: WriteDevice>(
     ensures handed_on { IsHandedOn W.holds_nothing sink.new result }
 {
     let (left, right) = read_pair(alloc, left, right, asked, common)?;
-    let comparison = compare(alloc, &left, &right)?;
+    let left = kept.left.insert(left);
+    let right = kept.right.insert(right);
+    let comparison = compare(alloc, left, right)?;
     let written = write_comparison(&comparison, sink).map_err(Fault::from);
     finish(written, sink, outcome(&comparison))
 }
@@ -106,6 +113,7 @@ pub fn answer_diff<R: ReadDevice, W: WriteDevice>(
     sink: &mut Sink<W>,
     asked: &Asked,
     common: bool,
+    kept: &mut Kept,
 ) -> Result<u8, Fault>
     ensures answer { Answers W.contents W.write_errors
         (OfBoth R.remaining (IsDiffAnswer asked.now common) left.old right.old)
@@ -118,7 +126,9 @@ pub fn answer_diff<R: ReadDevice, W: WriteDevice>(
     ensures handed_on { IsHandedOn W.holds_nothing sink.new result }
 {
     let (left, right) = read_pair(alloc, left, right, asked, common)?;
-    let found = differences(alloc, &left, &right)?;
+    let left = kept.left.insert(left);
+    let right = kept.right.insert(right);
+    let found = differences(alloc, left, right)?;
     finish(found.write(sink), sink, listed(found.is_empty()))
 }
 
@@ -129,6 +139,7 @@ pub fn answer_day<R: ReadDevice, W: WriteDevice>(
     sink: &mut Sink<W>,
     day: Day,
     layout: Layout,
+    kept: &mut Option<Extract>,
 ) -> Result<u8, Fault>
     ensures answer { Answers W.contents W.write_errors
         (OfInput R.remaining (IsDayAnswer layout day) source.old)
@@ -139,7 +150,8 @@ pub fn answer_day<R: ReadDevice, W: WriteDevice>(
     ensures handed_on { IsHandedOn W.holds_nothing sink.new result }
 {
     let extract = read_extract(alloc, source, MAX_LINES)?;
-    finish(day_listing(alloc, &extract, day, sink, layout), sink, DONE)
+    let extract = kept.insert(extract);
+    finish(day_listing(alloc, extract, day, sink, layout), sink, DONE)
 }
 
 /// Writes when the train runs, in this layout, and answers status 0.
@@ -151,6 +163,7 @@ pub fn answer_train<R: ReadDevice, W: WriteDevice>(
     asked: &Asked,
     form: Form,
     layout: Layout,
+    kept: &mut Option<Extract>,
 ) -> Result<u8, Fault>
     ensures answer { Answers W.contents W.write_errors
         (OfInput R.remaining (IsTrainAnswer layout form asked.now uid.now) source.old)
@@ -162,8 +175,9 @@ pub fn answer_train<R: ReadDevice, W: WriteDevice>(
     ensures handed_on { IsHandedOn W.holds_nothing sink.new result }
 {
     let extract = read_narrowed(alloc, source, MAX_LINES, asked)?;
+    let extract = kept.insert(extract);
     finish(
-        train_listing(alloc, &extract, uid, sink, form, layout),
+        train_listing(alloc, extract, uid, sink, form, layout),
         sink,
         DONE,
     )
@@ -230,13 +244,14 @@ fn finish<W: WriteDevice>(
 }
 
 /// Writes what the job's command answers of its input, and of `compare` and `diff` of the right one too; the
-/// answer is the status.
+/// answer is the status. The extracts that it has read are left in `kept`.
 pub fn answer<R: ReadDevice, W: WriteDevice>(
     alloc: Global,
     job: &Job,
     source: &mut Source<R>,
     right: &mut Source<R>,
     sink: &mut Sink<W>,
+    kept: &mut Kept,
 ) -> Result<u8, Fault>
     ensures answer { Answers W.contents W.write_errors
         (IsJobAnswer R.remaining job.now source.old right.old) sink.old sink.new result }
@@ -251,36 +266,45 @@ pub fn answer<R: ReadDevice, W: WriteDevice>(
             file: _,
             asked,
             form,
-        } => answer_normalise(alloc, source, sink, asked, *form),
+        } => answer_normalise(alloc, source, sink, asked, *form, &mut kept.left),
         Job::Check {
             file: _,
             asked,
             form,
-        } => answer_check(alloc, source, sink, asked, *form),
+        } => answer_check(alloc, source, sink, asked, *form, &mut kept.left),
         Job::Compare {
             left: _,
             right: _,
             asked,
             common,
-        } => answer_compare(alloc, source, right, sink, asked, *common),
+        } => answer_compare(alloc, source, right, sink, asked, *common, kept),
         Job::Diff {
             left: _,
             right: _,
             asked,
             common,
-        } => answer_diff(alloc, source, right, sink, asked, *common),
+        } => answer_diff(alloc, source, right, sink, asked, *common, kept),
         Job::Day {
             day,
             file: _,
             layout,
-        } => answer_day(alloc, source, sink, *day, *layout),
+        } => answer_day(alloc, source, sink, *day, *layout, &mut kept.left),
         Job::Train {
             uid,
             file: _,
             asked,
             form,
             layout,
-        } => answer_train(alloc, source, sink, uid, asked, *form, *layout),
+        } => answer_train(
+            alloc,
+            source,
+            sink,
+            uid,
+            asked,
+            *form,
+            *layout,
+            &mut kept.left,
+        ),
         Job::Explain {
             uid,
             day,

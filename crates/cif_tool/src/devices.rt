@@ -107,7 +107,8 @@ impl<R: Files + Input> Device<'_, R> {
                 count
             }
             Device::Named { files, name } => {
-                let mut file = fs::open(*files, *name)?;
+                // A copy never has the descriptor of a standard stream, of which one may be closed.
+                let mut file = fs::open(*files, *name)?.try_clone()?;
                 let count = file.read(buf);
                 *self = Device::Opened(file);
                 count
@@ -133,24 +134,6 @@ impl<R: Files + Input> Read for ExtractInput<'_, R> {
 }
 
 impl<R: Files + Input> ReadDevice for ExtractInput<'_, R> {
-    fn read_once(&mut self, buf: &mut [u8]) -> io::Result<usize> {
-        self.read(buf)
-    }
-}
-
-/// A file that is read again.
-#[derive(Drop)]
-pub(crate) struct AgainInput<F: Read + Drop> {
-    pub(crate) file: F,
-}
-
-impl<F: Read + Drop> Read for AgainInput<F> {
-    fn read(&mut self, buf: &mut [u8]) -> io::Result<usize> {
-        self.file.read(buf)
-    }
-}
-
-impl<F: Read + Drop> ReadDevice for AgainInput<F> {
     fn read_once(&mut self, buf: &mut [u8]) -> io::Result<usize> {
         self.read(buf)
     }

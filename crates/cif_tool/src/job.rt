@@ -2,6 +2,7 @@
 ghost use Rattle.std.specs.Prelude.{◌≡◌, ◌<◌, ◌++◌, ◌∷◌, [], IfSome, option_map, length};
 ghost use Rattle.cif_tool.specs.declared.job.TheConstants.{LONGEST_LINE};
 
+use crate::message::escaped;
 use crate::status::{DONE, FAILED, MISTAKEN};
 use arrayvec::ArrayString;
 use cif_canon::{Asked, Format, Layout};
@@ -121,6 +122,7 @@ impl From<AllocError> for JobFault {
 }
 
 impl JobFault {
+    ghost use Rattle.cif_tool.specs.Answer.{IsHandedOn};
     ghost use Rattle.cif_tool.specs.JobFault.{Explains, status_of, text_of};
 
     /// Says why the arguments ask for nothing, and answers the status. Help and the version go to
@@ -132,13 +134,14 @@ impl JobFault {
         output: &mut Sink<O>,
         errors: &mut Sink<E>,
     ) -> Result<u8, Fault>
-        ensures { Explains O.contents O.write_errors E.contents E.write_errors self.now
+        ensures answer { Explains O.contents O.write_errors E.contents E.write_errors self.now
             output.old output.new errors.old errors.new result }
+        ensures handed_on { status_of self.now ≡ 0 → IsHandedOn O.holds_nothing output.new result }
     {
         let status = self.status();
         match self {
             JobFault::Usage(error) => {
-                let Ok(text) = error.to_string(alloc) else {
+                let Ok(text) = text_of_error(alloc, error) else {
                     return Err(Fault::Memory);
                 };
                 if status == DONE {
@@ -185,6 +188,11 @@ impl JobFault {
             JobFault::Memory => Some("cif: Memory"),
         }
     }
+}
+
+/// The text of `clap`, which may have words of the call, with what hides or turns text escaped.
+fn text_of_error(alloc: Global, error: &clap::Error) -> Result<String, AllocError> {
+    escaped(alloc, error.to_string(alloc)?.as_str())
 }
 
 /// The text as a line.

@@ -7,6 +7,7 @@ mod command_line;
 mod devices;
 mod help;
 mod job;
+mod message;
 mod program;
 mod refused_columns;
 mod status;

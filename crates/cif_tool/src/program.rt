@@ -1,15 +1,14 @@
 //! From the words of the process to its status. No clause says what is done here: the rows of `tests/`
 //! show it on the built program.
 use crate::advice::{advise, advise_on_word};
-use crate::answers::answer;
+use crate::answers::{Kept, answer};
 use crate::devices::{ExtractInput, Output};
 use crate::job::{Job, JobFault};
 use crate::status::{MISTAKEN, end};
 use crate::words::job_of;
-use arrayvec::ArrayString;
 use cif_columns::{ReadDevice, Sink, Source, WriteDevice};
 use cif_extract::Fault;
-use std::alloc::{AllocError, Global};
+use std::alloc::Global;
 use std::env::Env;
 use std::io::{BufWriter, ErrorKind};
 use std::rt::Files;
@@ -65,15 +64,12 @@ fn refused<R: Env + Print + AllocGlobal, W: WriteDevice>(
     verbose: bool,
     errors: &mut Sink<W>,
 ) -> u8 {
-    let Ok(words) = words_of(rt) else {
-        return end(&Err(Fault::Memory), errors);
-    };
-    let words = words.as_slice();
-    let fault = escaped(rt.alloc(), words, &fault).unwrap_or(fault);
     let answer = explained(rt.alloc(), &fault, io::writer(rt), errors);
     let status = end(&answer, errors);
     if verbose {
-        advise_on_word(rt.alloc(), words, &fault, errors);
+        if let Ok(words) = words_of(rt) {
+            advise_on_word(rt.alloc(), words.as_slice(), &fault, errors);
+        }
     }
     status
 }
@@ -116,7 +112,11 @@ fn done<R: Files + Input + Print + AllocGlobal, W: WriteDevice>(
         writer: io::writer(rt),
         failure: &mut failure,
     };
-    let answer = answered(alloc, job, &mut left, &mut right, output);
+    let mut kept = Kept {
+        left: None,
+        right: None,
+    };
+    let answer = answered(alloc, job, &mut left, &mut right, output, &mut kept);
     let status = end(&answer, errors);
     if verbose {
         advise(
@@ -125,9 +125,12 @@ fn done<R: Files + Input + Print + AllocGlobal, W: WriteDevice>(
             failure,
             left.reader(),
             right.reader(),
+            &mut kept,
             errors,
         );
     }
+    // The process ends after this: the system takes back the memory of all bodies at once.
+    mem::forget(kept);
     status
 }
 
@@ -138,11 +141,12 @@ fn answered<R: ReadDevice, W: WriteDevice + Drop>(
     left: &mut Source<R>,
     right: &mut Source<R>,
     output: W,
+    kept: &mut Kept,
 ) -> Result<u8, Fault> {
     match BufWriter::with_capacity(alloc, OUTPUT_BUFFER, output) {
         Ok(output) => {
             let mut output = Sink::new(output);
-            let answer = answer(alloc, job, left, right, &mut output);
+            let answer = answer(alloc, job, left, right, &mut output, kept);
             // A `BufWriter` that is dropped writes what it holds, also after a failure.
             mem::forget(output);
             answer
@@ -168,51 +172,4 @@ fn explained<O: WriteDevice + Drop, W: WriteDevice>(
         }
         Err(_) => Err(Fault::Memory),
     }
-}
-
-/// Why the words are mistaken with their control characters escaped, if they have some: `clap`'s text
-/// has the words. Escaped words are mistaken in the same way.
-fn escaped(alloc: Global, words: &[String], fault: &JobFault) -> Option<JobFault> {
-    if fault.status() != MISTAKEN {
-        return None;
-    }
-    match escaped_words(alloc, words) {
-        Ok(shown) if shown.as_slice() != words => job_of(alloc, shown).err(),
-        Ok(_) => None,
-        Err(_) => Some(JobFault::Memory),
-    }
-}
-
-/// The character, or what stands for it if it is a control character: as `\t` and `\x1b`.
-pub(crate) fn escape(c: char) -> ArrayString<4> {
-    let mut shown = ArrayString::new();
-    match c {
-        '\t' => shown.push_str("\\t"),
-        '\n' => shown.push_str("\\n"),
-        '\r' => shown.push_str("\\r"),
-        _ if c.is_control() => {
-            shown.push_str("\\x");
-            let code = u32::from(c);
-            for digit in [code / 16, code % 16] {
-                let _ = shown.try_push(char::from_digit(digit, 16).unwrap_or('?'));
-            }
-        }
-        _ => {
-            let _ = shown.try_push(c);
-        }
-    }
-    shown
-}
-
-/// The words, of which each control character is escaped.
-fn escaped_words(alloc: Global, words: &[String]) -> Result<Vec<String>, AllocError> {
-    let mut shown = Vec::new(alloc);
-    for word in words {
-        let mut text = String::new(alloc);
-        for c in word.as_str().chars() {
-            text.push_str(escape(c).as_str())?;
-        }
-        shown.push(text)?;
-    }
-    Ok(shown)
 }

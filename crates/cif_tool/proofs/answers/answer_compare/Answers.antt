@@ -26,8 +26,8 @@ pub returns-in_err-comparison-clause-answer : goal.returns-in_err-comparison-cla
 returns-in_err-comparison-clause-answer g c =
     let call = c.from_residual-in_err-comparison in
     let f = c.in_err-comparison.field-0.0 in
-    let x = extract_parts c.in_ok-left.left in
-    let y = extract_parts c.in_ok-left.right in
+    let x = extract_parts c.insert-left.result.now in
+    let y = extract_parts c.insert-right.result.now in
     fails-silently _ _ _ c.args.sink.now call.result f (at-fault call.result f call.ensures.1)
     (λ write. subst (IsCompareFault x y) write c.in_err-comparison.ensures.fault)
 
@@ -35,14 +35,14 @@ pub returns-in_err-comparison-clause-fault : goal.returns-in_err-comparison-clau
 returns-in_err-comparison-clause-fault g c =
     let call = c.from_residual-in_err-comparison in
     let f = c.in_err-comparison.field-0.0 in
-    compare-refused c.args.asked.now c.args.common _ _ (extract_parts c.in_ok-left.left) (extract_parts c.in_ok-left.right)
-    c.in_ok-left.ensures.ok _ _ _ call.result f (hands call.result f call.ensures.1) (inl c.in_err-comparison.ensures.fault)
+    compare-refused c.args.asked.now c.args.common _ _ (extract_parts c.insert-left.result.now) (extract_parts c.insert-right.result.now)
+    (rw (← c.insert-left.ensures.value, ← c.insert-right.ensures.value) at c.in_ok-left.ensures.ok) _ _ _ call.result f (hands call.result f call.ensures.1) (inl c.in_err-comparison.ensures.fault)
 
 pub returns-in_err-comparison-clause-sources : goal.returns-in_err-comparison-clause-sources
 returns-in_err-comparison-clause-sources g c =
     let call = c.from_residual-in_err-comparison in
-    let x = extract_parts c.in_ok-left.left in
-    let y = extract_parts c.in_ok-left.right in
+    let x = extract_parts c.insert-left.result.now in
+    let y = extract_parts c.insert-right.result.now in
     both-read _ _ _ _ _ call.result c.in_ok-left.ensures.sources
     (hands call.result c.in_err-comparison.field-0.0 call.ensures.1 (λ f. f ≢ Read)
     (λ read. subst (IsCompareFault x y) read c.in_err-comparison.ensures.fault))
@@ -54,15 +54,15 @@ returns-clause-answer g c =
     let made = c.in_ok-comparison.comparison in
     handed-text _ _ _ _ (comparison_line made) (outcome_of made) _ c.outcome.result call.result c.write_comparison.new.sink
     c.finish.new.sink c.finish.result c.outcome.ensures told.0 told.1
-    (compare-answer c.args.asked.now c.args.common _ _ (extract_parts c.in_ok-left.left) (extract_parts c.in_ok-left.right)
-    c.in_ok-left.ensures.ok made c.in_ok-comparison.ensures.ok) c.finish.ensures.finishes
+    (compare-answer c.args.asked.now c.args.common _ _ (extract_parts c.insert-left.result.now) (extract_parts c.insert-right.result.now)
+    (rw (← c.insert-left.ensures.value, ← c.insert-right.ensures.value) at c.in_ok-left.ensures.ok) made c.in_ok-comparison.ensures.ok) c.finish.ensures.finishes
 
 pub returns-clause-fault : goal.returns-clause-fault
 returns-clause-fault g c =
     let call = c.map_err-written in
     let told = told-as _ _ _ _ _ _ _ c.write_comparison.result call.result call.ensures.cases c.write_comparison.ensures in
-    compare-refused c.args.asked.now c.args.common _ _ (extract_parts c.in_ok-left.left) (extract_parts c.in_ok-left.right)
-    c.in_ok-left.ensures.ok _ _ _ c.finish.result Write
+    compare-refused c.args.asked.now c.args.common _ _ (extract_parts c.insert-left.result.now) (extract_parts c.insert-right.result.now)
+    (rw (← c.insert-left.ensures.value, ← c.insert-right.ensures.value) at c.in_ok-left.ensures.ok) _ _ _ c.finish.result Write
     (λ P q. only-fails _ _ _ P c.outcome.result call.result c.write_comparison.new.sink c.finish.new.sink c.finish.result told.1 q
     c.finish.ensures.finishes) (inr refl)
 

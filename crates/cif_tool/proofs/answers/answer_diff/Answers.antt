@@ -27,8 +27,8 @@ pub returns-in_err-found-clause-answer : goal.returns-in_err-found-clause-answer
 returns-in_err-found-clause-answer g c =
     let call = c.from_residual-in_err-found in
     let f = c.in_err-found.field-0.0 in
-    let x = extract_parts c.in_ok-left.left in
-    let y = extract_parts c.in_ok-left.right in
+    let x = extract_parts c.insert-left.result.now in
+    let y = extract_parts c.insert-right.result.now in
     fails-silently _ _ _ c.args.sink.now call.result f (at-fault call.result f call.ensures.1)
     (λ write. subst (IsCompareFault x y) write c.in_err-found.ensures.fault)
 
@@ -36,14 +36,14 @@ pub returns-in_err-found-clause-fault : goal.returns-in_err-found-clause-fault
 returns-in_err-found-clause-fault g c =
     let call = c.from_residual-in_err-found in
     let f = c.in_err-found.field-0.0 in
-    compare-refused c.args.asked.now c.args.common _ _ (extract_parts c.in_ok-left.left) (extract_parts c.in_ok-left.right)
-    c.in_ok-left.ensures.ok _ _ _ call.result f (hands call.result f call.ensures.1) (inl c.in_err-found.ensures.fault)
+    compare-refused c.args.asked.now c.args.common _ _ (extract_parts c.insert-left.result.now) (extract_parts c.insert-right.result.now)
+    (rw (← c.insert-left.ensures.value, ← c.insert-right.ensures.value) at c.in_ok-left.ensures.ok) _ _ _ call.result f (hands call.result f call.ensures.1) (inl c.in_err-found.ensures.fault)
 
 pub returns-in_err-found-clause-sources : goal.returns-in_err-found-clause-sources
 returns-in_err-found-clause-sources g c =
     let call = c.from_residual-in_err-found in
-    let x = extract_parts c.in_ok-left.left in
-    let y = extract_parts c.in_ok-left.right in
+    let x = extract_parts c.insert-left.result.now in
+    let y = extract_parts c.insert-right.result.now in
     both-read _ _ _ _ _ call.result c.in_ok-left.ensures.sources
     (hands call.result c.in_err-found.field-0.0 call.ensures.1 (λ f. f ≢ Read)
     (λ read. subst (IsCompareFault x y) read c.in_err-found.ensures.fault))
@@ -54,13 +54,13 @@ returns-clause-answer g c =
     let none = c.is_empty.result in
     handed-text _ _ _ _ (differences_text made) (listed_status none) _ c.listed.result c.write.result c.write.new.sink
     c.finish.new.sink c.finish.result c.listed.ensures c.write.ensures.writes c.write.ensures.fault
-    (diff-answer c.args.asked.now c.args.common _ _ (extract_parts c.in_ok-left.left) (extract_parts c.in_ok-left.right)
-    c.in_ok-left.ensures.ok made none c.in_ok-found.ensures.ok c.is_empty.ensures) c.finish.ensures.finishes
+    (diff-answer c.args.asked.now c.args.common _ _ (extract_parts c.insert-left.result.now) (extract_parts c.insert-right.result.now)
+    (rw (← c.insert-left.ensures.value, ← c.insert-right.ensures.value) at c.in_ok-left.ensures.ok) made none c.in_ok-found.ensures.ok c.is_empty.ensures) c.finish.ensures.finishes
 
 pub returns-clause-fault : goal.returns-clause-fault
 returns-clause-fault g c =
-    compare-refused c.args.asked.now c.args.common _ _ (extract_parts c.in_ok-left.left) (extract_parts c.in_ok-left.right)
-    c.in_ok-left.ensures.ok _ _ _ c.finish.result Write
+    compare-refused c.args.asked.now c.args.common _ _ (extract_parts c.insert-left.result.now) (extract_parts c.insert-right.result.now)
+    (rw (← c.insert-left.ensures.value, ← c.insert-right.ensures.value) at c.in_ok-left.ensures.ok) _ _ _ c.finish.result Write
     (λ P q. only-fails _ _ _ P c.listed.result c.write.result c.write.new.sink c.finish.new.sink c.finish.result c.write.ensures.fault q
     c.finish.ensures.finishes) (inr refl)
 

@@ -31,22 +31,22 @@ returns-clause-answer g c =
     let call = c.train_listing in
     let view = call.ensures.view in
     handed _ _ _ _ view.0 0 _ call.result call.new.sink c.finish.new.sink c.finish.result view.1
-    (written-then _ _ _ call.result (train-answer _ c.args.asked.now (extract_parts c.in_ok-extract.extract) c.in_ok-extract.ensures.ok
+    (written-then _ _ _ call.result (train-answer _ c.args.asked.now (extract_parts c.insert-extract.result.now) (rw (← c.insert-extract.ensures.value) at c.in_ok-extract.ensures.ok)
     c.args.layout c.args.form c.args.uid.now view.0) view.2) c.finish.ensures.finishes
 
 pub returns-clause-fault : goal.returns-clause-fault
 returns-clause-fault g c =
     let after = g.R.Read.remaining (reader_of c.read_narrowed.new.source) in
-    let x = extract_parts c.in_ok-extract.extract in
+    let x = extract_parts c.insert-extract.result.now in
     let call = c.train_listing in
     known_so _ _ _ (λ bytes spelled.
     handed-fault _ _ _ (IsTrainFault x) (IsNormaliseFault MAX_LINES c.args.asked.now bytes after) 0 call.result call.new.sink
     c.finish.new.sink c.finish.result (train-fault MAX_LINES c.args.asked.now bytes after x spelled) call.ensures.fault
-    (written-then _ _ _ call.result (λ view. tt) call.ensures.view.2) c.finish.ensures.finishes) c.in_ok-extract.ensures.ok
+    (written-then _ _ _ call.result (λ view. tt) call.ensures.view.2) c.finish.ensures.finishes) (rw (← c.insert-extract.ensures.value) at c.in_ok-extract.ensures.ok)
 
 pub returns-clause-source : goal.returns-clause-source
 returns-clause-source g c =
-    let x = extract_parts c.in_ok-extract.extract in
+    let x = extract_parts c.insert-extract.result.now in
     let call = c.train_listing in
     read-on _ _ _ c.finish.result
     (handed-fault _ _ _ (IsTrainFault x) (λ f. f ≢ Read) 0 call.result call.new.sink c.finish.new.sink c.finish.result

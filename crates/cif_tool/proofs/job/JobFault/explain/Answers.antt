@@ -24,8 +24,8 @@ own-status BadUid other zero = absurd (omega (arith, zero))
 own-status OneInput other zero = absurd (omega (arith, zero))
 own-status Memory other zero = absurd (omega (arith, zero))
 
-pub returns-in_err-flush-in-Usage : goal.returns-in_err-flush-in-Usage
-returns-in_err-flush-in-Usage g c =
+pub returns-in_err-flush-in-Usage-clause-answer : goal.returns-in_err-flush-in-Usage-clause-answer
+returns-in_err-flush-in-Usage-clause-answer g c =
     let call = c.from_residual-in_err-flush-in-Usage in
     let text = c.as_bytes.result.now in
     let p = err_from_is_err_and call.result call.ensures.1 in
@@ -35,8 +35,8 @@ returns-in_err-flush-in-Usage g c =
     c.args.output.now c.flush.new.self c.args.errors.now c.args.errors.now) (sym (p.1 ∙ ap Err p.2))
     (sym c.status-status.ensures ∙ c.if-status-eq-DONE.true, refl, (text ++ [], failed))
 
-pub returns-in-Usage : goal.returns-in-Usage
-returns-in-Usage g c = (
+pub returns-in-Usage-clause-answer : goal.returns-in-Usage-clause-answer
+returns-in-Usage-clause-answer g c = (
   c.status-status.ensures,
   λ zero. absurd (c.if-status-eq-DONE.false (c.status-status.ensures ∙ zero)),
   λ some. record {
@@ -48,8 +48,8 @@ returns-in-Usage g c = (
   },
 )
 
-pub returns : goal.returns
-returns g c = (
+pub returns-clause-answer : goal.returns-clause-answer
+returns-clause-answer g c = (
   c.status-status.ensures,
   λ zero. absurd (own-status c.args.self.now c.in_default.not-Usage zero),
   λ some. record {
@@ -63,3 +63,9 @@ returns g c = (
     silent = refl;
   },
 )
+
+pub returns-in-Usage-clause-handed_on : goal.returns-in-Usage-clause-handed_on
+returns-in-Usage-clause-handed_on g c = λ zero. absurd (c.if-status-eq-DONE.false (c.status-status.ensures ∙ zero))
+
+pub returns-clause-handed_on : goal.returns-clause-handed_on
+returns-clause-handed_on g c = λ zero. absurd (own-status c.args.self.now c.in_default.not-Usage zero)
