@@ -1,4 +1,5 @@
 -- A fault after both are read is told by `compare-refused`, and the text by `compare-answer`; `both-read` says what became of the sources.
+-- `read`: what was read, of the extracts that are kept.
 use Rattle.std.proofs.Common.{◌≢◌, inl, inr, refl, subst}
 use Rattle.cif_columns.specs.declared.line_reader.TheConstants.{MAX_LINES}
 use Rattle.cif_extract.specs.ExtractParts.{extract_parts}
@@ -33,10 +34,13 @@ returns-in_err-comparison-clause-answer g c =
 
 pub returns-in_err-comparison-clause-fault : goal.returns-in_err-comparison-clause-fault
 returns-in_err-comparison-clause-fault g c =
+    let read = rw (← c.insert-left.ensures.value, ← c.insert-right.ensures.value) at c.in_ok-left.ensures.ok in
+    let x = extract_parts c.insert-left.result.now in
+    let y = extract_parts c.insert-right.result.now in
     let call = c.from_residual-in_err-comparison in
     let f = c.in_err-comparison.field-0.0 in
-    compare-refused c.args.asked.now c.args.common _ _ (extract_parts c.insert-left.result.now) (extract_parts c.insert-right.result.now)
-    (rw (← c.insert-left.ensures.value, ← c.insert-right.ensures.value) at c.in_ok-left.ensures.ok) _ _ _ call.result f (hands call.result f call.ensures.1) (inl c.in_err-comparison.ensures.fault)
+    compare-refused c.args.asked.now c.args.common _ _ x y read _ _ _ call.result f (hands call.result f call.ensures.1)
+    (inl c.in_err-comparison.ensures.fault)
 
 pub returns-in_err-comparison-clause-sources : goal.returns-in_err-comparison-clause-sources
 returns-in_err-comparison-clause-sources g c =
@@ -49,20 +53,24 @@ returns-in_err-comparison-clause-sources g c =
 
 pub returns-clause-answer : goal.returns-clause-answer
 returns-clause-answer g c =
+    let read = rw (← c.insert-left.ensures.value, ← c.insert-right.ensures.value) at c.in_ok-left.ensures.ok in
+    let x = extract_parts c.insert-left.result.now in
+    let y = extract_parts c.insert-right.result.now in
     let call = c.map_err-written in
     let told = told-as _ _ _ _ _ _ _ c.write_comparison.result call.result call.ensures.cases c.write_comparison.ensures in
     let made = c.in_ok-comparison.comparison in
     handed-text _ _ _ _ (comparison_line made) (outcome_of made) _ c.outcome.result call.result c.write_comparison.new.sink
     c.finish.new.sink c.finish.result c.outcome.ensures told.0 told.1
-    (compare-answer c.args.asked.now c.args.common _ _ (extract_parts c.insert-left.result.now) (extract_parts c.insert-right.result.now)
-    (rw (← c.insert-left.ensures.value, ← c.insert-right.ensures.value) at c.in_ok-left.ensures.ok) made c.in_ok-comparison.ensures.ok) c.finish.ensures.finishes
+    (compare-answer c.args.asked.now c.args.common _ _ x y read made c.in_ok-comparison.ensures.ok) c.finish.ensures.finishes
 
 pub returns-clause-fault : goal.returns-clause-fault
 returns-clause-fault g c =
+    let read = rw (← c.insert-left.ensures.value, ← c.insert-right.ensures.value) at c.in_ok-left.ensures.ok in
+    let x = extract_parts c.insert-left.result.now in
+    let y = extract_parts c.insert-right.result.now in
     let call = c.map_err-written in
     let told = told-as _ _ _ _ _ _ _ c.write_comparison.result call.result call.ensures.cases c.write_comparison.ensures in
-    compare-refused c.args.asked.now c.args.common _ _ (extract_parts c.insert-left.result.now) (extract_parts c.insert-right.result.now)
-    (rw (← c.insert-left.ensures.value, ← c.insert-right.ensures.value) at c.in_ok-left.ensures.ok) _ _ _ c.finish.result Write
+    compare-refused c.args.asked.now c.args.common _ _ x y read _ _ _ c.finish.result Write
     (λ P q. only-fails _ _ _ P c.outcome.result call.result c.write_comparison.new.sink c.finish.new.sink c.finish.result told.1 q
     c.finish.ensures.finishes) (inr refl)
 

@@ -1,4 +1,5 @@
 -- A fault after both are read is told by `compare-refused`, and the text by `diff-answer`; `both-read` says what became of the sources.
+-- `read`: what was read, of the extracts that are kept.
 use Rattle.std.proofs.Common.{◌≢◌, inl, inr, refl, subst}
 use Rattle.cif_columns.specs.declared.line_reader.TheConstants.{MAX_LINES}
 use Rattle.cif_extract.specs.ExtractParts.{extract_parts}
@@ -34,10 +35,13 @@ returns-in_err-found-clause-answer g c =
 
 pub returns-in_err-found-clause-fault : goal.returns-in_err-found-clause-fault
 returns-in_err-found-clause-fault g c =
+    let read = rw (← c.insert-left.ensures.value, ← c.insert-right.ensures.value) at c.in_ok-left.ensures.ok in
+    let x = extract_parts c.insert-left.result.now in
+    let y = extract_parts c.insert-right.result.now in
     let call = c.from_residual-in_err-found in
     let f = c.in_err-found.field-0.0 in
-    compare-refused c.args.asked.now c.args.common _ _ (extract_parts c.insert-left.result.now) (extract_parts c.insert-right.result.now)
-    (rw (← c.insert-left.ensures.value, ← c.insert-right.ensures.value) at c.in_ok-left.ensures.ok) _ _ _ call.result f (hands call.result f call.ensures.1) (inl c.in_err-found.ensures.fault)
+    compare-refused c.args.asked.now c.args.common _ _ x y read _ _ _ call.result f (hands call.result f call.ensures.1)
+    (inl c.in_err-found.ensures.fault)
 
 pub returns-in_err-found-clause-sources : goal.returns-in_err-found-clause-sources
 returns-in_err-found-clause-sources g c =
@@ -50,17 +54,22 @@ returns-in_err-found-clause-sources g c =
 
 pub returns-clause-answer : goal.returns-clause-answer
 returns-clause-answer g c =
+    let read = rw (← c.insert-left.ensures.value, ← c.insert-right.ensures.value) at c.in_ok-left.ensures.ok in
+    let x = extract_parts c.insert-left.result.now in
+    let y = extract_parts c.insert-right.result.now in
     let made = c.in_ok-found.found in
     let none = c.is_empty.result in
     handed-text _ _ _ _ (differences_text made) (listed_status none) _ c.listed.result c.write.result c.write.new.sink
     c.finish.new.sink c.finish.result c.listed.ensures c.write.ensures.writes c.write.ensures.fault
-    (diff-answer c.args.asked.now c.args.common _ _ (extract_parts c.insert-left.result.now) (extract_parts c.insert-right.result.now)
-    (rw (← c.insert-left.ensures.value, ← c.insert-right.ensures.value) at c.in_ok-left.ensures.ok) made none c.in_ok-found.ensures.ok c.is_empty.ensures) c.finish.ensures.finishes
+    (diff-answer c.args.asked.now c.args.common _ _ x y read made none c.in_ok-found.ensures.ok c.is_empty.ensures)
+    c.finish.ensures.finishes
 
 pub returns-clause-fault : goal.returns-clause-fault
 returns-clause-fault g c =
-    compare-refused c.args.asked.now c.args.common _ _ (extract_parts c.insert-left.result.now) (extract_parts c.insert-right.result.now)
-    (rw (← c.insert-left.ensures.value, ← c.insert-right.ensures.value) at c.in_ok-left.ensures.ok) _ _ _ c.finish.result Write
+    let read = rw (← c.insert-left.ensures.value, ← c.insert-right.ensures.value) at c.in_ok-left.ensures.ok in
+    let x = extract_parts c.insert-left.result.now in
+    let y = extract_parts c.insert-right.result.now in
+    compare-refused c.args.asked.now c.args.common _ _ x y read _ _ _ c.finish.result Write
     (λ P q. only-fails _ _ _ P c.listed.result c.write.result c.write.new.sink c.finish.new.sink c.finish.result c.write.ensures.fault q
     c.finish.ensures.finishes) (inr refl)
 

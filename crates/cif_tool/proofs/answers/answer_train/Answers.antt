@@ -1,4 +1,5 @@
 -- The text is that of the view of what was narrowed (`train-answer`); the view's faults are of known bytes (`train-fault`).
+-- `read`: what was read, of the extract that is kept.
 use Rattle.std.proofs.Common.{◌≢◌, subst}
 use Rattle.cif_columns.specs.Source.{reader_of}
 use Rattle.cif_columns.proofs.GivenLinesLaws.{known_so}
@@ -28,21 +29,23 @@ returns-in_err-extract-clause-fault g c =
 
 pub returns-clause-answer : goal.returns-clause-answer
 returns-clause-answer g c =
+    let read = rw (← c.insert-extract.ensures.value) at c.in_ok-extract.ensures.ok in
     let call = c.train_listing in
     let view = call.ensures.view in
     handed _ _ _ _ view.0 0 _ call.result call.new.sink c.finish.new.sink c.finish.result view.1
-    (written-then _ _ _ call.result (train-answer _ c.args.asked.now (extract_parts c.insert-extract.result.now) (rw (← c.insert-extract.ensures.value) at c.in_ok-extract.ensures.ok)
+    (written-then _ _ _ call.result (train-answer _ c.args.asked.now (extract_parts c.insert-extract.result.now) read
     c.args.layout c.args.form c.args.uid.now view.0) view.2) c.finish.ensures.finishes
 
 pub returns-clause-fault : goal.returns-clause-fault
 returns-clause-fault g c =
+    let read = rw (← c.insert-extract.ensures.value) at c.in_ok-extract.ensures.ok in
     let after = g.R.Read.remaining (reader_of c.read_narrowed.new.source) in
     let x = extract_parts c.insert-extract.result.now in
     let call = c.train_listing in
     known_so _ _ _ (λ bytes spelled.
     handed-fault _ _ _ (IsTrainFault x) (IsNormaliseFault MAX_LINES c.args.asked.now bytes after) 0 call.result call.new.sink
     c.finish.new.sink c.finish.result (train-fault MAX_LINES c.args.asked.now bytes after x spelled) call.ensures.fault
-    (written-then _ _ _ call.result (λ view. tt) call.ensures.view.2) c.finish.ensures.finishes) (rw (← c.insert-extract.ensures.value) at c.in_ok-extract.ensures.ok)
+    (written-then _ _ _ call.result (λ view. tt) call.ensures.view.2) c.finish.ensures.finishes) read
 
 pub returns-clause-source : goal.returns-clause-source
 returns-clause-source g c =
