@@ -13,11 +13,11 @@ use Rattle.std.proofs.lemmas.Bool.Decides.{Decides-eqb, nat_tests}
 use Rattle.std.proofs.lemmas.Cmp.{nat_cmp_total, on_total, then_total}
 use Rattle.std.proofs.Math.Nat.{eq-or-lt_of_le}
 use Rattle.std.proofs.lemmas.List.{get_or-drop, get_or-map, get_or-take, get_or_default, length-drop, length-map, length-take, map-append, take_more}
+use Rattle.std.proofs.lemmas.List.Quantifiers.{all_pairs_push}
 use Rattle.std.proofs.lemmas.Map.Keys.{IsDistinct-IsPermutation}
 use Rattle.std.proofs.lemmas.Map.Made.{AllPairs-from_IsDistinct, IsDistinct-from_AllPairs}
 use Rattle.std.proofs.lemmas.Option.{slice_get_within, some_pair_parts}
-use Rattle.std.proofs.lemmas.List.Elements.{All-append, All-cons, All-contains, All-nil, All-weaker}
-use Rattle.std.proofs.lemmas.List.Elements.{Contains-append_left, Contains-append_right, at_read}
+use Rattle.std.proofs.lemmas.List.Elements.{All-contains, All-nil, All-push, All-weaker, Contains-append_left, Contains-push, at_read}
 use Rattle.std.proofs.lemmas.List.Sorted.{All-permutation, Contains-permutation, IsPermutation-map, ranks_by, sorted_far}
 use Rattle.cif_calendar.specs.Applies.{Applies}
 use Rattle.cif_calendar.specs.Keys.{of_key}
@@ -25,19 +25,13 @@ use Rattle.cif_calendar.specs.Terms.{Terms}
 use Rattle.cif_calendar.specs.Wins.{Wins}
 use Rattle.cif_columns.specs.Stp.{letter}
 use Rattle.cif_calendar.proofs.Positions.{at-contains, contains-at}
-use Rattle.cif_weeks.proofs.JoinedLists.{AllPairs-append, AllPairs-map, Contains-from_map, Contains-map}
+use Rattle.cif_weeks.proofs.JoinedLists.{AllPairs-map, Contains-from_map, Contains-map}
 use Rattle.cif_canon.specs.Explanation.{AreExplained, Explained, IsMarked}
 use Rattle.cif_canon.specs.Steps.Explanation.{AreMarked, ArePlacedBelow, ArePlacedInOrder, IsFirstOfKey, IsLeast, IsLevel, IsLike, IsMarkAmong}
 use Rattle.cif_canon.specs.Steps.Explanation.{IsMarkAt, IsMarkOf, IsPlaced, IsRisingBy}
 use Rattle.cif_canon.specs.Steps.Explanation.{Placed, marked_as, placed_at, placed_cmp, unmarked}
 use Rattle.cif_canon.specs.declared.explained.Mark.{Mark}
 use Rattle.cif_canon.specs.declared.explained.Mark.TheVariants as mark
-
-All-one : {X : Type 0} (P : X → Type 0) (x : X) → P x → All P (x ∷ [])
-All-one P x h = All-cons P x [] h (All-nil P)
-
-Contains-one : {X : Type 0} (x : X) → Contains (x ∷ []) x
-Contains-one x = (0, omega arith, refl)
 
 -- ---- the records are found, one entry after another
 
@@ -66,28 +60,19 @@ module _ {K B : Type 0} (train_of : K → List ℕ) (entries : List (K × Terms 
     pub placed-more : (p : Placed K B) → IsPlaced train_of entries u d p → p.place ≡ n
         → ArePlacedBelow train_of entries u d (n + 1) (placed ++ (p ∷ []))
     placed-more p of_p place = record {
-      found = All-append (IsPlaced train_of entries u d) placed (p ∷ []) are.found (All-one (IsPlaced train_of entries u d) p of_p);
-      below = All-append (λ (q : Placed K B). q.place < n + 1) placed (p ∷ [])
+      found = All-push (IsPlaced train_of entries u d) placed p are.found of_p;
+      below = All-push (λ (q : Placed K B). q.place < n + 1) placed p
           (All-weaker (λ (q : Placed K B). q.place < n) (λ (q : Placed K B). q.place < n + 1) (λ q lt. omega (arith, lt)) placed are.below)
-          (All-one (λ (q : Placed K B). q.place < n + 1) p (omega (arith, place)));
-      all = λ q of_q lt. all_of q of_q lt (eq-or-lt_of_le {n = q.place} {m = n} (omega (arith, lt)));
-      rising = AllPairs-append (λ (x y : Placed K B). x.place < y.place) placed (p ∷ []) are.rising
-          (λ i j e lt below. absurd (omega (arith, lt, below)))
-          (λ x y in_x in_y. let lt : x.place < n = All-contains (λ (q : Placed K B). q.place < n) placed x are.below in_x in
-          let same : y ≡ p = only_one y in_y in
-          subst (λ (z : Placed K B). x.place < z.place) (sym same) (omega (arith, lt, place)));
+          (omega (arith, place));
+      all = λ q of_q lt. all_of q of_q (eq-or-lt_of_le {n = q.place} {m = n} (omega (arith, lt)));
+      rising = all_pairs_push (λ (x y : Placed K B). x.place < y.place) placed p are.rising
+          (λ k e below. let lt = are.below k e below in omega (arith, lt, place));
     }
       where
-        only_one : (y : Placed K B) → Contains (p ∷ []) y → y ≡ p
-        only_one y (zero, lt, at) = sym at
-        only_one y (suc i, lt, at) = absurd (omega (arith, lt))
-
-        all_of : (q : Placed K B) → IsPlaced train_of entries u d q → q.place < n + 1 → (q.place ≡ n) ⊎ (q.place < n)
-            → Contains (placed ++ (p ∷ [])) q
-        all_of q of_q lt (inl last) =
-            Contains-append_right placed (p ∷ []) q
-            (subst (Contains (p ∷ [])) (one-place p q of_p of_q (place ∙ sym last)) (Contains-one p))
-        all_of q of_q lt (inr earlier) = Contains-append_left placed (p ∷ []) q (are.all q of_q earlier)
+        all_of : (q : Placed K B) → IsPlaced train_of entries u d q → (q.place ≡ n) ⊎ (q.place < n) → Contains (placed ++ (p ∷ [])) q
+        all_of q of_q (inl last) =
+            subst (Contains (placed ++ (p ∷ []))) (one-place p q of_p of_q (place ∙ sym last)) (Contains-push placed p)
+        all_of q of_q (inr earlier) = Contains-append_left placed (p ∷ []) q (are.all q of_q earlier)
 
     pub placed-no_more : ((k : K) (r : Terms B) → slice_get entries n ≡ Some (k, r) → train_of k ≡ u → Applies r d → ⊥)
         → ArePlacedBelow train_of entries u d (n + 1) placed
@@ -401,5 +386,5 @@ pub one_marked : {X K B : Type 0} (of : X → Placed K B) (applying : List X) (n
 one_marked {K = K} {B = B} of applying n old e x below is same mark h =
     let HasMark : Explained K B → Type 0 = λ e. IsMarkOf (map of applying) (unmarked e) e.mark in (
       map-append unmarked old (e ∷ []) ∙ ap₂ (λ ps p. ps ++ (p ∷ [])) h.0 same ∙ sym (map-take_more of applying n x below is),
-      All-append HasMark old (e ∷ []) h.1 (All-one HasMark e mark),
+      All-push HasMark old e h.1 mark,
     )

@@ -24,10 +24,11 @@ use Rattle.cif_extract.specs.SpellsExtract.{BytesSpellWithin}
 use Rattle.cif_extract.proofs.FirstRefusals.{if_error}
 use Rattle.cif_canon.proofs.HandedFaults.{at-fault, known-fault}
 use Rattle.cif_canon.proofs.NormalForms.{one-narrowed}
+use Rattle.cif_extract.specs.ReadFault.{Unread}
 
 module _ (max : ℕ) (asked : Asked) (bytes : List ℕ) where
   -- a window that can't be asked for
-  pub narrowing-fault : (after : Option (List ℕ)) (whole : ExtractParts) → BytesSpellWithin max bytes whole → (f : Fault) →
+  pub narrowing-fault : (after : Unread) (whole : ExtractParts) → BytesSpellWithin max bytes whole → (f : Fault) →
       IsNarrowingFault asked whole.header f → IsReadNarrowedFault max asked bytes after f
   narrowing-fault after whole s fault.OutsideWindow h = record { whole = whole; spelled = s; fault_is = h }
   narrowing-fault after whole s fault.WindowReversed h = record { whole = whole; spelled = s; fault_is = h }
@@ -39,7 +40,7 @@ module _ (max : ℕ) (asked : Asked) (bytes : List ℕ) where
   narrowing-fault after whole s fault.Memory h = absurd h
 
   -- bytes that aren't read
-  pub narrowed-fault : (after : Option (List ℕ)) (f : Fault) → IsReadNarrowedFault max asked bytes after f →
+  pub narrowed-fault : (after : Unread) (f : Fault) → IsReadNarrowedFault max asked bytes after f →
       IsNormaliseFault max asked bytes after f
   narrowed-fault after (fault.Refused line why) h = h
   narrowed-fault after (fault.Ambiguous clash) h = absurd h
@@ -51,7 +52,7 @@ module _ (max : ℕ) (asked : Asked) (bytes : List ℕ) where
   narrowed-fault after fault.Memory h = h
 
   -- an extract without a canonical form
-  pub canon-fault : (after : Option (List ℕ)) (x : ExtractParts) → SpellsNarrowed max asked x bytes → (f : Fault) → IsCanonFault x f →
+  pub canon-fault : (after : Unread) (x : ExtractParts) → SpellsNarrowed max asked x bytes → (f : Fault) → IsCanonFault x f →
       IsNormaliseFault max asked bytes after f
   canon-fault after x s (fault.Ambiguous clash) h = record { narrowed = x; spelled = s; clash_is = h }
   canon-fault after x s fault.Memory h = tt
@@ -73,10 +74,10 @@ module _ (max : ℕ) (asked : Asked) (bytes : List ℕ) where
   clash-clear x clear (Train uid day) h = first_clash-clear _ x.header.first x.header.last day h.1.clash (clear.schedules.key uid)
 
   -- what is accepted isn't blamed
-  pub blames-none : (after : Option (List ℕ)) (x : ExtractParts) → IsAcceptedWithin max asked x bytes → (f : Fault) →
+  pub blames-none : (after : Unread) (x : ExtractParts) → IsAcceptedWithin max asked x bytes → (f : Fault) →
       IsNormaliseFault max asked bytes after f → IsDeviceOrMemory f
   blames-none after x a (fault.Refused line why) h =
-      absurd (spelled-refused max bytes a.spelled.whole a.spelled.spelled line why h)
+      absurd (spelled-refused max bytes a.spelled.whole a.spelled.spelled line why h.0)
   blames-none after x a (fault.Ambiguous clash) h =
       absurd (clash-clear h.narrowed
       (subst IsClearExtract (one-spelled_narrowed x h.narrowed a.spelled h.spelled) a.clear) clash h.clash_is)
@@ -112,7 +113,7 @@ module _ (max : ℕ) (asked : Asked) (bytes : List ℕ) where
       SpellsNarrowed max asked x bytes
   spells-narrowed whole x s n = record { whole = whole; spelled = s; narrowed = n }
 
-  pub blamed : {A : Type 0} (after : Option (List ℕ)) (result : Result A Fault) (f : Fault) → result ≡ Err f →
+  pub blamed : {A : Type 0} (after : Unread) (result : Result A Fault) (f : Fault) → result ≡ Err f →
       IsNormaliseFault max asked bytes after f → (x : ExtractParts) → IsAcceptedWithin max asked x bytes → IfErr result IsDeviceOrMemory
   blamed after result f is h x a = if_error IsDeviceOrMemory result f is (blames-none after x a f h)
 
@@ -167,7 +168,7 @@ module _ {W : Type 0} (contents : W → Option (List ℕ)) (errors : W → Optio
 
 -- ---- the same where the bytes may be unknown, of the fault that `?` hands on
 
-module _ (max : ℕ) (asked : Asked) (start after : Option (List ℕ)) {A : Type 0} (result : Result A Fault) (f : Fault)
+module _ (max : ℕ) (asked : Asked) (start : Option (List ℕ)) (after : Unread) {A : Type 0} (result : Result A Fault) (f : Fault)
     (handed : IsErrAnd result (λ e. e ≡ f)) where
   pub known-accepted : IfSome start (λ bytes. IsNormaliseFault max asked bytes after f) →
       IfSome start (λ bytes. (x : ExtractParts) → IsAcceptedWithin max asked x bytes → IfErr result IsDeviceOrMemory)
@@ -209,7 +210,7 @@ canon-of_check max x fault.Memory h = (tt, tt)
 
 -- ---- nor does a failure to write
 
-module _ (max : ℕ) (asked : Asked) (start after : Option (List ℕ)) {A : Type 0} (result : Result A Fault)
+module _ (max : ℕ) (asked : Asked) (start : Option (List ℕ)) (after : Unread) {A : Type 0} (result : Result A Fault)
     (is : result ≡ Err fault.Write) where
   pub write-fault : IfSome start (λ bytes. IfErr result (IsNormaliseFault max asked bytes after))
   write-fault =

@@ -9,9 +9,10 @@ use Rattle.cif_extract.specs.declared.fault.Fault.{Fault}
 use Rattle.cif_canon.specs.Asked.{IsNarrowed}
 use Rattle.cif_canon.specs.Pair.{AreNarrowed, IsPairFault, IsPairRefusal, IsRightRefusal, asked_of_both}
 use Rattle.cif_canon.specs.declared.asked.Asked.{Asked}
+use Rattle.cif_extract.specs.ReadFault.{Unread}
 
 -- a left input that spells an extract, and a reader that gives one, aren't read where the two extracts aren't narrowed
-pub spelled-refused : (asked : Asked) (common : Bool) (right : Option (List ℕ)) (bytes : List ℕ) (after right_after : Option (List ℕ))
+pub spelled-refused : (asked : Asked) (common : Bool) (right : Option (List ℕ)) (bytes : List ℕ) (after right_after : Unread)
     (Untouched : Type 0) (one other : ExtractParts) → BytesSpellWithin MAX_LINES bytes one →
     IfSome right (λ b. BytesSpellWithin MAX_LINES b other) → (f : Fault) (wanted : Asked) →
     wanted ≡ asked_of_both common asked one other → IsPairRefusal wanted one other f →

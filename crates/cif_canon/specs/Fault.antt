@@ -4,7 +4,7 @@ use Rattle.std.specs.Ordering.{nat_cmp}
 use Rattle.std.specs.Cmp.Lexicographic.{slice_cmp}
 use Rattle.cif_calendar.specs.Keys.{AreClear, IsFirstClashOf}
 use Rattle.cif_extract.specs.ExtractParts.{ExtractParts}
-use Rattle.cif_extract.specs.ReadFault.{IsOfReading, IsReadFault}
+use Rattle.cif_extract.specs.ReadFault.{IsOfReading, IsReadFault, Unread}
 use Rattle.cif_extract.specs.SpellsExtract.{BytesSpellWithin}
 use Rattle.cif_extract.specs.declared.fault.Clash.{Clash}
 use Rattle.cif_extract.specs.declared.fault.Clash.TheVariants.{Association, Train}
@@ -45,13 +45,13 @@ pub record SpellsOtherWindow (max : ℕ) (asked : Asked) (bytes : List ℕ) (fau
 
 -- Why bytes aren't read as an extract for the window that is asked for, where `after` is what the reader has left then: the first
 -- refusal, or else a window that can't be asked for.
-abbrev pub IsReadNarrowedFault : ℕ → Asked → List ℕ → Option (List ℕ) → Fault → Type 0
+abbrev pub IsReadNarrowedFault : ℕ → Asked → List ℕ → Unread → Fault → Type 0
 IsReadNarrowedFault max asked bytes after OutsideWindow = SpellsOtherWindow max asked bytes OutsideWindow
 IsReadNarrowedFault max asked bytes after WindowReversed = SpellsOtherWindow max asked bytes WindowReversed
 IsReadNarrowedFault max asked bytes after fault = IsReadFault max bytes after fault
 
 -- Why they have no canonical form for it: they aren't read so, or else the first clash; or it can't be written.
-abbrev pub IsNormaliseFault : ℕ → Asked → List ℕ → Option (List ℕ) → Fault → Type 0
+abbrev pub IsNormaliseFault : ℕ → Asked → List ℕ → Unread → Fault → Type 0
 IsNormaliseFault max asked bytes after (Ambiguous clash) = SpellsClash max asked bytes clash
 IsNormaliseFault max asked bytes after Write = ⊤
 IsNormaliseFault max asked bytes after fault = IsReadNarrowedFault max asked bytes after fault

@@ -4,7 +4,7 @@ use Rattle.cif_columns.specs.Source.{HasReadOn, reader_of}
 use Rattle.cif_columns.specs.declared.line_reader.TheConstants.{MAX_LINES}
 use Rattle.cif_columns.specs.declared.source.Source.{Source}
 use Rattle.cif_extract.specs.ExtractParts.{ExtractParts}
-use Rattle.cif_extract.specs.ReadFault.{FaultOf, FaultReads, IsReadFault}
+use Rattle.cif_extract.specs.ReadFault.{FaultOf, FaultReads, IsReadFault, Unread, unread_of}
 use Rattle.cif_extract.specs.SpellsExtract.{BytesSpellWithin}
 use Rattle.cif_extract.specs.declared.fault.Fault.{Fault}
 use Rattle.cif_extract.specs.declared.fault.Fault.TheVariants.{Write}
@@ -48,32 +48,32 @@ IsPairRefusal asked left_whole right_whole fault = IsNarrowingFault asked left_w
     ⊎ ((left : ExtractParts) × IsNarrowed asked left_whole left × IsNarrowingFault asked right_whole.header fault)
 
 -- Why the right input isn't read beside a left extract: its first refusal, or else why the two extracts aren't narrowed.
-abbrev pub IsRightRefusal : Asked → Bool → ExtractParts → List ℕ → Option (List ℕ) → Fault → Type 0
+abbrev pub IsRightRefusal : Asked → Bool → ExtractParts → List ℕ → Unread → Fault → Type 0
 IsRightRefusal asked common left bytes after fault = IsReadFault MAX_LINES bytes after fault
     ⊎ ((right : ExtractParts) × BytesSpellWithin MAX_LINES bytes right
     × IsPairRefusal (asked_of_both common asked left right) left right fault)
 
 -- Why the left input and the right one aren't read, of which `after` and `right_after` are left then: the first refusal of the left one,
 -- and then Untouched holds of the right one; or else why the right one isn't read.
-abbrev pub IsPairFault : Asked → Bool → List ℕ → Option (List ℕ) → Type 0 → Option (List ℕ) → Option (List ℕ) → Fault → Type 0
+abbrev pub IsPairFault : Asked → Bool → List ℕ → Unread → Type 0 → Option (List ℕ) → Unread → Fault → Type 0
 IsPairFault asked common bytes after Untouched right right_after fault =
     (IsReadFault MAX_LINES bytes after fault × Untouched)
     ⊎ ((left : ExtractParts) × BytesSpellWithin MAX_LINES bytes left
     × IfSome right (λ right_bytes. IsRightRefusal asked common left right_bytes right_after fault))
 
 -- Why `compare` and `diff` have no answer to them: they aren't read, or else what is read isn't compared; or the answer can't be written.
-abbrev pub IsCompareRefusal : Asked → Bool → List ℕ → Option (List ℕ) → Type 0 → Option (List ℕ) → Option (List ℕ) → Fault → Type 0
+abbrev pub IsCompareRefusal : Asked → Bool → List ℕ → Unread → Type 0 → Option (List ℕ) → Unread → Fault → Type 0
 IsCompareRefusal asked common bytes after Untouched right right_after fault =
     IsPairFault asked common bytes after Untouched right right_after fault
     ⊎ ((x y : ExtractParts) × ReadAsPair asked common (Some bytes) right x y × (IsCompareFault x y fault ⊎ (fault ≡ Write)))
 
 -- where the bytes that the left reader gives are known, a fault is one of these for them and for what the right one gives
 abbrev pub FaultOfBoth : {R A : Type 0} → (R → Option (List ℕ))
-    → (List ℕ → Option (List ℕ) → Type 0 → Option (List ℕ) → Option (List ℕ) → Fault → Type 0)
+    → (List ℕ → Unread → Type 0 → Option (List ℕ) → Unread → Fault → Type 0)
     → Source R → Source R → Source R → Source R → Result A Fault → Type 0
 FaultOfBoth remaining IsFault left left_new right right_new result =
     FaultOf remaining (λ bytes after fault. IsFault bytes after (right_new ≡ right) (remaining (reader_of right))
-    (remaining (reader_of right_new)) fault) left left_new result
+    (unread_of remaining right_new) fault) left left_new result
 
 -- What a command that reads a left and then a right source owes them: the right one is as it was where the left one isn't read on.
 abbrev pub ReadsBoth : {R A : Type 0} → (R → Option ℕ) → Source R → Source R → Source R → Source R → Result A Fault → Type 0

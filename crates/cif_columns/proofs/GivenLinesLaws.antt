@@ -1,5 +1,5 @@
 -- A run of `next`: one step for each answer.
-use Rattle.std.proofs.Common.{◌≡◌, ℕ, ◌+◌, ◌≤◌, List, [], ◌∷◌, ◌++◌, length, Option, None, Some, IfSome, IsSomeAnd, Ok, Err, refl, sym, ap}
+use Rattle.std.proofs.Common.{◌≡◌, ℕ, ◌+◌, ◌≤◌, false, List, [], ◌∷◌, ◌++◌, length, Option, None, Some, IfSome, IsSomeAnd, Ok, Err, refl, sym, ap}
 use Rattle.std.proofs.Common.{◌∙◌, arith, subst, append_assoc, append-nil, length-append}
 use Rattle.std.proofs.lemmas.List.Elements.{All-push}
 use Rattle.std.specs.Io.KnownBytes.{prepend_known}
@@ -12,9 +12,10 @@ use Rattle.cif_columns.specs.declared.refusal.Refusal.{Refusal}
 use Rattle.cif_columns.specs.declared.source.Source.{Source}
 use Rattle.cif_columns.specs.Contents.{contents_of, HasLineReason, DecidesNothing}
 use Rattle.cif_columns.specs.Line.{IsLine}
-use Rattle.cif_columns.specs.LineReader.{held, given, limit, past, left, IsNextLine, Answers}
+use Rattle.cif_columns.specs.Source.{source_ended}
+use Rattle.cif_columns.specs.LineReader.{held, given, limit, past, left, GivenDecide, IsNextLine, Answers}
 use Rattle.cif_columns.specs.GivenLines.{AreWholeLinesAndRest, KnownGiven, IsReading, AreAllLines, AreLinesToRefusal, AreLinesToFailure}
-use Rattle.cif_columns.specs.GivenLines.{AreLinesToFault, EndsLine}
+use Rattle.cif_columns.specs.GivenLines.{AreLinesToFault, EndsLine, IsLineDecided}
 use Rattle.cif_columns.proofs.WholeLines.{lines_whole, piece_of, ends_after, ends_before, lines_piece}
 use mathlib.Core.Logic.{◌⊎◌, inl, inr}
 
@@ -53,6 +54,22 @@ held_front hold rest None e = absurd (cc)
 held_front hold rest (Some unread) e =
     let same : hold ++ unread ≡ rest = cc in
     (unread, refl, sym same)
+
+-- the bytes that the source gave are the whole lines so far, and these behind them
+given_front : (bytes : List ℕ) (ls : List (List ℕ)) (rest front unread : List ℕ) → rest ≡ front ++ unread
+    → (so_far : AreWholeLinesAndRest bytes ls rest)
+    → (bytes ≡ (so_far.whole ++ front) ++ unread) × AreWholeLinesAndRest (so_far.whole ++ front) ls front
+given_front bytes ls rest front unread parts so_far = (
+  so_far.parts ∙ ap (λ l. so_far.whole ++ l) parts ∙ sym (append_assoc so_far.whole front unread),
+  record {
+    whole = so_far.whole;
+    parts = refl;
+    ended = ends_before so_far.whole front unread
+        (subst (λ l. (so_far.whole ≡ []) ⊎ EndsLine so_far.whole l) parts so_far.ended);
+    contents = so_far.contents;
+    are_lines = so_far.are_lines;
+  },
+)
 
 -- what is said of known bytes follows from what is known of them
 pub known_so : (start : Option (List ℕ)) (P Q : List ℕ → Type 0) → ((bytes : List ℕ) → P bytes → Q bytes) → IfSome start P → IfSome start Q
@@ -178,23 +195,49 @@ module _ {R : Type 0} (remaining : R → Option (List ℕ)) where
           at (Some bytes) None known next = absurd known
           at (Some bytes) (Some rest) known next =
               let (unread, is, parts) = held_front (held reader') rest (remaining source'.reader) next in
-              let front : (known.whole ≡ []) ⊎ EndsLine known.whole (held reader' ++ unread) =
-              subst (λ l. (known.whole ≡ []) ⊎ EndsLine known.whole l) parts known.ended in
+              let gave = given_front bytes ls rest (held reader') unread parts known in
               subst (λ r. IsSomeAnd r (λ others. AreLinesToFailure max bytes others ls)) (sym is) (record {
                 before = known.whole ++ held reader';
                 rest = held reader';
-                parts = known.parts ∙ ap (λ l. known.whole ++ l) parts ∙ sym (append_assoc known.whole (held reader') unread);
-                whole_lines_and_rest = record {
-                  whole = known.whole;
-                  parts = refl;
-                  ended = ends_before known.whole (held reader') unread front;
-                  contents = known.contents;
-                  are_lines = known.are_lines;
-                };
+                parts = gave.0;
+                whole_lines_and_rest = gave.1;
                 within = within;
                 undecided = subst (λ m. DecidesNothing m (length ls) (held reader')) so_far.same_limit
                     (subst (λ n. DecidesNothing (limit reader) n (held reader')) so_far.counted undecided);
               })
+
+      -- the next line is decided, unless the source told its end
+      pub reading_decides : (number : ℕ) → number ≡ given reader + 1
+          → (source_ended source' ≡ false
+          → GivenDecide (limit reader) (given reader) (left remaining reader source) (remaining source'.reader))
+          → IfSome start (λ bytes. source_ended source' ≡ false
+          → IsSomeAnd (remaining source'.reader) (λ unread. IsLineDecided max bytes unread number))
+      reading_decides number is decides = at start (left remaining reader source) so_far.known decides
+        where
+          by : (bytes rest : List ℕ) (unread : Option (List ℕ)) → AreWholeLinesAndRest bytes ls rest
+              → GivenDecide (limit reader) (given reader) (Some rest) unread
+              → IsSomeAnd unread (λ others. IsLineDecided max bytes others number)
+          by bytes rest None known gave = absurd gave.parts
+          by bytes rest (Some unread) known gave =
+              let front = given_front bytes ls rest gave.given unread (sym gave.parts) known in
+              record {
+                lines = ls;
+                before = known.whole ++ gave.given;
+                rest = gave.given;
+                parts = front.0;
+                whole_lines_and_rest = front.1;
+                numbered = is ∙ ap (λ n. n + 1) so_far.counted;
+                decided = subst (λ m. ¬ DecidesNothing m (length ls) gave.given) so_far.same_limit
+                    (subst (λ n. ¬ DecidesNothing (limit reader) n gave.given) so_far.counted gave.decided);
+              }
+
+          at : (start rest : Option (List ℕ)) → KnownGiven start ls rest
+              → (source_ended source' ≡ false → GivenDecide (limit reader) (given reader) rest (remaining source'.reader))
+              → IfSome start (λ bytes. source_ended source' ≡ false
+              → IsSomeAnd (remaining source'.reader) (λ unread. IsLineDecided max bytes unread number))
+          at None rest known decides = tt
+          at (Some bytes) None known decides = absurd known
+          at (Some bytes) (Some rest) known decides = λ not. by bytes rest (remaining source'.reader) known (decides not)
 
       -- either fault
       pub reading_faults : (fault : LineFault)

@@ -12,12 +12,12 @@ use Rattle.cif_columns.specs.declared.ahead.Found.TheVariants.{Next, Refused}
 use Rattle.cif_columns.specs.declared.refusal.LineFault.TheVariants as fault
 use Rattle.cif_columns.specs.declared.refusal.Refusal.{Refusal}
 use Rattle.cif_columns.specs.declared.refusal.Refusal.TheVariants.{BadLength, BadByte, TooManyLines}
-use Rattle.cif_columns.specs.Ahead.{Finds}
+use Rattle.cif_columns.specs.Ahead.{Finds, FindsGiven}
 use Rattle.cif_columns.specs.Line.{IsLine}
 use Rattle.cif_columns.specs.Contents.{StandsFirst, HasLineReason, DecidesNothing}
 use Rattle.cif_columns.specs.FirstLine.{is_line_feed, is_printable, has_line_feed, first_content, after_content, line_of, first_line}
 use Rattle.cif_columns.specs.FirstLine.{is_decided}
-use Rattle.cif_columns.specs.LineReader.{IsNextLine, IsNextRefusal, Answers}
+use Rattle.cif_columns.specs.LineReader.{IsNextLine, IsNextRefusal, Answers, GivenDecide}
 use Rattle.cif_columns.proofs.FeedPlaces.{place}
 use Rattle.cif_columns.proofs.PrintableBytes.{printable_fact, printable_true}
 use Rattle.cif_columns.proofs.DecidedLines.{contents_first, undecided_no_feed, undecided_short, undecided_not_full}
@@ -152,6 +152,24 @@ module _ (max count : ℕ) (within : count ≤ max) where
       → IfSome bytes (λ b. Answers max count b (Err (fault.Refused (count + 1) why)) after)
   refusal_answered None after why found = tt
   refusal_answered (Some b) after why found = next_refusal b why found.0 found.1
+
+  pub decides_something : (p : List ℕ) → is_decided (nat_eq count max) p ≡ true → ¬ DecidesNothing max count p
+  unfolding is_decided
+  decides_something p d none =
+      let feed = no_feed (has_line_feed p) refl in
+      let short = none.short in
+      let empty : count ≡ max → length p ≡ 0 = λ e. ap length (none.none_too_many e) in
+      grind (arith, nat_tests, empty)
+    where
+      no_feed : (b : Bool) → b ≡ has_line_feed p → has_line_feed p ≡ false
+      no_feed false is = sym is
+      no_feed true is =
+          let below : place p < length p = ltb-true (place p) (length p) (sym is) in
+          absurd (none.no_feed (place p) 0 below (eqb-true _ 10 (passes_at_first is_line_feed p 0 below)))
+
+  pub given_decide : (bytes unread : Option (List ℕ)) → FindsGiven (nat_eq count max) bytes unread → GivenDecide max count bytes unread
+  given_decide bytes unread found =
+      record { given = found.given; parts = found.parts; decided = decides_something found.given found.decided }
 
   pub decides_nothing : (held : List ℕ) → is_decided (nat_eq count max) held ≡ false → DecidesNothing max count held
   decides_nothing held d =

@@ -1,17 +1,17 @@
 -- A line that is passed where it is ahead is the next line, as `read_line` gives it, from any source.
 use Rattle.std.proofs.Common.{◌≡◌, ℕ, ◌+◌, ◌<◌, true, false, cond, nat_eq, nat_lt, List, length, take, drop, Ok, Some, Option, sym, ap, ◌∙◌}
-use Rattle.std.proofs.Common.{Bool, arith, eq-eqb, Err, get_or, length-take, subst, rules, IfSome, Result}
+use Rattle.std.proofs.Common.{Bool, ◌≢◌, arith, eq-eqb, Err, get_or, length-take, subst, rules, IfSome, Result}
 use Rattle.std.proofs.KnownBytes.{Keeps-refl}
 use Rattle.std.proofs.lemmas.Bool.Decides.{nat_tests}
 use Rattle.std.specs.List.{list_all, position_or_len}
 use Rattle.std.specs.Str.Lines.{strip_carriage_return}
-use Rattle.cif_columns.specs.Ahead.{Decides, Finds, known_left}
+use Rattle.cif_columns.specs.Ahead.{Decides, Finds, FindsGiven, known_left}
 use Rattle.cif_columns.specs.FirstLine.{after_content, first_line, first_content, has_line_feed, is_decided, is_line_feed}
 use Rattle.cif_columns.specs.FirstLine.{is_printable, line_of}
 use Rattle.cif_columns.specs.Line.{ArePrintable, IsLine}
 use Rattle.cif_columns.specs.Contents.{DecidesNothing}
 use Rattle.cif_columns.specs.LineReader.{Answers, AreAhead, HasPassed, IsNext, IsNextFault, LineReads, given, held, limit, past}
-use Rattle.cif_columns.specs.Source.{HasReadOn}
+use Rattle.cif_columns.specs.Source.{HasReadOn, reader_of, source_ended}
 use Rattle.cif_columns.specs.declared.ahead.Found.TheVariants.{Next}
 use Rattle.cif_columns.specs.declared.line_reader.LineReader.{LineReader}
 use Rattle.cif_columns.specs.declared.line_reader.Past.TheVariants.{Reading, Faulted}
@@ -23,7 +23,7 @@ use Rattle.cif_columns.specs.declared.refusal.Refusal.TheVariants.{BadLength, Ba
 use Rattle.cif_columns.specs.declared.source.Source.{Source}
 use Rattle.cif_columns.proofs.FeedPlaces.{place-printable}
 use Rattle.cif_columns.proofs.FoundInHeld.{found_more}
-use Rattle.cif_columns.proofs.LineAnswers.{line_answered}
+use Rattle.cif_columns.proofs.LineAnswers.{given_decide, line_answered}
 use Rattle.cif_columns.proofs.PlainLines.{unstripped}
 use Rattle.cif_columns.proofs.PrintableBytes.{printable_true}
 
@@ -75,12 +75,17 @@ pub gives_line : {R : Type 0} {remaining : R → Option (List ℕ)} {errors : R 
     {line : List ℕ} → past old ≡ Reading → past new ≡ Reading → limit new ≡ limit old → given new ≡ given old + 1
     → IfSome (known_left remaining old.ahead from)
     (λ bytes. Finds (nat_eq (given old) (limit old)) bytes (Next line) (known_left remaining new.ahead to))
-    → HasReadOn errors from to → IsNext remaining errors old from (Ok (Some line)) new to
-gives_line {old = old} reading past_now limit_now counted found device = record {
+    → HasReadOn errors from to
+    → (source_ended to ≡ false
+    → FindsGiven (nat_eq (given old) (limit old)) (known_left remaining old.ahead from) (remaining (reader_of to)))
+    → IsNext remaining errors old from (Ok (Some line)) new to
+gives_line {old = old} reading past_now limit_now counted found device decided = record {
   answer = λ _. line_answered (limit old) (given old) old.counted _ _ _ found;
   device = λ _. device;
+  decided = λ _ _ not. given_decide (limit old) (given old) old.counted _ _ (decided not);
   undecided = λ _ e. absurd (cc);
   endless = λ _ e. absurd (cc);
+  told = λ _ e. absurd (cc);
   fault = λ _. tt;
   past_now = past_now;
   again = λ e. absurd (e reading);
@@ -103,12 +108,17 @@ pub gives_fault : {R : Type 0} {remaining : R → Option (List ℕ)} {errors : R
     (λ bytes. Answers (limit old) (given old) bytes (Err fault) (known_left remaining new.ahead to))
     → LineReads {A = Option Line} errors from to (Err fault)
     → (◌≡◌ {A = Result (Option Line) LineFault} (Err fault) (Err Read) → DecidesNothing (limit old) (given old) (held new))
-    → IsNextFault (given old) fault → IsNext remaining errors old from (Err fault) new to
-gives_fault reading past_now limit_now counted answer device undecided next = record {
+    → IsNextFault (given old) fault
+    → (◌≢◌ {A = Result (Option Line) LineFault} (Err fault) (Err Read) → source_ended to ≡ false
+    → FindsGiven (nat_eq (given old) (limit old)) (known_left remaining old.ahead from) (remaining (reader_of to)))
+    → IsNext remaining errors old from (Err fault) new to
+gives_fault {old = old} reading past_now limit_now counted answer device undecided next decided = record {
   answer = λ _. answer;
   device = λ _. device;
+  decided = λ _ other not. given_decide (limit old) (given old) old.counted _ _ (decided other not);
   undecided = λ _. undecided;
   endless = λ _ e. absurd (cc);
+  told = λ _ e. absurd (cc);
   fault = λ _. next;
   past_now = past_now;
   again = λ e. absurd (e reading);
@@ -140,4 +150,8 @@ module _ {R : Type 0} (remaining : R → Option (List ℕ)) (errors : R → Opti
       ))
 
   pub next_passed : IsNext remaining errors old source (Ok (Some line)) new source
-  next_passed = gives_line ahead.reading (passed.past_now ∙ ahead.reading) passed.limit_now passed.counted found (search rules)
+  next_passed = gives_line ahead.reading (passed.past_now ∙ ahead.reading) passed.limit_now passed.counted found (search rules) (λ _. record {
+    given = held old;
+    parts = Keeps-refl _;
+    decided = rw not_full (decided (held old) ahead.within first_printable ahead.feed);
+  })

@@ -1,12 +1,12 @@
 -- What is read ahead of the lines, and what is found first in it.
 use Rattle.std.specs.Prelude.{◌≡◌, ℕ, ◌<◌, Bool, true, List, [], length, slice_range, Option, Some, Result, Ok, Err}
-use Rattle.std.specs.Io.KnownBytes.{prepend_known}
+use Rattle.std.specs.Io.KnownBytes.{Keeps, prepend_known}
 use Rattle.cif_columns.specs.declared.ahead.Ahead.{Ahead}
 use Rattle.cif_columns.specs.declared.ahead.Found.{Found}
 use Rattle.cif_columns.specs.declared.ahead.Found.TheVariants.{Next, End, Refused, Failed}
 use Rattle.cif_columns.specs.declared.refusal.Refusal.{Refusal}
 use Rattle.cif_columns.specs.declared.source.Source.{Source}
-use Rattle.cif_columns.specs.FirstLine.{first_line, after_content, has_line_feed}
+use Rattle.cif_columns.specs.FirstLine.{first_line, after_content, has_line_feed, is_decided}
 use Rattle.cif_columns.specs.Source.{HasFailedToRead, HasReadOn}
 
 -- the bytes that are read and not yet given
@@ -42,6 +42,12 @@ IfNext (Next line) P = P
 IfNext End P = Unit {0}
 IfNext (Refused why) P = Unit {0}
 IfNext Failed P = Unit {0}
+
+-- bytes that were given of those that were left, where these are known, decide the first line; the reader has the others left
+pub record FindsGiven (is_full : Bool) (bytes unread : Option (List ℕ)) : Type 0 where
+  pub given : List ℕ
+  pub parts : Keeps bytes (prepend_known given unread)
+  pub decided : is_decided is_full given ≡ true
 
 -- what finding owes the source: it fails to read exactly where nothing was found for that
 abbrev pub FindReads : {R : Type 0} → (R → Option ℕ) → Source R → Source R → Found → Type 0

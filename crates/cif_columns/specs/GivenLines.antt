@@ -60,6 +60,17 @@ pub record AreLinesToFailure (max : ℕ) (bytes unread : List ℕ) (lines : List
   pub within : length lines ≤ max
   pub undecided : DecidesNothing max (length lines) rest
 
+-- The line of this number, where at most max may come, is decided by what the source gave: all of the bytes but those unread. These are
+-- the lines before it and a rest, which decides it.
+pub record IsLineDecided (max : ℕ) (bytes unread : List ℕ) (number : ℕ) : Type 0 where
+  pub lines : List (List ℕ)
+  pub before : List ℕ
+  pub rest : List ℕ
+  pub parts : bytes ≡ before ++ unread
+  pub whole_lines_and_rest : AreWholeLinesAndRest before lines rest
+  pub numbered : number ≡ length lines + 1
+  pub decided : ¬ DecidesNothing max (length lines) rest
+
 -- the lines that were given of the bytes before this fault, where `after` is what the reader has left then
 abbrev pub AreLinesToFault : ℕ → List ℕ → Option (List ℕ) → List (List ℕ) → LineFault → Type 0
 AreLinesToFault max bytes after lines (Refused number why) = AreLinesToRefusal max bytes lines number why

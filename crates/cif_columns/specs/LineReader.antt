@@ -1,6 +1,7 @@
 -- What a clause reads of a `LineReader`, and what a `next` answers.
 use Rattle.std.specs.Prelude.{◌≡◌, ℕ, ◌+◌, ◌<◌, Bool, true, false, List, [], ◌∷◌, Option, None, Some, Result, Ok, Err}
 use Rattle.std.specs.Prelude.{◌≢◌, IfErr, IfOk, IfSome, OnErr, OnSome, drop, length, slice_index, take}
+use Rattle.std.specs.Io.KnownBytes.{Keeps, prepend_known}
 use Rattle.cif_columns.specs.declared.line.Line.{Line}
 use Rattle.cif_columns.specs.declared.line_reader.LineReader.{LineReader}
 use Rattle.cif_columns.specs.declared.refusal.LineFault.{LineFault}
@@ -12,7 +13,7 @@ use Rattle.cif_columns.specs.declared.source.Source.{Source}
 use Rattle.cif_columns.specs.Ahead.{held_bytes, known_left}
 use Rattle.cif_columns.specs.Contents.{DecidesNothing, contents_of, StandsFirst, HasLineReason, IsLineReason}
 use Rattle.cif_columns.specs.Line.{IsLine}
-use Rattle.cif_columns.specs.Source.{HasFailedToRead, HasReadOn, source_failed}
+use Rattle.cif_columns.specs.Source.{HasFailedToRead, HasReadOn, reader_of, source_ended, source_failed}
 
 -- the bytes that are held: read, and not yet given
 abbrev pub held : LineReader → List ℕ
@@ -79,16 +80,28 @@ abbrev pub IsNextFault : ℕ → LineFault → Type 0
 IsNextFault count (Refused number why) = (number ≡ count + 1) × IsLineReason why
 IsNextFault count Read = Unit {0}
 
+-- Of the bytes that were left, where they are known, the reader has these left, and has given the others. They decide the first line,
+-- after so many lines of at most max.
+pub record GivenDecide (max count : ℕ) (bytes unread : Option (List ℕ)) : Type 0 where
+  pub given : List ℕ
+  pub parts : Keeps bytes (prepend_known given unread)
+  pub decided : ¬ DecidesNothing max count given
+
 -- What a call that gives the next line promises: its reader and its source before, the answer, and both after.
 pub record IsNext {R : Type 0} (remaining : R → Option (List ℕ)) (errors : R → Option ℕ) (old : LineReader) (from : Source R)
     (result : Result (Option Line) LineFault) (new : LineReader) (to : Source R) : Type 0 where
   -- the answer is the first line of the bytes that are left, and the bytes after it are left then
   pub answer : past old ≡ Reading → IfSome (left remaining old from) (λ bytes.
       Answers (limit old) (given old) bytes result (left remaining new to))
-  -- A source that fails is reported where the bytes before the failure decide nothing. One that has failed has no end.
+  -- What isn't a failure is decided by the bytes so far, or by the end that the source told.
+  pub decided : past old ≡ Reading → result ≢ Err Read → source_ended to ≡ false →
+      GivenDecide (limit old) (given old) (left remaining old from) (remaining (reader_of to))
+  -- A source that fails is reported where the bytes before the failure decide nothing. One that has failed has no end, and an end is
+  -- reported where the source told it.
   pub device : past old ≡ Reading → LineReads errors from to result
   pub undecided : past old ≡ Reading → result ≡ Err Read → DecidesNothing (limit old) (given old) (held new)
   pub endless : past old ≡ Reading → result ≡ Ok None → source_failed from ≡ false
+  pub told : past old ≡ Reading → result ≡ Ok None → source_ended to ≡ true
   -- for any source: a refusal names the next line, and one of the reasons of lines
   pub fault : past old ≡ Reading → IfErr result (IsNextFault (given old))
   -- after the end, and after a fault, it is answered again, and nothing is read

@@ -12,6 +12,10 @@ reader_of s = s.reader
 abbrev pub source_failed : {R : Type 0} → Source R → Bool
 source_failed s = s.failed
 
+-- whether the reader told its end in the last read: it was asked for bytes and gave none
+abbrev pub source_ended : {R : Type 0} → Source R → Bool
+source_ended s = s.ended
+
 -- A call that reads, or doesn't need to, hasn't failed: the source has failed or not as before, and its reader's errors, where
 -- they are known, are those of before. A source that had failed before is as it was.
 pub record HasReadOn {R : Type 0} (errors : R → Option ℕ) (old new : Source R) : Type 0 where

@@ -6,7 +6,7 @@ ghost use Rattle.std.specs.Io.KnownBytes.{Keeps, IsAtEnd};
 ghost use Rattle.std.specs.List.{position_or_len};
 ghost use Rattle.std.specs.Str.Lines.{strip_carriage_return};
 ghost use Rattle.cif_columns.specs.FirstLine.{is_decided, is_line_feed, line_of};
-ghost use Rattle.cif_columns.specs.Source.{Reads, reader_of, source_failed};
+ghost use Rattle.cif_columns.specs.Source.{Reads, reader_of, source_ended, source_failed};
 ghost use Rattle.cif_columns.specs.declared.ahead.TheConstants.{AHEAD, LONGEST_LINE};
 
 use crate::line::{LINE_TEXT_WIDTH, LINE_WIDTH, Line};
@@ -78,7 +78,7 @@ impl Ahead {
         ensures more { result ≡ Ok true
             → length (held_bytes self.old) < length (held_bytes self.new) }
         ensures end { result ≡ Ok false → (held_bytes self.new ≡ held_bytes self.old)
-            × IsAtEnd (R.remaining (reader_of source.new)) }
+            × IsAtEnd (R.remaining (reader_of source.new)) × (source_ended source.new ≡ true) }
         ensures err { OnErr result (held_bytes self.new ≡ held_bytes self.old) }
         ensures device { Reads R.read_errors source.old source.new result }
     {
@@ -98,7 +98,7 @@ impl Ahead {
 
 impl Ahead {
     ghost use Rattle.cif_columns.specs.Ahead.{held_bytes, known_left, Decides, FindReads, Finds, IfNext};
-    ghost use Rattle.cif_columns.specs.Ahead.{IfRefused};
+    ghost use Rattle.cif_columns.specs.Ahead.{FindsGiven, IfRefused};
     ghost use Rattle.cif_columns.specs.Contents.{IsLineReason};
 
     /// Makes it the line that stands first in the held bytes, if that is 80 bytes and a line feed, and
@@ -187,12 +187,15 @@ impl Ahead {
     ) -> Found
         ensures found { IfSome (known_left R.remaining self.old source.old) (λ bytes.
             Finds is_full bytes result (known_left R.remaining self.new source.new)) }
+        ensures decided { result ≢ Found.Failed → source_ended source.new ≡ false → FindsGiven is_full
+            (known_left R.remaining self.old source.old) (R.remaining (reader_of source.new)) }
         ensures not_full { IfNext result (is_full ≡ false) }
         ensures undecided { result ≡ Found.Failed
             → is_decided is_full (held_bytes self.new) ≡ false }
         ensures device { FindReads R.read_errors source.old source.new result }
         ensures reason { IfRefused result IsLineReason }
-        ensures ended { result ≡ Found.End → source_failed source.old ≡ false }
+        ensures ended { result ≡ Found.End
+            → (source_failed source.old ≡ false) × (source_ended source.new ≡ true) }
     {
         loop {
             if let Some(found) = self.decided(is_full) {

@@ -1,5 +1,5 @@
 //! A reader that isn't read again once it has failed, and what a reader tells of its errors.
-ghost use Rattle.std.specs.Prelude.{◌≡◌, ℕ, Option, None, Some, false};
+ghost use Rattle.std.specs.Prelude.{◌≡◌, ◌↔◌, ◌<◌, ℕ, Option, None, Some, IfOk, IsTrue, false, length};
 ghost use Rattle.std.specs.Io.{ReadsAtMost};
 ghost use Rattle.std.specs.Io.KnownBytes.{ReadConsumes};
 
@@ -14,24 +14,27 @@ use thiserror::Error;
 #[error("the input can't be read")]
 pub struct ReadFault;
 
-/// A reader, and whether it has failed.
+/// A reader, whether it has failed, and whether it told its end in its last read.
 #[derive(Drop)]
 pub struct Source<R> {
     reader: R,
     failed: bool,
+    ended: bool,
 }
 
 impl<R: ReadDevice> Source<R> {
-    ghost use Rattle.cif_columns.specs.Source.{Reads, reader_of, source_failed};
+    ghost use Rattle.cif_columns.specs.Source.{Reads, reader_of, source_ended, source_failed};
 
     /// A source that hasn't failed.
     pub fn new(reader: R) -> Self
         ensures reader { reader_of result ≡ reader }
         ensures failed { source_failed result ≡ false }
+        ensures ended { source_ended result ≡ false }
     {
         Source {
             reader,
             failed: false,
+            ended: false,
         }
     }
 
@@ -56,12 +59,17 @@ impl<R: ReadDevice> Source<R> {
         ensures bytes { ReadConsumes (R.remaining (reader_of self.old))
             (R.remaining (reader_of self.new)) result buf.new }
         ensures device { Reads R.read_errors self.old self.new result }
+        ensures ended { IfOk result (λ n.
+            IsTrue (source_ended self.new) ↔ ((n ≡ 0) × (0 < length buf.new))) }
     {
         if self.failed {
             return Err(ReadFault);
         }
         match self.reader.read_once(buf) {
-            Ok(n) => Ok(n),
+            Ok(n) => {
+                self.ended = n == 0 && !buf.is_empty();
+                Ok(n)
+            }
             Err(_) => {
                 self.failed = true;
                 Err(ReadFault)

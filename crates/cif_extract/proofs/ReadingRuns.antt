@@ -1,7 +1,7 @@
 -- What the lines so far have come to, line by line.
 use Rattle.std.proofs.Common.{◌≡◌, ◌≤◌, ◌≢◌, ℕ, ◌<◌, Bool, true, false, List, [], ◌∷◌, ◌++◌, length, Option, Some, None, Result, Ok, Err}
 use Rattle.std.proofs.Common.{arith, refl, sym}
-use Rattle.std.proofs.Common.{ap, ◌∙◌, subst, is_some, cond, IfSome, IfErr, IfOk, inr, ⊎_elim, ◌+◌}
+use Rattle.std.proofs.Common.{ap, ◌∙◌, subst, is_some, cond, IfSome, IfErr, IfOk, inr, ⊎_elim, ◌+◌, true≢false}
 use Rattle.std.proofs.lemmas.List.Elements.{All-cons, All-nil, All-append}
 use Rattle.std.specs.Prelude.{All}
 use Rattle.cif_columns.specs.GivenLines.{AreAllLines}
@@ -13,7 +13,7 @@ use Rattle.cif_extract.specs.ExtractParts.{ExtractParts, extract_parts}
 use Rattle.cif_extract.specs.FirstRefusal.{NoneRefused, IsFirstRefusal, refusal_of}
 use Rattle.cif_extract.specs.Grammar.{AreExtract}
 use Rattle.cif_extract.specs.OrderOfRecords.{may_stand, place_behind}
-use Rattle.cif_extract.specs.ReadFault.{IsLineNumber, IsOfReading, IsReadFault}
+use Rattle.cif_extract.specs.ReadFault.{IsDecided, IsLineNumber, IsOfReading, IsReadFault, Unread}
 use Rattle.cif_extract.specs.Steps.Reading.{HasRead, HasReadAt, IsHeld, IsTaken, IsUnfinished, Progress, begun, no_progress}
 use Rattle.cif_extract.specs.Steps.Reading.{fault_at_line, parts_with_header, refusal_here, step}
 use Rattle.cif_extract.specs.SpellsExtract.{BytesSpellWithin, SpellAll, SpellExtract}
@@ -166,22 +166,25 @@ whole_result start max lines p (Ok extract) all so_far held =
 whole_result start max lines p (Err f) all so_far held = known_so start _ _ (λ bytes a. tt) all
 
 -- and where it isn't
-pub unfinished_result : (start after : Option (List ℕ)) (max : ℕ) (lines : List (List ℕ)) (p : Progress) (number : ℕ)
-    (result : Result Extract Fault) → IfSome start (λ bytes. AreAllLines max bytes lines) → HasCome max lines p → number ≡ length lines →
+pub unfinished_result : (start : Option (List ℕ)) (after : Unread) (max : ℕ) (lines : List (List ℕ)) (p : Progress) (number : ℕ)
+    (result : Result Extract Fault) → after.ended ≡ true → IfSome start (λ bytes. AreAllLines max bytes lines) → HasCome max lines p → number ≡ length lines →
     IfErr result (λ f. (f ≡ fault.Refused (number + 1) refusal.Truncated) × IsUnfinished p) →
     IfSome start (λ bytes. IfErr result (IsReadFault max bytes after))
-unfinished_result start after max lines p number (Ok extract) all so_far is err = known_so start _ _ (λ bytes a. tt) all
-unfinished_result start after max lines p number (Err f) all so_far is err =
-    rw err.0 (known_so start _ _ (λ bytes a. inr (record {
-      fine = rw a.contents so_far.fine;
-      no_trailer = rw a.contents (unfinished_trailer max lines p so_far err.1);
-      numbered = ap (λ n. n + 1) is ∙ ap (λ c. length c + 1) (sym a.contents);
-      reason = refl;
-    })) all)
+unfinished_result start after max lines p number (Ok extract) told all so_far is err = known_so start _ _ (λ bytes a. tt) all
+unfinished_result start after max lines p number (Err f) told all so_far is err =
+    rw err.0 (known_so start _ _ (λ bytes a. (
+      inr (record {
+        fine = rw a.contents so_far.fine;
+        no_trailer = rw a.contents (unfinished_trailer max lines p so_far err.1);
+        numbered = ap (λ n. n + 1) is ∙ ap (λ c. length c + 1) (sym a.contents);
+        reason = refl;
+      }),
+      λ not. absurd (true≢false (sym told ∙ not)),
+    )) all)
 
 -- why a line is not taken, as the result at that line
-pub untaken_result : (start after : Option (List ℕ)) (max number : ℕ) (s : TakeFault) →
-    ((why : Refusal) → s ≡ untaken.Refused why → IfSome start (λ bytes. IsFirstRefusal max bytes number why)) →
+pub untaken_result : (start : Option (List ℕ)) (after : Unread) (max number : ℕ) (s : TakeFault) →
+    ((why : Refusal) → s ≡ untaken.Refused why → IfSome start (λ bytes. IsFirstRefusal max bytes number why × IsDecided max bytes after number)) →
     IfSome start (λ bytes. IsReadFault max bytes after (fault_at_line number s))
 untaken_result start after max number (untaken.Refused why) h = h why refl
 untaken_result None after max number untaken.Memory h = tt

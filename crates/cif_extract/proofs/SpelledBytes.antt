@@ -8,7 +8,7 @@ use Rattle.cif_columns.specs.declared.refusal.Refusal.{Refusal}
 use Rattle.cif_extract.specs.ExtractParts.{ExtractParts, extract_parts}
 use Rattle.cif_extract.specs.FirstRefusal.{IsFirstRefusal, IsTruncated}
 use Rattle.cif_extract.specs.Grammar.{records_before_trailer}
-use Rattle.cif_extract.specs.ReadFault.{IsReadAs, IsReadFault}
+use Rattle.cif_extract.specs.ReadFault.{IsReadAs, IsReadFault, Unread}
 use Rattle.cif_extract.specs.SpellsExtract.{BytesSpell, BytesSpellWithin, SpellAll}
 use Rattle.cif_extract.specs.declared.extract.Extract.{Extract}
 use Rattle.cif_extract.specs.declared.fault.Fault.{Fault}
@@ -47,12 +47,12 @@ module _ (max : ℕ) (bytes : List ℕ) (x : ExtractParts) (spells : BytesSpellW
       (subst (SpellAll (contents_of bytes)) s.are.parts s.spelled) t.no_trailer) refused
 
   -- what is answered, by what the answers say of the bytes
-  pub read_as : (after : Option (List ℕ)) (result : Result Extract Fault) →
+  pub read_as : (after : Unread) (result : Result Extract Fault) →
       IfOk result (λ extract. BytesSpellWithin max bytes (extract_parts extract)) → IfErr result (IsReadFault max bytes after) →
       IsReadAs x result
   read_as after (Ok extract) ok err =
       one_spelled bytes (extract_parts extract) x ok.spell spells.spell
-  read_as after (Err (fault.Refused number why)) ok err = absurd (spelled-refused number why err)
+  read_as after (Err (fault.Refused number why)) ok err = absurd (spelled-refused number why err.0)
   read_as after (Err (fault.Ambiguous clash)) ok err = absurd err
   read_as after (Err fault.WindowsDiffer) ok err = absurd err
   read_as after (Err fault.OutsideWindow) ok err = absurd err
@@ -62,14 +62,14 @@ module _ (max : ℕ) (bytes : List ℕ) (x : ExtractParts) (spells : BytesSpellW
   read_as after (Err fault.Memory) ok err = tt
 
 -- the same of bytes that may be known
-pub only_read : (start : Option (List ℕ)) (max : ℕ) (after : Option (List ℕ)) (result : Result Extract Fault) →
+pub only_read : (start : Option (List ℕ)) (max : ℕ) (after : Unread) (result : Result Extract Fault) →
     IfSome start (λ bytes. IfOk result (λ extract. BytesSpellWithin max bytes (extract_parts extract))) →
     IfSome start (λ bytes. IfErr result (IsReadFault max bytes after)) →
     IfSome start (λ bytes. (x : ExtractParts) → BytesSpellWithin max bytes x → IsReadAs x result)
 only_read None max after result ok err = tt
 only_read (Some bytes) max after result ok err = λ x spells. read_as max bytes x spells after result ok err
 
-pub only_fault : (start : Option (List ℕ)) (max : ℕ) (after : Option (List ℕ)) (result : Result Extract Fault) (f : Fault) →
+pub only_fault : (start : Option (List ℕ)) (max : ℕ) (after : Unread) (result : Result Extract Fault) (f : Fault) →
     result ≡ Err f →
     IfSome start (λ bytes. IfErr result (IsReadFault max bytes after)) →
     IfSome start (λ bytes. (x : ExtractParts) → BytesSpellWithin max bytes x → IsReadAs x result)

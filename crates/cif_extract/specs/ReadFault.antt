@@ -1,6 +1,8 @@
 -- Why bytes are no extract, or can't be read.
-use Rattle.std.specs.Prelude.{◌≡◌, ◌≤◌, ◌+◌, ⊤, ℕ, List, [], Option, Some, IfErr, IfSome, IsSomeAnd, Result, Ok, Err}
-use Rattle.cif_columns.specs.Source.{HasFailedToRead, HasReadOn, reader_of}
+use Rattle.std.specs.Prelude.{◌≡◌, ◌≤◌, ◌+◌, ⊤, ℕ, Bool, true, false, List, [], Option, Some, IfErr, IfSome, IsSomeAnd}
+use Rattle.std.specs.Prelude.{Result, Ok, Err}
+use Rattle.cif_columns.specs.GivenLines.{IsLineDecided}
+use Rattle.cif_columns.specs.Source.{HasFailedToRead, HasReadOn, reader_of, source_ended}
 use Rattle.cif_columns.specs.declared.source.Source.{Source}
 use Rattle.cif_extract.specs.ExtractParts.{ExtractParts, extract_parts}
 use Rattle.cif_extract.specs.FirstRefusal.{IsFirstRefusal, IsCutBeforeRefusal}
@@ -8,11 +10,23 @@ use Rattle.cif_extract.specs.declared.extract.Extract.{Extract}
 use Rattle.cif_extract.specs.declared.fault.Fault.{Fault}
 use Rattle.cif_extract.specs.declared.fault.Fault.TheVariants.{Refused, Read, Memory}
 
--- Why these bytes are no extract, or can't be read, where `after` is what the reader has left then: their first refusal, or a
--- failure of the source before a refused line was decided. No contract foretells that memory runs out.
-abbrev pub IsReadFault : ℕ → List ℕ → Option (List ℕ) → Fault → Type 0
-IsReadFault max bytes after (Refused line why) = IsFirstRefusal max bytes line why
-IsReadFault max bytes after Read = IsSomeAnd after (IsCutBeforeRefusal max bytes)
+-- what is left of a source after a call: the bytes of its reader, where they are known, and whether it told its end in its last read
+pub record Unread : Type 0 where
+  pub bytes : Option (List ℕ)
+  pub ended : Bool
+
+abbrev pub unread_of : {R : Type 0} → (R → Option (List ℕ)) → Source R → Unread
+unread_of remaining source = record { bytes = remaining (reader_of source); ended = source_ended source }
+
+-- The line of this number is decided, whatever follows: by what the source gave of the bytes, or else by the end that it told.
+abbrev pub IsDecided : ℕ → List ℕ → Unread → ℕ → Type 0
+IsDecided max bytes after number = after.ended ≡ false → IsSomeAnd after.bytes (λ unread. IsLineDecided max bytes unread number)
+
+-- Why these bytes are no extract, or can't be read, where `after` is left then: their first refusal, of a line that is decided, or a
+-- failure of the source before one was. No contract foretells that memory runs out.
+abbrev pub IsReadFault : ℕ → List ℕ → Unread → Fault → Type 0
+IsReadFault max bytes after (Refused line why) = IsFirstRefusal max bytes line why × IsDecided max bytes after line
+IsReadFault max bytes after Read = IsSomeAnd after.bytes (IsCutBeforeRefusal max bytes)
 IsReadFault max bytes after Memory = Unit {0}
 IsReadFault max bytes after _ = ⊥
 
@@ -40,13 +54,14 @@ FaultReads errors old new (Ok done) = HasReadOn errors old new
 FaultReads errors old new (Err Read) = HasFailedToRead errors old new
 FaultReads errors old new (Err fault) = HasReadOn errors old new
 
--- where the bytes that a reader gives are known, a fault is one of these for them and for what the reader has left then
-abbrev pub FaultOf : {R A F : Type 0} → (R → Option (List ℕ)) → (List ℕ → Option (List ℕ) → F → Type 0) → Source R → Source R →
+-- where the bytes that a reader gives are known, a fault is one of these for them and for what is left then
+abbrev pub FaultOf : {R A F : Type 0} → (R → Option (List ℕ)) → (List ℕ → Unread → F → Type 0) → Source R → Source R →
     Result A F → Type 0
 FaultOf remaining IsFault old new result =
-    IfSome (remaining (reader_of old)) (λ bytes. IfErr result (IsFault bytes (remaining (reader_of new))))
+    IfSome (remaining (reader_of old)) (λ bytes. IfErr result (IsFault bytes (unread_of remaining new)))
 
--- where a call answers, nothing is left of what the reader had
+-- where a call answers, the source told its end, and nothing is left of what the reader had
 abbrev pub LeavesNothing : {R A E : Type 0} → (R → Option (List ℕ)) → Source R → Source R → Result A E → Type 0
-LeavesNothing remaining old new (Ok done) = IfSome (remaining (reader_of old)) (λ bytes. remaining (reader_of new) ≡ Some [])
+LeavesNothing remaining old new (Ok done) =
+    (source_ended new ≡ true) × IfSome (remaining (reader_of old)) (λ bytes. remaining (reader_of new) ≡ Some [])
 LeavesNothing remaining old new (Err fault) = ⊤

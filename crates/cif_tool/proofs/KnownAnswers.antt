@@ -24,6 +24,7 @@ use Rattle.cif_canon.specs.declared.comparison.Comparison.{Comparison}
 use Rattle.cif_canon.specs.declared.canonical_form.Counts.{Counts}
 use Rattle.cif_canon.specs.declared.layout.Format.{Format}
 use Rattle.cif_canon.specs.declared.layout.Layout.{Layout}
+use Rattle.cif_extract.specs.ReadFault.{Unread}
 use Rattle.cif_tool.specs.Answer.{IsCheckAnswer, IsClashesAnswer, IsCompareAnswer, IsDayAnswer, IsDiffAnswer}
 use Rattle.cif_tool.specs.Answer.{IsExplainAnswer, IsListedStatus, IsNormaliseAnswer, IsTrainAnswer}
 use Rattle.cif_tool.specs.Status.{listed_status, outcome_of}
@@ -141,15 +142,20 @@ module _ (asked : Asked) (common : Bool) (left right : Option (List ℕ)) (x y :
       })
 
   -- they aren't compared, or the answer can't be written: what holds of an answer, of which holds what holds of this fault
-  pub compare-refused : (after right_after : Option (List ℕ)) (Untouched : Type 0) (result : Result ℕ Fault) (f : Fault) →
+  pub compare-refused : (after right_after : Unread) (Untouched : Type 0) (result : Result ℕ Fault) (f : Fault) →
       ((P : Fault → Type 0) → P f → IfErr result P) → IsCompareFault x y f ⊎ (f ≡ fault.Write) →
       IfSome left (λ bytes. IfErr result (IsCompareRefusal asked common bytes after Untouched right right_after))
   compare-refused after right_after Untouched result f hands h =
       known_so left (λ bytes. BytesSpellWithin MAX_LINES bytes read.left_whole) _ (λ bytes s.
-      hands (IsCompareRefusal asked common bytes after Untouched right right_after) (inr (x, y, record {
-        left_whole = read.left_whole;
-        right_whole = read.right_whole;
-        left_spelled = s;
-        right_spelled = read.right_spelled;
-        narrowed = read.narrowed;
-      }, h))) read.left_spelled
+      hands (IsCompareRefusal asked common bytes after Untouched right right_after) (inr (
+        x,
+        y,
+        record {
+          left_whole = read.left_whole;
+          right_whole = read.right_whole;
+          left_spelled = s;
+          right_spelled = read.right_spelled;
+          narrowed = read.narrowed;
+        },
+        h,
+      ))) read.left_spelled

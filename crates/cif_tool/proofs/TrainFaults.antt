@@ -8,8 +8,9 @@ use Rattle.cif_canon.specs.Fault.{IsNormaliseFault}
 use Rattle.cif_canon.specs.Views.{IsTrainFault}
 use Rattle.cif_canon.specs.declared.asked.Asked.{Asked}
 use Rattle.cif_canon.proofs.Normalising.{canon-fault}
+use Rattle.cif_extract.specs.ReadFault.{Unread}
 
-pub train-fault : (max : ℕ) (asked : Asked) (bytes : List ℕ) (after : Option (List ℕ)) (x : ExtractParts) →
+pub train-fault : (max : ℕ) (asked : Asked) (bytes : List ℕ) (after : Unread) (x : ExtractParts) →
     SpellsNarrowed max asked x bytes → (f : Fault) → IsTrainFault x f → IsNormaliseFault max asked bytes after f
 train-fault max asked bytes after x s fault.Write h = tt
 train-fault max asked bytes after x s (fault.Refused line why) h =

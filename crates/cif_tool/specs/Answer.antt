@@ -6,7 +6,7 @@ use Rattle.cif_columns.specs.declared.line_reader.TheConstants.{MAX_LINES}
 use Rattle.cif_columns.specs.declared.sink.Sink.{Sink}
 use Rattle.cif_columns.specs.declared.source.Source.{Source}
 use Rattle.cif_extract.specs.ExtractParts.{ExtractParts}
-use Rattle.cif_extract.specs.ReadFault.{FaultOf, FaultReads, IsReadFault, LeavesNothing}
+use Rattle.cif_extract.specs.ReadFault.{FaultOf, FaultReads, IsReadFault, LeavesNothing, Unread}
 use Rattle.cif_extract.specs.SpellsExtract.{BytesSpellWithin}
 use Rattle.cif_extract.specs.declared.fault.Fault.{Fault}
 use Rattle.cif_extract.specs.declared.fault.Fault.TheVariants.{Memory, Write}
@@ -126,18 +126,18 @@ pub record IsClashesAnswer (asked : Asked) (bytes text : List ℕ) (status : ℕ
 
 -- Why `day` has no answer to these bytes, where `after` is what the reader has left then: the first refusal, or else what the view
 -- refuses.
-abbrev pub IsDayRefusal : ℕ → List ℕ → Option (List ℕ) → Fault → Type 0
+abbrev pub IsDayRefusal : ℕ → List ℕ → Unread → Fault → Type 0
 IsDayRefusal day bytes after fault = IsReadFault MAX_LINES bytes after fault
     ⊎ ((extract : ExtractParts) × BytesSpellWithin MAX_LINES bytes extract × IsDayFault extract day fault)
 
 -- Why `explain` has no answer: the input's first refusal, or why there is no explanation.
-abbrev pub IsExplainRefusal : ℕ → List ℕ → Option (List ℕ) → Fault → Type 0
+abbrev pub IsExplainRefusal : ℕ → List ℕ → Unread → Fault → Type 0
 IsExplainRefusal day bytes after fault = IsReadFault MAX_LINES bytes after fault
     ⊎ ((extract : ExtractParts) × BytesSpellWithin MAX_LINES bytes extract × IsExplanationFault extract day fault)
 
 -- Why `clashes` has no answer: the input's first refusal, or the window that is asked for doesn't fit, or memory ran out, or the sink
 -- failed.
-abbrev pub IsClashesRefusal : Asked → List ℕ → Option (List ℕ) → Fault → Type 0
+abbrev pub IsClashesRefusal : Asked → List ℕ → Unread → Fault → Type 0
 IsClashesRefusal asked bytes after fault = IsReadFault MAX_LINES bytes after fault
     ⊎ ((extract : ExtractParts) × BytesSpellWithin MAX_LINES bytes extract
     × (IsNarrowingFault asked extract.header fault ⊎ ((fault ≡ Memory) ⊎ (fault ≡ Write))))

@@ -1,6 +1,5 @@
 -- Of known bytes (`known_so`): what they spell, narrowed, has a form to count (`counted-text`), or is to blame (`known-canon_fault`).
 use Rattle.std.proofs.Common.{Err, refl, subst}
-use Rattle.cif_columns.specs.Source.{reader_of}
 use Rattle.cif_columns.proofs.GivenLinesLaws.{known_so}
 use Rattle.cif_extract.specs.ExtractParts.{extract_parts}
 use Rattle.cif_canon.specs.Fault.{IsCanonFault, IsOfCheck}
@@ -11,21 +10,22 @@ use Rattle.cif_canon.proofs.Normalising.{canon-of_check, narrowed-of_check, unsa
 use Rattle.cif_canon.proofs.Normalising.{counted-text, known-canon_accepted, known-canon_fault}
 use Rattle.cif_canon.proofs.Normalising.{known-read_accepted, known-read_fault}
 use Rattle.cif_canon.proofs.normal_form.check_keeping.Goals as goal
+use Rattle.cif_extract.specs.ReadFault.{unread_of}
 
 pub returns-in_err-extract-clause-accepted : goal.returns-in_err-extract-clause-accepted
 returns-in_err-extract-clause-accepted g c =
-    known-read_accepted c.args.max_lines c.args.asked.now _ (g.R.Read.remaining (reader_of c.read_narrowed.new.source)) c.from_residual.result
+    known-read_accepted c.args.max_lines c.args.asked.now _ (unread_of g.R.Read.remaining c.read_narrowed.new.source) c.from_residual.result
     c.in_err-extract.field-0.0 c.from_residual.ensures.1 c.in_err-extract.ensures.fault
 
 pub returns-in-Err-clause-fault : goal.returns-in-Err-clause-fault
 returns-in-Err-clause-fault g c =
-    known-canon_fault c.args.max_lines c.args.asked.now _ (g.R.Read.remaining (reader_of c.read_narrowed.new.source)) {A = Counts}
+    known-canon_fault c.args.max_lines c.args.asked.now _ (unread_of g.R.Read.remaining c.read_narrowed.new.source) {A = Counts}
     (Err c.in-Err.fault) c.in-Err.fault refl (extract_parts c.in_ok-extract.extract)
     (rw c.insert-extract.ensures.value at c.in-Err.ensures.fault) c.in_ok-extract.ensures.ok
 
 pub returns-in-Err-clause-accepted : goal.returns-in-Err-clause-accepted
 returns-in-Err-clause-accepted g c =
-    known-canon_accepted c.args.max_lines c.args.asked.now _ (g.R.Read.remaining (reader_of c.read_narrowed.new.source)) {A = Counts}
+    known-canon_accepted c.args.max_lines c.args.asked.now _ (unread_of g.R.Read.remaining c.read_narrowed.new.source) {A = Counts}
     (Err c.in-Err.fault) c.in-Err.fault refl (extract_parts c.in_ok-extract.extract)
     (rw c.insert-extract.ensures.value at c.in-Err.ensures.fault) c.in_ok-extract.ensures.ok
 
@@ -46,7 +46,7 @@ returns-in-Err-clause-source g c =
 
 pub returns-in_err-extract-clause-fault : goal.returns-in_err-extract-clause-fault
 returns-in_err-extract-clause-fault g c =
-    known-read_fault c.args.max_lines c.args.asked.now _ (g.R.Read.remaining (reader_of c.read_narrowed.new.source)) c.from_residual.result
+    known-read_fault c.args.max_lines c.args.asked.now _ (unread_of g.R.Read.remaining c.read_narrowed.new.source) c.from_residual.result
     c.in_err-extract.field-0.0 c.from_residual.ensures.1 c.in_err-extract.ensures.fault
 
 pub returns-in_err-extract-clause-answers : goal.returns-in_err-extract-clause-answers

@@ -1,6 +1,5 @@
 -- The text has to be named, the canonical form's: of known bytes `Normalising` says it is that, written whole or as a prefix.
 use Rattle.std.proofs.Common.{◌≢◌, ◌∙◌, Err, None, ap, subst, sym}
-use Rattle.cif_columns.specs.Source.{reader_of}
 use Rattle.cif_columns.proofs.GivenLinesLaws.{known_so}
 use Rattle.cif_extract.specs.ExtractParts.{extract_parts}
 use Rattle.cif_extract.specs.declared.fault.Fault.TheVariants.{Read}
@@ -12,6 +11,7 @@ use Rattle.cif_canon.proofs.Normalising.{fails-silently, fault-writes, known-can
 use Rattle.cif_canon.proofs.Normalising.{known-read_accepted, known-read_fault}
 use Rattle.cif_canon.proofs.Normalising.{normalises-prefix, normalises-whole, write-accepted, write-answers, write-fault}
 use Rattle.cif_canon.proofs.normal_form.normalise_keeping.Goals as goal
+use Rattle.cif_extract.specs.ReadFault.{unread_of}
 
 pub returns-in_err-extract-clause-normal : goal.returns-in_err-extract-clause-normal
 returns-in_err-extract-clause-normal g c =
@@ -30,18 +30,18 @@ returns-in_err-canon-clause-normal g c =
 
 pub returns-in_err-extract-clause-accepted : goal.returns-in_err-extract-clause-accepted
 returns-in_err-extract-clause-accepted g c =
-    known-read_accepted c.args.max_lines c.args.asked.now _ (g.R.Read.remaining (reader_of c.read_narrowed.new.source)) c.from_residual.result
+    known-read_accepted c.args.max_lines c.args.asked.now _ (unread_of g.R.Read.remaining c.read_narrowed.new.source) c.from_residual.result
     c.in_err-extract.field-0.0 c.from_residual.ensures.1 c.in_err-extract.ensures.fault
 
 pub returns-in_err-canon-clause-fault : goal.returns-in_err-canon-clause-fault
 returns-in_err-canon-clause-fault g c =
-    known-canon_fault c.args.max_lines c.args.asked.now _ (g.R.Read.remaining (reader_of c.read_narrowed.new.source))
+    known-canon_fault c.args.max_lines c.args.asked.now _ (unread_of g.R.Read.remaining c.read_narrowed.new.source)
     c.from_residual-in_err-canon.result c.in_err-canon.field-0.0 c.from_residual-in_err-canon.ensures.1
     (extract_parts c.in_ok-extract.extract) (rw c.insert-extract.ensures.value at c.in_err-canon.ensures.fault) c.in_ok-extract.ensures.ok
 
 pub returns-in_err-canon-clause-accepted : goal.returns-in_err-canon-clause-accepted
 returns-in_err-canon-clause-accepted g c =
-    known-canon_accepted c.args.max_lines c.args.asked.now _ (g.R.Read.remaining (reader_of c.read_narrowed.new.source))
+    known-canon_accepted c.args.max_lines c.args.asked.now _ (unread_of g.R.Read.remaining c.read_narrowed.new.source)
     c.from_residual-in_err-canon.result c.in_err-canon.field-0.0 c.from_residual-in_err-canon.ensures.1
     (extract_parts c.in_ok-extract.extract) (rw c.insert-extract.ensures.value at c.in_err-canon.ensures.fault) c.in_ok-extract.ensures.ok
 
@@ -86,19 +86,19 @@ pub returns-in_err-write-clause-fault : goal.returns-in_err-write-clause-fault
 returns-in_err-write-clause-fault g c =
     let call = c.from_residual-in_err-write in
     let is = at-fault call.result _ call.ensures.1 ∙ ap Err c.in_err-write.ensures.fault in
-    write-fault c.args.max_lines c.args.asked.now _ (g.R.Read.remaining (reader_of c.read_narrowed.new.source)) call.result is
+    write-fault c.args.max_lines c.args.asked.now _ (unread_of g.R.Read.remaining c.read_narrowed.new.source) call.result is
 
 pub returns-in_err-write-clause-accepted : goal.returns-in_err-write-clause-accepted
 returns-in_err-write-clause-accepted g c =
     let call = c.from_residual-in_err-write in
     let is = at-fault call.result _ call.ensures.1 ∙ ap Err c.in_err-write.ensures.fault in
-    write-accepted c.args.max_lines c.args.asked.now _ (g.R.Read.remaining (reader_of c.read_narrowed.new.source)) call.result is
+    write-accepted c.args.max_lines c.args.asked.now _ (unread_of g.R.Read.remaining c.read_narrowed.new.source) call.result is
 
 pub returns-in_err-write-clause-answers : goal.returns-in_err-write-clause-answers
 returns-in_err-write-clause-answers g c =
     let call = c.from_residual-in_err-write in
     let is = at-fault call.result _ call.ensures.1 ∙ ap Err c.in_err-write.ensures.fault in
-    write-answers c.args.max_lines c.args.asked.now None None call.result is
+    write-answers c.args.max_lines c.args.asked.now None (unread_of g.R.Read.remaining c.read_narrowed.new.source) call.result is
 
 pub returns-in_err-write-clause-source : goal.returns-in_err-write-clause-source
 returns-in_err-write-clause-source g c =
@@ -108,7 +108,7 @@ returns-in_err-write-clause-source g c =
 
 pub returns-in_err-extract-clause-fault : goal.returns-in_err-extract-clause-fault
 returns-in_err-extract-clause-fault g c =
-    known-read_fault c.args.max_lines c.args.asked.now _ (g.R.Read.remaining (reader_of c.read_narrowed.new.source)) c.from_residual.result
+    known-read_fault c.args.max_lines c.args.asked.now _ (unread_of g.R.Read.remaining c.read_narrowed.new.source) c.from_residual.result
     c.in_err-extract.field-0.0 c.from_residual.ensures.1 c.in_err-extract.ensures.fault
 
 pub returns-in_err-extract-clause-source : goal.returns-in_err-extract-clause-source

@@ -1,6 +1,5 @@
 -- Of known bytes (`known_so`): what they spell is narrowed, or the window that was asked for is to blame (`known-narrowing`).
 use Rattle.std.proofs.Common.{◌≢◌, subst}
-use Rattle.cif_columns.specs.Source.{reader_of}
 use Rattle.cif_columns.proofs.GivenLinesLaws.{known_so}
 use Rattle.cif_extract.specs.ExtractParts.{extract_parts}
 use Rattle.cif_extract.specs.declared.fault.Fault.TheVariants.{Read}
@@ -9,10 +8,11 @@ use Rattle.cif_canon.proofs.BothRead.{read-on}
 use Rattle.cif_canon.proofs.HandedFaults.{at-fault, hands, no-ok}
 use Rattle.cif_canon.proofs.Normalising.{known-narrowing, spells-narrowed, unsaid}
 use Rattle.cif_canon.proofs.normal_form.read_narrowed.Goals as goal
+use Rattle.cif_extract.specs.ReadFault.{unread_of}
 
 pub returns-in_err-narrow-clause-fault : goal.returns-in_err-narrow-clause-fault
 returns-in_err-narrow-clause-fault g c =
-    known-narrowing c.args.max_lines c.args.asked.now _ (g.R.Read.remaining (reader_of c.read_extract.new.source))
+    known-narrowing c.args.max_lines c.args.asked.now _ (unread_of g.R.Read.remaining c.read_extract.new.source)
     c.from_residual-in_err-narrow.result c.in_err-narrow.field-0.0 c.from_residual-in_err-narrow.ensures.1
     (extract_parts c.in_ok-extract.extract) c.in_err-narrow.ensures.fault c.in_ok-extract.ensures.ok
 

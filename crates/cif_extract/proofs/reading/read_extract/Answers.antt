@@ -1,30 +1,30 @@
 -- The invariant names the lines so far: one more (`come_more`), one refused (`at_line`) and the end are said of them all.
 use Rattle.std.proofs.Common.{◌≡◌, ◌+◌, ◌<◌, ◌≤◌, length, ℕ, List, [], ◌++◌, ◌∷◌, Err, IfSome, Ok, Option, Result, Some}
-use Rattle.std.proofs.Common.{◌∙◌, None, ap, arith, refl, rules, subst, sym}
-use Rattle.cif_columns.proofs.GivenLinesLaws.{nothing_left, reading_ends, reading_faults, reading_line}
+use Rattle.std.proofs.Common.{◌∙◌, None, ap, arith, refl, rules, subst, sym, true}
+use Rattle.cif_columns.proofs.GivenLinesLaws.{nothing_left, reading_decides, reading_ends, reading_faults, reading_line}
 use Rattle.cif_columns.proofs.PassedLines.{next_passed}
 use Rattle.cif_columns.proofs.ReadSources.{read_on_both}
-use Rattle.cif_columns.specs.LineReader.{given}
-use Rattle.cif_columns.specs.Source.{HasReadOn, reader_of}
+use Rattle.cif_columns.specs.LineReader.{IsNextFault, given}
+use Rattle.cif_columns.specs.Source.{HasReadOn, reader_of, source_ended}
 use Rattle.cif_columns.specs.declared.source.Source.{Source}
-use Rattle.cif_extract.specs.ReadFault.{FaultReads, IsReadFault, LeavesNothing}
+use Rattle.cif_extract.specs.ReadFault.{FaultReads, IsReadFault, LeavesNothing, unread_of}
 use Rattle.cif_extract.specs.Steps.Reading.{fault_at_line, progress_of}
 use Rattle.cif_extract.specs.declared.extract.Extract.{Extract}
 use Rattle.cif_extract.specs.declared.fault.Fault.{Fault}
 use Rattle.cif_extract.specs.declared.fault.Fault.TheVariants.{Memory}
 use Rattle.cif_extract.specs.declared.reading.TakeFault.{TakeFault}
 use Rattle.cif_extract.specs.declared.reading.TakeFault.TheVariants as untaken
-use Rattle.cif_extract.proofs.FirstRefusals.{at_fault, at_line, fault_handed_on, line_fault_of_reading}
+use Rattle.cif_extract.proofs.FirstRefusals.{at_fault, at_line, fault_handed_on, known_both, line_fault_of_reading}
 use Rattle.cif_extract.proofs.ReadingRuns.{HasCome, come_more, come_none, refused_here, refused_reason, untaken_of_reading, untaken_result}
 use Rattle.cif_extract.proofs.ReadingRuns.{unfinished_of_reading, unfinished_result, whole_result}
 use Rattle.cif_extract.proofs.SpelledBytes.{only_fault, only_read}
 use Rattle.cif_extract.proofs.reading.read_extract.Goals as goal
 
 -- nothing is left, whether there is an extract or not
-if_done : {R A E : Type 0} (remaining : R → Option (List ℕ)) (old new : Source R) (r : Result A E) →
+if_done : {R A E : Type 0} (remaining : R → Option (List ℕ)) (old new : Source R) (r : Result A E) → source_ended new ≡ true →
     IfSome (remaining (reader_of old)) (λ bytes. remaining (reader_of new) ≡ Some []) → LeavesNothing remaining old new r
-if_done remaining old new (Ok a) h = h
-if_done remaining old new (Err e) h = tt
+if_done remaining old new (Ok a) told h = (told, h)
+if_done remaining old new (Err e) told h = tt
 
 -- a fact of any bytes
 of_any : (start : Option (List ℕ)) (P : List ℕ → Type 0) → ((bytes : List ℕ) → P bytes) → IfSome start P
@@ -64,7 +64,7 @@ returns-in_default-clause-fault g c = of_any _ _ (λ bytes. tt)
 
 pub returns-in_default-clause-only : goal.returns-in_default-clause-only
 returns-in_default-clause-only g c =
-    only_fault (g.R.Read.remaining c.args.source.now.reader) c.args.max_lines (g.R.Read.remaining c.loop-columns.source.reader)
+    only_fault (g.R.Read.remaining c.args.source.now.reader) c.args.max_lines (unread_of g.R.Read.remaining c.loop-columns.source)
     (Err Memory) Memory refl (returns-in_default-clause-fault g c)
 
 pub loop-columns-preserved : goal.loop-columns-preserved
@@ -97,33 +97,39 @@ returns-in-Err-take-clause-fault g c =
     next.limit_now more in
     let number : c.line_number.result ≡ length ls + 1 = omega (arith, c.line_number.ensures, more, so_far.counted) in
     rw c.at_line.ensures
-    (untaken_result _ (g.R.Read.remaining c.read_line.new.source.reader) c.args.max_lines c.line_number.result c.in-Err-take.fault
-    (λ why e. at_line c.args.max_lines _ ls come.fine g.R.Read.remaining c.read_line.new.self c.read_line.new.source line
+    (untaken_result _ (unread_of g.R.Read.remaining c.read_line.new.source) c.args.max_lines c.line_number.result c.in-Err-take.fault
+    (λ why e. known_both _ _ _
+    (at_line c.args.max_lines _ ls come.fine g.R.Read.remaining c.read_line.new.self c.read_line.new.source line
     c.line_number.result why
     now number
     (refused_here c.args.max_lines ls line c.take.ensures.line room (progress_of c.loop-columns.reading) come
     ∙ refused_reason _ line (progress_of c.loop-columns.reading) (progress_of c.take.new.self) c.in-Err-take.fault why
-    c.in-Err-take.ensures.taken e)))
+    c.in-Err-take.ensures.taken e))
+    (reading_decides g.R.Read.remaining _ _ _ _ ls so_far c.read_line.new.self c.read_line.new.source c.line_number.result
+    (c.line_number.ensures ∙ more) (next.decided so_far.reads_on (λ is. cc)))))
 
 pub returns-in-Err-clause-fault : goal.returns-in-Err-clause-fault
 returns-in-Err-clause-fault g c =
     let (ls, so_far, come, read_on) = c.loop-columns.invariant in
     let next = c.in-Err.ensures in
     let start = g.R.Read.remaining c.args.source.now.reader in
-    let after = g.R.Read.remaining c.read_line.new.source.reader in
+    let after = unread_of g.R.Read.remaining c.read_line.new.source in
     subst (λ (f : Fault). IfSome start (λ bytes. IsReadFault c.args.max_lines bytes after f)) (sym c.from.ensures)
     (at_fault c.args.max_lines _ ls come.fine after c.in-Err.fault
     (reading_faults g.R.Read.remaining _ _ _ _ ls so_far c.read_line.new.self c.read_line.new.source c.in-Err.fault next.answer
-    (λ e. next.undecided so_far.reads_on (ap Err e))))
+    (λ e. next.undecided so_far.reads_on (ap Err e)))
+    (λ number why is. reading_decides g.R.Read.remaining _ _ _ _ ls so_far c.read_line.new.self c.read_line.new.source number
+    (subst (IsNextFault (given c.loop-columns.lines)) is (next.fault so_far.reads_on)).0
+    (next.decided so_far.reads_on (λ read. cc))))
 
 pub returns-in-Err-clause-only : goal.returns-in-Err-clause-only
 returns-in-Err-clause-only g c =
-    only_fault (g.R.Read.remaining c.args.source.now.reader) c.args.max_lines (g.R.Read.remaining c.read_line.new.source.reader)
+    only_fault (g.R.Read.remaining c.args.source.now.reader) c.args.max_lines (unread_of g.R.Read.remaining c.read_line.new.source)
     (Err c.from.result) c.from.result refl (returns-in-Err-clause-fault g c)
 
 pub returns-in-Err-take-clause-only : goal.returns-in-Err-take-clause-only
 returns-in-Err-take-clause-only g c =
-    only_fault (g.R.Read.remaining c.args.source.now.reader) c.args.max_lines (g.R.Read.remaining c.read_line.new.source.reader)
+    only_fault (g.R.Read.remaining c.args.source.now.reader) c.args.max_lines (unread_of g.R.Read.remaining c.read_line.new.source)
     (Err c.at_line.result) c.at_line.result refl (returns-in-Err-take-clause-fault g c)
 
 pub returns-in-Err-take-clause-ok : goal.returns-in-Err-take-clause-ok
@@ -143,12 +149,13 @@ returns-in-Ok-false-clause-fault g c =
     let next = rw c.in-Ok-false.field-0-test at c.in-Ok-false.ensures in
     let all = reading_ends g.R.Read.remaining _ _ _ _ ls so_far c.read_line.new.self c.read_line.new.source next.answer in
     let number : c.line_number-in-Ok-false.result ≡ length ls = c.line_number-in-Ok-false.ensures ∙ next.ended refl ∙ so_far.counted in
-    unfinished_result (g.R.Read.remaining c.args.source.now.reader) (g.R.Read.remaining c.read_line.new.source.reader) c.args.max_lines ls
-    (progress_of c.loop-columns.reading) c.line_number-in-Ok-false.result c.finish.result all come number c.finish.ensures.truncated
+    unfinished_result (g.R.Read.remaining c.args.source.now.reader) (unread_of g.R.Read.remaining c.read_line.new.source) c.args.max_lines ls
+    (progress_of c.loop-columns.reading) c.line_number-in-Ok-false.result c.finish.result (next.told so_far.reads_on refl) all come number
+    c.finish.ensures.truncated
 
 pub returns-in-Ok-false-clause-only : goal.returns-in-Ok-false-clause-only
 returns-in-Ok-false-clause-only g c =
-    only_read (g.R.Read.remaining c.args.source.now.reader) c.args.max_lines (g.R.Read.remaining c.read_line.new.source.reader)
+    only_read (g.R.Read.remaining c.args.source.now.reader) c.args.max_lines (unread_of g.R.Read.remaining c.read_line.new.source)
     c.finish.result (returns-in-Ok-false-clause-ok g c) (returns-in-Ok-false-clause-fault g c)
 
 pub returns-in-Err-clause-answers : goal.returns-in-Err-clause-answers
@@ -181,7 +188,7 @@ pub returns-in-Ok-false-clause-end : goal.returns-in-Ok-false-clause-end
 returns-in-Ok-false-clause-end g c =
     let (ls, so_far, come, read_on) = c.loop-columns.invariant in
     let next = rw c.in-Ok-false.field-0-test at c.in-Ok-false.ensures in
-    if_done g.R.Read.remaining c.args.source.now c.read_line.new.source c.finish.result
+    if_done g.R.Read.remaining c.args.source.now c.read_line.new.source c.finish.result (next.told so_far.reads_on refl)
     (nothing_left g.R.Read.remaining _ _ _ _ ls so_far c.read_line.new.self c.read_line.new.source next.answer)
 
 pub returns-in-Err-clause-device : goal.returns-in-Err-clause-device

@@ -1,11 +1,10 @@
 -- The text has to be named: the line of the counts, flushed or a prefix; of known bytes `check-answer` says that it answers.
 use Rattle.std.proofs.Common.{◌≢◌, refl, subst, sym}
-use Rattle.cif_extract.specs.ReadFault.{FaultOf}
+use Rattle.cif_extract.specs.ReadFault.{FaultOf, unread_of}
 use Rattle.cif_extract.specs.declared.fault.Fault.TheVariants.{Read}
 use Rattle.cif_canon.proofs.HandedFaults.{at-fault}
 use Rattle.cif_canon.specs.Counts.{counts_line}
 use Rattle.cif_canon.specs.Fault.{IsNormaliseFault, IsOfCheck}
-use Rattle.cif_columns.specs.Source.{reader_of}
 use Rattle.cif_columns.proofs.GivenLinesLaws.{known_so}
 use Rattle.cif_columns.specs.declared.line_reader.TheConstants.{MAX_LINES}
 use Rattle.cif_tool.proofs.Answered.{fails-silently, handed-text, only-fails, told-as}
@@ -34,7 +33,7 @@ returns-clause-answer g c =
 
 pub returns-clause-fault : goal.returns-clause-fault
 returns-clause-fault g c =
-    let after = g.R.Read.remaining (reader_of c.check_keeping.new.source) in
+    let after = unread_of g.R.Read.remaining c.check_keeping.new.source in
     let call = c.map_err-written in
     let told = told-as _ _ _ _ _ _ _ c.write_counts.result call.result call.ensures.cases c.write_counts.ensures in
     known_so _ _ _ (λ bytes is.

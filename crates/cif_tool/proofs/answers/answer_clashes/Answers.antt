@@ -1,6 +1,5 @@
 -- The text is that of all clashes of what was narrowed (`clashes-answer`); each call's faults are of known bytes.
 use Rattle.std.proofs.Common.{◌≢◌, inl, inr, refl, subst, sym}
-use Rattle.cif_columns.specs.Source.{reader_of}
 use Rattle.cif_columns.proofs.GivenLinesLaws.{known_so}
 use Rattle.cif_extract.specs.ExtractParts.{extract_parts}
 use Rattle.cif_extract.specs.declared.fault.Fault.TheVariants.{Read, Write}
@@ -10,12 +9,13 @@ use Rattle.cif_tool.specs.Answer.{IsClashesRefusal}
 use Rattle.cif_tool.specs.Status.{listed_status}
 use Rattle.cif_tool.proofs.Answered.{fails-silently, handed-text, only-fails}
 use Rattle.cif_canon.proofs.BothRead.{read-on}
+use Rattle.cif_extract.specs.ReadFault.{unread_of}
 use Rattle.cif_tool.proofs.KnownAnswers.{clashes-answer}
 use Rattle.cif_tool.proofs.answers.answer_clashes.Goals as goal
 
 pub returns-in_err-narrow-clause-fault : goal.returns-in_err-narrow-clause-fault
 returns-in_err-narrow-clause-fault g c =
-    let after = g.R.Read.remaining (reader_of c.read_extract.new.source) in
+    let after = unread_of g.R.Read.remaining c.read_extract.new.source in
     known-fault c.from_residual-in_err-narrow.result c.in_err-narrow.field-0.0 c.from_residual-in_err-narrow.ensures.1 _ _
     (λ bytes. IsClashesRefusal c.args.asked.now bytes after)
     (λ bytes spelled. inr (extract_parts c.in_ok-extract.extract, spelled, inl c.in_err-narrow.ensures.fault))
@@ -30,7 +30,7 @@ returns-in_err-found-clause-answer g c =
 
 pub returns-in_err-found-clause-fault : goal.returns-in_err-found-clause-fault
 returns-in_err-found-clause-fault g c =
-    let after = g.R.Read.remaining (reader_of c.read_extract.new.source) in
+    let after = unread_of g.R.Read.remaining c.read_extract.new.source in
     known-fault c.from_residual-in_err-found.result c.in_err-found.field-0.0 c.from_residual-in_err-found.ensures.1 _ _
     (λ bytes. IsClashesRefusal c.args.asked.now bytes after)
     (λ bytes spelled. inr (extract_parts c.in_ok-extract.extract, spelled, inr (inl c.in_err-found.ensures.fault)))
@@ -48,7 +48,7 @@ returns-clause-answer g c =
 
 pub returns-clause-fault : goal.returns-clause-fault
 returns-clause-fault g c =
-    let after = g.R.Read.remaining (reader_of c.read_extract.new.source) in
+    let after = unread_of g.R.Read.remaining c.read_extract.new.source in
     known_so _ _ _ (λ bytes spelled.
     only-fails _ _ _ (IsClashesRefusal c.args.asked.now bytes after) c.listed.result c.write.result c.write.new.sink
     c.finish.new.sink c.finish.result c.write.ensures.fault

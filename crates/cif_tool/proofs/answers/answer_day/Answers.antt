@@ -1,7 +1,6 @@
 -- The text has to be named: that of the view, flushed or a prefix; of known bytes `day-answer` says that it answers.
 -- `read`: what was read, of the extract that is kept.
 use Rattle.std.proofs.Common.{◌≢◌, inr, subst}
-use Rattle.cif_columns.specs.Source.{reader_of}
 use Rattle.cif_columns.proofs.GivenLinesLaws.{known_so}
 use Rattle.cif_extract.specs.ExtractParts.{extract_parts}
 use Rattle.cif_extract.specs.declared.fault.Fault.TheVariants.{Read}
@@ -9,6 +8,7 @@ use Rattle.cif_canon.specs.Views.{IsDayFault}
 use Rattle.cif_tool.specs.Answer.{IsDayRefusal}
 use Rattle.cif_tool.proofs.Answered.{handed, handed-fault, written-then}
 use Rattle.cif_canon.proofs.BothRead.{read-on}
+use Rattle.cif_extract.specs.ReadFault.{unread_of}
 use Rattle.cif_tool.proofs.KnownAnswers.{day-answer}
 use Rattle.cif_tool.proofs.answers.answer_day.Goals as goal
 
@@ -25,7 +25,7 @@ returns-clause-answer g c =
 pub returns-clause-fault : goal.returns-clause-fault
 returns-clause-fault g c =
     let read = rw (← c.insert-extract.ensures.value) at c.in_ok-extract.ensures.ok in
-    let after = g.R.Read.remaining (reader_of c.read_extract.new.source) in
+    let after = unread_of g.R.Read.remaining c.read_extract.new.source in
     let x = extract_parts c.insert-extract.result.now in
     let call = c.day_listing in
     known_so _ _ _ (λ bytes spelled.

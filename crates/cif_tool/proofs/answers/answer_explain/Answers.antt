@@ -1,6 +1,5 @@
 -- The text has to be named: that of the view, flushed or a prefix; of known bytes `explain-answer` says that it answers.
 use Rattle.std.proofs.Common.{◌≢◌, inr, subst}
-use Rattle.cif_columns.specs.Source.{reader_of}
 use Rattle.cif_columns.proofs.GivenLinesLaws.{known_so}
 use Rattle.cif_extract.specs.ExtractParts.{extract_parts}
 use Rattle.cif_extract.specs.declared.fault.Fault.TheVariants.{Read}
@@ -8,6 +7,7 @@ use Rattle.cif_canon.specs.Explanation.{IsExplanationFault}
 use Rattle.cif_tool.specs.Answer.{IsExplainRefusal}
 use Rattle.cif_tool.proofs.Answered.{handed, handed-fault, written-then}
 use Rattle.cif_canon.proofs.BothRead.{read-on}
+use Rattle.cif_extract.specs.ReadFault.{unread_of}
 use Rattle.cif_tool.proofs.KnownAnswers.{explain-answer}
 use Rattle.cif_tool.proofs.answers.answer_explain.Goals as goal
 
@@ -22,7 +22,7 @@ returns-clause-answer g c =
 
 pub returns-clause-fault : goal.returns-clause-fault
 returns-clause-fault g c =
-    let after = g.R.Read.remaining (reader_of c.read_extract.new.source) in
+    let after = unread_of g.R.Read.remaining c.read_extract.new.source in
     let x = extract_parts c.in_ok-extract.extract in
     let call = c.explain_listing in
     known_so _ _ _ (λ bytes spelled.

@@ -1,9 +1,8 @@
 -- The text has to be named: what `normalise` wrote, flushed or a prefix; of known bytes `normalise-answer` says that it answers.
 use Rattle.std.proofs.Common.{◌≢◌, subst, sym}
-use Rattle.cif_columns.specs.Source.{reader_of}
 use Rattle.cif_columns.specs.declared.line_reader.TheConstants.{MAX_LINES}
 use Rattle.cif_columns.proofs.GivenLinesLaws.{known_so}
-use Rattle.cif_extract.specs.ReadFault.{FaultOf}
+use Rattle.cif_extract.specs.ReadFault.{FaultOf, unread_of}
 use Rattle.cif_extract.specs.declared.fault.Fault.TheVariants.{Read}
 use Rattle.cif_canon.specs.Fault.{IsNormaliseFault}
 use Rattle.cif_canon.proofs.HandedFaults.{at-fault}
@@ -36,7 +35,7 @@ returns-clause-answer g c =
 
 pub returns-clause-fault : goal.returns-clause-fault
 returns-clause-fault g c =
-    let after = g.R.Read.remaining (reader_of c.normalise_keeping.new.source) in
+    let after = unread_of g.R.Read.remaining c.normalise_keeping.new.source in
     known_so _ _ _ (λ bytes is. only-write (IsNormaliseFault MAX_LINES c.args.asked.now bytes after) c.finish.result
     c.finish.ensures.finishes.2 tt) c.in_ok-normalise_keeping.ensures.normal.2
 

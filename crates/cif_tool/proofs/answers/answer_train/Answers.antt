@@ -1,7 +1,6 @@
 -- The text is that of the view of what was narrowed (`train-answer`); the view's faults are of known bytes (`train-fault`).
 -- `read`: what was read, of the extract that is kept.
 use Rattle.std.proofs.Common.{◌≢◌, subst}
-use Rattle.cif_columns.specs.Source.{reader_of}
 use Rattle.cif_columns.proofs.GivenLinesLaws.{known_so}
 use Rattle.cif_columns.specs.declared.line_reader.TheConstants.{MAX_LINES}
 use Rattle.cif_extract.specs.ExtractParts.{extract_parts}
@@ -12,6 +11,7 @@ use Rattle.cif_canon.proofs.HandedFaults.{at-fault}
 use Rattle.cif_canon.proofs.Normalising.{known-read_fault}
 use Rattle.cif_tool.proofs.Answered.{fails-silently, handed, handed-fault, written-then}
 use Rattle.cif_canon.proofs.BothRead.{read-on}
+use Rattle.cif_extract.specs.ReadFault.{unread_of}
 use Rattle.cif_tool.proofs.KnownAnswers.{train-answer}
 use Rattle.cif_tool.proofs.TrainFaults.{train-fault}
 use Rattle.cif_tool.proofs.answers.answer_train.Goals as goal
@@ -24,7 +24,7 @@ returns-in_err-extract-clause-answer g c =
 
 pub returns-in_err-extract-clause-fault : goal.returns-in_err-extract-clause-fault
 returns-in_err-extract-clause-fault g c =
-    known-read_fault MAX_LINES c.args.asked.now _ (g.R.Read.remaining (reader_of c.read_narrowed.new.source)) c.from_residual.result
+    known-read_fault MAX_LINES c.args.asked.now _ (unread_of g.R.Read.remaining c.read_narrowed.new.source) c.from_residual.result
     c.in_err-extract.field-0.0 c.from_residual.ensures.1 c.in_err-extract.ensures.fault
 
 pub returns-clause-answer : goal.returns-clause-answer
@@ -39,7 +39,7 @@ returns-clause-answer g c =
 pub returns-clause-fault : goal.returns-clause-fault
 returns-clause-fault g c =
     let read = rw (← c.insert-extract.ensures.value) at c.in_ok-extract.ensures.ok in
-    let after = g.R.Read.remaining (reader_of c.read_narrowed.new.source) in
+    let after = unread_of g.R.Read.remaining c.read_narrowed.new.source in
     let x = extract_parts c.insert-extract.result.now in
     let call = c.train_listing in
     known_so _ _ _ (λ bytes spelled.

@@ -1,5 +1,5 @@
 -- Moving and reading change the buffer: by `held_grown` what is held is what was held, and then the piece that was read.
-use Rattle.std.proofs.Common.{◌≡◌, ◌-◌, Bool, Result, [], drop, ltb-false, arith, ap, sym, ◌∙◌, true, false, append-nil, length-drop}
+use Rattle.std.proofs.Common.{◌≡◌, ◌-◌, ◌<◌, Bool, Result, length, [], drop, ltb-false, arith, ap, sym, ◌∙◌, true, false, append-nil, length-drop}
 use Rattle.std.proofs.Common.{length-take}
 use Rattle.std.proofs.KnownBytes.{Consumes-kept, Consumes-nil}
 use Rattle.std.proofs.lemmas.Bool.{ltb-true}
@@ -29,18 +29,20 @@ returns-in-Ok-clause-end g c none =
     let copied = c.copy_within.ensures in
     let len = this.end - this.start in
     let zero : c.in-Ok.n ≡ 0 =
-    omega (arith, ltb-false 0 c.in-Ok.n (ap (λ (r : Result Bool _). result_unwrap_or r true) none)) in (
+    omega (arith, ltb-false 0 c.in-Ok.n (ap (λ (r : Result Bool _). result_unwrap_or r true) none)) in
+    let some : 0 < length c.read.new.buf = omega (
+      arith,
+      c.requires,
+      copied.len,
+      length-take len (drop this.start this.buf),
+      length-drop this.start this.buf,
+      length-take (16384 - len) (drop len c.copy_within.new.self),
+      length-drop len c.copy_within.new.self,
+    ) in (
       held_same this.buf c.copy_within.new.self c.read.new.buf this.start this.end (16384 - len) copied.after copied.len this.ordered
           (omega arith) c.in-Ok.n zero,
-      c.in-Ok.ensures.bytes.1 zero (omega (
-        arith,
-        c.requires,
-        copied.len,
-        length-take len (drop this.start this.buf),
-        length-drop this.start this.buf,
-        length-take (16384 - len) (drop len c.copy_within.new.self),
-        length-drop len c.copy_within.new.self,
-      )),
+      c.in-Ok.ensures.bytes.1 zero some,
+      c.in-Ok.ensures.ended.1 (zero, some),
     )
 
 pub returns-in-Err-clause-err : goal.returns-in-Err-clause-err

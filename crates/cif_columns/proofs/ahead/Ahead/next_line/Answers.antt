@@ -32,6 +32,17 @@ loop-found-preserved g c = record {
   read_on = read_on_both _ _ _ _ c.loop-found.invariant.read_on c.in-Ok-true.ensures.device.1;
 }
 
+pub returns-in-Some-clause-decided : goal.returns-in-Some-clause-decided
+returns-in-Some-clause-decided g c _ _ = record {
+  given = held_bytes c.loop-found.self;
+  parts = c.loop-found.invariant.same_bytes;
+  decided = c.in-Some.ensures.decided refl;
+}
+
+pub returns-in-Ok-false-clause-decided : goal.returns-in-Ok-false-clause-decided
+returns-in-Ok-false-clause-decided g c _ not =
+    let told = (c.in-Ok-false.ensures.end (ap Ok c.in-Ok-false.field-0-test)).2 in absurd (cc)
+
 pub returns-in-Err-clause-device : goal.returns-in-Err-clause-device
 returns-in-Err-clause-device g c = failed_after _ _ _ _ c.loop-found.invariant.read_on c.in-Err.ensures.device
 

@@ -16,7 +16,7 @@ returns-then-line_with_feed g c =
     (rw c.pass_line_with_feed.ensures
     (found_more _ _ (g.R.Read.remaining c.args.source.now.reader) held (drop 81 held) (Next c.line_with_feed.new.line) (Keeps-refl _)
     (found.decided refl) (found.found refl)))
-    (search rules)
+    (search rules) (λ _. record { given = held; parts = Keeps-refl _; decided = found.decided refl })
 
 pub invariant_of-self : goal.invariant_of-self
 invariant_of-self g c =
