@@ -4,7 +4,7 @@ use Rattle.std.specs.Ordering.{nat_cmp}
 use Rattle.std.specs.Cmp.Lexicographic.{slice_cmp}
 use Rattle.cif_calendar.specs.Keys.{AreClear, IsFirstClashOf}
 use Rattle.cif_extract.specs.ExtractParts.{ExtractParts}
-use Rattle.cif_extract.specs.ReadFault.{IsOfReading, IsReadFault, Unread}
+use Rattle.cif_extract.specs.ReadFault.{IsOfReading, IsReadFault}
 use Rattle.cif_extract.specs.SpellsExtract.{BytesSpellWithin}
 use Rattle.cif_extract.specs.declared.fault.Clash.{Clash}
 use Rattle.cif_extract.specs.declared.fault.Clash.TheVariants.{Association, Train}
@@ -14,6 +14,7 @@ use Rattle.cif_records.specs.AssocKey.{key_cmp}
 use Rattle.cif_canon.specs.Accepted.{SpellsNarrowed}
 use Rattle.cif_canon.specs.Asked.{IsNarrowingFault}
 use Rattle.cif_calendar.specs.Entries.{association_entries, schedule_entries}
+use Rattle.cif_columns.specs.Source.{Unread}
 use Rattle.cif_canon.specs.declared.asked.Asked.{Asked}
 
 -- The first clash of an extract in its window: that of associations, by the least key and its first day, or, where these are clear,

@@ -1,10 +1,10 @@
 -- Two extracts, in a window that is asked for of both: what `compare` and `diff` read.
 use Rattle.std.specs.Prelude.{◌≡◌, ◌⊎◌, ℕ, Bool, true, false, List, Option, Some, IfSome, Result, max, min, unwrap_or}
-use Rattle.cif_columns.specs.Source.{HasReadOn, reader_of}
+use Rattle.cif_columns.specs.Source.{HasReadOn, Unread, reader_of, unread_of}
 use Rattle.cif_columns.specs.declared.line_reader.TheConstants.{MAX_LINES}
 use Rattle.cif_columns.specs.declared.source.Source.{Source}
 use Rattle.cif_extract.specs.ExtractParts.{ExtractParts}
-use Rattle.cif_extract.specs.ReadFault.{FaultOf, FaultReads, IsReadFault, Unread, unread_of}
+use Rattle.cif_extract.specs.ReadFault.{FaultOf, FaultReads, IsReadFault}
 use Rattle.cif_extract.specs.SpellsExtract.{BytesSpellWithin}
 use Rattle.cif_extract.specs.declared.fault.Fault.{Fault}
 use Rattle.cif_extract.specs.declared.fault.Fault.TheVariants.{Write}

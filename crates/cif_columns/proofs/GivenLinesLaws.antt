@@ -12,8 +12,8 @@ use Rattle.cif_columns.specs.declared.refusal.Refusal.{Refusal}
 use Rattle.cif_columns.specs.declared.source.Source.{Source}
 use Rattle.cif_columns.specs.Contents.{contents_of, HasLineReason, DecidesNothing}
 use Rattle.cif_columns.specs.Line.{IsLine}
-use Rattle.cif_columns.specs.Source.{source_ended}
-use Rattle.cif_columns.specs.LineReader.{held, given, limit, past, left, GivenDecide, IsNextLine, Answers}
+use Rattle.cif_columns.specs.Source.{source_ended, unread_of}
+use Rattle.cif_columns.specs.LineReader.{held, given, limit, past, left, GivenDecide, IsNext, IsNextLine, Answers}
 use Rattle.cif_columns.specs.GivenLines.{AreWholeLinesAndRest, KnownGiven, IsReading, AreAllLines, AreLinesToRefusal, AreLinesToFailure}
 use Rattle.cif_columns.specs.GivenLines.{AreLinesToFault, EndsLine, IsLineDecided}
 use Rattle.cif_columns.proofs.WholeLines.{lines_whole, piece_of, ends_after, ends_before, lines_piece}
@@ -75,6 +75,11 @@ given_front bytes ls rest front unread parts so_far = (
 pub known_so : (start : Option (List ℕ)) (P Q : List ℕ → Type 0) → ((bytes : List ℕ) → P bytes → Q bytes) → IfSome start P → IfSome start Q
 known_so None P Q f h = tt
 known_so (Some bytes) P Q f h = f bytes h
+
+-- two facts of bytes that may be known
+pub known_both : (start : Option (List ℕ)) (P Q : List ℕ → Type 0) → IfSome start P → IfSome start Q → IfSome start (λ bytes. P bytes × Q bytes)
+known_both None P Q p q = tt
+known_both (Some bytes) P Q p q = (p, q)
 
 -- ---- a reader at a source
 
@@ -240,10 +245,10 @@ module _ {R : Type 0} (remaining : R → Option (List ℕ)) where
           at (Some bytes) (Some rest) known decides = λ not. by bytes rest (remaining source'.reader) known (decides not)
 
       -- either fault
-      pub reading_faults : (fault : LineFault)
-          → (past reader ≡ Reading → IfSome (left remaining reader source)
-          (λ bytes. Answers (limit reader) (given reader) bytes (Err fault) (left remaining reader' source')))
-          → (fault ≡ Read → DecidesNothing (limit reader) (given reader) (held reader'))
-          → IfSome start (λ bytes. AreLinesToFault max bytes (remaining source'.reader) ls fault)
-      reading_faults (Refused number why) answer undecided = reading_refuses number why answer
-      reading_faults Read answer undecided = reading_fails answer (undecided refl)
+      pub reading_faults : (errors : R → Option ℕ) (fault : LineFault)
+          → IsNext remaining errors reader source (Err fault) reader' source'
+          → IfSome start (λ bytes. AreLinesToFault max bytes (unread_of remaining source') ls fault)
+      reading_faults errors (Refused number why) next =
+          known_both start _ _ (reading_refuses number why next.answer)
+          (reading_decides number (next.fault so_far.reads_on).0 (next.decided so_far.reads_on (λ is. cc)))
+      reading_faults errors Read next = reading_fails next.answer (next.undecided so_far.reads_on refl)

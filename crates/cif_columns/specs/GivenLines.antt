@@ -1,5 +1,5 @@
 -- The lines that a `LineReader` gives of bytes, one after another, and how that ends.
-use Rattle.std.specs.Prelude.{◌≡◌, ◌⊎◌, ℕ, ◌+◌, ◌≤◌, List, [], ◌∷◌, ◌++◌, length, All, Option, IfSome, IsSomeAnd}
+use Rattle.std.specs.Prelude.{◌≡◌, ◌⊎◌, ℕ, ◌+◌, ◌≤◌, List, [], ◌∷◌, ◌++◌, length, All, Option, IfSome, IsSomeAnd, false}
 use Rattle.cif_columns.specs.declared.refusal.LineFault.{LineFault}
 use Rattle.cif_columns.specs.declared.refusal.LineFault.TheVariants.{Refused, Read}
 use Rattle.cif_columns.specs.declared.line_reader.LineReader.{LineReader}
@@ -9,6 +9,7 @@ use Rattle.cif_columns.specs.declared.source.Source.{Source}
 use Rattle.cif_columns.specs.Contents.{contents_of, HasLineReason, DecidesNothing}
 use Rattle.cif_columns.specs.Line.{IsLine}
 use Rattle.cif_columns.specs.LineReader.{given, limit, past, left}
+use Rattle.cif_columns.specs.Source.{Unread}
 
 -- bytes that end with a line feed, or that nothing follows: their last line doesn't go on
 abbrev pub EndsLine : List ℕ → List ℕ → Type 0
@@ -71,7 +72,12 @@ pub record IsLineDecided (max : ℕ) (bytes unread : List ℕ) (number : ℕ) : 
   pub numbered : number ≡ length lines + 1
   pub decided : ¬ DecidesNothing max (length lines) rest
 
--- the lines that were given of the bytes before this fault, where `after` is what the reader has left then
-abbrev pub AreLinesToFault : ℕ → List ℕ → Option (List ℕ) → List (List ℕ) → LineFault → Type 0
-AreLinesToFault max bytes after lines (Refused number why) = AreLinesToRefusal max bytes lines number why
-AreLinesToFault max bytes after lines Read = IsSomeAnd after (λ unread. AreLinesToFailure max bytes unread lines)
+-- The line of this number is decided, whatever follows: by what the source gave of the bytes, or else by the end that it told.
+abbrev pub IsDecided : ℕ → List ℕ → Unread → ℕ → Type 0
+IsDecided max bytes after number = after.ended ≡ false → IsSomeAnd after.bytes (λ unread. IsLineDecided max bytes unread number)
+
+-- the lines that were given of the bytes before this fault, where `after` is left then
+abbrev pub AreLinesToFault : ℕ → List ℕ → Unread → List (List ℕ) → LineFault → Type 0
+AreLinesToFault max bytes after lines (Refused number why) =
+    AreLinesToRefusal max bytes lines number why × IsDecided max bytes after number
+AreLinesToFault max bytes after lines Read = IsSomeAnd after.bytes (λ unread. AreLinesToFailure max bytes unread lines)

@@ -1,5 +1,5 @@
 -- What a clause reads of a `Source`, and what a call that reads owes its source.
-use Rattle.std.specs.Prelude.{◌≡◌, ℕ, Bool, true, false, Option, Result, Ok, Err}
+use Rattle.std.specs.Prelude.{◌≡◌, ℕ, Bool, true, false, List, Option, Result, Ok, Err}
 use Rattle.cif_columns.specs.Devices.{OneError}
 use Rattle.cif_columns.specs.declared.source.ReadFault.{ReadFault}
 use Rattle.cif_columns.specs.declared.source.Source.{Source}
@@ -15,6 +15,14 @@ source_failed s = s.failed
 -- whether the reader told its end in the last read: it was asked for bytes and gave none
 abbrev pub source_ended : {R : Type 0} → Source R → Bool
 source_ended s = s.ended
+
+-- what is left of a source after a call: the bytes of its reader, where they are known, and whether it told its end in its last read
+pub record Unread : Type 0 where
+  pub bytes : Option (List ℕ)
+  pub ended : Bool
+
+abbrev pub unread_of : {R : Type 0} → (R → Option (List ℕ)) → Source R → Unread
+unread_of remaining source = record { bytes = remaining (reader_of source); ended = source_ended source }
 
 -- A call that reads, or doesn't need to, hasn't failed: the source has failed or not as before, and its reader's errors, where
 -- they are known, are those of before. A source that had failed before is as it was.

@@ -13,7 +13,7 @@ use Rattle.cif_columns.specs.FirstLine.{is_printable}
 use Rattle.cif_columns.specs.GivenLines.{AreLinesToFailure, AreLinesToFault, IsReading, KnownGiven}
 use Rattle.cif_columns.specs.Line.{IsLine}
 use Rattle.cif_columns.specs.LineReader.{IsNextFault, LineReads, left}
-use Rattle.cif_columns.specs.Source.{HasReadOn}
+use Rattle.cif_columns.specs.Source.{HasReadOn, Unread}
 use Rattle.cif_columns.specs.declared.line.Line.{Line}
 use Rattle.cif_columns.specs.declared.refusal.LineFault.{LineFault}
 use Rattle.cif_columns.specs.declared.refusal.LineFault.TheVariants as line_fault
@@ -28,7 +28,7 @@ use Rattle.cif_extract.specs.Fault.{of_line_fault}
 use Rattle.cif_extract.specs.FirstRefusal.{NoneRefused, IsCutBeforeRefusal, IsFirstRefusal, IsRefusedLine, order_refusal}
 use Rattle.cif_extract.specs.FirstRefusal.{refusal_of}
 use Rattle.cif_extract.specs.OrderOfRecords.{place_behind}
-use Rattle.cif_extract.specs.ReadFault.{FaultReads, IsDecided, IsOfReading, IsReadFault, Unread}
+use Rattle.cif_extract.specs.ReadFault.{FaultReads, IsOfReading, IsReadFault}
 use Rattle.cif_extract.specs.declared.fault.Fault.{Fault}
 use Rattle.cif_records.specs.Checks.{first_of}
 use Rattle.cif_records.specs.Kind.{kind_in}
@@ -38,12 +38,6 @@ use Rattle.cif_records.proofs.Judging.{none-some}
 pub or_none : {A : Type 0} (o : Option A) → option_or o None ≡ o
 or_none None = refl
 or_none (Some x) = refl
-
--- two facts of bytes that may be known
-pub known_both : (start : Option (List ℕ)) (P Q : List ℕ → Type 0) → IfSome start P → IfSome start Q
-    → IfSome start (λ bytes. P bytes × Q bytes)
-known_both None P Q p q = tt
-known_both (Some bytes) P Q p q = (p, q)
 
 -- what doesn't hold is false
 pub not_true : (b : Bool) → (b ≡ true → ⊥) → b ≡ false
@@ -109,19 +103,21 @@ module _ (max : ℕ) where
   -- where a reading stops, and why
   module _ (start : Option (List ℕ)) (ls : List (List ℕ)) (fine : NoneRefused max ls) where
     -- at a fault of the lines
-    pub at_fault : (after : Unread) (fault : LineFault) → IfSome start (λ bytes. AreLinesToFault max bytes after.bytes ls fault) →
-        ((number : ℕ) (why : Refusal) → fault ≡ line_fault.Refused number why → IfSome start (λ bytes. IsDecided max bytes after number)) →
+    pub at_fault : (after : Unread) (fault : LineFault) → IfSome start (λ bytes. AreLinesToFault max bytes after ls fault) →
         IfSome start (λ bytes. IsReadFault max bytes after (of_line_fault fault))
-    at_fault after (line_fault.Refused number why) h decided = known_both start _ _ (known_so start _ _ (λ bytes r. inl (record {
-      before = ls;
-      content = r.content;
-      after = r.others;
-      parts = r.contents;
-      fine = fine;
-      numbered = r.next;
-      reason = line_reason ls r.content number why r.next r.reason;
-    })) h) (decided number why refl)
-    at_fault after line_fault.Read h decided = known_so start _ _ (λ bytes r. at bytes after.bytes r) h
+    at_fault after (line_fault.Refused number why) h = known_so start _ _ (λ bytes r. (
+      inl (record {
+        before = ls;
+        content = r.0.content;
+        after = r.0.others;
+        parts = r.0.contents;
+        fine = fine;
+        numbered = r.0.next;
+        reason = line_reason ls r.0.content number why r.0.next r.0.reason;
+      }),
+      r.1,
+    )) h
+    at_fault after line_fault.Read h = known_so start _ _ (λ bytes r. at bytes after.bytes r) h
       where
         at : (bytes : List ℕ) (after : Option (List ℕ)) → IsSomeAnd after (λ unread. AreLinesToFailure max bytes unread ls) →
             IsSomeAnd after (IsCutBeforeRefusal max bytes)

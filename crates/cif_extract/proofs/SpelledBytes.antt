@@ -4,11 +4,12 @@ use Rattle.std.proofs.Common.{subst, arith, ⊎_elim}
 use Rattle.std.proofs.lemmas.List.Elements.{All-tail}
 use Rattle.std.specs.Prelude.{All}
 use Rattle.cif_columns.specs.Contents.{contents_of}
+use Rattle.cif_columns.specs.Source.{Unread}
 use Rattle.cif_columns.specs.declared.refusal.Refusal.{Refusal}
 use Rattle.cif_extract.specs.ExtractParts.{ExtractParts, extract_parts}
 use Rattle.cif_extract.specs.FirstRefusal.{IsFirstRefusal, IsTruncated}
 use Rattle.cif_extract.specs.Grammar.{records_before_trailer}
-use Rattle.cif_extract.specs.ReadFault.{IsReadAs, IsReadFault, Unread}
+use Rattle.cif_extract.specs.ReadFault.{IsReadAs, IsReadFault}
 use Rattle.cif_extract.specs.SpellsExtract.{BytesSpell, BytesSpellWithin, SpellAll}
 use Rattle.cif_extract.specs.declared.extract.Extract.{Extract}
 use Rattle.cif_extract.specs.declared.fault.Fault.{Fault}

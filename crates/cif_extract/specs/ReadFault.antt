@@ -1,26 +1,14 @@
 -- Why bytes are no extract, or can't be read.
-use Rattle.std.specs.Prelude.{◌≡◌, ◌≤◌, ◌+◌, ⊤, ℕ, Bool, true, false, List, [], Option, Some, IfErr, IfSome, IsSomeAnd}
+use Rattle.std.specs.Prelude.{◌≡◌, ◌≤◌, ◌+◌, ⊤, ℕ, true, List, [], Option, Some, IfErr, IfSome, IsSomeAnd}
 use Rattle.std.specs.Prelude.{Result, Ok, Err}
-use Rattle.cif_columns.specs.GivenLines.{IsLineDecided}
-use Rattle.cif_columns.specs.Source.{HasFailedToRead, HasReadOn, reader_of, source_ended}
+use Rattle.cif_columns.specs.GivenLines.{IsDecided}
+use Rattle.cif_columns.specs.Source.{HasFailedToRead, HasReadOn, Unread, reader_of, source_ended, unread_of}
 use Rattle.cif_columns.specs.declared.source.Source.{Source}
 use Rattle.cif_extract.specs.ExtractParts.{ExtractParts, extract_parts}
 use Rattle.cif_extract.specs.FirstRefusal.{IsFirstRefusal, IsCutBeforeRefusal}
 use Rattle.cif_extract.specs.declared.extract.Extract.{Extract}
 use Rattle.cif_extract.specs.declared.fault.Fault.{Fault}
 use Rattle.cif_extract.specs.declared.fault.Fault.TheVariants.{Refused, Read, Memory}
-
--- what is left of a source after a call: the bytes of its reader, where they are known, and whether it told its end in its last read
-pub record Unread : Type 0 where
-  pub bytes : Option (List ℕ)
-  pub ended : Bool
-
-abbrev pub unread_of : {R : Type 0} → (R → Option (List ℕ)) → Source R → Unread
-unread_of remaining source = record { bytes = remaining (reader_of source); ended = source_ended source }
-
--- The line of this number is decided, whatever follows: by what the source gave of the bytes, or else by the end that it told.
-abbrev pub IsDecided : ℕ → List ℕ → Unread → ℕ → Type 0
-IsDecided max bytes after number = after.ended ≡ false → IsSomeAnd after.bytes (λ unread. IsLineDecided max bytes unread number)
 
 -- Why these bytes are no extract, or can't be read, where `after` is left then: their first refusal, of a line that is decided, or a
 -- failure of the source before one was. No contract foretells that memory runs out.

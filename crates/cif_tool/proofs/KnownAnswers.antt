@@ -3,6 +3,7 @@ use Rattle.std.proofs.Common.{◌≡◌, ◌↔◌, ◌⊎◌, ℕ, Bool, true, 
 use Rattle.std.proofs.Common.{refl, sym, true≢false}
 use Rattle.cif_columns.specs.declared.line_reader.TheConstants.{MAX_LINES}
 use Rattle.cif_columns.proofs.GivenLinesLaws.{known_so}
+use Rattle.cif_columns.specs.Source.{Unread}
 use Rattle.cif_extract.specs.ExtractParts.{ExtractParts}
 use Rattle.cif_extract.specs.SpellsExtract.{BytesSpellWithin}
 use Rattle.cif_extract.specs.declared.fault.Clash.{Clash}
@@ -24,7 +25,6 @@ use Rattle.cif_canon.specs.declared.comparison.Comparison.{Comparison}
 use Rattle.cif_canon.specs.declared.canonical_form.Counts.{Counts}
 use Rattle.cif_canon.specs.declared.layout.Format.{Format}
 use Rattle.cif_canon.specs.declared.layout.Layout.{Layout}
-use Rattle.cif_extract.specs.ReadFault.{Unread}
 use Rattle.cif_tool.specs.Answer.{IsCheckAnswer, IsClashesAnswer, IsCompareAnswer, IsDayAnswer, IsDiffAnswer}
 use Rattle.cif_tool.specs.Answer.{IsExplainAnswer, IsListedStatus, IsNormaliseAnswer, IsTrainAnswer}
 use Rattle.cif_tool.specs.Status.{listed_status, outcome_of}

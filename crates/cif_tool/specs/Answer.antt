@@ -1,12 +1,12 @@
 -- What the commands answer: a text on the output, and a status.
 use Rattle.std.specs.Prelude.{◌≡◌, ◌⊎◌, ⊤, ℕ, Bool, List, Option, IfSome, Result, Ok, Err, IfOk, IfErr, []}
 use Rattle.cif_columns.specs.Sink.{Writes, writer_of}
-use Rattle.cif_columns.specs.Source.{reader_of}
+use Rattle.cif_columns.specs.Source.{Unread, reader_of}
 use Rattle.cif_columns.specs.declared.line_reader.TheConstants.{MAX_LINES}
 use Rattle.cif_columns.specs.declared.sink.Sink.{Sink}
 use Rattle.cif_columns.specs.declared.source.Source.{Source}
 use Rattle.cif_extract.specs.ExtractParts.{ExtractParts}
-use Rattle.cif_extract.specs.ReadFault.{FaultOf, FaultReads, IsReadFault, LeavesNothing, Unread}
+use Rattle.cif_extract.specs.ReadFault.{FaultOf, FaultReads, IsReadFault, LeavesNothing}
 use Rattle.cif_extract.specs.SpellsExtract.{BytesSpellWithin}
 use Rattle.cif_extract.specs.declared.fault.Fault.{Fault}
 use Rattle.cif_extract.specs.declared.fault.Fault.TheVariants.{Memory, Write}

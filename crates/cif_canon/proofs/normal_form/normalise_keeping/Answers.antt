@@ -1,6 +1,7 @@
 -- The text has to be named, the canonical form's: of known bytes `Normalising` says it is that, written whole or as a prefix.
 use Rattle.std.proofs.Common.{◌≢◌, ◌∙◌, Err, None, ap, subst, sym}
 use Rattle.cif_columns.proofs.GivenLinesLaws.{known_so}
+use Rattle.cif_columns.specs.Source.{unread_of}
 use Rattle.cif_extract.specs.ExtractParts.{extract_parts}
 use Rattle.cif_extract.specs.declared.fault.Fault.TheVariants.{Read}
 use Rattle.cif_canon.proofs.BothRead.{read-on}
@@ -11,7 +12,6 @@ use Rattle.cif_canon.proofs.Normalising.{fails-silently, fault-writes, known-can
 use Rattle.cif_canon.proofs.Normalising.{known-read_accepted, known-read_fault}
 use Rattle.cif_canon.proofs.Normalising.{normalises-prefix, normalises-whole, write-accepted, write-answers, write-fault}
 use Rattle.cif_canon.proofs.normal_form.normalise_keeping.Goals as goal
-use Rattle.cif_extract.specs.ReadFault.{unread_of}
 
 pub returns-in_err-extract-clause-normal : goal.returns-in_err-extract-clause-normal
 returns-in_err-extract-clause-normal g c =

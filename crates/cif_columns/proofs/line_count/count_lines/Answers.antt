@@ -1,6 +1,7 @@
 -- The lines so far are named by the loop's invariant; each step adds the one that was read (`reading_line`).
 use Rattle.std.proofs.Common.{◌≡◌, ◌∙◌, ℕ, List, length, [], ◌++◌, ◌∷◌, Err, Ok, Option, ap, sym}
 use Rattle.cif_columns.specs.GivenLines.{AreAllLines, AreLinesToFault}
+use Rattle.cif_columns.specs.Source.{unread_of}
 use Rattle.cif_columns.proofs.GivenLinesLaws.{reading_starts, reading_line, reading_ends, reading_faults, known_so}
 use Rattle.cif_columns.proofs.ReadSources.{line_reads_on, read_nothing, read_on_both}
 use Rattle.cif_columns.proofs.line_count.count_lines.Goals as goal
@@ -38,12 +39,11 @@ returns-in-Ok-None-clause-all g c =
 pub returns-in-Err-clause-fault : goal.returns-in-Err-clause-fault
 returns-in-Err-clause-fault g c =
     let (ls, so_far, read_on) = c.loop-lines.invariant in
-    let next = c.in-Err.ensures in
-    known_so _ (λ bytes. AreLinesToFault c.args.max_lines bytes (g.R.Read.remaining c.next.new.source.reader) ls c.in-Err.fault)
-    (λ bytes. (lines : List (List ℕ)) × AreLinesToFault c.args.max_lines bytes (g.R.Read.remaining c.next.new.source.reader) lines
-    c.in-Err.fault) (λ bytes h. (ls, h))
-    (reading_faults g.R.Read.remaining _ _ _ _ ls so_far c.next.new.self c.next.new.source c.in-Err.fault next.answer
-    (λ e. next.undecided so_far.reads_on (ap Err e)))
+    let after = unread_of g.R.Read.remaining c.next.new.source in
+    known_so _ (λ bytes. AreLinesToFault c.args.max_lines bytes after ls c.in-Err.fault)
+    (λ bytes. (lines : List (List ℕ)) × AreLinesToFault c.args.max_lines bytes after lines c.in-Err.fault) (λ bytes h. (ls, h))
+    (reading_faults g.R.Read.remaining _ _ _ _ ls so_far c.next.new.self c.next.new.source g.R.ReadDevice.read_errors c.in-Err.fault
+    c.in-Err.ensures)
 
 pub returns-in-Ok-None-clause-device : goal.returns-in-Ok-None-clause-device
 returns-in-Ok-None-clause-device g c =

@@ -1,20 +1,20 @@
 -- The invariant names the lines so far: one more (`come_more`), one refused (`at_line`) and the end are said of them all.
 use Rattle.std.proofs.Common.{◌≡◌, ◌+◌, ◌<◌, ◌≤◌, length, ℕ, List, [], ◌++◌, ◌∷◌, Err, IfSome, Ok, Option, Result, Some}
 use Rattle.std.proofs.Common.{◌∙◌, None, ap, arith, refl, rules, subst, sym, true}
-use Rattle.cif_columns.proofs.GivenLinesLaws.{nothing_left, reading_decides, reading_ends, reading_faults, reading_line}
+use Rattle.cif_columns.proofs.GivenLinesLaws.{known_both, nothing_left, reading_decides, reading_ends, reading_faults, reading_line}
 use Rattle.cif_columns.proofs.PassedLines.{next_passed}
 use Rattle.cif_columns.proofs.ReadSources.{read_on_both}
-use Rattle.cif_columns.specs.LineReader.{IsNextFault, given}
-use Rattle.cif_columns.specs.Source.{HasReadOn, reader_of, source_ended}
+use Rattle.cif_columns.specs.LineReader.{given}
+use Rattle.cif_columns.specs.Source.{HasReadOn, reader_of, source_ended, unread_of}
 use Rattle.cif_columns.specs.declared.source.Source.{Source}
-use Rattle.cif_extract.specs.ReadFault.{FaultReads, IsReadFault, LeavesNothing, unread_of}
+use Rattle.cif_extract.specs.ReadFault.{FaultReads, IsReadFault, LeavesNothing}
 use Rattle.cif_extract.specs.Steps.Reading.{fault_at_line, progress_of}
 use Rattle.cif_extract.specs.declared.extract.Extract.{Extract}
 use Rattle.cif_extract.specs.declared.fault.Fault.{Fault}
 use Rattle.cif_extract.specs.declared.fault.Fault.TheVariants.{Memory}
 use Rattle.cif_extract.specs.declared.reading.TakeFault.{TakeFault}
 use Rattle.cif_extract.specs.declared.reading.TakeFault.TheVariants as untaken
-use Rattle.cif_extract.proofs.FirstRefusals.{at_fault, at_line, fault_handed_on, known_both, line_fault_of_reading}
+use Rattle.cif_extract.proofs.FirstRefusals.{at_fault, at_line, fault_handed_on, line_fault_of_reading}
 use Rattle.cif_extract.proofs.ReadingRuns.{HasCome, come_more, come_none, refused_here, refused_reason, untaken_of_reading, untaken_result}
 use Rattle.cif_extract.proofs.ReadingRuns.{unfinished_of_reading, unfinished_result, whole_result}
 use Rattle.cif_extract.proofs.SpelledBytes.{only_fault, only_read}
@@ -116,11 +116,8 @@ returns-in-Err-clause-fault g c =
     let after = unread_of g.R.Read.remaining c.read_line.new.source in
     subst (λ (f : Fault). IfSome start (λ bytes. IsReadFault c.args.max_lines bytes after f)) (sym c.from.ensures)
     (at_fault c.args.max_lines _ ls come.fine after c.in-Err.fault
-    (reading_faults g.R.Read.remaining _ _ _ _ ls so_far c.read_line.new.self c.read_line.new.source c.in-Err.fault next.answer
-    (λ e. next.undecided so_far.reads_on (ap Err e)))
-    (λ number why is. reading_decides g.R.Read.remaining _ _ _ _ ls so_far c.read_line.new.self c.read_line.new.source number
-    (subst (IsNextFault (given c.loop-columns.lines)) is (next.fault so_far.reads_on)).0
-    (next.decided so_far.reads_on (λ read. cc))))
+    (reading_faults g.R.Read.remaining _ _ _ _ ls so_far c.read_line.new.self c.read_line.new.source g.R.ReadDevice.read_errors
+    c.in-Err.fault next))
 
 pub returns-in-Err-clause-only : goal.returns-in-Err-clause-only
 returns-in-Err-clause-only g c =

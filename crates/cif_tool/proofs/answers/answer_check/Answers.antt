@@ -1,12 +1,13 @@
 -- The text has to be named: the line of the counts, flushed or a prefix; of known bytes `check-answer` says that it answers.
 use Rattle.std.proofs.Common.{◌≢◌, refl, subst, sym}
-use Rattle.cif_extract.specs.ReadFault.{FaultOf, unread_of}
+use Rattle.cif_extract.specs.ReadFault.{FaultOf}
 use Rattle.cif_extract.specs.declared.fault.Fault.TheVariants.{Read}
 use Rattle.cif_canon.proofs.HandedFaults.{at-fault}
 use Rattle.cif_canon.specs.Counts.{counts_line}
 use Rattle.cif_canon.specs.Fault.{IsNormaliseFault, IsOfCheck}
 use Rattle.cif_columns.proofs.GivenLinesLaws.{known_so}
 use Rattle.cif_columns.specs.declared.line_reader.TheConstants.{MAX_LINES}
+use Rattle.cif_columns.specs.Source.{unread_of}
 use Rattle.cif_tool.proofs.Answered.{fails-silently, handed-text, only-fails, told-as}
 use Rattle.cif_canon.proofs.BothRead.{read-on}
 use Rattle.cif_tool.proofs.KnownAnswers.{check-answer}

@@ -1,6 +1,7 @@
 -- The text is that of all clashes of what was narrowed (`clashes-answer`); each call's faults are of known bytes.
 use Rattle.std.proofs.Common.{◌≢◌, inl, inr, refl, subst, sym}
 use Rattle.cif_columns.proofs.GivenLinesLaws.{known_so}
+use Rattle.cif_columns.specs.Source.{unread_of}
 use Rattle.cif_extract.specs.ExtractParts.{extract_parts}
 use Rattle.cif_extract.specs.declared.fault.Fault.TheVariants.{Read, Write}
 use Rattle.cif_canon.specs.Clashes.{clashes_text}
@@ -9,7 +10,6 @@ use Rattle.cif_tool.specs.Answer.{IsClashesRefusal}
 use Rattle.cif_tool.specs.Status.{listed_status}
 use Rattle.cif_tool.proofs.Answered.{fails-silently, handed-text, only-fails}
 use Rattle.cif_canon.proofs.BothRead.{read-on}
-use Rattle.cif_extract.specs.ReadFault.{unread_of}
 use Rattle.cif_tool.proofs.KnownAnswers.{clashes-answer}
 use Rattle.cif_tool.proofs.answers.answer_clashes.Goals as goal
 

@@ -2,13 +2,13 @@
 -- `read`: what was read, of the extract that is kept.
 use Rattle.std.proofs.Common.{◌≢◌, inr, subst}
 use Rattle.cif_columns.proofs.GivenLinesLaws.{known_so}
+use Rattle.cif_columns.specs.Source.{unread_of}
 use Rattle.cif_extract.specs.ExtractParts.{extract_parts}
 use Rattle.cif_extract.specs.declared.fault.Fault.TheVariants.{Read}
 use Rattle.cif_canon.specs.Views.{IsDayFault}
 use Rattle.cif_tool.specs.Answer.{IsDayRefusal}
 use Rattle.cif_tool.proofs.Answered.{handed, handed-fault, written-then}
 use Rattle.cif_canon.proofs.BothRead.{read-on}
-use Rattle.cif_extract.specs.ReadFault.{unread_of}
 use Rattle.cif_tool.proofs.KnownAnswers.{day-answer}
 use Rattle.cif_tool.proofs.answers.answer_day.Goals as goal
 

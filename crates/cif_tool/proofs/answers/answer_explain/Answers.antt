@@ -1,13 +1,13 @@
 -- The text has to be named: that of the view, flushed or a prefix; of known bytes `explain-answer` says that it answers.
 use Rattle.std.proofs.Common.{◌≢◌, inr, subst}
 use Rattle.cif_columns.proofs.GivenLinesLaws.{known_so}
+use Rattle.cif_columns.specs.Source.{unread_of}
 use Rattle.cif_extract.specs.ExtractParts.{extract_parts}
 use Rattle.cif_extract.specs.declared.fault.Fault.TheVariants.{Read}
 use Rattle.cif_canon.specs.Explanation.{IsExplanationFault}
 use Rattle.cif_tool.specs.Answer.{IsExplainRefusal}
 use Rattle.cif_tool.proofs.Answered.{handed, handed-fault, written-then}
 use Rattle.cif_canon.proofs.BothRead.{read-on}
-use Rattle.cif_extract.specs.ReadFault.{unread_of}
 use Rattle.cif_tool.proofs.KnownAnswers.{explain-answer}
 use Rattle.cif_tool.proofs.answers.answer_explain.Goals as goal
 

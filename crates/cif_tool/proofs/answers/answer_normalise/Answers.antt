@@ -2,7 +2,8 @@
 use Rattle.std.proofs.Common.{◌≢◌, subst, sym}
 use Rattle.cif_columns.specs.declared.line_reader.TheConstants.{MAX_LINES}
 use Rattle.cif_columns.proofs.GivenLinesLaws.{known_so}
-use Rattle.cif_extract.specs.ReadFault.{FaultOf, unread_of}
+use Rattle.cif_columns.specs.Source.{unread_of}
+use Rattle.cif_extract.specs.ReadFault.{FaultOf}
 use Rattle.cif_extract.specs.declared.fault.Fault.TheVariants.{Read}
 use Rattle.cif_canon.specs.Fault.{IsNormaliseFault}
 use Rattle.cif_canon.proofs.HandedFaults.{at-fault}

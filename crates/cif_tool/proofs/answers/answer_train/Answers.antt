@@ -3,6 +3,7 @@
 use Rattle.std.proofs.Common.{◌≢◌, subst}
 use Rattle.cif_columns.proofs.GivenLinesLaws.{known_so}
 use Rattle.cif_columns.specs.declared.line_reader.TheConstants.{MAX_LINES}
+use Rattle.cif_columns.specs.Source.{unread_of}
 use Rattle.cif_extract.specs.ExtractParts.{extract_parts}
 use Rattle.cif_extract.specs.declared.fault.Fault.TheVariants.{Read}
 use Rattle.cif_canon.specs.Fault.{IsNormaliseFault, IsOfReadNarrowed}
@@ -11,7 +12,6 @@ use Rattle.cif_canon.proofs.HandedFaults.{at-fault}
 use Rattle.cif_canon.proofs.Normalising.{known-read_fault}
 use Rattle.cif_tool.proofs.Answered.{fails-silently, handed, handed-fault, written-then}
 use Rattle.cif_canon.proofs.BothRead.{read-on}
-use Rattle.cif_extract.specs.ReadFault.{unread_of}
 use Rattle.cif_tool.proofs.KnownAnswers.{train-answer}
 use Rattle.cif_tool.proofs.TrainFaults.{train-fault}
 use Rattle.cif_tool.proofs.answers.answer_train.Goals as goal
