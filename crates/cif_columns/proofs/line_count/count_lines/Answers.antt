@@ -1,5 +1,5 @@
 -- The lines so far are named by the loop's invariant; each step adds the one that was read (`reading_line`).
-use Rattle.std.proofs.Common.{◌≡◌, ◌∙◌, ℕ, List, length, [], ◌++◌, ◌∷◌, Err, Ok, Option, ap, sym}
+use Rattle.std.proofs.Common.{◌≡◌, ◌∙◌, ℕ, List, length, [], ◌++◌, ◌∷◌, Ok, Option, ap, sym}
 use Rattle.cif_columns.specs.GivenLines.{AreAllLines, AreLinesToFault}
 use Rattle.cif_columns.specs.Source.{unread_of}
 use Rattle.cif_columns.proofs.GivenLinesLaws.{reading_starts, reading_line, reading_ends, reading_faults, known_so}
@@ -53,7 +53,8 @@ returns-in-Ok-None-clause-device g c =
 pub returns-in-Ok-None-clause-endless : goal.returns-in-Ok-None-clause-endless
 returns-in-Ok-None-clause-endless g c =
     let (ls, so_far, read_on) = c.loop-lines.invariant in
-    sym read_on.going ∙ c.in-Ok-None.ensures.endless so_far.reads_on (ap Ok c.in-Ok-None.field-0-is)
+    let is = ap Ok c.in-Ok-None.field-0-is in
+    (sym read_on.going ∙ c.in-Ok-None.ensures.endless so_far.reads_on is, c.in-Ok-None.ensures.told so_far.reads_on is)
 
 pub returns-in-Err-clause-device : goal.returns-in-Err-clause-device
 returns-in-Err-clause-device g c =
