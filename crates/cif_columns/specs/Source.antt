@@ -12,11 +12,11 @@ reader_of s = s.reader
 abbrev pub source_failed : {R : Type 0} → Source R → Bool
 source_failed s = s.failed
 
--- whether the reader told its end in the last read: it was asked for bytes and gave none
+-- whether the last read that didn't fail told the end: the reader was asked for bytes and gave none
 abbrev pub source_ended : {R : Type 0} → Source R → Bool
 source_ended s = s.ended
 
--- what is left of a source after a call: the bytes of its reader, where they are known, and whether it told its end in its last read
+-- what is left of a source after a call: the bytes of its reader, where they are known, and whether it told its end
 pub record Unread : Type 0 where
   pub bytes : Option (List ℕ)
   pub ended : Bool

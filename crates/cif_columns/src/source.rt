@@ -14,7 +14,7 @@ use thiserror::Error;
 #[error("the input can't be read")]
 pub struct ReadFault;
 
-/// A reader, whether it has failed, and whether it told its end in its last read.
+/// A reader, whether it has failed, and whether the last read that didn't fail told the end.
 #[derive(Drop)]
 pub struct Source<R> {
     reader: R,
