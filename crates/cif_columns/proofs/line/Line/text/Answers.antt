@@ -1,7 +1,7 @@
 -- Eighty bytes are in front of the line feed (`front_of_text`), and are printable (`text_of_line`).
 use Rattle.std.proofs.Common.{◌∙◌, subst, sym}
 use Rattle.cif_columns.specs.Line.{ArePrintable}
-use Rattle.cif_columns.proofs.LineTexts.{front_of_text, text_of_line}
+use Rattle.cif_columns.proofs.TextsOfLines.{front_of_text, text_of_line}
 use Rattle.cif_columns.proofs.line.Line.text.Goals as goal
 
 pub returns-clause-line : goal.returns-clause-line

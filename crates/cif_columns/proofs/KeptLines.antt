@@ -1,0 +1,241 @@
+-- Lines without the spaces at their ends are what is kept of them, and determine them.
+use Rattle.std.proofs.Common.{◌≡◌, ℕ, zero, suc, ◌+◌, ◌-◌, ◌<◌, ◌≤◌, Bool, true, false, cond, List, [], ◌∷◌, ◌++◌, All, append_assoc}
+use Rattle.std.proofs.Common.{ap, arith, drop, get_or, length, length-append, max, refl, replicate, subst, sym, take, ◌∙◌}
+use Rattle.std.specs.List.{flat_map, suffix_len}
+use Rattle.std.proofs.lemmas.Bool.{eqb-true}
+use Rattle.std.proofs.lemmas.List.{append-nil, drop_at, length-drop, length-take-le, take_all, take_at, take-take}
+use Rattle.std.proofs.lemmas.List.Elements.{All-append, All-cons, All-head, All-nil, All-tail, All-take, All-weaker}
+use Rattle.std.proofs.lemmas.List.Sums.{suffix_len-le-length, suffix_len-take_no, suffix_len-take_yes}
+use Rattle.std.proofs.lemmas.Grind.{flat_map-append}
+use Rattle.std.proofs.Math.Seq.{take-append-add, take-suc}
+use Rattle.cif_columns.specs.Line.{ArePrintable, IsLine, IsPrintable}
+use Rattle.cif_columns.specs.Lines.{AreKept, first_lines_in, is_space, kept, kept_text, lines_in, used, wide}
+
+-- one more column, of which `end` is told
+module _ (columns : List ℕ) (i count end : ℕ) (below : i < length columns) (so_far : count + suffix_len is_space (take i columns) ≡ i)
+    (is : end ≡ cond (is_space (get_or columns i 0)) 0 (i + 1)) where
+  behind : i + 1 - 1 ≡ i
+  behind = omega arith
+
+  last : {space : Bool} → is_space (get_or columns i 0) ≡ space → is_space (get_or columns (i + 1 - 1) 0) ≡ space
+  last e = ap (λ k. is_space (get_or columns k 0)) behind ∙ e
+
+  more_at : (space : Bool) → is_space (get_or columns i 0) ≡ space → max count end + suffix_len is_space (take (i + 1) columns) ≡ i + 1
+  more_at true e =
+      let here : end ≡ 0 = is ∙ ap (λ b. cond b 0 (i + 1)) e in
+      let more = suffix_len-take_yes is_space columns (i + 1) 0 (omega arith) (omega (arith, below)) (last e) in
+      let before = ap (λ k. suffix_len is_space (take k columns)) behind in
+      omega (arith, here, more, before, so_far)
+  more_at false e =
+      let here : end ≡ i + 1 = is ∙ ap (λ b. cond b 0 (i + 1)) e in
+      let none = suffix_len-take_no is_space columns (i + 1) 0 (omega arith) (omega (arith, below)) (last e) in
+      omega (arith, here, none, so_far)
+
+  pub used_more : max count end + suffix_len is_space (take (i + 1) columns) ≡ i + 1
+  used_more = more_at (is_space (get_or columns i 0)) refl
+
+one_more_of : (b count : ℕ) → replicate count b ++ b ∷ [] ≡ replicate (suc count) b
+one_more_of b zero = refl
+one_more_of b (suc count) = ap (λ l. b ∷ l) (one_more_of b count)
+
+-- behind the columns that are used there are spaces, in each prefix of some columns
+module _ (columns : List ℕ) (n before : ℕ) (within : suc n ≤ length columns) (counted : suffix_len is_space (take n columns) ≡ before)
+    (so_far : take n columns ≡ take (n - before) columns ++ replicate before 32) where
+  to_last : suc n - 1 ≡ n
+  to_last = omega arith
+
+  last_is : {space : Bool} → is_space (get_or columns n 0) ≡ space → is_space (get_or columns (suc n - 1) 0) ≡ space
+  last_is e = ap (λ k. is_space (get_or columns k 0)) to_last ∙ e
+
+  spaces_at : (space : Bool) → is_space (get_or columns n 0) ≡ space → (spaces : ℕ) → suffix_len is_space (take (suc n) columns) ≡ spaces
+      → take (suc n) columns ≡ take (suc n - spaces) columns ++ replicate spaces 32
+  spaces_at true e spaces is =
+      let more : spaces ≡ suc before =
+      omega (
+        arith,
+        is,
+        counted,
+        suffix_len-take_yes is_space columns (suc n) 0 (omega arith) (omega (arith, within)) (last_is e),
+        ap (λ k. suffix_len is_space (take k columns)) to_last,
+      ) in
+      let same : n - before ≡ suc n - spaces = omega (arith, more) in
+      take-suc columns n 0 (omega (arith, within))
+      ∙ ap (λ c. take n columns ++ c ∷ []) (eqb-true (get_or columns n 0) 32 e)
+      ∙ ap (λ l. l ++ 32 ∷ []) so_far
+      ∙ append_assoc (take (n - before) columns) (replicate before 32) (32 ∷ [])
+      ∙ ap (λ l. take (n - before) columns ++ l) (one_more_of 32 before)
+      ∙ ap (λ k. take k columns ++ replicate (suc before) 32) same
+      ∙ ap (λ k. take (suc n - spaces) columns ++ replicate k 32) (sym more)
+  spaces_at false e spaces is =
+      let none : spaces ≡ 0 = sym is ∙ suffix_len-take_no is_space columns (suc n) 0 (omega arith) (omega (arith, within)) (last_is e) in
+      let all : suc n ≡ suc n - spaces = omega (arith, none) in
+      sym (append-nil (take (suc n) columns))
+      ∙ ap (λ k. take k columns ++ []) all
+      ∙ ap (λ k. take (suc n - spaces) columns ++ replicate k 32) (sym none)
+
+spaces_behind : (columns : List ℕ) (n spaces : ℕ) → n ≤ length columns → suffix_len is_space (take n columns) ≡ spaces
+    → take n columns ≡ take (n - spaces) columns ++ replicate spaces 32
+spaces_behind columns zero spaces within is =
+    let none : spaces ≡ 0 = sym is in
+    subst (λ k. take 0 columns ≡ take (0 - k) columns ++ replicate k 32) (sym none) refl
+spaces_behind columns (suc n) spaces within is =
+    let before = suffix_len is_space (take n columns) in
+    spaces_at columns n before within refl (spaces_behind columns n before (omega (arith, within)) refl) (is_space (get_or columns n 0)) refl
+    spaces is
+
+-- a line is its used columns, and then spaces
+module _ (line : List ℕ) (h : IsLine line) where
+  pub few : used line ≤ 80
+  few = omega (arith, h.width)
+
+  pub kept_width : length (take (used line) line) ≡ used line
+  kept_width = length-take-le (used line) line (omega (arith, h.width))
+
+  pub widened : wide (take (used line) line) ≡ line
+  widened =
+      let spaces = suffix_len is_space line in
+      let some = suffix_len-le-length is_space line in
+      let all : take 80 line ≡ line = take_all 80 line (omega (arith, h.width)) in
+      let behind = spaces_behind line 80 spaces (omega (arith, h.width)) (ap (suffix_len is_space) all) in
+      let rest : 80 - length (take (used line) line) ≡ spaces = omega (arith, kept_width, some, h.width) in
+      ap (λ n. take (used line) line ++ replicate n 32) rest
+      ∙ ap (λ n. take (n - spaces) line ++ replicate spaces 32) h.width ∙ sym behind ∙ all
+
+-- the bytes keep these lines
+pub record Keep (bytes : List ℕ) (lines : List (List ℕ)) : Type 0 where
+  pub is : bytes ≡ kept_text lines
+  pub are_lines : All IsLine lines
+
+-- each of them takes one byte at least
+no_more : (lines : List (List ℕ)) → length lines ≤ length (kept_text lines)
+no_more [] = omega arith
+no_more (line ∷ lines) = omega (arith, no_more lines, length-append (take (used line) line) (kept_text lines))
+
+-- so they are found again
+found : (more : List ℕ) (lines : List (List ℕ)) → All IsLine lines → length lines ≤ length more → first_lines_in more (kept_text lines) ≡ lines
+found [] [] h within = refl
+found (_ ∷ more) [] h within = refl
+found [] (line ∷ lines) h within = absurd (omega (arith, within))
+found (_ ∷ more) (line ∷ lines) h within =
+    let first = All-head IsLine line lines h in
+    let columns = take (used line) line in
+    let width = kept_width line first in
+    ap (λ l. wide l ∷ first_lines_in more (drop (used line) (columns ++ kept_text lines))) (take_at columns (kept_text lines) (used line) width)
+    ∙ ap (λ l. l ∷ first_lines_in more (drop (used line) (columns ++ kept_text lines))) (widened line first)
+    ∙ ap (λ l. line ∷ first_lines_in more l) (drop_at columns (kept_text lines) (used line) width)
+    ∙ ap (λ l. line ∷ l) (found more lines (All-tail IsLine line lines h) (omega (arith, within)))
+
+pub lines_kept : (bytes : List ℕ) (lines : List (List ℕ)) → Keep bytes lines → lines_in bytes ≡ lines
+lines_kept bytes lines k =
+    subst (λ b. lines_in b ≡ lines) (sym k.is) (found (kept_text lines) lines k.are_lines (no_more lines))
+
+-- what bytes that keep lines keep
+pub keep_view : (bytes : List ℕ) (now : List (List ℕ)) → AreKept bytes → lines_in bytes ≡ now → Keep bytes now
+keep_view bytes now h view_is =
+    let it : Keep bytes h.lines = record { is = h.is; are_lines = h.are_lines } in
+    subst (Keep bytes) (sym (lines_kept bytes h.lines it) ∙ view_is) it
+
+pub are_kept : (bytes : List ℕ) (lines : List (List ℕ)) → Keep bytes lines → AreKept bytes
+are_kept bytes lines k = record { lines = lines; are_lines = k.are_lines; is = k.is }
+
+pub none_kept : Keep [] []
+none_kept = record { is = refl; are_lines = All-nil IsLine }
+
+-- a line more
+pub one_more : (old new : List ℕ) (lines : List (List ℕ)) (line : List ℕ) → Keep old lines → IsLine line → new ≡ old ++ kept line
+    → Keep new (lines ++ line ∷ [])
+one_more old new lines line k h is = record {
+  is = is ∙ ap (λ l. l ++ kept line) k.is
+      ∙ ap (λ l. kept_text lines ++ l) (sym (append-nil (kept line)))
+      ∙ sym (flat_map-append kept lines (line ∷ []));
+  are_lines = All-append IsLine lines (line ∷ []) k.are_lines (All-cons IsLine line [] h (All-nil IsLine));
+}
+
+-- the steps by which a line is appended
+pub kept_behind : (old pushed extended new line : List ℕ) (count end : ℕ) → count ≡ used line → pushed ≡ old ++ count ∷ []
+    → extended ≡ pushed ++ line → end ≡ length pushed + count → new ≡ take end extended → new ≡ old ++ kept line
+kept_behind old pushed extended new line count end told one more to cut =
+    cut ∙ ap (take end) more ∙ ap (λ n. take n (pushed ++ line)) to ∙ take-append-add pushed line count
+    ∙ ap (λ l. l ++ take count line) one ∙ append_assoc old (count ∷ []) (take count line)
+    ∙ ap (λ n. old ++ n ∷ take n line) told
+
+-- the first line, and what keeps the others
+pub record First (bytes : List ℕ) (lines : List (List ℕ)) : Type 0 where
+  pub line : List ℕ
+  pub others : List (List ℕ)
+  pub more : List ℕ
+  pub both : lines ≡ line ∷ others
+  pub is : bytes ≡ used line ∷ (take (used line) line ++ more)
+  pub is_line : IsLine line
+  pub behind : Keep more others
+
+pub first_of : (bytes : List ℕ) (lines : List (List ℕ)) → Keep bytes lines → 0 < length lines → First bytes lines
+first_of bytes [] k some = absurd (omega (arith, some))
+first_of bytes (line ∷ others) k some = record {
+  line = line;
+  others = others;
+  more = kept_text others;
+  both = refl;
+  is = k.is;
+  is_line = All-head IsLine line others k.are_lines;
+  behind = record { is = refl; are_lines = All-tail IsLine line others k.are_lines };
+}
+
+-- what stands first in the bytes: a count, so many columns of the line, and what keeps the others
+module _ (bytes : List ℕ) (lines : List (List ℕ)) (f : First bytes lines) (count : ℕ) (told : count ≡ get_or bytes 0 0) where
+  count_is : count ≡ used f.line
+  count_is = told ∙ ap (λ b. get_or b 0 0) f.is
+
+  pub count_few : count ≤ 80
+  count_few = omega (arith, count_is, few f.line f.is_line)
+
+  pub first_within : 1 + count ≤ length bytes
+  first_within =
+      omega (arith, count_is, ap length f.is, length-append (take (used f.line) f.line) f.more, kept_width f.line f.is_line)
+
+  pub rest_kept : (rest : List ℕ) → rest ≡ drop (1 + count) bytes → Keep rest f.others
+  rest_kept rest is =
+      let front : length (used f.line ∷ take (used f.line) f.line) ≡ 1 + used f.line = omega (arith, kept_width f.line f.is_line) in
+      subst (λ b. Keep b f.others)
+      (sym (is ∙ ap (λ n. drop (1 + n) bytes) count_is ∙ ap (drop (1 + used f.line)) f.is
+      ∙ drop_at (used f.line ∷ take (used f.line) f.line) f.more (1 + used f.line) front)) f.behind
+
+  -- these bytes begin with the columns of the first line
+  pub columns_in : (columns : List ℕ) → columns ≡ drop 1 bytes → take count columns ≡ take (used f.line) f.line
+  columns_in columns is =
+      ap (take count) (is ∙ ap (drop 1) f.is)
+      ∙ ap (λ n. take n (take (used f.line) f.line ++ f.more)) count_is
+      ∙ take_at (take (used f.line) f.line) f.more (used f.line) (kept_width f.line f.is_line)
+
+  -- and so do the first eighty of them, and those behind which spaces stand
+  pub columns_in_chunk : (columns chunk : List ℕ) → columns ≡ drop 1 bytes → chunk ≡ take 80 columns
+      → take count chunk ≡ take (used f.line) f.line
+  columns_in_chunk columns chunk is first =
+      ap (take count) first ∙ take-take count 80 columns count_few ∙ columns_in columns is
+
+  pub columns_in_padded : (columns padded : List ℕ) → columns ≡ drop 1 bytes → take (length columns) padded ≡ columns
+      → take count padded ≡ take (used f.line) f.line
+  columns_in_padded columns padded is first =
+      let within : count ≤ length columns = omega (arith, first_within, ap length is, length-drop 1 bytes) in
+      sym (take-take count (length columns) padded within) ∙ ap (take count) first ∙ columns_in columns is
+
+  pub columns_wide : (columns : List ℕ) → take count columns ≡ take (used f.line) f.line → wide (take count columns) ≡ get_or lines 0 []
+  columns_wide columns is = ap wide is ∙ widened f.line f.is_line ∙ sym (ap (λ l. get_or l 0 []) f.both)
+
+  pub columns_printable : (columns : List ℕ) → take count columns ≡ take (used f.line) f.line → ArePrintable (take count columns)
+  columns_printable columns is =
+      subst ArePrintable (sym is) (All-take IsPrintable (used f.line) f.line f.is_line.printable)
+
+-- no byte is as great as 128
+small_columns : (line : List ℕ) → IsLine line → All (λ b. b < 128) (take (used line) line)
+small_columns line h =
+    All-take (λ b. b < 128) (used line) line
+    (All-weaker IsPrintable (λ b. b < 128) (λ b p. omega (arith, p.1)) line h.printable)
+
+pub small : (lines : List (List ℕ)) → All IsLine lines → All (λ b. b < 128) (kept_text lines)
+small [] h = All-nil (λ b. b < 128)
+small (line ∷ lines) h =
+    let first = All-head IsLine line lines h in
+    All-cons (λ b. b < 128) (used line) (take (used line) line ++ kept_text lines) (omega (arith, few line first))
+    (All-append (λ b. b < 128) (take (used line) line) (kept_text lines) (small_columns line first)
+    (small lines (All-tail IsLine line lines h)))
