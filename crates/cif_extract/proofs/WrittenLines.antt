@@ -1,5 +1,7 @@
 -- What is written, line by line.
-use Rattle.std.proofs.Common.{◌≡◌, ℕ, Bool, List, [], ◌∷◌, ◌++◌, Option, Some, Result, map, sym, ◌∙◌, ap, refl, subst}
+use Rattle.std.proofs.Common.{◌≡◌, ◌<◌, ℕ, Bool, List, [], ◌∷◌, ◌++◌, Option, Some, Result, map, sym, ◌∙◌, ap, refl, subst}
+use Rattle.std.proofs.Common.{arith, drop, get_or, length}
+use Rattle.std.proofs.lemmas.Grind.{flat_map-append}
 use Rattle.cif_columns.specs.Field.{Row, plain_line}
 use Rattle.cif_columns.specs.Sink.{HasFailed, HasWritten, Writes}
 use Rattle.cif_columns.specs.declared.sink.Sink.{Sink}
@@ -20,35 +22,38 @@ kept_plain (line ∷ lines) [] kept = absurd kept
 kept_plain (line ∷ lines) (t ∷ tables) kept =
     ap (λ l. l ∷ lines) kept.1 ∙ ap (λ ls. plain_line t ∷ ls) (kept_plain lines tables kept.2)
 
--- the text of a schedule is that of its first line and of these
-module _ (uid : List ℕ) (first last : ℕ) (days : List Bool) (p : BodyParts) (rest : List (List ℕ))
-    (is : rest ≡ map plain_line (map record_table (body_records p))) where
-  pub schedule_text : lines_text (schedule_lines uid first last days P (Some p))
-      ≡ (plain_line (basic_rows uid first last days P (Some p.detail)) ++ (10 ∷ [])) ++ lines_text rest
+-- the text of a schedule is that of its BS with some of the lines that follow it, and of the others
+module _ (uid : List ℕ) (first last : ℕ) (days : List Bool) (p : BodyParts) (basic : List ℕ) (front rest : List (List ℕ))
+    (is : basic ≡ plain_line (basic_rows uid first last days P (Some p.detail)))
+    (kept : KeepAll (front ++ rest) (map record_table (body_records p))) where
+  pub schedule_text : lines_text (schedule_lines uid first last days P (Some p)) ≡ lines_text (basic ∷ front) ++ lines_text rest
   unfolding schedule_lines
-  schedule_text = ap (λ (ls : List (List ℕ)).
-      (plain_line (basic_rows uid first last days P (Some p.detail)) ++ (10 ∷ [])) ++ lines_text ls) (sym is)
+  schedule_text =
+      ap (λ (ls : List (List ℕ)). lines_text (plain_line (basic_rows uid first last days P (Some p.detail)) ∷ ls))
+      (sym (kept_plain (front ++ rest) (map record_table (body_records p)) kept))
+      ∙ ap (λ line. lines_text (line ∷ (front ++ rest))) (sym is)
+      ∙ flat_map-append (λ (line : List ℕ). line ++ (10 ∷ [])) (basic ∷ front) rest
 
--- the writing of a schedule whose first line is this one
-module _ {W : Type 0} (contents : W → Option (List ℕ)) (errors : W → Option ℕ) (uid : List ℕ) (first last : ℕ) (days : List Bool)
-    (p : BodyParts) (basic : List ℕ) (is : basic ≡ plain_line (basic_rows uid first last days P (Some p.detail))) (s t : Sink W) where
-  -- it stops at the first line
-  pub schedule_failed : HasFailed contents errors (basic ++ (10 ∷ [])) s t
-      → HasFailed contents errors (lines_text (schedule_lines uid first last days P (Some p))) s t
-  schedule_failed h =
-      let others = map plain_line (map record_table (body_records p)) in
-      subst (λ text. HasFailed contents errors text s t)
-      (ap (λ line. (line ++ (10 ∷ [])) ++ lines_text others) is ∙ sym (schedule_text uid first last days p others refl))
-      (failed_first contents errors (basic ++ (10 ∷ [])) (lines_text others) s t h)
+  -- the writing of a schedule in these two parts
+  module _ {W : Type 0} (contents : W → Option (List ℕ)) (errors : W → Option ℕ) (s t : Sink W) where
+    -- it stops in the first
+    pub schedule_failed : HasFailed contents errors (lines_text (basic ∷ front)) s t
+        → HasFailed contents errors (lines_text (schedule_lines uid first last days P (Some p))) s t
+    schedule_failed h =
+        subst (λ text. HasFailed contents errors text s t) (sym schedule_text)
+        (failed_first contents errors (lines_text (basic ∷ front)) (lines_text rest) s t h)
 
-  -- it goes on with the others
-  pub schedule_writes : {A E : Type 0} (rest : List (List ℕ)) (others : List ℕ) (u : Sink W) (result : Result A E)
-      → KeepAll rest (map record_table (body_records p)) → HasWritten contents errors (basic ++ (10 ∷ [])) s t
-      → others ≡ lines_text rest → Writes contents errors others t u result
-      → Writes contents errors (lines_text (schedule_lines uid first last days P (Some p))) s u result
-  schedule_writes rest others u result kept written is_text h =
-      subst (λ text. Writes contents errors text s u result)
-      (ap (λ line. (line ++ (10 ∷ [])) ++ lines_text rest) is
-      ∙ sym (schedule_text uid first last days p rest (kept_plain rest (map record_table (body_records p)) kept)))
-      (writes_on contents errors (basic ++ (10 ∷ [])) (lines_text rest) s t u result written
-      (subst (λ text. Writes contents errors text t u result) is_text h))
+    -- it goes on with the second
+    pub schedule_writes : {A E : Type 0} (u : Sink W) (result : Result A E) → HasWritten contents errors (lines_text (basic ∷ front)) s t
+        → Writes contents errors (lines_text rest) t u result
+        → Writes contents errors (lines_text (schedule_lines uid first last days P (Some p))) s u result
+    schedule_writes u result written h =
+        subst (λ text. Writes contents errors text s u result) (sym schedule_text)
+        (writes_on contents errors (lines_text (basic ∷ front)) (lines_text rest) s t u result written h)
+
+-- the lines of a body, some of which were taken as texts
+pub lines_again : (detail : List ℕ) (texts rest lines : List (List ℕ)) → 0 < length texts → texts ++ rest ≡ lines → detail ≡ get_or lines 0 []
+    → detail ∷ (drop 1 texts ++ rest) ≡ lines
+lines_again detail [] rest lines some split first = absurd (omega (arith, some))
+lines_again detail (text ∷ texts) rest lines some split first =
+    ap (λ line. line ∷ (texts ++ rest)) (first ∙ ap (λ ls. get_or ls 0 []) (sym split)) ∙ split

@@ -1,5 +1,5 @@
 //! Records as plain lines, each with a line feed.
-ghost use Rattle.std.specs.Prelude.{◌≤◌, ◌++◌, ◌∷◌, [], Some};
+ghost use Rattle.std.specs.Prelude.{◌≡◌, ◌≤◌, ◌++◌, ◌∷◌, [], Some};
 ghost use Rattle.cif_columns.specs.Field.{plain_line};
 ghost use Rattle.cif_columns.specs.Sink.{Writes};
 ghost use Rattle.cif_columns.specs.declared.stp.Stp.TheVariants.{P};
@@ -11,8 +11,9 @@ ghost use Rattle.cif_records.specs.Tiploc.{tiploc_table};
 ghost use Rattle.cif_records.specs.Trailer.{trailer_table};
 
 use crate::Body;
-use cif_columns::{Day, DaysRun, Sink, Uid, WriteDevice, WriteFault};
+use cif_columns::{Day, DaysRun, Line, LineSlice, LineTexts, Sink, Uid, WriteDevice, WriteFault};
 use cif_records::{AssocBody, AssocKey, Association, Basic, Header, Tiploc, Trailer};
+use std::marker::Model;
 
 /// Appends the plain line of the header and a line feed.
 pub fn write_head<W: WriteDevice>(header: &Header, sink: &mut Sink<W>) -> Result<(), WriteFault>
@@ -61,9 +62,74 @@ pub fn write_schedule<W: WriteDevice>(
     ensures { Writes W.contents W.write_errors
         (lines_text (schedule_lines uid.now first last days P (Some body.now))) sink.old sink.new result }
 {
-    let basic = Basic::permanent_line(uid, &body.detail_line(), first, last, days);
-    sink.write_line(&basic)?;
-    sink.write_all(body.further_lines().text())
+    ScheduleWriter::of(body).write(uid, first, last, days, sink)
+}
+
+/// Writes schedules of one body. What they have alike is made once. A clause sees the body.
+#[derive(Debug, Drop)]
+pub struct ScheduleWriter<'a> {
+    detail: Line,
+    // The line of a BS and those of the records that follow it, as many as there is room for, and the others.
+    texts: LineTexts,
+    rest: LineSlice<'a>,
+}
+
+impl<'a> Model for ScheduleWriter<'a> {
+    ghost use Rattle.std.specs.Prelude.{◌<◌, ◌∷◌, ◌++◌, drop, length};
+    ghost use Rattle.cif_extract.specs.Body.{KeepSomeBody, parts_in};
+    ghost use Rattle.cif_extract.specs.BodyParts.{BodyParts};
+
+    ghost Value = { BodyParts };
+
+    ghost view = { λ w. parts_in (w.detail ∷ (drop 1 w.texts ++ w.rest)) };
+
+    ghost invariant = { λ w. (0 < length w.texts) × KeepSomeBody (w.detail ∷ (drop 1 w.texts ++ w.rest)) };
+}
+
+impl<'a> ScheduleWriter<'a> {
+    /// For schedules that have this body.
+    pub fn of(body: &'a Body) -> ScheduleWriter<'a>
+        ensures { result ≡ body.now }
+    {
+        let lines = body.lines();
+        let detail = lines.first();
+        let mut texts = LineTexts::new();
+        let rest = texts.take(lines);
+        ScheduleWriter {
+            detail,
+            texts,
+            rest,
+        }
+    }
+
+    /// From now on for schedules that have this body.
+    pub fn set_body(&mut self, body: &'a Body)
+        ensures { self.new ≡ body.now }
+    {
+        let lines = body.lines();
+        self.detail = lines.first();
+        self.rest = self.texts.take(lines);
+    }
+
+    /// Appends the plain lines of a schedule, as `write_schedule` does.
+    pub fn write<W: WriteDevice>(
+        &mut self,
+        uid: &Uid,
+        first: Day,
+        last: Day,
+        days: DaysRun,
+        sink: &mut Sink<W>,
+    ) -> Result<(), WriteFault>
+        requires { first ≤ last }
+        ensures writes { Writes W.contents W.write_errors
+            (lines_text (schedule_lines uid.now first last days P (Some self.old))) sink.old sink.new result }
+        ensures body { self.new ≡ self.old }
+    {
+        let basic = Basic::permanent_line(uid, &self.detail, first, last, days);
+        self.texts.replace_first(&basic);
+        sink.write_all(self.texts.text())?;
+        sink.write_lines(&self.rest)
+    }
 }
 
 /// Appends the plain line of the trailer and a line feed.
