@@ -1,105 +1,85 @@
 -- Lines without the spaces at their ends are what is kept of them, and determine them.
 use Rattle.std.proofs.Common.{◌≡◌, ℕ, zero, suc, ◌+◌, ◌-◌, ◌<◌, ◌≤◌, Bool, true, false, cond, List, [], ◌∷◌, ◌++◌, All, append_assoc}
 use Rattle.std.proofs.Common.{ap, arith, drop, get_or, length, length-append, max, refl, replicate, subst, sym, take, ◌∙◌}
-use Rattle.std.specs.List.{flat_map, suffix_len}
+use Rattle.std.specs.List.{flat_map}
 use Rattle.std.proofs.lemmas.Bool.{eqb-true}
-use Rattle.std.proofs.lemmas.List.{append-nil, drop_at, length-drop, length-take-le, take_all, take_at, take-take}
+use Rattle.std.proofs.lemmas.List.{append-nil, drop_at, length-drop, length-take-le, take_at, take_more, take-take}
 use Rattle.std.proofs.lemmas.List.Elements.{All-append, All-cons, All-head, All-nil, All-tail, All-take, All-weaker}
-use Rattle.std.proofs.lemmas.List.Sums.{suffix_len-le-length, suffix_len-take_no, suffix_len-take_yes}
 use Rattle.std.proofs.lemmas.Grind.{flat_map-append}
-use Rattle.std.proofs.Math.Seq.{take-append-add, take-suc}
+use Rattle.std.proofs.Math.Seq.{take-append-add}
 use Rattle.cif_columns.specs.Line.{ArePrintable, IsLine, IsPrintable}
-use Rattle.cif_columns.specs.Lines.{AreKept, first_lines_in, is_space, kept, kept_text, lines_in, used, wide}
+use Rattle.cif_columns.specs.Lines.{AreKept, first_lines_in, is_space, kept, kept_text, lines_in, used, used_with, wide}
+
+some_used : (space : Bool) (count : ℕ) → used_with space (suc count) ≡ suc (suc count)
+some_used true count = refl
+some_used false count = refl
+
+-- one more column
+used_push : (columns : List ℕ) (b : ℕ) (space : Bool) → is_space b ≡ space
+    → used (columns ++ b ∷ []) ≡ cond space (used columns) (suc (length columns))
+used_push [] b true e = ap (λ s. used_with s 0) e
+used_push [] b false e = ap (λ s. used_with s 0) e
+used_push (c ∷ columns) b true e = ap (used_with (is_space c)) (used_push columns b true e)
+used_push (c ∷ columns) b false e =
+    ap (used_with (is_space c)) (used_push columns b false e) ∙ some_used (is_space c) (length columns)
+
+used_few : (columns : List ℕ) → used columns ≤ length columns
+used_few [] = omega arith
+used_few (b ∷ columns) = at (is_space b) (used columns) (used_few columns)
+  where
+    at : (space : Bool) (count : ℕ) → count ≤ length columns → used_with space count ≤ suc (length columns)
+    at true zero below = omega arith
+    at true (suc count) below = omega (arith, below)
+    at false count below = omega (arith, below)
 
 -- one more column, of which `end` is told
-module _ (columns : List ℕ) (i count end : ℕ) (below : i < length columns) (so_far : count + suffix_len is_space (take i columns) ≡ i)
+module _ (columns : List ℕ) (i count end : ℕ) (below : i < length columns) (so_far : count ≡ used (take i columns))
     (is : end ≡ cond (is_space (get_or columns i 0)) 0 (i + 1)) where
-  behind : i + 1 - 1 ≡ i
-  behind = omega arith
-
-  last : {space : Bool} → is_space (get_or columns i 0) ≡ space → is_space (get_or columns (i + 1 - 1) 0) ≡ space
-  last e = ap (λ k. is_space (get_or columns k 0)) behind ∙ e
-
-  more_at : (space : Bool) → is_space (get_or columns i 0) ≡ space → max count end + suffix_len is_space (take (i + 1) columns) ≡ i + 1
+  more_at : (space : Bool) → is_space (get_or columns i 0) ≡ space → max count end ≡ used (take (i + 1) columns)
   more_at true e =
       let here : end ≡ 0 = is ∙ ap (λ b. cond b 0 (i + 1)) e in
-      let more = suffix_len-take_yes is_space columns (i + 1) 0 (omega arith) (omega (arith, below)) (last e) in
-      let before = ap (λ k. suffix_len is_space (take k columns)) behind in
-      omega (arith, here, more, before, so_far)
+      let more = ap used (take_more columns i 0 below) ∙ used_push (take i columns) (get_or columns i 0) true e in
+      omega (arith, here, more, so_far)
   more_at false e =
       let here : end ≡ i + 1 = is ∙ ap (λ b. cond b 0 (i + 1)) e in
-      let none = suffix_len-take_no is_space columns (i + 1) 0 (omega arith) (omega (arith, below)) (last e) in
-      omega (arith, here, none, so_far)
+      let more = ap used (take_more columns i 0 below) ∙ used_push (take i columns) (get_or columns i 0) false e in
+      let width = length-take-le i columns (omega (arith, below)) in
+      omega (arith, here, more, so_far, width, used_few (take i columns))
 
-  pub used_more : max count end + suffix_len is_space (take (i + 1) columns) ≡ i + 1
+  pub used_more : max count end ≡ used (take (i + 1) columns)
   used_more = more_at (is_space (get_or columns i 0)) refl
 
-one_more_of : (b count : ℕ) → replicate count b ++ b ∷ [] ≡ replicate (suc count) b
-one_more_of b zero = refl
-one_more_of b (suc count) = ap (λ l. b ∷ l) (one_more_of b count)
-
--- behind the columns that are used there are spaces, in each prefix of some columns
-module _ (columns : List ℕ) (n before : ℕ) (within : suc n ≤ length columns) (counted : suffix_len is_space (take n columns) ≡ before)
-    (so_far : take n columns ≡ take (n - before) columns ++ replicate before 32) where
-  to_last : suc n - 1 ≡ n
-  to_last = omega arith
-
-  last_is : {space : Bool} → is_space (get_or columns n 0) ≡ space → is_space (get_or columns (suc n - 1) 0) ≡ space
-  last_is e = ap (λ k. is_space (get_or columns k 0)) to_last ∙ e
-
-  spaces_at : (space : Bool) → is_space (get_or columns n 0) ≡ space → (spaces : ℕ) → suffix_len is_space (take (suc n) columns) ≡ spaces
-      → take (suc n) columns ≡ take (suc n - spaces) columns ++ replicate spaces 32
-  spaces_at true e spaces is =
-      let more : spaces ≡ suc before =
-      omega (
-        arith,
-        is,
-        counted,
-        suffix_len-take_yes is_space columns (suc n) 0 (omega arith) (omega (arith, within)) (last_is e),
-        ap (λ k. suffix_len is_space (take k columns)) to_last,
-      ) in
-      let same : n - before ≡ suc n - spaces = omega (arith, more) in
-      take-suc columns n 0 (omega (arith, within))
-      ∙ ap (λ c. take n columns ++ c ∷ []) (eqb-true (get_or columns n 0) 32 e)
-      ∙ ap (λ l. l ++ 32 ∷ []) so_far
-      ∙ append_assoc (take (n - before) columns) (replicate before 32) (32 ∷ [])
-      ∙ ap (λ l. take (n - before) columns ++ l) (one_more_of 32 before)
-      ∙ ap (λ k. take k columns ++ replicate (suc before) 32) same
-      ∙ ap (λ k. take (suc n - spaces) columns ++ replicate k 32) (sym more)
-  spaces_at false e spaces is =
-      let none : spaces ≡ 0 = sym is ∙ suffix_len-take_no is_space columns (suc n) 0 (omega arith) (omega (arith, within)) (last_is e) in
-      let all : suc n ≡ suc n - spaces = omega (arith, none) in
-      sym (append-nil (take (suc n) columns))
-      ∙ ap (λ k. take k columns ++ []) all
-      ∙ ap (λ k. take (suc n - spaces) columns ++ replicate k 32) (sym none)
-
-spaces_behind : (columns : List ℕ) (n spaces : ℕ) → n ≤ length columns → suffix_len is_space (take n columns) ≡ spaces
-    → take n columns ≡ take (n - spaces) columns ++ replicate spaces 32
-spaces_behind columns zero spaces within is =
-    let none : spaces ≡ 0 = sym is in
-    subst (λ k. take 0 columns ≡ take (0 - k) columns ++ replicate k 32) (sym none) refl
-spaces_behind columns (suc n) spaces within is =
-    let before = suffix_len is_space (take n columns) in
-    spaces_at columns n before within refl (spaces_behind columns n before (omega (arith, within)) refl) (is_space (get_or columns n 0)) refl
-    spaces is
+-- columns are those that are used, and then spaces
+trimmed : (columns : List ℕ) → take (used columns) columns ++ replicate (length columns - used columns) 32 ≡ columns
+trimmed [] = refl
+trimmed (b ∷ columns) = at (is_space b) refl (used columns) (trimmed columns)
+  where
+    at : (space : Bool) → is_space b ≡ space → (count : ℕ) → take count columns ++ replicate (length columns - count) 32 ≡ columns
+        → take (used_with space count) (b ∷ columns) ++ replicate (suc (length columns) - used_with space count) 32 ≡ b ∷ columns
+    at true e zero so =
+        let less : suc (length columns) - 0 ≡ suc (length columns) = omega arith in
+        let all : length columns ≡ length columns - 0 = omega arith in
+        ap (λ n. replicate n 32) less ∙ ap (λ n. 32 ∷ replicate n 32) all ∙ ap (λ l. 32 ∷ l) so
+        ∙ ap (λ c. c ∷ columns) (sym (eqb-true b 32 e))
+    at true e (suc count) so =
+        let less : suc (length columns) - suc (suc count) ≡ length columns - suc count = omega arith in
+        ap (λ n. b ∷ (take (suc count) columns ++ replicate n 32)) less ∙ ap (λ l. b ∷ l) so
+    at false e count so =
+        let less : suc (length columns) - suc count ≡ length columns - count = omega arith in
+        ap (λ n. b ∷ (take count columns ++ replicate n 32)) less ∙ ap (λ l. b ∷ l) so
 
 -- a line is its used columns, and then spaces
 module _ (line : List ℕ) (h : IsLine line) where
   pub few : used line ≤ 80
-  few = omega (arith, h.width)
+  few = omega (arith, h.width, used_few line)
 
   pub kept_width : length (take (used line) line) ≡ used line
-  kept_width = length-take-le (used line) line (omega (arith, h.width))
+  kept_width = length-take-le (used line) line (used_few line)
 
   pub widened : wide (take (used line) line) ≡ line
   widened =
-      let spaces = suffix_len is_space line in
-      let some = suffix_len-le-length is_space line in
-      let all : take 80 line ≡ line = take_all 80 line (omega (arith, h.width)) in
-      let behind = spaces_behind line 80 spaces (omega (arith, h.width)) (ap (suffix_len is_space) all) in
-      let rest : 80 - length (take (used line) line) ≡ spaces = omega (arith, kept_width, some, h.width) in
-      ap (λ n. take (used line) line ++ replicate n 32) rest
-      ∙ ap (λ n. take (n - spaces) line ++ replicate spaces 32) h.width ∙ sym behind ∙ all
+      let rest : 80 - length (take (used line) line) ≡ length line - used line = omega (arith, kept_width, h.width) in
+      ap (λ n. take (used line) line ++ replicate n 32) rest ∙ trimmed line
 
 -- the bytes keep these lines
 pub record Keep (bytes : List ℕ) (lines : List (List ℕ)) : Type 0 where

@@ -1,14 +1,20 @@
 -- Lines that are kept without the spaces at their ends, and lines as they are written.
-use Rattle.std.specs.Prelude.{◌≡◌, ◌==◌, ℕ, ◌-◌, Bool, List, [], ◌∷◌, ◌++◌, All, drop, length, map, replicate, take}
-use Rattle.std.specs.List.{flat_map, suffix_len}
-use Rattle.cif_columns.specs.Line.{ArePrintable, IsLine}
+use Rattle.std.specs.Prelude.{◌≡◌, ◌==◌, ℕ, zero, suc, ◌-◌, Bool, true, false, List, [], ◌∷◌, ◌++◌, All, drop, length, replicate, take}
+use Rattle.std.specs.List.{flat_map}
+use Rattle.cif_columns.specs.Line.{IsLine}
 
 abbrev pub is_space : ℕ → Bool
 is_space b = b == 32
 
--- how many columns there are up to the last that is no space
+-- How many columns there are up to the last that is no space: by whether the first is a space, and by how many there are behind it.
+abbrev pub used_with : Bool → ℕ → ℕ
+used_with true zero = 0
+used_with true (suc count) = suc (suc count)
+used_with false count = suc count
+
 abbrev pub used : List ℕ → ℕ
-used columns = length columns - suffix_len is_space columns
+used [] = 0
+used (b ∷ columns) = used_with (is_space b) (used columns)
 
 -- a line as it is kept: the number of its columns up to the last that is no space, and these
 abbrev pub kept : List ℕ → List ℕ
@@ -37,12 +43,3 @@ pub record AreKept (bytes : List ℕ) : Type 0 where
   pub lines : List (List ℕ)
   pub are_lines : All IsLine lines
   pub is : bytes ≡ kept_text lines
-
--- eighty bytes that may stand in a line, and a line feed
-pub record IsLineText (text : List ℕ) : Type 0 where
-  pub printable : ArePrintable (take 80 text)
-  pub ended : text ≡ take 80 text ++ (10 ∷ [])
-
--- the lines of these texts
-abbrev pub lines_of : List (List ℕ) → List (List ℕ)
-lines_of texts = map (take 80) texts

@@ -261,7 +261,8 @@ impl<'a> LineSlice<'a> {
 /// The most lines of `LineTexts`.
 const ROOM: usize = 64;
 
-/// Some lines, each with its line feed, so that they go out as they lie. A clause sees the list of the lines.
+/// A line and others behind it, each with its line feed, so that they go out as they lie. A clause sees the
+/// text of the one and that of the others.
 #[derive(Debug, Drop)]
 pub struct LineTexts {
     texts: [[u8; LINE_TEXT_WIDTH]; ROOM],
@@ -269,36 +270,37 @@ pub struct LineTexts {
 }
 
 impl Model for LineTexts {
-    ghost use Rattle.std.specs.Prelude.{ℕ, List, ◌≤◌, All, take};
-    ghost use Rattle.cif_columns.specs.Lines.{IsLineText, lines_of};
+    ghost use Rattle.std.specs.Prelude.{ℕ, List, [], ◌<◌, ◌≤◌, drop, slice_index_or, take};
+    ghost use Rattle.std.specs.List.{flat_map};
 
-    ghost Value = { List (List ℕ) };
+    ghost Value = { List ℕ × List ℕ };
 
-    ghost view = { λ t. lines_of (take t.count t.texts) };
+    ghost view = { λ t. (
+      slice_index_or t.texts 0 [],
+      flat_map (λ (text : List ℕ). text) (drop 1 (take t.count t.texts)),
+    ) };
 
-    ghost invariant = { λ t. (t.count ≤ 64) × All IsLineText (take t.count t.texts) };
+    ghost invariant = { λ t. (0 < t.count) × (t.count ≤ 64) };
 }
 
 impl LineTexts {
-    /// No lines.
+    /// Any line, and no others.
     pub fn new() -> LineTexts
-        ensures { result ≡ [] }
+        ensures { result.1 ≡ [] }
     {
         LineTexts {
             texts: [[b'\n'; LINE_TEXT_WIDTH]; ROOM],
-            count: 0,
+            count: 1,
         }
     }
 
-    /// In place of its lines it takes these, as many as there is room for, one at least, and returns the others.
+    /// Puts these lines in place of the others, as many as there is room for, and returns those that are left.
     pub fn take<'a>(&mut self, lines: LineSlice<'a>) -> LineSlice<'a>
-        ensures all { self.new ++ result ≡ lines.entry }
-        ensures some { 0 < length lines.entry → 0 < length self.new }
+        ensures { self.new.1 ++ lines_text result ≡ lines_text lines.entry }
     {
         let mut lines = lines;
-        self.count = 0;
+        self.count = 1;
         while self.count < ROOM && !lines.is_empty() {
-            lines.are_lines();
             lines.put_first(&mut self.texts[self.count]);
             self.count += 1;
             lines = lines.rest();
@@ -306,17 +308,16 @@ impl LineTexts {
         lines
     }
 
-    /// Puts this line in place of the first.
-    pub fn replace_first(&mut self, line: &Line)
-        requires { 0 < length self.old }
-        ensures { self.new ≡ line.now ∷ drop 1 self.old }
+    /// Puts the line before the others.
+    pub fn set_first(&mut self, line: &Line)
+        ensures { self.new ≡ (line.now ++ 10 ∷ [], self.old.1) }
     {
         self.texts[0] = line.text();
     }
 
-    /// The text of the lines, each with its line feed.
+    /// The text of all.
     pub fn text(&self) -> &[u8]
-        ensures { result.now ≡ lines_text self.now }
+        ensures { result.now ≡ self.now.0 ++ self.now.1 }
     {
         self.texts[..self.count].as_flattened()
     }

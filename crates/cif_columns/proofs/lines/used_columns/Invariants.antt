@@ -1,8 +1,7 @@
--- The columns so far are those that are used, and the spaces behind them.
-use Rattle.std.proofs.Common.{◌≡◌, ◌+◌, take}
-use Rattle.std.specs.List.{suffix_len}
-use Rattle.cif_columns.specs.Lines.{is_space}
+-- `count` is that of the columns so far.
+use Rattle.std.proofs.Common.{◌≡◌, take}
+use Rattle.cif_columns.specs.Lines.{used}
 use Rattle.cif_columns.proofs.lines.used_columns.Given as goal
 
 abbrev pub invariant-loop-i : goal.invariant-loop-i
-invariant-loop-i l = l.count + suffix_len is_space (take l.i l.columns) ≡ l.i
+invariant-loop-i l = l.count ≡ used (take l.i l.columns)

@@ -1,10 +1,10 @@
--- The texts one behind another are that of the lines (`joined_texts`).
-use Rattle.std.proofs.Common.{ap, take, ◌∙◌}
-use Rattle.cif_columns.specs.Contents.{lines_text}
-use Rattle.cif_columns.proofs.TextsOfLines.{joined_texts}
+-- The text of all is that of the first and of the others (`first_and_others`).
+use Rattle.std.proofs.Common.{◌++◌, ℕ, List, ap, arith, ◌∙◌}
+use Rattle.cif_columns.proofs.TextsOfLines.{first_and_others}
 use Rattle.cif_columns.proofs.lines.LineTexts.text.Goals as goal
 
 pub returns : goal.returns
 returns c =
-    let texts = take c.self.inside.count c.self.inside.texts in
-    c.as_flattened.ensures.value ∙ joined_texts texts c.self.invariant.1 ∙ ap lines_text c.self.view_is
+    c.as_flattened.ensures.value
+    ∙ first_and_others c.self.inside.texts c.self.inside.count c.self.invariant.0 (omega (arith, c.self.told))
+    ∙ ap (λ (v : List ℕ × List ℕ). v.0 ++ v.1) c.self.view_is
