@@ -1,6 +1,6 @@
 //! What runs on a schedule's dates.
-ghost use Rattle.std.specs.Prelude.{◌≡◌, ◌<◌, ◌↔◌, ◌++◌, IfOk, IfSome, IsTrue, OnOk, Some, is_some, length, map, option_copied};
-ghost use Rattle.cif_extract.specs.Body.{KeepAll, KeepBody, KeepJourney, KeepMore, KeepSomeBody, is_extra, kept_tables, parts_in};
+ghost use Rattle.std.specs.Prelude.{◌≡◌, ◌↔◌, ◌++◌, IfOk, IfSome, IsTrue, OnOk, Some, is_some, map, option_copied};
+ghost use Rattle.cif_extract.specs.Body.{KeepAll, KeepJourney, KeepMore, KeepSomeBody, is_extra, kept_tables, parts_in};
 ghost use Rattle.cif_extract.specs.BodyParts.{body_records, extra_records, journey_records};
 ghost use Rattle.cif_columns.specs.Field.{AllFit, AllStandIn, plain_line};
 ghost use Rattle.cif_extract.specs.Texts.{AllTablesFit};
@@ -107,19 +107,11 @@ impl Body {
         self.lines.as_slice().are_lines();
     }
 
-    /// Its plain lines: that of its detail, and those of the records that follow its BS.
-    pub(crate) fn lines(&self) -> LineSlice<'_>
-        ensures kept { KeepBody result self.now }
-        ensures some { 0 < length result }
-    {
-        self.lines.as_slice()
-    }
-
     /// The plain lines of the records that follow its BS.
     pub fn further_lines(&self) -> LineSlice<'_>
         ensures { KeepAll result (map record_table (body_records self.now)) }
     {
-        self.lines().rest()
+        self.lines.as_slice().rest()
     }
 
     /// The line that its detail has to itself.
@@ -127,7 +119,7 @@ impl Body {
         ensures plain { result ≡ plain_line (detail_table self.now.detail) }
         ensures stands { AllStandIn result (detail_table self.now.detail) }
     {
-        self.lines().first()
+        self.lines.as_slice().first()
     }
 
     /// Always true. To know it, the body has to come from memory. Who asks this of several bodies, before
@@ -143,7 +135,7 @@ impl Body {
         ensures marked { is_extra result ≡ is_some self.now.extra }
         ensures further { IfSome self.now.extra (λ extra. SpellsExtra result extra) }
     {
-        self.lines().rest().first()
+        self.lines.as_slice().rest().first()
     }
 
     /// The lines from LO to LT.

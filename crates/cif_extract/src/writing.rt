@@ -11,7 +11,7 @@ ghost use Rattle.cif_records.specs.Tiploc.{tiploc_table};
 ghost use Rattle.cif_records.specs.Trailer.{trailer_table};
 
 use crate::Body;
-use cif_columns::{Day, DaysRun, Line, LineSlice, LineTexts, Sink, Uid, WriteDevice, WriteFault};
+use cif_columns::{Day, DaysRun, LineSlice, LineTexts, Sink, Uid, WriteDevice, WriteFault};
 use cif_records::{AssocBody, AssocKey, Association, Basic, Header, Tiploc, Trailer};
 use std::marker::Model;
 
@@ -65,25 +65,28 @@ pub fn write_schedule<W: WriteDevice>(
     ScheduleWriter::of(body).write(uid, first, last, days, sink)
 }
 
-/// Writes schedules of one body. What they have alike is made once. A clause sees the body.
+/// Writes schedules of one body. The lines that all of them have are made once. A clause sees the body.
 #[derive(Debug, Drop)]
 pub struct ScheduleWriter<'a> {
-    detail: Line,
-    // The line of a BS and those of the records that follow it, as many as there is room for, and the others.
+    body: &'a Body,
+    // The line of a BS and those that follow it, as many as there is room for, and the others.
     texts: LineTexts,
     rest: LineSlice<'a>,
 }
 
 impl<'a> Model for ScheduleWriter<'a> {
-    ghost use Rattle.std.specs.Prelude.{◌<◌, ◌∷◌, ◌++◌, drop, length};
-    ghost use Rattle.cif_extract.specs.Body.{KeepSomeBody, parts_in};
+    ghost use Rattle.std.specs.Prelude.{◌≡◌, ◌++◌, Some, map};
+    ghost use Rattle.cif_columns.specs.Contents.{lines_text};
+    ghost use Rattle.cif_columns.specs.Field.{plain_line};
     ghost use Rattle.cif_extract.specs.BodyParts.{BodyParts};
+    ghost use Rattle.cif_extract.specs.Texts.{body_tables};
 
     ghost Value = { BodyParts };
 
-    ghost view = { λ w. parts_in (w.detail ∷ (drop 1 w.texts ++ w.rest)) };
+    ghost view = { λ w. w.body.now };
 
-    ghost invariant = { λ w. (0 < length w.texts) × KeepSomeBody (w.detail ∷ (drop 1 w.texts ++ w.rest)) };
+    ghost invariant = { λ w. w.texts.1 ++ lines_text w.rest
+        ≡ lines_text (map plain_line (body_tables (Some w.body.now))) };
 }
 
 impl<'a> ScheduleWriter<'a> {
@@ -91,24 +94,17 @@ impl<'a> ScheduleWriter<'a> {
     pub fn of(body: &'a Body) -> ScheduleWriter<'a>
         ensures { result ≡ body.now }
     {
-        let lines = body.lines();
-        let detail = lines.first();
         let mut texts = LineTexts::new();
-        let rest = texts.take(lines);
-        ScheduleWriter {
-            detail,
-            texts,
-            rest,
-        }
+        let rest = texts.take(body.further_lines());
+        ScheduleWriter { body, texts, rest }
     }
 
     /// From now on for schedules that have this body.
     pub fn set_body(&mut self, body: &'a Body)
         ensures { self.new ≡ body.now }
     {
-        let lines = body.lines();
-        self.detail = lines.first();
-        self.rest = self.texts.take(lines);
+        self.body = body;
+        self.rest = self.texts.take(body.further_lines());
     }
 
     /// Appends the plain lines of a schedule, as `write_schedule` does.
@@ -125,8 +121,8 @@ impl<'a> ScheduleWriter<'a> {
             (lines_text (schedule_lines uid.now first last days P (Some self.old))) sink.old sink.new result }
         ensures body { self.new ≡ self.old }
     {
-        let basic = Basic::permanent_line(uid, &self.detail, first, last, days);
-        self.texts.replace_first(&basic);
+        let basic = Basic::permanent_line(uid, &self.body.detail_line(), first, last, days);
+        self.texts.set_first(&basic);
         sink.write_all(self.texts.text())?;
         sink.write_lines(&self.rest)
     }

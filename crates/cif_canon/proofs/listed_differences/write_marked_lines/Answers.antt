@@ -1,9 +1,8 @@
 -- One line more goes behind the text (`behind`).
-use Rattle.std.proofs.Common.{◌≡◌, ◌<◌, ◌∷◌, ◌++◌, [], ℕ, List, append-nil, ap, arith, length, sym, ◌∙◌}
+use Rattle.std.proofs.Common.{◌≡◌, ◌<◌, ◌∷◌, ◌++◌, [], ℕ, List, append-nil, append_assoc, ap, arith, drop, length, sym, ◌∙◌}
 use Rattle.std.specs.List.{flat_map}
 use Rattle.std.proofs.lemmas.Bool.Decides.{nat_tests}
-use Rattle.std.proofs.lemmas.List.{nil_from_length}
-use Rattle.cif_columns.proofs.WrittenLines.{lines_split}
+use Rattle.std.proofs.lemmas.List.{drop_more, nil_from_length}
 use Rattle.cif_canon.specs.Differences.{marked_text}
 use Rattle.cif_canon.specs.Steps.Writing.{IsAppended}
 use Rattle.cif_canon.proofs.AppendedTexts.{behind, nothing, text-is}
@@ -21,7 +20,8 @@ loop-rest-preserved g c =
     let told = c.is_empty.ensures in
     let some : 0 < length rest = grind (arith, nat_tests, test, told) in (
       done ++ c.first.result ∷ [],
-      lines_split done rest c.rest-rest.result c.first.result some c.first.ensures c.rest-rest.ensures c.args.lines.now split,
+      split ∙ ap (λ l. done ++ l) (drop_more rest 0 [] some ∙ ap (λ l. l ∷ drop 1 rest) (sym c.first.ensures)
+          ∙ ap (λ l. c.first.result ∷ l) (sym c.rest-rest.ensures)) ∙ sym (append_assoc done (c.first.result ∷ []) c.rest-rest.result),
       behind _ _ (λ (line : List ℕ). marked_text c.args.side (line ∷ [])) done c.first.result _ _ _ written c.write_marked.ensures,
     )
 

@@ -1,20 +1,12 @@
--- The lines that were taken as texts and the others are those of the body (`lines_again`).
-use Rattle.std.proofs.Common.{ap, sym, subst, ◌∙◌}
-use Rattle.cif_extract.specs.Body.{KeepSomeBody, parts_in}
-use Rattle.cif_extract.proofs.Bodies.{parts_in-keeps}
-use Rattle.cif_extract.proofs.WrittenLines.{lines_again}
+-- The lines that were taken and the others are the plain lines that follow the BS (`kept_plain`).
+use Rattle.std.proofs.Common.{ap, map, ◌∙◌}
+use Rattle.cif_columns.specs.Contents.{lines_text}
+use Rattle.cif_extract.specs.BodyParts.{body_records}
+use Rattle.cif_records.specs.Record.{record_table}
+use Rattle.cif_extract.proofs.WrittenLines.{kept_plain}
 use Rattle.cif_extract.proofs.writing.ScheduleWriter.of.Goals as goal
 
 pub invariant_of-result : goal.invariant_of-result
 invariant_of-result c =
-    let some = c.take-rest.ensures.some c.lines-lines.ensures.some in
-    let same = lines_again c.first-detail.result c.take-rest.new.self c.take-rest.result c.lines-lines.result some c.take-rest.ensures.all
-    c.first-detail.ensures in
-    (some, subst KeepSomeBody (sym same) (c.args.body.now, c.lines-lines.ensures.kept))
-
-pub returns : goal.returns
-returns c =
-    let some = c.take-rest.ensures.some c.lines-lines.ensures.some in
-    let same = lines_again c.first-detail.result c.take-rest.new.self c.take-rest.result c.lines-lines.result some c.take-rest.ensures.all
-    c.first-detail.ensures in
-    ap parts_in same ∙ parts_in-keeps c.lines-lines.result c.args.body.now c.lines-lines.ensures.kept
+    c.take-rest.ensures
+    ∙ ap lines_text (kept_plain c.further_lines.result (map record_table (body_records c.args.body.now)) c.further_lines.ensures)
