@@ -3,13 +3,16 @@ use Rattle.std.proofs.Common.{◌≡◌, ℕ, ◌<◌, ◌≤◌, List, Option, 
 use Rattle.std.specs.Prelude.{All, slice_get}
 use Rattle.std.specs.Option.{option_and_then, option_map}
 use Rattle.std.proofs.lemmas.List.{length-map}
-use Rattle.std.proofs.lemmas.Option.{same_Some, slice_get_within}
+use Rattle.std.proofs.lemmas.Option.{same_Some, slice_get_read, slice_get_within}
 use Rattle.cif_calendar.specs.Terms.{Terms}
 use Rattle.cif_calendar.proofs.Winning.{terms_at}
 use Rattle.cif_weeks.specs.Permanent.{Permanent}
 use Rattle.cif_weeks.specs.Runs.{record_of}
 use Rattle.cif_weeks.specs.declared.run.Run.{Run}
-use Rattle.cif_canon.specs.Steps.Texts.{HasRecord, record_at, text_if}
+use Rattle.cif_extract.specs.BodyParts.{BodyParts}
+use Rattle.cif_extract.specs.declared.extract.Schedule.{Schedule}
+use Rattle.cif_calendar.specs.Entries.{schedule_entries, schedule_entry}
+use Rattle.cif_canon.specs.Steps.Texts.{HasRecord, body_at, record_at, schedule_run_text, schedule_text, text_if}
 
 -- the record of a run whose source is an entry with a body
 pub record-of_entry : {K B : Type 0} (entries : List (K × Terms B)) (run : Run) (e : K × Terms B) (b : B) →
@@ -63,3 +66,17 @@ dates-in_order {K} {B} entries run h = of-entry (slice_get entries run.source) h
         option_and_then (λ (e : K × Terms B). option_map (λ b. (e.0, record_of run b)) e.1.body) o ≡ Some h.it → run.first ≤ run.last
     of-entry None e = absurd (cc)
     of-entry (Some entry) e = of-body entry.0 entry.1.body e
+
+-- the body of the schedule that stands at a position
+pub body-of : (schedules : List Schedule) (n : ℕ) (s : Schedule) → n < length schedules → s ≡ get_or schedules n s →
+    body_at schedules n ≡ s.body
+body-of schedules n s within is =
+    ap (option_and_then (λ (s : Schedule). s.body)) (slice_get_read schedules (length schedules) n s refl within is)
+
+-- the text of a run, by the schedule at its source and its body
+pub schedule-text : (schedules : List Schedule) (run : Run) (s : Schedule) (b : BodyParts) → HasRecord (schedule_entries schedules) run →
+    s ≡ get_or schedules run.source s → body_at schedules run.source ≡ Some b →
+    schedule_run_text (schedule_entries schedules) run ≡ schedule_text (s.uid, record_of run b)
+schedule-text schedules run s b h is body =
+    run-text schedule_entry schedules run s b schedule_text h is
+    (sym (body-of schedules run.source s (record-within schedule_entry schedules run h) is) ∙ body)

@@ -1,21 +1,22 @@
 //! The canonical form of an extract: its counts and its lines.
-ghost use Rattle.std.specs.Prelude.{◌≡◌, ◌<◌, ◌≤◌, All, IfErr, IsTrue, length};
+ghost use Rattle.std.specs.Prelude.{◌≡◌, ◌<◌, ◌≤◌, All, IfErr, Some, length};
 ghost use Rattle.std.specs.List.{flat_map};
 ghost use Rattle.cif_calendar.specs.Keys.{keyed};
 ghost use Rattle.cif_columns.specs.Sink.{Writes};
 ghost use Rattle.cif_extract.specs.declared.fault.Fault.TheVariants.{Write};
 ghost use Rattle.cif_weeks.specs.Runs.{record_of};
 ghost use Rattle.cif_canon.specs.Counts.{counts_line};
-ghost use Rattle.cif_canon.specs.Steps.Texts.{HasRecord, tiploc_text, run_text};
+ghost use Rattle.cif_calendar.specs.Entries.{schedule_entries};
+ghost use Rattle.cif_canon.specs.Steps.Texts.{HasRecord, body_at, run_text, schedule_run_text, tiploc_text};
 ghost use Rattle.cif_canon.specs.Steps.Writing.{IsAppended};
 
 use crate::records::AT_ONCE;
 use crate::writing::answer;
 use arrayvec::ArrayString;
 use cif_calendar::Entry;
-use cif_columns::{Sink, Uid, WriteDevice, WriteFault};
+use cif_columns::{Sink, WriteDevice, WriteFault};
 use cif_extract::{
-    Body, Extract, Fault, Schedule, write_association, write_head, write_schedule, write_tiploc,
+    Body, Extract, Fault, Schedule, ScheduleWriter, write_association, write_head, write_tiploc,
     write_trailer,
 };
 use cif_records::{AssocBody, AssocKey, Association, Tiploc};
@@ -88,8 +89,7 @@ impl<'a> Canon<'a> {
             self.associations.as_slice(),
             sink,
         );
-        write_runs(
-            &PlainLines,
+        write_schedules(
             extract.schedules.as_slice(),
             self.schedules.as_slice(),
             sink,
@@ -153,13 +153,6 @@ pub(crate) trait RecordLines<E: Entry> {
     // The text of a record with its key.
     ghost text: { Self → E.Key × Permanent E.Body → List ℕ };
 
-    /// Always true. Where a body is large, its first bytes have to come from memory to know it.
-    fn is_at_hand(&self, _body: &E::Body) -> bool
-        ensures { IsTrue result }
-    {
-        true
-    }
-
     /// Appends the text of the record with this key and this body, and the dates and the mask of the run.
     fn write_record<W: WriteDevice>(
         &self,
@@ -186,24 +179,74 @@ pub(crate) fn write_runs<E: Entry, L: RecordLines<E>, W: WriteDevice>(
         (flat_map (run_text (L.text lines.now) (keyed E.key E.terms entries.now)) runs.now)
         sink.old sink.new }
 {
-    for (at, run) in runs.iter().enumerate() {
-        if at % AT_ONCE == 0 {
-            look_ahead(lines, entries, &runs[at..runs.len().min(at + AT_ONCE)]);
-        }
+    for run in runs {
         write_run(lines, entries, run, sink);
     }
 }
 
-/// Looks at the bodies that the runs' records have.
-fn look_ahead<E: Entry, L: RecordLines<E>>(lines: &L, entries: &[E], runs: &[Run])
-    requires within { All (λ run. run.source < length entries.now) runs.now }
-    requires records { All (HasRecord (keyed E.key E.terms entries.now)) runs.now }
+/// Appends the lines of the runs' schedules.
+fn write_schedules<W: WriteDevice>(schedules: &[Schedule], runs: &[Run], sink: &mut Sink<W>)
+    requires within { All (λ run. run.source < length schedules.now) runs.now }
+    requires records { All (HasRecord (schedule_entries schedules.now)) runs.now }
+    ensures { IsAppended W.contents W.write_errors
+        (flat_map (schedule_run_text (schedule_entries schedules.now)) runs.now) sink.old sink.new }
+{
+    let Some(first) = runs.first() else {
+        return;
+    };
+    let mut source = first.source;
+    let mut writer = ScheduleWriter::of(body_of(schedules, first));
+    for (at, run) in runs.iter().enumerate() {
+        if at % AT_ONCE == 0 {
+            look_ahead(schedules, &runs[at..runs.len().min(at + AT_ONCE)]);
+        }
+        set_body(schedules, run, &mut source, &mut writer);
+        let uid = &schedules[run.source].uid;
+        let _ = writer.write(uid, run.first, run.last, run.days, sink);
+    }
+}
+
+/// The body of the run's schedule.
+fn body_of<'a>(schedules: &'a [Schedule], run: &Run) -> &'a Body
+    requires within { run.now.source < length schedules.now }
+    requires record { HasRecord (schedule_entries schedules.now) run.now }
+    ensures { body_at schedules.now run.now.source ≡ Some result.now }
+{
+    match &schedules[run.source].body {
+        Some(body) => body,
+        None => unreachable!(),
+    }
+}
+
+/// Looks at the bodies of the runs' schedules.
+fn look_ahead(schedules: &[Schedule], runs: &[Run])
+    requires within { All (λ run. run.source < length schedules.now) runs.now }
+    requires records { All (HasRecord (schedule_entries schedules.now)) runs.now }
 {
     for run in runs {
-        match entries[run.source].body() {
-            Some(body) if lines.is_at_hand(body) => {}
-            _ => unreachable!(),
+        if !body_of(schedules, run).prefetch() {
+            unreachable!();
         }
+    }
+}
+
+/// Gives the writer the body of the run's schedule. It has that of the schedule at `source`: more than a third
+/// of the records have the body of the record before.
+fn set_body<'a>(
+    schedules: &'a [Schedule],
+    run: &Run,
+    source: &mut usize,
+    writer: &mut ScheduleWriter<'a>,
+)
+    requires within { run.now.source < length schedules.now }
+    requires record { HasRecord (schedule_entries schedules.now) run.now }
+    requires body { body_at schedules.now source.old ≡ Some writer.old }
+    ensures source { source.new ≡ run.now.source }
+    ensures body { body_at schedules.now source.new ≡ Some writer.new }
+{
+    if *source != run.source {
+        *source = run.source;
+        writer.set_body(body_of(schedules, run));
     }
 }
 
@@ -244,19 +287,5 @@ impl RecordLines<Association> for PlainLines {
         sink: &mut Sink<W>,
     ) {
         let _ = write_association(key, body, run.first, run.last, run.days, sink);
-    }
-}
-
-impl RecordLines<Schedule> for PlainLines {
-    ghost use Rattle.cif_canon.specs.Steps.Texts.{schedule_text};
-
-    ghost text = { λ lines. schedule_text };
-
-    fn is_at_hand(&self, body: &Body) -> bool {
-        body.is_at_hand()
-    }
-
-    fn write_record<W: WriteDevice>(&self, uid: &Uid, body: &Body, run: &Run, sink: &mut Sink<W>) {
-        let _ = write_schedule(uid, body, run.first, run.last, run.days, sink);
     }
 }

@@ -86,9 +86,10 @@ fn write_marked<W: WriteDevice>(side: Side, line: &Line, sink: &mut Sink<W>)
 fn write_marked_lines<W: WriteDevice>(side: Side, lines: &LineSlice<'_>, sink: &mut Sink<W>)
     ensures { IsAppended W.contents W.write_errors (marked_text side lines.now) sink.old sink.new }
 {
-    let count = lines.len();
-    for i in 0..count {
-        write_marked(side, &lines.line(i), sink);
+    let mut rest = lines.copy();
+    while !rest.is_empty() {
+        write_marked(side, &rest.first(), sink);
+        rest = rest.rest();
     }
 }
 

@@ -13,10 +13,10 @@ pub mod FoundInHeld
 pub mod GivenLinesLaws
 pub mod HeldBytes
 pub mod Letters
+pub mod KeptLines
 pub mod LineAnswers
 pub mod LineFifths
 pub mod LineReasons
-pub mod LineTexts
 pub mod Masks
 pub mod PackedCodes
 pub mod Parts
@@ -33,7 +33,10 @@ pub mod TestedTexts
 pub mod TestedTimes
 pub mod TextOrder
 pub mod Texts
+pub mod TextsOfLines
 pub mod Times
 pub mod TrialPieces
 pub mod WholeLines
+pub mod WideLines
+pub mod WrittenLines
 pub mod WrittenTexts

@@ -1,30 +1,30 @@
-//! Lines that are kept as they are written, and parts of them.
-ghost use Rattle.std.specs.Prelude.{◌≡◌, ◌++◌, ◌∷◌, [], ◌<◌, ◌≤◌, ◌↔◌, OnOk, IfOk, IsTrue, All};
-ghost use Rattle.std.specs.Prelude.{drop, length, slice_index_or, take};
+//! Lines that are kept without the spaces at their ends, and lines as they are written.
+ghost use Rattle.std.specs.Prelude.{◌≡◌, ◌++◌, ◌∷◌, [], ◌+◌, ◌-◌, ◌<◌, ◌≤◌, ◌↔◌, ◌==◌, OnOk, IfOk, IsTrue, All};
+ghost use Rattle.std.specs.Prelude.{cond, drop, length, slice_index, slice_index_or, take};
 ghost use Rattle.cif_columns.specs.Contents.{lines_text};
-ghost use Rattle.cif_columns.specs.Line.{IsLine};
-ghost use Rattle.cif_columns.specs.Lines.{IsLineText, lines_in};
+ghost use Rattle.cif_columns.specs.Line.{ArePrintable, IsLine};
+ghost use Rattle.cif_columns.specs.Lines.{is_space, used, wide};
 
 use crate::line::{LINE_TEXT_WIDTH, LINE_WIDTH, Line, array_of};
 use std::alloc::{AllocError, Global};
 use std::marker::Model;
 
-/// Lines, each with its line feed, so that they go out as they lie. A clause sees the list of the
-/// lines.
+/// Lines, each kept without the spaces at its end. A clause sees the list of the lines.
 #[derive(Debug, Drop)]
 pub struct Lines {
-    texts: Vec<[u8; LINE_TEXT_WIDTH]>,
+    // Of each line the number of its columns up to the last that is no space, and these.
+    kept: Vec<u8>,
 }
 
 impl Model for Lines {
-    ghost use Rattle.std.specs.Prelude.{ℕ, All, List};
-    ghost use Rattle.cif_columns.specs.Lines.{IsLineText, lines_in};
+    ghost use Rattle.std.specs.Prelude.{ℕ, List};
+    ghost use Rattle.cif_columns.specs.Lines.{AreKept, lines_in};
 
     ghost Value = { List (List ℕ) };
 
-    ghost view = { λ l. lines_in l.texts.items };
+    ghost view = { λ l. lines_in l.kept.items };
 
-    ghost invariant = { λ l. All IsLineText l.texts.items };
+    ghost invariant = { λ l. AreKept l.kept.items };
 }
 
 impl Lines {
@@ -33,33 +33,38 @@ impl Lines {
         ensures { result ≡ [] }
     {
         Lines {
-            texts: Vec::new(alloc),
+            kept: Vec::new(alloc),
         }
-    }
-
-    /// No lines, with room for so many.
-    pub fn with_capacity(alloc: Global, count: usize) -> Result<Lines, AllocError>
-        ensures { IfOk result (λ lines. lines ≡ []) }
-    {
-        let texts = Vec::with_capacity(alloc, count)?;
-        Ok(Lines { texts })
     }
 
     /// The same lines, in room of their size.
     pub fn of(alloc: Global, lines: &LineSlice<'_>) -> Result<Lines, AllocError>
         ensures { IfOk result (λ copy. copy ≡ lines.now) }
     {
-        let texts = Vec::from_slice(alloc, lines.texts)?;
-        Ok(Lines { texts })
+        let kept = Vec::from_slice(alloc, lines.kept)?;
+        Ok(Lines { kept })
     }
 
     /// Appends the line. After an error nothing is said of the lines.
     pub fn push(&mut self, line: &Line) -> Result<(), AllocError>
         ensures { OnOk result (self.new ≡ self.old ++ line.now ∷ []) }
     {
-        // With room for it the text is made in its place.
-        self.texts.reserve(1)?;
-        self.texts.push_reserved(line.text());
+        self.push_columns(line.bytes())
+    }
+
+    /// Appends the line of these bytes, each of which may stand in one, as `push` does.
+    #[inline(always)]
+    pub fn push_columns(&mut self, columns: &[u8; LINE_WIDTH]) -> Result<(), AllocError>
+        requires { ArePrintable columns.now }
+        ensures { OnOk result (self.new ≡ self.old ++ columns.now ∷ []) }
+    {
+        self.kept.reserve(LINE_TEXT_WIDTH)?;
+        let count = used_columns(columns);
+        self.kept.push_reserved(count);
+        let end = self.kept.as_slice().len() + usize::from(count);
+        // To copy all columns takes less time than a copy whose size depends on them.
+        let _ = self.kept.extend_from_slice(columns);
+        self.kept.truncate(end);
         Ok(())
     }
 
@@ -67,77 +72,173 @@ impl Lines {
     pub fn clear(&mut self)
         ensures { self.new ≡ [] }
     {
-        self.texts.clear();
+        self.kept.clear();
     }
 
     /// All the lines.
     pub fn as_slice(&self) -> LineSlice<'_>
         ensures { result ≡ self.now }
     {
-        LineSlice::of(self.texts.as_slice())
+        LineSlice {
+            kept: self.kept.as_slice(),
+        }
     }
 }
 
-/// A part of `Lines`. A clause sees the list of the lines.
+/// How many columns there are up to the last that is no space.
+// No branch depends on a column, so that the compiler can take sixteen of them at a time.
+#[inline(always)]
+fn used_columns(columns: &[u8; LINE_WIDTH]) -> u8
+    ensures { result ≡ used columns.now }
+{
+    let mut count = 0u8;
+    for i in 0..LINE_WIDTH as u8 {
+        count = count.max(end_of(columns, i));
+    }
+    count
+}
+
+/// How many columns there are up to this one, if it is no space.
+#[inline(always)]
+fn end_of(columns: &[u8; LINE_WIDTH], i: u8) -> u8
+    requires { i < 80 }
+    ensures { result ≡ cond (is_space (slice_index columns.now i)) 0 (i + 1) }
+{
+    if columns[usize::from(i)] == b' ' {
+        0
+    } else {
+        i + 1
+    }
+}
+
+/// The greatest byte of each column that is used, and then spaces for those that aren't.
+static MOST: [[u8; LINE_WIDTH]; 2] = [[b'~'; LINE_WIDTH], [b' '; LINE_WIDTH]];
+
+/// Makes this the text of the line that has the first `count` columns, and then spaces.
+// No branch depends on the count, so that the compiler can take sixteen columns at a time.
+#[inline(always)]
+fn widen(columns: &[u8; LINE_WIDTH], count: u8, text: &mut [u8; LINE_TEXT_WIDTH])
+    requires count { count ≤ 80 }
+    requires printable { ArePrintable (take count columns.now) }
+    ensures { text.new ≡ wide (take count columns.now) ++ 10 ∷ [] }
+{
+    let (_, most) = MOST
+        .as_flattened()
+        .split_at(LINE_WIDTH - usize::from(count));
+    for i in 0..LINE_WIDTH {
+        text[i] = columns[i].min(most[i]).max(b' ');
+    }
+    text[LINE_WIDTH] = b'\n';
+}
+
+/// These columns, and then spaces.
+fn padded(columns: &[u8]) -> [u8; LINE_WIDTH]
+    requires { length columns.now ≤ 80 }
+    ensures { take (length columns.now) result ≡ columns.now }
+{
+    let mut padded = [b' '; LINE_WIDTH];
+    padded[..columns.len()].copy_from_slice(columns);
+    padded
+}
+
+/// Lines of `Lines`, from one of them to the last. A clause sees the list of them.
 #[derive(Debug, Drop)]
 pub struct LineSlice<'a> {
-    texts: &'a [[u8; LINE_TEXT_WIDTH]],
+    kept: &'a [u8],
 }
 
 impl<'a> Model for LineSlice<'a> {
-    ghost use Rattle.std.specs.Prelude.{ℕ, All, List};
-    ghost use Rattle.cif_columns.specs.Lines.{IsLineText, lines_in};
+    ghost use Rattle.std.specs.Prelude.{ℕ, List};
+    ghost use Rattle.cif_columns.specs.Lines.{AreKept, lines_in};
 
     ghost Value = { List (List ℕ) };
 
-    ghost view = { λ s. lines_in s.texts.now };
+    ghost view = { λ s. lines_in s.kept.now };
 
-    ghost invariant = { λ s. All IsLineText s.texts.now };
+    ghost invariant = { λ s. AreKept s.kept.now };
 }
 
+/// How many bytes come from memory at once.
+const CACHE_LINE: usize = 64;
+
 impl<'a> LineSlice<'a> {
-    /// The lines of these texts.
-    pub(crate) fn of(texts: &'a [[u8; LINE_TEXT_WIDTH]]) -> LineSlice<'a>
-        requires { All IsLineText texts.now }
-        ensures { result ≡ lines_in texts.now }
+    /// The same lines.
+    pub fn copy(&self) -> LineSlice<'a>
+        ensures { result ≡ self.now }
     {
-        LineSlice { texts }
+        LineSlice { kept: self.kept }
     }
 
-    /// How many lines there are.
-    pub fn len(&self) -> usize
-        ensures { result ≡ length self.now }
+    /// Whether there is no line.
+    pub fn is_empty(&self) -> bool
+        ensures { result ≡ (length self.now == 0) }
     {
-        self.texts.len()
+        self.kept.is_empty()
     }
 
-    /// The line at this place, counted from 0.
-    pub fn line(&self, at: usize) -> Line
-        requires { at < length self.now }
-        ensures { result ≡ slice_index_or self.now at [] }
+    /// The first line.
+    pub fn first(&self) -> Line
+        requires { 0 < length self.now }
+        ensures { result ≡ slice_index_or self.now 0 [] }
     {
-        let texts = self.texts;
-        Line::of_printable(array_of(&texts[at][..LINE_WIDTH]))
+        self.are_lines();
+        let mut text = [b'\n'; LINE_TEXT_WIDTH];
+        self.put_first(&mut text);
+        Line::of_printable(array_of(&text[..LINE_WIDTH]))
     }
 
-    /// The lines behind the first `count`.
-    pub fn behind(&self, count: usize) -> LineSlice<'a>
-        requires { count ≤ length self.now }
-        ensures { result ≡ drop count self.now }
+    /// The lines behind the first.
+    #[inline(always)]
+    pub fn rest(&self) -> LineSlice<'a>
+        requires { 0 < length self.now }
+        ensures { result ≡ drop 1 self.now }
     {
-        LineSlice {
-            texts: &self.texts[count..],
+        let (_, kept) = self.kept.split_at(1 + usize::from(self.kept[0]));
+        LineSlice { kept }
+    }
+
+    /// The last line.
+    pub fn last(&self) -> Line
+        requires { 0 < length self.now }
+        ensures { result ≡ slice_index_or self.now (length self.now - 1) [] }
+    {
+        let mut last = self.copy();
+        let mut rest = last.rest();
+        while !rest.is_empty() {
+            let behind = rest.rest();
+            last = rest;
+            rest = behind;
+        }
+        last.first()
+    }
+
+    /// Makes this the text of the first line: its columns and a line feed.
+    #[inline(always)]
+    fn put_first(&self, text: &mut [u8; LINE_TEXT_WIDTH])
+        requires { 0 < length self.now }
+        ensures { text.new ≡ slice_index_or self.now 0 [] ++ 10 ∷ [] }
+    {
+        let count = self.kept[0];
+        let (_, columns) = self.kept.split_at(1);
+        match columns.first_chunk::<LINE_WIDTH>() {
+            Some(columns) => widen(columns, count, text),
+            // The last lines of all.
+            None => widen(&padded(columns), count, text),
         }
     }
 
-    /// The first `count` lines.
-    pub fn first(&self, count: usize) -> LineSlice<'a>
-        requires { count ≤ length self.now }
-        ensures { result ≡ take count self.now }
+    /// Always true. To know it, the lines have to come from memory. Who asks this of the lines of several
+    /// bodies, before they are needed, waits for all of them at once.
+    pub fn prefetch(&self) -> bool
+        ensures { IsTrue result }
     {
-        LineSlice {
-            texts: &self.texts[..count],
+        let mut most = 0u8;
+        let mut at = 0;
+        while at < self.kept.len() {
+            most = most.max(self.kept[at]);
+            at += CACHE_LINE;
         }
+        most < 128
     }
 
     /// A law for proofs: each of them is a line.
@@ -145,23 +246,79 @@ impl<'a> LineSlice<'a> {
     pub fn are_lines(&self)
         ensures { All IsLine self.now }
     {
-        let _ = &self.texts;
-    }
-
-    /// The text of the lines, each with its line feed.
-    pub fn text(&self) -> &'a [u8]
-        ensures { result.now ≡ lines_text self.now }
-    {
-        self.texts.as_flattened()
+        let _ = &self.kept;
     }
 
     /// Whether these are the same lines.
     pub fn is(&self, other: &LineSlice<'_>) -> bool
         ensures { IsTrue result ↔ (self.now ≡ other.now) }
     {
-        self.are_lines();
-        other.are_lines();
-        // One behind another they are compared by many bytes at a time.
-        self.text() == other.text()
+        // Lines are kept in one way.
+        self.kept == other.kept
+    }
+}
+
+/// The most lines of `LineTexts`.
+const ROOM: usize = 64;
+
+/// A line and others behind it, each with its line feed, so that they go out as they lie. A clause sees the
+/// text of the one and that of the others.
+#[derive(Debug, Drop)]
+pub struct LineTexts {
+    texts: [[u8; LINE_TEXT_WIDTH]; ROOM],
+    count: usize,
+}
+
+impl Model for LineTexts {
+    ghost use Rattle.std.specs.Prelude.{ℕ, List, [], ◌<◌, ◌≤◌, drop, slice_index_or, take};
+    ghost use Rattle.std.specs.List.{flat_map};
+
+    ghost Value = { List ℕ × List ℕ };
+
+    ghost view = { λ t. (
+      slice_index_or t.texts 0 [],
+      flat_map (λ (text : List ℕ). text) (drop 1 (take t.count t.texts)),
+    ) };
+
+    ghost invariant = { λ t. (0 < t.count) × (t.count ≤ 64) };
+}
+
+impl LineTexts {
+    /// Any line, and no others.
+    pub fn new() -> LineTexts
+        ensures { result.1 ≡ [] }
+    {
+        LineTexts {
+            texts: [[b'\n'; LINE_TEXT_WIDTH]; ROOM],
+            count: 1,
+        }
+    }
+
+    /// Puts these lines in place of the others, as many as there is room for, and returns those that are left.
+    pub fn take<'a>(&mut self, lines: LineSlice<'a>) -> LineSlice<'a>
+        ensures { self.new.1 ++ lines_text result ≡ lines_text lines.entry }
+    {
+        let mut lines = lines;
+        self.count = 1;
+        while self.count < ROOM && !lines.is_empty() {
+            lines.put_first(&mut self.texts[self.count]);
+            self.count += 1;
+            lines = lines.rest();
+        }
+        lines
+    }
+
+    /// Puts the line before the others.
+    pub fn set_first(&mut self, line: &Line)
+        ensures { self.new ≡ (line.now ++ 10 ∷ [], self.old.1) }
+    {
+        self.texts[0] = line.text();
+    }
+
+    /// The text of all.
+    pub fn text(&self) -> &[u8]
+        ensures { result.now ≡ self.now.0 ++ self.now.1 }
+    {
+        self.texts[..self.count].as_flattened()
     }
 }

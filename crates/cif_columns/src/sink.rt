@@ -1,10 +1,12 @@
 //! A writer that isn't written to again once it has failed, and what a writer tells of its errors.
 ghost use Rattle.std.specs.Prelude.{◌≡◌, ◌++◌, ◌∷◌, [], ◌<◌, IfOk, ℕ, Option, None, IsErr, false};
 ghost use Rattle.std.specs.Prelude.{length};
+ghost use Rattle.cif_columns.specs.Contents.{lines_text};
 ghost use Rattle.std.specs.Io.{WritesAtMost};
 ghost use Rattle.std.specs.Io.KnownBytes.{Keeps, WriteAppends};
 
 use crate::line::Line;
+use crate::lines::LineSlice;
 use std::alloc::Allocator;
 use std::fs::File;
 use std::io;
@@ -77,6 +79,21 @@ impl<W: WriteDevice> Sink<W> {
         ensures { Writes W.contents W.write_errors (line.now ++ 10 ∷ []) self.old self.new result }
     {
         self.write_all(&line.text())
+    }
+
+    /// Writes the lines, each with a line feed, as `write_all` does.
+    pub fn write_lines(&mut self, lines: &LineSlice<'_>) -> Result<(), WriteFault>
+        ensures { Writes W.contents W.write_errors (lines_text lines.now) self.old self.new result }
+    {
+        if self.failed {
+            return Err(WriteFault);
+        }
+        let mut rest = lines.copy();
+        while !rest.is_empty() {
+            self.write_line(&rest.first())?;
+            rest = rest.rest();
+        }
+        Ok(())
     }
 
     /// Hands on what the writer holds back, and writes no bytes of its own. A failure is the last,

@@ -1,10 +1,11 @@
 -- The call that a line spells.
-use Rattle.std.proofs.Common.{◌≡◌, ℕ, true, false, List, sym, ap, subst, codes}
-use Rattle.std.proofs.Common.{◌≢◌, drop, get_or, refl, length, map, ◌<◌, ◌∙◌, All, [], ◌∷◌, arith}
+use Rattle.std.proofs.Common.{◌≡◌, ℕ, suc, ◌-◌, true, false, List, sym, ap, subst, codes}
+use Rattle.std.proofs.Common.{drop, get_or, length, map, take, ◌<◌, ◌∙◌, All, [], ◌∷◌, arith}
+use Rattle.std.proofs.lemmas.List.{length-drop}
 use Rattle.std.proofs.lemmas.List.Elements.{All-tail}
 use Rattle.std.specs.Str.{bytes_eq}
 use Rattle.cif_columns.specs.Field.{columns}
-use Rattle.cif_extract.specs.Call.{SpellsSomeCall, call_in, call_record}
+use Rattle.cif_extract.specs.Call.{SpellsSomeCall, before_last, call_in, call_record}
 use Rattle.cif_extract.specs.declared.call.Call.{Call}
 use Rattle.cif_extract.specs.declared.call.Call.TheVariants.{At, Turn}
 use Rattle.cif_records.specs.Change.{SpellsChange, change_in}
@@ -37,11 +38,19 @@ module _ (line letters : List ℕ) (h : SpellsSomeCall line) (there : letters �
       let it : call_in line ≡ At (stop_in line) = rw test in
       (it, subst (λ call. SpellsRecord line (call_record call)) it (spelled line h))
 
--- lines are the first of them and the others
-pub taken_apart : (lines others : List (List ℕ)) (first : List ℕ) → length lines ≢ 0 → first ≡ get_or lines 0 [] → others ≡ drop 1 lines
-    → lines ≡ first ∷ others
-taken_apart [] others first some a b = absurd (some refl)
-taken_apart (line ∷ lines) others first some a b = rw (a, b)
+-- where others follow the first of some lines, it stands before the last
+pub first_before_last : (lines others : List (List ℕ)) (first : List ℕ) → 0 < length lines → first ≡ get_or lines 0 []
+    → others ≡ drop 1 lines → 0 < length others → before_last lines ≡ first ∷ before_last others
+first_before_last [] others first some a b more = absurd (omega (arith, some))
+first_before_last (line ∷ lines) others first some a b more =
+    let count : length (line ∷ lines) - 1 ≡ suc (length others - 1) = omega (arith, more, ap length b) in
+    ap (λ n. take n (line ∷ lines)) count ∙ ap (λ l. line ∷ take (length others - 1) l) (sym b) ∙ ap (λ l. l ∷ before_last others) (sym a)
+
+-- and nothing does where none follow
+pub none_before_last : (lines others : List (List ℕ)) → others ≡ drop 1 lines → length others ≡ 0 → before_last lines ≡ []
+none_before_last lines others b none =
+    let count : length lines - 1 ≡ 0 = omega (arith, none, ap length b, length-drop 1 lines) in
+    ap (λ n. take n lines) count
 
 -- each call of the lines is spelled, and so is each of the rest
 pub first_and_rest : (lines others : List (List ℕ)) (first : List ℕ) → lines ≡ first ∷ others → All SpellsSomeCall lines

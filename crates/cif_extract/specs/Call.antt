@@ -1,5 +1,5 @@
 -- What a journey has on its way: the record of a call, and what stands in its line.
-use Rattle.std.specs.Prelude.{ℕ, List, codes, cond}
+use Rattle.std.specs.Prelude.{ℕ, ◌-◌, List, codes, cond, length, take}
 use Rattle.std.specs.Str.{bytes_eq}
 use Rattle.cif_columns.specs.Field.{columns}
 use Rattle.cif_extract.specs.declared.call.Call.{Call}
@@ -22,3 +22,7 @@ call_in line = cond (bytes_eq (columns 1 2 line) (codes "CR")) (Turn (change_in 
 -- the line spells some call
 abbrev pub SpellsSomeCall : List ℕ → Type 0
 SpellsSomeCall line = (call : Call) × SpellsRecord line (call_record call)
+
+-- lines without the last: of a journey, those before its LT
+abbrev pub before_last : List (List ℕ) → List (List ℕ)
+before_last lines = take (length lines - 1) lines

@@ -79,10 +79,9 @@ impl Body {
           terminus = terminus.now;
         }) }
     {
-        let count = 3 + usize::from(extra.is_some()) + calls.len();
-        let mut lines = Lines::with_capacity(alloc, count)?;
+        let mut lines = Lines::new(alloc);
         push_parts(&mut lines, detail, extra, origin, calls, terminus)?;
-        Ok(Body { lines })
+        Body::of_lines(alloc, &lines)
     }
 
     /// The body that these lines keep.
@@ -112,7 +111,7 @@ impl Body {
     pub fn further_lines(&self) -> LineSlice<'_>
         ensures { KeepAll result (map record_table (body_records self.now)) }
     {
-        self.lines.as_slice().behind(1)
+        self.lines.as_slice().rest()
     }
 
     /// The line that its detail has to itself.
@@ -120,15 +119,15 @@ impl Body {
         ensures plain { result ≡ plain_line (detail_table self.now.detail) }
         ensures stands { AllStandIn result (detail_table self.now.detail) }
     {
-        self.lines.as_slice().line(0)
+        self.lines.as_slice().first()
     }
 
-    /// Always true: its first line begins with a space. To know it, the line has to come from memory.
-    /// Who asks this of several bodies, before they are needed, waits for all of them at once.
-    pub fn is_at_hand(&self) -> bool
+    /// Always true. To know it, the body has to come from memory. Who asks this of several bodies, before
+    /// they are needed, waits for all of them at once.
+    pub fn prefetch(&self) -> bool
         ensures { IsTrue result }
     {
-        self.detail_line().bytes()[0] != 0
+        self.lines.as_slice().prefetch()
     }
 
     /// The line of its BX or its LO.
@@ -136,7 +135,7 @@ impl Body {
         ensures marked { is_extra result ≡ is_some self.now.extra }
         ensures further { IfSome self.now.extra (λ extra. SpellsExtra result extra) }
     {
-        self.lines.as_slice().line(1)
+        self.lines.as_slice().rest().first()
     }
 
     /// The lines from LO to LT.
@@ -144,7 +143,8 @@ impl Body {
         ensures { KeepJourney result self.now }
     {
         let has_extra = columns_at(&self.second_line(), 1) == *b"BX";
-        self.lines.as_slice().behind(1 + usize::from(has_extra))
+        let further = self.further_lines();
+        if has_extra { further.rest() } else { further }
     }
 
     /// Columns 30 to 78 of its BS.
@@ -166,24 +166,21 @@ impl Body {
     pub fn origin(&self) -> Origin
         ensures { result ≡ self.now.origin }
     {
-        Origin::read(&self.journey().line(0)).unwrap()
+        Origin::read(&self.journey().first()).unwrap()
     }
 
     /// What is on its way, in order.
     pub fn calls(&self) -> Calls<'_>
         ensures { result ≡ self.now.calls }
     {
-        let journey = self.journey();
-        let between = journey.len() - 2;
-        Calls::of_lines(journey.behind(1).first(between))
+        Calls::of_lines(self.journey().rest())
     }
 
     /// Where its journey ends.
     pub fn terminus(&self) -> Terminus
         ensures { result ≡ self.now.terminus }
     {
-        let journey = self.journey();
-        Terminus::read(&journey.line(journey.len() - 1)).unwrap()
+        Terminus::read(&self.journey().last()).unwrap()
     }
 }
 

@@ -58,29 +58,30 @@ impl fmt::Debug for Call {
 /// The calls of a journey that are still to come. A clause sees the list of them.
 #[derive(Debug, Drop)]
 pub struct Calls<'a> {
+    // The last of them is that of the terminus.
     lines: LineSlice<'a>,
 }
 
 impl<'a> Model for Calls<'a> {
     ghost use Rattle.std.specs.Prelude.{All, List, map};
     ghost use Rattle.cif_extract.specs.declared.call.Call.{Call};
-    ghost use Rattle.cif_extract.specs.Call.{SpellsSomeCall, call_in};
+    ghost use Rattle.cif_extract.specs.Call.{SpellsSomeCall, before_last, call_in};
 
     ghost Value = { List Call };
 
-    ghost view = { λ c. map call_in c.lines };
+    ghost view = { λ c. map call_in (before_last c.lines) };
 
-    ghost invariant = { λ c. All SpellsSomeCall c.lines };
+    ghost invariant = { λ c. All SpellsSomeCall (before_last c.lines) };
 }
 
 impl<'a> Calls<'a> {
     ghost use Rattle.std.specs.Prelude.{All, map};
-    ghost use Rattle.cif_extract.specs.Call.{SpellsSomeCall, call_in};
+    ghost use Rattle.cif_extract.specs.Call.{SpellsSomeCall, before_last, call_in};
 
-    /// The calls that these lines spell.
+    /// The calls that these lines but for the last spell.
     pub(crate) fn of_lines(lines: LineSlice<'a>) -> Calls<'a>
-        requires { All SpellsSomeCall lines }
-        ensures { result ≡ map call_in lines.entry }
+        requires { All SpellsSomeCall (before_last lines) }
+        ensures { result ≡ map call_in (before_last lines.entry) }
     {
         Calls { lines }
     }
@@ -94,11 +95,15 @@ impl<'a> Iterator for Calls<'a> {
     ghost remaining = { item_count (λ s. s) };
 
     fn next(&mut self) -> Option<Call> {
-        if self.lines.len() == 0 {
+        if self.lines.is_empty() {
             return None;
         }
-        let first = self.lines.line(0);
-        self.lines = self.lines.behind(1);
+        let rest = self.lines.rest();
+        if rest.is_empty() {
+            return None;
+        }
+        let first = self.lines.first();
+        self.lines = rest;
         Some(Call::read(&first))
     }
 }

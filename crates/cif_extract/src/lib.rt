@@ -16,4 +16,6 @@ pub use call::{Call, Calls};
 pub use extract::{Extract, Schedule};
 pub use fault::{Clash, Fault};
 pub use reading::read_extract;
-pub use writing::{write_association, write_head, write_schedule, write_tiploc, write_trailer};
+pub use writing::{
+    ScheduleWriter, write_association, write_head, write_schedule, write_tiploc, write_trailer,
+};

@@ -1,7 +1,7 @@
 //! Reading a whole extract, line by line.
 ghost use Rattle.std.specs.Prelude.{◌≡◌, ◌≤◌, ◌+◌, ◌^◌, ◌<◌, ◌++◌, ◌∷◌, [], List, Some, Ok, true, false};
 ghost use Rattle.std.specs.Prelude.{IfOk, IfErr, IfSome, IsTrue};
-ghost use Rattle.cif_columns.specs.Line.{IsLine};
+ghost use Rattle.cif_columns.specs.Line.{ArePrintable, IsLine};
 ghost use Rattle.cif_columns.specs.Source.{reader_of, source_failed};
 ghost use Rattle.cif_columns.specs.declared.line_reader.TheConstants.{MAX_LINES};
 ghost use Rattle.cif_extract.specs.ExtractParts.{ExtractParts, extract_parts};
@@ -151,7 +151,7 @@ impl Reading {
         ensures { UnlessMemory (IsTaken (refusal_here self.old.place (kind_in columns.now) columns.now)
             columns.now (progress_of self.old) (Ok tt) (progress_of self.new)) result }
     {
-        self.keep_plain(&Line::of_printable(columns))
+        self.keep_columns(columns)
     }
 
     /// The extract, where these are all lines.
@@ -294,7 +294,16 @@ impl Reading {
     fn keep_plain(&mut self, line: &Line) -> Result<(), TakeFault>
         ensures { UnlessMemory (progress_of self.new ≡ keeping (progress_of self.old) line.now) result }
     {
-        if self.opened.is_some() && self.lines.push(line).is_err() {
+        self.keep_columns(line.bytes())
+    }
+
+    /// Does so with the plain line of these columns.
+    #[inline(always)]
+    fn keep_columns(&mut self, columns: &[u8; LINE_WIDTH]) -> Result<(), TakeFault>
+        requires { ArePrintable columns.now }
+        ensures { UnlessMemory (progress_of self.new ≡ keeping (progress_of self.old) columns.now) result }
+    {
+        if self.opened.is_some() && self.lines.push_columns(columns).is_err() {
             return Err(TakeFault::Memory);
         }
         Ok(())

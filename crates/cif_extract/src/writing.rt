@@ -1,5 +1,5 @@
 //! Records as plain lines, each with a line feed.
-ghost use Rattle.std.specs.Prelude.{◌≤◌, ◌++◌, ◌∷◌, [], Some};
+ghost use Rattle.std.specs.Prelude.{◌≡◌, ◌≤◌, ◌++◌, ◌∷◌, [], Some};
 ghost use Rattle.cif_columns.specs.Field.{plain_line};
 ghost use Rattle.cif_columns.specs.Sink.{Writes};
 ghost use Rattle.cif_columns.specs.declared.stp.Stp.TheVariants.{P};
@@ -11,8 +11,9 @@ ghost use Rattle.cif_records.specs.Tiploc.{tiploc_table};
 ghost use Rattle.cif_records.specs.Trailer.{trailer_table};
 
 use crate::Body;
-use cif_columns::{Day, DaysRun, Sink, Uid, WriteDevice, WriteFault};
+use cif_columns::{Day, DaysRun, LineSlice, LineTexts, Sink, Uid, WriteDevice, WriteFault};
 use cif_records::{AssocBody, AssocKey, Association, Basic, Header, Tiploc, Trailer};
+use std::marker::Model;
 
 /// Appends the plain line of the header and a line feed.
 pub fn write_head<W: WriteDevice>(header: &Header, sink: &mut Sink<W>) -> Result<(), WriteFault>
@@ -61,9 +62,70 @@ pub fn write_schedule<W: WriteDevice>(
     ensures { Writes W.contents W.write_errors
         (lines_text (schedule_lines uid.now first last days P (Some body.now))) sink.old sink.new result }
 {
-    let basic = Basic::permanent_line(uid, &body.detail_line(), first, last, days);
-    sink.write_line(&basic)?;
-    sink.write_all(body.further_lines().text())
+    ScheduleWriter::of(body).write(uid, first, last, days, sink)
+}
+
+/// Writes schedules of one body. The lines that all of them have are made once. A clause sees the body.
+#[derive(Debug, Drop)]
+pub struct ScheduleWriter<'a> {
+    body: &'a Body,
+    // The line of a BS and those that follow it, as many as there is room for, and the others.
+    texts: LineTexts,
+    rest: LineSlice<'a>,
+}
+
+impl<'a> Model for ScheduleWriter<'a> {
+    ghost use Rattle.std.specs.Prelude.{◌≡◌, ◌++◌, Some, map};
+    ghost use Rattle.cif_columns.specs.Contents.{lines_text};
+    ghost use Rattle.cif_columns.specs.Field.{plain_line};
+    ghost use Rattle.cif_extract.specs.BodyParts.{BodyParts};
+    ghost use Rattle.cif_extract.specs.Texts.{body_tables};
+
+    ghost Value = { BodyParts };
+
+    ghost view = { λ w. w.body.now };
+
+    ghost invariant = { λ w. w.texts.1 ++ lines_text w.rest
+        ≡ lines_text (map plain_line (body_tables (Some w.body.now))) };
+}
+
+impl<'a> ScheduleWriter<'a> {
+    /// For schedules that have this body.
+    pub fn of(body: &'a Body) -> ScheduleWriter<'a>
+        ensures { result ≡ body.now }
+    {
+        let mut texts = LineTexts::new();
+        let rest = texts.take(body.further_lines());
+        ScheduleWriter { body, texts, rest }
+    }
+
+    /// From now on for schedules that have this body.
+    pub fn set_body(&mut self, body: &'a Body)
+        ensures { self.new ≡ body.now }
+    {
+        self.body = body;
+        self.rest = self.texts.take(body.further_lines());
+    }
+
+    /// Appends the plain lines of a schedule, as `write_schedule` does.
+    pub fn write<W: WriteDevice>(
+        &mut self,
+        uid: &Uid,
+        first: Day,
+        last: Day,
+        days: DaysRun,
+        sink: &mut Sink<W>,
+    ) -> Result<(), WriteFault>
+        requires { first ≤ last }
+        ensures writes { Writes W.contents W.write_errors
+            (lines_text (schedule_lines uid.now first last days P (Some self.old))) sink.old sink.new result }
+        ensures body { self.new ≡ self.old }
+    {
+        let basic = Basic::permanent_line(uid, &self.body.detail_line(), first, last, days);
+        self.texts.set_first(&basic);
+        sink.write_all(self.texts.text())?;
+        sink.write_lines(&self.rest)
+    }
 }
 
 /// Appends the plain line of the trailer and a line feed.

@@ -8,6 +8,7 @@ use Rattle.cif_columns.specs.Field.{plain_line}
 use Rattle.cif_columns.specs.declared.stp.Stp.TheVariants.{P}
 use Rattle.cif_extract.specs.BodyParts.{BodyParts}
 use Rattle.cif_extract.specs.ExtractParts.{ExtractParts}
+use Rattle.cif_extract.specs.declared.extract.Schedule.{Schedule}
 use Rattle.cif_extract.specs.Texts.{schedule_lines}
 use Rattle.cif_records.specs.Association.{association_rows}
 use Rattle.cif_records.specs.Header.{header_table}
@@ -50,6 +51,10 @@ association_text e = plain_line (association_rows e.0 e.1.first e.1.last e.1.day
 
 abbrev pub schedule_text : List ℕ × Permanent BodyParts → List ℕ
 schedule_text e = lines_text (schedule_lines e.0 e.1.first e.1.last e.1.days P (Some e.1.body))
+
+-- the body of the schedule at a position
+abbrev pub body_at : List Schedule → ℕ → Option BodyParts
+body_at schedules n = option_and_then (λ (s : Schedule). s.body) (slice_get schedules n)
 
 -- the text of the runs of associations, of schedules
 abbrev pub association_run_text : List (AssocKey × Terms AssocBody) → Run → List ℕ

@@ -1,26 +1,36 @@
--- One line more goes behind the text (`one-more`).
-use Rattle.std.proofs.Common.{◌∷◌, [], ◌<◌, ◌≤◌, ℕ, List, arith, length, sym, ◌∙◌}
-use Rattle.std.proofs.lemmas.List.{get_or_default}
+-- One line more goes behind the text (`behind`).
+use Rattle.std.proofs.Common.{◌≡◌, ◌<◌, ◌∷◌, ◌++◌, [], ℕ, List, append-nil, append_assoc, ap, arith, drop, length, sym, ◌∙◌}
+use Rattle.std.specs.List.{flat_map}
+use Rattle.std.proofs.lemmas.Bool.Decides.{nat_tests}
+use Rattle.std.proofs.lemmas.List.{drop_more, nil_from_length}
 use Rattle.cif_canon.specs.Differences.{marked_text}
-use Rattle.cif_canon.proofs.AppendedTexts.{all-items, nothing, one-more, text-is}
+use Rattle.cif_canon.specs.Steps.Writing.{IsAppended}
+use Rattle.cif_canon.proofs.AppendedTexts.{behind, nothing, text-is}
 use Rattle.cif_canon.proofs.MarkedTexts.{marked-lines}
 use Rattle.cif_canon.proofs.listed_differences.write_marked_lines.Goals as goal
 
-pub loop-i-init : goal.loop-i-init
-loop-i-init g c = nothing _ _ _
+pub loop-rest-init : goal.loop-rest-init
+loop-rest-init g c = ([], sym c.copy-rest.ensures, nothing _ _ _)
 
-pub loop-i-preserved : goal.loop-i-preserved
-loop-i-preserved g c =
-    let count = c.len-count.ensures in
-    let test = c.loop-i-test.true in
-    let below : c.loop-i.i < length c.args.lines.now = omega (arith, count, test) in
-    one-more _ _ (λ (line : List ℕ). marked_text c.args.side (line ∷ [])) c.args.lines.now c.loop-i.i _ _ c.loop-i.invariant
-    c.line.result _ below (c.line.ensures ∙ get_or_default c.args.lines.now c.loop-i.i [] c.line.result below) c.write_marked.ensures
+pub loop-rest-preserved : goal.loop-rest-preserved
+loop-rest-preserved g c =
+    let (done, split, written) = c.loop-rest.invariant in
+    let rest = c.loop-rest.rest in
+    let test = c.loop-rest-test.true in
+    let told = c.is_empty.ensures in
+    let some : 0 < length rest = grind (arith, nat_tests, test, told) in (
+      done ++ c.first.result ∷ [],
+      split ∙ ap (λ l. done ++ l) (drop_more rest 0 [] some ∙ ap (λ l. l ∷ drop 1 rest) (sym c.first.ensures)
+          ∙ ap (λ l. c.first.result ∷ l) (sym c.rest-rest.ensures)) ∙ sym (append_assoc done (c.first.result ∷ []) c.rest-rest.result),
+      behind _ _ (λ (line : List ℕ). marked_text c.args.side (line ∷ [])) done c.first.result _ _ _ written c.write_marked.ensures,
+    )
 
 pub returns : goal.returns
 returns g c =
-    let count = c.len-count.ensures in
-    let test = c.loop-i-test.false in
-    let over : length c.args.lines.now ≤ c.loop-i.i = omega (arith, count, test) in
-    text-is _ _ _ _ _ _ (sym (marked-lines c.args.side c.args.lines.now))
-    (all-items _ _ (λ (line : List ℕ). marked_text c.args.side (line ∷ [])) c.args.lines.now c.loop-i.i _ _ c.loop-i.invariant over)
+    let (done, split, written) = c.loop-rest.invariant in
+    let test = c.loop-rest-test.false in
+    let told = c.is_empty.ensures in
+    let none : c.loop-rest.rest ≡ [] = nil_from_length c.loop-rest.rest (grind (arith, nat_tests, test, told)) in
+    let all : done ≡ c.args.lines.now = sym (split ∙ ap (λ l. done ++ l) none ∙ append-nil done) in
+    text-is _ _ _ _ _ _ (ap (flat_map (λ (line : List ℕ). marked_text c.args.side (line ∷ []))) all
+    ∙ sym (marked-lines c.args.side c.args.lines.now)) written

@@ -1,11 +1,15 @@
--- What is written is the text of the lines so far.
-use Rattle.std.proofs.Common.{◌∷◌, [], ℕ, List, take}
+-- What is written is the text of the lines so far, and with those to come they are all.
+use Rattle.std.proofs.Common.{◌≡◌, ◌∷◌, ◌++◌, [], ℕ, List, length}
 use Rattle.std.specs.List.{flat_map}
 use Rattle.cif_canon.specs.Differences.{marked_text}
 use Rattle.cif_canon.specs.Steps.Writing.{IsAppended}
 use Rattle.cif_canon.proofs.listed_differences.write_marked_lines.Given as goal
 
-abbrev pub invariant-loop-i : goal.invariant-loop-i
-invariant-loop-i g l =
-    IsAppended g.W.Write.contents g.W.WriteDevice.write_errors
-    (flat_map (λ (line : List ℕ). marked_text l.side (line ∷ [])) (take l.i l.lines)) l.initial.sink l.sink
+abbrev pub invariant-loop-rest : goal.invariant-loop-rest
+invariant-loop-rest g l =
+    (done : List (List ℕ)) × (l.lines ≡ done ++ l.rest)
+    × IsAppended g.W.Write.contents g.W.WriteDevice.write_errors
+    (flat_map (λ (line : List ℕ). marked_text l.side (line ∷ [])) done) l.initial.sink l.sink
+
+abbrev pub decreases-loop-rest : goal.decreases-loop-rest
+decreases-loop-rest g l = length l.rest

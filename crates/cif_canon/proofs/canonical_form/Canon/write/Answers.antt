@@ -17,7 +17,7 @@ returns-clause-writes g c =
     (appended _ _ _ _ _ c.write_head.result c.write_head.ensures)
     (rw c.as_slice.ensures.value at c.write_tiplocs.ensures)
     (rw (c.as_slice-2.ensures.value, c.as_slice-3.ensures.value) at c.write_runs.ensures)
-    (rw (c.as_slice-4.ensures.value, c.as_slice-5.ensures.value) at c.write_runs-2.ensures)
+    (rw (c.as_slice-4.ensures.value, c.as_slice-5.ensures.value) at c.write_schedules.ensures)
     (appended _ _ _ _ _ c.write_trailer.result c.write_trailer.ensures)))
 
 pub write_runs-requires-clause-within : goal.write_runs-requires-clause-within
@@ -28,10 +28,10 @@ write_runs-requires-clause-within g c =
 pub write_runs-requires-clause-records : goal.write_runs-requires-clause-records
 write_runs-requires-clause-records g c = rw (c.as_slice-2.ensures.value, c.as_slice-3.ensures.value) c.self.invariant.0
 
-pub write_runs-requires-2-clause-within : goal.write_runs-requires-2-clause-within
-write_runs-requires-2-clause-within g c =
+pub write_schedules-requires-clause-within : goal.write_schedules-requires-clause-within
+write_schedules-requires-clause-within g c =
     sources-within schedule_entry c.as_slice-4.result.now c.as_slice-5.result.now
     (rw (c.as_slice-4.ensures.value, c.as_slice-5.ensures.value) c.self.invariant.1)
 
-pub write_runs-requires-2-clause-records : goal.write_runs-requires-2-clause-records
-write_runs-requires-2-clause-records g c = rw (c.as_slice-4.ensures.value, c.as_slice-5.ensures.value) c.self.invariant.1
+pub write_schedules-requires-clause-records : goal.write_schedules-requires-clause-records
+write_schedules-requires-clause-records g c = rw (c.as_slice-4.ensures.value, c.as_slice-5.ensures.value) c.self.invariant.1

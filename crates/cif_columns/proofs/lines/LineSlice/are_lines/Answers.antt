@@ -1,8 +1,6 @@
--- In front of its line feed each text has eighty columns (`are_lines`).
-use Rattle.std.proofs.Common.{All, subst}
-use Rattle.cif_columns.specs.Line.{IsLine}
-use Rattle.cif_columns.proofs.LineTexts.{are_lines}
+-- What is kept are lines (`keep_view`).
+use Rattle.cif_columns.proofs.KeptLines.{keep_view}
 use Rattle.cif_columns.proofs.lines.LineSlice.are_lines.Goals as goal
 
 pub returns : goal.returns
-returns c = subst (All IsLine) c.self.view_is (are_lines c.self.inside.texts.now c.self.invariant)
+returns c = (keep_view c.self.inside.kept.now c.args.self.now c.self.invariant c.self.view_is).are_lines

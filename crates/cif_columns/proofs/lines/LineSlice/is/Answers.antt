@@ -1,15 +1,15 @@
--- The code compares the text of all lines: it is the same exactly where the lines are (`contents-lines_text`).
+-- Lines are kept in one way: so they are the same exactly if what is kept is (`keep_view`).
 use Rattle.std.proofs.Common.{ap, sym, ◌∙◌}
 use Rattle.std.specs.Cmp.Lexicographic.{bytes_decides}
-use Rattle.cif_columns.specs.Contents.{contents_of, lines_text}
-use Rattle.cif_columns.proofs.PlainLines.{contents-lines_text}
+use Rattle.cif_columns.specs.Lines.{kept_text, lines_in}
+use Rattle.cif_columns.proofs.KeptLines.{keep_view}
 use Rattle.cif_columns.proofs.lines.LineSlice.is.Goals as goal
 
 pub returns : goal.returns
 returns c =
-    let told = bytes_decides c.text.result.now c.text-2.result.now in (
-      λ same. sym (contents-lines_text c.args.self.now c.are_lines.ensures)
-          ∙ ap contents_of (sym c.text.ensures ∙ told.0 (sym c.eq.ensures ∙ same) ∙ c.text-2.ensures)
-          ∙ contents-lines_text c.args.other.now c.are_lines-2.ensures,
-      λ same. c.eq.ensures ∙ told.1 (c.text.ensures ∙ ap lines_text same ∙ sym c.text-2.ensures),
+    let told = bytes_decides c.self.inside.kept.now c.other.inside.kept.now in
+    let ours = keep_view c.self.inside.kept.now c.args.self.now c.self.invariant c.self.view_is in
+    let its = keep_view c.other.inside.kept.now c.args.other.now c.other.invariant c.other.view_is in (
+      λ same. sym c.self.view_is ∙ ap lines_in (told.0 (sym c.eq.ensures ∙ same)) ∙ c.other.view_is,
+      λ same. c.eq.ensures ∙ told.1 (ours.is ∙ ap kept_text same ∙ sym its.is),
     )

@@ -6,14 +6,14 @@ use Rattle.cif_records.specs.Record.{record_table}
 use Rattle.cif_extract.proofs.Bodies.{keeps_further, keeps_view, kept_view}
 use Rattle.cif_extract.proofs.body.Body.further_lines.Goals as goal
 
-pub behind-requires : goal.behind-requires
-behind-requires c =
+pub rest-requires : goal.rest-requires
+rest-requires c =
     let h = kept_view c.self.inside.lines c.args.self.now c.self.invariant c.self.view_is in
     omega (arith, h.longer, ap length c.as_slice.ensures)
 
 pub returns : goal.returns
 returns c =
     subst (λ lines. KeepAll lines (map record_table (body_records c.args.self.now)))
-    (sym (c.behind.ensures ∙ ap (drop 1) c.as_slice.ensures))
+    (sym (c.rest.ensures ∙ ap (drop 1) c.as_slice.ensures))
     (keeps_further c.self.inside.lines c.args.self.now
     (keeps_view c.self.inside.lines c.args.self.now c.self.invariant c.self.view_is))

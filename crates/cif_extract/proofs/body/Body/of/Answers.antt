@@ -1,26 +1,34 @@
--- The lines are those of the detail and the further details and then those of the journey (`whole_body`): the invariant says so,
--- and the view is those parts.
+-- The lines are those of the detail and the further details and then those of the journey (`whole_body`): they keep those parts.
+use Rattle.std.proofs.Common.{◌≡◌, subst}
 use Rattle.std.specs.Option.{option_copied}
+use Rattle.std.specs.Prelude.{IfOk}
+use Rattle.cif_extract.specs.Body.{KeepBody}
 use Rattle.cif_extract.specs.BodyParts.{BodyParts}
 use Rattle.cif_extract.proofs.Bodies.{parts_in-keeps}
 use Rattle.cif_extract.proofs.BodyLines.{whole_body}
 use Rattle.cif_extract.proofs.body.Body.of.Goals as goal
+use Rattle.cif_extract.proofs.body.Body.of.Goals.{In_ok-push_parts}
 
-pub invariant_of-result : goal.invariant_of-result
-invariant_of-result c =
-    let p : BodyParts = record {
-      detail = c.args.detail.now;
-      extra = option_copied c.args.extra;
-      origin = c.args.origin.now;
-      calls = c.args.calls.now;
-      terminus = c.args.terminus.now;
-    } in (
-      p,
-      whole_body p c.in_ok-lines.lines c.push_parts.new.lines c.in_ok-lines.ensures c.in_ok-push_parts.ensures,
-    )
+parts : In_ok-push_parts → BodyParts
+parts c = record {
+  detail = c.args.detail.now;
+  extra = option_copied c.args.extra;
+  origin = c.args.origin.now;
+  calls = c.args.calls.now;
+  terminus = c.args.terminus.now;
+}
+
+kept : (c : In_ok-push_parts) → KeepBody c.push_parts.new.lines (parts c)
+unfolding parts
+kept c = whole_body (parts c) c.new-lines.result c.push_parts.new.lines c.new-lines.ensures c.in_ok-push_parts.ensures
+
+pub of_lines-requires : goal.of_lines-requires
+of_lines-requires c =
+    let d = (goal.at.of_lines-requires c).In_ok-push_parts in
+    (parts d, kept d)
 
 pub returns : goal.returns
-unfolding invariant_of-result
+unfolding parts
 returns c =
-    let h = invariant_of-result c in
-    parts_in-keeps c.push_parts.new.lines h.0 h.1
+    let d = (goal.at.returns c).In_ok-push_parts in
+    subst (λ (p : BodyParts). IfOk c.of_lines.result (λ b. b ≡ p)) (parts_in-keeps c.push_parts.new.lines (parts d) (kept d)) c.of_lines.ensures

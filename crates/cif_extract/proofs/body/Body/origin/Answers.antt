@@ -5,14 +5,14 @@ use Rattle.cif_extract.proofs.body.Body.origin.Goals as goal
 
 pub unwrap-requires : goal.unwrap-requires
 unwrap-requires c =
-    let there = spells_origin c.journey.result c.args.self.now c.line.result
-    c.journey.ensures c.line.ensures in
+    let there = spells_origin c.journey.result c.args.self.now c.first.result
+    c.journey.ensures c.first.ensures in
     ap is_ok (c.read.ensures.only c.args.self.now.origin there)
 
 pub returns : goal.returns
 returns c =
-    let there = spells_origin c.journey.result c.args.self.now c.line.result
-    c.journey.ensures c.line.ensures in
+    let there = spells_origin c.journey.result c.args.self.now c.first.result
+    c.journey.ensures c.first.ensures in
     let read = c.read.ensures.only c.args.self.now.origin there in
     let given = c.unwrap.ensures in
     cc

@@ -1,31 +1,32 @@
--- The view is a map over the lines: of the first and the others (`taken_apart`) `first_and_rest`, `first_call` and `fewer_calls` tell it.
-use Rattle.std.proofs.Common.{◌∙◌}
-use Rattle.cif_extract.proofs.CallLines.{fewer_calls, first_and_rest, first_call, taken_apart}
+-- The view is a map over the lines but for the last: of the first and the others (`first_before_last`) `first_and_rest`, `first_call` and
+-- `fewer_calls` tell it.
+use Rattle.std.proofs.Common.{◌≡◌, ◌∷◌, arith}
+use Rattle.std.proofs.lemmas.Bool.Decides.{nat_tests}
+use Rattle.cif_extract.specs.Call.{before_last}
+use Rattle.cif_extract.proofs.CallLines.{fewer_calls, first_and_rest, first_before_last, first_call}
 use Rattle.cif_extract.proofs.call.CallsIterator.next.Goals as goal
+use Rattle.cif_extract.proofs.call.CallsIterator.next.Goals.{After-first-first}
+
+apart : (c : After-first-first) → before_last c.self.inside.lines ≡ c.first-first.result ∷ before_last c.rest-rest.result
+apart c =
+    let test = c.if-is_empty.false in
+    let told = c.is_empty.ensures in
+    let test-2 = c.if-is_empty-2.false in
+    let told-2 = c.is_empty-2.ensures in
+    first_before_last c.self.inside.lines c.rest-rest.result c.first-first.result (grind (arith, nat_tests, test, told)) c.first-first.ensures
+    c.rest-rest.ensures (grind (arith, nat_tests, test-2, told-2))
 
 pub read-requires : goal.read-requires
 read-requires c =
-    let is = taken_apart c.self.inside.lines c.behind-self-inside.result c.line-first.result
-    (λ none. c.if-len-eq0.false (c.len.ensures ∙ none)) c.line-first.ensures c.behind-self-inside.ensures in
-    (first_and_rest c.self.inside.lines c.behind-self-inside.result c.line-first.result is c.self.invariant).0
+    (first_and_rest (before_last c.self.inside.lines) (before_last c.rest-rest.result) c.first-first.result
+    (apart (goal.at.read-requires c).After-first-first) c.self.invariant).0
 
 pub invariant_of-self : goal.invariant_of-self
 invariant_of-self c =
-    let is = taken_apart c.self.inside.lines c.behind-self-inside.result c.line-first.result
-    (λ none. c.if-len-eq0.false (c.len.ensures ∙ none)) c.line-first.ensures c.behind-self-inside.ensures in
-    (first_and_rest c.self.inside.lines c.behind-self-inside.result c.line-first.result is c.self.invariant).1
+    (first_and_rest (before_last c.self.inside.lines) (before_last c.rest-rest.result) c.first-first.result
+    (apart (goal.at.invariant_of-self c).After-first-first) c.self.invariant).1
 
 pub returns-clause-steps : goal.returns-clause-steps
 returns-clause-steps c =
-    let is = taken_apart c.self.inside.lines c.behind-self-inside.result c.line-first.result
-    (λ none. c.if-len-eq0.false (c.len.ensures ∙ none)) c.line-first.ensures c.behind-self-inside.ensures in
-    first_call c.args.self.now c.self.inside.lines c.behind-self-inside.result c.line-first.result c.read.result c.self.view_is is
-    c.read.ensures
-
-pub returns-clause-goes : goal.returns-clause-goes
-returns-clause-goes c =
-    let is = taken_apart c.self.inside.lines c.behind-self-inside.result c.line-first.result
-    (λ none. c.if-len-eq0.false (c.len.ensures ∙ none)) c.line-first.ensures c.behind-self-inside.ensures in
-    let fewer = fewer_calls c.args.self.now c.self.inside.lines c.behind-self-inside.result c.line-first.result c.read.result
-    c.self.view_is is c.read.ensures in
-    record { on = λ _. (tt, tt, fewer); keeps = tt; rests = λ _. tt }
+    first_call c.args.self.now (before_last c.self.inside.lines) (before_last c.rest-rest.result) c.first-first.result c.read.result
+    c.self.view_is (apart (goal.at.returns-clause-steps c).After-first-first) c.read.ensures
