@@ -185,6 +185,8 @@ pub(crate) fn write_runs<E: Entry, L: RecordLines<E>, W: WriteDevice>(
 }
 
 /// Appends the lines of the runs' schedules.
+// Inlined, it would keep the text of a body, 5 KiB, on the stack while the extract is read.
+#[inline(never)]
 fn write_schedules<W: WriteDevice>(schedules: &[Schedule], runs: &[Run], sink: &mut Sink<W>)
     requires within { All (λ run. run.source < length schedules.now) runs.now }
     requires records { All (HasRecord (schedule_entries schedules.now)) runs.now }

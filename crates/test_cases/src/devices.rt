@@ -43,8 +43,8 @@
 //! `day`, `train` and `compare` is then written, each record by itself, to trial writers. One takes
 //! all bytes, and then it is flushed; the answer says how often it was called for each. The others
 //! take fewer bytes, every number of them, and then fail or answer 0. Such a sink has to fail, to
-//! have the bytes that fit, by one write a line and in extracts one for all lines that follow a BS
-//! (of `bytes` by one), and then the one that failed, and not to be touched again. The answer says
+//! have the bytes that fit, by one write a line and in extracts one for all lines of a schedule (of
+//! `bytes` by one), and then the one that failed, and not to be touched again. The answer says
 //! so, or where first it isn't so.
 
 mod canonical;

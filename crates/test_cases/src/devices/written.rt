@@ -29,8 +29,8 @@ impl Written for Bytes<'_> {
     }
 }
 
-/// By how many writes this prefix of lines goes out: one for each line, but one for all that follow
-/// a BS.
+/// By how many writes this prefix of lines goes out: one for each line, but one for all of a schedule,
+/// which has at most 64 here.
 pub(crate) fn writes_of_lines(prefix: &[u8]) -> u64 {
     let mut writes = 0_u64;
     let mut goes_on = false;
@@ -40,7 +40,7 @@ pub(crate) fn writes_of_lines(prefix: &[u8]) -> u64 {
         }
         goes_on = matches!(
             line,
-            [b'B', b'X', ..] | [b'L', b'O' | b'I', ..] | [b'C', b'R', ..]
+            [b'B', b'S' | b'X', ..] | [b'L', b'O' | b'I', ..] | [b'C', b'R', ..]
         );
     }
     writes
