@@ -1,0 +1,3 @@
+-- What the contracts of the code's own steps speak of. No clause of a public function cites it, so nothing here has to be believed.
+pub mod HolidayReading
+pub mod PartsSoFar

@@ -1,0 +1,47 @@
+//! Laws: what a prepared extract and an update say.
+ghost use Rattle.std.specs.Prelude.{◌≡◌, ◌↔◌, ◌≤◌, ◌++◌, ℕ, List, Option};
+ghost use Rattle.cif_calendar.specs.Clash.{IsClear};
+ghost use Rattle.cif_calendar.specs.Keys.{of_key};
+ghost use Rattle.cif_calendar.specs.Runs.{Runs};
+ghost use Rattle.cif_calendar.specs.Terms.{Terms};
+ghost use Rattle.cif_feed.specs.Changes.{Change, after_all, last_word, put_last, untouched};
+ghost use Rattle.cif_feed.specs.Changes.{of_key as records_of_key};
+ghost use Rattle.cif_feed.specs.Prepared.{AreMarked, ArePrepared};
+ghost use Rattle.cif_feed.specs.Published.{CountOn};
+ghost use Rattle.cif_feed.specs.Strict.{last_day};
+ghost use Rattle.cif_feed.specs.declared.holidays.Holidays.{Holidays};
+ghost use Rattle.cif_feed.specs.declared.mark.Mark.{Mark};
+
+use cif_calendar::Entry;
+
+/// On each date up to the window's last, the prepared records say what the published ones do.
+pub fn prepared_runs_as_published<E: Entry>()
+    // For each key the same runs.
+    ensures runs { (h : Holidays) (window_last : ℕ) (entries : List (E.Key × (Terms E.Body × Mark)))
+        (prepared : List (E.Key × Terms E.Body)) (k : E.Key) (d : ℕ) (o : Option E.Body)
+        → ArePrepared h window_last entries prepared → AreMarked entries
+        → d ≤ window_last → d ≤ last_day
+        → Runs (of_key prepared k) d o ↔ Runs (CountOn h entries k d) d o }
+    // For each key there is a clash in both or in neither.
+    ensures clear { (h : Holidays) (window_last : ℕ) (entries : List (E.Key × (Terms E.Body × Mark)))
+        (prepared : List (E.Key × Terms E.Body)) (k : E.Key) (d : ℕ)
+        → ArePrepared h window_last entries prepared → AreMarked entries
+        → d ≤ window_last → d ≤ last_day
+        → IsClear (of_key prepared k) d ↔ IsClear (CountOn h entries k d) d }
+{}
+
+/// What changes leave.
+pub fn changes_leave_the_last_word<K: Ord, I>()
+    // Of each key, what the last change of it puts, or what was there.
+    ensures last { (records : List (K × I)) (changes : List (Change K I)) (key : K)
+        → records_of_key K.eq (after_all K.eq records changes) key
+        ≡ last_word K.eq (records_of_key K.eq records key) changes key }
+    // In order: what no change is of, and then what the changes put last.
+    ensures order { (records : List (K × I)) (changes : List (Change K I))
+        → after_all K.eq records changes
+        ≡ untouched K.eq records changes ++ put_last K.eq changes }
+    // Two lists of changes one after the other are the one after the other.
+    ensures sequence { (records : List (K × I)) (one other : List (Change K I))
+        → after_all K.eq records (one ++ other)
+        ≡ after_all K.eq (after_all K.eq records one) other }
+{}
