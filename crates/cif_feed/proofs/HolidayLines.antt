@@ -1,5 +1,5 @@
 -- What a line of holidays says, word by word.
-use Rattle.std.proofs.Common.{◌≡◌, ◌⊎◌, inl, inr, ⊎_elim, ◌↔◌, ℕ, ◌<◌, ◌≤◌, List, [], ◌∷◌, ◌++◌, length, drop, get_or, Option, Some, None, All, Contains, refl}
+use Rattle.std.proofs.Common.{◌≡◌, ◌⊎◌, inl, inr, ⊎_elim, ◌↔◌, ℕ, ◌<◌, ◌≤◌, List, [], ◌∷◌, ◌++◌, length, drop, get_or, Option, Some, None, Result, Ok, Err, IfErr, IfOk, All, Contains, refl}
 use Rattle.std.proofs.Common.{sym, ap, ◌∙◌, subst, arith, append-nil, slice_get}
 use Rattle.std.proofs.lemmas.List.Elements.{All-contains, All-push, Contains-append_left, Contains-append_right, Contains-push, Contains-push_cases}
 use Rattle.std.proofs.lemmas.Option.{same_Some}
@@ -167,10 +167,23 @@ module _ (line : List ℕ) (l : ℕ) (dates : List (List ℕ)) (words : words_of
   pub no-code : ((code : HolidayCode) → l ≡ letter code → ⊥) → ¬ IsHolidayLine line
   no-code none = bad-words (λ code is are. none code is)
 
-  pub dates-fault : (number : ℕ) (fault : HolidayFault) → IsDateFault number dates fault → IsLineFault number line fault
+  dates-fault : (number : ℕ) (fault : HolidayFault) → IsDateFault number dates fault → IsLineFault number line fault
   dates-fault number (BadHoliday at) (is, bad) = (is, inr (bad-words (λ code letter_is are. bad are)))
   dates-fault number Read h = absurd h
   dates-fault number Memory h = tt
+
+  -- what adding the dates comes to
+  pub line-ok : (code : HolidayCode) (old new : Holidays) (number : ℕ) (r : Result (Unit {0}) HolidayFault) → number ≤ 100000000
+      → length line ≤ 1000 → l ≡ letter code
+      → IfOk r (λ done. All IsDate dates × HasMore old code (NamesDay dates) new)
+      → IfOk r (λ done. (number ≤ 100000000) × IsHolidayLine line × HasLineMore old line new)
+  line-ok code old new number (Ok done) few within is (are, more) =
+      let (fine, said) = says-dates code old new within is are more in (few, fine, said)
+  line-ok code old new number (Err fault) few within is h = tt
+
+  pub line-err : (number : ℕ) (r : Result (Unit {0}) HolidayFault) → IfErr r (IsDateFault number dates) → IfErr r (IsLineFault number line)
+  line-err number (Ok done) h = tt
+  line-err number (Err fault) h = dates-fault number fault h
 
 -- a line whose first word isn't one byte
 pub no-letter : (line word : List ℕ) (rest : List (List ℕ)) → words_of line ≡ word ∷ rest → (length word ≡ 1 → ⊥) → ¬ IsHolidayLine line

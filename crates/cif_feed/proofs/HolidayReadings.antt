@@ -1,12 +1,13 @@
 -- The text of holidays, byte by byte.
-use Rattle.std.proofs.Common.{◌≡◌, ◌≢◌, ◌⊎◌, inl, inr, ⊎_elim, ◌↔◌, ℕ, ◌+◌, ◌-◌, ◌<◌, ◌≤◌, ◌==◌, Bool, true, false, cond, List, [], ◌∷◌, ◌++◌, length, take}
+use Rattle.std.proofs.Common.{◌≡◌, ◌≢◌, ◌⊎◌, inl, inr, ⊎_elim, ◌↔◌, ℕ, ◌+◌, ◌-◌, ◌<◌, ◌≤◌, ◌==◌, Bool, true, false, cond, List, [], ◌∷◌, ◌++◌, length, take, drop}
 use Rattle.std.proofs.Common.{get_or, map, Option, Some, None, Result, Ok, Err, IfErr, IfOk, IfSome, IsSomeAnd, All, Contains, refl, sym, ap, ◌∙◌, subst, arith}
-use Rattle.std.proofs.Common.{append_assoc, append-nil, length-append, length-take}
+use Rattle.std.proofs.Common.{append_assoc, append-nil, length-append, length-take, take-append-drop}
 use Rattle.std.specs.Io.KnownBytes.{Consumes, IsAtEnd}
 use Rattle.std.specs.List.{slice_split}
 use Rattle.std.specs.Str.Lines.{lines, lines_of_parts, strip_carriage_return}
 use Rattle.std.proofs.lemmas.Bool.{eqb-true}
 use Rattle.std.proofs.lemmas.Bool.Decides.{nat_tests}
+use Rattle.std.proofs.lemmas.List.{take_more}
 use Rattle.std.proofs.lemmas.List.Elements.{All-append, All-cons, All-nil, All-push, Contains-append_left, Contains-push, Contains-push_cases}
 use Rattle.std.proofs.lemmas.List.Splits.{slice_split_none}
 use Rattle.cif_columns.specs.Contents.{contents_of}
@@ -50,17 +51,18 @@ whole_lines whole more ended = lines_whole whole more (⊎_elim (λ none. inl no
 -- bytes have no line feed, or a first one
 first_feed : (bytes : List ℕ) → HasNoFeed bytes ⊎ ((front more : List ℕ) × (bytes ≡ front ++ 10 ∷ more) × HasNoFeed front)
 first_feed [] = inl (All-nil (λ (b : ℕ). b ≢ 10))
-first_feed (x ∷ xs) = at (x == 10) refl
+first_feed (x ∷ xs) = at (x == 10) refl (first_feed xs)
   where
     at : (b : Bool) → (x == 10) ≡ b
+        → HasNoFeed xs ⊎ ((front more : List ℕ) × (xs ≡ front ++ 10 ∷ more) × HasNoFeed front)
         → HasNoFeed (x ∷ xs) ⊎ ((front more : List ℕ) × (x ∷ xs ≡ front ++ 10 ∷ more) × HasNoFeed front)
-    at true is = inr ([], xs, ap (λ (b : ℕ). b ∷ xs) (eqb-true x 10 is), All-nil (λ (b : ℕ). b ≢ 10))
-    at false is =
+    at true is rest = inr ([], xs, ap (λ (b : ℕ). b ∷ xs) (eqb-true x 10 is), All-nil (λ (b : ℕ). b ≢ 10))
+    at false is rest =
         let other : x ≢ 10 = grind (arith, nat_tests) in
         ⊎_elim
         (λ none. inl (All-cons (λ (b : ℕ). b ≢ 10) x xs other none))
         (λ fed. inr (x ∷ fed.0, fed.1, ap (λ (l : List ℕ). x ∷ l) fed.2, All-cons (λ (b : ℕ). b ≢ 10) x fed.0 other fed.3))
-        (first_feed xs)
+        rest
 
 -- a carriage return is one byte
 stripped_long : (bytes : List ℕ) → length bytes ≤ length (strip_carriage_return bytes) + 1
@@ -241,6 +243,23 @@ module _ (bytes : List ℕ) (count : ℕ) (rest : List ℕ) (h : Holidays) (so_f
     no_feed = so_far.no_feed;
     short = so_far.short;
   }
+
+-- bytes that are refused, whatever follows them, with more of these
+pub refused-further : (bytes all more : List ℕ) (fault : HolidayFault) → all ≡ bytes ++ more → IsRefusalBehind bytes fault
+    → IsRefusalBehind all fault
+refused-further bytes all more (BadHoliday line) is bad = λ others.
+    subst (λ (l : List ℕ). IsFirstBadLine (contents_of l) line)
+    (sym (append_assoc bytes more others) ∙ ap (λ l. l ++ others) (sym is)) (bad (more ++ others))
+refused-further bytes all more Read is bad = absurd bad
+refused-further bytes all more Memory is bad = tt
+
+-- a list up to the element at a place, and the rest of it
+pub at-place : (taken bytes : List ℕ) (i : ℕ) → i < length bytes
+    → taken ++ bytes ≡ ((taken ++ take i bytes) ++ get_or bytes i 0 ∷ []) ++ drop (i + 1) bytes
+at-place taken bytes i below =
+    ap (λ l. taken ++ l) (sym (take-append-drop (i + 1) bytes) ∙ ap (λ l. l ++ drop (i + 1) bytes) (take_more bytes i 0 below))
+    ∙ sym (append_assoc taken (take i bytes ++ get_or bytes i 0 ∷ []) (drop (i + 1) bytes))
+    ∙ ap (λ l. l ++ drop (i + 1) bytes) (sym (append_assoc taken (take i bytes) (get_or bytes i 0 ∷ [])))
 
 -- ---- the source
 

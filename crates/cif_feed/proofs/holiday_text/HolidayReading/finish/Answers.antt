@@ -1,5 +1,5 @@
 -- The rest is a last line.
-use Rattle.std.proofs.Common.{◌≡◌, ◌<◌, ℕ, List, length, arith, rules, subst}
+use Rattle.std.proofs.Common.{◌≡◌, ◌<◌, ◌+◌, ℕ, List, length, arith, rules, subst}
 use Rattle.cif_feed.specs.HolidayText.{IsHolidayLine}
 use Rattle.cif_feed.specs.Steps.HolidayReading.{HasLineMore, IsLineFault}
 use Rattle.cif_feed.proofs.HolidayReadings.{refused-last, spell-last}
@@ -17,4 +17,4 @@ pub returns-in-Err-clause-err : goal.returns-in-Err-clause-err
 returns-in-Err-clause-err c = λ taken so_far.
     let some : 0 < length c.args.self.rest.items = search rules in
     refused-last taken c.args.self.lines c.args.self.rest.items c.args.self.holidays so_far c.in-Err.fault some
-    (subst (λ (l : List ℕ). IsLineFault _ l c.in-Err.fault) c.as_slice.ensures.value c.in-Err.ensures.err)
+    (subst (λ (l : List ℕ). IsLineFault (c.args.self.lines + 1) l c.in-Err.fault) c.as_slice.ensures.value c.in-Err.ensures.err)

@@ -1,5 +1,5 @@
 -- A line feed ends a line; another byte is one too many, or goes to the rest.
-use Rattle.std.proofs.Common.{◌≡◌, ◌<◌, ◌∙◌, ℕ, List, length, ap, arith, rules, subst}
+use Rattle.std.proofs.Common.{◌≡◌, ◌<◌, ◌∙◌, ◌+◌, ℕ, List, length, ap, arith, rules, subst}
 use Rattle.std.specs.Str.Lines.{strip_carriage_return}
 use Rattle.cif_feed.specs.HolidayText.{IsHolidayLine}
 use Rattle.cif_feed.specs.Steps.HolidayReading.{HasLineMore, IsLineFault}
@@ -25,4 +25,4 @@ returns-in-Err-add_line-clause-err c = λ taken so_far.
     let this = c.args.self.now in
     let content = c.without_return-content.ensures ∙ ap strip_carriage_return c.as_slice.ensures.value in
     refused-line taken this.lines this.rest.items this.holidays so_far c.args.byte c.in-Err-add_line.fault c.if-byte-ne10.false
-    (subst (λ (l : List ℕ). IsLineFault _ l c.in-Err-add_line.fault) content c.in-Err-add_line.ensures.err)
+    (subst (λ (l : List ℕ). IsLineFault (this.lines + 1) l c.in-Err-add_line.fault) content c.in-Err-add_line.ensures.err)
