@@ -6,3 +6,4 @@ pub mod DatesFrom
 pub mod WordLists
 pub mod HolidayLines
 pub mod HolidayReadings
+pub mod WrittenColumns

@@ -21,7 +21,7 @@ abbrev pub last_day : ℕ
 last_day = 36524
 
 -- the line with these columns, from the one of this number on, in place of its own
-abbrev pub with_columns : ℕ → List ℕ → List ℕ → List ℕ
+unfoldable pub with_columns : ℕ → List ℕ → List ℕ → List ℕ
 with_columns first columns line = take (first - 1) line ++ (columns ++ drop (first - 1 + length columns) line)
 
 -- ---- full extracts
