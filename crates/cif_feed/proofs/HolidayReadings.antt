@@ -298,10 +298,12 @@ module _ (start after : Option (List ℕ)) (taken : List ℕ) (consumed : Consum
       by_fault (BadHoliday line) refusal bytes same = subst (λ (l : List ℕ). IsFirstBadLine (contents_of l) line) same refusal
       by_fault Read refusal bytes same = absurd refusal
       by_fault Memory refusal bytes same = tt
+
       by_result : (q : Result Holidays HolidayFault) → IfErr q (IsRefusal taken) → (bytes : List ℕ) → taken ≡ bytes
           → IfErr q (IsHolidayFault bytes after)
       by_result (Ok h) refusal bytes same = tt
       by_result (Err fault) refusal bytes same = by_fault fault refusal bytes same
+
       at : (s : Option (List ℕ)) → IfSome s (λ bytes. taken ≡ bytes) → IfSome s (λ bytes. IfErr r (IsHolidayFault bytes after))
       at None all = tt
       at (Some bytes) all = by_result r bad bytes all

@@ -71,7 +71,7 @@ module _ {B : Type 0} (d : ℕ) where
 module _ {B : Type 0} (h : Holidays) (code : Option HolidayCode) (r : Terms B) (last : ℕ) (parts : List Part)
     (are : AreParts h code (ended last r) parts) (d : ℕ) where
   -- where the record applies as published, one of its parts applies
-  part-applies : d ≤ last → AppliesAsPublished h code r d → (p : Part) × Contains parts p × Applies (part_terms r p) d
+  pub part-applies : d ≤ last → AppliesAsPublished h code r d → (p : Part) × Contains parts p × Applies (part_terms r p) d
   part-applies within on = ⊎_elim
       (λ have. (
         have.0,
@@ -82,7 +82,7 @@ module _ {B : Type 0} (h : Holidays) (code : Option HolidayCode) (r : Terms B) (
       (are.covered d on.applies.begun within)
 
   -- and where a part applies, the record does
-  applies-part : d ≤ r.last → (p : Part) → Contains parts p → Applies (part_terms r p) d → AppliesAsPublished h code r d
+  pub applies-part : d ≤ r.last → (p : Part) → Contains parts p → Applies (part_terms r p) d → AppliesAsPublished h code r d
   applies-part within p listed on =
       let is = All-contains (IsPart h code (ended last r)) parts p are.are listed in
       let early : r.first ≤ d = (let from : r.first ≤ p.first = is.from in let begun : p.first ≤ d = on.begun in omega arith) in

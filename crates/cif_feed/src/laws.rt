@@ -1,18 +1,31 @@
 //! Laws: what a prepared extract and an update say.
-ghost use Rattle.std.specs.Prelude.{◌≡◌, ◌↔◌, ◌≤◌, ◌++◌, ℕ, List, Option};
+ghost use Rattle.std.specs.Prelude.{◌≡◌, ◌↔◌, ◌≤◌, ◌++◌, ℕ, List, Option, None, Contains};
+ghost use Rattle.cif_calendar.specs.Applies.{Applies};
 ghost use Rattle.cif_calendar.specs.Clash.{IsClear};
 ghost use Rattle.cif_calendar.specs.Keys.{of_key};
 ghost use Rattle.cif_calendar.specs.Runs.{Runs};
 ghost use Rattle.cif_calendar.specs.Terms.{Terms};
 ghost use Rattle.cif_feed.specs.Changes.{Change, after_all, last_word, put_last, untouched};
 ghost use Rattle.cif_feed.specs.Changes.{of_key as records_of_key};
-ghost use Rattle.cif_feed.specs.Prepared.{AreMarked, ArePrepared};
-ghost use Rattle.cif_feed.specs.Published.{CountOn};
+ghost use Rattle.cif_feed.specs.Parts.{AreParts, ended};
+ghost use Rattle.cif_feed.specs.Prepared.{AreMarked, ArePrepared, part_terms};
+ghost use Rattle.cif_feed.specs.Published.{AppliesAsPublished, CountOn};
 ghost use Rattle.cif_feed.specs.Strict.{last_day};
+ghost use Rattle.cif_feed.specs.declared.holiday_code.HolidayCode.{HolidayCode};
 ghost use Rattle.cif_feed.specs.declared.holidays.Holidays.{Holidays};
 ghost use Rattle.cif_feed.specs.declared.mark.Mark.{Mark};
+ghost use Rattle.cif_feed.specs.declared.part.Part.{Part};
 
 use cif_calendar::Entry;
+
+/// The parts of a record apply on exactly the dates on which it applies as published.
+pub fn parts_apply_as_published<E: Entry>()
+    ensures parts { (h : Holidays) (code : Option HolidayCode) (r : Terms E.Body) (last : ℕ) (parts : List Part) (d : ℕ)
+        → AreParts h code (ended last r) parts → d ≤ last → d ≤ r.last
+        → AppliesAsPublished h code r d ↔ ((p : Part) × Contains parts p × Applies (part_terms r p) d) }
+    // Without a code it applies as a record of this profile does.
+    ensures plain { (h : Holidays) (r : Terms E.Body) (d : ℕ) → AppliesAsPublished h None r d ↔ Applies r d }
+{}
 
 /// On each date up to the window's last, the prepared records say what the published ones do.
 pub fn prepared_runs_as_published<E: Entry>()

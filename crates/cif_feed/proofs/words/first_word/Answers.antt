@@ -12,8 +12,8 @@ returns-clause-none c = λ empty.
     first-none c.args.bytes.now c.loop-start.start c.loop-start.invariant.1 c.before_byte-word.result.now
     (c.before_byte-word.ensures ∙ ap (before_first (λ (b : ℕ). b == 32)) (take_rest c.args.bytes.now c.loop-start.start))
     (λ below is. elim c.loop-start-test.branch [
-      then-loop-start-test+else-bytes-start-eq32 w ↦ absurd (w.if-bytes-start-eq32.false is)
-    | else-loop-start-test w ↦ absurd (let out = w.loop-start-test.false in omega arith)
+      | then-loop-start-test+else-bytes-start-eq32 w ↦ absurd (w.if-bytes-start-eq32.false is)
+      | else-loop-start-test w ↦ absurd (let out = w.loop-start-test.false in omega arith)
     ])
     empty
 

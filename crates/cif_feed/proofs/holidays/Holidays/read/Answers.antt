@@ -35,8 +35,7 @@ loop-reading-smaller g c =
 pub loop-reading-preserved : goal.loop-reading-preserved
 loop-reading-preserved g c =
     let (taken, consumed, has, on, long) = c.loop-reading.invariant in
-    let now = c.in-Ok-take.ensures.ok taken has in
-    (
+    let now = c.in-Ok-take.ensures.ok taken has in (
       taken ++ take c.in-Ok.count c.read.new.buf,
       Consumes-trans _ _ _ taken (take c.in-Ok.count c.read.new.buf) consumed c.in-Ok.ensures.bytes.0,
       now,

@@ -1,0 +1,12 @@
+-- One way the parts cover the days without a cut, and the other way they have no cut.
+use Rattle.cif_feed.proofs.PreparedRuns.{applies-part, part-applies}
+use Rattle.cif_feed.proofs.laws.parts_apply_as_published.Goals as goal
+
+pub returns-clause-parts : goal.returns-clause-parts
+returns-clause-parts g c = λ h code r last parts d are within upto. (
+  λ on. part-applies h code r last parts are d within on,
+  λ some. applies-part h code r last parts are d upto some.0 some.1 some.2,
+)
+
+pub returns-clause-plain : goal.returns-clause-plain
+returns-clause-plain g c = λ h r d. (λ on. on.applies, λ on. record { applies = on; no_holiday = λ none. none })
