@@ -1,11 +1,10 @@
 -- What changes leave of each key, and in which order.
 use Rattle.std.proofs.Common.{◌≡◌, Bool, true, false, not, cond, ◌&&◌, ◌||◌, List, [], ◌∷◌, ◌++◌, Option, None, Some, refl, sym, ap, ◌∙◌}
-use Rattle.std.proofs.Common.{append_assoc, append-nil, subst}
+use Rattle.std.proofs.Common.{append_assoc, append-nil}
 use Rattle.std.specs.Cmp.{IsEquivalence}
 use Rattle.std.specs.Prelude.{filter}
-use Rattle.std.specs.List.{list_any}
 use Rattle.std.proofs.lemmas.List.Elements.{filter-append}
-use Rattle.cif_feed.specs.Changes.{Change, after, after_all, is_changed, last_word, of_key, put, put_last, untouched, without}
+use Rattle.cif_feed.specs.Changes.{ChangeParts, after, after_all, is_changed, last_word, of_key, put, put_last, untouched, without}
 
 module _ {A : Type 0} where
   -- a filter after a filter
@@ -50,7 +49,7 @@ module _ {K I : Type 0} (same : K → K → Bool) where
 
   module _ (laws : IsEquivalence same) where
     -- a change of this key leaves what it puts, and another leaves what was there
-    of_key-after : (records : List (K × I)) (c : Change K I) (key : K) (b : Bool) → same c.key key ≡ b
+    pub of_key-after : (records : List (K × I)) (c : ChangeParts K I) (key : K) (b : Bool) → same c.key key ≡ b
         → of_key same (after same records c) key ≡ cond b (put c.key c.puts) (of_key same records key)
     of_key-after records c key true is =
         filter-append (λ (r : K × I). same r.0 key) (without same records c.key) (put c.key c.puts)
@@ -71,14 +70,14 @@ module _ {K I : Type 0} (same : K → K → Bool) where
         at k true one = sym (laws.congr k c.key key one ∙ is)
         at k false one = refl
 
-    pub of_key-after_all : (records : List (K × I)) (changes : List (Change K I)) (key : K)
+    pub of_key-after_all : (records : List (K × I)) (changes : List (ChangeParts K I)) (key : K)
         → of_key same (after_all same records changes) key ≡ last_word same (of_key same records key) changes key
     of_key-after_all records [] key = refl
     of_key-after_all records (c ∷ changes) key =
         of_key-after_all (after same records c) changes key
         ∙ ap (λ before. last_word same before changes key) (of_key-after records c key (same c.key key) refl)
 
-  pub after_all-untouched : (records : List (K × I)) (changes : List (Change K I))
+  pub after_all-untouched : (records : List (K × I)) (changes : List (ChangeParts K I))
       → after_all same records changes ≡ untouched same records changes ++ put_last same changes
   after_all-untouched records [] = sym (append-nil _ ∙ all records)
     where
@@ -102,7 +101,7 @@ module _ {K I : Type 0} (same : K → K → Bool) where
       at true is = put-fails (λ k. not (is_changed same changes k)) c.key c.puts (ap not is)
       at false is = put-passes (λ k. not (is_changed same changes k)) c.key c.puts (ap not is)
 
-  pub after_all-append : (records : List (K × I)) (us vs : List (Change K I))
+  pub after_all-append : (records : List (K × I)) (us vs : List (ChangeParts K I))
       → after_all same records (us ++ vs) ≡ after_all same (after_all same records us) vs
   after_all-append records [] vs = refl
   after_all-append records (u ∷ us) vs = after_all-append (after same records u) us vs

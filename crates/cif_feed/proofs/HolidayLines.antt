@@ -1,16 +1,15 @@
 -- What a line of holidays says, word by word.
-use Rattle.std.proofs.Common.{◌≡◌, ◌⊎◌, inl, inr, ⊎_elim, ◌↔◌, ℕ, ◌<◌, ◌≤◌, List, [], ◌∷◌, ◌++◌, length, drop, get_or, Option, Some, None, Result, Ok, Err, IfErr, IfOk, All, Contains, refl}
+use Rattle.std.proofs.Common.{◌≡◌, ◌⊎◌, inl, inr, ⊎_elim, ◌↔◌, ℕ, ◌<◌, ◌≤◌, List, [], ◌∷◌, ◌++◌, length, drop, get_or, Some, Result, Ok, Err, IfErr, IfOk, All, Contains, refl}
 use Rattle.std.proofs.Common.{sym, ap, ◌∙◌, subst, arith, append-nil, slice_get}
-use Rattle.std.proofs.lemmas.List.Elements.{All-contains, All-push, Contains-append_left, Contains-append_right, Contains-push, Contains-push_cases}
+use Rattle.std.proofs.lemmas.List.Elements.{All-contains, Contains-append_left, Contains-append_right, Contains-push, Contains-push_cases}
 use Rattle.std.proofs.lemmas.Option.{same_Some}
 use Rattle.cif_calendar.proofs.Elements.{Contains-first}
 use Rattle.cif_columns.proofs.DayColumns.{yymmdd_in-stands}
-use Rattle.cif_columns.specs.Day.{StandsInYymmdd, yymmdd_in}
+use Rattle.cif_columns.specs.Day.{StandsInYymmdd}
 use Rattle.cif_feed.specs.HolidayCode.{letter}
-use Rattle.cif_feed.specs.HolidayText.{AreCodeAndDates, IsBadLine, IsDate, IsHolidayLine, LineNames, LineSays, NamesDay, words_of}
-use Rattle.cif_feed.specs.Holidays.{HasMore, IsHoliday, Names}
+use Rattle.cif_feed.specs.HolidayText.{AreCodeAndDates, IsDate, IsHolidayLine, LineNames, NamesDay, words_of}
+use Rattle.cif_feed.specs.Holidays.{HasMore}
 use Rattle.cif_feed.specs.Steps.HolidayReading.{HasLineMore, IsDateFault, IsLineFault}
-use Rattle.cif_feed.specs.Words.{words_in}
 use Rattle.cif_feed.specs.declared.holiday_code.HolidayCode.{HolidayCode}
 use Rattle.cif_feed.specs.declared.holiday_code.HolidayCode.TheVariants.{X, E, G}
 use Rattle.cif_feed.specs.declared.holiday_text.HolidayFault.{HolidayFault}

@@ -1,6 +1,6 @@
 -- The text of holidays, byte by byte.
 use Rattle.std.proofs.Common.{◌≡◌, ◌≢◌, ◌⊎◌, inl, inr, ⊎_elim, ◌↔◌, ℕ, ◌+◌, ◌-◌, ◌<◌, ◌≤◌, ◌==◌, Bool, true, false, cond, List, [], ◌∷◌, ◌++◌, length, take, drop}
-use Rattle.std.proofs.Common.{get_or, map, Option, Some, None, Result, Ok, Err, IfErr, IfOk, IfSome, IsSomeAnd, All, Contains, refl, sym, ap, ◌∙◌, subst, arith}
+use Rattle.std.proofs.Common.{get_or, map, Option, Some, None, Result, Ok, Err, IfErr, IfOk, IfSome, All, Contains, refl, sym, ap, ◌∙◌, subst, arith}
 use Rattle.std.proofs.Common.{append_assoc, append-nil, length-append, length-take, take-append-drop}
 use Rattle.std.specs.Io.KnownBytes.{Consumes, IsAtEnd}
 use Rattle.std.specs.List.{slice_split}
@@ -15,7 +15,7 @@ use Rattle.cif_columns.specs.FirstLine.{is_line_feed}
 use Rattle.cif_columns.specs.Source.{HasReadOn}
 use Rattle.cif_columns.specs.declared.source.Source.{Source}
 use Rattle.cif_columns.proofs.WholeLines.{lines_to_feed, lines_whole}
-use Rattle.cif_feed.specs.HolidayText.{AreHolidaysOf, HolidayReads, IsBadLine, IsCutBeforeBadLine, IsFirstBadLine, IsHolidayFault, IsHolidayLine}
+use Rattle.cif_feed.specs.HolidayText.{AreHolidaysOf, HolidayReads, IsBadLine, IsFirstBadLine, IsHolidayFault, IsHolidayLine}
 use Rattle.cif_feed.specs.HolidayText.{LineNames, LineSays, SomeLine, SpellHolidays}
 use Rattle.cif_feed.specs.Holidays.{IsHoliday, Names}
 use Rattle.cif_feed.specs.Steps.HolidayReading.{AreLinesAndRest, AreWhole, HasLineMore, IsLineFault, IsRefusal, IsRefusalBehind}

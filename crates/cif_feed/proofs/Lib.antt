@@ -7,3 +7,4 @@ pub mod WordLists
 pub mod HolidayLines
 pub mod HolidayReadings
 pub mod WrittenColumns
+pub mod ChangeSteps

@@ -1,7 +1,7 @@
 -- A prepared extract runs as the published one: the parts of a record apply where it applies as published, and two sets of records agree on
 -- a day on which each record of one has its match in the other.
-use Rattle.std.proofs.Common.{◌≡◌, ◌⊎◌, inl, inr, ⊎_elim, ◌↔◌, ℕ, ◌+◌, ◌≤◌, ◌<◌, Bool, true, false, List, [], ◌∷◌, ◌++◌, length, get_or, map, max}
-use Rattle.std.proofs.Common.{Option, Some, None, cond, refl, sym, ap, ◌∙◌, subst, arith, All, Contains, IsTrue}
+use Rattle.std.proofs.Common.{◌≡◌, ⊎_elim, ◌↔◌, ℕ, ◌≤◌, ◌<◌, Bool, true, false, List, [], ◌∷◌, map, max}
+use Rattle.std.proofs.Common.{Option, Some, None, cond, refl, sym, ap, ◌∙◌, subst, arith, Contains, IsTrue}
 use Rattle.std.proofs.lemmas.List.Elements.{All-contains, Contains-append_cases, Contains-append_left, Contains-append_right}
 use Rattle.cif_calendar.proofs.Elements.{Contains-cases, Contains-first, Contains-rest}
 use Rattle.cif_calendar.specs.Applies.{Applies}
@@ -13,7 +13,7 @@ use Rattle.cif_calendar.specs.Wins.{Wins}
 use Rattle.cif_columns.specs.Stp.{letter}
 use Rattle.cif_feed.specs.Parts.{AreParts, IsPart, ended}
 use Rattle.cif_feed.specs.Prepared.{AreMarked, ArePrepared, part_terms, prepared_last}
-use Rattle.cif_feed.specs.Published.{AppliesAsPublished, CountOn, IsHolidayOf}
+use Rattle.cif_feed.specs.Published.{AppliesAsPublished, CountOn}
 use Rattle.cif_feed.specs.Strict.{last_day}
 use Rattle.cif_feed.specs.declared.holiday_code.HolidayCode.{HolidayCode}
 use Rattle.cif_feed.specs.declared.holidays.Holidays.{Holidays}

@@ -1,6 +1,6 @@
 -- A published line as a line of this profile, its strict line, and what that leaves out, its mark. The strict line says all else, and
 -- is refused where the published line is.
-use Rattle.std.specs.Prelude.{ℕ, ◌+◌, ◌-◌, ◌==◌, Bool, true, false, List, [], ◌∷◌, ◌++◌, Option, Some, None, is_some, length, take, drop}
+use Rattle.std.specs.Prelude.{ℕ, ◌+◌, ◌-◌, ◌==◌, Bool, false, List, ◌++◌, Option, Some, None, is_some, length, take, drop}
 use Rattle.std.specs.Prelude.{codes, replicate, slice_index, if◌then◌else◌}
 use Rattle.cif_columns.specs.DayDigits.{yymmdd_of}
 use Rattle.cif_columns.specs.Field.{columns_from}

@@ -1,6 +1,7 @@
 //! Published extracts and updates: what they say beyond the extracts of this profile.
 #![tactic(auto)]
 
+mod changes;
 mod holiday_code;
 mod holiday_text;
 mod holidays;
@@ -10,6 +11,7 @@ mod part;
 mod strict;
 mod words;
 
+pub use changes::{Change, Keyed, apply};
 pub use holiday_code::HolidayCode;
 pub use holiday_text::HolidayFault;
 pub use holidays::Holidays;

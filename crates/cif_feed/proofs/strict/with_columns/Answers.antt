@@ -1,6 +1,5 @@
 -- The columns are written over a part of the line's.
-use Rattle.std.proofs.Common.{◌≡◌, ◌∙◌, ◌-◌, ℕ, List, ap, sym, subst}
-use borrow.Rule.Slice.PartMut.{put_mid}
+use Rattle.std.proofs.Common.{◌∙◌, ap, sym, subst}
 use Rattle.cif_columns.specs.Line.{ArePrintable}
 use Rattle.cif_feed.specs.Strict.{with_columns}
 use Rattle.cif_feed.proofs.WrittenColumns.{printable-written, written-is}

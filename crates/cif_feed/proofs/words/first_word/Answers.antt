@@ -1,5 +1,5 @@
 -- The loop passes spaces; what stands before the next space is a word (`first-some`), or no word is left (`first-none`).
-use Rattle.std.proofs.Common.{◌≡◌, ◌≤◌, ◌<◌, ◌∙◌, ◌∷◌, ◌==◌, ℕ, List, ap, arith, rules, sym, get_or, length, drop, take}
+use Rattle.std.proofs.Common.{◌∙◌, ◌∷◌, ◌==◌, ℕ, List, ap, arith, sym, length, drop}
 use Rattle.std.proofs.lemmas.List.{take_rest}
 use Rattle.std.specs.List.{before_first}
 use Rattle.cif_feed.specs.Words.{words_in}

@@ -1,5 +1,5 @@
 -- The rest is a last line.
-use Rattle.std.proofs.Common.{◌≡◌, ◌<◌, ◌+◌, ℕ, List, length, arith, rules, subst}
+use Rattle.std.proofs.Common.{◌<◌, ◌+◌, ℕ, List, length, rules, subst}
 use Rattle.cif_feed.specs.HolidayText.{IsHolidayLine}
 use Rattle.cif_feed.specs.Steps.HolidayReading.{HasLineMore, IsLineFault}
 use Rattle.cif_feed.proofs.HolidayReadings.{refused-last, spell-last}

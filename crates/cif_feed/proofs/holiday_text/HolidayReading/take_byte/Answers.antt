@@ -1,5 +1,5 @@
 -- A line feed ends a line; another byte is one too many, or goes to the rest.
-use Rattle.std.proofs.Common.{◌≡◌, ◌<◌, ◌∙◌, ◌+◌, ℕ, List, length, ap, arith, rules, subst}
+use Rattle.std.proofs.Common.{◌∙◌, ◌+◌, ℕ, List, ap, subst}
 use Rattle.std.specs.Str.Lines.{strip_carriage_return}
 use Rattle.cif_feed.specs.HolidayText.{IsHolidayLine}
 use Rattle.cif_feed.specs.Steps.HolidayReading.{HasLineMore, IsLineFault}

@@ -1,5 +1,4 @@
 -- An insertion adds the day (`dates-inserted`).
-use Rattle.std.proofs.Common.{arith}
 use Rattle.cif_feed.proofs.GrownHolidays.{dates-inserted}
 use Rattle.cif_feed.proofs.holidays.HolidayDates.insert.Goals as goal
 

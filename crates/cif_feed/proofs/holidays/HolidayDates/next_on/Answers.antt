@@ -1,5 +1,5 @@
 -- The dates rise, so that one after the last day ends the search (`none-found`), and one on a weekday of the mask is the first (`date-found`).
-use Rattle.std.proofs.Common.{ℕ, ◌≡◌, ◌<◌, get_or, rules, arith, ◌∙◌, ap, drop, subst}
+use Rattle.std.proofs.Common.{ℕ, ◌<◌, rules, arith, ◌∙◌, ap, drop, subst}
 use Rattle.std.proofs.lemmas.List.{get_or_read, take_rest}
 use Rattle.cif_feed.proofs.DatesFrom.{date-found, none-found}
 use Rattle.cif_feed.proofs.holidays.HolidayDates.next_on.Goals as goal

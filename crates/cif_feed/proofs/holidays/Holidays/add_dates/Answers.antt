@@ -1,5 +1,5 @@
 -- One word more is one day more (`more-day`); at the end all words were dates (`dates-all`).
-use Rattle.std.proofs.Common.{◌≡◌, ◌<◌, ◌∙◌, ◌++◌, ℕ, List, [], ◌∷◌, length, None, Some, refl, sym, ap, arith, rules, subst, append_assoc, All}
+use Rattle.std.proofs.Common.{◌≡◌, ◌<◌, ◌∙◌, ◌++◌, ℕ, List, [], ◌∷◌, length, None, Some, refl, sym, ap, arith, rules, append_assoc}
 use Rattle.std.proofs.lemmas.List.Elements.{All-push}
 use Rattle.cif_feed.specs.HolidayText.{IsDate}
 use Rattle.cif_feed.specs.Words.{words_in}

@@ -1,10 +1,9 @@
 -- Piece by piece: each is taken (`loop-reading-preserved`), until all is, or a line is refused, or the source fails.
-use Rattle.std.proofs.Common.{◌≡◌, ◌<◌, ◌≤◌, ◌∙◌, ◌+◌, ◌++◌, ℕ, List, [], length, take, Ok, Err, Result, refl, sym, ap, arith, rules, subst, append-nil, length-take}
+use Rattle.std.proofs.Common.{◌∙◌, ◌++◌, ℕ, List, [], take, refl, ap, arith, subst, append-nil}
 use Rattle.std.proofs.KnownBytes.{Consumes-kept, Consumes-nil, Consumes-trans}
 use Rattle.std.specs.Io.KnownBytes.{Consumes}
 use Rattle.cif_columns.proofs.ReadSources.{failed_after, read_nothing, read_on_both}
-use Rattle.cif_feed.specs.Steps.HolidayReading.{HasTaken}
-use Rattle.cif_feed.proofs.HolidayReadings.{cut, fault_of_start, finished_reads, refused_of_start, refused_reads, spelled_of_start}
+use Rattle.cif_feed.proofs.HolidayReadings.{cut, fault_of_start, finished_reads, refused_of_start, refused_reads}
 use Rattle.cif_feed.proofs.holidays.Holidays.read.Goals as goal
 
 pub loop-reading-init : goal.loop-reading-init

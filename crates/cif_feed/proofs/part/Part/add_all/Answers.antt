@@ -1,13 +1,13 @@
 -- A cut ends a part, and after it another begins (`parts-next`), unless the record ends there (`parts-cut_last`). Without a further cut the
 -- last part ends with the record (`parts-last`).
-use Rattle.std.proofs.Common.{◌≡◌, ◌≤◌, ◌<◌, ◌∙◌, ◌++◌, ℕ, List, [], ◌∷◌, Bool, Option, None, Some, refl, sym, ap, arith, rules, subst, append_assoc, append-nil}
+use Rattle.std.proofs.Common.{◌<◌, ◌∙◌, ◌++◌, ℕ, List, [], ◌∷◌, Bool, Option, None, Some, sym, ap, arith, subst, append_assoc, append-nil}
 use Rattle.cif_feed.specs.HolidayDates.{IsFirstFrom}
 use Rattle.cif_feed.specs.Holidays.{IsHolidayOn}
 use Rattle.cif_feed.specs.Parts.{AreParts, ended}
 use Rattle.cif_feed.specs.declared.holiday_code.HolidayCode.{HolidayCode}
 use Rattle.cif_feed.specs.declared.part.Part.{Part}
 use Rattle.cif_feed.specs.Steps.PartsSoFar.{ArePartsBefore, MayBegin, before_cut}
-use Rattle.cif_feed.proofs.PartLists.{may-begin, parts-cut_last, parts-last, parts-next, parts-none, parts-whole}
+use Rattle.cif_feed.proofs.PartLists.{may-begin, parts-cut_last, parts-last, parts-next, parts-none}
 use Rattle.cif_feed.proofs.part.Part.add_all.Goals as goal
 
 pub loop-cut-init : goal.loop-cut-init

@@ -3,7 +3,6 @@ use Rattle.std.proofs.Common.{◌∙◌, ℕ, List, ap, codes, replicate}
 use Rattle.cif_columns.specs.DayDigits.{yymmdd_of}
 use Rattle.cif_feed.specs.Strict.{deletion, last_day, with_columns}
 use Rattle.cif_feed.specs.declared.mark.Mark.{Mark}
-use Rattle.cif_feed.specs.declared.strict.StrictLine.{StrictLine}
 use Rattle.cif_feed.proofs.strict.StrictLine.of_deleted_basic.Goals as goal
 
 pub returns : goal.returns
