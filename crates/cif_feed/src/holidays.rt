@@ -21,13 +21,13 @@ pub(crate) struct HolidayDates {
 impl HolidayDates {
     ghost use Rattle.cif_feed.specs.HolidayDates.{IsFirstFrom, IsOneOn};
 
-    /// A code that isn't named.
-    fn unnamed(alloc: Global) -> HolidayDates
-        ensures named { result.is_named ≡ false }
+    /// No dates of a code, named or not.
+    fn none(alloc: Global, is_named: bool) -> HolidayDates
+        ensures named { result.is_named ≡ is_named }
         ensures days { result.days.items ≡ [] }
     {
         HolidayDates {
-            is_named: false,
+            is_named,
             days: Vec::new(alloc),
         }
     }
@@ -103,9 +103,21 @@ impl Holidays {
         ensures days { (code : HolidayCode) (day : ℕ) → ¬ IsHoliday result code day }
     {
         Holidays {
-            bank: HolidayDates::unnamed(alloc),
-            edinburgh: HolidayDates::unnamed(alloc),
-            glasgow: HolidayDates::unnamed(alloc),
+            bank: HolidayDates::none(alloc, false),
+            edinburgh: HolidayDates::none(alloc, false),
+            glasgow: HolidayDates::none(alloc, false),
+        }
+    }
+
+    /// Each code is named, and has no dates. An update takes each code as it stands.
+    pub fn naming_all(alloc: Global) -> Holidays
+        ensures names { (code : HolidayCode) → Names result code }
+        ensures days { (code : HolidayCode) (day : ℕ) → ¬ IsHoliday result code day }
+    {
+        Holidays {
+            bank: HolidayDates::none(alloc, true),
+            edinburgh: HolidayDates::none(alloc, true),
+            glasgow: HolidayDates::none(alloc, true),
         }
     }
 

@@ -8,6 +8,7 @@ mod holidays;
 pub mod laws;
 mod mark;
 mod part;
+mod record_keys;
 mod strict;
 mod words;
 
