@@ -1,8 +1,8 @@
 -- The parts of a record, one after another.
-use Rattle.std.proofs.Common.{◌≡◌, inl, inr, ⊎_elim, ℕ, ◌+◌, ◌-◌, ◌<◌, ◌≤◌, List, [], ◌∷◌, ◌++◌, Option, Some, None, refl, sym}
+use Rattle.std.proofs.Common.{◌≡◌, inl, inr, ⊎_elim, ℕ, ◌+◌, ◌-◌, ◌<◌, ◌≤◌, List, [], ◌∷◌, ◌++◌, Option, Some, None, Contains, refl, sym, ap, ◌∙◌}
 use Rattle.std.proofs.Common.{subst, arith, Bool, true, false, cond, nat_lt, append-nil, ltb-true, ltb-false}
 use Rattle.std.proofs.lemmas.Bool.{cases_lt}
-use Rattle.std.proofs.lemmas.List.Elements.{All-push, Contains-append_left, Contains-push}
+use Rattle.std.proofs.lemmas.List.Elements.{All-contains, All-push, Contains-append_left, Contains-push}
 use Rattle.std.proofs.lemmas.List.Quantifiers.{all_pairs_push}
 use Rattle.cif_calendar.specs.Terms.{Terms}
 use Rattle.cif_feed.specs.Parts.{AreParts, IsBefore, IsCut, IsPart}
@@ -148,3 +148,47 @@ parts-whole h r up =
 
 pub may-begin : {B : Type 0} (h : Holidays) (code : Option HolidayCode) (r : Terms B) → r.first ≤ r.last → MayBegin h code r r.first
 may-begin h code r up = record { from = omega arith; upto = up; begins = inl refl }
+
+-- ---- exactly the parts are listed
+
+abbrev as_part : ℕ → ℕ → Part
+as_part first last = record { first = first; last = last }
+
+module _ {B : Type 0} (h : Holidays) (code : Option HolidayCode) (r : Terms B) where
+  module _ (p q : Part) (is_p : IsPart h code r p) (is_q : IsPart h code r q) where
+    -- no part begins in another after its first day
+    begins-within : q.first ≤ p.first → p.first ≤ q.last → q.first ≡ p.first
+    begins-within later within = ⊎_elim
+        (λ (same : p.first ≡ r.first). let from = is_q.from in omega arith)
+        (λ after. ⊎_elim
+        (λ (lt : q.first < p.first). let next = after.1 in absurd (is_q.whole after.0 (omega arith) (omega arith) after.2))
+        (λ ge. omega arith)
+        (cases_lt q.first p.first))
+        is_p.begins
+
+    -- no part ends in another before its last day
+    ends-within : q.first ≤ p.first → p.last < q.last → ⊥
+    ends-within later lt = let up = is_p.in_order in ⊎_elim
+        (λ (same : p.last ≡ r.last). let upto = is_q.upto in omega arith)
+        (λ cut. is_q.whole (p.last + 1) (omega arith) (omega arith) cut)
+        is_p.ends
+
+  module _ (p q : Part) (is_p : IsPart h code r p) (is_q : IsPart h code r q) where
+    same-part : q.first ≤ p.first → p.first ≤ q.last → q ≡ p
+    same-part later within =
+        let first : q.first ≡ p.first = begins-within p q is_p is_q later within in
+        let last : q.last ≡ p.last = ⊎_elim
+        (λ (lt : p.last < q.last). absurd (ends-within p q is_p is_q later lt))
+        (λ le. ⊎_elim
+        (λ (lt : q.last < p.last). absurd (ends-within q p is_q is_p (omega arith) lt))
+        (λ ge. omega arith)
+        (cases_lt q.last p.last))
+        (cases_lt p.last q.last) in
+        ap (λ (n : ℕ). as_part n q.last) first ∙ ap (as_part p.first) last
+
+  pub listed-part : (parts : List Part) → AreParts h code r parts → (p : Part) → IsPart h code r p → Contains parts p
+  listed-part parts are p is_p = ⊎_elim
+      (λ have. let is_q = All-contains (IsPart h code r) parts have.0 are.are have.1 in
+      subst (λ (q : Part). Contains parts q) (same-part p have.0 is_p is_q have.2 have.3) have.1)
+      (λ cut. absurd (is_p.whole p.first (omega arith) is_p.in_order cut))
+      (are.covered p.first is_p.from (let up = is_p.in_order in let upto = is_p.upto in omega arith))

@@ -8,7 +8,7 @@ ghost use Rattle.cif_calendar.specs.Runs.{Runs};
 ghost use Rattle.cif_calendar.specs.Terms.{Terms};
 ghost use Rattle.cif_feed.specs.Changes.{ChangeParts, after_all, last_word, put_last, untouched};
 ghost use Rattle.cif_feed.specs.Changes.{of_key as records_of_key};
-ghost use Rattle.cif_feed.specs.Parts.{AreParts, ended};
+ghost use Rattle.cif_feed.specs.Parts.{AreParts, IsPart, ended};
 ghost use Rattle.cif_feed.specs.Prepared.{AreMarked, ArePrepared, part_terms};
 ghost use Rattle.cif_feed.specs.Published.{AppliesAsPublished, CountOn};
 ghost use Rattle.cif_feed.specs.Strict.{last_day};
@@ -21,6 +21,9 @@ use cif_calendar::Entry;
 
 /// The parts of a record apply on exactly the dates on which it applies as published.
 pub fn parts_apply_as_published<E: Entry>()
+    // Among the parts of a record is each range that is one, so that there is one such list.
+    ensures all { (h : Holidays) (code : Option HolidayCode) (r : Terms E.Body) (parts : List Part) (p : Part)
+        → AreParts h code r parts → Contains parts p ↔ IsPart h code r p }
     ensures parts { (h : Holidays) (code : Option HolidayCode) (r : Terms E.Body) (last : ℕ) (parts : List Part) (d : ℕ)
         → AreParts h code (ended last r) parts → d ≤ last → d ≤ r.last
         → AppliesAsPublished h code r d ↔ ((p : Part) × Contains parts p × Applies (part_terms r p) d) }
