@@ -1,0 +1,13 @@
+pub mod Changes
+pub mod HolidayCode
+pub mod HolidayDates
+pub mod HolidayText
+pub mod Holidays
+pub mod Parts
+pub mod Prepared
+pub mod Published
+pub mod RecordKeys
+pub mod Steps
+pub mod Strict
+pub mod Transaction
+pub mod Words

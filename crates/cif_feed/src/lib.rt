@@ -1,0 +1,21 @@
+//! Published extracts and updates: what they say beyond the extracts of this profile.
+#![tactic(auto)]
+
+mod changes;
+mod holiday_code;
+mod holiday_text;
+mod holidays;
+pub mod laws;
+mod mark;
+mod part;
+mod record_keys;
+mod strict;
+mod words;
+
+pub use changes::{Change, Keyed, apply};
+pub use holiday_code::HolidayCode;
+pub use holiday_text::HolidayFault;
+pub use holidays::Holidays;
+pub use mark::{Mark, Transaction};
+pub use part::Part;
+pub use strict::{StrictLine, strict_header, strict_tiploc};
