@@ -8,3 +8,5 @@ pub mod HolidayLines
 pub mod HolidayReadings
 pub mod WrittenColumns
 pub mod ChangeSteps
+pub mod FeedSteps
+pub mod FeedRuns

@@ -1,4 +1,7 @@
 pub mod Changes
+pub mod FeedFault
+pub mod FeedLines
+pub mod FeedRefusal
 pub mod HolidayCode
 pub mod HolidayDates
 pub mod HolidayText
@@ -7,6 +10,7 @@ pub mod Parts
 pub mod Prepared
 pub mod Published
 pub mod RecordKeys
+pub mod SpellsFeed
 pub mod Steps
 pub mod Strict
 pub mod Transaction
