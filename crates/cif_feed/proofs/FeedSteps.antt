@@ -1,5 +1,5 @@
 -- One content more of a feed: what the contents say then, and what the reading has come to.
-use Rattle.std.proofs.Common.{◌≡◌, ℕ, ◌+◌, Bool, true, false, cond, not, ◌&&◌, ◌||◌, List, [], ◌∷◌, ◌++◌, length, map, filter, Option, Some, None}
+use Rattle.std.proofs.Common.{◌≡◌, ℕ, ◌+◌, Bool, true, false, cond, not, ◌&&◌, ◌||◌, List, [], ◌∷◌, ◌++◌, length, map, filter, Some, None}
 use Rattle.std.proofs.Common.{Result, Ok, Err, refl, sym, ap, ◌∙◌, subst, take, codes, append-nil, length-append, arith}
 use Rattle.std.proofs.lemmas.Bool.{and_parts}
 use Rattle.std.proofs.lemmas.Grind.{flat_map-append}
@@ -23,7 +23,6 @@ use Rattle.cif_records.specs.declared.record.Kind.{Kind}
 use Rattle.cif_records.specs.declared.record.Kind.TheVariants.{Li}
 use Rattle.cif_feed.specs.FeedLines.{as_it_stands, association_mark, is_note, marks, notes_after, notes_behind, said, said_by, schedule_mark}
 use Rattle.cif_feed.specs.FeedLines.{speaks, strict_lines, tiploc_mark}
-use Rattle.cif_feed.specs.FeedRefusal.{line_refusal}
 use Rattle.cif_feed.specs.Steps.FeedReading.{HasTakenFeed, IsFeedTaken, IsMarked, IsNoteTaken, IsStopTaken, Marks, UnlessMemory, marks_in}
 use Rattle.cif_feed.specs.Steps.FeedReading.{marks_of, with_mark}
 use Rattle.cif_feed.specs.declared.feed.Feed.{Feed}

@@ -10,3 +10,5 @@ pub mod WrittenColumns
 pub mod ChangeSteps
 pub mod FeedSteps
 pub mod FeedRuns
+pub mod StrictKinds
+pub mod SpelledFeeds

@@ -1,5 +1,5 @@
 -- What the contents of a published extract, or of an update, say: comments and notes nothing, and each line its strict line and a mark.
-use Rattle.std.specs.Prelude.{ℕ, Bool, true, false, not, ◌&&◌, ◌||◌, List, [], ◌∷◌, Option, Some, None, codes, filter, length, map}
+use Rattle.std.specs.Prelude.{ℕ, Bool, true, false, not, ◌&&◌, ◌||◌, List, [], ◌∷◌, Option, Some, None, codes, filter, map}
 use Rattle.std.specs.Prelude.{if◌then◌else◌, replicate}
 use Rattle.std.specs.List.{flat_map, fold}
 use Rattle.cif_columns.specs.Comment.{is_comment}

@@ -1,5 +1,5 @@
 -- The first refused content of a published extract, or of an update, and its reason.
-use Rattle.std.specs.Prelude.{◌≡◌, ◌≢◌, ◌⊎◌, ℕ, ◌+◌, ◌<◌, ◌==◌, Bool, true, nat_lt, List, [], ◌∷◌, ◌++◌, length, All, take, slice_index_or}
+use Rattle.std.specs.Prelude.{◌≡◌, ◌≢◌, ◌⊎◌, ℕ, ◌+◌, ◌<◌, ◌==◌, true, nat_lt, List, [], ◌∷◌, ◌++◌, length, All, take, slice_index_or}
 use Rattle.std.specs.Prelude.{Option, None, Some, if◌then◌else◌}
 use Rattle.std.specs.List.{list_all}
 use Rattle.cif_columns.specs.Comment.{is_comment}

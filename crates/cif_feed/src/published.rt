@@ -37,8 +37,8 @@ pub struct Published {
 }
 
 impl Published {
-    ghost use Rattle.cif_feed.specs.FeedFault.{FeedReads, IsFeedFault, IsOfFeed};
-    ghost use Rattle.cif_feed.specs.SpellsFeed.{BytesSpellPublished, published_parts};
+    ghost use Rattle.cif_feed.specs.FeedFault.{FeedReads, IsFeedFault, IsOfFeed, IsReadAsPublished};
+    ghost use Rattle.cif_feed.specs.SpellsFeed.{BytesSpellPublished, PublishedParts, published_parts};
 
     /// The published extract, or the update, that the source's contents spell, of which at most
     /// `max_lines` may come. `holidays` are to name the codes that may stand in it.
@@ -56,6 +56,8 @@ impl Published {
         requires within { max_lines ≤ MAX_LINES }
         ensures ok { IfSome (R.remaining (reader_of source.old)) (λ bytes. IfOk result
             (λ published. BytesSpellPublished feed holidays.now max_lines bytes (published_parts published))) }
+        ensures only { IfSome (R.remaining (reader_of source.old)) (λ bytes. (x : PublishedParts)
+            → BytesSpellPublished feed holidays.now max_lines bytes x → IsReadAsPublished x result) }
         ensures fault { FaultOf R.remaining (IsFeedFault feed holidays.now max_lines) source.old source.new
             result }
         ensures answers { IfErr result (IsOfFeed max_lines) }

@@ -1,22 +1,23 @@
 -- The invariant names the contents so far: one more (`feed_line`, `feed_comment`), one refused (`at_feed_line`) and the end are said of
 -- them all.
-use Rattle.std.proofs.Common.{◌≡◌, ◌+◌, ◌<◌, ◌≤◌, length, filter, ℕ, List, [], ◌++◌, ◌∷◌, Err, IfSome, Ok, Option, Result, Some, None}
-use Rattle.std.proofs.Common.{◌∙◌, ap, arith, refl, rules, subst, sym, true}
+use Rattle.std.proofs.Common.{◌≡◌, ◌+◌, ◌<◌, ◌≤◌, length, [], ◌++◌, ◌∷◌, IfSome}
+use Rattle.std.proofs.Common.{◌∙◌, arith, refl, subst, sym}
 use Rattle.cif_columns.proofs.GivenLinesLaws.{known_both, nothing_left, reading_decides, reading_ends, reading_faults, reading_starts}
 use Rattle.cif_columns.proofs.PassedLines.{next_passed}
 use Rattle.cif_columns.proofs.ReadSources.{read_nothing, read_on_both}
 use Rattle.cif_columns.specs.LineReader.{given}
-use Rattle.cif_columns.specs.Source.{reader_of, source_ended, unread_of}
-use Rattle.cif_columns.specs.declared.source.Source.{Source}
-use Rattle.cif_extract.specs.ReadFault.{LeavesNothing}
+use Rattle.cif_columns.specs.Source.{unread_of}
 use Rattle.cif_records.specs.Kind.{kind_in}
 use Rattle.cif_feed.specs.FeedFault.{IsFeedFault}
 use Rattle.cif_feed.specs.FeedLines.{is_note}
 use Rattle.cif_columns.specs.Comment.{is_comment}
+use Rattle.cif_extract.specs.declared.fault.Fault.TheVariants.{Memory}
 use Rattle.cif_feed.specs.declared.feed.FeedFault.{FeedFault}
+use Rattle.cif_feed.specs.declared.feed.FeedFault.TheVariants.{Extract}
 use Rattle.cif_feed.proofs.FeedRuns.{at_feed_fault, at_feed_line, comment_fine, feed_comment, feed_line, feed_reason, feed_truncated}
 use Rattle.cif_feed.proofs.FeedRuns.{feed_untaken, feed_whole, fewer, if_done, known_any, line_why, none_more, none_none, untaken_of_feed}
 use Rattle.cif_feed.proofs.FeedRuns.{untaken_reads}
+use Rattle.cif_feed.proofs.SpelledFeeds.{only_feed_fault, only_published}
 use Rattle.cif_feed.proofs.published.Published.read.Goals as goal
 
 pub loop-columns-init : goal.loop-columns-init
@@ -192,3 +193,24 @@ returns-in-Err-clause-fault g c =
     (at_feed_fault c.args.feed c.args.holidays.now c.args.max_lines start cs fine g.R.Read.remaining _ _ so_far after c.in-Err.fault
     (reading_faults g.R.Read.remaining _ _ _ _ cs so_far c.read_content.new.self c.read_content.new.source g.R.ReadDevice.read_errors
     c.in-Err.fault c.in-Err.ensures.0) c.in-Err.ensures.1)
+
+pub returns-in_default-clause-only : goal.returns-in_default-clause-only
+returns-in_default-clause-only g c =
+    only_feed_fault c.args.feed c.args.holidays.now c.args.max_lines (g.R.Read.remaining c.args.source.now.reader)
+    (unread_of g.R.Read.remaining c.loop-columns.source) (Extract Memory) (returns-in_default-clause-fault g c)
+
+pub returns-in-Err-take-clause-only : goal.returns-in-Err-take-clause-only
+returns-in-Err-take-clause-only g c =
+    only_feed_fault c.args.feed c.args.holidays.now c.args.max_lines (g.R.Read.remaining c.args.source.now.reader)
+    (unread_of g.R.Read.remaining c.read_content.new.source) c.fault_at.result (returns-in-Err-take-clause-fault g c)
+
+pub returns-in-Ok-End-clause-only : goal.returns-in-Ok-End-clause-only
+returns-in-Ok-End-clause-only g c =
+    only_published c.args.feed c.args.holidays.now c.args.max_lines (g.R.Read.remaining c.args.source.now.reader)
+    (unread_of g.R.Read.remaining c.read_content.new.source) c.finish.result (returns-in-Ok-End-clause-ok g c)
+    (returns-in-Ok-End-clause-fault g c)
+
+pub returns-in-Err-clause-only : goal.returns-in-Err-clause-only
+returns-in-Err-clause-only g c =
+    only_feed_fault c.args.feed c.args.holidays.now c.args.max_lines (g.R.Read.remaining c.args.source.now.reader)
+    (unread_of g.R.Read.remaining c.read_content.new.source) c.from.result (returns-in-Err-clause-fault g c)
