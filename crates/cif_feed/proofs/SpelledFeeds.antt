@@ -1,16 +1,15 @@
 -- Bytes that spell a published extract, or an update, aren't refused, and spell no other.
-use Rattle.std.proofs.Common.{◌≡◌, ℕ, ◌+◌, ◌<◌, ◌≤◌, Bool, true, false, cond, not, ◌&&◌, List, [], ◌∷◌, ◌++◌, length, take, filter, map, Option}
+use Rattle.std.proofs.Common.{◌≡◌, ℕ, ◌<◌, ◌≤◌, Bool, true, false, cond, not, ◌&&◌, List, [], ◌∷◌, ◌++◌, length, filter, map, Option}
 use Rattle.std.proofs.Common.{Some, None, IfErr, IfOk, IfSome, Result, Ok, Err, refl, sym, ap, ◌∙◌, subst, arith, get_or, length-append}
 use Rattle.std.proofs.Common.{⊎_elim}
 use Rattle.std.proofs.lemmas.List.{map-append}
 use Rattle.std.proofs.lemmas.List.Elements.{All-cons, All-head, All-nil, All-tail, filter-append}
 use Rattle.std.proofs.Math.Seq.{get_or-append_seam, take-append_seam}
-use Rattle.std.specs.Prelude.{All, slice_index_or}
+use Rattle.std.specs.Prelude.{All}
 use Rattle.cif_columns.specs.Comment.{is_comment}
 use Rattle.cif_columns.specs.Contents.{contents_of}
 use Rattle.cif_columns.specs.Line.{IsLine}
 use Rattle.cif_columns.specs.Source.{Unread}
-use Rattle.cif_columns.specs.declared.refusal.Refusal.{Refusal}
 use Rattle.cif_columns.specs.declared.refusal.Refusal.TheVariants.{OutOfOrder}
 use Rattle.cif_extract.specs.ExtractParts.{ExtractParts}
 use Rattle.cif_extract.specs.SpellsExtract.{SpellExtract}
@@ -22,11 +21,11 @@ use Rattle.cif_records.specs.Checks.{unless}
 use Rattle.cif_records.proofs.Judging.{none-some}
 use Rattle.cif_feed.specs.FeedFault.{IsFeedFault, IsReadAsPublished}
 use Rattle.cif_feed.specs.FeedLines.{is_note, notes_behind, said, speaks, strict_lines}
-use Rattle.cif_feed.specs.FeedRefusal.{IsFeedContent, IsFeedTruncated, IsFirstOfFeed, IsRefusedContent, feed_refusal, line_refusal}
+use Rattle.cif_feed.specs.FeedRefusal.{IsFeedContent, IsFeedTruncated, IsFirstOfFeed, IsRefusedContent, line_refusal}
 use Rattle.cif_feed.specs.SpellsFeed.{BytesSpellPublished, PublishedParts, SpellPublished, published_parts}
 use Rattle.cif_feed.specs.declared.feed.Feed.{Feed}
 use Rattle.cif_feed.specs.declared.feed.FeedFault.{FeedFault}
-use Rattle.cif_feed.specs.declared.feed.FeedFault.TheVariants.{Extract, NotUpdate, BadTransaction}
+use Rattle.cif_feed.specs.declared.feed.FeedFault.TheVariants.{Extract, NotUpdate, BadTransaction, NotThere, AlreadyThere}
 use Rattle.cif_feed.specs.declared.holidays.Holidays.{Holidays}
 use Rattle.cif_feed.specs.declared.published.Published.{Published}
 use Rattle.cif_feed.proofs.FeedRuns.{comment_fine, line_why}
@@ -145,6 +144,8 @@ module _ (feed : Feed) (h : Holidays) (max : ℕ) where
   read_as bytes x s after (Err (Extract fault.Memory)) ok err = tt
   read_as bytes x s after (Err (NotUpdate line)) ok err = absurd (spelled_first (contents_of bytes) x s.within _ s.spell err.0)
   read_as bytes x s after (Err (BadTransaction line)) ok err = absurd (spelled_first (contents_of bytes) x s.within _ s.spell err.0)
+  read_as bytes x s after (Err (NotThere line)) ok err = absurd err
+  read_as bytes x s after (Err (AlreadyThere line)) ok err = absurd err
 
   -- the same of bytes that may be known
   pub only_published : (start : Option (List ℕ)) (after : Unread) (result : Result Published FeedFault)

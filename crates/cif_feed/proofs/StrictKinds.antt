@@ -1,6 +1,6 @@
 -- No strict line is a trailer but that of a trailer.
-use Rattle.std.proofs.Common.{◌≡◌, ℕ, ◌+◌, ◌-◌, ◌≤◌, Bool, true, false, cond, List, [], ◌∷◌, ◌++◌, length, take, drop, Option, Some, None}
-use Rattle.std.proofs.Common.{refl, sym, ap, ◌∙◌, subst, arith, codes, length-append, length-take, is_some}
+use Rattle.std.proofs.Common.{◌≡◌, ℕ, ◌+◌, ◌-◌, ◌≤◌, Bool, true, false, cond, List, ◌++◌, length, take, drop, Option, Some, None}
+use Rattle.std.proofs.Common.{refl, sym, ap, ◌∙◌, arith, codes, length-append, length-take, is_some}
 use Rattle.std.proofs.lemmas.List.{take-append-le, take-take}
 use Rattle.std.specs.Prelude.{find, slice_index}
 use Rattle.cif_columns.specs.DayDigits.{yymmdd_of}
@@ -9,10 +9,10 @@ use Rattle.cif_columns.specs.Stp.{stp_in}
 use Rattle.cif_extract.specs.Taken.{IsNoTrailer}
 use Rattle.cif_records.specs.Kind.{is_identity, kind_in, kinds}
 use Rattle.cif_records.specs.declared.record.Kind.{Kind}
-use Rattle.cif_records.specs.declared.record.Kind.TheVariants.{Hd, Ti, Ta, Td, Aa, Bs, Bx, Lo, Li, Cr, Lt, Zz}
+use Rattle.cif_records.specs.declared.record.Kind.TheVariants.{Hd, Ti, Ta, Td, Aa, Bs, Zz}
 use Rattle.cif_feed.specs.FeedLines.{said, said_by}
-use Rattle.cif_feed.specs.Strict.{cancelled, closed, deleted_association, deleted_basic, is_open, last_day, strict_association, strict_basic}
-use Rattle.cif_feed.specs.Strict.{strict_header, strict_tiploc, update_association, update_association_by, update_basic, update_basic_by}
+use Rattle.cif_feed.specs.Strict.{cancelled, closed, is_open, last_day}
+use Rattle.cif_feed.specs.Strict.{strict_tiploc, update_association_by, update_basic_by}
 use Rattle.cif_feed.specs.Strict.{with_columns, without}
 use Rattle.cif_feed.specs.Transaction.{transaction_in}
 use Rattle.cif_feed.specs.declared.feed.Feed.{Feed}

@@ -26,6 +26,7 @@ IsFeedFault feed h max bytes after (NotUpdate line) =
     IsFirstOfFeed feed h max (contents_of bytes) (NotUpdate line) × IsContentDecidedOrLast IsFeedContent max bytes after line
 IsFeedFault feed h max bytes after (BadTransaction line) =
     IsFirstOfFeed feed h max (contents_of bytes) (BadTransaction line) × IsContentDecidedOrLast IsFeedContent max bytes after line
+IsFeedFault feed h max bytes after _ = ⊥
 
 -- the faults of reading at most max contents, for any source
 abbrev pub IsOfFeed : ℕ → FeedFault → Type 0
@@ -35,6 +36,7 @@ IsOfFeed max (Extract Memory) = Unit {0}
 IsOfFeed max (Extract _) = ⊥
 IsOfFeed max (NotUpdate line) = IsLineNumber max line
 IsOfFeed max (BadTransaction line) = IsLineNumber max line
+IsOfFeed max _ = ⊥
 
 -- what is answered where the bytes spell one of these parts: it, unless the source fails or memory runs out
 abbrev pub IsReadAsPublished : PublishedParts → Result Published FeedFault → Type 0

@@ -2,6 +2,7 @@ pub mod Changes
 pub mod FeedFault
 pub mod FeedLines
 pub mod FeedRefusal
+pub mod FeedTexts
 pub mod HolidayCode
 pub mod HolidayDates
 pub mod HolidayText
