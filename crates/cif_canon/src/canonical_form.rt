@@ -224,8 +224,9 @@ fn look_ahead(schedules: &[Schedule], runs: &[Run])
     requires records { All (HasRecord (schedule_entries schedules.now)) runs.now }
 {
     for run in runs {
-        if !body_of(schedules, run).prefetch() {
-            unreachable!();
+        match &schedules[run.source].body {
+            Some(body) if body.prefetch() => {}
+            _ => unreachable!(),
         }
     }
 }

@@ -1,7 +1,6 @@
 -- Lines without the spaces at their ends are what is kept of them, and determine them.
 use Rattle.std.proofs.Common.{◌≡◌, ℕ, zero, suc, ◌+◌, ◌-◌, ◌<◌, ◌≤◌, Bool, true, false, cond, List, [], ◌∷◌, ◌++◌, All, append_assoc}
 use Rattle.std.proofs.Common.{ap, arith, drop, get_or, length, length-append, max, refl, replicate, subst, sym, take, ◌∙◌}
-use Rattle.std.specs.List.{flat_map}
 use Rattle.std.proofs.lemmas.Bool.{eqb-true}
 use Rattle.std.proofs.lemmas.List.{append-nil, drop_at, length-drop, length-take-le, take_at, take_more, take-take}
 use Rattle.std.proofs.lemmas.List.Elements.{All-append, All-cons, All-head, All-nil, All-tail, All-take, All-weaker}
@@ -117,9 +116,6 @@ keep_view bytes now h view_is =
 
 pub are_kept : (bytes : List ℕ) (lines : List (List ℕ)) → Keep bytes lines → AreKept bytes
 are_kept bytes lines k = record { lines = lines; are_lines = k.are_lines; is = k.is }
-
-pub none_kept : Keep [] []
-none_kept = record { is = refl; are_lines = All-nil IsLine }
 
 -- a line more
 pub one_more : (old new : List ℕ) (lines : List (List ℕ)) (line : List ℕ) → Keep old lines → IsLine line → new ≡ old ++ kept line

@@ -4,7 +4,7 @@ use Rattle.cif_columns.specs.Contents.{lines_text}
 use Rattle.cif_columns.specs.Sink.{HasFailed, HasWritten}
 use Rattle.cif_columns.specs.declared.sink.Sink.{Sink}
 use Rattle.cif_columns.proofs.TextsOfLines.{first_text}
-use Rattle.cif_columns.proofs.WrittenTexts.{failed_first, failed_second, written_both}
+use Rattle.cif_columns.proofs.WrittenTexts.{failed_first, failed_second}
 
 -- behind a text that is written comes the next line of those that are left
 module _ {W : Type 0} (contents : W → Option (List ℕ)) (errors : W → Option ℕ) (all front : List ℕ) (rest behind : List (List ℕ))

@@ -6,7 +6,7 @@ use Rattle.std.specs.List.{slice_range}
 use Rattle.std.specs.Result.{result_ok}
 use Rattle.std.proofs.lemmas.List.Elements.{All-nil, All-cons}
 use Rattle.std.proofs.Math.Seq.{take-append_seam, get_or-append_seam}
-use Rattle.cif_columns.specs.Field.{Row, AllStandIn, plain_line}
+use Rattle.cif_columns.specs.Field.{AllStandIn, plain_line}
 use Rattle.cif_columns.specs.declared.refusal.Refusal.{Refusal}
 use Rattle.cif_extract.specs.Body.{KeepAll, KeepBody, KeepJourney, KeepSomeBody, is_extra, journey_in, kept_tables, parts_in}
 use Rattle.cif_extract.specs.BodyParts.{BodyParts, body_records, journey_records}
@@ -25,6 +25,7 @@ use Rattle.cif_records.specs.declared.origin.Origin.{Origin}
 use Rattle.cif_records.specs.declared.record.Record.TheVariants as of
 use Rattle.cif_records.specs.declared.terminus.Terminus.{Terminus}
 use Rattle.cif_extract.proofs.CallLines.{call_in-spells}
+use Rattle.cif_extract.proofs.WrittenLines.{kept_plain}
 use Rattle.cif_records.proofs.Details.{detail_in-stands}
 use Rattle.cif_records.proofs.Extras.{extra_in-spells}
 use Rattle.cif_records.proofs.Origins.{origin_in-spells}
@@ -165,15 +166,6 @@ parts_in-keeps lines p k =
 pub keeps_parts_in : (lines : List (List ℕ)) → KeepSomeBody lines → KeepBody lines (parts_in lines)
 keeps_parts_in lines h = subst (KeepBody lines) (sym (parts_in-keeps lines h.0 h.1)) h.1
 
--- the lines are those of the tables
-plain_lines : (lines : List (List ℕ)) (tables : List (List Row)) → KeepAll lines tables → lines ≡ map plain_line tables
-plain_lines [] [] k = refl
-plain_lines [] (table ∷ tables) k = absurd k
-plain_lines (line ∷ lines) [] k = absurd k
-plain_lines (line ∷ lines) (table ∷ tables) k =
-    let behind = plain_lines lines tables k.2 in
-    rw (k.1, behind)
-
 -- lines with these parts in them keep these
 pub keeps_view : (lines : List (List ℕ)) (p : BodyParts) → KeepSomeBody lines → parts_in lines ≡ p → KeepBody lines p
 keeps_view lines p h e = subst (KeepBody lines) e (keeps_parts_in lines h)
@@ -213,7 +205,7 @@ extra_read line None (Err why) marked further judged only = refl
 -- lines that keep equal parts are equal
 pub same_lines : (xs ys : List (List ℕ)) (p : BodyParts) → KeepBody xs p → KeepBody ys p → xs ≡ ys
 same_lines xs ys p k h =
-    plain_lines xs (kept_tables p.detail (body_records p)) k ∙ sym (plain_lines ys (kept_tables p.detail (body_records p)) h)
+    kept_plain xs (kept_tables p.detail (body_records p)) k ∙ sym (kept_plain ys (kept_tables p.detail (body_records p)) h)
 
 -- equal lines keep equal parts
 pub same_parts : (lines : List (List ℕ)) (p q : BodyParts) → KeepBody lines p → KeepBody lines q → p ≡ q

@@ -1,7 +1,6 @@
 -- The call that a line spells.
 use Rattle.std.proofs.Common.{◌≡◌, ℕ, suc, ◌-◌, true, false, List, sym, ap, subst, codes}
 use Rattle.std.proofs.Common.{drop, get_or, length, map, take, ◌<◌, ◌∙◌, All, [], ◌∷◌, arith}
-use Rattle.std.proofs.lemmas.List.{length-drop}
 use Rattle.std.proofs.lemmas.List.Elements.{All-tail}
 use Rattle.std.specs.Str.{bytes_eq}
 use Rattle.cif_columns.specs.Field.{columns}
@@ -45,12 +44,6 @@ first_before_last [] others first some a b more = absurd (omega (arith, some))
 first_before_last (line ∷ lines) others first some a b more =
     let count : length (line ∷ lines) - 1 ≡ suc (length others - 1) = omega (arith, more, ap length b) in
     ap (λ n. take n (line ∷ lines)) count ∙ ap (λ l. line ∷ take (length others - 1) l) (sym b) ∙ ap (λ l. l ∷ before_last others) (sym a)
-
--- and nothing does where none follow
-pub none_before_last : (lines others : List (List ℕ)) → others ≡ drop 1 lines → length others ≡ 0 → before_last lines ≡ []
-none_before_last lines others b none =
-    let count : length lines - 1 ≡ 0 = omega (arith, none, ap length b, length-drop 1 lines) in
-    ap (λ n. take n lines) count
 
 -- each call of the lines is spelled, and so is each of the rest
 pub first_and_rest : (lines others : List (List ℕ)) (first : List ℕ) → lines ≡ first ∷ others → All SpellsSomeCall lines

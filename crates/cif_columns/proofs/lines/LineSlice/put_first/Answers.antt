@@ -1,7 +1,5 @@
 -- The bytes behind the count begin with the columns of the first line: with them it is widened (`columns_wide`).
-use Rattle.std.proofs.Common.{◌≡◌, ◌≤◌, ◌++◌, ◌∷◌, [], ap, arith, get_or, length, refl, take, ◌∙◌}
-use Rattle.std.proofs.lemmas.List.{length-drop}
-use Rattle.cif_columns.specs.Lines.{used}
+use Rattle.std.proofs.Common.{◌≤◌, ◌++◌, ◌∷◌, [], ap, get_or, refl, ◌∙◌}
 use Rattle.cif_columns.proofs.KeptLines.{First, columns_in_chunk, columns_in_padded, columns_printable, columns_wide, count_few, first_of}
 use Rattle.cif_columns.proofs.KeptLines.{keep_view}
 use Rattle.cif_columns.proofs.lines.LineSlice.put_first.Goals as goal
@@ -18,35 +16,29 @@ few c = count_few c.self.inside.kept.now c.args.self.now (first c) (get_or c.sel
 pub widen-requires-clause-count : goal.widen-requires-clause-count
 widen-requires-clause-count c = few (goal.at.widen-requires-clause-count c).After-first_chunk
 
+pub widen-requires-in-None-clause-count : goal.widen-requires-in-None-clause-count
+widen-requires-in-None-clause-count c = few (goal.at.widen-requires-in-None-clause-count c).After-first_chunk
+
 pub widen-requires-clause-printable : goal.widen-requires-clause-printable
 widen-requires-clause-printable c =
     let f = first (goal.at.widen-requires-clause-printable c).After-first_chunk in
-    columns_printable c.self.inside.kept.now c.args.self.now f _ refl c.in-Some.columns.now
-    (columns_in_chunk c.self.inside.kept.now c.args.self.now f _ refl c.split_at.result.1.now c.in-Some.columns.now c.split_at.ensures.back
-    c.in-Some.ensures.cases.same)
-
-pub widen-requires-in-None-clause-count : goal.widen-requires-in-None-clause-count
-widen-requires-in-None-clause-count c = few (goal.at.widen-requires-in-None-clause-count c).After-first_chunk
+    columns_printable _ _ f _ refl c.in-Some.columns.now
+    (columns_in_chunk _ _ f _ refl c.split_at.result.1.now c.in-Some.columns.now c.split_at.ensures.back c.in-Some.ensures.cases.same)
 
 pub widen-requires-in-None-clause-printable : goal.widen-requires-in-None-clause-printable
 widen-requires-in-None-clause-printable c =
     let f = first (goal.at.widen-requires-in-None-clause-printable c).After-first_chunk in
-    columns_printable c.self.inside.kept.now c.args.self.now f _ refl c.padded.result
-    (columns_in_padded c.self.inside.kept.now c.args.self.now f _ refl c.split_at.result.1.now c.padded.result c.split_at.ensures.back
-    c.padded.ensures)
+    columns_printable _ _ f _ refl c.padded.result
+    (columns_in_padded _ _ f _ refl c.split_at.result.1.now c.padded.result c.split_at.ensures.back c.padded.ensures)
 
 pub returns-in-Some : goal.returns-in-Some
 returns-in-Some c =
     let f = first (goal.at.returns-in-Some c).After-first_chunk in
-    c.widen.ensures
-    ∙ ap (λ l. l ++ 10 ∷ []) (columns_wide c.self.inside.kept.now c.args.self.now f _ refl c.in-Some.columns.now
-    (columns_in_chunk c.self.inside.kept.now c.args.self.now f _ refl c.split_at.result.1.now c.in-Some.columns.now c.split_at.ensures.back
-    c.in-Some.ensures.cases.same))
+    c.widen.ensures ∙ ap (λ l. l ++ 10 ∷ []) (columns_wide _ _ f _ refl c.in-Some.columns.now
+    (columns_in_chunk _ _ f _ refl c.split_at.result.1.now c.in-Some.columns.now c.split_at.ensures.back c.in-Some.ensures.cases.same))
 
 pub returns-in-None : goal.returns-in-None
 returns-in-None c =
     let f = first (goal.at.returns-in-None c).After-first_chunk in
-    c.widen-in-None.ensures
-    ∙ ap (λ l. l ++ 10 ∷ []) (columns_wide c.self.inside.kept.now c.args.self.now f _ refl c.padded.result
-    (columns_in_padded c.self.inside.kept.now c.args.self.now f _ refl c.split_at.result.1.now c.padded.result c.split_at.ensures.back
-    c.padded.ensures))
+    c.widen-in-None.ensures ∙ ap (λ l. l ++ 10 ∷ []) (columns_wide _ _ f _ refl c.padded.result
+    (columns_in_padded _ _ f _ refl c.split_at.result.1.now c.padded.result c.split_at.ensures.back c.padded.ensures))

@@ -3,7 +3,7 @@
 use Rattle.std.proofs.Common.{◌≡◌, ◌∷◌, arith}
 use Rattle.std.proofs.lemmas.Bool.Decides.{nat_tests}
 use Rattle.cif_extract.specs.Call.{before_last}
-use Rattle.cif_extract.proofs.CallLines.{fewer_calls, first_and_rest, first_before_last, first_call}
+use Rattle.cif_extract.proofs.CallLines.{first_and_rest, first_before_last, first_call}
 use Rattle.cif_extract.proofs.call.CallsIterator.next.Goals as goal
 use Rattle.cif_extract.proofs.call.CallsIterator.next.Goals.{After-first-first}
 
