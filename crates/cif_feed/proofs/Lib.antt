@@ -12,3 +12,4 @@ pub mod FeedSteps
 pub mod FeedRuns
 pub mod StrictKinds
 pub mod SpelledFeeds
+pub mod MarkedRecords

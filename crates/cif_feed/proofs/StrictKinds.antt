@@ -24,15 +24,18 @@ use Rattle.cif_feed.specs.declared.mark.Transaction.TheVariants.{New, Revised, D
 
 module _ (line : List ℕ) where
   -- a line with the same first two columns
-  record HasKind (l : List ℕ) : Type 0 where
-    same : columns 1 2 l ≡ columns 1 2 line
-    long : 2 ≤ length l
+  pub record HasKind (l : List ℕ) : Type 0 where
+    pub same : columns 1 2 l ≡ columns 1 2 line
+    pub long : 2 ≤ length l
+
+  pub same_line : 2 ≤ length line → HasKind line
+  same_line long = record { same = refl; long = long }
 
   no_trailer : (l : List ℕ) → HasKind l → IsNoTrailer line → IsNoTrailer l
   no_trailer l has none is = none (ap (λ letters. find (is_identity letters) kinds) (sym has.same) ∙ is)
 
   -- what is written further on keeps them
-  further : (first : ℕ) (written l : List ℕ) → 3 ≤ first → HasKind l → HasKind (with_columns first written l)
+  pub further : (first : ℕ) (written l : List ℕ) → 3 ≤ first → HasKind l → HasKind (with_columns first written l)
   unfolding with_columns
   further first written l from has =
       let front = take (first - 1) l in
@@ -47,10 +50,10 @@ module _ (line : List ℕ) where
   chosen true x y p q = p
   chosen false x y p q = q
 
-  close : (first : ℕ) (l : List ℕ) → 3 ≤ first → HasKind l → HasKind (closed first l)
+  pub close : (first : ℕ) (l : List ℕ) → 3 ≤ first → HasKind l → HasKind (closed first l)
   close first l from has = chosen (is_open first l) _ l (further first (yymmdd_of last_day) l from has) has
 
-  uncode : (code : Option HolidayCode) (l : List ℕ) → HasKind l → HasKind (without code l)
+  pub uncode : (code : Option HolidayCode) (l : List ℕ) → HasKind l → HasKind (without code l)
   uncode None l has = has
   uncode (Some code) l has = further 29 (codes " ") l (omega arith) has
 
@@ -58,21 +61,21 @@ module _ (line : List ℕ) where
   cancel l has = chosen (is_some (stp_in (slice_index l 79))) _ l (further 80 (codes "C") l (omega arith) has) has
 
   module _ (h : Holidays) (itself : HasKind line) where
-    by_association : (t : Option Transaction) → HasKind (update_association_by t line).line
+    pub by_association : (t : Option Transaction) → HasKind (update_association_by t line).line
     by_association None = itself
     by_association (Some New) = close 22 line (omega arith) itself
     by_association (Some Revised) = close 22 _ (omega arith) (further 3 (codes "N") line (omega arith) itself)
     by_association (Some Deleted) =
         further 3 _ _ (omega arith) (further 22 _ _ (omega arith) (further 28 _ _ (omega arith) (further 47 _ _ (omega arith) itself)))
 
-    by_basic : (t : Option Transaction) → HasKind (update_basic_by h t line).line
+    pub by_basic : (t : Option Transaction) → HasKind (update_basic_by h t line).line
     by_basic None = itself
     by_basic (Some New) = uncode _ _ (close 16 line (omega arith) itself)
     by_basic (Some Revised) = uncode _ _ (close 16 _ (omega arith) (further 3 (codes "N") line (omega arith) itself))
     by_basic (Some Deleted) = further 3 _ _ (omega arith)
         (further 16 _ _ (omega arith) (further 22 _ _ (omega arith) (further 29 _ _ (omega arith) (cancel line itself))))
 
-    tiploc_kind : kind_in (strict_tiploc line) ≡ Some Ti
+    pub tiploc_kind : kind_in (strict_tiploc line) ≡ Some Ti
     unfolding with_columns
     tiploc_kind = refl
 
@@ -95,4 +98,4 @@ module _ (line : List ℕ) where
 
 pub said_no_trailer : (feed : Feed) (h : Holidays) (line : List ℕ) → 2 ≤ length line → IsNoTrailer line
     → IsNoTrailer (said feed h line).line
-said_no_trailer feed h line long = by_kind line h (record { same = refl; long = long }) feed (kind_in line)
+said_no_trailer feed h line long = by_kind line h (same_line line long) feed (kind_in line)

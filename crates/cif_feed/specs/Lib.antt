@@ -7,6 +7,7 @@ pub mod HolidayCode
 pub mod HolidayDates
 pub mod HolidayText
 pub mod Holidays
+pub mod Marked
 pub mod Parts
 pub mod Prepared
 pub mod Published

@@ -91,6 +91,19 @@ impl Published {
     }
 }
 
+impl Published {
+    ghost use Rattle.cif_feed.specs.Marked.{HasMarks};
+    ghost use Rattle.cif_feed.specs.SpellsFeed.{PublishedParts, SpellPublished};
+    ghost use Rattle.cif_feed.specs.declared.feed.Feed.{Feed};
+    ghost use Rattle.cif_feed.specs.declared.holidays.Holidays.{Holidays};
+
+    /// A law for proofs: each record has a mark, and an open end is the last day there is.
+    pub fn marks_of_records()
+        ensures { (feed : Feed) (h : Holidays) (contents : List (List ℕ)) (x : PublishedParts)
+            → SpellPublished feed h contents x → HasMarks x }
+    {}
+}
+
 /// What the contents so far have come to.
 #[derive(Drop)]
 pub(crate) struct FeedReading {
