@@ -14,7 +14,7 @@ use Rattle.cif_columns.specs.Field.{columns}
 use Rattle.cif_columns.specs.Line.{IsLine}
 use Rattle.cif_columns.proofs.DayColumns.{yymmdd_in-stands}
 use Rattle.cif_columns.proofs.DayDigits.{stands-yymmdd_of}
-use Rattle.cif_extract.specs.BodyParts.{extra_records, journey_records}
+use Rattle.cif_extract.specs.BodyParts.{extra_records}
 use Rattle.cif_extract.specs.Call.{call_record}
 use Rattle.cif_extract.specs.ExtractParts.{ExtractParts}
 use Rattle.cif_extract.specs.Grammar.{AreExtract, AreJourney, AreSchedule, AreSchedules, HaveBody, records_before_trailer}
@@ -36,11 +36,11 @@ use Rattle.cif_records.specs.declared.record.Record.TheVariants as of
 use Rattle.cif_records.specs.declared.terminus.Terminus.{Terminus}
 use Rattle.cif_records.specs.declared.tiploc.Tiploc.{Tiploc}
 use Rattle.cif_records.proofs.Records.{kind_of, kind_there}
-use Rattle.cif_feed.specs.FeedLines.{association_mark, is_note, marks, said, said_by, schedule_mark, speaks, strict_lines, tiploc_mark}
+use Rattle.cif_feed.specs.FeedLines.{association_mark, is_note, marks, said, said_by, schedule_mark, speaks, tiploc_mark}
 use Rattle.cif_feed.specs.FeedRefusal.{IsFeedContent}
 use Rattle.cif_feed.specs.Marked.{AreMarkedAs, HasMarks}
 use Rattle.cif_feed.specs.SpellsFeed.{PublishedParts, SpellPublished}
-use Rattle.cif_feed.specs.Strict.{closed, code_of, is_open, last_day, strict_association, strict_basic, update_association_by}
+use Rattle.cif_feed.specs.Strict.{closed, code_of, is_open, last_day, update_association_by}
 use Rattle.cif_feed.specs.Strict.{strict_tiploc, update_basic_by, with_columns, without}
 use Rattle.cif_feed.specs.Transaction.{transaction_in}
 use Rattle.cif_feed.specs.declared.feed.Feed.{Feed}
