@@ -63,6 +63,9 @@ last_line f p d some =
     (undecided_not_full f p d some)
     ∙ ap (λ b. line_of (cond b (strip_carriage_return (take (place p) p)) p)) (undecided_no_feed f p d)
 
+pub last_content : (f : Bool) (p : List ℕ) → is_decided f p ≡ false → first_content p ≡ p
+last_content f p d = ap (λ b. cond b (strip_carriage_return (take (place p) p)) p) (undecided_no_feed f p d)
+
 pub last_after : (f : Bool) (p : List ℕ) → is_decided f p ≡ false → after_content p ≡ []
 last_after f p d =
     let none : length p ≤ place p = ltb-false (place p) (length p) (undecided_no_feed f p d) in
@@ -82,7 +85,7 @@ module _ (p more : List ℕ) where
       let feed = feed_stays h in
       ap (λ n. drop (n + 1) (p ++ more)) feed.0 ∙ drop-append-le (place p + 1) p more (omega (arith, feed.1))
 
-  content_more : has_line_feed p ≡ true → first_content (p ++ more) ≡ first_content p
+  pub content_more : has_line_feed p ≡ true → first_content (p ++ more) ≡ first_content p
   content_more h =
       let feed = feed_stays h in
       ap (λ b. cond b (strip_carriage_return (take (place (p ++ more)) (p ++ more))) (p ++ more)) feed.2
@@ -101,7 +104,7 @@ module _ (p more : List ℕ) where
       at true = omega (arith, length-take (length l - 1) l)
       at false = omega arith
 
-  long_content : (q : List ℕ) → 82 ≤ length q → 82 ≤ place q → 80 < length (first_content q)
+  pub long_content : (q : List ℕ) → 82 ≤ length q → 82 ≤ place q → 80 < length (first_content q)
   long_content q long far = at (has_line_feed q) (stripped_long (take (place q) q))
     where
       at : (b : Bool) → length (take (place q) q) ≤ length (strip_carriage_return (take (place q) q)) + 1
@@ -132,6 +135,14 @@ feed_line f held at room is within =
       feed,
       rw room (ap (λ b. line_of (cond b (strip_carriage_return (take (place held) held)) held)) feed
           ∙ ap (λ n. line_of (strip_carriage_return (take n held))) (sym is)),
+    )
+
+pub content_feed : (held : List ℕ) (at : ℕ) → at ≡ place held → at < length held
+    → (has_line_feed held ≡ true) × (first_content held ≡ strip_carriage_return (take at held))
+content_feed held at is within =
+    let feed : has_line_feed held ≡ true = grind (arith, nat_tests) in (
+      feed,
+      ap (λ b. cond b (strip_carriage_return (take (place held) held)) held) feed ∙ ap (λ n. strip_carriage_return (take n held)) (sym is),
     )
 
 pub far_line : (f : Bool) (held : List ℕ) → f ≡ false → 82 ≤ length held → min 82 (length held) ≤ place held

@@ -10,32 +10,31 @@ use Rattle.cif_columns.specs.declared.line_reader.LineReader.{LineReader}
 use Rattle.cif_columns.specs.declared.line_reader.Past.TheVariants.{Reading}
 use Rattle.cif_columns.specs.declared.refusal.Refusal.{Refusal}
 use Rattle.cif_columns.specs.declared.source.Source.{Source}
-use Rattle.cif_columns.specs.Contents.{contents_of, HasLineReason, DecidesNothing}
-use Rattle.cif_columns.specs.Line.{IsLine}
+use Rattle.cif_columns.specs.Contents.{contents_of, HasLineReason, DecidesNothing, IsFirstContent}
 use Rattle.cif_columns.specs.Source.{source_ended, unread_of}
-use Rattle.cif_columns.specs.LineReader.{held, given, limit, past, left, GivenDecide, IsNext, IsNextLine, Answers}
-use Rattle.cif_columns.specs.GivenLines.{AreWholeLinesAndRest, KnownGiven, IsReading, AreAllLines, AreLinesToRefusal, AreLinesToFailure}
-use Rattle.cif_columns.specs.GivenLines.{AreLinesToFault, EndsLine, IsLineDecided}
+use Rattle.cif_columns.specs.LineReader.{held, given, limit, past, left, GivenDecide, IsNext, Answers}
+use Rattle.cif_columns.specs.GivenLines.{AreWholeContentsAndRest, KnownContents, IsReadingContents, AreAllContents, AreContentsToRefusal}
+use Rattle.cif_columns.specs.GivenLines.{AreContentsToFailure, AreContentsToFault, EndsLine, IsContentDecided, IsReading}
 use Rattle.cif_columns.proofs.WholeLines.{lines_whole, piece_of, ends_after, ends_before, lines_piece}
 use mathlib.Core.Logic.{◌⊎◌, inl, inr}
 
 -- ---- known bytes
 
-none_given : (bytes : List ℕ) → AreWholeLinesAndRest bytes [] bytes
+none_given : {P : List ℕ → Type 0} (bytes : List ℕ) → AreWholeContentsAndRest P bytes [] bytes
 none_given bytes = record { whole = []; parts = refl; ended = inl refl; contents = refl; are_lines = λ k d below. absurd (omega arith) }
 
 -- the contents of the bytes are the lines that were given and the contents of the rest
-pub contents_given : (bytes : List ℕ) (ls : List (List ℕ)) (rest : List ℕ) → AreWholeLinesAndRest bytes ls rest
+pub contents_given : {P : List ℕ → Type 0} (bytes : List ℕ) (ls : List (List ℕ)) (rest : List ℕ) → AreWholeContentsAndRest P bytes ls rest
     → contents_of bytes ≡ ls ++ contents_of rest
 contents_given bytes ls rest so_far =
     ap lines so_far.parts ∙ lines_whole so_far.whole rest so_far.ended ∙ ap (λ l. l ++ lines rest) so_far.contents
 
-one_more : (max count : ℕ) (bytes : List ℕ) (ls : List (List ℕ)) (rest line rest' : List ℕ) → AreWholeLinesAndRest bytes ls rest
-    → IsNextLine max count rest line rest'
-    → AreWholeLinesAndRest bytes (ls ++ line ∷ []) rest'
-one_more max count bytes ls rest line rest' so_far next =
-    let (piece, parts, ended) = piece_of rest line rest' next.stands in
-    let one = lines_piece piece rest' line ended (ap lines (sym parts) ∙ next.contents) in
+one_more : {P : List ℕ → Type 0} (bytes : List ℕ) (ls : List (List ℕ)) (rest content rest' : List ℕ)
+    → AreWholeContentsAndRest P bytes ls rest → P content → IsFirstContent rest content rest'
+    → AreWholeContentsAndRest P bytes (ls ++ content ∷ []) rest'
+one_more {P} bytes ls rest content rest' so_far is next =
+    let (piece, parts, ended) = piece_of rest content rest' next.stands in
+    let one = lines_piece piece rest' content ended (ap lines (sym parts) ∙ next.contents) in
     let front : (so_far.whole ≡ []) ⊎ EndsLine so_far.whole (piece ++ rest') =
     subst (λ l. (so_far.whole ≡ []) ⊎ EndsLine so_far.whole l) parts so_far.ended in
     record {
@@ -44,7 +43,7 @@ one_more max count bytes ls rest line rest' so_far next =
       ended = inr (ends_after so_far.whole piece rest' ended);
       contents = lines_whole so_far.whole piece (ends_before so_far.whole piece rest' front) ∙ ap (λ l. l ++ lines piece) so_far.contents
           ∙ ap (λ l. ls ++ l) one;
-      are_lines = All-push IsLine ls line so_far.are_lines next.is_line;
+      are_lines = All-push P ls content so_far.are_lines is;
     }
 
 -- the bytes that are held are a prefix of those that are left, and the others are those that the reader has
@@ -56,9 +55,9 @@ held_front hold rest (Some unread) e =
     (unread, refl, sym same)
 
 -- the bytes that the source gave are the whole lines so far, and these behind them
-given_front : (bytes : List ℕ) (ls : List (List ℕ)) (rest front unread : List ℕ) → rest ≡ front ++ unread
-    → (so_far : AreWholeLinesAndRest bytes ls rest)
-    → (bytes ≡ (so_far.whole ++ front) ++ unread) × AreWholeLinesAndRest (so_far.whole ++ front) ls front
+given_front : {P : List ℕ → Type 0} (bytes : List ℕ) (ls : List (List ℕ)) (rest front unread : List ℕ) → rest ≡ front ++ unread
+    → (so_far : AreWholeContentsAndRest P bytes ls rest)
+    → (bytes ≡ (so_far.whole ++ front) ++ unread) × AreWholeContentsAndRest P (so_far.whole ++ front) ls front
 given_front bytes ls rest front unread parts so_far = (
   so_far.parts ∙ ap (λ l. so_far.whole ++ l) parts ∙ sym (append_assoc so_far.whole front unread),
   record {
@@ -91,47 +90,48 @@ all_given (b ∷ held) (Some bytes) e = cc
 
 module _ {R : Type 0} (remaining : R → Option (List ℕ)) where
   -- a new reader
-  pub reading_starts : (max : ℕ) (reader : LineReader) (source : Source R) → held reader ≡ [] → given reader ≡ 0 → limit reader ≡ max
+  pub reading_starts : {P : List ℕ → Type 0} (max : ℕ) (reader : LineReader) (source : Source R) → held reader ≡ [] → given reader ≡ 0 → limit reader ≡ max
       → past reader ≡ Reading
-      → IsReading remaining (remaining source.reader) max reader source []
-  reading_starts max reader source empty zero same going = record {
+      → IsReadingContents P remaining (remaining source.reader) max reader source []
+  reading_starts {P} max reader source empty zero same going = record {
     reads_on = going;
     same_limit = same;
     counted = zero;
     known = at (remaining source.reader) (left remaining reader source) (ap (λ l. prepend_known l (remaining source.reader)) empty);
   }
     where
-      at : (start rest : Option (List ℕ)) → rest ≡ prepend_known [] start → KnownGiven start [] rest
+      at : (start rest : Option (List ℕ)) → rest ≡ prepend_known [] start → KnownContents P start [] rest
       at None rest e = tt
-      at (Some bytes) rest e = subst (λ r. IsSomeAnd r (λ others. AreWholeLinesAndRest bytes [] others)) (sym e) (none_given bytes)
+      at (Some bytes) rest e = subst (λ r. IsSomeAnd r (λ others. AreWholeContentsAndRest P bytes [] others)) (sym e) (none_given bytes)
 
-  module _ (start : Option (List ℕ)) (max : ℕ) (reader : LineReader) (source : Source R) (ls : List (List ℕ))
-      (so_far : IsReading remaining start max reader source ls) where
+  module _ {P : List ℕ → Type 0} (start : Option (List ℕ)) (max : ℕ) (reader : LineReader) (source : Source R) (ls : List (List ℕ))
+      (so_far : IsReadingContents P remaining start max reader source ls) where
     within : length ls ≤ max
     within = omega (arith, so_far.counted, so_far.same_limit, reader.counted)
 
     module _ (reader' : LineReader) (source' : Source R) where
-      -- a line more
-      pub reading_line : (line : List ℕ)
+      -- a content more
+      pub reading_content : (content : List ℕ)
           → (past reader ≡ Reading → IfSome (left remaining reader source)
-          (λ bytes. Answers (limit reader) (given reader) bytes (Ok (Some line)) (left remaining reader' source')))
+          (λ bytes. P content × ((rest : List ℕ) × (left remaining reader' source' ≡ Some rest) × IsFirstContent bytes content rest)))
           → past reader' ≡ Reading → limit reader' ≡ limit reader → given reader' ≡ given reader + 1
-          → IsReading remaining start max reader' source' (ls ++ line ∷ [])
-      reading_line line answer going same more = record {
+          → IsReadingContents P remaining start max reader' source' (ls ++ content ∷ [])
+      reading_content content answer going same more = record {
         reads_on = going;
         same_limit = same ∙ so_far.same_limit;
-        counted = omega (arith, more, so_far.counted, length-append ls (line ∷ []));
+        counted = omega (arith, more, so_far.counted, length-append ls (content ∷ []));
         known = at start (left remaining reader source) so_far.known (answer so_far.reads_on);
       }
         where
-          at : (start rest : Option (List ℕ)) → KnownGiven start ls rest
-              → IfSome rest (λ bytes. Answers (limit reader) (given reader) bytes (Ok (Some line)) (left remaining reader' source'))
-              → KnownGiven start (ls ++ line ∷ []) (left remaining reader' source')
+          at : (start rest : Option (List ℕ)) → KnownContents P start ls rest
+              → IfSome rest
+              (λ bytes. P content × ((rest : List ℕ) × (left remaining reader' source' ≡ Some rest) × IsFirstContent bytes content rest))
+              → KnownContents P start (ls ++ content ∷ []) (left remaining reader' source')
           at None rest known next = tt
           at (Some bytes) None known next = absurd known
           at (Some bytes) (Some rest) known next =
-              subst (λ r. IsSomeAnd r (λ others. AreWholeLinesAndRest bytes (ls ++ line ∷ []) others)) (sym next.1)
-              (one_more (limit reader) (given reader) bytes ls rest line next.0 known next.2)
+              subst (λ r. IsSomeAnd r (λ others. AreWholeContentsAndRest P bytes (ls ++ content ∷ []) others)) (sym next.1.1)
+              (one_more bytes ls rest content next.1.0 known next.0 next.1.2)
 
       -- at the end of the input nothing is left, where the bytes were known
       pub nothing_left : (past reader ≡ Reading → IfSome (left remaining reader source)
@@ -139,7 +139,7 @@ module _ {R : Type 0} (remaining : R → Option (List ℕ)) where
           → IfSome start (λ bytes. remaining source'.reader ≡ Some [])
       nothing_left answer = at start (left remaining reader source) so_far.known (answer so_far.reads_on)
         where
-          at : (start rest : Option (List ℕ)) → KnownGiven start ls rest
+          at : (start rest : Option (List ℕ)) → KnownContents P start ls rest
               → IfSome rest (λ bytes. Answers (limit reader) (given reader) bytes (Ok None) (left remaining reader' source'))
               → IfSome start (λ bytes. remaining source'.reader ≡ Some [])
           at None rest known next = tt
@@ -149,12 +149,12 @@ module _ {R : Type 0} (remaining : R → Option (List ℕ)) where
       -- the end of the input
       pub reading_ends : (past reader ≡ Reading → IfSome (left remaining reader source)
           (λ bytes. Answers (limit reader) (given reader) bytes (Ok None) (left remaining reader' source')))
-          → IfSome start (λ bytes. AreAllLines max bytes ls)
+          → IfSome start (λ bytes. AreAllContents P max bytes ls)
       reading_ends answer = at start (left remaining reader source) so_far.known (answer so_far.reads_on)
         where
-          at : (start rest : Option (List ℕ)) → KnownGiven start ls rest
+          at : (start rest : Option (List ℕ)) → KnownContents P start ls rest
               → IfSome rest (λ bytes. Answers (limit reader) (given reader) bytes (Ok None) (left remaining reader' source'))
-              → IfSome start (λ bytes. AreAllLines max bytes ls)
+              → IfSome start (λ bytes. AreAllContents P max bytes ls)
           at None rest known next = tt
           at (Some bytes) None known next = absurd known
           at (Some bytes) (Some rest) known next = record {
@@ -167,13 +167,13 @@ module _ {R : Type 0} (remaining : R → Option (List ℕ)) where
       pub reading_refuses : (number : ℕ) (why : Refusal)
           → (past reader ≡ Reading → IfSome (left remaining reader source)
           (λ bytes. Answers (limit reader) (given reader) bytes (Err (Refused number why)) (left remaining reader' source')))
-          → IfSome start (λ bytes. AreLinesToRefusal max bytes ls number why)
+          → IfSome start (λ bytes. AreContentsToRefusal P max bytes ls number why)
       reading_refuses number why answer = at start (left remaining reader source) so_far.known (answer so_far.reads_on)
         where
-          at : (start rest : Option (List ℕ)) → KnownGiven start ls rest
+          at : (start rest : Option (List ℕ)) → KnownContents P start ls rest
               → IfSome rest (λ bytes. Answers (limit reader) (given reader) bytes (Err (Refused number why))
               (left remaining reader' source'))
-              → IfSome start (λ bytes. AreLinesToRefusal max bytes ls number why)
+              → IfSome start (λ bytes. AreContentsToRefusal P max bytes ls number why)
           at None rest known next = tt
           at (Some bytes) None known next = absurd known
           at (Some bytes) (Some rest) known next = record {
@@ -190,18 +190,18 @@ module _ {R : Type 0} (remaining : R → Option (List ℕ)) where
       pub reading_fails : (past reader ≡ Reading → IfSome (left remaining reader source)
           (λ bytes. Answers (limit reader) (given reader) bytes (Err Read) (left remaining reader' source')))
           → DecidesNothing (limit reader) (given reader) (held reader')
-          → IfSome start (λ bytes. IsSomeAnd (remaining source'.reader) (λ unread. AreLinesToFailure max bytes unread ls))
+          → IfSome start (λ bytes. IsSomeAnd (remaining source'.reader) (λ unread. AreContentsToFailure P max bytes unread ls))
       reading_fails answer undecided = at start (left remaining reader source) so_far.known (answer so_far.reads_on)
         where
-          at : (start rest : Option (List ℕ)) → KnownGiven start ls rest
+          at : (start rest : Option (List ℕ)) → KnownContents P start ls rest
               → IfSome rest (λ bytes. Answers (limit reader) (given reader) bytes (Err Read) (left remaining reader' source'))
-              → IfSome start (λ bytes. IsSomeAnd (remaining source'.reader) (λ unread. AreLinesToFailure max bytes unread ls))
+              → IfSome start (λ bytes. IsSomeAnd (remaining source'.reader) (λ unread. AreContentsToFailure P max bytes unread ls))
           at None rest known next = tt
           at (Some bytes) None known next = absurd known
           at (Some bytes) (Some rest) known next =
               let (unread, is, parts) = held_front (held reader') rest (remaining source'.reader) next in
               let gave = given_front bytes ls rest (held reader') unread parts known in
-              subst (λ r. IsSomeAnd r (λ others. AreLinesToFailure max bytes others ls)) (sym is) (record {
+              subst (λ r. IsSomeAnd r (λ others. AreContentsToFailure P max bytes others ls)) (sym is) (record {
                 before = known.whole ++ held reader';
                 rest = held reader';
                 parts = gave.0;
@@ -216,12 +216,12 @@ module _ {R : Type 0} (remaining : R → Option (List ℕ)) where
           → (source_ended source' ≡ false
           → GivenDecide (limit reader) (given reader) (left remaining reader source) (remaining source'.reader))
           → IfSome start (λ bytes. source_ended source' ≡ false
-          → IsSomeAnd (remaining source'.reader) (λ unread. IsLineDecided max bytes unread number))
+          → IsSomeAnd (remaining source'.reader) (λ unread. IsContentDecided P max bytes unread number))
       reading_decides number is decides = at start (left remaining reader source) so_far.known decides
         where
-          by : (bytes rest : List ℕ) (unread : Option (List ℕ)) → AreWholeLinesAndRest bytes ls rest
+          by : (bytes rest : List ℕ) (unread : Option (List ℕ)) → AreWholeContentsAndRest P bytes ls rest
               → GivenDecide (limit reader) (given reader) (Some rest) unread
-              → IsSomeAnd unread (λ others. IsLineDecided max bytes others number)
+              → IsSomeAnd unread (λ others. IsContentDecided P max bytes others number)
           by bytes rest None known gave = absurd gave.parts
           by bytes rest (Some unread) known gave =
               let front = given_front bytes ls rest gave.given unread (sym gave.parts) known in
@@ -236,10 +236,10 @@ module _ {R : Type 0} (remaining : R → Option (List ℕ)) where
                     (subst (λ n. ¬ DecidesNothing (limit reader) n gave.given) so_far.counted gave.decided);
               }
 
-          at : (start rest : Option (List ℕ)) → KnownGiven start ls rest
+          at : (start rest : Option (List ℕ)) → KnownContents P start ls rest
               → (source_ended source' ≡ false → GivenDecide (limit reader) (given reader) rest (remaining source'.reader))
               → IfSome start (λ bytes. source_ended source' ≡ false
-              → IsSomeAnd (remaining source'.reader) (λ unread. IsLineDecided max bytes unread number))
+              → IsSomeAnd (remaining source'.reader) (λ unread. IsContentDecided P max bytes unread number))
           at None rest known decides = tt
           at (Some bytes) None known decides = absurd known
           at (Some bytes) (Some rest) known decides = λ not. by bytes rest (remaining source'.reader) known (decides not)
@@ -247,8 +247,20 @@ module _ {R : Type 0} (remaining : R → Option (List ℕ)) where
       -- either fault
       pub reading_faults : (errors : R → Option ℕ) (fault : LineFault)
           → IsNext remaining errors reader source (Err fault) reader' source'
-          → IfSome start (λ bytes. AreLinesToFault max bytes (unread_of remaining source') ls fault)
+          → IfSome start (λ bytes. AreContentsToFault P max bytes (unread_of remaining source') ls fault)
       reading_faults errors (Refused number why) next =
           known_both start _ _ (reading_refuses number why next.answer)
           (reading_decides number (next.fault so_far.reads_on).0 (next.decided so_far.reads_on (λ is. cc)))
       reading_faults errors Read next = reading_fails next.answer (next.undecided so_far.reads_on refl)
+
+  -- a line more
+  pub reading_line : (start : Option (List ℕ)) (max : ℕ) (reader : LineReader) (source : Source R) (ls : List (List ℕ))
+      → IsReading remaining start max reader source ls → (reader' : LineReader) (source' : Source R) (line : List ℕ)
+      → (past reader ≡ Reading → IfSome (left remaining reader source)
+      (λ bytes. Answers (limit reader) (given reader) bytes (Ok (Some line)) (left remaining reader' source')))
+      → past reader' ≡ Reading → limit reader' ≡ limit reader → given reader' ≡ given reader + 1
+      → IsReading remaining start max reader' source' (ls ++ line ∷ [])
+  reading_line start max reader source ls so_far reader' source' line answer =
+      reading_content start max reader source ls so_far reader' source' line (λ going.
+      known_so (left remaining reader source) _ _
+      (λ bytes next. (next.2.is_line, (next.0, next.1, record { stands = next.2.stands; contents = next.2.contents }))) (answer going))

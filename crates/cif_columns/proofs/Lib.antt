@@ -1,5 +1,7 @@
 pub mod Codes
 pub mod ColumnReads
+pub mod Comments
+pub mod ContentReads
 pub mod Dates
 pub mod DayColumns
 pub mod DayDigits

@@ -49,7 +49,7 @@ stripped part line is = at (nat_eq (slice_index part (length part - 1)) 13) refl
     at true w is = inr (last_return part (eqb-true _ 13 (sym w)) ∙ ap (λ l. l ++ 13 ∷ []) is)
     at false w is = inl is
 
-stands : (bytes line : List ℕ) → first_content bytes ≡ line → StandsFirst bytes line (after_content bytes)
+pub stands : (bytes line : List ℕ) → first_content bytes ≡ line → StandsFirst bytes line (after_content bytes)
 stands bytes line is = at (has_line_feed bytes) refl is
   where
     at : (b : Bool) → b ≡ has_line_feed bytes → cond b (strip_carriage_return (before_first is_line_feed bytes)) bytes ≡ line

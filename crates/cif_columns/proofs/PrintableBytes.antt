@@ -30,6 +30,14 @@ printable_true xs h = list_all-from_AllPass is_printable xs (λ k d lt. test_tru
 pub printable_fact : (xs : List ℕ) → list_all is_printable xs ≡ true → ArePrintable xs
 printable_fact xs h = λ k d lt. test_fact _ (AllPass-from_list_all is_printable xs h k d lt)
 
+pub all_printable : (r : Bool) (xs : List ℕ) → IsTrue r ↔ ArePrintable xs → r ≡ list_all is_printable xs
+all_printable true xs h = sym (printable_true xs (h.0 refl))
+all_printable false xs h = at (list_all is_printable xs) refl
+  where
+    at : (t : Bool) → t ≡ list_all is_printable xs → false ≡ t
+    at true e = h.1 (printable_fact xs (sym e))
+    at false e = refl
+
 -- what a line that was found tells of the test
 pub tested : (line : Option (List ℕ)) (xs : List ℕ) → SomeIff line (ArePrintable xs) xs → IsSome line → list_all is_printable xs ≡ true
 tested (Some line) xs h found = printable_true xs h.0

@@ -1,12 +1,16 @@
 -- What is read ahead of the lines, and what is found first in it.
-use Rattle.std.specs.Prelude.{◌≡◌, ℕ, ◌<◌, Bool, true, List, [], length, slice_range, Option, Some, Result, Ok, Err}
+use Rattle.std.specs.Prelude.{◌≡◌, ℕ, ◌<◌, ◌++◌, Bool, true, false, List, [], length, slice_range, Option, Some, Result, Ok, Err}
 use Rattle.std.specs.Io.KnownBytes.{Keeps, prepend_known}
 use Rattle.cif_columns.specs.declared.ahead.Ahead.{Ahead}
+use Rattle.cif_columns.specs.declared.ahead.First.{First}
+use Rattle.cif_columns.specs.declared.ahead.First.TheVariants as first
 use Rattle.cif_columns.specs.declared.ahead.Found.{Found}
 use Rattle.cif_columns.specs.declared.ahead.Found.TheVariants.{Next, End, Refused, Failed}
 use Rattle.cif_columns.specs.declared.refusal.Refusal.{Refusal}
+use Rattle.cif_columns.specs.declared.source.ReadFault.{ReadFault}
 use Rattle.cif_columns.specs.declared.source.Source.{Source}
-use Rattle.cif_columns.specs.FirstLine.{first_line, after_content, has_line_feed, is_decided}
+use Rattle.cif_columns.specs.Comment.{is_comment}
+use Rattle.cif_columns.specs.FirstLine.{first_content, first_line, after_content, has_line_feed, is_decided}
 use Rattle.cif_columns.specs.Source.{HasFailedToRead, HasReadOn}
 
 -- the bytes that are read and not yet given
@@ -62,3 +66,23 @@ IfRefused (Next line) P = Unit {0}
 IfRefused End P = Unit {0}
 IfRefused (Refused why) P = P why
 IfRefused Failed P = Unit {0}
+
+-- what the held bytes decide of a comment that may stand first, whatever follows them, and what is held after it
+abbrev pub DecidesComment : List ℕ → First → List ℕ → Type 0
+DecidesComment held first.Comment rest = (has_line_feed held ≡ true) × (is_comment (first_content held) ≡ true) × (rest ≡ after_content held)
+DecidesComment held first.End rest = ⊥
+DecidesComment held first.Other rest =
+    (0 < length held) × (rest ≡ held) × ((more : List ℕ) → is_comment (first_content (held ++ more)) ≡ false)
+
+-- what stands first in bytes, and what is left after a comment; a failure leaves all
+abbrev pub FindsComment : List ℕ → Result First ReadFault → Option (List ℕ) → Type 0
+FindsComment bytes (Ok first.Comment) rest =
+    (0 < length bytes) × (is_comment (first_content bytes) ≡ true) × (rest ≡ Some (after_content bytes))
+FindsComment bytes (Ok first.End) rest = (bytes ≡ []) × (rest ≡ Some [])
+FindsComment bytes (Ok first.Other) rest = (0 < length bytes) × (is_comment (first_content bytes) ≡ false) × (rest ≡ Some bytes)
+FindsComment bytes (Err fault) rest = rest ≡ Some bytes
+
+-- what finding it owes the source
+abbrev pub FirstReads : {R : Type 0} → (R → Option ℕ) → Source R → Source R → Result First ReadFault → Type 0
+FirstReads errors old new (Ok first) = HasReadOn errors old new
+FirstReads errors old new (Err fault) = HasFailedToRead errors old new

@@ -19,6 +19,11 @@ lines_text lines = flat_map (λ line. line ++ (10 ∷ [])) lines
 abbrev pub StandsFirst : List ℕ → List ℕ → List ℕ → Type 0
 StandsFirst bytes line rest = (bytes ≡ line ++ 10 ∷ rest) ⊎ ((bytes ≡ line ++ 13 ∷ 10 ∷ rest) ⊎ ((bytes ≡ line) × (rest ≡ [])))
 
+-- it is the first content of the bytes, and rest is left after it
+pub record IsFirstContent (bytes content rest : List ℕ) : Type 0 where
+  pub stands : StandsFirst bytes content rest
+  pub contents : contents_of bytes ≡ content ∷ contents_of rest
+
 -- why the content of this number, counted from 1, is refused where max lines may come: of the three reasons the first
 abbrev pub HasLineReason : ℕ → ℕ → List ℕ → Refusal → Type 0
 HasLineReason max number content TooManyLines = max < number

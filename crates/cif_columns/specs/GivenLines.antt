@@ -1,4 +1,4 @@
--- The lines that a `LineReader` gives of bytes, one after another, and how that ends.
+-- The contents that a `LineReader` gives of bytes, one after another, and how that ends: contents of which P holds, and so lines alone.
 use Rattle.std.specs.Prelude.{◌≡◌, ◌⊎◌, ℕ, ◌+◌, ◌≤◌, List, [], ◌∷◌, ◌++◌, length, All, Option, IfSome, IsSomeAnd, false}
 use Rattle.cif_columns.specs.declared.refusal.LineFault.{LineFault}
 use Rattle.cif_columns.specs.declared.refusal.LineFault.TheVariants.{Refused, Read}
@@ -15,69 +15,98 @@ use Rattle.cif_columns.specs.Source.{Unread}
 abbrev pub EndsLine : List ℕ → List ℕ → Type 0
 EndsLine bytes after = ((front : List ℕ) × (bytes ≡ front ++ 10 ∷ [])) ⊎ (after ≡ [])
 
--- the bytes are these whole lines, each with its ending, and then a rest
-pub record AreWholeLinesAndRest (bytes : List ℕ) (lines : List (List ℕ)) (rest : List ℕ) : Type 0 where
+-- the bytes are these whole contents, each with its ending, and then a rest
+pub record AreWholeContentsAndRest (P : List ℕ → Type 0) (bytes : List ℕ) (lines : List (List ℕ)) (rest : List ℕ) : Type 0 where
   pub whole : List ℕ
   pub parts : bytes ≡ whole ++ rest
   pub ended : (whole ≡ []) ⊎ EndsLine whole rest
   pub contents : contents_of whole ≡ lines
-  pub are_lines : All IsLine lines
+  pub are_lines : All P lines
 
 -- the same, where the bytes at the start are known, and with them what is left
-abbrev pub KnownGiven : Option (List ℕ) → List (List ℕ) → Option (List ℕ) → Type 0
-KnownGiven start lines rest = IfSome start (λ bytes. IsSomeAnd rest (λ others. AreWholeLinesAndRest bytes lines others))
+abbrev pub KnownContents : (List ℕ → Type 0) → Option (List ℕ) → List (List ℕ) → Option (List ℕ) → Type 0
+KnownContents P start lines rest = IfSome start (λ bytes. IsSomeAnd rest (λ others. AreWholeContentsAndRest P bytes lines others))
 
--- The reader reads on within this limit. These are the lines that it has given so far of the bytes that were left at the start.
-pub record IsReading {R : Type 0} (remaining : R → Option (List ℕ)) (start : Option (List ℕ)) (max : ℕ) (reader : LineReader)
+-- The reader reads on within this limit. These are the contents that it has given so far of the bytes that were left at the start.
+pub record IsReadingContents (P : List ℕ → Type 0) {R : Type 0} (remaining : R → Option (List ℕ)) (start : Option (List ℕ)) (max : ℕ) (reader : LineReader)
     (source : Source R) (lines : List (List ℕ)) : Type 0 where
   pub reads_on : past reader ≡ Reading
   pub same_limit : limit reader ≡ max
   pub counted : given reader ≡ length lines
-  pub known : KnownGiven start lines (left remaining reader source)
+  pub known : KnownContents P start lines (left remaining reader source)
 
--- the contents of the bytes are these lines, at most max
-pub record AreAllLines (max : ℕ) (bytes : List ℕ) (lines : List (List ℕ)) : Type 0 where
+-- the contents of the bytes are these, at most max
+pub record AreAllContents (P : List ℕ → Type 0) (max : ℕ) (bytes : List ℕ) (lines : List (List ℕ)) : Type 0 where
   pub contents : contents_of bytes ≡ lines
-  pub are_lines : All IsLine lines
+  pub are_lines : All P lines
   pub within : length lines ≤ max
 
--- the contents of the bytes begin with these lines, at most max, and the next is refused, with its number and the reason
-pub record AreLinesToRefusal (max : ℕ) (bytes : List ℕ) (lines : List (List ℕ)) (number : ℕ) (why : Refusal) : Type 0 where
+-- the contents of the bytes begin with these, at most max, and the next is refused, with its number and the reason
+pub record AreContentsToRefusal (P : List ℕ → Type 0) (max : ℕ) (bytes : List ℕ) (lines : List (List ℕ)) (number : ℕ) (why : Refusal) : Type 0 where
   pub content : List ℕ
   pub others : List (List ℕ)
   pub contents : contents_of bytes ≡ lines ++ content ∷ others
-  pub are_lines : All IsLine lines
+  pub are_lines : All P lines
   pub within : length lines ≤ max
   pub next : number ≡ length lines + 1
   pub reason : HasLineReason max number content why
 
--- Before it failed the source gave all of the bytes but those unread. What it gave are these whole lines, at most max, and a rest,
+-- Before it failed the source gave all of the bytes but those unread. What it gave are these whole contents, at most max, and a rest,
 -- which decides no line.
-pub record AreLinesToFailure (max : ℕ) (bytes unread : List ℕ) (lines : List (List ℕ)) : Type 0 where
+pub record AreContentsToFailure (P : List ℕ → Type 0) (max : ℕ) (bytes unread : List ℕ) (lines : List (List ℕ)) : Type 0 where
   pub before : List ℕ
   pub rest : List ℕ
   pub parts : bytes ≡ before ++ unread
-  pub whole_lines_and_rest : AreWholeLinesAndRest before lines rest
+  pub whole_lines_and_rest : AreWholeContentsAndRest P before lines rest
   pub within : length lines ≤ max
   pub undecided : DecidesNothing max (length lines) rest
 
--- The line of this number, where at most max may come, is decided by what the source gave: all of the bytes but those unread. These are
--- the lines before it and a rest, which decides it.
-pub record IsLineDecided (max : ℕ) (bytes unread : List ℕ) (number : ℕ) : Type 0 where
+-- The content of this number, where at most max may come, is decided by what the source gave: all of the bytes but those unread. These
+-- are the contents before it and a rest, which decides it.
+pub record IsContentDecided (P : List ℕ → Type 0) (max : ℕ) (bytes unread : List ℕ) (number : ℕ) : Type 0 where
   pub lines : List (List ℕ)
   pub before : List ℕ
   pub rest : List ℕ
   pub parts : bytes ≡ before ++ unread
-  pub whole_lines_and_rest : AreWholeLinesAndRest before lines rest
+  pub whole_lines_and_rest : AreWholeContentsAndRest P before lines rest
   pub numbered : number ≡ length lines + 1
   pub decided : ¬ DecidesNothing max (length lines) rest
 
--- The line of this number is decided, whatever follows: by what the source gave of the bytes, or else by the end that it told.
-abbrev pub IsDecided : ℕ → List ℕ → Unread → ℕ → Type 0
-IsDecided max bytes after number = after.ended ≡ false → IsSomeAnd after.bytes (λ unread. IsLineDecided max bytes unread number)
+-- The content of this number is decided, whatever follows: by what the source gave of the bytes, or else by the end that it told.
+abbrev pub IsContentDecidedOrLast : (List ℕ → Type 0) → ℕ → List ℕ → Unread → ℕ → Type 0
+IsContentDecidedOrLast P max bytes after number = after.ended ≡ false → IsSomeAnd after.bytes (λ unread. IsContentDecided P max bytes unread number)
 
--- the lines that were given of the bytes before this fault, where `after` is left then
+-- the contents that were given of the bytes before this fault, where `after` is left then
+abbrev pub AreContentsToFault : (List ℕ → Type 0) → ℕ → List ℕ → Unread → List (List ℕ) → LineFault → Type 0
+AreContentsToFault P max bytes after lines (Refused number why) =
+    AreContentsToRefusal P max bytes lines number why × IsContentDecidedOrLast P max bytes after number
+AreContentsToFault P max bytes after lines Read = IsSomeAnd after.bytes (λ unread. AreContentsToFailure P max bytes unread lines)
+
+-- ---- lines alone
+
+abbrev pub AreWholeLinesAndRest : List ℕ → List (List ℕ) → List ℕ → Type 0
+AreWholeLinesAndRest bytes lines rest = AreWholeContentsAndRest IsLine bytes lines rest
+
+abbrev pub KnownGiven : Option (List ℕ) → List (List ℕ) → Option (List ℕ) → Type 0
+KnownGiven start lines rest = KnownContents IsLine start lines rest
+
+abbrev pub IsReading : {R : Type 0} → (R → Option (List ℕ)) → Option (List ℕ) → ℕ → LineReader → Source R → List (List ℕ) → Type 0
+IsReading remaining start max reader source lines = IsReadingContents IsLine remaining start max reader source lines
+
+abbrev pub AreAllLines : ℕ → List ℕ → List (List ℕ) → Type 0
+AreAllLines max bytes lines = AreAllContents IsLine max bytes lines
+
+abbrev pub AreLinesToRefusal : ℕ → List ℕ → List (List ℕ) → ℕ → Refusal → Type 0
+AreLinesToRefusal max bytes lines number why = AreContentsToRefusal IsLine max bytes lines number why
+
+abbrev pub AreLinesToFailure : ℕ → List ℕ → List ℕ → List (List ℕ) → Type 0
+AreLinesToFailure max bytes unread lines = AreContentsToFailure IsLine max bytes unread lines
+
+abbrev pub IsLineDecided : ℕ → List ℕ → List ℕ → ℕ → Type 0
+IsLineDecided max bytes unread number = IsContentDecided IsLine max bytes unread number
+
+abbrev pub IsDecided : ℕ → List ℕ → Unread → ℕ → Type 0
+IsDecided max bytes after number = IsContentDecidedOrLast IsLine max bytes after number
+
 abbrev pub AreLinesToFault : ℕ → List ℕ → Unread → List (List ℕ) → LineFault → Type 0
-AreLinesToFault max bytes after lines (Refused number why) =
-    AreLinesToRefusal max bytes lines number why × IsDecided max bytes after number
-AreLinesToFault max bytes after lines Read = IsSomeAnd after.bytes (λ unread. AreLinesToFailure max bytes unread lines)
+AreLinesToFault max bytes after lines fault = AreContentsToFault IsLine max bytes after lines fault

@@ -1,6 +1,7 @@
 pub mod Activities
 pub mod Ahead
 pub mod Clock
+pub mod Comment
 pub mod Contents
 pub mod Day
 pub mod DayDigits

@@ -1,8 +1,13 @@
 -- What a clause reads of a `LineReader`, and what a `next` answers.
 use Rattle.std.specs.Prelude.{◌≡◌, ℕ, ◌+◌, ◌<◌, Bool, true, false, List, [], ◌∷◌, Option, None, Some, Result, Ok, Err}
+use Rattle.std.specs.Prelude.{if◌then◌else◌}
 use Rattle.std.specs.Prelude.{◌≢◌, IfErr, IfOk, IfSome, OnErr, OnSome, drop, length, slice_index, take}
 use Rattle.std.specs.Io.KnownBytes.{Keeps, prepend_known}
+use Rattle.cif_columns.specs.declared.ahead.First.{First}
+use Rattle.cif_columns.specs.declared.ahead.First.TheVariants as first
 use Rattle.cif_columns.specs.declared.line.Line.{Line}
+use Rattle.cif_columns.specs.declared.line_reader.Content.{Content}
+use Rattle.cif_columns.specs.declared.line_reader.Content.TheVariants as content
 use Rattle.cif_columns.specs.declared.line_reader.LineReader.{LineReader}
 use Rattle.cif_columns.specs.declared.refusal.LineFault.{LineFault}
 use Rattle.cif_columns.specs.declared.refusal.LineFault.TheVariants.{Refused, Read}
@@ -11,7 +16,9 @@ use Rattle.cif_columns.specs.declared.line_reader.Past.TheVariants.{Reading, End
 use Rattle.cif_columns.specs.declared.refusal.Refusal.{Refusal}
 use Rattle.cif_columns.specs.declared.source.Source.{Source}
 use Rattle.cif_columns.specs.Ahead.{held_bytes, known_left}
-use Rattle.cif_columns.specs.Contents.{DecidesNothing, contents_of, StandsFirst, HasLineReason, IsLineReason}
+use Rattle.cif_columns.specs.Comment.{is_comment}
+use Rattle.cif_columns.specs.Contents.{DecidesNothing, contents_of, IsFirstContent, StandsFirst, HasLineReason, IsLineReason}
+use Rattle.cif_columns.specs.FirstLine.{first_content}
 use Rattle.cif_columns.specs.Line.{IsLine}
 use Rattle.cif_columns.specs.Source.{HasFailedToRead, HasReadOn, reader_of, source_ended, source_failed}
 
@@ -128,3 +135,55 @@ pub record HasPassed (old new : LineReader) : Type 0 where
   pub counted : given new ≡ given old + 1
   pub limit_now : limit new ≡ limit old
   pub past_now : past new ≡ past old
+
+-- ---- comments
+
+-- what a line is
+abbrev pub content_of : List ℕ → Content
+content_of line = if is_comment line then content.Comment else content.Line
+
+-- the reader was read on, where it reads: the bytes that are left are the same
+pub record HasLooked {R : Type 0} (remaining : R → Option (List ℕ)) (errors : R → Option ℕ) (old : LineReader) (from : Source R)
+    (new : LineReader) (to : Source R) : Type 0 where
+  pub same_bytes : Keeps (left remaining old from) (left remaining new to)
+  pub read_on : HasReadOn errors from to
+  pub given_now : given new ≡ given old
+  pub limit_now : limit new ≡ limit old
+  pub past_now : past new ≡ past old
+  pub still : past old ≢ Reading → (new ≡ old) × (to ≡ from)
+
+-- where a content may come, no comment stands first in the bytes that are left
+abbrev pub IsNoComment : {R : Type 0} → (R → Option (List ℕ)) → LineReader → Source R → Type 0
+IsNoComment remaining old from = past old ≡ Reading → given old < limit old →
+    IfSome (left remaining old from) (λ bytes. is_comment (first_content bytes) ≡ false)
+
+-- a comment stood first, and was passed
+pub record HasPassedComment {R : Type 0} (remaining : R → Option (List ℕ)) (errors : R → Option ℕ) (old : LineReader) (from : Source R)
+    (new : LineReader) (to : Source R) : Type 0 where
+  pub reading : past old ≡ Reading
+  pub comment : IfSome (left remaining old from) (λ bytes. (content rest : List ℕ) × (is_comment content ≡ true)
+      × (left remaining new to ≡ Some rest) × IsFirstContent bytes content rest)
+  pub read_on : HasReadOn errors from to
+  pub counted : given new ≡ given old + 1
+  pub limit_now : limit new ≡ limit old
+  pub past_now : past new ≡ past old
+
+-- what looking for a comment answers
+abbrev pub LooksFor : {R : Type 0} → (R → Option (List ℕ)) → (R → Option ℕ) → LineReader → Source R → Result First LineFault
+    → LineReader → Source R → Type 0
+LooksFor remaining errors old from (Ok first.Comment) new to = HasPassedComment remaining errors old from new to
+LooksFor remaining errors old from (Ok first.End) new to = IsNext remaining errors old from (Ok None) new to
+LooksFor remaining errors old from (Ok first.Other) new to =
+    HasLooked remaining errors old from new to × IsNoComment remaining old from
+LooksFor remaining errors old from (Err fault) new to = (fault ≡ Read) × IsNext remaining errors old from (Err fault) new to
+
+-- What a call that gives the next content promises, which is a line, put into `line`, or a comment: of all but a comment what a call
+-- that gives the next line does.
+abbrev pub IsNextContent : {R : Type 0} → (R → Option (List ℕ)) → (R → Option ℕ) → LineReader → Source R → Result Content LineFault → Line
+    → LineReader → Source R → Type 0
+IsNextContent remaining errors old from (Ok content.Comment) line new to = HasPassedComment remaining errors old from new to
+IsNextContent remaining errors old from (Ok content.Line) line new to =
+    IsNext remaining errors old from (Ok (Some line)) new to × (is_comment line ≡ false)
+IsNextContent remaining errors old from (Ok content.End) line new to = IsNext remaining errors old from (Ok None) new to
+IsNextContent remaining errors old from (Err fault) line new to =
+    IsNext remaining errors old from (Err fault) new to × (fault ≢ Read → IsNoComment remaining old from)

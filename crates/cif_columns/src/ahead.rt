@@ -5,11 +5,12 @@ ghost use Rattle.std.specs.Prelude.{false, slice_index, min};
 ghost use Rattle.std.specs.Io.KnownBytes.{Keeps, IsAtEnd};
 ghost use Rattle.std.specs.List.{position_or_len};
 ghost use Rattle.std.specs.Str.Lines.{strip_carriage_return};
+ghost use Rattle.cif_columns.specs.Comment.{is_comment};
 ghost use Rattle.cif_columns.specs.FirstLine.{is_decided, is_line_feed, line_of};
 ghost use Rattle.cif_columns.specs.Source.{Reads, reader_of, source_ended, source_failed};
 ghost use Rattle.cif_columns.specs.declared.ahead.TheConstants.{AHEAD, LONGEST_LINE};
 
-use crate::line::{LINE_TEXT_WIDTH, LINE_WIDTH, Line};
+use crate::line::{LINE_TEXT_WIDTH, LINE_WIDTH, Line, are_printable};
 use crate::refusal::Refusal;
 use crate::source::{ReadDevice, ReadFault, Source};
 
@@ -208,6 +209,106 @@ impl Ahead {
             }
         }
     }
+}
+
+/// What stands first, where a comment may.
+pub(crate) enum First {
+    Comment,
+    End,
+    Other,
+}
+
+impl Ahead {
+    ghost use Rattle.cif_columns.specs.Ahead.{held_bytes, known_left, DecidesComment, FindsComment, FirstReads};
+
+    /// Whether a comment may stand first, by the first of the held bytes.
+    #[inline(always)]
+    pub(crate) fn may_begin_comment(&self) -> bool
+        ensures { result ≡ false → (0 < length (held_bytes self.now))
+            × (slice_index (held_bytes self.now) 0 ≢ 47) }
+    {
+        match self.as_slice() {
+            [first, ..] => *first == b'/',
+            [] => true,
+        }
+    }
+
+    /// Passes the comment that stands first in the held bytes, if they decide that one does, and tells
+    /// what they decide.
+    fn decided_comment(&mut self) -> Option<First>
+        ensures found { IfSome result (λ first.
+            DecidesComment (held_bytes self.old) first (held_bytes self.new)) }
+        ensures none { IfNone result (is_decided false (held_bytes self.old) ≡ false) }
+        ensures kept { IfNone result (held_bytes self.new ≡ held_bytes self.old) }
+    {
+        let held = self.as_slice();
+        if let Some(at) = line_feed(held) {
+            if !is_comment(stripped(&held[..at])) {
+                return Some(First::Other);
+            }
+            self.start += at + 1;
+            return Some(First::Comment);
+        }
+        if held.len() >= LONGEST_LINE {
+            return Some(First::Other);
+        }
+        None
+    }
+
+    /// Passes the comment that the held bytes are, if they are one, where no others follow.
+    fn last_comment(&mut self) -> First
+        requires { is_decided false (held_bytes self.old) ≡ false }
+        ensures { FindsComment (held_bytes self.old) (Ok result) (Some (held_bytes self.new)) }
+    {
+        let held = self.as_slice();
+        if held.is_empty() {
+            return First::End;
+        }
+        if !is_comment(held) {
+            return First::Other;
+        }
+        self.start = self.end;
+        First::Comment
+    }
+
+    /// Passes the comment that stands first in the held bytes and those that the source gives after
+    /// them, if one does, and tells what stands there.
+    pub(crate) fn pass_comment<R: ReadDevice>(
+        &mut self,
+        source: &mut Source<R>,
+    ) -> Result<First, ReadFault>
+        ensures found { IfSome (known_left R.remaining self.old source.old) (λ bytes.
+            FindsComment bytes result (known_left R.remaining self.new source.new)) }
+        ensures kept { result ≡ Ok First.Other → Keeps (known_left R.remaining self.old source.old)
+            (known_left R.remaining self.new source.new) }
+        ensures undecided { OnErr result (is_decided false (held_bytes self.new) ≡ false) }
+        ensures device { FirstReads R.read_errors source.old source.new result }
+        ensures ended { result ≡ Ok First.End
+            → (source_failed source.old ≡ false) × (source_ended source.new ≡ true) }
+    {
+        loop {
+            if let Some(first) = self.decided_comment() {
+                return Ok(first);
+            }
+            match self.fill(source) {
+                Ok(true) => {}
+                Ok(false) => return Ok(self.last_comment()),
+                Err(fault) => return Err(fault),
+            }
+        }
+    }
+}
+
+/// Whether the content is a comment, which says nothing: it begins with `/!!`, and has at most eighty
+/// bytes, each of which may stand in a line (files that others derive from CIF have them).
+#[tactic(auto, unfolding(crate::specs::Comment::is_comment))]
+pub(crate) fn is_comment(content: &[u8]) -> bool
+    ensures { result ≡ is_comment content.now }
+{
+    if !content.starts_with(b"/!!") {
+        return false;
+    }
+    content.len() <= LINE_WIDTH && are_printable(content)
 }
 
 /// How many bytes a line takes at most, with its ending: a carriage return and a line feed. With so

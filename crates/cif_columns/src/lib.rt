@@ -29,7 +29,7 @@ pub use days_run::DaysRun;
 pub use field::{Field, activities_at, columns_at, field_at, text_at, uid_at};
 pub use line::{LINE_WIDTH, Line, LineBuilder, are_printable, as_text};
 pub use line_count::count_lines;
-pub use line_reader::{LineReader, MAX_LINES};
+pub use line_reader::{Content, LineReader, MAX_LINES};
 pub use lines::{LineSlice, LineTexts, Lines};
 pub use plain_test::PlainTest;
 pub use refusal::{LineFault, Refusal};

@@ -1,8 +1,8 @@
 //! Lines, one by one, from a source that gives its bytes in any pieces.
-ghost use Rattle.std.specs.Prelude.{◌≡◌, ◌≤◌, [], ℕ, List, IfSome};
+ghost use Rattle.std.specs.Prelude.{◌≡◌, ◌<◌, ◌≤◌, [], ℕ, List, IfSome};
 ghost use Rattle.cif_columns.specs.declared.line_reader.TheConstants.{MAX_LINES};
 
-use crate::ahead::{Ahead, Found};
+use crate::ahead::{Ahead, First, Found, is_comment};
 use crate::line::{LINE_WIDTH, Line};
 use crate::refusal::LineFault;
 use crate::source::{ReadDevice, Source};
@@ -16,6 +16,33 @@ enum Past {
     Reading,
     Ended,
     Faulted(LineFault),
+}
+
+/// What stood next, where a comment may.
+#[derive(Clone, Copy, Debug, PartialEq, Eq)]
+pub enum Content {
+    /// A line.
+    Line,
+    /// A comment, which says nothing: it begins with `/!!`, and has at most eighty bytes, from a space
+    /// to a tilde.
+    Comment,
+    /// Nothing: the input is at its end.
+    End,
+}
+
+impl Content {
+    ghost use Rattle.cif_columns.specs.LineReader.{content_of};
+
+    /// What a line is.
+    fn of_line(line: &Line) -> Content
+        ensures { result ≡ content_of line.now }
+    {
+        if is_comment(line.bytes()) {
+            Content::Comment
+        } else {
+            Content::Line
+        }
+    }
 }
 
 /// Gives the lines of one source one by one, and keeps what it has read ahead of them.
@@ -34,7 +61,7 @@ pub struct LineReader {
 
 impl LineReader {
     ghost use Rattle.cif_columns.specs.LineReader.{held, given, limit, line_read, past, IsNext};
-    ghost use Rattle.cif_columns.specs.LineReader.{AreAhead, HasPassed};
+    ghost use Rattle.cif_columns.specs.LineReader.{AreAhead, HasPassed, IsNextContent, LooksFor};
     ghost use Rattle.cif_columns.specs.declared.line_reader.Past.TheVariants.{Reading};
 
     /// A reader that will give at most `max_lines` lines.
@@ -100,6 +127,77 @@ impl LineReader {
             return Ok(true);
         }
         self.read_other_line(source, line)
+    }
+
+    /// Puts the next line into `line`, or passes the comment that stands there, and tells which. It
+    /// answers as `next` does of all but comments, which count as lines.
+    #[inline(always)]
+    pub fn read_content<R: ReadDevice>(
+        &mut self,
+        source: &mut Source<R>,
+        line: &mut Line,
+    ) -> Result<Content, LineFault>
+        ensures { IsNextContent R.remaining R.read_errors self.old source.old result line.new
+            self.new source.new }
+    {
+        match self.pass_comment(source) {
+            Ok(First::Comment) => Ok(Content::Comment),
+            Ok(First::End) => Ok(Content::End),
+            Ok(First::Other) => match self.read_line(source, line) {
+                Ok(true) => Ok(Content::of_line(line)),
+                Ok(false) => Ok(Content::End),
+                Err(fault) => Err(fault),
+            },
+            Err(fault) => Err(fault),
+        }
+    }
+
+    /// Passes the comment that stands first, if one does, and tells what stands there. Where no comment
+    /// stands that takes a look at one byte.
+    #[inline(always)]
+    fn pass_comment<R: ReadDevice>(&mut self, source: &mut Source<R>) -> Result<First, LineFault>
+        ensures { LooksFor R.remaining R.read_errors self.old source.old result self.new
+            source.new }
+    {
+        let Past::Reading = self.past else {
+            return Ok(First::Other);
+        };
+        if self.given == self.limit {
+            return Ok(First::Other);
+        }
+        if !self.ahead.may_begin_comment() {
+            return Ok(First::Other);
+        }
+        self.pass_possible_comment(source)
+    }
+
+    /// What `pass_comment` does where one may stand.
+    #[cold]
+    #[inline(never)]
+    fn pass_possible_comment<R: ReadDevice>(
+        &mut self,
+        source: &mut Source<R>,
+    ) -> Result<First, LineFault>
+        requires reading { past self.old ≡ Reading }
+        requires room { given self.old < limit self.old }
+        ensures { LooksFor R.remaining R.read_errors self.old source.old result self.new
+            source.new }
+    {
+        match self.ahead.pass_comment(source) {
+            Ok(First::Comment) => {
+                self.given += 1;
+                Ok(First::Comment)
+            }
+            Ok(First::End) => {
+                self.past = Past::Ended;
+                Ok(First::End)
+            }
+            Ok(First::Other) => Ok(First::Other),
+            Err(_) => {
+                self.past = Past::Faulted(LineFault::Read);
+                Err(LineFault::Read)
+            }
+        }
     }
 
     /// The columns that stand first in what is held, where a line feed follows them and a line may come.

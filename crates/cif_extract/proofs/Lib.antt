@@ -20,5 +20,6 @@ pub mod SameLines
 pub mod ScheduleSteps
 pub mod Schedules
 pub mod SpelledBytes
+pub mod SpelledLines
 pub mod TakenLines
 pub mod WrittenLines

@@ -13,11 +13,13 @@ use Rattle.cif_columns.proofs.GivenLinesLaws.{known_so}
 use Rattle.cif_extract.specs.ExtractParts.{ExtractParts, extract_parts}
 use Rattle.cif_extract.specs.FirstRefusal.{NoneRefused, IsFirstRefusal, refusal_of}
 use Rattle.cif_extract.specs.Grammar.{AreExtract}
-use Rattle.cif_extract.specs.OrderOfRecords.{may_stand, place_behind}
+use Rattle.cif_extract.specs.OrderOfRecords.{may_stand}
 use Rattle.cif_extract.specs.ReadFault.{IsLineNumber, IsOfReading, IsReadFault}
-use Rattle.cif_extract.specs.Steps.Reading.{HasRead, HasReadAt, IsHeld, IsTaken, IsUnfinished, Progress, begun, no_progress}
+use Rattle.cif_extract.specs.Steps.Reading.{GoesOnPlainly, HasReadAt, IsHeld, IsTaken, IsUnfinished, Progress, begun}
+use Rattle.cif_extract.specs.Steps.Reading.{no_progress}
 use Rattle.cif_extract.specs.Steps.Reading.{fault_at_line, parts_with_header, refusal_here, step}
 use Rattle.cif_extract.specs.SpellsExtract.{BytesSpellWithin, SpellAll, SpellExtract}
+use Rattle.cif_extract.specs.Taken.{HasTaken, IsNoTrailer, IsTakenBehind, IsTakenPlainly, refusal_behind}
 use Rattle.cif_extract.specs.declared.extract.Extract.{Extract}
 use Rattle.cif_extract.specs.declared.fault.Fault.{Fault}
 use Rattle.cif_extract.specs.declared.fault.Fault.TheVariants as fault
@@ -28,7 +30,7 @@ use Rattle.cif_extract.specs.declared.reading.TakeFault.TheVariants as untaken
 use Rattle.cif_records.specs.Bodies.{has_body}
 use Rattle.cif_records.specs.Checks.{first_of, unless}
 use Rattle.cif_records.specs.Kind.{kind_in}
-use Rattle.cif_records.specs.Record.{refusal_as, SpellsRecord}
+use Rattle.cif_records.specs.Record.{record_refusal, refusal_as, SpellsRecord}
 use Rattle.cif_records.specs.declared.basic.Basic.{Basic}
 use Rattle.cif_records.specs.declared.detail.Detail.{Detail}
 use Rattle.cif_records.specs.declared.header.Header.{Header}
@@ -41,28 +43,23 @@ use Rattle.cif_extract.proofs.JourneySteps.{has_read_more}
 use Rattle.cif_extract.proofs.Places.{place_more, place_past, refused_at}
 use Rattle.cif_records.proofs.Records.{kind_of as record_kind, kind_there as spelled_kind}
 
--- no trailer
-abbrev pub IsNoTrailer : List ℕ → Type 0
-IsNoTrailer content = kind_in content ≢ Some Zz
-
 -- the lines so far came to this, and none of them is refused
 pub record HasCome (max : ℕ) (lines : List (List ℕ)) (p : Progress) : Type 0 where
-  pub records : List Record
-  pub spelled : SpellAll lines records
-  pub read : HasRead records p
+  pub taken : HasTaken lines p
   pub fine : NoneRefused max lines
-  pub place : place_behind lines ≡ p.place
-  pub no_trailer : (p.place ≡ at.Ended → ⊥) → All IsNoTrailer lines
 
-pub come_none : (max : ℕ) → HasCome max [] no_progress
-come_none max = record {
+-- before the first line
+pub taken_none : HasTaken [] no_progress
+taken_none = record {
   records = [];
   spelled = tt;
   read = record { none = refl; tiplocs = refl; associations = refl; schedules = refl };
-  fine = none_refused-none max;
   place = refl;
   no_trailer = λ going. All-nil IsNoTrailer;
 }
+
+pub come_none : (max : ℕ) → HasCome max [] no_progress
+come_none max = record { taken = taken_none; fine = none_refused-none max }
 
 spell_more : (lines : List (List ℕ)) (records : List Record) (line : List ℕ) (r : Record) → SpellAll lines records → SpellsRecord line r →
     SpellAll (lines ++ (line ∷ [])) (records ++ (r ∷ []))
@@ -98,25 +95,25 @@ ends_by_trailer : (p : Progress) (r : Record) → ((step p r).place ≡ at.Ended
 ends_by_trailer p of.Trailer h e = h refl
 ends_by_trailer p _ h e = cc
 
-module _ (max : ℕ) (lines : List (List ℕ)) (line : List ℕ) (is_line : IsLine line) (room : length lines < max) (before : Progress)
-    (so_far : HasCome max lines before) where
-  -- why a line is refused here
-  pub refused_here : refusal_of max lines line ≡ refusal_here before.place (kind_in line) line
-  refused_here = refused_at max lines line before.place is_line room so_far.place
+-- one line more
+module _ (lines : List (List ℕ)) (line : List ℕ) (before : Progress) (so_far : HasTaken lines before) where
+  -- why it is refused behind these
+  pub refused_behind : refusal_behind lines line ≡ refusal_here before.place (kind_in line) line
+  unfolding record_refusal
+  refused_behind = ap (λ place. refusal_here place (kind_in line) line) so_far.place
 
-  pub come_more : (after : Progress) → IsTaken (refusal_here before.place (kind_in line) line) line before (Ok tt) after →
-      HasCome max (lines ++ (line ∷ [])) after
-  come_more after taken =
+  pub taken_more : (after : Progress) → IsTaken (refusal_here before.place (kind_in line) line) line before (Ok tt) after →
+      HasTaken (lines ++ (line ∷ [])) after
+  taken_more after taken =
       let (none, one) = taken in
       let (r, spells, keepable, is) = one in
       let kind = spelled_kind line r spells in
       let may = allowed before.place (record_kind r) line (ap (λ k. refusal_here before.place k line) (sym kind) ∙ none) in
-      subst (HasCome max (lines ++ (line ∷ []))) (sym is)
+      subst (HasTaken (lines ++ (line ∷ []))) (sym is)
       (record {
         records = so_far.records ++ (r ∷ []);
         spelled = spell_more lines so_far.records line r so_far.spelled spells;
         read = has_read_more so_far.records before r keepable so_far.read may;
-        fine = none_refused-more max lines line so_far.fine (refused_here ∙ none);
         place = place_more lines line r before.place so_far.place spells ∙ place_step before r;
         no_trailer = λ going.
             let other = ends_by_trailer before r going in
@@ -125,7 +122,38 @@ module _ (max : ℕ) (lines : List (List ℕ)) (line : List ℕ) (is_line : IsLi
             (All-nil IsNoTrailer));
       })
 
-module _ (max : ℕ) (lines : List (List ℕ)) (p : Progress) (so_far : HasCome max lines p) where
+  -- whatever comes of it
+  pub taken_behind : (result : Result Unit TakeFault) (after : Progress)
+      → IsTaken (refusal_here before.place (kind_in line) line) line before result after → IsTakenBehind lines line result after
+  taken_behind (Ok taken) after is = (refused_behind ∙ is.0, taken_more after is)
+  taken_behind (Err (untaken.Refused why)) after is = refused_behind ∙ is
+  taken_behind (Err untaken.Memory) after is = tt
+
+  -- and where it goes on plainly
+  pub plainly_taken : (after : Progress) → GoesOnPlainly before.place line
+      → IsTaken (refusal_here before.place (kind_in line) line) line before (Ok tt) after
+      → IsTakenPlainly lines line after
+  plainly_taken after plain is = record {
+    is_line = plain.is_line;
+    kind = spelled_kind line (of.Stop plain.stop) plain.spelled;
+    allowed = refused_behind ∙ is.0;
+    taken = taken_more after is;
+  }
+
+module _ (max : ℕ) (lines : List (List ℕ)) (line : List ℕ) (is_line : IsLine line) (room : length lines < max) (before : Progress)
+    (so_far : HasCome max lines before) where
+  -- why a line is refused here
+  pub refused_here : refusal_of max lines line ≡ refusal_here before.place (kind_in line) line
+  refused_here = refused_at max lines line before.place is_line room so_far.taken.place
+
+  pub come_more : (after : Progress) → IsTaken (refusal_here before.place (kind_in line) line) line before (Ok tt) after →
+      HasCome max (lines ++ (line ∷ [])) after
+  come_more after is = record {
+    taken = taken_more lines line before so_far.taken after is;
+    fine = none_refused-more max lines line so_far.fine (refused_here ∙ is.0);
+  }
+
+module _ (lines : List (List ℕ)) (p : Progress) (so_far : HasTaken lines p) where
   -- a whole reading holds the extract
   pub held_spells : (x : ExtractParts) → IsHeld p x → SpellExtract lines x
   held_spells x held =
@@ -163,7 +191,7 @@ pub whole_result : (start : Option (List ℕ)) (max : ℕ) (lines : List (List �
     IfSome start (λ bytes. IfOk result (λ extract. BytesSpellWithin max bytes (extract_parts extract)))
 whole_result start max lines p (Ok extract) all so_far held =
     known_so start _ _ (λ bytes a. all_lines_spell max bytes lines a (extract_parts extract)
-    (held_spells max lines p so_far (extract_parts extract) held)) all
+    (held_spells lines p so_far.taken (extract_parts extract) held)) all
 whole_result start max lines p (Err f) all so_far held = known_so start _ _ (λ bytes a. tt) all
 
 -- and where it isn't
@@ -176,7 +204,7 @@ unfinished_result start after max lines p number (Err f) told all so_far is err 
     rw err.0 (known_so start _ _ (λ bytes a. (
       inr (record {
         fine = rw a.contents so_far.fine;
-        no_trailer = rw a.contents (unfinished_trailer max lines p so_far err.1);
+        no_trailer = rw a.contents (unfinished_trailer lines p so_far.taken err.1);
         numbered = ap (λ n. n + 1) is ∙ ap (λ c. length c + 1) (sym a.contents);
         reason = refl;
       }),

@@ -24,7 +24,7 @@ use Rattle.cif_extract.proofs.OneExtract.{one_extract}
 use Rattle.cif_extract.proofs.OrderLaws.{spelled_fine}
 
 -- among lines that end in a trailer's, not all are of another kind
-no_last : (lines : List (List ℕ)) (records : List Record) → SpellAll lines (records ++ (of.Trailer ∷ [])) →
+pub no_last : (lines : List (List ℕ)) (records : List Record) → SpellAll lines (records ++ (of.Trailer ∷ [])) →
     All (λ content. kind_in content ≡ Some Zz → ⊥) lines → ⊥
 no_last [] [] spell all = absurd spell
 no_last [] (r ∷ records) spell all = absurd spell

@@ -11,4 +11,5 @@ pub mod OrderOfRecords
 pub mod ReadFault
 pub mod SpellsExtract
 pub mod Steps
+pub mod Taken
 pub mod Texts

@@ -1,2 +1,3 @@
--- What the contracts of the code's own steps speak of. No clause of a public function cites it, so nothing here has to be believed.
+-- What the contracts of the code's own steps speak of. Of public functions only those of `Reading` cite it, by `HasTaken`, of which
+-- nothing has to be believed but what these say.
 pub mod Reading

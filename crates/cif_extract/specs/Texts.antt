@@ -25,6 +25,10 @@ abbrev pub schedule_tables : List ℕ → ℕ → ℕ → List Bool → Stp → 
 schedule_tables uid first last days letter body =
     basic_rows uid first last days letter (option_map (λ (b : BodyParts). b.detail) body) ∷ body_tables body
 
+-- the columns of a schedule's BS, with these dates in place of its own
+abbrev pub rows_on : ℕ → ℕ → Schedule → List Row
+rows_on first last s = basic_rows s.uid first last s.days s.letter (option_map (λ (b : BodyParts). b.detail) s.body)
+
 -- the plain lines of a schedule with these terms
 unfoldable pub schedule_lines : List ℕ → ℕ → ℕ → List Bool → Stp → Option BodyParts → List (List ℕ)
 schedule_lines uid first last days letter body = map plain_line (schedule_tables uid first last days letter body)

@@ -3,7 +3,7 @@ ghost use Rattle.std.specs.Prelude.{◌≡◌, ◌≤◌, is_some};
 ghost use Rattle.cif_records.specs.Bodies.{has_body};
 
 use crate::Body;
-use cif_columns::{Day, DaysRun, Stp, Uid};
+use cif_columns::{Day, DaysRun, Line, Stp, Uid};
 use cif_records::{Association, BasicTerms, Header, Tiploc};
 
 /// The records of an extract, in file order and with repeats.
@@ -63,10 +63,10 @@ pub struct Schedule {
 impl Schedule {
     ghost use Rattle.std.specs.Prelude.{option_copied};
     ghost use Rattle.std.specs.Option.{option_map};
-    ghost use Rattle.cif_columns.specs.Field.{AllFit};
+    ghost use Rattle.cif_columns.specs.Field.{AllFit, plain_line};
     ghost use Rattle.cif_extract.specs.BodyParts.{BodyParts};
     ghost use Rattle.cif_extract.specs.Steps.Reading.{schedule_of};
-    ghost use Rattle.cif_extract.specs.Texts.{AllTablesFit, body_tables, tables_of};
+    ghost use Rattle.cif_extract.specs.Texts.{AllTablesFit, body_tables, rows_on, tables_of};
     ghost use Rattle.cif_records.specs.Detail.{detail_rows};
 
     /// The schedule of these terms, with this body or none.
@@ -82,6 +82,24 @@ impl Schedule {
             days: terms.days,
             letter: terms.letter,
             body,
+        }
+    }
+
+    /// The plain line of its BS, with these dates in place of its own.
+    pub fn line_on(&self, first: Day, last: Day) -> Line
+        requires { first ≤ last }
+        ensures { result ≡ plain_line (rows_on first last self.now) }
+    {
+        let terms = BasicTerms {
+            uid: self.uid,
+            first,
+            last,
+            days: self.days,
+            letter: self.letter,
+        };
+        match &self.body {
+            Some(body) => terms.line(&body.detail_line()),
+            None => terms.line(&Line::blank()),
         }
     }
 

@@ -1,6 +1,6 @@
 //! Reading a whole extract, line by line.
-ghost use Rattle.std.specs.Prelude.{◌≡◌, ◌≤◌, ◌+◌, ◌^◌, ◌<◌, ◌++◌, ◌∷◌, [], List, Some, Ok, true, false};
-ghost use Rattle.std.specs.Prelude.{IfOk, IfErr, IfSome, IsTrue};
+ghost use Rattle.std.specs.Prelude.{◌≡◌, ◌≤◌, ◌+◌, ◌^◌, ◌<◌, ◌++◌, ◌∷◌, [], ℕ, List, Some, Ok, true, false};
+ghost use Rattle.std.specs.Prelude.{All, IfOk, IfErr, IfNone, IfSome, IsTrue};
 ghost use Rattle.cif_columns.specs.Line.{ArePrintable, IsLine};
 ghost use Rattle.cif_columns.specs.Source.{reader_of, source_failed};
 ghost use Rattle.cif_columns.specs.declared.line_reader.TheConstants.{MAX_LINES};
@@ -71,9 +71,9 @@ pub fn read_extract<R: ReadDevice>(
     }
 }
 
-/// What the lines so far have come to.
+/// What the lines so far have come to, for who takes lines one by one.
 #[derive(Drop)]
-pub(crate) struct Reading {
+pub struct Reading {
     place: Place,
     header: Option<Header>,
     tiplocs: Vec<Tiploc>,
@@ -90,11 +90,14 @@ impl Reading {
     ghost use Rattle.cif_extract.specs.Steps.Reading.{HasRead, IsClosed, IsFurther, IsKept, IsTaken};
     ghost use Rattle.cif_extract.specs.Steps.Reading.{GoesOnPlainly, IsHeld, IsUnfinished, keeping, no_progress, progress_of};
     ghost use Rattle.cif_extract.specs.Steps.Reading.{UnlessMemory, refusal_here};
+    ghost use Rattle.cif_extract.specs.Taken.{HasTaken, IsNoTrailer, IsTakenBehind, IsTakenPlainly};
+    ghost use Rattle.cif_extract.specs.SpellsExtract.{SpellExtract};
     ghost use Rattle.cif_records.specs.declared.record.Record.{Record};
 
     /// The reading of no lines.
-    pub(crate) fn new(alloc: Global) -> Reading
-        ensures { progress_of result ≡ no_progress }
+    pub fn new(alloc: Global) -> Reading
+        ensures none { progress_of result ≡ no_progress }
+        ensures taken { HasTaken [] (progress_of result) }
     {
         Reading {
             place: Place::Start,
@@ -104,6 +107,29 @@ impl Reading {
             schedules: Vec::new(alloc),
             opened: None,
             lines: Lines::new(alloc),
+        }
+    }
+
+    /// Takes one line more, as `take` does: where the lines so far are known, that is said of the lines.
+    #[inline(always)]
+    pub fn take_line(&mut self, alloc: Global, line: &Line) -> Result<(), TakeFault>
+        requires { (lines : List (List ℕ)) × HasTaken lines (progress_of self.old) }
+        ensures { (lines : List (List ℕ)) → HasTaken lines (progress_of self.old)
+            → IsTakenBehind lines line.now result (progress_of self.new) }
+    {
+        self.take(alloc, line)
+    }
+
+    /// The extract, where these are all lines; `None` where the trailer is missing.
+    pub fn end(self) -> Option<Extract>
+        ensures spells { (lines : List (List ℕ)) → HasTaken lines (progress_of self)
+            → IfSome result (λ extract. SpellExtract lines (extract_parts extract)) }
+        ensures unfinished { (lines : List (List ℕ)) → HasTaken lines (progress_of self)
+            → IfNone result (All IsNoTrailer lines) }
+    {
+        match self.finish(0) {
+            Ok(extract) => Some(extract),
+            Err(_) => None,
         }
     }
 
@@ -137,7 +163,7 @@ impl Reading {
 
     /// Whether these columns are a plain line of a location on the way, where one may stand.
     #[inline(always)]
-    pub(crate) fn goes_on_plainly(&self, columns: &[u8; LINE_WIDTH]) -> bool
+    pub fn goes_on_plainly(&self, columns: &[u8; LINE_WIDTH]) -> bool
         ensures { IsTrue result → GoesOnPlainly self.now.place columns.now }
     {
         matches!(self.place, Place::Journey) && Stop::are_plain(columns)
@@ -146,10 +172,12 @@ impl Reading {
     /// Takes the line of such columns, as `take` does. Nearly three in four lines are such, and are kept from
     /// where they were read.
     #[inline(always)]
-    pub(crate) fn take_plain_stop(&mut self, columns: &[u8; LINE_WIDTH]) -> Result<(), TakeFault>
+    pub fn take_plain_stop(&mut self, columns: &[u8; LINE_WIDTH]) -> Result<(), TakeFault>
         requires { GoesOnPlainly self.old.place columns.now }
-        ensures { UnlessMemory (IsTaken (refusal_here self.old.place (kind_in columns.now) columns.now)
+        ensures taken { UnlessMemory (IsTaken (refusal_here self.old.place (kind_in columns.now) columns.now)
             columns.now (progress_of self.old) (Ok tt) (progress_of self.new)) result }
+        ensures line { (lines : List (List ℕ)) → HasTaken lines (progress_of self.old)
+            → UnlessMemory (IsTakenPlainly lines columns.now (progress_of self.new)) result }
     {
         self.keep_columns(columns)
     }
@@ -332,8 +360,10 @@ impl Reading {
 
 /// Why a line is not taken into what was read.
 #[derive(Drop)]
-pub(crate) enum TakeFault {
+pub enum TakeFault {
+    /// It is refused.
     Refused(Refusal),
+    /// Memory ran out.
     Memory,
 }
 
@@ -351,7 +381,7 @@ impl TakeFault {
     ghost use Rattle.cif_extract.specs.Steps.Reading.{fault_at_line};
 
     /// The fault, at the line of this number.
-    pub(crate) fn at_line(self, number: u64) -> Fault
+    pub fn at_line(self, number: u64) -> Fault
         ensures { result ≡ fault_at_line number self }
     {
         match self {

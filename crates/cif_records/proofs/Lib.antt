@@ -3,6 +3,7 @@ pub mod Basics
 pub mod Changes
 pub mod Details
 pub mod Extras
+pub mod FinishedLines
 pub mod Headers
 pub mod Identities
 pub mod Judging

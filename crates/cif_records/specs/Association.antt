@@ -30,6 +30,10 @@ association_rows key first last days letter body =
     ∷ row 80 80 (indicator letter)
     ∷ []
 
+-- the columns of this association, with these dates in place of its own
+abbrev pub rows_on : ℕ → ℕ → Association → List Row
+rows_on first last r = association_rows r.key first last r.days r.letter r.body
+
 -- the columns of this association
 abbrev pub association_table : Association → List Row
 association_table r = association_rows r.key r.first r.last r.days r.letter r.body

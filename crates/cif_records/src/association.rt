@@ -46,16 +46,7 @@ impl Layout for Association {
     ghost table = { association_table };
 
     fn put_rows(&self, line: &mut LineBuilder) {
-        let blank = AssocBody::blank();
-        Association::put_fields(
-            &self.key,
-            self.first,
-            self.last,
-            self.days,
-            self.letter,
-            self.body.as_ref().unwrap_or(&blank),
-            line,
-        );
+        self.put_rows_on(self.first, self.last, line);
     }
 
     ghost whole = { λ r. refl };
@@ -74,7 +65,7 @@ impl Association {
     ghost use Rattle.cif_records.specs.declared.association.Association.{Association};
     ghost use Rattle.cif_records.specs.Association.{SpellsAssociation, SpellsBody};
     ghost use Rattle.cif_records.specs.Association.{association_refusal, association_rows};
-    ghost use Rattle.cif_records.specs.Association.{association_table};
+    ghost use Rattle.cif_records.specs.Association.{association_table, rows_on};
 
     /// The association that the line spells, or the first reason in column order why it spells
     /// none: UnknownRecord (columns 1 to 2), NotFull (column 3), BadDate, OpenEnd and DatesReversed
@@ -170,6 +161,35 @@ impl Association {
         let mut line = LineBuilder::new();
         Association::put_fields(key, first, last, days, Stp::P, body, &mut line);
         line.finish()
+    }
+
+    /// Its plain line, with these dates in place of its own.
+    pub fn line_on(&self, first: Day, last: Day) -> Line
+        requires { first ≤ last }
+        ensures plain { result ≡ plain_line (rows_on first last self.now) }
+        ensures again { AllStandIn result (rows_on first last self.now) }
+    {
+        let mut line = LineBuilder::new();
+        self.put_rows_on(first, last, &mut line);
+        line.finish()
+    }
+
+    /// Puts its plain columns on an empty line, with these dates in place of its own.
+    fn put_rows_on(&self, first: Day, last: Day, line: &mut LineBuilder)
+        requires { line.old ≡ [] }
+        ensures columns { line.new ≡ put_all [] (rows_on first last self.now) }
+        ensures fits { AllFit (rows_on first last self.now) }
+    {
+        let blank = AssocBody::blank();
+        Association::put_fields(
+            &self.key,
+            first,
+            last,
+            self.days,
+            self.letter,
+            self.body.as_ref().unwrap_or(&blank),
+            line,
+        );
     }
 
     /// Puts the plain columns of an association with these fields on an empty line.

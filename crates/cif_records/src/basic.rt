@@ -125,9 +125,7 @@ impl Basic {
             days,
             letter: Stp::P,
         };
-        let mut line = LineBuilder::new();
-        terms.put_rows(detail, &mut line);
-        line.finish()
+        terms.line(detail)
     }
 }
 
@@ -160,6 +158,18 @@ impl BasicTerms {
         ensures { result ≡ has_body self.now.letter }
     {
         has_body(self.letter)
+    }
+
+    /// The plain line of a basic schedule with these terms: transaction type `N`, and columns 30 to 78 of
+    /// `detail` as they stand there, which are spaces where it has no detail.
+    pub fn line(&self, detail: &Line) -> Line
+        ensures plain { (d : Option Detail) → columns 30 78 detail.now ≡ plain_line (detail_rows d)
+            → result ≡ plain_line (terms_rows self.now d) }
+        ensures detail { IsLine detail.now }
+    {
+        let mut line = LineBuilder::new();
+        self.put_rows(detail, &mut line);
+        line.finish()
     }
 
     /// Puts the plain columns of a basic schedule with these terms on an empty line, and columns 30 to 78

@@ -52,7 +52,7 @@ loop-columns-preserved-in-loop-columns g c =
           next.limit_now more,
       come_more c.args.max_lines ls columns plain.is_line room (progress_of c.loop-columns.reading) come
           (progress_of c.take_plain_stop.new.self)
-          c.in-Ok.ensures,
+          c.in-Ok.ensures.taken,
       read_on,
     )
 
@@ -198,7 +198,7 @@ pub loop-columns-init : goal.loop-columns-init
 loop-columns-init g c = (
   [],
   search rules,
-  subst (HasCome c.args.max_lines []) (sym c.new-reading.ensures) (come_none c.args.max_lines),
+  subst (HasCome c.args.max_lines []) (sym c.new-reading.ensures.none) (come_none c.args.max_lines),
   search rules,
 )
 
@@ -206,7 +206,7 @@ pub returns-in-Err-clause-ok : goal.returns-in-Err-clause-ok
 returns-in-Err-clause-ok g c = of_any _ _ (λ bytes. tt)
 
 pub take-requires : goal.take-requires
-take-requires g c = let (ls, so_far, come, read_on) = c.loop-columns.invariant in (come.records, come.read)
+take-requires g c = let (ls, so_far, come, read_on) = c.loop-columns.invariant in (come.taken.records, come.taken.read)
 
 pub take_plain_stop-requires : goal.take_plain_stop-requires
 take_plain_stop-requires g c = c.if-goes_on_plainly.ensures refl

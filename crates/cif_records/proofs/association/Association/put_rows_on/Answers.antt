@@ -8,7 +8,7 @@ use Rattle.cif_records.specs.Association.{association_rows, blank_body}
 use Rattle.cif_records.specs.declared.association.AssocBody.{AssocBody}
 use Rattle.cif_records.specs.declared.association.AssocKey.{AssocKey}
 use Rattle.cif_records.proofs.Rows.{◌&◌}
-use Rattle.cif_records.proofs.association.AssociationLayout.put_rows.Goals as goal
+use Rattle.cif_records.proofs.association.Association.put_rows_on.Goals as goal
 
 module _ (key : AssocKey) (first last : ℕ) (days : List Bool) (letter : Stp) (blank : Bor AssocBody) (is : blank.now ≡ blank_body) where
   written : (o : Option (Bor AssocBody)) → put_all [] (association_rows key first last days letter (Some (unwrap_or o blank).now))
@@ -26,13 +26,13 @@ module _ (key : AssocKey) (first last : ℕ) (days : List Bool) (letter : Stp) (
 pub returns-clause-columns : goal.returns-clause-columns
 returns-clause-columns c =
     let r = c.args.self.now in
-    let rows : Bor AssocBody → List Row = λ b. association_rows r.key r.first r.last r.days r.letter (Some b.now) in
+    let rows : Bor AssocBody → List Row = λ b. association_rows r.key c.args.first c.args.last r.days r.letter (Some b.now) in
     let put = subst (λ b. c.put_fields.new.line ≡ put_all [] (rows b)) c.unwrap_or.ensures c.put_fields.ensures.columns in
-    rw (← c.as_ref.ensures.value) (put ∙ written r.key r.first r.last r.days r.letter _ c.blank-blank.ensures c.as_ref.result)
+    rw (← c.as_ref.ensures.value) (put ∙ written r.key c.args.first c.args.last r.days r.letter _ c.blank-blank.ensures c.as_ref.result)
 
 pub returns-clause-fits : goal.returns-clause-fits
 returns-clause-fits c =
     let r = c.args.self.now in
-    let put = subst (λ (b : Bor AssocBody). AllFit (association_rows r.key r.first r.last r.days r.letter (Some b.now)))
+    let put = subst (λ (b : Bor AssocBody). AllFit (association_rows r.key c.args.first c.args.last r.days r.letter (Some b.now)))
     c.unwrap_or.ensures c.put_fields.ensures.fits in
-    rw (← c.as_ref.ensures.value) (fit r.key r.first r.last r.days r.letter _ c.blank-blank.ensures c.as_ref.result put)
+    rw (← c.as_ref.ensures.value) (fit r.key c.args.first c.args.last r.days r.letter _ c.blank-blank.ensures c.as_ref.result put)

@@ -1,0 +1,20 @@
+-- The detail's own line has its columns where the BS has them (`detail_columns`), and a blank line has none there.
+use Rattle.std.proofs.Common.{None, Some, ap, refl, sym, ◌∙◌}
+use Rattle.std.specs.Option.{option_map}
+use Rattle.cif_columns.specs.Field.{columns, plain_line}
+use Rattle.cif_extract.specs.BodyParts.{BodyParts}
+use Rattle.cif_records.specs.Detail.{detail_rows}
+use Rattle.cif_records.proofs.Details.{detail_columns}
+use Rattle.cif_extract.proofs.extract.Schedule.line_on.Goals as goal
+
+pub returns-in-Some : goal.returns-in-Some
+returns-in-Some c =
+    let own = detail_columns c.in-Some.body.detail c.detail_line.result c.line.ensures.detail.width c.detail_line.ensures.plain in
+    c.line.ensures.plain (option_map (λ (b : BodyParts). b.detail) c.args.self.now.body)
+    (own ∙ ap (λ o. plain_line (detail_rows (option_map (λ (b : BodyParts). b.detail) o))) (sym c.in-Some.is))
+
+pub returns-in-None : goal.returns-in-None
+returns-in-None c =
+    c.line-in-None.ensures.plain (option_map (λ (b : BodyParts). b.detail) c.args.self.now.body)
+    (ap (columns 30 78) c.blank.ensures
+    ∙ ap (λ o. plain_line (detail_rows (option_map (λ (b : BodyParts). b.detail) o))) (sym c.in-None.is))

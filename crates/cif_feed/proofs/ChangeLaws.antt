@@ -1,0 +1,107 @@
+-- What changes leave of each key, and in which order.
+use Rattle.std.proofs.Common.{◌≡◌, Bool, true, false, not, cond, ◌&&◌, ◌||◌, List, [], ◌∷◌, ◌++◌, Option, None, Some, refl, sym, ap, ◌∙◌}
+use Rattle.std.proofs.Common.{append_assoc, append-nil}
+use Rattle.std.specs.Cmp.{IsEquivalence}
+use Rattle.std.specs.Prelude.{filter}
+use Rattle.std.proofs.lemmas.List.Elements.{filter-append}
+use Rattle.cif_feed.specs.Changes.{ChangeParts, after, after_all, is_changed, last_word, of_key, put, put_last, untouched, without}
+
+module _ {A : Type 0} where
+  -- a filter after a filter
+  filter-filter : (p q : A → Bool) (xs : List A) → filter p (filter q xs) ≡ filter (λ x. q x && p x) xs
+  filter-filter p q [] = refl
+  filter-filter p q (x ∷ xs) = at (q x) (filter-filter p q xs)
+    where
+      at : (b : Bool) → filter p (filter q xs) ≡ filter (λ y. q y && p y) xs
+          → filter p (cond b (x ∷ filter q xs) (filter q xs))
+          ≡ cond (b && p x) (x ∷ filter (λ y. q y && p y) xs) (filter (λ y. q y && p y) xs)
+      at true more = ap (λ l. cond (p x) (x ∷ l) l) more
+      at false more = more
+
+  -- by tests that agree
+  filter-alike : (p q : A → Bool) → ((x : A) → p x ≡ q x) → (xs : List A) → filter p xs ≡ filter q xs
+  filter-alike p q agree [] = refl
+  filter-alike p q agree (x ∷ xs) =
+      ap (λ b. cond b (x ∷ filter p xs) (filter p xs)) (agree x) ∙ ap (λ l. cond (q x) (x ∷ l) l) (filter-alike p q agree xs)
+
+  -- where nothing passes
+  filter-nothing : (p : A → Bool) → ((x : A) → p x ≡ false) → (xs : List A) → filter p xs ≡ []
+  filter-nothing p none [] = refl
+  filter-nothing p none (x ∷ xs) = ap (λ b. cond b (x ∷ filter p xs) (filter p xs)) (none x) ∙ filter-nothing p none xs
+
+never : (b : Bool) → (not b && b) ≡ false
+never true = refl
+never false = refl
+
+neither : (b c : Bool) → (not b && not c) ≡ not (b || c)
+neither true c = refl
+neither false c = refl
+
+module _ {K I : Type 0} (same : K → K → Bool) where
+  -- a record that is put, by a test of its key
+  put-passes : (p : K → Bool) (key : K) (o : Option I) → p key ≡ true → filter (λ (r : K × I). p r.0) (put key o) ≡ put key o
+  put-passes p key None is = refl
+  put-passes p key (Some item) is = ap (λ b. cond b ((key, item) ∷ []) []) is
+
+  put-fails : (p : K → Bool) (key : K) (o : Option I) → p key ≡ false → filter (λ (r : K × I). p r.0) (put key o) ≡ []
+  put-fails p key None is = refl
+  put-fails p key (Some item) is = ap (λ b. cond b ((key, item) ∷ []) []) is
+
+  module _ (laws : IsEquivalence same) where
+    -- a change of this key leaves what it puts, and another leaves what was there
+    pub of_key-after : (records : List (K × I)) (c : ChangeParts K I) (key : K) (b : Bool) → same c.key key ≡ b
+        → of_key same (after same records c) key ≡ cond b (put c.key c.puts) (of_key same records key)
+    of_key-after records c key true is =
+        filter-append (λ (r : K × I). same r.0 key) (without same records c.key) (put c.key c.puts)
+        ∙ ap (λ l. l ++ of_key same (put c.key c.puts) key)
+        (filter-filter (λ (r : K × I). same r.0 key) (λ r. not (same r.0 c.key)) records
+        ∙ filter-nothing _ (λ (r : K × I).
+        ap (λ v. not (same r.0 c.key) && v)
+        (laws.symm r.0 key ∙ sym (laws.congr c.key key r.0 is) ∙ laws.symm c.key r.0) ∙ never (same r.0 c.key)) records)
+        ∙ put-passes (λ k. same k key) c.key c.puts is
+    of_key-after records c key false is =
+        filter-append (λ (r : K × I). same r.0 key) (without same records c.key) (put c.key c.puts)
+        ∙ ap (λ l. of_key same (without same records c.key) key ++ l) (put-fails (λ k. same k key) c.key c.puts is)
+        ∙ append-nil (of_key same (without same records c.key) key)
+        ∙ filter-filter (λ (r : K × I). same r.0 key) (λ r. not (same r.0 c.key)) records
+        ∙ filter-alike _ (λ (r : K × I). same r.0 key) (λ (r : K × I). at r.0 (same r.0 c.key) refl) records
+      where
+        at : (k : K) (v : Bool) → same k c.key ≡ v → (not v && same k key) ≡ same k key
+        at k true one = sym (laws.congr k c.key key one ∙ is)
+        at k false one = refl
+
+    pub of_key-after_all : (records : List (K × I)) (changes : List (ChangeParts K I)) (key : K)
+        → of_key same (after_all same records changes) key ≡ last_word same (of_key same records key) changes key
+    of_key-after_all records [] key = refl
+    of_key-after_all records (c ∷ changes) key =
+        of_key-after_all (after same records c) changes key
+        ∙ ap (λ before. last_word same before changes key) (of_key-after records c key (same c.key key) refl)
+
+  pub after_all-untouched : (records : List (K × I)) (changes : List (ChangeParts K I))
+      → after_all same records changes ≡ untouched same records changes ++ put_last same changes
+  after_all-untouched records [] = sym (append-nil _ ∙ all records)
+    where
+      all : (rs : List (K × I)) → filter (λ (r : K × I). true) rs ≡ rs
+      all [] = refl
+      all (r ∷ rs) = ap (λ l. r ∷ l) (all rs)
+  after_all-untouched records (c ∷ changes) =
+      after_all-untouched (after same records c) changes
+      ∙ ap (λ l. l ++ put_last same changes)
+      (filter-append (λ (r : K × I). not (is_changed same changes r.0)) (without same records c.key) (put c.key c.puts)
+      ∙ ap (λ l. l ++ filter (λ (r : K × I). not (is_changed same changes r.0)) (put c.key c.puts))
+      (filter-filter (λ (r : K × I). not (is_changed same changes r.0)) (λ r. not (same r.0 c.key)) records
+      ∙ filter-alike _ (λ (r : K × I). not (is_changed same (c ∷ changes) r.0))
+      (λ (r : K × I). neither (same r.0 c.key) (is_changed same changes r.0)) records)
+      ∙ ap (λ l. untouched same records (c ∷ changes) ++ l) (at (is_changed same changes c.key) refl))
+      ∙ append_assoc (untouched same records (c ∷ changes)) (cond (is_changed same changes c.key) [] (put c.key c.puts))
+      (put_last same changes)
+    where
+      at : (b : Bool) → is_changed same changes c.key ≡ b
+          → filter (λ (r : K × I). not (is_changed same changes r.0)) (put c.key c.puts) ≡ cond b [] (put c.key c.puts)
+      at true is = put-fails (λ k. not (is_changed same changes k)) c.key c.puts (ap not is)
+      at false is = put-passes (λ k. not (is_changed same changes k)) c.key c.puts (ap not is)
+
+  pub after_all-append : (records : List (K × I)) (us vs : List (ChangeParts K I))
+      → after_all same records (us ++ vs) ≡ after_all same (after_all same records us) vs
+  after_all-append records [] vs = refl
+  after_all-append records (u ∷ us) vs = after_all-append (after same records u) us vs

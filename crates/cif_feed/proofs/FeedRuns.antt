@@ -1,0 +1,389 @@
+-- What the contents of a feed so far have come to, and how its reading ends.
+use Rattle.std.proofs.Common.{◌≡◌, ◌≢◌, ℕ, ◌+◌, ◌<◌, ◌≤◌, Bool, true, false, cond, nat_eq, nat_lt, List, [], ◌∷◌, ◌++◌, length, take, Option}
+use Rattle.std.proofs.Common.{Some, None, IfErr, IfOk, IfSome, IsSomeAnd, Result, Ok, Err, refl, sym, ap, ◌∙◌, arith, append_assoc}
+use Rattle.std.proofs.Common.{below_more, codes, filter, get_or, inl, inr, length-append, map, ne_eqb, true≢false}
+use Rattle.std.proofs.lemmas.Bool.Decides.{nat_tests}
+use Rattle.std.proofs.lemmas.List.{append_cancel_left, get_or_append_left, take-append-le}
+use Rattle.std.proofs.lemmas.List.Elements.{All-cons, All-head, All-nil, All-tail}
+use Rattle.std.proofs.lemmas.List.Sums.{count_by-le-length, length-filter}
+use Rattle.std.proofs.Math.Seq.{get_or-append_seam, take-append_seam}
+use Rattle.std.specs.List.{list_all}
+use Rattle.std.specs.Option.{option_or}
+use Rattle.std.specs.Prelude.{All, slice_index_or}
+use Rattle.cif_columns.specs.Comment.{is_comment}
+use Rattle.cif_columns.specs.Contents.{HasLineReason, IsFirstContent, contents_of}
+use Rattle.cif_columns.specs.FirstLine.{first_content, is_printable}
+use Rattle.cif_columns.specs.GivenLines.{AreAllContents, AreContentsToFailure, AreContentsToFault, AreContentsToRefusal, AreWholeContentsAndRest}
+use Rattle.cif_columns.specs.GivenLines.{IsContentDecidedOrLast, IsReadingContents, KnownContents}
+use Rattle.cif_columns.specs.Line.{IsLine}
+use Rattle.cif_columns.specs.LineReader.{HasPassedComment, IsNext, IsNextFault, IsNoComment, LineReads, left}
+use Rattle.cif_columns.specs.Source.{HasReadOn, Unread, reader_of, source_ended}
+use Rattle.cif_columns.specs.declared.line.Line.{Line}
+use Rattle.cif_columns.specs.declared.line_reader.LineReader.{LineReader}
+use Rattle.cif_columns.specs.declared.refusal.LineFault.{LineFault}
+use Rattle.cif_columns.specs.declared.refusal.LineFault.TheVariants as line_fault
+use Rattle.cif_columns.specs.declared.refusal.Refusal.{Refusal}
+use Rattle.cif_columns.specs.declared.refusal.Refusal.TheVariants as refusal
+use Rattle.cif_columns.specs.declared.source.Source.{Source}
+use Rattle.cif_columns.proofs.DecidedLines.{contents_first}
+use Rattle.cif_columns.proofs.GivenLinesLaws.{contents_given, known_so, reading_content}
+use Rattle.cif_columns.proofs.PrintableBytes.{printable_fact, printable_true}
+use Rattle.cif_columns.proofs.ReadSources.{failed_after, read_on_both}
+use Rattle.cif_extract.specs.Fault.{of_line_fault}
+use Rattle.cif_extract.specs.ReadFault.{IsLineNumber, LeavesNothing}
+use Rattle.cif_extract.specs.Taken.{IsNoTrailer}
+use Rattle.cif_extract.specs.declared.fault.Fault.TheVariants as fault
+use Rattle.cif_extract.specs.declared.reading.TakeFault.{TakeFault}
+use Rattle.cif_extract.specs.declared.reading.TakeFault.TheVariants as untaken
+use Rattle.cif_extract.proofs.FirstRefusals.{not_true, or_none}
+use Rattle.cif_records.specs.Checks.{first_of, unless}
+use Rattle.cif_records.specs.Kind.{kind_in}
+use Rattle.cif_records.specs.declared.record.Kind.{Kind}
+use Rattle.cif_records.specs.declared.record.Kind.TheVariants.{Hd, Zz}
+use Rattle.cif_feed.specs.FeedFault.{FeedReads, IsFeedFault, IsOfFeed}
+use Rattle.cif_feed.specs.FeedLines.{as_it_stands, is_note, notes_behind, said, said_by, speaks, strict_lines}
+use Rattle.cif_feed.specs.FeedRefusal.{IsFeedContent, IsFeedCut, IsFirstOfFeed, NoneOfFeedRefused, fault_for, feed_refusal, line_refusal}
+use Rattle.cif_feed.specs.FeedRefusal.{not_full, untaken_fault}
+use Rattle.cif_feed.specs.SpellsFeed.{BytesSpellPublished, SpellPublished, published_parts}
+use Rattle.cif_feed.specs.Steps.FeedReading.{IsFeedHeld, IsFeedTaken}
+use Rattle.cif_feed.specs.declared.feed.Feed.{Feed}
+use Rattle.cif_feed.specs.declared.feed.Feed.TheVariants.{Full, Update}
+use Rattle.cif_feed.specs.declared.feed.FeedFault.{FeedFault}
+use Rattle.cif_feed.specs.declared.feed.FeedFault.TheVariants.{Extract, NotUpdate, BadTransaction}
+use Rattle.cif_feed.specs.declared.holidays.Holidays.{Holidays}
+use Rattle.cif_feed.specs.declared.published.FeedReading.{FeedReading}
+use Rattle.cif_feed.specs.declared.published.Published.{Published}
+use Rattle.cif_feed.proofs.FeedSteps.{comment_kind, named_speaks}
+
+-- a fact of any bytes
+pub known_any : (start : Option (List ℕ)) (P : List ℕ → Type 0) → ((bytes : List ℕ) → P bytes) → IfSome start P
+known_any None P so = tt
+known_any (Some bytes) P so = so bytes
+
+-- ---- why a content is refused
+
+module _ (feed : Feed) (h : Holidays) (max : ℕ) where
+  -- a comment never is, where it may come
+  pub comment_fine : (cs : List (List ℕ)) (c : List ℕ) → is_comment c ≡ true → length cs < max → feed_refusal feed h max cs c ≡ None
+  unfolding feed_refusal
+  comment_fine cs c comment room =
+      let few : nat_lt (length cs) max ≡ true = grind (arith, nat_tests) in rw (few, comment) refl
+
+  -- a line is for what it says, and where
+  pub line_why : (cs : List (List ℕ)) (c : List ℕ) → IsLine c → is_comment c ≡ false → length cs < max
+      → feed_refusal feed h max cs c ≡ line_refusal feed h cs c
+  unfolding feed_refusal
+  line_why cs c is_line no_comment room =
+      let few : nat_lt (length cs) max ≡ true = grind (arith, nat_tests) in
+      let wide : nat_eq (length c) 80 ≡ true = (let w = is_line.width in grind (arith, nat_tests)) in
+      rw (few, no_comment, wide, printable_true c is_line.printable)
+      (or_none (option_or (line_refusal feed h cs c) None) ∙ or_none (line_refusal feed h cs c))
+
+  -- what is no line and no comment is for that
+  content_why : (cs : List (List ℕ)) (c : List ℕ) (number : ℕ) (why : Refusal) → number ≡ length cs + 1
+      → HasLineReason max number c why → (length cs < max → is_comment c ≡ false) → feed_refusal feed h max cs c ≡ Some why
+  unfolding feed_refusal
+  content_why cs c number refusal.TooManyLines is reason no_comment =
+      let full : nat_lt (length cs) max ≡ false = grind (arith, nat_tests) in rw full refl
+  content_why cs c number refusal.BadLength is reason no_comment =
+      let room : length cs < max = omega (arith, reason.0, is) in
+      let few : nat_lt (length cs) max ≡ true = grind (arith, nat_tests) in
+      rw (few, no_comment room, ne_eqb (length c) 80 reason.1) refl
+  content_why cs c number refusal.BadByte is reason no_comment =
+      let room : length cs < max = omega (arith, reason.0, is) in
+      let few : nat_lt (length cs) max ≡ true = grind (arith, nat_tests) in
+      let width = reason.1 in
+      let wide : nat_eq (length c) 80 ≡ true = grind (arith, nat_tests) in
+      rw (few, no_comment room, wide, not_true (list_all is_printable c) (λ all. reason.2 (printable_fact c all))) refl
+  content_why cs c number _ is reason no_comment = absurd reason
+
+  -- its fault has this name for any line
+  content_fault : (number : ℕ) (c : List ℕ) (kind : Option Kind) (why : Refusal) → HasLineReason max number c why
+      → fault_for feed number kind why ≡ Extract (fault.Refused number why)
+  content_fault number c kind refusal.TooManyLines reason = refl
+  content_fault number c kind refusal.BadLength reason = refl
+  content_fault number c kind refusal.BadByte reason = refl
+  content_fault number c kind _ reason = absurd reason
+
+  -- what is said of any fault is said of the one that has this name
+  named_fault : (P : FeedFault → Type 0) (number : ℕ) (kind : Option Kind) (why : Refusal)
+      → ((w : Refusal) → P (Extract (fault.Refused number w))) → P (NotUpdate number) → P (BadTransaction number)
+      → P (fault_for feed number kind why)
+  named_fault P number kind refusal.NotFull plain update transaction = at feed kind
+    where
+      at : (f : Feed) (k : Option Kind) → P (not_full f number k)
+      at Full k = plain refusal.NotFull
+      at Update None = transaction
+      at Update (Some Hd) = update
+      at Update (Some _) = transaction
+  named_fault P number kind why plain update transaction = plain why
+
+  -- a note that isn't refused may stand
+  note_stands : (cs : List (List ℕ)) (c : List ℕ) → feed_refusal feed h max cs c ≡ None → is_note c ≡ true → notes_behind cs ≡ true
+  unfolding feed_refusal
+  note_stands cs c none note =
+      let no_comment : is_comment c ≡ false = not_true (is_comment c) (λ comment. let other = (comment_kind c comment).0 in cc) in
+      at (nat_lt (length cs) max) (nat_eq (length c) 80) (list_all is_printable c) (notes_behind cs) (rw (no_comment, note) at none)
+    where
+      at : (few wide printable may : Bool)
+          → first_of (unless few refusal.TooManyLines ∷ first_of (unless wide refusal.BadLength ∷ unless printable refusal.BadByte
+          ∷ unless may refusal.OutOfOrder ∷ []) ∷ []) ≡ None
+          → may ≡ true
+      at true true true true e = refl
+      at true true true false e = absurd (cc)
+      at true true false may e = absurd (cc)
+      at true false printable may e = absurd (cc)
+      at false wide printable may e = absurd (cc)
+
+  -- ---- none is refused
+
+  pub none_more : (cs : List (List ℕ)) (c : List ℕ) → NoneOfFeedRefused feed h max cs → feed_refusal feed h max cs c ≡ None
+      → NoneOfFeedRefused feed h max (cs ++ c ∷ [])
+  none_more cs c fine none = record { fine = λ k below. at k (omega (arith, length-append cs (c ∷ []))) }
+    where
+      at : (k : ℕ) → k < length cs + 1 → feed_refusal feed h max (take k (cs ++ c ∷ [])) (get_or (cs ++ c ∷ []) k []) ≡ None
+      at = below_more (λ k. feed_refusal feed h max (take k (cs ++ c ∷ [])) (get_or (cs ++ c ∷ []) k []) ≡ None) (length cs)
+          (λ k l. rw (take-append-le k cs (c ∷ []) (omega arith), get_or_append_left cs (c ∷ []) [] k l) (fine.fine k l))
+          (rw (take-append_seam cs (c ∷ []), get_or-append_seam cs c [] []) none)
+
+  pub none_none : NoneOfFeedRefused feed h max []
+  none_none = record { fine = λ k below. absurd (omega arith) }
+
+  -- ---- trailers
+
+  plain_trailer : (f : Feed) (c : List ℕ) → said_by f h (Some Zz) c ≡ as_it_stands c
+  plain_trailer Full c = refl
+  plain_trailer Update c = refl
+
+  -- a line is a trailer where its strict line is
+  no_trailer_one : (c : List ℕ) → IsNoTrailer (said feed h c).line → IsNoTrailer c
+  no_trailer_one c none is =
+      let same : said feed h c ≡ as_it_stands c = ap (λ kind. said_by feed h kind c) is ∙ plain_trailer feed c in
+      none (rw same is)
+
+  silent_one : (c : List ℕ) → speaks c ≡ false → IsNoTrailer c
+  silent_one c silent is =
+      let other = named_speaks c Zz is in
+      let says : speaks c ≡ true = rw (other.0, other.1) refl in
+      true≢false (sym says ∙ silent)
+
+  pub no_trailers : (cs : List (List ℕ)) → All IsNoTrailer (strict_lines feed h cs) → All IsNoTrailer cs
+  no_trailers [] all = All-nil IsNoTrailer
+  no_trailers (c ∷ cs) all = at (speaks c) refl all (no_trailers cs)
+    where
+      at : (b : Bool) → b ≡ speaks c
+          → All IsNoTrailer (map (λ (content : List ℕ). (said feed h content).line) (cond b (c ∷ filter speaks cs) (filter speaks cs)))
+          → (All IsNoTrailer (strict_lines feed h cs) → All IsNoTrailer cs) → All IsNoTrailer (c ∷ cs)
+      at true e all more =
+          All-cons IsNoTrailer c cs (no_trailer_one c (All-head IsNoTrailer (said feed h c).line (strict_lines feed h cs) all))
+          (more (All-tail IsNoTrailer (said feed h c).line (strict_lines feed h cs) all))
+      at false e all more = All-cons IsNoTrailer c cs (silent_one c (sym e)) (more all)
+
+  -- ---- where a reading stops, and why
+
+  module _ (start : Option (List ℕ)) (cs : List (List ℕ)) (fine : NoneOfFeedRefused feed h max cs) where
+    -- at a line that is refused
+    pub at_feed_line : {R : Type 0} (remaining : R → Option (List ℕ)) (reader : LineReader) (source : Source R) (c : List ℕ) (number : ℕ)
+        (why : Refusal)
+        → IsReadingContents IsFeedContent remaining start max reader source (cs ++ c ∷ []) → number ≡ length cs + 1
+        → feed_refusal feed h max cs c ≡ Some why
+        → IfSome start (λ bytes. IsFirstOfFeed feed h max (contents_of bytes) (fault_for feed number (kind_in c) why))
+    at_feed_line remaining reader source c number why so_far is reason = at start (left remaining reader source) so_far.known
+      where
+        at : (s rest : Option (List ℕ)) → KnownContents IsFeedContent s (cs ++ c ∷ []) rest
+            → IfSome s (λ bytes. IsFirstOfFeed feed h max (contents_of bytes) (fault_for feed number (kind_in c) why))
+        at None rest known = tt
+        at (Some bytes) None known = absurd known
+        at (Some bytes) (Some rest) known = inl (record {
+          before = cs;
+          content = c;
+          after = contents_of rest;
+          parts = contents_given bytes (cs ++ c ∷ []) rest known ∙ append_assoc cs (c ∷ []) (contents_of rest);
+          fine = fine;
+          why = why;
+          reason = reason;
+          is = ap (λ n. fault_for feed n (kind_in c) why) is;
+        })
+
+    -- where all contents were taken, and the trailer came
+    pub feed_whole : (result : Result Published FeedFault) → IfSome start (λ bytes. AreAllContents IsFeedContent max bytes cs)
+        → IfOk result (IsFeedHeld feed h cs)
+        → IfSome start (λ bytes. IfOk result (λ published. BytesSpellPublished feed h max bytes (published_parts published)))
+    feed_whole (Err f) all held = known_so start _ _ (λ bytes a. tt) all
+    feed_whole (Ok published) all held = known_so start _ _ (λ bytes a. let both = at (contents_of bytes) a.contents a.are_lines a.within in
+        record { spell = both.0; within = both.1 }) all
+      where
+        at : (contents : List (List ℕ)) → contents ≡ cs → All IsFeedContent cs → length cs ≤ max
+            → (s : SpellPublished feed h contents (published_parts published)) × (length contents ≤ max)
+        at contents is are within = (
+          rw is (record {
+            are_contents = are;
+            notes_stand = λ k below note. note_stands (take k cs) (slice_index_or cs k []) (fine.fine k below) note;
+            extract = held.extract;
+            tiploc_marks = held.tiploc_marks;
+            association_marks = held.association_marks;
+            schedule_marks = held.schedule_marks;
+            comments = held.comments;
+            notes = held.notes;
+          }),
+          rw is within,
+        )
+
+    -- at a fault of the lines
+    module _ {R : Type 0} (remaining : R → Option (List ℕ)) (reader : LineReader) (source : Source R)
+        (so_far : IsReadingContents IsFeedContent remaining start max reader source cs) (after : Unread) where
+      no_comment_there : (bytes rest content : List ℕ) (others : List (List ℕ)) → AreWholeContentsAndRest IsFeedContent bytes cs rest
+          → contents_of bytes ≡ cs ++ content ∷ others → is_comment (first_content rest) ≡ false → is_comment content ≡ false
+      no_comment_there bytes [] content others known is none =
+          let both : contents_of [] ≡ content ∷ others = append_cancel_left cs _ _ (sym (contents_given bytes cs [] known) ∙ is) in cc
+      no_comment_there bytes (b ∷ rest) content others known is none =
+          let both : contents_of (b ∷ rest) ≡ content ∷ others =
+          append_cancel_left cs _ _ (sym (contents_given bytes cs (b ∷ rest) known) ∙ is) in
+          let first = contents_first (b ∷ rest) (omega arith) in
+          let same : first_content (b ∷ rest) ≡ content = cc in
+          ap is_comment (sym same) ∙ none
+
+      pub at_feed_fault : (fault : LineFault) → IfSome start (λ bytes. AreContentsToFault IsFeedContent max bytes after cs fault)
+          → (fault ≢ line_fault.Read → IsNoComment remaining reader source)
+          → IfSome start (λ bytes. IsFeedFault feed h max bytes after (Extract (of_line_fault fault)))
+      at_feed_fault (line_fault.Refused number why) faults none =
+          at start (left remaining reader source) so_far.known (λ room. none (λ e. cc) so_far.reads_on
+          (omega (arith, room, so_far.counted, so_far.same_limit))) faults
+        where
+          at : (s rest : Option (List ℕ)) → KnownContents IsFeedContent s cs rest
+              → (length cs < max → IfSome rest (λ bytes. is_comment (first_content bytes) ≡ false))
+              → IfSome s (λ bytes. AreContentsToRefusal IsFeedContent max bytes cs number why
+              × IsContentDecidedOrLast IsFeedContent max bytes after number)
+              → IfSome s (λ bytes. IsFeedFault feed h max bytes after (Extract (fault.Refused number why)))
+          at None rest known none r = tt
+          at (Some bytes) None known none r = absurd known
+          at (Some bytes) (Some rest) known none r = (
+            inl (record {
+              before = cs;
+              content = r.0.content;
+              after = r.0.others;
+              parts = r.0.contents;
+              fine = fine;
+              why = why;
+              reason = content_why cs r.0.content number why r.0.next r.0.reason
+                  (λ room. no_comment_there bytes rest r.0.content r.0.others known r.0.contents (none room));
+              is = sym (content_fault number r.0.content (kind_in r.0.content) why r.0.reason)
+                  ∙ ap (λ n. fault_for feed n (kind_in r.0.content) why) r.0.next;
+            }),
+            r.1,
+          )
+      at_feed_fault line_fault.Read faults none = known_so start _ _ (λ bytes r. at bytes after.bytes r) faults
+        where
+          at : (bytes : List ℕ) (unread : Option (List ℕ))
+              → IsSomeAnd unread (λ others. AreContentsToFailure IsFeedContent max bytes others cs)
+              → IsSomeAnd unread (IsFeedCut feed h max bytes)
+          at bytes None r = absurd r
+          at bytes (Some others) r = record { contents = cs; given = r; fine = fine }
+
+    -- where the trailer is missing
+    pub feed_truncated : (after : Unread) (number : ℕ) (result : Result Published FeedFault) → after.ended ≡ true
+        → IfSome start (λ bytes. AreAllContents IsFeedContent max bytes cs) → number ≡ length cs
+        → IfErr result (λ f. f ≡ Extract (fault.Refused (number + 1) refusal.Truncated))
+        → IfErr result (λ f. All IsNoTrailer (strict_lines feed h cs))
+        → IfSome start (λ bytes. IfErr result (IsFeedFault feed h max bytes after))
+    feed_truncated after number (Ok published) told all is err none = known_so start _ _ (λ bytes a. tt) all
+    feed_truncated after number (Err f) told all is err none =
+        rw err (known_so start _ _ (λ bytes a. (
+          inr (record {
+            fine = rw a.contents fine;
+            no_trailer = rw a.contents (no_trailers cs none);
+            is = ap (λ n. Extract (fault.Refused (n + 1) refusal.Truncated)) (is ∙ ap length (sym a.contents));
+          }),
+          λ not. absurd (true≢false (sym told ∙ not)),
+        )) all)
+
+    -- a line that isn't taken
+    pub feed_untaken : (after : Unread) (number : ℕ) (kind : Option Kind) (s : TakeFault)
+        → ((why : Refusal) → s ≡ untaken.Refused why → IfSome start (λ bytes.
+        IsFirstOfFeed feed h max (contents_of bytes) (fault_for feed number kind why)
+        × IsContentDecidedOrLast IsFeedContent max bytes after number))
+        → IfSome start (λ bytes. IsFeedFault feed h max bytes after (untaken_fault feed number kind s))
+    feed_untaken after number kind (untaken.Refused why) why_so =
+        known_so start _ _ (λ bytes. named_fault (λ f. IsFirstOfFeed feed h max (contents_of bytes) f
+        × IsContentDecidedOrLast IsFeedContent max bytes after number → IsFeedFault feed h max bytes after f)
+        number kind why (λ w both. both) (λ both. both) (λ both. both)) (why_so why refl)
+    feed_untaken after number kind untaken.Memory why_so = known_any start _ (λ bytes. tt)
+
+  -- its number is that of a line
+  pub untaken_of_feed : (number : ℕ) (kind : Option Kind) (s : TakeFault) → 1 ≤ number → number ≤ max
+      → IsOfFeed max (untaken_fault feed number kind s)
+  untaken_of_feed number kind (untaken.Refused why) first within =
+      let here : IsLineNumber max number = (first, omega arith) in
+      named_fault (IsOfFeed max) number kind why (λ w. here) here here
+  untaken_of_feed number kind untaken.Memory first within = tt
+
+  -- and it was read
+  pub untaken_reads : {R : Type 0} (errors : R → Option ℕ) (s t : Source R) (number : ℕ) (kind : Option Kind) (f : TakeFault)
+      → HasReadOn errors s t → FeedReads {A = Published} errors s t (Err (untaken_fault feed number kind f))
+  untaken_reads errors s t number kind (untaken.Refused why) read =
+      named_fault (λ f. FeedReads {A = Published} errors s t (Err f)) number kind why (λ w. read) read read
+  untaken_reads errors s t number kind untaken.Memory read = read
+
+-- the reason for which a line that isn't taken is refused
+pub feed_reason : (feed : Feed) (h : Holidays) (cs : List (List ℕ)) (c : List ℕ) (s : TakeFault) (why : Refusal) (r : FeedReading)
+    → IsFeedTaken feed h cs c (Err s) r → s ≡ untaken.Refused why → line_refusal feed h cs c ≡ Some why
+feed_reason feed h cs c (untaken.Refused x) why r taken e = taken ∙ (let same : x ≡ why = cc in ap Some same)
+feed_reason feed h cs c untaken.Memory why r taken e = cc
+
+-- a fault of the lines is one of reading
+pub line_fault_of_feed : (max count : ℕ) (l : LineFault) → count ≤ max → IsNextFault count l → IsOfFeed max (Extract (of_line_fault l))
+line_fault_of_feed max count (line_fault.Refused number why) within next = (omega (arith, next.0), omega (arith, next.0))
+line_fault_of_feed max count line_fault.Read within next = tt
+
+pub line_fault_reads : {R : Type 0} (errors : R → Option ℕ) (s t u : Source R) (l : LineFault) → HasReadOn errors s t
+    → LineReads {A = Option Line} errors t u (Err l) → FeedReads {A = Published} errors s u (Err (Extract (of_line_fault l)))
+line_fault_reads errors s t u (line_fault.Refused number why) p next = read_on_both errors s t u p next
+line_fault_reads errors s t u line_fault.Read p next = failed_after errors s t u p next
+
+-- nothing is left, whether there is an extract or not
+pub if_done : {R A E : Type 0} (remaining : R → Option (List ℕ)) (old new : Source R) (r : Result A E) → source_ended new ≡ true →
+    IfSome (remaining (reader_of old)) (λ bytes. remaining (reader_of new) ≡ Some []) → LeavesNothing remaining old new r
+if_done remaining old new (Ok a) told left = (told, left)
+if_done remaining old new (Err e) told left = tt
+
+-- some of the contents are at most all
+pub fewer : (p : List ℕ → Bool) (cs : List (List ℕ)) → length (filter p cs) ≤ length cs
+fewer p cs = omega (arith, length-filter p cs, count_by-le-length p cs)
+
+-- ---- one content more
+
+bare_comment : is_comment (codes "/!!") ≡ true
+unfolding is_comment
+bare_comment = refl
+
+module _ {R : Type 0} (remaining : R → Option (List ℕ)) (errors : R → Option ℕ) (start : Option (List ℕ)) (max : ℕ) (reader : LineReader)
+    (source : Source R) (cs : List (List ℕ)) (so_far : IsReadingContents IsFeedContent remaining start max reader source cs)
+    (reader' : LineReader) (source' : Source R) where
+  -- a line
+  pub feed_line : (line : List ℕ) → IsLine line → IsNext remaining errors reader source (Ok (Some line)) reader' source'
+      → IsReadingContents IsFeedContent remaining start max reader' source' (cs ++ line ∷ [])
+  feed_line line is_line next =
+      reading_content remaining start max reader source cs so_far reader' source' line (λ going.
+      known_so (left remaining reader source) _ _
+      (λ bytes found. (inl is_line, (found.0, found.1, record { stands = found.2.stands; contents = found.2.contents })))
+      (next.answer going)) next.past_now next.limit_now next.counted
+
+  -- a comment; where the bytes aren't known, any
+  pub feed_comment : HasPassedComment remaining errors reader source reader' source'
+      → (comment : List ℕ) × (is_comment comment ≡ true)
+      × IsReadingContents IsFeedContent remaining start max reader' source' (cs ++ comment ∷ [])
+  feed_comment passed =
+      let (comment, is, found) = at (left remaining reader source) passed.comment in (
+        comment,
+        is,
+        reading_content remaining start max reader source cs so_far reader' source' comment (λ going. found)
+            (passed.past_now ∙ passed.reading) passed.limit_now passed.counted,
+      )
+    where
+      at : (bytes : Option (List ℕ))
+          → IfSome bytes (λ b. (content rest : List ℕ) × (is_comment content ≡ true) × (left remaining reader' source' ≡ Some rest)
+          × IsFirstContent b content rest)
+          → (comment : List ℕ) × (is_comment comment ≡ true) × IfSome bytes (λ b. IsFeedContent comment
+          × ((rest : List ℕ) × (left remaining reader' source' ≡ Some rest) × IsFirstContent b comment rest))
+      at None found = (codes "/!!", bare_comment, tt)
+      at (Some b) found = (found.0, found.2, (inr found.2, (found.1, found.3, found.4)))

@@ -1,0 +1,82 @@
+-- Holidays that grow by one code, and dates by one day.
+use Rattle.std.proofs.Common.{◌≡◌, ◌⊎◌, inl, inr, ⊎_elim, ◌↔◌, ℕ, List, ◌∷◌, refl, sym, subst, Contains, IsTrue}
+use Rattle.std.specs.List.{insert}
+use Rattle.std.proofs.lemmas.List.Sorted.{Contains-permutation, IsPermutation-insert, IsPermutation-sym}
+use Rattle.cif_calendar.proofs.Elements.{Contains-cases, Contains-first, Contains-rest}
+use Rattle.cif_feed.specs.Holidays.{HasMore, IsHoliday, Names, dates_of}
+use Rattle.cif_feed.specs.declared.holiday_code.HolidayCode.{HolidayCode}
+use Rattle.cif_feed.specs.declared.holiday_code.HolidayCode.TheVariants.{X, E, G}
+use Rattle.cif_feed.specs.declared.holidays.HolidayDates.{HolidayDates}
+use Rattle.cif_feed.specs.declared.holidays.Holidays.{Holidays}
+
+-- dates with one more among them
+pub dates-inserted : (xs ys : List ℕ) (i day : ℕ) → ys ≡ insert xs i day → (d : ℕ) → Contains ys d ↔ (Contains xs d ⊎ (d ≡ day))
+dates-inserted xs ys i day is d = (
+  λ has. ⊎_elim (λ first. inr (sym first)) (λ rest. inl rest)
+      (Contains-cases day xs d (Contains-permutation (insert xs i day) (day ∷ xs) d
+      (IsPermutation-sym (day ∷ xs) (insert xs i day) (IsPermutation-insert xs i day))
+      (subst (λ (l : List ℕ). Contains l d) is has))),
+  λ has. subst (λ (l : List ℕ). Contains l d) (sym is) (Contains-permutation (day ∷ xs) (insert xs i day) d (IsPermutation-insert xs i day)
+      (⊎_elim (λ old. Contains-rest day xs d old)
+      (λ same. subst (λ (n : ℕ). Contains (day ∷ xs) n) (sym same) (Contains-first day xs)) has)),
+)
+
+-- two codes are one or not
+same_code : (a b : HolidayCode) → (a ≡ b) ⊎ (a ≡ b → ⊥)
+same_code X X = inl refl
+same_code X E = inr (λ e. absurd (cc))
+same_code X G = inr (λ e. absurd (cc))
+same_code E X = inr (λ e. absurd (cc))
+same_code E E = inl refl
+same_code E G = inr (λ e. absurd (cc))
+same_code G X = inr (λ e. absurd (cc))
+same_code G E = inr (λ e. absurd (cc))
+same_code G G = inl refl
+
+-- one code is named and has these days more, and the others are as before
+pub has-more : (old new : Holidays) (code : HolidayCode) (P : ℕ → Type 0) → Names new code
+    → ((d : ℕ) → IsHoliday new code d ↔ (IsHoliday old code d ⊎ P d))
+    → ((other : HolidayCode) → (other ≡ code → ⊥) → dates_of new other ≡ dates_of old other)
+    → (at : HolidayCode) → at ≡ code → HasMore old at P new
+has-more old new code P named days others at is_at = subst (λ (c : HolidayCode). HasMore old c P new) (sym is_at) (record {
+  names = λ other. ⊎_elim
+      (λ is. (λ h. inr is, λ h. subst (λ (c : HolidayCode). Names new c) (sym is) named))
+      (λ apart. (
+        λ h. inl (subst (λ (x : HolidayDates). IsTrue x.is_named) (others other apart) h),
+        λ h. ⊎_elim (λ was. subst (λ (x : HolidayDates). IsTrue x.is_named) (sym (others other apart)) was) (λ is. absurd (apart is)) h,
+      ))
+      (same_code other code);
+  days = λ other d. ⊎_elim
+      (λ is. (
+        λ h. ⊎_elim (λ was. inl (subst (λ (c : HolidayCode). IsHoliday old c d) (sym is) was)) (λ p. inr (is, p))
+            ((days d).0 (subst (λ (c : HolidayCode). IsHoliday new c d) is h)),
+        λ h. subst (λ (c : HolidayCode). IsHoliday new c d) (sym is)
+            ((days d).1 (⊎_elim (λ was. inl (subst (λ (c : HolidayCode). IsHoliday old c d) is was)) (λ p. inr p.1) h)),
+      ))
+      (λ apart. (
+        λ h. inl (subst (λ (x : HolidayDates). Contains x.days.items d) (others other apart) h),
+        λ h. ⊎_elim (λ was. subst (λ (x : HolidayDates). Contains x.days.items d) (sym (others other apart)) was)
+            (λ p. absurd (apart p.0)) h,
+      ))
+      (same_code other code);
+})
+
+-- no day more
+pub no-more : (A : Type 0) → A ↔ (A ⊎ ⊥)
+no-more A = (λ a. inl a, λ h. ⊎_elim (λ a. a) (λ none. absurd none) h)
+
+-- the codes other than one
+pub others-X : (P : HolidayCode → Type 0) → P E → P G → (other : HolidayCode) → (other ≡ X → ⊥) → P other
+others-X P e g X apart = absurd (apart refl)
+others-X P e g E apart = e
+others-X P e g G apart = g
+
+pub others-E : (P : HolidayCode → Type 0) → P X → P G → (other : HolidayCode) → (other ≡ E → ⊥) → P other
+others-E P x g X apart = x
+others-E P x g E apart = absurd (apart refl)
+others-E P x g G apart = g
+
+pub others-G : (P : HolidayCode → Type 0) → P X → P E → (other : HolidayCode) → (other ≡ G → ⊥) → P other
+others-G P x e X apart = x
+others-G P x e E apart = e
+others-G P x e G apart = absurd (apart refl)

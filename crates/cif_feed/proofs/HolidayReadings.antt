@@ -1,0 +1,323 @@
+-- The text of holidays, byte by byte.
+use Rattle.std.proofs.Common.{◌≡◌, ◌≢◌, ◌⊎◌, inl, inr, ⊎_elim, ◌↔◌, ℕ, ◌+◌, ◌-◌, ◌<◌, ◌≤◌, ◌==◌, Bool, true, false, cond, List, [], ◌∷◌, ◌++◌, length, take, drop}
+use Rattle.std.proofs.Common.{get_or, map, Option, Some, None, Result, Ok, Err, IfErr, IfOk, IfSome, All, Contains, refl, sym, ap, ◌∙◌, subst, arith}
+use Rattle.std.proofs.Common.{append_assoc, append-nil, length-append, length-take, take-append-drop}
+use Rattle.std.specs.Io.KnownBytes.{Consumes, IsAtEnd}
+use Rattle.std.specs.List.{slice_split}
+use Rattle.std.specs.Str.Lines.{lines, lines_of_parts, strip_carriage_return}
+use Rattle.std.proofs.lemmas.Bool.{eqb-true}
+use Rattle.std.proofs.lemmas.Bool.Decides.{nat_tests}
+use Rattle.std.proofs.lemmas.List.{take_more}
+use Rattle.std.proofs.lemmas.List.Elements.{All-append, All-cons, All-nil, All-push, Contains-append_left, Contains-push, Contains-push_cases}
+use Rattle.std.proofs.lemmas.List.Splits.{slice_split_none}
+use Rattle.cif_columns.specs.Contents.{contents_of}
+use Rattle.cif_columns.specs.FirstLine.{is_line_feed}
+use Rattle.cif_columns.specs.Source.{HasReadOn}
+use Rattle.cif_columns.specs.declared.source.Source.{Source}
+use Rattle.cif_columns.proofs.WholeLines.{lines_to_feed, lines_whole}
+use Rattle.cif_feed.specs.HolidayText.{AreHolidaysOf, HolidayReads, IsBadLine, IsFirstBadLine, IsHolidayFault, IsHolidayLine}
+use Rattle.cif_feed.specs.HolidayText.{LineNames, LineSays, SomeLine, SpellHolidays}
+use Rattle.cif_feed.specs.Holidays.{IsHoliday, Names}
+use Rattle.cif_feed.specs.Steps.HolidayReading.{AreLinesAndRest, AreWhole, HasLineMore, IsLineFault, IsRefusal, IsRefusalBehind}
+use Rattle.cif_feed.specs.declared.holiday_code.HolidayCode.{HolidayCode}
+use Rattle.cif_feed.specs.declared.holiday_text.HolidayFault.{HolidayFault}
+use Rattle.cif_feed.specs.declared.holiday_text.HolidayFault.TheVariants.{BadHoliday, Read, Memory}
+use Rattle.cif_feed.specs.declared.holidays.Holidays.{Holidays}
+
+-- ---- lines
+
+abbrev HasNoFeed : List ℕ → Type 0
+HasNoFeed bytes = All (λ b. b ≢ 10) bytes
+
+no_feed : (b : ℕ) → b ≢ 10 → is_line_feed b ≡ false
+no_feed b other = grind (arith, nat_tests)
+
+one_part : (bytes : List ℕ) → HasNoFeed bytes → slice_split is_line_feed bytes ≡ bytes ∷ []
+one_part bytes none = slice_split_none is_line_feed bytes (λ k d below. no_feed (get_or bytes k d) (none k d below))
+
+-- a line before a line feed
+first_line : (front more : List ℕ) → HasNoFeed front → lines (front ++ 10 ∷ more) ≡ strip_carriage_return front ∷ lines more
+first_line front more none = lines_to_feed front more ∙ ap (λ l. map strip_carriage_return l ++ lines more) (one_part front none)
+
+-- a last line
+last_line : (bytes : List ℕ) → HasNoFeed bytes → 0 < length bytes → lines bytes ≡ bytes ∷ []
+last_line bytes none some =
+    let long : (length bytes == 0) ≡ false = grind (arith, nat_tests) in
+    ap lines_of_parts (one_part bytes none) ∙ ap (λ (b : Bool). cond b [] (bytes ∷ [])) long
+
+whole_lines : (whole more : List ℕ) → AreWhole whole → lines (whole ++ more) ≡ lines whole ++ lines more
+whole_lines whole more ended = lines_whole whole more (⊎_elim (λ none. inl none) (λ fed. inr (inl fed)) ended)
+
+-- bytes have no line feed, or a first one
+first_feed : (bytes : List ℕ) → HasNoFeed bytes ⊎ ((front more : List ℕ) × (bytes ≡ front ++ 10 ∷ more) × HasNoFeed front)
+first_feed [] = inl (All-nil (λ (b : ℕ). b ≢ 10))
+first_feed (x ∷ xs) = at (x == 10) refl (first_feed xs)
+  where
+    at : (b : Bool) → (x == 10) ≡ b
+        → HasNoFeed xs ⊎ ((front more : List ℕ) × (xs ≡ front ++ 10 ∷ more) × HasNoFeed front)
+        → HasNoFeed (x ∷ xs) ⊎ ((front more : List ℕ) × (x ∷ xs ≡ front ++ 10 ∷ more) × HasNoFeed front)
+    at true is rest = inr ([], xs, ap (λ (b : ℕ). b ∷ xs) (eqb-true x 10 is), All-nil (λ (b : ℕ). b ≢ 10))
+    at false is rest =
+        let other : x ≢ 10 = grind (arith, nat_tests) in
+        ⊎_elim
+        (λ none. inl (All-cons (λ (b : ℕ). b ≢ 10) x xs other none))
+        (λ fed. inr (x ∷ fed.0, fed.1, ap (λ (l : List ℕ). x ∷ l) fed.2, All-cons (λ (b : ℕ). b ≢ 10) x fed.0 other fed.3))
+        rest
+
+-- a carriage return is one byte
+stripped_long : (bytes : List ℕ) → length bytes ≤ length (strip_carriage_return bytes) + 1
+stripped_long bytes = at (get_or bytes (length bytes - 1) 0 == 13)
+  where
+    at : (b : Bool) → length bytes ≤ length (cond b (take (length bytes - 1) bytes) bytes) + 1
+    at true = omega (arith, length-take (length bytes - 1) bytes)
+    at false = omega arith
+
+-- bytes that are too many for a line begin a content that is too long, whatever follows
+long_line : (front more : List ℕ) → HasNoFeed front → 1001 < length front
+    → (line : List ℕ) × (others : List (List ℕ)) × (lines (front ++ more) ≡ line ∷ others) × (1000 < length line)
+long_line front more none long = ⊎_elim
+    (λ all. (
+      front ++ more,
+      [],
+      last_line (front ++ more) (All-append (λ (b : ℕ). b ≢ 10) front more none all) (omega (arith, length-append front more)),
+      omega (arith, length-append front more),
+    ))
+    (λ fed. (
+      strip_carriage_return (front ++ fed.0),
+      lines fed.1,
+      ap lines (ap (λ l. front ++ l) fed.2 ∙ sym (append_assoc front fed.0 (10 ∷ fed.1)))
+          ∙ first_line (front ++ fed.0) fed.1 (All-append (λ (b : ℕ). b ≢ 10) front fed.0 none fed.3),
+      omega (arith, stripped_long (front ++ fed.0), length-append front fed.0),
+    ))
+    (first_feed more)
+
+-- ---- holidays of lines
+
+some-push : (P : List ℕ → Type 0) (ls : List (List ℕ)) (line : List ℕ) → SomeLine P (ls ++ line ∷ []) ↔ (SomeLine P ls ⊎ P line)
+some-push P ls line = (
+  λ some. ⊎_elim
+      (λ early. inl (some.0, early, some.2))
+      (λ last. inr (subst P (sym last) some.2))
+      (Contains-push_cases ls line some.0 some.1),
+  λ h. ⊎_elim
+      (λ some. (some.0, Contains-append_left ls (line ∷ []) some.0 some.1, some.2))
+      (λ here. (line, Contains-push ls line, here)) h,
+)
+
+through : {A B C D : Type 0} → A ↔ (B ⊎ C) → B ↔ D → A ↔ (D ⊎ C)
+through one two = (
+  λ a. ⊎_elim (λ b. inl (two.0 b)) (λ c. inr c) (one.0 a),
+  λ h. one.1 (⊎_elim (λ d. inl (two.1 d)) (λ c. inr c) h),
+)
+
+swapped : {A B C : Type 0} → A ↔ C → B ↔ C → A ↔ B
+swapped one two = (λ a. two.1 (one.0 a), λ b. one.1 (two.0 b))
+
+are-push : (ls : List (List ℕ)) (line : List ℕ) (old new : Holidays) → AreHolidaysOf ls old → HasLineMore old line new
+    → AreHolidaysOf (ls ++ line ∷ []) new
+are-push ls line old new are more = record {
+  names = λ code. swapped (through (more.names code) (are.names code)) (some-push (LineNames code) ls line);
+  days = λ code d. swapped (through (more.days code d) (are.days code d)) (some-push (LineSays code d) ls line);
+}
+
+pub taken-none : (h : Holidays) (rest : List ℕ) → rest ≡ [] → ((code : HolidayCode) → ¬ Names h code)
+    → ((code : HolidayCode) (d : ℕ) → ¬ IsHoliday h code d) → AreLinesAndRest [] 0 rest h
+taken-none h rest none names days = record {
+  whole = [];
+  parts = sym none;
+  ended = inl refl;
+  no_feed = subst HasNoFeed (sym none) (All-nil (λ (b : ℕ). b ≢ 10));
+  short = subst (λ (l : List ℕ). length l ≤ 1001) (sym none) (omega arith);
+  counted = refl;
+  lines = All-nil IsHolidayLine;
+  are = record {
+    names = λ code. (λ named. absurd (names code named), λ some. absurd (nothing some.1));
+    days = λ code d. (λ day. absurd (days code d day), λ some. absurd (nothing some.1));
+  };
+}
+  where
+    nothing : {line : List ℕ} → Contains [] line → ⊥
+    nothing (k, below, is) = let b : k < 0 = below in omega arith
+
+module _ (bytes : List ℕ) (count : ℕ) (rest : List ℕ) (h : Holidays) (so_far : AreLinesAndRest bytes count rest h) where
+  abbrev whole : List ℕ
+  whole = so_far.whole
+
+  -- the contents, where a line and others follow the whole lines
+  contents_are : (more line : List ℕ) (others : List (List ℕ)) → lines (rest ++ more) ≡ line ∷ others
+      → contents_of (bytes ++ more) ≡ lines whole ++ line ∷ others
+  contents_are more line others is =
+      ap lines (ap (λ l. l ++ more) so_far.parts ∙ append_assoc whole rest more) ∙ whole_lines whole (rest ++ more) so_far.ended
+      ∙ ap (λ l. lines whole ++ l) is
+
+  -- the next line is refused
+  refused : (more line : List ℕ) (others : List (List ℕ)) (number : ℕ) → lines (rest ++ more) ≡ line ∷ others → number ≡ count + 1
+      → IsBadLine number line → IsFirstBadLine (contents_of (bytes ++ more)) number
+  refused more line others number is next bad = record {
+    before = lines whole;
+    line = line;
+    after = others;
+    parts = contents_are more line others is;
+    fine = so_far.lines;
+    numbered = next ∙ ap (λ n. n + 1) so_far.counted;
+    bad = bad;
+  }
+
+  -- a line feed ends a line of holidays
+  pub taken-line : (byte : ℕ) (none : List ℕ) (new : Holidays) → byte ≡ 10 → none ≡ []
+      → IsHolidayLine (strip_carriage_return rest) → HasLineMore h (strip_carriage_return rest) new
+      → AreLinesAndRest (bytes ++ byte ∷ []) (count + 1) none new
+  taken-line byte none new is_feed is_none fine more =
+      subst (λ (b : ℕ). AreLinesAndRest (bytes ++ b ∷ []) (count + 1) none new) (sym is_feed)
+      (subst (λ (l : List ℕ). AreLinesAndRest (bytes ++ 10 ∷ []) (count + 1) l new) (sym is_none)
+      (let line = strip_carriage_return rest in
+      let now : lines (whole ++ (rest ++ 10 ∷ [])) ≡ lines whole ++ line ∷ [] =
+      whole_lines whole (rest ++ 10 ∷ []) so_far.ended ∙ ap (λ l. lines whole ++ l) (first_line rest [] so_far.no_feed) in
+      record {
+        whole = whole ++ (rest ++ 10 ∷ []);
+        parts = ap (λ l. l ++ 10 ∷ []) so_far.parts ∙ append_assoc whole rest (10 ∷ []) ∙ sym (append-nil _);
+        ended = inr (whole ++ rest, sym (append_assoc whole rest (10 ∷ [])));
+        no_feed = All-nil (λ (b : ℕ). b ≢ 10);
+        short = omega arith;
+        counted = omega (arith, so_far.counted, ap length now, length-append (lines whole) (line ∷ []));
+        lines = subst (All IsHolidayLine) (sym now) (All-push IsHolidayLine (lines whole) line so_far.lines fine);
+        are = subst (λ ls. AreHolidaysOf ls new) (sym now) (are-push (lines whole) line h new so_far.are more);
+      }))
+
+  -- or one that is refused, whatever follows
+  pub refused-line : (byte : ℕ) (fault : HolidayFault) → byte ≡ 10 → IsLineFault (count + 1) (strip_carriage_return rest) fault
+      → IsRefusalBehind (bytes ++ byte ∷ []) fault
+  refused-line byte (BadHoliday at) feed (is, bad) = λ more.
+      subst (λ (l : List ℕ). IsFirstBadLine (contents_of l) at)
+      (ap (λ (b : ℕ). bytes ++ b ∷ more) (sym feed) ∙ sym (append_assoc bytes (byte ∷ []) more))
+      (refused (10 ∷ more) (strip_carriage_return rest) (lines more) at (first_line rest more so_far.no_feed) is
+      (subst (λ (n : ℕ). IsBadLine n (strip_carriage_return rest)) (sym is) bad))
+  refused-line byte Read feed fault = absurd fault
+  refused-line byte Memory feed fault = tt
+
+  -- a byte more than a line may have
+  pub refused-long : (byte : ℕ) → byte ≢ 10 → length rest ≡ 1001 → (more : List ℕ)
+      → IsFirstBadLine (contents_of ((bytes ++ byte ∷ []) ++ more)) (count + 1)
+  refused-long byte other full more =
+      let none = All-push (λ (b : ℕ). b ≢ 10) rest byte so_far.no_feed other in
+      let (line, others, is, long) = long_line (rest ++ byte ∷ []) more none (omega (arith, length-append rest (byte ∷ []))) in
+      subst (λ (l : List ℕ). IsFirstBadLine (contents_of l) (count + 1)) (sym (append_assoc bytes (byte ∷ []) more))
+      (refused (byte ∷ more) line others (count + 1) (ap lines (sym (append_assoc rest (byte ∷ []) more)) ∙ is) refl
+      (inr (λ fine. let within = fine.within in omega arith)))
+
+  -- the end after whole lines
+  pub spell-whole : count ≤ 100000000 → rest ≡ [] → SpellHolidays bytes h
+  spell-whole within none =
+      let same : whole ≡ bytes = sym (so_far.parts ∙ ap (λ l. whole ++ l) none ∙ append-nil whole) in
+      subst (λ (l : List ℕ). SpellHolidays l h) same
+      (record { lines = so_far.lines; within = omega (arith, so_far.counted); are = so_far.are })
+
+  -- the end after a last line
+  pub spell-last : (new : Holidays) → count + 1 ≤ 100000000 → 0 < length rest → IsHolidayLine rest → HasLineMore h rest new
+      → SpellHolidays bytes new
+  spell-last new within some fine more =
+      let now : contents_of bytes ≡ lines whole ++ rest ∷ [] =
+      ap lines so_far.parts ∙ whole_lines whole rest so_far.ended ∙ ap (λ l. lines whole ++ l) (last_line rest so_far.no_feed some) in
+      record {
+        lines = subst (All IsHolidayLine) (sym now) (All-push IsHolidayLine (lines whole) rest so_far.lines fine);
+        within = omega (arith, so_far.counted, ap length now, length-append (lines whole) (rest ∷ []));
+        are = subst (λ ls. AreHolidaysOf ls new) (sym now) (are-push (lines whole) rest h new so_far.are more);
+      }
+
+  pub refused-last : (fault : HolidayFault) → 0 < length rest → IsLineFault (count + 1) rest fault → IsRefusal bytes fault
+  refused-last (BadHoliday at) some (is, bad) = subst (λ (l : List ℕ). IsFirstBadLine (contents_of l) at) (append-nil bytes)
+      (refused [] rest [] at (ap lines (append-nil rest) ∙ last_line rest so_far.no_feed some) is
+      (subst (λ (n : ℕ). IsBadLine n rest) (sym is) bad))
+  refused-last Read some fault = absurd fault
+  refused-last Memory some fault = tt
+
+  -- the source fails
+  pub cut : (start after : Option (List ℕ)) → Consumes start after bytes → IfSome start (λ all. IsHolidayFault all after Read)
+  cut None after consumed = tt
+  cut (Some all) None consumed = absurd consumed
+  cut (Some all) (Some unread) consumed = record {
+    whole = whole;
+    rest = rest;
+    parts = consumed ∙ ap (λ l. l ++ unread) so_far.parts ∙ append_assoc whole rest unread;
+    lines = so_far.lines;
+    no_feed = so_far.no_feed;
+    short = so_far.short;
+  }
+
+-- bytes that are refused, whatever follows them, with more of these
+pub refused-further : (bytes all more : List ℕ) (fault : HolidayFault) → all ≡ bytes ++ more → IsRefusalBehind bytes fault
+    → IsRefusalBehind all fault
+refused-further bytes all more (BadHoliday line) is bad = λ others.
+    subst (λ (l : List ℕ). IsFirstBadLine (contents_of l) line)
+    (sym (append_assoc bytes more others) ∙ ap (λ l. l ++ others) (sym is)) (bad (more ++ others))
+refused-further bytes all more Read is bad = absurd bad
+refused-further bytes all more Memory is bad = tt
+
+-- a list up to the element at a place, and the rest of it
+pub at-place : (taken bytes : List ℕ) (i : ℕ) → i < length bytes
+    → taken ++ bytes ≡ ((taken ++ take i bytes) ++ get_or bytes i 0 ∷ []) ++ drop (i + 1) bytes
+at-place taken bytes i below =
+    ap (λ l. taken ++ l) (sym (take-append-drop (i + 1) bytes) ∙ ap (λ l. l ++ drop (i + 1) bytes) (take_more bytes i 0 below))
+    ∙ sym (append_assoc taken (take i bytes ++ get_or bytes i 0 ∷ []) (drop (i + 1) bytes))
+    ∙ ap (λ l. l ++ drop (i + 1) bytes) (sym (append_assoc taken (take i bytes) (get_or bytes i 0 ∷ [])))
+
+-- ---- the source
+
+-- bytes that are refused behind what was read
+pub refused_of_start : (start after : Option (List ℕ)) (taken : List ℕ) (fault : HolidayFault) → Consumes start after taken
+    → IsRefusalBehind taken fault → IfSome start (λ bytes. IsHolidayFault bytes after fault)
+refused_of_start None after taken fault consumed bad = tt
+refused_of_start (Some bytes) None taken fault consumed bad = absurd consumed
+refused_of_start (Some bytes) (Some unread) taken (BadHoliday line) consumed bad =
+    subst (λ (l : List ℕ). IsFirstBadLine (contents_of l) line) (sym consumed) (bad unread)
+refused_of_start (Some bytes) (Some unread) taken Read consumed bad = absurd bad
+refused_of_start (Some bytes) (Some unread) taken Memory consumed bad = tt
+
+module _ (start after : Option (List ℕ)) (taken : List ℕ) (consumed : Consumes start after taken) (at_end : IsAtEnd after) where
+  all_taken : IfSome start (λ bytes. taken ≡ bytes)
+  all_taken = all start after consumed at_end
+    where
+      all : (s a : Option (List ℕ)) → Consumes s a taken → IsAtEnd a → IfSome s (λ bytes. taken ≡ bytes)
+      all None a consumed end = tt
+      all (Some bytes) None consumed end = absurd consumed
+      all (Some bytes) (Some unread) consumed end = sym (consumed ∙ ap (λ l. taken ++ l) end ∙ append-nil taken)
+
+  -- the holidays, where all was read
+  pub spelled_of_start : (r : Result Holidays HolidayFault) → IfOk r (SpellHolidays taken) → IfSome start (λ bytes. IfOk r (SpellHolidays bytes))
+  spelled_of_start r ok = at start all_taken
+    where
+      at : (s : Option (List ℕ)) → IfSome s (λ bytes. taken ≡ bytes) → IfSome s (λ bytes. IfOk r (SpellHolidays bytes))
+      at None all = tt
+      at (Some bytes) all = subst (λ (l : List ℕ). IfOk r (SpellHolidays l)) all ok
+
+  -- or the refusal
+  pub fault_of_start : (r : Result Holidays HolidayFault) → IfErr r (IsRefusal taken) → IfSome start (λ bytes. IfErr r (IsHolidayFault bytes after))
+  fault_of_start r bad = at start all_taken
+    where
+      by_fault : (fault : HolidayFault) → IsRefusal taken fault → (bytes : List ℕ) → taken ≡ bytes → IsHolidayFault bytes after fault
+      by_fault (BadHoliday line) refusal bytes same = subst (λ (l : List ℕ). IsFirstBadLine (contents_of l) line) same refusal
+      by_fault Read refusal bytes same = absurd refusal
+      by_fault Memory refusal bytes same = tt
+
+      by_result : (q : Result Holidays HolidayFault) → IfErr q (IsRefusal taken) → (bytes : List ℕ) → taken ≡ bytes
+          → IfErr q (IsHolidayFault bytes after)
+      by_result (Ok h) refusal bytes same = tt
+      by_result (Err fault) refusal bytes same = by_fault fault refusal bytes same
+
+      at : (s : Option (List ℕ)) → IfSome s (λ bytes. taken ≡ bytes) → IfSome s (λ bytes. IfErr r (IsHolidayFault bytes after))
+      at None all = tt
+      at (Some bytes) all = by_result r bad bytes all
+
+module _ {R : Type 0} (errors : R → Option ℕ) (old new : Source R) (on : HasReadOn errors old new) where
+  -- no fault of the bytes is one of the source
+  pub refused_reads : (taken : List ℕ) (fault : HolidayFault) → IsRefusalBehind taken fault
+      → HolidayReads {A = Holidays} errors old new (Err fault)
+  refused_reads taken (BadHoliday line) bad = on
+  refused_reads taken Read bad = absurd bad
+  refused_reads taken Memory bad = on
+
+  pub finished_reads : (taken : List ℕ) (r : Result Holidays HolidayFault) → IfErr r (IsRefusal taken) → HolidayReads errors old new r
+  finished_reads taken (Ok h) bad = on
+  finished_reads taken (Err (BadHoliday line)) bad = on
+  finished_reads taken (Err Read) bad = absurd bad
+  finished_reads taken (Err Memory) bad = on

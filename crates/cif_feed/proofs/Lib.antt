@@ -1,0 +1,15 @@
+pub mod ChangeLaws
+pub mod PartLists
+pub mod PreparedRuns
+pub mod GrownHolidays
+pub mod DatesFrom
+pub mod WordLists
+pub mod HolidayLines
+pub mod HolidayReadings
+pub mod WrittenColumns
+pub mod ChangeSteps
+pub mod FeedSteps
+pub mod FeedRuns
+pub mod StrictKinds
+pub mod SpelledFeeds
+pub mod MarkedRecords

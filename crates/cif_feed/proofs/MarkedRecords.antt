@@ -1,0 +1,464 @@
+-- The marks of contents are those of the records that their strict lines spell.
+use Rattle.std.proofs.Common.{◌≡◌, ℕ, ◌+◌, ◌-◌, ◌≤◌, Bool, true, false, cond, not, ◌&&◌, List, [], ◌∷◌, ◌++◌, length, take, drop, filter, map}
+use Rattle.std.proofs.Common.{Option, Some, None, refl, sym, ap, ◌∙◌, subst, arith, codes, IsTrue, length-append, length-take, length-drop}
+use Rattle.std.proofs.Common.{append-nil, ⊎_elim, lit<, slice_index}
+use Rattle.std.proofs.lemmas.Grind.{flat_map-append}
+use Rattle.std.proofs.lemmas.List.{drop-append-le, drop-take, drop_at, take-append-le, take-take, take_at}
+use Rattle.std.proofs.lemmas.List.Elements.{All-cons, All-head, All-nil, All-tail}
+use Rattle.std.specs.List.{flat_map}
+use Rattle.std.specs.Prelude.{All, find}
+use Rattle.cif_columns.specs.Comment.{is_comment}
+use Rattle.cif_columns.specs.Day.{StandsInYymmdd}
+use Rattle.cif_columns.specs.DayDigits.{yymmdd_of}
+use Rattle.cif_columns.specs.Field.{columns}
+use Rattle.cif_columns.specs.Line.{IsLine}
+use Rattle.cif_columns.proofs.DayColumns.{yymmdd_in-stands}
+use Rattle.cif_columns.proofs.DayDigits.{stands-yymmdd_of}
+use Rattle.cif_extract.specs.BodyParts.{extra_records}
+use Rattle.cif_extract.specs.Call.{call_record}
+use Rattle.cif_extract.specs.ExtractParts.{ExtractParts}
+use Rattle.cif_extract.specs.Grammar.{AreExtract, AreJourney, AreSchedule, AreSchedules, HaveBody, records_before_trailer}
+use Rattle.cif_extract.specs.SpellsExtract.{SpellAll}
+use Rattle.cif_extract.specs.declared.call.Call.{Call}
+use Rattle.cif_extract.specs.declared.call.Call.TheVariants.{At, Turn}
+use Rattle.cif_extract.specs.declared.extract.Schedule.{Schedule}
+use Rattle.cif_records.specs.Kind.{is_identity, kind_in, kinds}
+use Rattle.cif_records.specs.Record.{SpellsRecord}
+use Rattle.cif_records.specs.declared.association.Association.{Association}
+use Rattle.cif_records.specs.declared.basic.Basic.{Basic}
+use Rattle.cif_records.specs.declared.extra.Extra.{Extra}
+use Rattle.cif_records.specs.declared.header.Header.{Header}
+use Rattle.cif_records.specs.declared.origin.Origin.{Origin}
+use Rattle.cif_records.specs.declared.record.Kind.{Kind}
+use Rattle.cif_records.specs.declared.record.Kind.TheVariants.{Hd, Ti, Ta, Td, Aa, Bs, Bx, Lo, Li, Cr, Lt, Zz}
+use Rattle.cif_records.specs.declared.record.Record.{Record}
+use Rattle.cif_records.specs.declared.record.Record.TheVariants as of
+use Rattle.cif_records.specs.declared.terminus.Terminus.{Terminus}
+use Rattle.cif_records.specs.declared.tiploc.Tiploc.{Tiploc}
+use Rattle.cif_records.proofs.Records.{kind_of, kind_there}
+use Rattle.cif_feed.specs.FeedLines.{association_mark, is_note, marks, said, said_by, schedule_mark, speaks, tiploc_mark}
+use Rattle.cif_feed.specs.FeedRefusal.{IsFeedContent}
+use Rattle.cif_feed.specs.Marked.{AreMarkedAs, HasMarks}
+use Rattle.cif_feed.specs.SpellsFeed.{PublishedParts, SpellPublished}
+use Rattle.cif_feed.specs.Strict.{closed, code_of, is_open, last_day, update_association_by}
+use Rattle.cif_feed.specs.Strict.{strict_tiploc, update_basic_by, with_columns, without}
+use Rattle.cif_feed.specs.Transaction.{transaction_in}
+use Rattle.cif_feed.specs.declared.feed.Feed.{Feed}
+use Rattle.cif_feed.specs.declared.feed.Feed.TheVariants.{Full, Update}
+use Rattle.cif_feed.specs.declared.holiday_code.HolidayCode.{HolidayCode}
+use Rattle.cif_feed.specs.declared.holidays.Holidays.{Holidays}
+use Rattle.cif_feed.specs.declared.mark.Mark.{Mark}
+use Rattle.cif_feed.specs.declared.mark.Transaction.{Transaction}
+use Rattle.cif_feed.specs.declared.mark.Transaction.TheVariants.{New, Revised, Deleted}
+use Rattle.cif_feed.specs.declared.said.LineMark.{LineMark}
+use Rattle.cif_feed.specs.declared.said.LineMark.TheVariants as mark
+use Rattle.cif_feed.specs.declared.said.TiplocMark.{TiplocMark}
+use Rattle.cif_feed.proofs.StrictKinds.{HasKind, by_association, by_basic, close, further, same_line, tiploc_kind, uncode}
+
+-- ---- the records of a kind
+
+abbrev tiploc_of : Record → List Tiploc
+tiploc_of (of.Tiploc t) = t ∷ []
+tiploc_of r = []
+
+abbrev association_of : Record → List Association
+association_of (of.Association a) = a ∷ []
+association_of r = []
+
+abbrev basic_of : Record → List Basic
+basic_of (of.Basic b) = b ∷ []
+basic_of r = []
+
+-- what says nothing of the records behind a BS
+record IsQuiet {A : Type 0} (f : Record → List A) : Type 0 where
+  extra : (x : Extra) → f (of.Extra x) ≡ []
+  origin : (o : Origin) → f (of.Origin o) ≡ []
+  call : (c : Call) → f (call_record c) ≡ []
+  terminus : (t : Terminus) → f (of.Terminus t) ≡ []
+
+module _ {A : Type 0} (f : Record → List A) (quiet : IsQuiet f) where
+  quiet_calls : (calls : List Call) (t : Terminus) → flat_map f (map call_record calls ++ (of.Terminus t ∷ [])) ≡ []
+  quiet_calls [] t = ap (λ l. l ++ []) (quiet.terminus t)
+  quiet_calls (c ∷ calls) t = ap (λ l. l ++ flat_map f (map call_record calls ++ (of.Terminus t ∷ []))) (quiet.call c) ∙ quiet_calls calls t
+
+  quiet_journey : (journey : List Record) → AreJourney journey → flat_map f journey ≡ []
+  quiet_journey journey j =
+      ap (flat_map f) j.are ∙ ap (λ l. l ++ flat_map f (map call_record j.calls ++ (of.Terminus j.terminus ∷ []))) (quiet.origin j.origin)
+      ∙ quiet_calls j.calls j.terminus
+
+  quiet_extra : (x : Option Extra) → flat_map f (extra_records x) ≡ []
+  quiet_extra None = refl
+  quiet_extra (Some x) = ap (λ l. l ++ []) (quiet.extra x)
+
+  -- of a schedule there is its BS alone
+  own_basic : (own : List Record) (s : Schedule) (are : AreSchedule own s) → flat_map f own ≡ f (of.Basic are.basic)
+  own_basic own s are =
+      ap (flat_map f) are.parts
+      ∙ ap (λ l. f (of.Basic are.basic) ++ l) (flat_map-append f (extra_records are.extra) are.journey
+      ∙ ap (λ l. l ++ flat_map f are.journey) (quiet_extra are.extra) ∙ at are.basic.detail s.body are.body)
+      ∙ append-nil (f (of.Basic are.basic))
+    where
+      at : (d : Option _) (b : Option _) → HaveBody d are.extra are.journey b → flat_map f are.journey ≡ []
+      at (Some d) (Some b) has =
+          quiet_journey are.journey (record { origin = b.origin; calls = b.calls; terminus = b.terminus; are = has.2 })
+      at None None has = ⊎_elim (λ none. ap (flat_map f) none) (λ j. quiet_journey are.journey j) has
+      at (Some d) None has = absurd has
+      at None (Some b) has = absurd has
+
+-- ---- an open end
+
+last_stands : StandsInYymmdd (yymmdd_of last_day) last_day
+last_stands = stands-yymmdd_of last_day (lit< tt)
+
+last_wide : length (yymmdd_of last_day) ≡ 6
+last_wide = ap length last_stands.spelled
+
+-- columns that are those of the last day name it
+is_last : (cs : List ℕ) (n : ℕ) → cs ≡ yymmdd_of last_day → StandsInYymmdd cs n → n ≡ last_day
+is_last cs n is stands =
+    let one = yymmdd_in-stands cs n stands in
+    let other = yymmdd_in-stands cs last_day (subst (λ c. StandsInYymmdd c last_day) (sym is) last_stands) in
+    let both : ◌≡◌ {A = Option ℕ} (Some n) (Some last_day) = sym one ∙ other in
+    cc
+
+-- what is written stands there
+written_there : (first to : ℕ) (d l : List ℕ) → 1 ≤ first → first ≤ length l → length d ≡ to - (first - 1)
+    → columns first to (with_columns first d l) ≡ d
+unfolding with_columns
+written_there first to d l from within wide =
+    let front = take (first - 1) l in
+    let rest = drop (first - 1 + length d) l in
+    let long : length front ≡ first - 1 = omega (arith, within, length-take (first - 1) l) in
+    ap (take (to - (first - 1))) (drop_at front (d ++ rest) (first - 1) long) ∙ take_at d rest (to - (first - 1)) wide
+
+closed_there : (first to : ℕ) (l : List ℕ) → 1 ≤ first → first ≤ length l → to - (first - 1) ≡ 6 → is_open first l ≡ true
+    → columns first to (closed first l) ≡ yymmdd_of last_day
+closed_there first to l from within six ends =
+    ap (λ b. columns first to (cond b (with_columns first (yymmdd_of last_day) l) l)) ends
+    ∙ written_there first to (yymmdd_of last_day) l from within (last_wide ∙ sym six)
+
+-- a code that is taken out leaves the dates
+code_leaves : (code : Option HolidayCode) (l : List ℕ) → 28 ≤ length l → columns 16 21 (without code l) ≡ columns 16 21 l
+unfolding with_columns
+code_leaves None l long = refl
+code_leaves (Some code) l long =
+    let front = take 28 l in
+    let rest = codes " " ++ drop (29 - 1 + length (codes " ")) l in
+    let wide : length front ≡ 28 = omega (arith, long, length-take 28 l) in
+    let some : 6 ≤ length (drop 15 front) = omega (arith, wide, length-drop 15 front) in
+    ap (take 6) (drop-append-le 15 front rest (omega (arith, wide))) ∙ take-append-le 6 (drop 15 front) rest some
+    ∙ ap (take 6) (drop-take 15 13 l) ∙ take-take 6 13 (drop 15 l) (omega arith)
+
+-- the lines keep their widths
+wide_still : (first : ℕ) (d l : List ℕ) → 1 ≤ first → first - 1 + length d ≤ length l → length (with_columns first d l) ≡ length l
+unfolding with_columns
+wide_still first d l from within =
+    omega (
+      arith,
+      length-append (take (first - 1) l) (d ++ drop (first - 1 + length d) l),
+      length-append d (drop (first - 1 + length d) l),
+      length-take (first - 1) l,
+      length-drop (first - 1 + length d) l,
+      within,
+    )
+
+wide_closed : (first : ℕ) (l : List ℕ) → 1 ≤ first → first + 5 ≤ length l → length (closed first l) ≡ length l
+wide_closed first l from within = at (is_open first l)
+  where
+    at : (b : Bool) → length (cond b (with_columns first (yymmdd_of last_day) l) l) ≡ length l
+    at true = wide_still first (yymmdd_of last_day) l from (omega (arith, last_wide, within))
+    at false = refl
+
+-- the columns of an open end are those of the last day
+abbrev ClosedFor : LineMark → List ℕ → Type 0
+ClosedFor (mark.Association m) l = IsTrue m.open_end → columns 22 27 l ≡ yymmdd_of last_day
+ClosedFor (mark.Schedule m) l = IsTrue m.open_end → columns 16 21 l ≡ yymmdd_of last_day
+ClosedFor m l = Unit {0}
+
+-- the mark is that of a line of this kind
+abbrev MarkFor : Option Kind → LineMark → Type 0
+MarkFor (Some Ti) (mark.Tiploc m) = Unit {0}
+MarkFor (Some Ti) m = ⊥
+MarkFor (Some Aa) (mark.Association m) = Unit {0}
+MarkFor (Some Aa) m = ⊥
+MarkFor (Some Bs) (mark.Schedule m) = Unit {0}
+MarkFor (Some Bs) m = ⊥
+MarkFor kind mark.Nothing = Unit {0}
+MarkFor kind m = ⊥
+
+module _ (h : Holidays) (c : List ℕ) (is_line : IsLine c) where
+  long : 2 ≤ length c
+  long = let w = is_line.width in omega (arith, w)
+
+  far : (n : ℕ) → n ≤ 80 → n ≤ length c
+  far n few = let w = is_line.width in omega (arith, w, few)
+
+  -- an AA and a BS
+  closed_association : (t : Option Transaction) → ClosedFor (mark.Association (update_association_by t c).mark) (update_association_by t c).line
+  closed_association None ends = cc
+  closed_association (Some New) ends = closed_there 22 27 c (omega arith) (far 22 (omega arith)) (omega arith) ends
+  closed_association (Some Revised) ends =
+      let l = with_columns 3 (codes "N") c in
+      let same = wide_still 3 (codes "N") c (omega arith) (far 3 (omega arith)) in
+      closed_there 22 27 l (omega arith) (omega (arith, same, far 22 (omega arith))) (omega arith) ends
+  closed_association (Some Deleted) ends = cc
+
+  closed_basic_line : (l : List ℕ) → length l ≡ length c → is_open 16 l ≡ true
+      → columns 16 21 (without (code_of h l) (closed 16 l)) ≡ yymmdd_of last_day
+  closed_basic_line l same ends =
+      let w = is_line.width in
+      let wide = wide_closed 16 l (omega arith) (omega (arith, same, w)) in
+      code_leaves (code_of h l) (closed 16 l) (omega (arith, wide, same, w))
+      ∙ closed_there 16 21 l (omega arith) (omega (arith, same, w)) (omega arith) ends
+
+  closed_basic : (t : Option Transaction) → ClosedFor (mark.Schedule (update_basic_by h t c).mark) (update_basic_by h t c).line
+  closed_basic None ends = cc
+  closed_basic (Some New) ends = closed_basic_line c refl ends
+  closed_basic (Some Revised) ends =
+      closed_basic_line (with_columns 3 (codes "N") c) (wide_still 3 (codes "N") c (omega arith) (far 3 (omega arith))) ends
+  closed_basic (Some Deleted) ends = cc
+
+  -- by its kind
+  named : (l : List ℕ) (kind : Option Kind) (m : LineMark) → HasKind c l → kind_in c ≡ kind → MarkFor kind m → MarkFor (kind_in l) m
+  named l kind m has is = subst (λ k. MarkFor k m) (sym (ap (λ letters. find (is_identity letters) kinds) has.same ∙ is))
+
+  own : HasKind c c
+  own = same_line c long
+
+  tiploc_named : (m : TiplocMark) → MarkFor (kind_in (strict_tiploc c)) (mark.Tiploc m)
+  tiploc_named m = subst (λ (k : Option Kind). MarkFor k (mark.Tiploc m)) (sym (tiploc_kind c h own)) tt
+
+  by_kind : (feed : Feed) (kind : Option Kind) → kind_in c ≡ kind
+      → MarkFor (kind_in (said_by feed h kind c).line) (said_by feed h kind c).mark
+      × ClosedFor (said_by feed h kind c).mark (said_by feed h kind c).line
+  by_kind feed (Some Ti) is = (named c (Some Ti) _ own is tt, tt)
+  by_kind Full (Some Aa) is = (
+    named _ (Some Aa) _ (close c 22 c (omega arith) own) is tt,
+    λ ends. closed_association (Some New) ends,
+  )
+  by_kind Full (Some Bs) is = (
+    named _ (Some Bs) _ (uncode c (code_of h c) _ (close c 16 c (omega arith) own)) is tt,
+    λ ends. closed_basic (Some New) ends,
+  )
+  by_kind Update (Some Hd) is = (named _ (Some Hd) _ (further c 47 _ c (omega arith) own) is tt, tt)
+  by_kind Update (Some Ta) is = (tiploc_named _, tt)
+  by_kind Update (Some Td) is = (tiploc_named _, tt)
+  by_kind Update (Some Aa) is = (
+    named _ (Some Aa) _ (by_association c h own (transaction_in (slice_index c 2))) is tt,
+    closed_association (transaction_in (slice_index c 2)),
+  )
+  by_kind Update (Some Bs) is = (
+    named _ (Some Bs) _ (by_basic c h own (transaction_in (slice_index c 2))) is tt,
+    closed_basic (transaction_in (slice_index c 2)),
+  )
+  by_kind Full None is = (named c None _ own is tt, tt)
+  by_kind Update None is = (named c None _ own is tt, tt)
+  by_kind Full (Some Hd) is = (named c (Some Hd) _ own is tt, tt)
+  by_kind Full (Some Ta) is = (named c (Some Ta) _ own is tt, tt)
+  by_kind Full (Some Td) is = (named c (Some Td) _ own is tt, tt)
+  by_kind Full (Some Bx) is = (named c (Some Bx) _ own is tt, tt)
+  by_kind Full (Some Lo) is = (named c (Some Lo) _ own is tt, tt)
+  by_kind Full (Some Li) is = (named c (Some Li) _ own is tt, tt)
+  by_kind Full (Some Cr) is = (named c (Some Cr) _ own is tt, tt)
+  by_kind Full (Some Lt) is = (named c (Some Lt) _ own is tt, tt)
+  by_kind Full (Some Zz) is = (named c (Some Zz) _ own is tt, tt)
+  by_kind Update (Some Bx) is = (named c (Some Bx) _ own is tt, tt)
+  by_kind Update (Some Lo) is = (named c (Some Lo) _ own is tt, tt)
+  by_kind Update (Some Li) is = (named c (Some Li) _ own is tt, tt)
+  by_kind Update (Some Cr) is = (named c (Some Cr) _ own is tt, tt)
+  by_kind Update (Some Lt) is = (named c (Some Lt) _ own is tt, tt)
+  by_kind Update (Some Zz) is = (named c (Some Zz) _ own is tt, tt)
+
+-- ---- the mark of a line, and the record that it spells
+
+record Fits (m : LineMark) (r : Record) : Type 0 where
+  tiplocs : length (tiploc_mark m) ≡ length (tiploc_of r)
+  associations : AreMarkedAs (λ (a : Association). a.last) (association_mark m) (association_of r)
+  schedules : AreMarkedAs (λ (b : Basic). b.last) (schedule_mark m) (basic_of r)
+
+fit : (m : LineMark) (l : List ℕ) (r : Record) → MarkFor (kind_in l) m → ClosedFor m l → SpellsRecord l r → Fits m r
+fit m l r for closes spells = at m r (subst (λ k. MarkFor k m) (kind_there l r spells) for) closes spells
+  where
+    at : (m : LineMark) (r : Record) → MarkFor (Some (kind_of r)) m → ClosedFor m l → SpellsRecord l r → Fits m r
+    at (mark.Tiploc m) (of.Tiploc t) for closes spells = record { tiplocs = refl; associations = tt; schedules = tt }
+    at (mark.Association m) (of.Association a) for closes spells = record {
+      tiplocs = refl;
+      associations = (λ ends. is_last _ a.last (closes ends) spells.1.1.1.1.1.0, tt);
+      schedules = tt;
+    }
+    at (mark.Schedule m) (of.Basic b) for closes spells = record {
+      tiplocs = refl;
+      associations = tt;
+      schedules = (λ ends. is_last _ b.last (closes ends) spells.1.1.1.1.0, tt);
+    }
+    at mark.Nothing (of.Header x) for closes spells = record { tiplocs = refl; associations = tt; schedules = tt }
+    at mark.Nothing (of.Extra x) for closes spells = record { tiplocs = refl; associations = tt; schedules = tt }
+    at mark.Nothing (of.Origin x) for closes spells = record { tiplocs = refl; associations = tt; schedules = tt }
+    at mark.Nothing (of.Stop x) for closes spells = record { tiplocs = refl; associations = tt; schedules = tt }
+    at mark.Nothing (of.Change x) for closes spells = record { tiplocs = refl; associations = tt; schedules = tt }
+    at mark.Nothing (of.Terminus x) for closes spells = record { tiplocs = refl; associations = tt; schedules = tt }
+    at mark.Nothing of.Trailer for closes spells = record { tiplocs = refl; associations = tt; schedules = tt }
+    at _ _ for closes spells = absurd for
+
+-- ---- all of them
+
+marked_both : {A : Type 0} (last : A → ℕ) (ms ns : List Mark) (rs ss : List A) → AreMarkedAs last ms rs → AreMarkedAs last ns ss
+    → AreMarkedAs last (ms ++ ns) (rs ++ ss)
+marked_both last [] ns [] ss p q = q
+marked_both last [] ns (r ∷ rs) ss p q = absurd p
+marked_both last (m ∷ ms) ns [] ss p q = absurd p
+marked_both last (m ∷ ms) ns (r ∷ rs) ss p q = (p.0, marked_both last ms ns rs ss p.1 q)
+
+module _ (feed : Feed) (h : Holidays) where
+  record FitAll (cs : List (List ℕ)) (rs : List Record) : Type 0 where
+    tiplocs : length (flat_map (λ (c : List ℕ). tiploc_mark (said feed h c).mark) cs) ≡ length (flat_map tiploc_of rs)
+    associations : AreMarkedAs (λ (a : Association). a.last) (flat_map (λ (c : List ℕ). association_mark (said feed h c).mark) cs)
+        (flat_map association_of rs)
+    schedules : AreMarkedAs (λ (b : Basic). b.last) (flat_map (λ (c : List ℕ). schedule_mark (said feed h c).mark) cs)
+        (flat_map basic_of rs)
+
+  fit_all : (cs : List (List ℕ)) → All IsLine cs → (rs : List Record)
+      → SpellAll (map (λ (content : List ℕ). (said feed h content).line) cs) rs → FitAll cs rs
+  fit_all [] are [] spell = record { tiplocs = refl; associations = tt; schedules = tt }
+  fit_all [] are (r ∷ rs) spell = absurd spell
+  fit_all (c ∷ cs) are [] spell = absurd spell
+  fit_all (c ∷ cs) are (r ∷ rs) spell =
+      let is = by_kind h c (All-head IsLine c cs are) feed (kind_in c) refl in
+      let one = fit (said feed h c).mark (said feed h c).line r is.0 is.1 spell.0 in
+      let more = fit_all cs (All-tail IsLine c cs are) rs spell.1 in
+      record {
+        tiplocs = omega (
+          arith,
+          one.tiplocs,
+          more.tiplocs,
+          length-append (tiploc_mark (said feed h c).mark) (flat_map (λ (x : List ℕ). tiploc_mark (said feed h x).mark) cs),
+          length-append (tiploc_of r) (flat_map tiploc_of rs),
+        );
+        associations = marked_both _ (association_mark (said feed h c).mark) _ (association_of r) _ one.associations more.associations;
+        schedules = marked_both _ (schedule_mark (said feed h c).mark) _ (basic_of r) _ one.schedules more.schedules;
+      }
+
+speaking_lines : (cs : List (List ℕ)) → All IsFeedContent cs → All IsLine (filter speaks cs)
+speaking_lines [] are = All-nil IsLine
+speaking_lines (c ∷ cs) are =
+    at (is_comment c) (is_note c) refl (All-head IsFeedContent c cs are) (speaking_lines cs (All-tail IsFeedContent c cs are))
+  where
+    at : (b n : Bool) → b ≡ is_comment c → IsFeedContent c → All IsLine (filter speaks cs)
+        → All IsLine (cond (not b && not n) (c ∷ filter speaks cs) (filter speaks cs))
+    at true n e is more = more
+    at false true e is more = more
+    at false false e is more = All-cons IsLine c (filter speaks cs) (⊎_elim (λ l. l) (λ comment. absurd (cc)) is) more
+
+-- ---- the records of an extract
+
+no_tiplocs : IsQuiet tiploc_of
+no_tiplocs = record { extra = λ x. refl; origin = λ o. refl; call = by_call; terminus = λ t. refl }
+  where
+    by_call : (c : Call) → tiploc_of (call_record c) ≡ []
+    by_call (At s) = refl
+    by_call (Turn c) = refl
+
+no_associations : IsQuiet association_of
+no_associations = record { extra = λ x. refl; origin = λ o. refl; call = by_call; terminus = λ t. refl }
+  where
+    by_call : (c : Call) → association_of (call_record c) ≡ []
+    by_call (At s) = refl
+    by_call (Turn c) = refl
+
+no_basics : IsQuiet basic_of
+no_basics = record { extra = λ x. refl; origin = λ o. refl; call = by_call; terminus = λ t. refl }
+  where
+    by_call : (c : Call) → basic_of (call_record c) ≡ []
+    by_call (At s) = refl
+    by_call (Turn c) = refl
+
+-- groups have the basics of their schedules, and nothing else of these
+groups_none : {A : Type 0} (f : Record → List A) → IsQuiet f → ((b : Basic) → f (of.Basic b) ≡ []) → (groups : List Record)
+    (ss : List Schedule) → AreSchedules groups ss → flat_map f groups ≡ []
+groups_none f quiet none groups [] are = ap (flat_map f) are
+groups_none f quiet none groups (s ∷ ss) are =
+    let (own, others, parts, one, more) = are in
+    ap (flat_map f) parts ∙ flat_map-append f own others
+    ∙ ap (λ l. l ++ flat_map f others) (own_basic f quiet own s one ∙ none one.basic) ∙ groups_none f quiet none others ss more
+
+take_first : (ms : List Mark) (b : Basic) (rest : List Basic) (s : Schedule) (ss : List Schedule) → b.last ≡ s.last
+    → AreMarkedAs (λ (b : Basic). b.last) ms (b ∷ rest)
+    → ((ns : List Mark) → AreMarkedAs (λ (b : Basic). b.last) ns rest → AreMarkedAs (λ (s : Schedule). s.last) ns ss)
+    → AreMarkedAs (λ (s : Schedule). s.last) ms (s ∷ ss)
+take_first [] b rest s ss same p more = absurd p
+take_first (m ∷ ms) b rest s ss same p more = (λ ends. sym same ∙ p.0 ends, more ms p.1)
+
+groups_marked : (ms : List Mark) (groups : List Record) (ss : List Schedule) → AreSchedules groups ss
+    → AreMarkedAs (λ (b : Basic). b.last) ms (flat_map basic_of groups) → AreMarkedAs (λ (s : Schedule). s.last) ms ss
+groups_marked ms groups [] are marked = at ms (subst (λ g. AreMarkedAs (λ (b : Basic). b.last) ms (flat_map basic_of g)) are marked)
+  where
+    at : (ms : List Mark) → AreMarkedAs (λ (b : Basic). b.last) ms [] → AreMarkedAs (λ (s : Schedule). s.last) ms []
+    at [] p = tt
+    at (m ∷ ms) p = absurd p
+groups_marked ms groups (s ∷ ss) are marked =
+    let (own, others, parts, one, more) = are in
+    let split : flat_map basic_of groups ≡ one.basic ∷ flat_map basic_of others =
+    ap (flat_map basic_of) parts ∙ flat_map-append basic_of own others
+    ∙ ap (λ l. l ++ flat_map basic_of others) (own_basic basic_of no_basics own s one) in
+    take_first ms one.basic (flat_map basic_of others) s ss one.terms.last
+    (subst (AreMarkedAs (λ (b : Basic). b.last) ms) split marked) (λ ns. groups_marked ns others ss more)
+
+all_one : {B : Type 0} (f : Record → List B) (g : B → Record) → ((b : B) → f (g b) ≡ b ∷ []) → (bs : List B)
+    → flat_map f (map g bs) ≡ bs
+all_one f g one [] = refl
+all_one f g one (b ∷ bs) = ap (λ l. l ++ flat_map f (map g bs)) (one b) ∙ ap (λ l. b ∷ l) (all_one f g one bs)
+
+none_of : {A B : Type 0} (f : Record → List B) (g : A → Record) → ((a : A) → f (g a) ≡ []) → (xs : List A) → flat_map f (map g xs) ≡ []
+none_of f g none [] = refl
+none_of f g none (x ∷ xs) = ap (λ l. l ++ flat_map f (map g xs)) (none x) ∙ none_of f g none xs
+
+-- the records of an extract, by parts
+module _ {B : Type 0} (f : Record → List B) (header : (x : Header) → f (of.Header x) ≡ []) (trailer : f of.Trailer ≡ [])
+    (rs : List Record) (x : ExtractParts) (are : AreExtract rs x) where
+  by_parts : flat_map f rs
+      ≡ flat_map f (map of.Tiploc x.tiplocs) ++ (flat_map f (map of.Association x.associations) ++ flat_map f are.schedules)
+  by_parts =
+      let rest = map of.Tiploc x.tiplocs ++ (map of.Association x.associations ++ are.schedules) in
+      ap (flat_map f) are.parts ∙ flat_map-append f (records_before_trailer x are.schedules) (of.Trailer ∷ [])
+      ∙ ap (λ l. flat_map f (records_before_trailer x are.schedules) ++ (l ++ [])) trailer
+      ∙ append-nil (flat_map f (records_before_trailer x are.schedules))
+      ∙ ap (λ l. l ++ flat_map f rest) (header x.header)
+      ∙ flat_map-append f (map of.Tiploc x.tiplocs) (map of.Association x.associations ++ are.schedules)
+      ∙ ap (λ l. flat_map f (map of.Tiploc x.tiplocs) ++ l) (flat_map-append f (map of.Association x.associations) are.schedules)
+
+-- ---- what a published extract holds
+
+pub marks_fit : (feed : Feed) (h : Holidays) (cs : List (List ℕ)) (x : PublishedParts) → SpellPublished feed h cs x → HasMarks x
+marks_fit feed h cs x s =
+    let rs = s.extract.records in
+    let are = s.extract.are in
+    let e = x.extract in
+    let all = fit_all feed h (filter speaks cs) (speaking_lines cs s.are_contents) rs s.extract.spelled in
+    let tiplocs : flat_map tiploc_of rs ≡ e.tiplocs =
+    by_parts tiploc_of (λ x. refl) refl rs e are
+    ∙ ap (λ l. l ++ (flat_map tiploc_of (map of.Association e.associations) ++ flat_map tiploc_of are.schedules))
+    (all_one tiploc_of of.Tiploc (λ t. refl) e.tiplocs)
+    ∙ ap (λ l. e.tiplocs ++ (l ++ flat_map tiploc_of are.schedules)) (none_of tiploc_of of.Association (λ a. refl) e.associations)
+    ∙ ap (λ l. e.tiplocs ++ l) (groups_none tiploc_of no_tiplocs (λ b. refl) are.schedules e.schedules are.are_schedules)
+    ∙ append-nil e.tiplocs in
+    let associations : flat_map association_of rs ≡ e.associations =
+    by_parts association_of (λ x. refl) refl rs e are
+    ∙ ap (λ l. l ++ (flat_map association_of (map of.Association e.associations) ++ flat_map association_of are.schedules))
+    (none_of association_of of.Tiploc (λ t. refl) e.tiplocs)
+    ∙ ap (λ l. l ++ flat_map association_of are.schedules) (all_one association_of of.Association (λ a. refl) e.associations)
+    ∙ ap (λ l. e.associations ++ l)
+    (groups_none association_of no_associations (λ b. refl) are.schedules e.schedules are.are_schedules)
+    ∙ append-nil e.associations in
+    let basics : flat_map basic_of rs ≡ flat_map basic_of are.schedules =
+    by_parts basic_of (λ x. refl) refl rs e are
+    ∙ ap (λ l. l ++ (flat_map basic_of (map of.Association e.associations) ++ flat_map basic_of are.schedules))
+    (none_of basic_of of.Tiploc (λ t. refl) e.tiplocs)
+    ∙ ap (λ l. l ++ flat_map basic_of are.schedules) (none_of basic_of of.Association (λ a. refl) e.associations) in
+    record {
+      tiplocs = ap length s.tiploc_marks ∙ all.tiplocs ∙ ap length tiplocs;
+      associations = subst (λ ms. AreMarkedAs (λ (a : Association). a.last) ms e.associations) (sym s.association_marks)
+          (subst (AreMarkedAs (λ (a : Association). a.last) (marks association_mark feed h cs)) associations all.associations);
+      schedules = subst (λ ms. AreMarkedAs (λ (v : Schedule). v.last) ms e.schedules) (sym s.schedule_marks)
+          (groups_marked (marks schedule_mark feed h cs) are.schedules e.schedules are.are_schedules
+          (subst (AreMarkedAs (λ (b : Basic). b.last) (marks schedule_mark feed h cs)) basics all.schedules));
+    }

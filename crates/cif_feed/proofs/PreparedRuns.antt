@@ -1,0 +1,229 @@
+-- A prepared extract runs as the published one: the parts of a record apply where it applies as published, and two sets of records agree on
+-- a day on which each record of one has its match in the other.
+use Rattle.std.proofs.Common.{◌≡◌, ⊎_elim, ◌↔◌, ℕ, ◌≤◌, ◌<◌, Bool, true, false, List, [], ◌∷◌, map, max}
+use Rattle.std.proofs.Common.{Option, Some, None, cond, refl, sym, ap, ◌∙◌, subst, arith, Contains, IsTrue}
+use Rattle.std.proofs.lemmas.List.Elements.{All-contains, Contains-append_cases, Contains-append_left, Contains-append_right}
+use Rattle.cif_calendar.proofs.Elements.{Contains-cases, Contains-first, Contains-rest}
+use Rattle.cif_calendar.specs.Applies.{Applies}
+use Rattle.cif_calendar.specs.Clash.{IsClear}
+use Rattle.cif_calendar.specs.Keys.{of_key}
+use Rattle.cif_calendar.specs.Runs.{Runs}
+use Rattle.cif_calendar.specs.Terms.{Records, Terms}
+use Rattle.cif_calendar.specs.Wins.{Wins}
+use Rattle.cif_columns.specs.Stp.{letter}
+use Rattle.cif_feed.specs.Parts.{AreParts, IsPart, ended}
+use Rattle.cif_feed.specs.Prepared.{AreMarked, ArePrepared, part_terms, prepared_last}
+use Rattle.cif_feed.specs.Published.{AppliesAsPublished, CountOn}
+use Rattle.cif_feed.specs.Strict.{last_day}
+use Rattle.cif_feed.specs.declared.holiday_code.HolidayCode.{HolidayCode}
+use Rattle.cif_feed.specs.declared.holidays.Holidays.{Holidays}
+use Rattle.cif_feed.specs.declared.mark.Mark.{Mark}
+use Rattle.cif_feed.specs.declared.part.Part.{Part}
+
+-- ---- two sets of records
+
+-- a record of the set that applies on day d, with the letter and the body of r
+record IsMatch {B : Type 0} (ys : Records B) (d : ℕ) (r s : Terms B) : Type 0 where
+  listed : ys s
+  applies : Applies s d
+  letters : s.letter ≡ r.letter
+  bodies : s.body ≡ r.body
+
+-- each record of the one set that applies on day d has its match in the other
+record Match {B : Type 0} (xs ys : Records B) (d : ℕ) : Type 0 where
+  found : (r : Terms B) → xs r → Applies r d → (s : Terms B) × IsMatch ys d r s
+
+module _ {B : Type 0} (d : ℕ) where
+  match-wins : (xs ys : Records B) → Match xs ys d → Match ys xs d → (r : Terms B) → Wins xs d r
+      → (s : Terms B) × Wins ys d s × (s.letter ≡ r.letter) × (s.body ≡ r.body)
+  match-wins xs ys to back r wins =
+      let (s, found) = to.found r wins.listed wins.applies in (
+        s,
+        record {
+          listed = found.listed;
+          applies = found.applies;
+          least = λ t listed on. let (u, other) = back.found t listed on in
+              let least : letter r.letter ≤ letter u.letter = wins.least u other.listed other.applies in
+              omega (arith, ap letter found.letters, ap letter other.letters);
+        },
+        found.letters,
+        found.bodies,
+      )
+
+  match-clear : (xs ys : Records B) → Match xs ys d → Match ys xs d → IsClear xs d → IsClear ys d
+  match-clear xs ys to back clear = record {
+    agree = λ r s r_wins s_wins.
+        let (t, t_wins, t_letter, t_body) = match-wins ys xs back to r r_wins in
+        let (u, u_wins, u_letter, u_body) = match-wins ys xs back to s s_wins in
+        sym t_body ∙ clear.agree t u t_wins u_wins ∙ u_body;
+  }
+
+  match-runs : (xs ys : Records B) → Match xs ys d → Match ys xs d → (o : Option B) → Runs xs d o → Runs ys d o
+  match-runs xs ys to back None idle = record {
+    cancelled = λ r wins. let (s, s_wins, s_letter, s_body) = match-wins ys xs back to r wins in sym s_letter ∙ idle.cancelled s s_wins;
+  }
+  match-runs xs ys to back (Some b) runs =
+      let (s, s_wins, s_letter, s_body) = match-wins xs ys to back runs.winner runs.wins in
+      record { winner = s; wins = s_wins; body = s_body ∙ runs.body }
+
+-- ---- the parts of one record
+
+module _ {B : Type 0} (h : Holidays) (code : Option HolidayCode) (r : Terms B) (last : ℕ) (parts : List Part)
+    (are : AreParts h code (ended last r) parts) (d : ℕ) where
+  -- where the record applies as published, one of its parts applies
+  pub part-applies : d ≤ last → AppliesAsPublished h code r d → (p : Part) × Contains parts p × Applies (part_terms r p) d
+  part-applies within on = ⊎_elim
+      (λ have. (
+        have.0,
+        have.1,
+        record { begun = have.2; unfinished = have.3; on_weekday = on.applies.on_weekday },
+      ))
+      (λ cut. absurd (on.no_holiday cut.holiday))
+      (are.covered d on.applies.begun within)
+
+  -- and where a part applies, the record does
+  pub applies-part : d ≤ r.last → (p : Part) → Contains parts p → Applies (part_terms r p) d → AppliesAsPublished h code r d
+  applies-part within p listed on =
+      let is = All-contains (IsPart h code (ended last r)) parts p are.are listed in
+      let early : r.first ≤ d = (let from : r.first ≤ p.first = is.from in let begun : p.first ≤ d = on.begun in omega arith) in
+      let late : d ≤ last = (let upto : p.last ≤ last = is.upto in let unfinished : d ≤ p.last = on.unfinished in omega arith) in
+      record {
+        applies = record { begun = early; unfinished = within; on_weekday = on.on_weekday };
+        no_holiday = λ holiday. is.whole d on.begun on.unfinished
+            (record { applies = record { begun = early; unfinished = late; on_weekday = on.on_weekday }; holiday = holiday });
+      }
+
+-- ---- the records of each key
+
+module _ {X Y : Type 0} (f : X → Y) where
+  Contains-map : (xs : List X) (x : X) → Contains xs x → Contains (map f xs) (f x)
+  Contains-map [] x (k, below, is) = absurd (omega arith)
+  Contains-map (y ∷ ys) x has = ⊎_elim
+      (λ first. subst (λ (z : X). Contains (map f (y ∷ ys)) (f z)) first (Contains-first (f y) (map f ys)))
+      (λ rest. Contains-rest (f y) (map f ys) (f x) (Contains-map ys x rest))
+      (Contains-cases y ys x has)
+
+  Contains-from_map : (xs : List X) (y : Y) → Contains (map f xs) y → (x : X) × Contains xs x × (f x ≡ y)
+  Contains-from_map [] y (k, below, is) = absurd (omega arith)
+  Contains-from_map (x ∷ xs) y has = ⊎_elim
+      (λ first. (x, Contains-first x xs, first))
+      (λ rest. let (z, listed, is) = Contains-from_map xs y rest in (z, Contains-rest x xs z listed, is))
+      (Contains-cases (f x) (map f xs) y has)
+
+module _ {K B : Type 0} (h : Holidays) (window_last : ℕ) where
+  -- the parts of one entry
+  record HasParts (e : K × (Terms B × Mark)) (parts : List Part) : Type 0 where
+    are : AreParts h e.1.1.code (ended (prepared_last window_last e.1.0 e.1.1) e.1.0) parts
+
+  -- an entry's parts are among the prepared records
+  parts-of_entry : (entries : List (K × (Terms B × Mark))) (prepared : List (K × Terms B)) → ArePrepared h window_last entries prepared
+      → (e : K × (Terms B × Mark)) → Contains entries e
+      → (parts : List Part) × HasParts e parts × ((p : Part) → Contains parts p → Contains prepared (e.0, part_terms e.1.0 p))
+  parts-of_entry [] prepared none e (k, below, is) = absurd (omega arith)
+  parts-of_entry (x ∷ entries) prepared (parts, others, are, joined, rest) e has = ⊎_elim
+      (λ first. subst
+      (λ (y : K × (Terms B × Mark)). (ps : List Part) × HasParts y ps
+      × ((p : Part) → Contains ps p → Contains prepared (y.0, part_terms y.1.0 p)))
+      first (
+        parts,
+        record { are = are },
+        λ p listed. subst (λ (l : List (K × Terms B)). Contains l (x.0, part_terms x.1.0 p)) (sym joined)
+            (Contains-append_left (map (λ (q : Part). (x.0, part_terms x.1.0 q)) parts) others (x.0, part_terms x.1.0 p)
+            (Contains-map (λ (q : Part). (x.0, part_terms x.1.0 q)) parts p listed)),
+      ))
+      (λ later.
+      let (ps, own, all) = parts-of_entry entries others rest e later in (
+        ps,
+        own,
+        λ p listed. subst (λ (l : List (K × Terms B)). Contains l (e.0, part_terms e.1.0 p)) (sym joined)
+            (Contains-append_right (map (λ (q : Part). (x.0, part_terms x.1.0 q)) parts) others (e.0, part_terms e.1.0 p) (all p listed)),
+      ))
+      (Contains-cases x entries e has)
+
+  -- a prepared record is a part of an entry
+  entry-of_part : (entries : List (K × (Terms B × Mark))) (prepared : List (K × Terms B)) → ArePrepared h window_last entries prepared
+      → (s : K × Terms B) → Contains prepared s
+      → (e : K × (Terms B × Mark)) × Contains entries e × (parts : List Part) × HasParts e parts
+      × (p : Part) × Contains parts p × (s ≡ (e.0, part_terms e.1.0 p))
+  entry-of_part [] prepared none s has = absurd
+      (let (k, below, is) = subst (λ (l : List (K × Terms B)). Contains l s) none has in let b : k < 0 = below in omega arith)
+  entry-of_part (x ∷ entries) prepared (parts, others, are, joined, rest) s has = ⊎_elim
+      (λ own.
+      let (p, listed, is) = Contains-from_map (λ (q : Part). (x.0, part_terms x.1.0 q)) parts s own in
+      (x, Contains-first x entries, parts, record { are = are }, p, listed, sym is))
+      (λ later.
+      let (e, found, ps, own, p, listed, is) = entry-of_part entries others rest s later in
+      (e, Contains-rest x entries e found, ps, own, p, listed, is))
+      (Contains-append_cases (map (λ (q : Part). (x.0, part_terms x.1.0 q)) parts) others s
+      (subst (λ (l : List (K × Terms B)). Contains l s) joined has))
+
+  module _ (entries : List (K × (Terms B × Mark))) (prepared : List (K × Terms B)) (are : ArePrepared h window_last entries prepared)
+      (marked : AreMarked entries) (k : K) (d : ℕ) (in_window : d ≤ window_last) (is_day : d ≤ last_day) where
+    -- the day isn't after the record's last in the prepared extract
+    in_prepared : (r : Terms B) (m : Mark) (b : Bool) → m.open_end ≡ b → r.first ≤ d → d ≤ r.last
+        → d ≤ cond b (max r.first window_last) r.last
+    in_prepared r m true is from upto = omega arith
+    in_prepared r m false is from upto = upto
+
+    in_published : (e : K × (Terms B × Mark)) → Contains entries e → (b : Bool) → e.1.1.open_end ≡ b
+        → d ≤ cond b (max e.1.0.first window_last) e.1.0.last → d ≤ e.1.0.last
+    in_published e found true is within =
+        let ends = All-contains (λ (x : K × (Terms B × Mark)). IsTrue x.1.1.open_end → x.1.0.last ≡ last_day) entries e marked found is in
+        let last : e.1.0.last ≡ 36524 = ends in omega arith
+    in_published e found false is within = within
+
+    published-match : Match (λ r. CountOn h entries k d r) (of_key prepared k) d
+    published-match = record {
+      found = λ r count on.
+          let (parts, own, all) = parts-of_entry entries prepared are (k, (r, count.mark)) count.listed in
+          let (p, listed, applies) =
+          part-applies h count.mark.code r (prepared_last window_last r count.mark) parts own.are d
+          (in_prepared r count.mark count.mark.open_end refl on.begun on.unfinished)
+          (record { applies = on; no_holiday = count.no_holiday }) in
+          (part_terms r p, record { listed = all p listed; applies = applies; letters = refl; bodies = refl });
+    }
+
+    prepared-match : Match (of_key prepared k) (λ r. CountOn h entries k d r) d
+    prepared-match = record {
+      found = λ s has on. at s on (entry-of_part entries prepared are (k, s) has);
+    }
+      where
+        at : (s : Terms B) → Applies s d
+            → (e : K × (Terms B × Mark)) × Contains entries e × (parts : List Part) × HasParts e parts
+            × (p : Part) × Contains parts p × (◌≡◌ {A = K × Terms B} (k, s) (e.0, part_terms e.1.0 p))
+            → (r : Terms B) × IsMatch (λ t. CountOn h entries k d t) d s r
+        at s on (e, found, parts, own, p, listed, is) =
+            let key : k ≡ e.0 = ap (λ (x : K × Terms B). x.0) is in
+            let terms : s ≡ part_terms e.1.0 p = ap (λ (x : K × Terms B). x.1) is in
+            let part_on : Applies (part_terms e.1.0 p) d = subst (λ (t : Terms B). Applies t d) terms on in
+            let upto : d ≤ prepared_last window_last e.1.0 e.1.1 =
+            (let ends : p.last ≤ prepared_last window_last e.1.0 e.1.1 =
+            (All-contains (IsPart h e.1.1.code (ended (prepared_last window_last e.1.0 e.1.1) e.1.0)) parts p own.are.are listed).upto in
+            let unfinished : d ≤ p.last = part_on.unfinished in omega arith) in
+            let applies =
+            applies-part h e.1.1.code e.1.0 (prepared_last window_last e.1.0 e.1.1) parts own.are d
+            (in_published e found e.1.1.open_end refl upto) p listed part_on in (
+              e.1.0,
+              record {
+                listed = record {
+                  mark = e.1.1;
+                  listed = subst (λ (j : K). Contains entries (j, e.1)) (sym key) found;
+                  no_holiday = applies.no_holiday;
+                };
+                applies = applies.applies;
+                letters = sym (ap (λ (t : Terms B). t.letter) terms);
+                bodies = sym (ap (λ (t : Terms B). t.body) terms);
+              },
+            )
+
+    pub prepared-runs : (o : Option B) → Runs (of_key prepared k) d o ↔ Runs (λ r. CountOn h entries k d r) d o
+    prepared-runs o = (
+      match-runs d (of_key prepared k) (λ r. CountOn h entries k d r) prepared-match published-match o,
+      match-runs d (λ r. CountOn h entries k d r) (of_key prepared k) published-match prepared-match o,
+    )
+
+    pub prepared-clear : IsClear (of_key prepared k) d ↔ IsClear (λ r. CountOn h entries k d r) d
+    prepared-clear = (
+      match-clear d (of_key prepared k) (λ r. CountOn h entries k d r) prepared-match published-match,
+      match-clear d (λ r. CountOn h entries k d r) (of_key prepared k) published-match prepared-match,
+    )

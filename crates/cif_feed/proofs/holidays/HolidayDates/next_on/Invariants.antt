@@ -1,0 +1,8 @@
+-- None of the dates so far has its weekday in the mask, and all of them are up to the last.
+use Rattle.std.proofs.Common.{ℕ, ◌<◌, get_or}
+use Rattle.cif_columns.specs.Day.{weekday_of}
+use Rattle.cif_columns.specs.DaysRun.{RunsOn}
+use Rattle.cif_feed.proofs.holidays.HolidayDates.next_on.Given as goal
+
+abbrev pub invariant-loop-day : goal.invariant-loop-day
+invariant-loop-day l = (k : ℕ) → k < l.day-index → ¬ RunsOn l.days (weekday_of (get_or l.later k 0))

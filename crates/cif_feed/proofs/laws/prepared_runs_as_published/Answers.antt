@@ -1,0 +1,11 @@
+-- The records of a key match on both sides.
+use Rattle.cif_feed.proofs.PreparedRuns.{prepared-clear, prepared-runs}
+use Rattle.cif_feed.proofs.laws.prepared_runs_as_published.Goals as goal
+
+pub returns-clause-runs : goal.returns-clause-runs
+returns-clause-runs g c = λ h window_last entries prepared k d o are marked within day.
+    prepared-runs h window_last entries prepared are marked k d within day o
+
+pub returns-clause-clear : goal.returns-clause-clear
+returns-clause-clear g c = λ h window_last entries prepared k d are marked within day.
+    prepared-clear h window_last entries prepared are marked k d within day

@@ -1,0 +1,52 @@
+-- Why bytes are no published extract, or no update, or can't be read.
+use Rattle.std.specs.Prelude.{◌≡◌, ℕ, List, Option, IsSomeAnd, Result, Ok, Err}
+use Rattle.cif_columns.specs.Contents.{contents_of}
+use Rattle.cif_columns.specs.GivenLines.{IsContentDecidedOrLast}
+use Rattle.cif_columns.specs.Source.{HasFailedToRead, HasReadOn, Unread}
+use Rattle.cif_columns.specs.declared.source.Source.{Source}
+use Rattle.cif_extract.specs.ReadFault.{IsLineNumber}
+use Rattle.cif_extract.specs.declared.fault.Fault.TheVariants.{Refused, Read, Memory}
+use Rattle.cif_feed.specs.FeedRefusal.{IsFeedContent, IsFeedCut, IsFirstOfFeed}
+use Rattle.cif_feed.specs.SpellsFeed.{PublishedParts, published_parts}
+use Rattle.cif_feed.specs.declared.feed.Feed.{Feed}
+use Rattle.cif_feed.specs.declared.feed.FeedFault.{FeedFault}
+use Rattle.cif_feed.specs.declared.feed.FeedFault.TheVariants.{Extract, NotUpdate, BadTransaction}
+use Rattle.cif_feed.specs.declared.holidays.Holidays.{Holidays}
+use Rattle.cif_feed.specs.declared.published.Published.{Published}
+
+-- Why these bytes are none, or can't be read, where `after` is left then: their first refusal, of a content that is decided, or a failure
+-- of the source before one was. No contract foretells that memory runs out.
+abbrev pub IsFeedFault : Feed → Holidays → ℕ → List ℕ → Unread → FeedFault → Type 0
+IsFeedFault feed h max bytes after (Extract (Refused line why)) =
+    IsFirstOfFeed feed h max (contents_of bytes) (Extract (Refused line why)) × IsContentDecidedOrLast IsFeedContent max bytes after line
+IsFeedFault feed h max bytes after (Extract Read) = IsSomeAnd after.bytes (IsFeedCut feed h max bytes)
+IsFeedFault feed h max bytes after (Extract Memory) = Unit {0}
+IsFeedFault feed h max bytes after (Extract _) = ⊥
+IsFeedFault feed h max bytes after (NotUpdate line) =
+    IsFirstOfFeed feed h max (contents_of bytes) (NotUpdate line) × IsContentDecidedOrLast IsFeedContent max bytes after line
+IsFeedFault feed h max bytes after (BadTransaction line) =
+    IsFirstOfFeed feed h max (contents_of bytes) (BadTransaction line) × IsContentDecidedOrLast IsFeedContent max bytes after line
+IsFeedFault feed h max bytes after _ = ⊥
+
+-- the faults of reading at most max contents, for any source
+abbrev pub IsOfFeed : ℕ → FeedFault → Type 0
+IsOfFeed max (Extract (Refused line why)) = IsLineNumber max line
+IsOfFeed max (Extract Read) = Unit {0}
+IsOfFeed max (Extract Memory) = Unit {0}
+IsOfFeed max (Extract _) = ⊥
+IsOfFeed max (NotUpdate line) = IsLineNumber max line
+IsOfFeed max (BadTransaction line) = IsLineNumber max line
+IsOfFeed max _ = ⊥
+
+-- what is answered where the bytes spell one of these parts: it, unless the source fails or memory runs out
+abbrev pub IsReadAsPublished : PublishedParts → Result Published FeedFault → Type 0
+IsReadAsPublished x (Ok published) = published_parts published ≡ x
+IsReadAsPublished x (Err (Extract Read)) = Unit {0}
+IsReadAsPublished x (Err (Extract Memory)) = Unit {0}
+IsReadAsPublished x (Err _) = ⊥
+
+-- what a call that may answer such a fault owes its source: it fails to read exactly where it answers Read
+abbrev pub FeedReads : {R A : Type 0} → (R → Option ℕ) → Source R → Source R → Result A FeedFault → Type 0
+FeedReads errors old new (Ok done) = HasReadOn errors old new
+FeedReads errors old new (Err (Extract Read)) = HasFailedToRead errors old new
+FeedReads errors old new (Err fault) = HasReadOn errors old new

@@ -1,0 +1,15 @@
+-- The holiday codes, by their letters.
+use Rattle.std.specs.Prelude.{ℕ, ◌==◌, Option, Some, None, if◌then◌else◌}
+use Rattle.cif_feed.specs.declared.holiday_code.HolidayCode.{HolidayCode}
+use Rattle.cif_feed.specs.declared.holiday_code.HolidayCode.TheVariants.{X, E, G}
+
+-- the ASCII letter
+abbrev pub letter : HolidayCode → ℕ
+letter X = 88
+letter E = 69
+letter G = 71
+
+-- the code with this letter
+abbrev pub code_in : ℕ → Option HolidayCode
+code_in column =
+    if column == 88 then Some X else (if column == 69 then Some E else (if column == 71 then Some G else None))

@@ -1,0 +1,26 @@
+-- When a published record applies, and which records count on a day.
+use Rattle.std.specs.Prelude.{ℕ, List, Option, Some, None, Contains}
+use Rattle.cif_calendar.specs.Applies.{Applies}
+use Rattle.cif_calendar.specs.Terms.{Terms}
+use Rattle.cif_feed.specs.Holidays.{IsHoliday}
+use Rattle.cif_feed.specs.declared.holiday_code.HolidayCode.{HolidayCode}
+use Rattle.cif_feed.specs.declared.holidays.Holidays.{Holidays}
+use Rattle.cif_feed.specs.declared.mark.Mark.{Mark}
+
+-- day d is a holiday of a record's code, if it has one
+abbrev pub IsHolidayOf : Holidays → Option HolidayCode → ℕ → Type 0
+IsHolidayOf h None d = ⊥
+IsHolidayOf h (Some code) d = IsHoliday h code d
+
+-- The published record applies on day d: from its first to its last day, where the weekday is in its mask and the day is no holiday of
+-- its code. A record without a code applies as one of this profile does. An open end is the last day that there is.
+pub record AppliesAsPublished {B : Type 0} (h : Holidays) (code : Option HolidayCode) (r : Terms B) (d : ℕ) : Type 0 where
+  pub applies : Applies r d
+  pub no_holiday : ¬ IsHolidayOf h code d
+
+-- The records of key k that count on day d: those for which it is no holiday. Of them `Wins`, `Runs` and `IsClear` say which win, what runs
+-- and whether there is a clash, so that these follow from what applies as published.
+pub record CountOn {K B : Type 0} (h : Holidays) (entries : List (K × (Terms B × Mark))) (k : K) (d : ℕ) (r : Terms B) : Type 0 where
+  pub mark : Mark
+  pub listed : Contains entries (k, (r, mark))
+  pub no_holiday : ¬ IsHolidayOf h mark.code d

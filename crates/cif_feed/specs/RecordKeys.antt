@@ -1,0 +1,20 @@
+-- What an update knows a record by.
+use Rattle.std.specs.Prelude.{ℕ, List}
+use Rattle.cif_columns.specs.Field.{columns}
+use Rattle.cif_columns.specs.declared.stp.Stp.{Stp}
+use Rattle.cif_extract.specs.declared.extract.Schedule.{Schedule}
+use Rattle.cif_records.specs.declared.association.AssocKey.{AssocKey}
+use Rattle.cif_records.specs.declared.association.Association.{Association}
+use Rattle.cif_records.specs.declared.tiploc.Tiploc.{Tiploc}
+
+-- a location by its TIPLOC, columns 3 to 9 of its line
+abbrev pub tiploc_key : Tiploc → List ℕ
+tiploc_key t = columns 1 7 t.columns
+
+-- an association by its key, its first day and its letter
+abbrev pub association_key : Association → AssocKey × ℕ × Stp
+association_key a = (a.key, a.first, a.letter)
+
+-- a schedule by its UID, its first day and its letter
+abbrev pub schedule_key : Schedule → List ℕ × ℕ × Stp
+schedule_key s = (s.uid, s.first, s.letter)

@@ -1,0 +1,5 @@
+-- What the contracts of the code's own steps speak of. No clause of a public function cites it, so nothing here has to be believed.
+pub mod Changes
+pub mod FeedReading
+pub mod HolidayReading
+pub mod PartsSoFar

@@ -1,0 +1,34 @@
+-- Where changes stand, for the contracts of the steps of doing them. A map is seen as the value at each key.
+use Rattle.std.specs.Prelude.{◌≡◌, ℕ, ◌↔◌, ◌+◌, ◌<◌, ◌==◌, ◌&&◌, AllPairs, Contains, Bool, true, false, List, [], ◌∷◌, Option, Some, None, unwrap_or, if◌then◌else◌}
+use Rattle.std.specs.Option.{option_or}
+use Rattle.cif_feed.specs.Changes.{ChangeParts, IsRefusedAt, is_changed, is_there}
+
+-- the position of the last change of a key, where the first change has this one
+abbrev pub last_from : {K I : Type 0} → (K → K → Bool) → ℕ → List (ChangeParts K I) → K → Option ℕ
+last_from same at [] key = None
+last_from same at (c ∷ changes) key = option_or (last_from same (at + 1) changes key) (if same c.key key then Some at else None)
+
+-- of each key, the position of its last change
+pub record AreLast {K I : Type 0} (same : K → K → Bool) (changes : List (ChangeParts K I)) (last : K → Option ℕ) : Type 0 where
+  pub are : (key : K) → last key ≡ last_from same 0 changes key
+
+-- it is this position
+abbrev pub is_position : Option ℕ → ℕ → Bool
+is_position None at = false
+is_position (Some position) at = position == at
+
+-- of the keys that are changed, it says whether there are records
+pub record SaysThere {K I : Type 0} (same : K → K → Bool) (records : List (K × I)) (changes : List (ChangeParts K I))
+    (there : K → Option Bool) : Type 0 where
+  pub says : (key : K) → is_changed same changes key ≡ true → unwrap_or (there key) false ≡ is_there same records key
+
+-- of the keys that are changed, it says whether there are records, and of no other
+pub record SaysAlone {K I : Type 0} (same : K → K → Bool) (records : List (K × I)) (changes : List (ChangeParts K I))
+    (there : K → Option Bool) : Type 0 where
+  pub says : (key : K) → unwrap_or (there key) false ≡ (is_changed same changes key && is_there same records key)
+
+-- of the changes before this position, these are refused
+pub record AreRefusedBefore {K I : Type 0} (same : K → K → Bool) (records : List (K × I)) (changes : List (ChangeParts K I)) (end : ℕ)
+    (refused : List ℕ) : Type 0 where
+  pub rising : AllPairs ◌<◌ refused
+  pub are : (at : ℕ) → Contains refused at ↔ ((at < end) × IsRefusedAt same records changes at)

@@ -1,0 +1,215 @@
+//! What the lines of an update do to records of one kind.
+ghost use Rattle.std.specs.Prelude.{◌≡◌, ◌++◌, [], List, IfOk, is_some, not, reverse};
+ghost use Rattle.std.specs.Prelude.{option_to_list, if◌then◌else◌};
+ghost use Rattle.std.specs.Ordering.{eq_by_cmp};
+ghost use Rattle.std.specs.BTreeMap.{get};
+ghost use Rattle.cif_feed.specs.Changes.{AreRefused, ChangeParts, after_all, changes_of, may, parts_of};
+ghost use Rattle.cif_feed.specs.Changes.{put_last, untouched, with_keys};
+ghost use Rattle.cif_feed.specs.Steps.Changes.{AreLast, SaysThere, is_position};
+
+use std::alloc::{AllocError, Global};
+use std::collections::BTreeMap;
+
+/// A record that an update knows by its key.
+pub trait Keyed {
+    /// What an update knows it by.
+    type Key: Ord + Drop;
+
+    // Its key.
+    ghost key: { Self → Self.Key };
+
+    /// Its key.
+    fn record_key(&self) -> Self::Key
+        ensures { result ≡ key self.now };
+
+    /// The same key.
+    fn copied(known: &Self::Key) -> Self::Key
+        ensures { result ≡ known.now };
+}
+
+/// What a line of an update does.
+#[derive(Drop)]
+pub enum Change<K, R> {
+    /// Puts a record whose key isn't there.
+    New(R),
+    /// Takes out the records of the record's key, and puts it.
+    Revised(R),
+    /// Takes out the records of a key.
+    Deleted(K),
+}
+
+/// Does the changes, one after another: the records of a change's key are taken out, and what it
+/// puts comes last. Gives the positions of the changes that may not be done: of a new record whose
+/// key is there, and of a revision or a deletion of a key that isn't.
+pub fn apply<R: Keyed + Drop>(
+    alloc: Global,
+    records: &mut Vec<R>,
+    mut changes: Vec<Change<R::Key, R>>,
+) -> Result<Vec<usize>, AllocError>
+    ensures records { IfOk result (λ _. with_keys R.key records.new.items
+        ≡ after_all (eq_by_cmp R.Key.cmp) (with_keys R.key records.old.items) (changes_of R.key changes.items)) }
+    ensures refused { IfOk result (λ refused. AreRefused (eq_by_cmp R.Key.cmp)
+        (with_keys R.key records.old.items) (changes_of R.key changes.items) refused.items) }
+{
+    let last = last_changes::<R>(alloc, changes.as_slice())?;
+    let there = keys_there(alloc, records.as_slice(), &last)?;
+    let refused = refused_changes::<R>(alloc, there, changes.as_slice())?;
+    take_out(records, &last);
+    changes.reverse();
+    put(records, changes, &last)?;
+    Ok(refused)
+}
+
+/// Of each key that is changed, the position of its last change.
+fn last_changes<R: Keyed>(
+    alloc: Global,
+    changes: &[Change<R::Key, R>],
+) -> Result<BTreeMap<R::Key, usize>, AllocError>
+    ensures { IfOk result (λ last.
+        AreLast (eq_by_cmp R.Key.cmp) (changes_of R.key changes.now) (get R.Key.cmp last)) }
+{
+    let mut last = BTreeMap::new(alloc);
+    for (at, change) in changes.iter().enumerate() {
+        last.insert(key_of::<R>(change), at)?;
+    }
+    Ok(last)
+}
+
+/// Of the keys that are changed, those of which there are records.
+fn keys_there<R: Keyed>(
+    alloc: Global,
+    records: &[R],
+    last: &BTreeMap<R::Key, usize>,
+) -> Result<BTreeMap<R::Key, bool>, AllocError>
+    ensures { IfOk result (λ there. (changes : List (ChangeParts R.Key R))
+        → AreLast (eq_by_cmp R.Key.cmp) changes (get R.Key.cmp last.now)
+        → SaysThere (eq_by_cmp R.Key.cmp) (with_keys R.key records.now) changes (get R.Key.cmp there)) }
+{
+    let mut there = BTreeMap::new(alloc);
+    for record in records {
+        let key = record.record_key();
+        if last.contains_key(&key) {
+            there.insert(key, true)?;
+        }
+    }
+    Ok(there)
+}
+
+/// The positions of the changes that may not be done, each after those before it.
+fn refused_changes<R: Keyed>(
+    alloc: Global,
+    mut there: BTreeMap<R::Key, bool>,
+    changes: &[Change<R::Key, R>],
+) -> Result<Vec<usize>, AllocError>
+    ensures { IfOk result (λ refused. (records : List (R.Key × R))
+        → SaysThere (eq_by_cmp R.Key.cmp) records (changes_of R.key changes.now) (get R.Key.cmp there)
+        → AreRefused (eq_by_cmp R.Key.cmp) records (changes_of R.key changes.now) refused.items) }
+{
+    let mut refused = Vec::new(alloc);
+    for (at, change) in changes.iter().enumerate() {
+        let key = key_of::<R>(change);
+        let is_there = there.get(&key).copied().unwrap_or(false);
+        if !may::<R>(change, is_there) {
+            refused.push(at)?;
+        }
+        there.insert(key, puts::<R>(change))?;
+    }
+    Ok(refused)
+}
+
+/// Takes out the records of the keys that are changed.
+fn take_out<R: Keyed + Drop>(records: &mut Vec<R>, last: &BTreeMap<R::Key, usize>)
+    ensures { (changes : List (ChangeParts R.Key R))
+        → AreLast (eq_by_cmp R.Key.cmp) changes (get R.Key.cmp last.now)
+        → with_keys R.key records.new.items
+        ≡ untouched (eq_by_cmp R.Key.cmp) (with_keys R.key records.old.items) changes }
+{
+    records.retain(
+        |record|
+            ensures kept { result ≡ not (is_some (get R.Key.cmp last.entry.now (R.key record.now))) }
+            ensures same { last.exit ≡ last.entry }
+        { !last.contains_key(&record.record_key()) },
+    );
+}
+
+/// Puts what the changes put that are the last of their keys. The first change stands last.
+fn put<R: Keyed + Drop>(
+    records: &mut Vec<R>,
+    mut changes: Vec<Change<R::Key, R>>,
+    last: &BTreeMap<R::Key, usize>,
+) -> Result<(), AllocError>
+    ensures { IfOk result (λ _.
+        AreLast (eq_by_cmp R.Key.cmp) (changes_of R.key (reverse changes.items)) (get R.Key.cmp last.now)
+        → with_keys R.key records.new.items ≡ with_keys R.key records.old.items
+        ++ put_last (eq_by_cmp R.Key.cmp) (changes_of R.key (reverse changes.items))) }
+{
+    let mut at = 0;
+    while let Some(change) = changes.pop() {
+        let is_last = is_last::<R>(&change, at, last);
+        put_if(is_last, record_of::<R>(change), records)?;
+        at += 1;
+    }
+    Ok(())
+}
+
+/// Whether the change at this position is the last of its key.
+fn is_last<R: Keyed>(change: &Change<R::Key, R>, at: usize, last: &BTreeMap<R::Key, usize>) -> bool
+    ensures { result ≡ is_position (get R.Key.cmp last.now (parts_of R.key change.now).key) at }
+{
+    match last.get(&key_of::<R>(change)) {
+        Some(position) => *position == at,
+        None => false,
+    }
+}
+
+/// Appends a record, if there is one and it is to be put.
+fn put_if<R: Drop>(is_put: bool, item: Option<R>, records: &mut Vec<R>) -> Result<(), AllocError>
+    ensures { IfOk result (λ _. records.new.items ≡ records.old.items
+        ++ (if is_put then option_to_list item else [])) }
+{
+    match item {
+        Some(item) if is_put => records.push(item)?,
+        _ => {}
+    }
+    Ok(())
+}
+
+/// The record that a change puts.
+fn record_of<R: Keyed + Drop>(change: Change<R::Key, R>) -> Option<R>
+    ensures { result ≡ (parts_of R.key change).puts }
+{
+    match change {
+        Change::New(record) | Change::Revised(record) => Some(record),
+        Change::Deleted(_key) => None,
+    }
+}
+
+/// The key of a change.
+fn key_of<R: Keyed>(change: &Change<R::Key, R>) -> R::Key
+    ensures { result ≡ (parts_of R.key change.now).key }
+{
+    match change {
+        Change::New(record) | Change::Revised(record) => record.record_key(),
+        Change::Deleted(key) => R::copied(key),
+    }
+}
+
+/// Whether the change may be done, by whether there are records of its key.
+fn may<R: Keyed>(change: &Change<R::Key, R>, is_there: bool) -> bool
+    ensures { result ≡ may (parts_of R.key change.now).transaction is_there }
+{
+    match change {
+        Change::New(_) => !is_there,
+        Change::Revised(_) | Change::Deleted(_) => is_there,
+    }
+}
+
+/// Whether the change puts a record.
+fn puts<R: Keyed>(change: &Change<R::Key, R>) -> bool
+    ensures { result ≡ is_some (parts_of R.key change.now).puts }
+{
+    match change {
+        Change::New(_) | Change::Revised(_) => true,
+        Change::Deleted(_) => false,
+    }
+}

@@ -1,0 +1,106 @@
+//! Which feed is read, and why one can't be.
+ghost use Rattle.std.specs.Prelude.{◌≡◌, ◌≤◌, length};
+ghost use Rattle.cif_feed.specs.FeedTexts.{line_text};
+
+use arrayvec::ArrayString;
+use cif_columns::LineFault;
+use cif_extract::Fault;
+use itoa::Buffer;
+
+/// What is read.
+#[derive(Clone, Copy, Debug, PartialEq, Eq)]
+pub enum Feed {
+    /// A published extract.
+    Full,
+    /// An update.
+    Update,
+}
+
+/// Why a feed isn't read, or an update not done.
+#[derive(Drop, PartialEq, Eq)]
+pub enum FeedFault {
+    /// As an extract of this profile.
+    Extract(Fault),
+    /// The header of an update, by its number from 1, isn't one of an update.
+    NotUpdate { line: u64 },
+    /// An AA or a BS of an update, by its number, has no transaction.
+    BadTransaction { line: u64 },
+    /// A line of an update, by its number, revises, amends or deletes a record that isn't there.
+    NotThere { line: u64 },
+    /// A line of an update, by its number, puts a record that is there already.
+    AlreadyThere { line: u64 },
+}
+
+/// The bytes of the longest text, which is one of an extract of this profile.
+const LONGEST: usize = 64;
+
+impl FeedFault {
+    ghost use Rattle.cif_feed.specs.FeedTexts.{fault_text, name_of, number_of};
+
+    /// The number of the fault: that of an extract of this profile, or 22 NotUpdate, 23
+    /// BadTransaction, 24 NotThere, 25 AlreadyThere.
+    pub fn number(&self) -> u8
+        ensures { result ≡ number_of self.now }
+    {
+        match self {
+            FeedFault::Extract(fault) => fault.number(),
+            FeedFault::NotUpdate { line: _ } => 22,
+            FeedFault::BadTransaction { line: _ } => 23,
+            FeedFault::NotThere { line: _ } => 24,
+            FeedFault::AlreadyThere { line: _ } => 25,
+        }
+    }
+
+    /// The name of the fault.
+    pub fn name(&self) -> &'static str
+        ensures { result.now ≡ name_of self.now }
+    {
+        match self {
+            FeedFault::Extract(fault) => fault.name(),
+            FeedFault::NotUpdate { line: _ } => "NotUpdate",
+            FeedFault::BadTransaction { line: _ } => "BadTransaction",
+            FeedFault::NotThere { line: _ } => "NotThere",
+            FeedFault::AlreadyThere { line: _ } => "AlreadyThere",
+        }
+    }
+
+    /// What the fault is: its name, behind the line that is refused, as `line 2: NotUpdate`. It takes no
+    /// memory.
+    #[tactic(auto, unfolding(crate::specs::FeedTexts::fault_text))]
+    pub fn text(&self) -> ArrayString<LONGEST>
+        ensures { result.bytes ≡ fault_text self.now }
+    {
+        match self {
+            FeedFault::Extract(fault) => fault.text(),
+            FeedFault::NotUpdate { line } => line_text(*line, "NotUpdate"),
+            FeedFault::BadTransaction { line } => line_text(*line, "BadTransaction"),
+            FeedFault::NotThere { line } => line_text(*line, "NotThere"),
+            FeedFault::AlreadyThere { line } => line_text(*line, "AlreadyThere"),
+        }
+    }
+}
+
+/// A line's number and a name.
+#[tactic(auto, unfolding(crate::specs::FeedTexts::line_text))]
+fn line_text(line: u64, name: &str) -> ArrayString<LONGEST>
+    requires { length name.now ≤ 20 }
+    ensures { result.bytes ≡ line_text line name.now }
+{
+    let mut text = ArrayString::new();
+    text.push_str("line ");
+    text.push_str(Buffer::new().format(line));
+    text.push_str(": ");
+    text.push_str(name);
+    text
+}
+
+impl From<LineFault> for FeedFault {
+    ghost use Rattle.cif_extract.specs.Fault.{of_line_fault};
+    ghost use Rattle.cif_feed.specs.declared.feed.FeedFault.TheVariants.{Extract};
+
+    ghost from_gives = { λ line_fault fault. fault ≡ Extract (of_line_fault line_fault) };
+
+    fn from(fault: LineFault) -> FeedFault {
+        FeedFault::Extract(Fault::from(fault))
+    }
+}

@@ -1,0 +1,182 @@
+//! The dates of the holiday codes.
+ghost use Rattle.std.specs.Prelude.{◌≡◌, ◌<◌, ◌≤◌, ◌⊎◌, ◌↔◌, ℕ, [], length, slice_index, Contains};
+ghost use Rattle.std.specs.Prelude.{IfNone, IfOk, IfSome, IsTrue, false, true};
+ghost use Rattle.std.specs.List.Sorted.{IsNonDecreasing};
+ghost use Rattle.cif_columns.specs.Day.{weekday_of};
+ghost use Rattle.cif_columns.specs.DaysRun.{RunsOn};
+
+use crate::HolidayCode;
+use cif_columns::{Day, DaysRun};
+use std::alloc::{AllocError, Global};
+
+/// The holidays of one code.
+#[derive(Drop)]
+pub(crate) struct HolidayDates {
+    // Whether the code is named, with or without dates.
+    is_named: bool,
+    days: Vec<Day>,
+    ghost rising: { IsNonDecreasing days.items },
+}
+
+impl HolidayDates {
+    ghost use Rattle.cif_feed.specs.HolidayDates.{IsFirstFrom, IsOneOn};
+
+    /// No dates of a code, named or not.
+    fn none(alloc: Global, is_named: bool) -> HolidayDates
+        ensures named { result.is_named ≡ is_named }
+        ensures days { result.days.items ≡ [] }
+    {
+        HolidayDates {
+            is_named,
+            days: Vec::new(alloc),
+        }
+    }
+
+    /// How many of the dates come before the day.
+    fn count_before(&self, day: Day) -> usize
+        ensures within { result ≤ length self.now.days.items }
+        ensures before { (k : ℕ) → k < result → slice_index self.now.days.items k < day }
+        ensures from { (k : ℕ) → result ≤ k → k < length self.now.days.items →
+            day ≤ slice_index self.now.days.items k }
+    {
+        self.days.as_slice().partition_point(|other| *other < day)
+    }
+
+    /// Whether the day is one of the dates.
+    fn contains(&self, day: Day) -> bool
+        ensures { IsTrue result ↔ Contains self.now.days.items day }
+    {
+        match self.days.get(self.count_before(day)) {
+            Some(other) => *other == day,
+            None => false,
+        }
+    }
+
+    /// Names the code, and adds a date, unless it is there.
+    fn insert(&mut self, day: Day) -> Result<(), AllocError>
+        ensures days { IfOk result (λ _. (d : ℕ) → Contains self.new.days.items d
+            ↔ (Contains self.old.days.items d ⊎ (d ≡ day))) }
+        ensures named { self.new.is_named ≡ true }
+    {
+        self.is_named = true;
+        if self.contains(day) {
+            return Ok(());
+        }
+        let at = self.count_before(day);
+        self.days.insert(at, day)?;
+        Ok(())
+    }
+
+    /// The first of the dates from `from` to `last` whose weekday is in the mask.
+    fn next_on(&self, days: DaysRun, from: Day, last: Day) -> Option<Day>
+        ensures { IsFirstFrom (IsOneOn self.now.days.items days) from last result }
+    {
+        let later = &self.days.as_slice()[self.count_before(from)..];
+        for day in later {
+            if *day > last {
+                return None;
+            }
+            if days.has(day.weekday()) {
+                return Some(*day);
+            }
+        }
+        None
+    }
+}
+
+/// For some of the holiday codes, their dates.
+#[derive(Drop)]
+pub struct Holidays {
+    bank: HolidayDates,
+    edinburgh: HolidayDates,
+    glasgow: HolidayDates,
+}
+
+impl Holidays {
+    ghost use Rattle.cif_feed.specs.declared.holiday_code.HolidayCode.{HolidayCode};
+    ghost use Rattle.cif_feed.specs.HolidayDates.{IsFirstFrom};
+    ghost use Rattle.cif_feed.specs.Holidays.{HasMore, IsHoliday, IsHolidayOn, Names, dates_of};
+
+    /// No code is named.
+    pub fn new(alloc: Global) -> Holidays
+        ensures names { (code : HolidayCode) → ¬ Names result code }
+        ensures days { (code : HolidayCode) (day : ℕ) → ¬ IsHoliday result code day }
+    {
+        Holidays {
+            bank: HolidayDates::none(alloc, false),
+            edinburgh: HolidayDates::none(alloc, false),
+            glasgow: HolidayDates::none(alloc, false),
+        }
+    }
+
+    /// Each code is named, and has no dates. An update takes each code as it stands.
+    pub fn naming_all(alloc: Global) -> Holidays
+        ensures names { (code : HolidayCode) → Names result code }
+        ensures days { (code : HolidayCode) (day : ℕ) → ¬ IsHoliday result code day }
+    {
+        Holidays {
+            bank: HolidayDates::none(alloc, true),
+            edinburgh: HolidayDates::none(alloc, true),
+            glasgow: HolidayDates::none(alloc, true),
+        }
+    }
+
+    /// Whether the code is named.
+    pub fn names(&self, code: HolidayCode) -> bool
+        ensures { IsTrue result ↔ Names self.now code }
+    {
+        self.dates(code).is_named
+    }
+
+    /// Whether the day is a holiday of the code.
+    pub fn is_holiday(&self, code: HolidayCode, day: Day) -> bool
+        ensures { IsTrue result ↔ IsHoliday self.now code day }
+    {
+        self.dates(code).contains(day)
+    }
+
+    /// The first holiday of the code from `from` to `last` whose weekday is in the mask.
+    pub fn next_holiday(
+        &self,
+        code: HolidayCode,
+        days: DaysRun,
+        from: Day,
+        last: Day,
+    ) -> Option<Day>
+        ensures { IsFirstFrom (IsHolidayOn self.now code days) from last result }
+    {
+        self.dates(code).next_on(days, from, last)
+    }
+
+    /// Names the code.
+    pub(crate) fn name(&mut self, code: HolidayCode)
+        ensures { HasMore self.old code (λ _. ⊥) self.new }
+    {
+        match code {
+            HolidayCode::X => self.bank.is_named = true,
+            HolidayCode::E => self.edinburgh.is_named = true,
+            HolidayCode::G => self.glasgow.is_named = true,
+        }
+    }
+
+    /// Names the code, and adds a holiday of it.
+    pub(crate) fn add(&mut self, code: HolidayCode, day: Day) -> Result<(), AllocError>
+        ensures { IfOk result (λ _. HasMore self.old code (λ d. d ≡ day) self.new) }
+    {
+        match code {
+            HolidayCode::X => self.bank.insert(day),
+            HolidayCode::E => self.edinburgh.insert(day),
+            HolidayCode::G => self.glasgow.insert(day),
+        }
+    }
+
+    fn dates(&self, code: HolidayCode) -> &HolidayDates
+        ensures { result.now ≡ dates_of self.now code }
+    {
+        match code {
+            HolidayCode::X => &self.bank,
+            HolidayCode::E => &self.edinburgh,
+            HolidayCode::G => &self.glasgow,
+        }
+    }
+}

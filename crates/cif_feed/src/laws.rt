@@ -1,0 +1,64 @@
+//! Laws: what a prepared extract and an update say.
+ghost use Rattle.std.specs.Prelude.{◌≡◌, ◌↔◌, ◌≤◌, ◌++◌, ℕ, List, Option, None, Contains};
+ghost use Rattle.std.specs.Ordering.{eq_by_cmp};
+ghost use Rattle.cif_calendar.specs.Applies.{Applies};
+ghost use Rattle.cif_calendar.specs.Clash.{IsClear};
+ghost use Rattle.cif_calendar.specs.Keys.{of_key};
+ghost use Rattle.cif_calendar.specs.Runs.{Runs};
+ghost use Rattle.cif_calendar.specs.Terms.{Terms};
+ghost use Rattle.cif_feed.specs.Changes.{ChangeParts, after_all, last_word, put_last, untouched};
+ghost use Rattle.cif_feed.specs.Changes.{of_key as records_of_key};
+ghost use Rattle.cif_feed.specs.Parts.{AreParts, IsPart, ended};
+ghost use Rattle.cif_feed.specs.Prepared.{AreMarked, ArePrepared, part_terms};
+ghost use Rattle.cif_feed.specs.Published.{AppliesAsPublished, CountOn};
+ghost use Rattle.cif_feed.specs.Strict.{last_day};
+ghost use Rattle.cif_feed.specs.declared.holiday_code.HolidayCode.{HolidayCode};
+ghost use Rattle.cif_feed.specs.declared.holidays.Holidays.{Holidays};
+ghost use Rattle.cif_feed.specs.declared.mark.Mark.{Mark};
+ghost use Rattle.cif_feed.specs.declared.part.Part.{Part};
+
+use cif_calendar::Entry;
+
+/// The parts of a record apply on exactly the dates on which it applies as published.
+pub fn parts_apply_as_published<E: Entry>()
+    // Among the parts of a record is each range that is one, so that there is one such list.
+    ensures all { (h : Holidays) (code : Option HolidayCode) (r : Terms E.Body) (parts : List Part) (p : Part)
+        → AreParts h code r parts → Contains parts p ↔ IsPart h code r p }
+    ensures parts { (h : Holidays) (code : Option HolidayCode) (r : Terms E.Body) (last : ℕ) (parts : List Part) (d : ℕ)
+        → AreParts h code (ended last r) parts → d ≤ last → d ≤ r.last
+        → AppliesAsPublished h code r d ↔ ((p : Part) × Contains parts p × Applies (part_terms r p) d) }
+    // Without a code it applies as a record of this profile does.
+    ensures plain { (h : Holidays) (r : Terms E.Body) (d : ℕ) → AppliesAsPublished h None r d ↔ Applies r d }
+{}
+
+/// On each date up to the window's last, the prepared records say what the published ones do.
+pub fn prepared_runs_as_published<E: Entry>()
+    // For each key the same runs.
+    ensures runs { (h : Holidays) (window_last : ℕ) (entries : List (E.Key × (Terms E.Body × Mark)))
+        (prepared : List (E.Key × Terms E.Body)) (k : E.Key) (d : ℕ) (o : Option E.Body)
+        → ArePrepared h window_last entries prepared → AreMarked entries
+        → d ≤ window_last → d ≤ last_day
+        → Runs (of_key prepared k) d o ↔ Runs (CountOn h entries k d) d o }
+    // For each key there is a clash in both or in neither.
+    ensures clear { (h : Holidays) (window_last : ℕ) (entries : List (E.Key × (Terms E.Body × Mark)))
+        (prepared : List (E.Key × Terms E.Body)) (k : E.Key) (d : ℕ)
+        → ArePrepared h window_last entries prepared → AreMarked entries
+        → d ≤ window_last → d ≤ last_day
+        → IsClear (of_key prepared k) d ↔ IsClear (CountOn h entries k d) d }
+{}
+
+/// What changes leave.
+pub fn changes_leave_the_last_word<K: Ord, I>()
+    // Of each key, what the last change of it puts, or what was there.
+    ensures last { (records : List (K × I)) (changes : List (ChangeParts K I)) (key : K)
+        → records_of_key (eq_by_cmp K.cmp) (after_all (eq_by_cmp K.cmp) records changes) key
+        ≡ last_word (eq_by_cmp K.cmp) (records_of_key (eq_by_cmp K.cmp) records key) changes key }
+    // In order: what no change is of, and then what the changes put last.
+    ensures order { (records : List (K × I)) (changes : List (ChangeParts K I))
+        → after_all (eq_by_cmp K.cmp) records changes
+        ≡ untouched (eq_by_cmp K.cmp) records changes ++ put_last (eq_by_cmp K.cmp) changes }
+    // Two lists of changes one after the other are the one after the other.
+    ensures sequence { (records : List (K × I)) (one other : List (ChangeParts K I))
+        → after_all (eq_by_cmp K.cmp) records (one ++ other)
+        ≡ after_all (eq_by_cmp K.cmp) (after_all (eq_by_cmp K.cmp) records one) other }
+{}
