@@ -2,17 +2,19 @@
 import re
 from collections import namedtuple
 
-from . import texts
+from . import tables, texts
+from .calendars import calendar
 from .dates import from_yymmdd
-from .explanation import explained
+from .explanation import explanation
 from .extracts import common_of, narrowed, read_extract, window_of
 from .faults import Fault, REFUSED, WORDS
 from .meaning import Meaning, all_clashes, first_difference
 
-# What the words of a command ask for. Dates and a UID are words as they were given, or None where there is none; without
-# a form it is 2, and common says whether --common is there. Files are names; where there is none, the command reads standard
-# input.
-Job = namedtuple("Job", "command files day uid first last form common stops", defaults=((), None, None, None, None, None, False, False))
+# What the words of a command ask for. Dates, a UID and the name of a table are words as they were given, or None where there
+# is none; without a form it is 2, without a format text, and common says whether --common is there. Files are names; where
+# there is none, the command reads standard input.
+NAMES = "command files day uid first last form common stops table format"
+Job = namedtuple("Job", NAMES, defaults=((), None, None, None, None, None, False, False, None, None))
 
 Answer = namedtuple("Answer", "stdout stderr status")
 
@@ -24,11 +26,13 @@ OPTIONS = {
     "normalise": {"first", "last", "form"},
     "check": {"first", "last", "form"},
     "compare": {"first", "last", "common"},
-    "diff": {"first", "last", "common"},
-    "day": {"stops"},
-    "train": {"first", "last", "form", "stops"},
-    "explain": set(),
+    "diff": {"first", "last", "common", "format"},
+    "day": {"stops", "format"},
+    "train": {"first", "last", "form", "stops", "format"},
+    "explain": {"format"},
     "clashes": {"first", "last"},
+    "table": {"first", "last", "form"},
+    "calendar": {"first", "last"},
 }
 OF_TWO = ("compare", "diff")
 
@@ -63,20 +67,28 @@ def output(job, inputs):
 
 def said(job, day, extracts):
     """The same of extracts that have the window asked for, in which the day lies if there is one."""
+    as_table = job.format == "tsv"
     if job.command == "explain":
-        return explained(extracts[0], job.uid, day), 0
+        return (tables.explanation_table if as_table else explanation)(extracts[0], job.uid, day), 0
     if job.command == "clashes":
         return some_or_none(all_clashes(extracts[0]))
+    if job.command == "calendar":
+        return calendar(extracts[0], job.uid), 0
     meaning, *others = [Meaning(extract) for extract in extracts]
     form = job.form or "2"
     if job.command == "normalise":
         return texts.canonical(meaning, form)[0], 0
     if job.command == "check":
         return [texts.counted(texts.canonical(meaning, form)[1])], 0
+    if job.command == "table":
+        return tables.table(job.table, texts.canonical(meaning, form)[0]), 0
     if job.command == "day":
-        return texts.day_view(meaning, day, job.stops), 0
+        return (tables.day_table if as_table else texts.day_view)(meaning, day, job.stops), 0
     if job.command == "train":
-        return texts.train_view(meaning, job.uid, form, job.stops), 0
+        return (tables.train_table if as_table else texts.train_view)(meaning, job.uid, form, job.stops), 0
+    if job.command == "diff" and as_table:
+        heading, *rows = tables.difference_table(meaning, *others)
+        return [heading, *rows], SOME if rows else 0
     if job.command == "diff":
         return some_or_none(texts.differences(meaning, *others))
     difference = first_difference(meaning, *others)
@@ -95,10 +107,12 @@ def agrees(want, got):
 
 
 def is_mistake(job):
-    """Whether the command doesn't take such options, or not so many files."""
-    given = {name for name in ("first", "last", "form", "common", "stops") if getattr(job, name) not in (None, False)}
+    """Whether the command doesn't take such options or such a table, or not so many files."""
+    names = ("first", "last", "form", "common", "stops", "format")
+    given = {name for name in names if getattr(job, name) not in (None, False)}
+    taken = job.form in (None, "1", "2") and job.format in (None, "text", "tsv") and job.table in (None, *tables.TABLES)
     counts = (2,) if job.command in OF_TWO else (0, 1)
-    return not given <= OPTIONS[job.command] or job.form not in (None, "1", "2") or len(job.files) not in counts
+    return not given <= OPTIONS[job.command] or not taken or len(job.files) not in counts
 
 
 def answer(job, inputs):
