@@ -7,6 +7,8 @@
 --     operator_code,name,url              table operators: such as SN,Southern,https://www.southernrailway.com/
 --
 -- They need not have all places and operators, and a field may be empty. Of several lines for one the first counts.
+-- gtfs.py imports them all. In SQLite's shell `.mode ascii` and `.separator "\t" "\n"` before `.import` leave quotes as they
+-- are; import your own with `.import --csv` before the script runs for the first time.
 --
 -- It makes agency, stops, routes, trips, stop_times, calendar and feed_info: the files of GTFS, with its fields. The view
 -- places_wanted lists the stops without coordinates, as lines for places.csv. GTFS requires coordinates: it is valid once
@@ -77,15 +79,15 @@ worked AS (
     SELECT
         *,
         coalesce(arrival, pass, departure, public_arrival, public_departure) AS reached,
-        coalesce(departure, pass, arrival, public_departure, public_arrival) AS quitted
+        coalesce(departure, pass, arrival, public_departure, public_arrival) AS gone
     FROM in_seconds
 ),
 -- A time that is less than the one before is after another midnight: on the way there, or while the train stands.
 midnights AS (
     SELECT
         *,
-        ifnull(reached < lag(quitted) OVER (PARTITION BY schedule ORDER BY call), 0) AS on_the_way,
-        quitted < reached AS standing
+        ifnull(reached < lag(gone) OVER (PARTITION BY schedule ORDER BY call), 0) AS on_the_way,
+        gone < reached AS standing
     FROM worked
     WHERE reached IS NOT NULL
 ),
@@ -102,7 +104,7 @@ of_days AS (
         before_it + arrival AS arrival,
         before_it + 86400 * standing + departure AS departure,
         before_it + reached + (public_arrival - reached + 129600) % 86400 - 43200 AS public_arrival,
-        before_it + 86400 * standing + quitted + (public_departure - quitted + 129600) % 86400 - 43200 AS public_departure
+        before_it + 86400 * standing + gone + (public_departure - gone + 129600) % 86400 - 43200 AS public_departure
     FROM counted
 ),
 public AS (
