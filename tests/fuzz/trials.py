@@ -11,9 +11,11 @@ from itertools import chain
 from generator.cases import OFTEN, some_bytes, some_case
 from generator.damage import damaged, damaged_in_turn
 from generator.derived import changed_once, said_otherwise
+from generator.feeds import SMALL as SMALL_FEEDS
 from generator.spelling import PLAIN, spelled, with_one_moved
 from generator.timetables import each_sort
-from reference.answers import SOME, Answer, Job, answer, date_of
+from reference import HAS_ALL_REASONS, HAS_BOTH_SIDES
+from reference.answers import OF_FEEDS, SOME, Answer, Job, answer, date_of
 from reference.dates import yymmdd
 from reference.extracts import common_of, read_extract
 from reference.faults import REFUSED
@@ -179,12 +181,17 @@ def of_explanation(job, inputs, want):
     listed = answer(day, inputs)
     yield Trial("the day of it", day, inputs, listed)
     if listed.status == 0:
-        of_uid = [line for line in listed.stdout.split(b"\n") if line[3:9] == job.uid.encode()]
+        of_uid = [line for line in listed.stdout.split(b"\n") if job.uid.encode() in uids_of(line)]
         won = [line for line in want.stdout.split(b"\n") if line.startswith(b"wins  ") and line[10:11] != b"C"]
         if of_uid != list(dict.fromkeys(line[7:10] + line[34:] for line in won)):
             raise Inconsistent("the records that win aren't what the day has")
         canonical = [answer(Job("normalise"), inputs).stdout]
         yield Trial("the same of the canonical extract", job._replace(files=()), canonical, answer(job, canonical))
+
+
+def uids_of(line):
+    """The UID of a line of day, or both if it is of an association."""
+    return (line[3:9], line[10:16]) if HAS_BOTH_SIDES and line.startswith(b"AA") else (line[3:9],)
 
 
 def of_clashes(job, inputs, want):
@@ -224,10 +231,34 @@ def of_calendar(job, inputs, want):
         yield Trial("the same of the canonical extract", job._replace(files=()), [output.stdout], runs)
 
 
-def of_damage(rng, data):
-    """What check says of an input after each of some damages."""
+def of_prepared(job, inputs, want):
+    """What is prepared is an extract of the profile, of which prepare writes the same again."""
+    again = job._replace(files=(), holidays=None)
+    yield Trial("the output again", again, [want.stdout], want._replace(stderr=b""))
+
+
+def of_update(job, inputs, want):
+    """Several updates do what the one after the other do."""
+    if len(inputs) == 2:
+        return
+    full, *updates = inputs
+    for number, update in enumerate(updates):
+        one = job._replace(files=("full.cif", "update.cif"))
+        done = answer(one, [full, update])
+        yield Trial(f"update {number + 1} by itself", one, [full, update], done)
+        full = done.stdout
+    if full != want.stdout:
+        raise Inconsistent("several updates don't do what the one after the other do")
+
+
+def of_damage(rng, case):
+    """A case after each of some damages to one of its inputs; of the older commands, what check says of it."""
     for _ in range(DAMAGED):
-        inputs, job = [damaged(rng, data)], Job("check")
+        job, inputs = Job("check", all=HAS_ALL_REASONS and rng.random() < 0.5), case.inputs[:1]
+        if case.job.command in OF_FEEDS:
+            job, inputs = case.job, list(case.inputs)
+        at = rng.randrange(len(inputs))
+        inputs[at] = damaged(rng, inputs[at])
         yield Trial("damaged", job, inputs, answer(job, inputs))
 
 
@@ -238,6 +269,15 @@ def of_small_extracts(rng, turn):
         yield Trial("small and damaged", job, [data], answer(job, [data]))
     data, job = spelled(rng, [with_one_moved(rng, line) for line in lines], PLAIN), Job("normalise")
     yield Trial("small, with moved texts", job, [data], answer(job, [data]))
+
+
+def of_small_feeds(rng, turn, command):
+    """The same of small inputs of prepare and update."""
+    make, damaged_one = SMALL_FEEDS[command]
+    job, inputs = make(rng)
+    for data in damaged_in_turn(inputs[damaged_one], range(turn * SMALL, (turn + 1) * SMALL)):
+        inputs = [*inputs[:damaged_one], data, *inputs[damaged_one + 1 :]]
+        yield Trial("small and damaged", job, inputs, answer(job, inputs))
 
 
 def of_faults(rng, commands, options):
@@ -268,6 +308,8 @@ FURTHER = {
     "clashes": of_clashes,
     "table": of_table,
     "calendar": of_calendar,
+    "prepare": of_prepared,
+    "update": of_update,
 }
 
 
@@ -275,8 +317,10 @@ def trials_of(rng, turn, case, commands, options):
     """All trials of a case that are of these commands; turn counts the cases."""
     want = answer(case.job, case.inputs)
     further = [[Trial("", case.job, case.inputs, want)], of_small_extracts(rng, turn), of_faults(rng, commands, options)]
-    if case.timetable:
-        further.append(of_damage(rng, case.inputs[0]))
+    if case.job.command in OF_FEEDS:
+        further.append(of_small_feeds(rng, turn, case.job.command))
+    if case.timetable or case.job.command in OF_FEEDS and None not in case.inputs:
+        further.append(of_damage(rng, case))
     if want.status in (0, SOME):
         further.append(further_trials(rng, case, want, options))
     yield from (trial for trial in chain(*further) if trial.job.command in commands)

@@ -1,4 +1,5 @@
 """Why a train runs on a date, or doesn't: each record that applies, with its mark."""
+from . import HAS_BOTH_SIDES
 from .dates import yymmdd
 from .meaning import applies, by_key, winners
 from .texts import association_fields, train_fields
@@ -15,10 +16,10 @@ def marked(entries, day):
 
 
 def explained(extract, uid, day):
-    """The mark and the kind of each record: those of the associations whose base UID it is, and then those of the train."""
+    """The mark and the kind of each record: those of the associations that have the UID, and then those of the train."""
     found = []
     for key, entries in by_key(extract.associations):
-        if key[0] == uid:
+        if uid in (key[:2] if HAS_BOTH_SIDES else key[:1]):
             found += [(mark, "AA", entry) for mark, entry in marked(entries, day)]
     for key, entries in by_key(extract.schedules):
         if key == (uid,):
