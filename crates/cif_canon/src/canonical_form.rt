@@ -220,11 +220,15 @@ fn body_of<'a>(schedules: &'a [Schedule], run: &Run) -> &'a Body
     }
 }
 
-/// Looks at the bodies of the runs' schedules.
+/// Looks at the bodies of the runs' schedules. Where a body lies is known once its schedule has come from memory:
+/// so all schedules come first.
 fn look_ahead(schedules: &[Schedule], runs: &[Run])
     requires within { All (λ run. run.source < length schedules.now) runs.now }
     requires records { All (HasRecord (schedule_entries schedules.now)) runs.now }
 {
+    for run in runs {
+        let _ = body_of(schedules, run);
+    }
     for run in runs {
         match &schedules[run.source].body {
             Some(body) if body.prefetch() => {}

@@ -7,23 +7,30 @@ use Rattle.cif_weeks.specs.declared.run.Run.{Run}
 use Rattle.cif_canon.specs.Steps.Texts.{HasRecord}
 use Rattle.cif_canon.proofs.RunTexts.{has-body}
 use Rattle.cif_canon.proofs.canonical_form.look_ahead.Goals as goal
-use Rattle.cif_canon.proofs.canonical_form.look_ahead.Goals.{After-run-item}
 use Rattle.cif_canon.proofs.canonical_form.look_ahead.Goals.{in_default-via-in-Some+else-prefetch, in_default-via-in_default}
 
-has : (c : After-run-item) → HasRecord (schedule_entries c.args.schedules.now) c.run-item.result
-has c = subst (HasRecord (schedule_entries c.args.schedules.now)) (sym c.run-item.is)
+pub body_of-requires-clause-within : goal.body_of-requires-clause-within
+body_of-requires-clause-within c =
+    subst (λ (run : Run). run.source < length c.args.schedules.now) (sym c.run-item.is)
+    (c.requires.within c.loop-run.run-index c.run-item.result c.loop-run-test.true)
+
+pub body_of-requires-clause-record : goal.body_of-requires-clause-record
+body_of-requires-clause-record c =
+    subst (HasRecord (schedule_entries c.args.schedules.now)) (sym c.run-item.is)
     (c.requires.records c.loop-run.run-index c.run-item.result c.loop-run-test.true)
 
 pub bounds-schedules-run : goal.bounds-schedules-run
 bounds-schedules-run c =
-    subst (λ (run : Run). run.source < length c.args.schedules.now) (sym c.run-item.is)
-    (c.requires.within c.loop-run.run-index c.run-item.result c.loop-run-test.true)
+    subst (λ (run : Run). run.source < length c.args.schedules.now) (sym c.run-item-in-loop-run-2.is)
+    (c.requires.within c.loop-run-2.run-index c.run-item-in-loop-run-2.result c.loop-run-2-test.true)
 
 pub unreachable-requires : goal.unreachable-requires
 unreachable-requires c =
-    let here = has (goal.at.unreachable-requires c).After-run-item in
+    let run = c.run-item-in-loop-run-2.result in
+    let here = subst (HasRecord (schedule_entries c.args.schedules.now)) (sym c.run-item-in-loop-run-2.is)
+    (c.requires.records c.loop-run-2.run-index run c.loop-run-2-test.true) in
     elim c.in_default.branch [
       | in_default-via-in-Some+else-prefetch w ↦ false≢true (sym w.if-prefetch.false ∙ w.prefetch.ensures)
-      | in_default-via-in_default w ↦ has-body schedule_entry c.args.schedules.now c.run-item.result c.index-schedules-run.result here
+      | in_default-via-in_default w ↦ has-body schedule_entry c.args.schedules.now run c.index-schedules-run.result here
           c.index-schedules-run.is (ap (λ (s : Schedule). s.body) c.index-schedules-run.is ∙ w.in_default.is)
     ]
