@@ -2,8 +2,8 @@
 use Rattle.std.proofs.Common.{◌≡◌, ℕ, zero, suc, ◌+◌, ◌-◌, ◌<◌, ◌≤◌, Bool, true, false, cond, List, [], ◌∷◌, ◌++◌, All, append_assoc}
 use Rattle.std.proofs.Common.{ap, arith, drop, get_or, length, length-append, max, refl, replicate, subst, sym, take, ◌∙◌}
 use Rattle.std.proofs.lemmas.Bool.{eqb-true}
-use Rattle.std.proofs.lemmas.List.{append-nil, drop_at, length-drop, length-take-le, take_at, take_more, take-take}
-use Rattle.std.proofs.lemmas.List.Elements.{All-append, All-cons, All-head, All-nil, All-tail, All-take, All-weaker}
+use Rattle.std.proofs.lemmas.List.{append-nil, drop_at, drop_more, length-drop, length-take-le, take_at, take_more, take-take}
+use Rattle.std.proofs.lemmas.List.Elements.{All-append, All-cons, All-drop, All-head, All-nil, All-tail, All-take, All-weaker}
 use Rattle.std.proofs.lemmas.Grind.{flat_map-append}
 use Rattle.std.proofs.Math.Seq.{take-append-add}
 use Rattle.cif_columns.specs.Line.{ArePrintable, IsLine, IsPrintable}
@@ -135,83 +135,67 @@ kept_behind old pushed extended new line count end told one more to cut =
     ∙ ap (λ l. l ++ take count line) one ∙ append_assoc old (count ∷ []) (take count line)
     ∙ ap (λ n. old ++ n ∷ take n line) told
 
--- the first line, and what keeps the others
-pub record First (bytes : List ℕ) (lines : List (List ℕ)) : Type 0 where
-  pub line : List ℕ
-  pub others : List (List ℕ)
-  pub more : List ℕ
-  pub both : lines ≡ line ∷ others
-  pub is : bytes ≡ used line ∷ (take (used line) line ++ more)
-  pub is_line : IsLine line
-  pub behind : Keep more others
+-- what stands first in the bytes: a count, so many columns of the first line, and what keeps the others
+module _ (bytes : List ℕ) (lines : List (List ℕ)) (k : Keep bytes lines) (some : 0 < length lines) (count : ℕ)
+    (told : count ≡ get_or bytes 0 0) where
+  abbrev line : List ℕ
+  line = get_or lines 0 []
 
-pub first_of : (bytes : List ℕ) (lines : List (List ℕ)) → Keep bytes lines → 0 < length lines → First bytes lines
-first_of bytes [] k some = absurd (omega (arith, some))
-first_of bytes (line ∷ others) k some = record {
-  line = line;
-  others = others;
-  more = kept_text others;
-  both = refl;
-  is = k.is;
-  is_line = All-head IsLine line others k.are_lines;
-  behind = record { is = refl; are_lines = All-tail IsLine line others k.are_lines };
-}
+  is_line : IsLine line
+  is_line = k.are_lines 0 [] some
 
--- what stands first in the bytes: a count, so many columns of the line, and what keeps the others
-module _ (bytes : List ℕ) (lines : List (List ℕ)) (f : First bytes lines) (count : ℕ) (told : count ≡ get_or bytes 0 0) where
-  count_is : count ≡ used f.line
-  count_is = told ∙ ap (λ b. get_or b 0 0) f.is
+  apart : bytes ≡ used line ∷ (take (used line) line ++ kept_text (drop 1 lines))
+  apart = k.is ∙ ap kept_text (drop_more lines 0 [] some)
+
+  count_is : count ≡ used line
+  count_is = told ∙ ap (λ b. get_or b 0 0) apart
 
   pub count_few : count ≤ 80
-  count_few = omega (arith, count_is, few f.line f.is_line)
+  count_few = omega (arith, count_is, few line is_line)
 
   pub first_within : 1 + count ≤ length bytes
   first_within =
-      omega (arith, count_is, ap length f.is, length-append (take (used f.line) f.line) f.more, kept_width f.line f.is_line)
+      omega (arith, count_is, ap length apart, length-append (take (used line) line) (kept_text (drop 1 lines)), kept_width line is_line)
 
-  pub rest_kept : (rest : List ℕ) → rest ≡ drop (1 + count) bytes → Keep rest f.others
+  pub rest_kept : (rest : List ℕ) → rest ≡ drop (1 + count) bytes → Keep rest (drop 1 lines)
   rest_kept rest is =
-      let front : length (used f.line ∷ take (used f.line) f.line) ≡ 1 + used f.line = omega (arith, kept_width f.line f.is_line) in
-      subst (λ b. Keep b f.others)
-      (sym (is ∙ ap (λ n. drop (1 + n) bytes) count_is ∙ ap (drop (1 + used f.line)) f.is
-      ∙ drop_at (used f.line ∷ take (used f.line) f.line) f.more (1 + used f.line) front)) f.behind
+      let front : length (used line ∷ take (used line) line) ≡ 1 + used line = omega (arith, kept_width line is_line) in
+      record {
+        is = is ∙ ap (λ n. drop (1 + n) bytes) count_is ∙ ap (drop (1 + used line)) apart
+            ∙ drop_at (used line ∷ take (used line) line) (kept_text (drop 1 lines)) (1 + used line) front;
+        are_lines = All-drop IsLine 1 lines k.are_lines;
+      }
 
   -- these bytes begin with the columns of the first line
-  pub columns_in : (columns : List ℕ) → columns ≡ drop 1 bytes → take count columns ≡ take (used f.line) f.line
+  columns_in : (columns : List ℕ) → columns ≡ drop 1 bytes → take count columns ≡ take (used line) line
   columns_in columns is =
-      ap (take count) (is ∙ ap (drop 1) f.is)
-      ∙ ap (λ n. take n (take (used f.line) f.line ++ f.more)) count_is
-      ∙ take_at (take (used f.line) f.line) f.more (used f.line) (kept_width f.line f.is_line)
+      ap (take count) (is ∙ ap (drop 1) apart) ∙ ap (λ n. take n (take (used line) line ++ kept_text (drop 1 lines))) count_is
+      ∙ take_at (take (used line) line) (kept_text (drop 1 lines)) (used line) (kept_width line is_line)
 
   -- and so do the first eighty of them, and those behind which spaces stand
   pub columns_in_chunk : (columns chunk : List ℕ) → columns ≡ drop 1 bytes → chunk ≡ take 80 columns
-      → take count chunk ≡ take (used f.line) f.line
-  columns_in_chunk columns chunk is first =
-      ap (take count) first ∙ take-take count 80 columns count_few ∙ columns_in columns is
+      → take count chunk ≡ take (used line) line
+  columns_in_chunk columns chunk is first = ap (take count) first ∙ take-take count 80 columns count_few ∙ columns_in columns is
 
   pub columns_in_padded : (columns padded : List ℕ) → columns ≡ drop 1 bytes → take (length columns) padded ≡ columns
-      → take count padded ≡ take (used f.line) f.line
+      → take count padded ≡ take (used line) line
   columns_in_padded columns padded is first =
       let within : count ≤ length columns = omega (arith, first_within, ap length is, length-drop 1 bytes) in
       sym (take-take count (length columns) padded within) ∙ ap (take count) first ∙ columns_in columns is
 
-  pub columns_wide : (columns : List ℕ) → take count columns ≡ take (used f.line) f.line → wide (take count columns) ≡ get_or lines 0 []
-  columns_wide columns is = ap wide is ∙ widened f.line f.is_line ∙ sym (ap (λ l. get_or l 0 []) f.both)
+  module _ (columns : List ℕ) (is : take count columns ≡ take (used line) line) where
+    pub columns_wide : wide (take count columns) ≡ line
+    columns_wide = ap wide is ∙ widened line is_line
 
-  pub columns_printable : (columns : List ℕ) → take count columns ≡ take (used f.line) f.line → ArePrintable (take count columns)
-  columns_printable columns is =
-      subst ArePrintable (sym is) (All-take IsPrintable (used f.line) f.line f.is_line.printable)
+    pub columns_printable : ArePrintable (take count columns)
+    columns_printable = subst ArePrintable (sym is) (All-take IsPrintable (used line) line is_line.printable)
 
 -- no byte is as great as 128
-small_columns : (line : List ℕ) → IsLine line → All (λ b. b < 128) (take (used line) line)
-small_columns line h =
-    All-take (λ b. b < 128) (used line) line
-    (All-weaker IsPrintable (λ b. b < 128) (λ b p. omega (arith, p.1)) line h.printable)
-
 pub small : (lines : List (List ℕ)) → All IsLine lines → All (λ b. b < 128) (kept_text lines)
 small [] h = All-nil (λ b. b < 128)
 small (line ∷ lines) h =
     let first = All-head IsLine line lines h in
     All-cons (λ b. b < 128) (used line) (take (used line) line ++ kept_text lines) (omega (arith, few line first))
-    (All-append (λ b. b < 128) (take (used line) line) (kept_text lines) (small_columns line first)
+    (All-append (λ b. b < 128) (take (used line) line) (kept_text lines)
+    (All-take (λ b. b < 128) (used line) line (All-weaker IsPrintable (λ b. b < 128) (λ b p. omega (arith, p.1)) line first.printable))
     (small lines (All-tail IsLine line lines h)))

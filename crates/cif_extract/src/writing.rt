@@ -91,6 +91,7 @@ impl<'a> Model for ScheduleWriter<'a> {
 
 impl<'a> ScheduleWriter<'a> {
     /// For schedules that have this body.
+    #[tactic(auto, using(crate::proofs::WrittenLines::kept_plain))]
     pub fn of(body: &'a Body) -> ScheduleWriter<'a>
         ensures { result ≡ body.now }
     {
@@ -100,6 +101,7 @@ impl<'a> ScheduleWriter<'a> {
     }
 
     /// From now on for schedules that have this body.
+    #[tactic(auto, using(crate::proofs::WrittenLines::kept_plain))]
     pub fn set_body(&mut self, body: &'a Body)
         ensures { self.new ≡ body.now }
     {
