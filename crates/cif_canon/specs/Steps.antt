@@ -4,6 +4,7 @@ pub mod Differences
 pub mod OnlySides
 pub mod Explanation
 pub mod Fields
+pub mod Ranks
 pub mod Records
 pub mod Sides
 pub mod Texts

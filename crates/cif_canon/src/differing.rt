@@ -145,8 +145,6 @@ pub(crate) fn different_records<E: NamedEntry>(
     right: &[E],
     window: &Window,
 ) -> Result<Vec<Sided<Run>>, AllocError>
-where
-    E::Key: Drop,
     requires left { AreClear (keyed E.key E.terms left.now) window.now.first window.now.last }
     requires right { AreClear (keyed E.key E.terms right.now) window.now.first window.now.last }
     ensures { IfOk result (λ runs. AreDifferentRuns E.Key.cmp
