@@ -1,11 +1,15 @@
 -- The records of a key match on both sides.
-use Rattle.cif_feed.proofs.PreparedRuns.{prepared-clear, prepared-runs}
+use Rattle.cif_feed.proofs.PreparedRuns.{prepared-clear, prepared-runs, prepared-wins}
 use Rattle.cif_feed.proofs.laws.prepared_runs_as_published.Goals as goal
 
+pub returns-clause-wins : goal.returns-clause-wins
+returns-clause-wins g c = λ h window_last entries prepared k d are closed within day.
+    prepared-wins h window_last entries prepared are closed k d within day
+
 pub returns-clause-runs : goal.returns-clause-runs
-returns-clause-runs g c = λ h window_last entries prepared k d o are marked within day.
-    prepared-runs h window_last entries prepared are marked k d within day o
+returns-clause-runs g c = λ h window_last entries prepared k d o are closed within day.
+    prepared-runs h window_last entries prepared are closed k d within day o
 
 pub returns-clause-clear : goal.returns-clause-clear
-returns-clause-clear g c = λ h window_last entries prepared k d are marked within day.
-    prepared-clear h window_last entries prepared are marked k d within day
+returns-clause-clear g c = λ h window_last entries prepared k d are closed within day.
+    prepared-clear h window_last entries prepared are closed k d within day

@@ -1,0 +1,2 @@
+-- scratch
+use Rattle.cif_feed.proofs.from_lines.from_lines.Goals as goal
