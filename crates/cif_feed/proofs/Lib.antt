@@ -13,5 +13,6 @@ pub mod FeedSteps
 pub mod FeedRuns
 pub mod ProfileKinds
 pub mod SpelledFeeds
+pub mod LinesMade
 pub mod MarkedRecords
 pub mod SaidPublished
