@@ -45,6 +45,11 @@ pub fn prepared_runs_as_published<E: Entry>()
         → ArePrepared h window_last entries prepared → AreMarked entries
         → d ≤ window_last → d ≤ last_day
         → IsClear (of_key prepared k) d ↔ IsClear (CountOn h entries k d) d }
+    // A record counts and applies exactly if it is one of the key's that applies as published.
+    ensures counts { (h : Holidays) (entries : List (E.Key × (Terms E.Body × Mark)))
+        (k : E.Key) (d : ℕ) (r : Terms E.Body)
+        → (CountOn h entries k d r × Applies r d)
+        ↔ ((mark : Mark) × Contains entries (k, (r, mark)) × AppliesAsPublished h mark.code r d) }
 {}
 
 /// What changes leave.
