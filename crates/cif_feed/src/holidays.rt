@@ -19,7 +19,7 @@ pub(crate) struct HolidayDates {
 }
 
 impl HolidayDates {
-    ghost use Rattle.cif_feed.specs.HolidayDates.{IsFirstFrom, IsOneOn};
+    ghost use Rattle.cif_feed.specs.HolidayDates.{IsDateOnDaysRun, IsFirstFrom};
 
     /// No dates of a code, which isn't named.
     fn none(alloc: Global) -> HolidayDates
@@ -69,7 +69,7 @@ impl HolidayDates {
 
     /// The first of the dates from `from` to `last` whose weekday is in the mask.
     fn next_on(&self, days: DaysRun, from: Day, last: Day) -> Option<Day>
-        ensures { IsFirstFrom (IsOneOn self.now.days.items days) from last result }
+        ensures { IsFirstFrom (IsDateOnDaysRun self.now.days.items days) from last result }
     {
         let later = &self.days.as_slice()[self.count_before(from)..];
         for day in later {

@@ -1,5 +1,5 @@
 //! Laws: what a prepared extract and an update say.
-ghost use Rattle.std.specs.Prelude.{◌≡◌, ◌↔◌, ◌≤◌, ◌++◌, ℕ, List, Option, None, Contains};
+ghost use Rattle.std.specs.Prelude.{◌≡◌, ◌↔◌, ◌≤◌, ◌++◌, ℕ, Bool, List, Option, None, Contains};
 ghost use Rattle.std.specs.Ordering.{eq_by_cmp};
 ghost use Rattle.cif_calendar.specs.Applies.{Applies};
 ghost use Rattle.cif_calendar.specs.Clash.{IsClear};
@@ -49,6 +49,13 @@ pub fn prepared_runs_as_published<E: Entry>()
         → ArePrepared h window_last entries prepared → AreClosed entries
         → d ≤ window_last → d ≤ last_day
         → IsClear (of_key prepared k) d ↔ IsClear (CountOn h entries k d) d }
+    // A record counts and applies exactly if it is one of the key's that applies as published.
+    ensures counts { (h : Holidays) (entries : List (E.Key × PublishedTerms E.Body))
+        (k : E.Key) (d : ℕ) (r : Terms E.Body)
+        → (CountOn h entries k d r × Applies r d)
+        ↔ ((open_end : Bool) × (code : Option HolidayCode)
+        × Contains entries (k, record { terms = r; open_end = open_end; code = code })
+        × AppliesAsPublished h code r d) }
 {}
 
 /// What changes leave.
