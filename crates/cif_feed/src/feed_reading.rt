@@ -209,11 +209,7 @@ impl FeedReading {
     }
 
     /// Appends the mark of the line of this number.
-    fn push<M: Drop>(
-        marks: &mut Vec<Numbered<M>>,
-        number: u64,
-        mark: M,
-    ) -> Result<(), TakeFault>
+    fn push<M: Drop>(marks: &mut Vec<Numbered<M>>, number: u64, mark: M) -> Result<(), TakeFault>
         ensures { UnlessMemory (marks.new.items
             ≡ marks.old.items ++ record { number = number; mark = mark } ∷ []) result }
     {

@@ -17,8 +17,11 @@ pub returns-in-Ok-clause-taken : goal.returns-in-Ok-clause-taken
 returns-in-Ok-clause-taken c = λ cs so_far at.
     let a = c.args in
     profile_marked a.feed a.allowed cs a.line.now c.of-profile.result a.number c.push_mark.result a.self.now
-    (record a.self.now { reading = c.take_line.new.self; has_basic = a.self.now.has_basic || c.is_basic.result;
-    has_trailer = a.self.now.has_trailer || c.is_trailer.result })
+    (record a.self.now {
+      reading = c.take_line.new.self;
+      has_basic = a.self.now.has_basic || c.is_basic.result;
+      has_trailer = a.self.now.has_trailer || c.is_trailer.result;
+    })
     c.push_mark.new.self at so_far (record {
       profile = c.of-profile.ensures ∙ ap (λ kind. profile_line_by a.feed a.allowed kind a.line.now) c.kind_of-kind.ensures.kind;
       no_comment = c.requires.no_comment;
