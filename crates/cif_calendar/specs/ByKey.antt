@@ -1,5 +1,5 @@
--- The positions of entries in the order of their keys, one key after another. No public clause cites them.
-use Rattle.std.specs.Prelude.{◌≡◌, ◌⊎◌, ℕ, ◌<◌, ◌≤◌, List, Some, All, AllPairs, Contains, slice_get, length}
+-- The positions of entries in the order of their keys, one key after another.
+use Rattle.std.specs.Prelude.{◌≡◌, ◌⊎◌, ℕ, ◌<◌, ◌≤◌, List, Option, Some, None, All, AllPairs, Contains, slice_get, length}
 use Rattle.std.specs.Prelude.{take, drop, false}
 use Rattle.std.specs.Ordering.{is_gt}
 use Rattle.std.specs.declared.cmp.Ordering.{Ordering}
@@ -56,6 +56,11 @@ pub record AreSplit {K B : Type 0} (cmp : K → K → Ordering) (entries : List 
   pub is_front : IsFront cmp entries positions key count
   pub front_is : front ≡ take count positions
   pub later_is : later ≡ drop count positions
+
+-- it is the first, or there is none
+abbrev pub IsFirstOrNone : {A : Type 0} → Type 0 → (A → Type 0) → Option A → Type 0
+IsFirstOrNone none is_first None = none
+IsFirstOrNone none is_first (Some first) = is_first first
 
 -- the key is the first of two lists of positions, and these have it and those are later
 pub record IsFirstKey {K B : Type 0} (cmp : K → K → Ordering) (xs : List (K × Terms B)) (left : List ℕ) (ys : List (K × Terms B))

@@ -13,8 +13,8 @@ use Rattle.std.proofs.lemmas.List.Elements.{All-contains, Contains-append_left, 
 use Rattle.cif_calendar.specs.Keys.{of_key}
 use Rattle.cif_calendar.proofs.Positions.{at-contains}
 use Rattle.cif_calendar.specs.Terms.{Terms}
-use Rattle.cif_weeks.proofs.RisingLists.{not_less}
-use Rattle.cif_canon.specs.Steps.Turns.{AnyHasKey, AreFrom, HasKey, AreOfFirstKey, IsFront, IsNotAfter, IsRising}
+use Rattle.cif_calendar.proofs.RisingLists.{not_less}
+use Rattle.cif_calendar.specs.ByKey.{AnyHasKey, AreFrom, HasKey, AreOfFirstKey, IsFront, IsNotAfter, IsRising}
 
 -- a position has one key
 pub one-key : {K B : Type 0} (es : List (K × Terms B)) (i : ℕ) (j k : K) → HasKey es i j → HasKey es i k → j ≡ k

@@ -1,10 +1,10 @@
 -- In the order of keys none is before that of the first position (`from-first`), so its front is a first run (`of-first_key`).
 use Rattle.std.proofs.Common.{get_or, sym, subst}
 use Rattle.cif_calendar.specs.Keys.{keyed}
-use Rattle.cif_canon.specs.Steps.Turns.{HasKey}
-use Rattle.cif_canon.proofs.KeyPositions.{has-key}
-use Rattle.cif_canon.proofs.KeyTurns.{of-first_key, from-first}
-use Rattle.cif_canon.proofs.turns.count_of_first_key.Goals as goal
+use Rattle.cif_calendar.specs.ByKey.{HasKey}
+use Rattle.cif_calendar.proofs.KeyPositions.{has-key}
+use Rattle.cif_calendar.proofs.KeyTurns.{of-first_key, from-first}
+use Rattle.cif_calendar.proofs.by_key.count_of_first_key.Goals as goal
 
 pub count_of_key-requires-clause-from : goal.count_of_key-requires-clause-from
 count_of_key-requires-clause-from g c =

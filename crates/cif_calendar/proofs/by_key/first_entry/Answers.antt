@@ -4,11 +4,11 @@ use Rattle.std.specs.Prelude.{true, false}
 use Rattle.std.specs.Ordering.{is_lt}
 use Rattle.cif_calendar.specs.Keys.{keyed}
 use Rattle.cif_calendar.proofs.FirstClash.{same_key-cmp}
-use Rattle.cif_canon.specs.Steps.Turns.{IsFirstOfBoth}
-use Rattle.cif_canon.proofs.FirstEntries.{leading, leading-within, left-alone, lesser-first, right-alone}
-use Rattle.cif_canon.proofs.turns.first_entry.Given.{Over}
-use Rattle.cif_canon.proofs.turns.first_entry.Goals as goal
-use Rattle.cif_canon.proofs.turns.first_entry.Goals.{After-is_lt}
+use Rattle.cif_calendar.specs.ByKey.{IsFirstOfBoth}
+use Rattle.cif_calendar.proofs.FirstEntries.{leading, leading-within, left-alone, lesser-first, right-alone}
+use Rattle.cif_calendar.proofs.by_key.first_entry.Given.{Over}
+use Rattle.cif_calendar.proofs.by_key.first_entry.Goals as goal
+use Rattle.cif_calendar.proofs.by_key.first_entry.Goals.{After-is_lt}
 
 -- of two first positions that of the lesser key
 of-two : (g : Over) (c : After-is_lt g) →

@@ -1,32 +1,32 @@
 -- The clashes are found key by key, over positions in the order of their keys.
-use Rattle.std.proofs.Common.{◌≡◌, inl, inr, ℕ, ◌<◌, List, [], ◌∷◌, ◌++◌, map, take, drop, length, get_or}
-use Rattle.std.proofs.Common.{refl, sym, ◌∙◌, ap, subst, arith, ⊎_elim, append_assoc, append-nil}
-use Rattle.std.specs.Prelude.{AllPairs, Contains}
+use Rattle.std.proofs.Common.{◌≡◌, inl, inr, ℕ, ◌<◌, List, [], ◌∷◌, ◌++◌, Option, Some, map, take, drop, length, get_or}
+use Rattle.std.proofs.Common.{refl, sym, ◌∙◌, ap, ap₂, subst, arith, ⊎_elim}
+use Rattle.std.specs.Prelude.{All, AllPairs, Contains}
 use Rattle.std.specs.Cmp.{IsTotalOrder}
+use Rattle.std.specs.Option.{option_map}
 use Rattle.std.specs.declared.cmp.Ordering.{Ordering}
 use Rattle.std.specs.declared.cmp.Ordering.TheVariants.{Less, Equal}
 use Rattle.std.proofs.lemmas.Option.{slice_get_within}
 use Rattle.std.proofs.lemmas.List.{map-append}
-use Rattle.std.proofs.lemmas.List.Elements.{Contains-append_left, Contains-get_or, Contains-push, Contains-push_cases}
+use Rattle.std.proofs.lemmas.List.Elements.{All-push, Contains-append_left, Contains-get_or, Contains-push, Contains-push_cases}
 use Rattle.std.proofs.lemmas.List.Quantifiers.{all_pairs_push}
+use Rattle.cif_calendar.specs.ByKey.{AnyHasKey, AreOfFirstKey, IsRising}
 use Rattle.cif_calendar.specs.Calendar.{IsFault}
 use Rattle.cif_calendar.specs.Clash.{IsClearFrom, IsFirstClash}
+use Rattle.cif_calendar.specs.Clashes.{AreClashes, TellClashes, told}
 use Rattle.cif_calendar.specs.Keys.{keyed, of_key, ArePositionsOf}
 use Rattle.cif_calendar.specs.Source.{IsChosen}
+use Rattle.cif_calendar.specs.Steps.Clashes.{IsAddedOfKey, IsFaultAdded}
 use Rattle.cif_calendar.specs.Terms.{Terms}
 use Rattle.cif_calendar.specs.declared.key_calendar.CalendarFault.{CalendarFault}
 use Rattle.cif_calendar.specs.declared.key_calendar.CalendarFault.TheVariants.{Ambiguous, Memory}
+use Rattle.cif_calendar.specs.declared.key_clashes.KeyClash.{KeyClash}
+use Rattle.cif_calendar.proofs.KeyTurns.{decided, first-leads, no-entry, rising-after}
 use Rattle.cif_calendar.proofs.NoEntries.{none-clear}
+use Rattle.cif_calendar.proofs.PassedKeys.{HasPassed, key-or-later, later-less, left-before, passed-more, turn}
 use Rattle.cif_calendar.proofs.Positions.{positions-records}
+use Rattle.cif_calendar.proofs.RisingLists.{Contains-none}
 use Rattle.cif_calendar.proofs.Sets.{IsFirstClash-same}
-use Rattle.cif_extract.specs.declared.fault.Clash.{Clash}
-use Rattle.cif_weeks.proofs.RisingLists.{Contains-none}
-use Rattle.cif_canon.specs.Clashes.{AreClashes}
-use Rattle.cif_canon.specs.Steps.Clashes.{AreAdded, IsAddedOfKey, IsClashAdded, IsFaultAdded}
-use Rattle.cif_canon.specs.Steps.Turns.{AnyHasKey, AreOfFirstKey, IsRising}
-use Rattle.cif_canon.proofs.ComparedKeys.{HasPassed, key-or-later, later-less, left-before, passed-more, turn}
-use Rattle.cif_canon.proofs.KeyRecords.{key-is}
-use Rattle.cif_canon.proofs.KeyTurns.{decided, first-leads, no-entry, rising-after}
 
 module _ {K B : Type 0} (cmp : K → K → Ordering) (es : List (K × Terms B)) (first last : ℕ) where
   -- the clashes of all keys but the ones with entries at `rest`, which are after them
@@ -64,7 +64,7 @@ module _ {K B : Type 0} (cmp : K → K → Ordering) (es : List (K × Terms B)) 
     leads = first-leads cmp es rest n run
 
     -- the first positions are those of their key
-    pub own-turn : ArePositionsOf es run.key (take n rest)
+    own-turn : ArePositionsOf es run.key (take n rest)
     own-turn = turn cmp total es rest (AnyHasKey es rest) s.passed run.key leads n run.front
 
     -- what is later was left, and is after the key
@@ -83,7 +83,7 @@ module _ {K B : Type 0} (cmp : K → K → Ordering) (es : List (K × Terms B)) 
         ⊎_elim apart none (key-or-later cmp total es rest (AnyHasKey es rest) s.passed run.key leads n run.front k any)
 
     -- a key without a clash
-    pub searched-clear : IsClearFrom (of_key es run.key) first last → IsSearched found (drop n rest)
+    searched-clear : IsClearFrom (of_key es run.key) first last → IsSearched found (drop n rest)
     searched-clear clear = record {
       rising = rising-after cmp es rest s.rising n;
       passed = passed-on;
@@ -97,7 +97,7 @@ module _ {K B : Type 0} (cmp : K → K → Ordering) (es : List (K × Terms B)) 
     }
 
     -- a key with one
-    pub searched-clash : (d : ℕ) → IsFirstClash (of_key es run.key) first last d → IsSearched (found ++ ((run.key, d) ∷ [])) (drop n rest)
+    searched-clash : (d : ℕ) → IsFirstClash (of_key es run.key) first last d → IsSearched (found ++ ((run.key, d) ∷ [])) (drop n rest)
     searched-clash d clash = record {
       rising = rising-after cmp es rest s.rising n;
       passed = passed-on;
@@ -119,65 +119,65 @@ module _ {K B : Type 0} (cmp : K → K → Ordering) (es : List (K × Terms B)) 
           (decided cmp total same k run.key (cmp k run.key) refl);
     }
 
-  module _ (name : K → ℕ → Clash) (known : List Clash) where
-    -- behind the clashes that were known come those that are found
-    pub record AreAddedSoFar (all : List Clash) (rest : List ℕ) : Type 0 where
-      pub found : List (K × ℕ)
-      pub searched : IsSearched found rest
-      pub added : all ≡ known ++ map (λ (f : K × ℕ). name f.0 f.1) found
+  -- what was found tells the clashes of all keys but the ones with entries at `rest`
+  pub record AreFound (found : List KeyClash) (rest : List ℕ) : Type 0 where
+    pub clashes : List (K × ℕ)
+    pub searched : IsSearched clashes rest
+    pub tell : map (told es) found ≡ map Some clashes
 
-    pub added-nothing : (rest : List ℕ) → ((i : ℕ) → i < length es → Contains rest i) → IsRising cmp es rest → AreAddedSoFar known rest
-    added-nothing rest whole rising = record {
-      found = [];
-      searched = searched-nothing rest whole rising;
-      added = sym (append-nil known);
-    }
+  pub found-nothing : (rest : List ℕ) → ((i : ℕ) → i < length es → Contains rest i) → IsRising cmp es rest → AreFound [] rest
+  found-nothing rest whole rising = record { clashes = []; searched = searched-nothing rest whole rising; tell = refl }
 
-    pub added-all : (all : List Clash) → AreAddedSoFar all [] → AreAdded cmp name es first last known all
-    added-all all a = record { found = a.found; clashes = searched-all a.found a.searched; added = a.added }
+  pub found-all : (found : List KeyClash) → AreFound found [] → TellClashes cmp es first last found
+  found-all found a = record { clashes = a.clashes; are = searched-all a.clashes a.searched; tell = a.tell }
 
-    named-more : (all : List Clash) (found : List (K × ℕ)) (k : K) (d : ℕ) → all ≡ known ++ map (λ (f : K × ℕ). name f.0 f.1) found →
-        all ++ (name k d ∷ []) ≡ known ++ map (λ (f : K × ℕ). name f.0 f.1) (found ++ ((k, d) ∷ []))
-    named-more all found k d is =
-        let named = λ (f : K × ℕ). name f.0 f.1 in
-        ap (λ (cs : List Clash). cs ++ (name k d ∷ [])) is ∙ append_assoc known (map named found) (name k d ∷ [])
-        ∙ ap (λ (cs : List Clash). known ++ cs) (sym (map-append named found ((k, d) ∷ [])))
+  -- one key more
+  pub found-key : IsTotalOrder cmp → ((j k : K) → cmp j k ≡ Equal → j ≡ k) → (found more : List KeyClash) (rest : List ℕ) →
+      AreFound found rest → (n : ℕ) → AreOfFirstKey cmp es rest n →
+      ((k : K) → ArePositionsOf es k (take n rest) → IsAddedOfKey es first last k found more) → AreFound more (drop n rest)
+  found-key total same found more rest a n run own = ⊎_elim
+      (λ clear. record {
+        clashes = a.clashes;
+        searched = searched-clear total same a.clashes rest a.searched n run clear.0;
+        tell = ap (map (told es)) clear.1 ∙ a.tell;
+      })
+      (λ added. record {
+        clashes = a.clashes ++ ((run.key, added.day) ∷ []);
+        searched = searched-clash total same a.clashes rest a.searched n run added.day added.clash;
+        tell = ap (map (told es)) added.added ∙ map-append (told es) found (added.one ∷ [])
+            ∙ ap₂ (λ (xs ys : List (Option (K × ℕ))). xs ++ ys) a.tell (ap (λ o. o ∷ []) added.tells)
+            ∙ sym (map-append Some a.clashes ((run.key, added.day) ∷ []));
+      })
+      (own run.key (own-turn total same a.clashes rest a.searched n run))
 
-    -- one key more
-    pub added-key : IsTotalOrder cmp → ((j k : K) → cmp j k ≡ Equal → j ≡ k) → (all more : List Clash) (rest : List ℕ) →
-        AreAddedSoFar all rest → (n : ℕ) → AreOfFirstKey cmp es rest n →
-        ((k : K) → ArePositionsOf es k (take n rest) → IsAddedOfKey name es first last k all more) → AreAddedSoFar more (drop n rest)
-    added-key total same all more rest a n run own = ⊎_elim
-        (λ clear. record {
-          found = a.found;
-          searched = searched-clear total same a.found rest a.searched n run clear.0;
-          added = clear.1 ∙ a.added;
-        })
-        (λ more-one. record {
-          found = a.found ++ ((run.key, more-one.day) ∷ []);
-          searched = searched-clash total same a.found rest a.searched n run more-one.day more-one.clash;
-          added = more-one.added ∙ named-more all a.found run.key more-one.day a.added;
-        })
-        (own run.key (own-turn total same a.found rest a.searched n run))
+-- the first clash of a key, told by a position of the key, comes behind what was found
+clash-added : {E K B : Type 0} (key : E → K) (terms : E → Terms B) (es : List E) (first last : ℕ) (k : K) (members : List ℕ) →
+    ArePositionsOf (keyed key terms es) k members → (one : KeyClash) → Contains members one.position →
+    IsFirstClash (IsChosen (map terms es) members) first last one.day → (found more : List KeyClash) → more ≡ found ++ (one ∷ []) →
+    IsAddedOfKey (keyed key terms es) first last k found more
+clash-added {K = K} {B = B} key terms es first last k members p one member clash found more is =
+    let at = p.found one.position member in
+    inr (record {
+      day = one.day;
+      clash = IsFirstClash-same _ _ (positions-records key terms es k members p) first last one.day clash;
+      one = one;
+      tells = ap (λ o. option_map (λ (e : K × Terms B). (e.0, one.day)) o) at.1;
+      added = is;
+    })
 
--- the clash of the key of an entry at its positions
-pub clash-added : {E K B : Type 0} (key : E → K) (terms : E → Terms B) (name : K → ℕ → Clash) (es : List E) (first last : ℕ) (k : K)
-    (members : List ℕ) → ArePositionsOf (keyed key terms es) k members → (i : ℕ) → Contains members i → (e : E) → i < length es →
-    e ≡ get_or es i e → (d : ℕ) → IsFirstClash (IsChosen (map terms es) members) first last d → (known all : List Clash) →
-    all ≡ known ++ (name (key e) d ∷ []) → IsClashAdded name (keyed key terms es) first last k known all
-clash-added key terms name es first last k members p i member e below at d clash known all is =
-    record {
-      day = d;
-      clash = IsFirstClash-same _ _ (positions-records key terms es k members p) first last d clash;
-      added = is ∙ ap (λ j. known ++ (name j d ∷ [])) (key-is key terms es k members p i member e below at);
-    }
+-- what a fault of a key's calendar tells is the first clash of the key
+pub fault-added : {E K B : Type 0} (key : E → K) (terms : E → Terms B) (es : List E) (first last : ℕ) (k : K) (members : List ℕ) →
+    ArePositionsOf (keyed key terms es) k members → (i : ℕ) → Contains members i → (fault : CalendarFault) →
+    IsFault (IsChosen (map terms es) members) first last fault → (found more : List KeyClash) → IsFaultAdded i fault found more →
+    IsAddedOfKey (keyed key terms es) first last k found more
+fault-added key terms es first last k members p i member (Ambiguous d) clash found more is =
+    clash-added key terms es first last k members p (record { position = i; day = d }) member clash found more is
+fault-added key terms es first last k members p i member Memory h found more is = absurd is
 
--- what a fault of its calendar adds is the first clash of the key
-pub fault-added : {E K B : Type 0} (key : E → K) (terms : E → Terms B) (name : K → ℕ → Clash) (es : List E) (first last : ℕ) (k : K)
-    (members : List ℕ) → ArePositionsOf (keyed key terms es) k members → (i : ℕ) → Contains members i → (e : E) → i < length es →
-    e ≡ get_or es i e → (fault : CalendarFault) → IsFault (IsChosen (map terms es) members) first last fault →
-    (known all : List Clash) → IsFaultAdded (name (key e)) fault known all →
-    IsAddedOfKey name (keyed key terms es) first last k known all
-fault-added key terms name es first last k members p i member e below at (Ambiguous d) h known all is =
-    inr (clash-added key terms name es first last k members p i member e below at d h known all is)
-fault-added key terms name es first last k members p i member e below at Memory h known all is = absurd is
+-- and its position is within the entries
+pub fault-within : (n i : ℕ) → i < n → (fault : CalendarFault) (found more : List KeyClash) → IsFaultAdded i fault found more →
+    All (λ (clash : KeyClash). clash.position < n) found → All (λ (clash : KeyClash). clash.position < n) more
+fault-within n i below (Ambiguous d) found more is within =
+    subst (All (λ (clash : KeyClash). clash.position < n)) (sym is)
+    (All-push (λ (clash : KeyClash). clash.position < n) found (record { position = i; day = d }) within below)
+fault-within n i below Memory found more is within = absurd is

@@ -11,7 +11,7 @@ use Rattle.std.proofs.lemmas.List.FromFn.{length-range_with_len, get_or-range_wi
 use Rattle.cif_calendar.specs.Terms.{Terms}
 use Rattle.cif_calendar.specs.Keys.{keyed}
 use Rattle.cif_calendar.proofs.Winning.{terms_at}
-use Rattle.cif_canon.specs.Steps.Turns.{HasKey}
+use Rattle.cif_calendar.specs.ByKey.{HasKey}
 
 -- the numbers below n
 pub range-within : (n : ℕ) → All (λ i. i < n) (range_with_len 0 n)

@@ -9,9 +9,9 @@ use Rattle.std.proofs.lemmas.List.{length-map}
 use Rattle.std.proofs.lemmas.List.Elements.{All-same}
 use Rattle.std.proofs.lemmas.List.Sorted.{All-permutation, Contains-permutation}
 use Rattle.cif_calendar.specs.Keys.{keyed}
-use Rattle.cif_canon.proofs.KeyPositions.{range-within, range-whole}
-use Rattle.cif_canon.proofs.SortedPositions.{key_at, rising-from_sort}
-use Rattle.cif_canon.proofs.turns.positions_by_key.Goals as goal
+use Rattle.cif_calendar.proofs.KeyPositions.{range-within, range-whole}
+use Rattle.cif_calendar.proofs.SortedPositions.{key_at, rising-from_sort}
+use Rattle.cif_calendar.proofs.by_key.positions_by_key.Goals as goal
 
 pub returns : goal.returns
 returns g c =

@@ -11,8 +11,8 @@ use Rattle.std.proofs.lemmas.List.Sorted.{ranks_by, sorted_far}
 use Rattle.std.proofs.lemmas.Option.{same_Some, slice_get-map}
 use Rattle.cif_calendar.specs.Terms.{Terms}
 use Rattle.cif_calendar.specs.Keys.{keyed}
-use Rattle.cif_canon.specs.Steps.Turns.{HasKey, IsRising}
-use Rattle.cif_canon.proofs.KeyPositions.{not_gt}
+use Rattle.cif_calendar.specs.ByKey.{HasKey, IsRising}
+use Rattle.cif_calendar.proofs.KeyPositions.{not_gt}
 
 module _ {E K B : Type 0} (key : E → K) (terms : E → Terms B) where
   -- the key of the entry at a position, if there is one

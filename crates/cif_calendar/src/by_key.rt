@@ -1,66 +1,14 @@
 //! The positions of entries in the order of their keys.
 ghost use Rattle.std.specs.Prelude.{◌≡◌, ◌<◌, All, IfOk, length, option_map, slice_get};
 ghost use Rattle.cif_calendar.specs.Keys.{keyed};
-ghost use Rattle.cif_canon.specs.Steps.Differences.{IsFirstOrNone};
-ghost use Rattle.cif_canon.specs.Steps.Turns.{AreAllByKey, AreFrom, AreOfFirstKey};
-ghost use Rattle.cif_canon.specs.Steps.Turns.{IsFirstKey, IsFirstOfBoth, IsFront, IsRising};
+ghost use Rattle.cif_calendar.specs.ByKey.{AreAllByKey, AreFrom, AreOfFirstKey, IsFirstKey};
+ghost use Rattle.cif_calendar.specs.ByKey.{IsFirstOfBoth, IsFirstOrNone, IsFront, IsRising};
 
-use cif_calendar::Entry;
-use cif_columns::{Day, Uid};
-use cif_extract::{Clash, Schedule};
-use cif_records::{AssocKey, Association};
+use crate::entry::Entry;
 use std::alloc::{AllocError, Global};
 
-/// An entry whose key can be copied, and whose clashes have names.
-pub(crate) trait NamedEntry: Entry {
-    ghost use Rattle.std.specs.Prelude.{ℕ};
-    ghost use Rattle.cif_extract.specs.declared.fault.Clash.{Clash};
-
-    // The clash of a key on a day.
-    ghost clash_of: { Self.Key → ℕ → Clash };
-
-    /// What the record is about.
-    fn copied_key(&self) -> Self::Key
-        ensures { result ≡ Self.key self.now };
-
-    /// The clash of its key on a day.
-    fn clash_on(&self, day: Day) -> Clash
-        ensures { result ≡ clash_of (Self.key self.now) day };
-}
-
-impl NamedEntry for Association {
-    ghost use Rattle.cif_extract.specs.declared.fault.Clash.TheVariants as clash;
-
-    ghost clash_of = { clash.Association };
-
-    fn copied_key(&self) -> AssocKey {
-        self.key.copy()
-    }
-
-    fn clash_on(&self, day: Day) -> Clash {
-        Clash::Association(self.key.copy(), day)
-    }
-}
-
-impl NamedEntry for Schedule {
-    ghost use Rattle.cif_extract.specs.declared.fault.Clash.TheVariants as clash;
-
-    ghost clash_of = { clash.Train };
-
-    fn copied_key(&self) -> Uid {
-        self.uid
-    }
-
-    fn clash_on(&self, day: Day) -> Clash {
-        Clash::Train(self.uid, day)
-    }
-}
-
 /// The positions of all entries, in the order of their keys.
-pub(crate) fn positions_by_key<E: NamedEntry>(
-    alloc: Global,
-    entries: &[E],
-) -> Result<Vec<usize>, AllocError>
+pub fn positions_by_key<E: Entry>(alloc: Global, entries: &[E]) -> Result<Vec<usize>, AllocError>
 where
     E::Key: Drop,
     ensures { IfOk result (λ positions.
@@ -84,7 +32,7 @@ where
 
 /// How many of the positions, from the first on, are of entries with one key. The positions are in
 /// the order of the keys.
-pub(crate) fn count_of_first_key<E: Entry>(entries: &[E], positions: &[usize]) -> usize
+pub fn count_of_first_key<E: Entry>(entries: &[E], positions: &[usize]) -> usize
     requires within { All (λ i. i < length entries.now) positions.now }
     requires some { 0 < length positions.now }
     requires rising { IsRising E.Key.cmp (keyed E.key E.terms entries.now) positions.now }
@@ -112,17 +60,22 @@ fn count_of_key<E: Entry>(entries: &[E], positions: &[usize], key: &E::Key) -> u
 /// The least key of those at two lists of positions: an entry with it, and of each list the positions
 /// of entries with it, and those that are later.
 #[derive(Drop)]
-pub(crate) struct FirstKey<'a, 'p, E> {
-    pub(crate) entry: &'a E,
-    pub(crate) left: &'p [usize],
-    pub(crate) left_later: &'p [usize],
-    pub(crate) right: &'p [usize],
-    pub(crate) right_later: &'p [usize],
+pub struct FirstKey<'a, 'p, E> {
+    /// An entry with the key.
+    pub entry: &'a E,
+    /// The left positions of the key.
+    pub left: &'p [usize],
+    /// The left positions of later keys.
+    pub left_later: &'p [usize],
+    /// The right positions of the key.
+    pub right: &'p [usize],
+    /// The right positions of later keys.
+    pub right_later: &'p [usize],
 }
 
 /// The least key of those at two lists of positions, each in the order of its keys; none where there
 /// are no positions.
-pub(crate) fn first_key<'a, 'p, E: Entry>(
+pub fn first_key<'a, 'p, E: Entry>(
     left: &'a [E],
     left_positions: &'p [usize],
     right: &'a [E],

@@ -8,9 +8,9 @@ use Rattle.std.specs.declared.cmp.Ordering.{Ordering}
 use Rattle.std.specs.declared.cmp.Ordering.TheVariants.{Less, Equal, Greater}
 use Rattle.cif_calendar.specs.Keys.{keyed}
 use Rattle.cif_calendar.specs.Terms.{Terms}
-use Rattle.cif_canon.specs.Steps.Turns.{AnyHasKey, AreFrom, HasKey, IsFirstOfBoth, IsRising}
-use Rattle.cif_canon.proofs.KeyPositions.{has-key, not_gt}
-use Rattle.cif_canon.proofs.KeyTurns.{from-first, from-lower}
+use Rattle.cif_calendar.specs.ByKey.{AnyHasKey, AreFrom, HasKey, IsFirstOfBoth, IsRising}
+use Rattle.cif_calendar.proofs.KeyPositions.{has-key, not_gt}
+use Rattle.cif_calendar.proofs.KeyTurns.{from-first, from-lower}
 
 -- the first position is one of an entry
 pub leading-within : (n : ℕ) (rest : List ℕ) (i : ℕ) → All (λ i. i < n) rest → 0 < length rest → ((d : ℕ) → i ≡ get_or rest 0 d) → i < n

@@ -5,10 +5,10 @@ use Rattle.std.proofs.lemmas.Bool.{false≢true}
 use Rattle.std.proofs.lemmas.List.Elements.{All-nil, All-more}
 use Rattle.cif_calendar.specs.Keys.{keyed}
 use Rattle.cif_calendar.proofs.FirstClash.{same_key-cmp}
-use Rattle.cif_canon.specs.Steps.Turns.{HasKey}
-use Rattle.cif_canon.proofs.KeyPositions.{has-key, true_from_not}
-use Rattle.cif_canon.proofs.KeyTurns.{front-ends, front-of_all}
-use Rattle.cif_canon.proofs.turns.count_of_key.Goals as goal
+use Rattle.cif_calendar.specs.ByKey.{HasKey}
+use Rattle.cif_calendar.proofs.KeyPositions.{has-key, true_from_not}
+use Rattle.cif_calendar.proofs.KeyTurns.{front-ends, front-of_all}
+use Rattle.cif_calendar.proofs.by_key.count_of_key.Goals as goal
 
 pub loop-count-init : goal.loop-count-init
 loop-count-init g c = All-nil _
