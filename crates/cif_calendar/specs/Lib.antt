@@ -1,12 +1,15 @@
 pub mod Applies
+pub mod ByKey
 pub mod Calendar
 pub mod CalendarFault
 pub mod Clash
+pub mod Clashes
 pub mod Entries
 pub mod Keys
 pub mod Laws
 pub mod Meaning
 pub mod Pieces
+pub mod Ranks
 pub mod Runs
 pub mod Source
 pub mod Steps

@@ -4,11 +4,9 @@ pub mod Differences
 pub mod OnlySides
 pub mod Explanation
 pub mod Fields
-pub mod Ranks
 pub mod Records
 pub mod Sides
 pub mod Texts
 pub mod Tiplocs
-pub mod Turns
 pub mod Views
 pub mod Writing
