@@ -1,8 +1,0 @@
--- The entries so far are ranked.
-use Rattle.cif_calendar.specs.Keys.{keyed}
-use Rattle.cif_canon.specs.Steps.Ranks.{AreRanked}
-use Rattle.cif_canon.proofs.turns.ranked_positions.Given as goal
-
-abbrev pub invariant-loop-position : goal.invariant-loop-position
-invariant-loop-position g l =
-    AreRanked g.E.NamedEntry.stands_for (keyed g.E.Entry.key g.E.Entry.terms l.entries) l.position l.ranked.items
