@@ -16,3 +16,5 @@ pub mod SpelledFeeds
 pub mod LinesMade
 pub mod MarkedRecords
 pub mod SaidPublished
+pub mod SaidUpdate
+pub mod ToldLines

@@ -17,4 +17,6 @@ pub mod SpellsFeed
 pub mod Steps
 pub mod ProfileLine
 pub mod Transaction
+pub mod UpdateParts
+pub mod Updated
 pub mod Words

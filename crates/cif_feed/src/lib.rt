@@ -15,9 +15,10 @@ mod profile_line;
 mod published;
 mod published_extract;
 mod record_keys;
+mod update;
 mod words;
 
-pub use changes::{Change, Keyed, apply};
+pub use changes::{Action, Change, Keyed, RefusedLine, apply};
 pub use feed::{Feed, FeedFault};
 pub use feed_reading::Passed;
 pub use holiday_code::{HolidayCode, HolidayCodes};
@@ -27,3 +28,4 @@ pub use mark::Transaction;
 pub use part::Part;
 pub use published::{PublishedAssociation, PublishedSchedule};
 pub use published_extract::PublishedExtract;
+pub use update::Update;
