@@ -106,13 +106,13 @@ module _ {K B : Type 0} (cmp : K → K → Ordering) (same : (j k : K) → cmp j
         with_key Less is h = other (λ e. let c : cmp x.key k ≡ Equal = ap (λ j. cmp j k) e ∙ self k in absurd (cc)) h
         with_key Greater is h = other (λ e. let c : cmp x.key k ≡ Equal = ap (λ j. cmp j k) e ∙ self k in absurd (cc)) h
 
-module _ {K B : Type 0} (cmp : K → K → Ordering) (train_of : K → List ℕ) (entries : List (K × Terms B)) (u : List ℕ) (d : ℕ)
-    (es : List (Explained K B)) (are : AreExplained cmp train_of entries u d es) where
+module _ {K B : Type 0} (cmp : K → K → Ordering) (IsOf : K → List ℕ → Type 0) (entries : List (K × Terms B)) (u : List ℕ) (d : ℕ)
+    (es : List (Explained K B)) (are : AreExplained cmp IsOf entries u d es) where
   pub wins-runs : (e : Explained K B) → AreLawful (of_key entries e.key) → Contains es e → e.mark ≡ mark.Wins
       → Runs (of_key entries e.key) d e.terms.body
   wins-runs e lawful in_e is = marked-runs (of_key entries e.key) d e.terms e.mark is lawful (are.found e in_e).marked
 
-  pub wins-agree : (same : (j k : K) → cmp j k ≡ Equal → j ≡ k) (self : (k : K) → cmp k k ≡ Equal) (k : K) → train_of k ≡ u
+  pub wins-agree : (same : (j k : K) → cmp j k ≡ Equal → j ≡ k) (self : (k : K) → cmp k k ≡ Equal) (k : K) → IsOf k u
       → HasWinningMark es k ↔ (SomeApplies (of_key entries k) d × IsClear (of_key entries k) d)
   wins-agree same self k train = (forth, λ h. back h.0 h.1 (first-or-none cmp same self k es))
     where

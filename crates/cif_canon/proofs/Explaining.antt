@@ -41,26 +41,26 @@ placed-same p q place key terms =
     ∙ (ap (λ k. placed_at q.place k p.terms) key ∙ ap (λ t. placed_at q.place q.key t) terms)
 
 -- without entries looked at there is no record
-pub placed-nothing : {K B : Type 0} (train_of : K → List ℕ) (entries : List (K × Terms B)) (u : List ℕ) (d : ℕ) →
-    ArePlacedBelow train_of entries u d 0 []
-placed-nothing train_of entries u d = record {
+pub placed-nothing : {K B : Type 0} (IsOf : K → List ℕ → Type 0) (entries : List (K × Terms B)) (u : List ℕ) (d : ℕ) →
+    ArePlacedBelow IsOf entries u d 0 []
+placed-nothing IsOf entries u d = record {
   found = All-nil _;
   below = All-nil _;
   all = λ p is below. absurd (omega (arith, below));
   rising = λ i j d less within. absurd (omega (arith, within));
 }
 
-module _ {K B : Type 0} (train_of : K → List ℕ) (entries : List (K × Terms B)) (u : List ℕ) (d : ℕ) where
-  one-place : (p q : Placed K B) → IsPlaced train_of entries u d p → IsPlaced train_of entries u d q → p.place ≡ q.place → p ≡ q
+module _ {K B : Type 0} (IsOf : K → List ℕ → Type 0) (entries : List (K × Terms B)) (u : List ℕ) (d : ℕ) where
+  one-place : (p q : Placed K B) → IsPlaced IsOf entries u d p → IsPlaced IsOf entries u d q → p.place ≡ q.place → p ≡ q
   one-place p q of_p of_q place =
       let parts = some_pair_parts _ _ _ _ (sym of_p.at ∙ ap (slice_get entries) place ∙ of_q.at) in
       placed-same p q place parts.0 parts.1
 
-  module _ (n : ℕ) (placed : List (Placed K B)) (are : ArePlacedBelow train_of entries u d n placed) where
-    pub placed-more : (p : Placed K B) → IsPlaced train_of entries u d p → p.place ≡ n
-        → ArePlacedBelow train_of entries u d (n + 1) (placed ++ (p ∷ []))
+  module _ (n : ℕ) (placed : List (Placed K B)) (are : ArePlacedBelow IsOf entries u d n placed) where
+    pub placed-more : (p : Placed K B) → IsPlaced IsOf entries u d p → p.place ≡ n
+        → ArePlacedBelow IsOf entries u d (n + 1) (placed ++ (p ∷ []))
     placed-more p of_p place = record {
-      found = All-push (IsPlaced train_of entries u d) placed p are.found of_p;
+      found = All-push (IsPlaced IsOf entries u d) placed p are.found of_p;
       below = All-push (λ (q : Placed K B). q.place < n + 1) placed p
           (All-weaker (λ (q : Placed K B). q.place < n) (λ (q : Placed K B). q.place < n + 1) (λ q lt. omega (arith, lt)) placed are.below)
           (omega (arith, place));
@@ -69,13 +69,13 @@ module _ {K B : Type 0} (train_of : K → List ℕ) (entries : List (K × Terms 
           (λ k e below. let lt = are.below k e below in omega (arith, lt, place));
     }
       where
-        all_of : (q : Placed K B) → IsPlaced train_of entries u d q → (q.place ≡ n) ⊎ (q.place < n) → Contains (placed ++ (p ∷ [])) q
+        all_of : (q : Placed K B) → IsPlaced IsOf entries u d q → (q.place ≡ n) ⊎ (q.place < n) → Contains (placed ++ (p ∷ [])) q
         all_of q of_q (inl last) =
             subst (Contains (placed ++ (p ∷ []))) (one-place p q of_p of_q (place ∙ sym last)) (Contains-push placed p)
         all_of q of_q (inr earlier) = Contains-append_left placed (p ∷ []) q (are.all q of_q earlier)
 
-    pub placed-no_more : ((k : K) (r : Terms B) → slice_get entries n ≡ Some (k, r) → train_of k ≡ u → Applies r d → ⊥)
-        → ArePlacedBelow train_of entries u d (n + 1) placed
+    pub placed-no_more : ((k : K) (r : Terms B) → slice_get entries n ≡ Some (k, r) → IsOf k u → Applies r d → ⊥)
+        → ArePlacedBelow IsOf entries u d (n + 1) placed
     placed-no_more none = record {
       found = are.found;
       below = All-weaker (λ (q : Placed K B). q.place < n) (λ (q : Placed K B). q.place < n + 1) (λ q lt. omega (arith, lt)) placed
@@ -84,7 +84,7 @@ module _ {K B : Type 0} (train_of : K → List ℕ) (entries : List (K × Terms 
       rising = are.rising;
     }
       where
-        all_of : (q : Placed K B) → IsPlaced train_of entries u d q → (q.place ≡ n) ⊎ (q.place < n) → Contains placed q
+        all_of : (q : Placed K B) → IsPlaced IsOf entries u d q → (q.place ≡ n) ⊎ (q.place < n) → Contains placed q
         all_of q of_q (inl last) =
             absurd (none q.key q.terms (subst (λ i. slice_get entries i ≡ Some (q.key, q.terms)) last of_q.at) of_q.train of_q.applies)
         all_of q of_q (inr earlier) = are.all q of_q earlier
@@ -123,7 +123,7 @@ module _ {K B : Type 0} (cmp : K → K → Ordering) (total : IsTotalOrder cmp) 
   less-by p q Greater is right differ = absurd (cc)
 
 -- records that are sorted are all of them in order
-module _ {X K B : Type 0} (of : X → Placed K B) (cmp : K → K → Ordering) (total : IsTotalOrder cmp) (train_of : K → List ℕ)
+module _ {X K B : Type 0} (of : X → Placed K B) (cmp : K → K → Ordering) (total : IsTotalOrder cmp) (IsOf : K → List ℕ → Type 0)
     (entries : List (K × Terms B)) (u : List ℕ) (d : ℕ) (xs ys : List X) (moved : IsPermutation xs ys) where
   pub places-differ : AllPairs (λ (p q : Placed K B). p.place < q.place) (map of xs)
       → AllPairs (λ (m n : ℕ). m ≢ n) (map (λ (p : Placed K B). p.place) (map of ys))
@@ -136,10 +136,10 @@ module _ {X K B : Type 0} (of : X → Placed K B) (cmp : K → K → Ordering) (
       (IsDistinct-IsPermutation (λ m n. m == n) (λ m n. grind (arith, nat_tests)) _ _
       (IsPermutation-map place _ _ (IsPermutation-map of xs ys moved)) (IsDistinct-from_AllPairs Decides-eqb _ apart))
 
-  pub placed-sorted : ArePlacedBelow train_of entries u d (length entries) (map of xs)
-      → IsSortedBy (λ x y. is_lt (placed_cmp cmp (of x) (of y))) ys → ArePlacedInOrder cmp train_of entries u d (map of ys)
+  pub placed-sorted : ArePlacedBelow IsOf entries u d (length entries) (map of xs)
+      → IsSortedBy (λ x y. is_lt (placed_cmp cmp (of x) (of y))) ys → ArePlacedInOrder cmp IsOf entries u d (map of ys)
   placed-sorted are sorted = record {
-    found = All-permutation (IsPlaced train_of entries u d) _ _ (IsPermutation-map of xs ys moved) are.found;
+    found = All-permutation (IsPlaced IsOf entries u d) _ _ (IsPermutation-map of xs ys moved) are.found;
     all = λ p of_p. Contains-permutation _ _ p (IsPermutation-map of xs ys moved)
         (are.all p of_p (slice_get_within entries p.place _ of_p.at));
     rising = AllPairs-map of (λ p q. placed_cmp cmp p q ≡ Less) ys (λ i j e lt below.
@@ -292,19 +292,19 @@ module _ {K B : Type 0} (cmp : K → K → Ordering) (total : IsTotalOrder cmp) 
 
 -- ---- marks among all records
 
-module _ {K B : Type 0} (cmp : K → K → Ordering) (train_of : K → List ℕ) (entries : List (K × Terms B)) (u : List ℕ) (d : ℕ)
-    (placed : List (Placed K B)) (are : ArePlacedInOrder cmp train_of entries u d placed) where
+module _ {K B : Type 0} (cmp : K → K → Ordering) (IsOf : K → List ℕ → Type 0) (entries : List (K × Terms B)) (u : List ℕ) (d : ℕ)
+    (placed : List (Placed K B)) (are : ArePlacedInOrder cmp IsOf entries u d placed) where
   -- a record of a key of the train that applies is among them
-  among : (k : K) (r : Terms B) → train_of k ≡ u → of_key entries k r → Applies r d
+  among : (k : K) (r : Terms B) → IsOf k u → of_key entries k r → Applies r d
       → (i : ℕ) × Contains placed (placed_at i k r)
   among k r train listed applies =
       let place = at-contains entries (k, r) listed in
       (place.0, are.all (placed_at place.0 k r) (record { at = place.1; train = train; applies = applies }))
 
-  module _ (p : Placed K B) (of_p : IsPlaced train_of entries u d p) where
+  module _ (p : Placed K B) (of_p : IsPlaced IsOf entries u d p) where
     at-key : (q : Placed K B) → Contains placed q → q.key ≡ p.key → of_key entries p.key q.terms × Applies q.terms d
     at-key q in_q key =
-        let of_q : IsPlaced train_of entries u d q = All-contains (IsPlaced train_of entries u d) placed q are.found in_q in
+        let of_q : IsPlaced IsOf entries u d q = All-contains (IsPlaced IsOf entries u d) placed q are.found in_q in
         (subst (λ k. of_key entries k q.terms) key (contains-at entries q.place (q.key, q.terms) of_q.at), of_q.applies)
 
     module _ (least : IsLeast placed p.key (letter p.terms.letter)) where
@@ -349,7 +349,7 @@ module _ {K B : Type 0} (cmp : K → K → Ordering) (train_of : K → List ℕ)
         absurd (omega (arith, le, h.earlier))
 
   -- records with their marks are explained
-  pub explained : (es : List (Explained K B)) → AreMarked placed placed es → AreExplained cmp train_of entries u d es
+  pub explained : (es : List (Explained K B)) → AreMarked placed placed es → AreExplained cmp IsOf entries u d es
   explained es (same, marks) = record {
     rising = λ i j e lt below.
         let rise = subst (AllPairs (λ p q. placed_cmp cmp p q ≡ Less)) (sym same) are.rising in
@@ -361,8 +361,8 @@ module _ {K B : Type 0} (cmp : K → K → Ordering) (train_of : K → List ℕ)
         (subst (λ p. placed_cmp cmp p (get_or (map unmarked es) j (unmarked e)) ≡ Less) one here);
     found = λ e in_e.
         let in_placed : Contains placed (unmarked e) = subst (λ ps. Contains ps (unmarked e)) same (Contains-map unmarked es e in_e) in
-        let of_e : IsPlaced train_of entries u d (unmarked e) =
-        All-contains (IsPlaced train_of entries u d) placed (unmarked e) are.found in_placed in
+        let of_e : IsPlaced IsOf entries u d (unmarked e) =
+        All-contains (IsPlaced IsOf entries u d) placed (unmarked e) are.found in_placed in
         record {
           at = of_e.at;
           train = of_e.train;

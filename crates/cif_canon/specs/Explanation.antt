@@ -1,5 +1,5 @@
 -- Why a train does or doesn't run on a day, and why its associations hold or don't: the records that apply, each with a mark.
-use Rattle.std.specs.Prelude.{◌≡◌, ℕ, List, ◌∷◌, [], ◌++◌, Option, Some, None, AllPairs, Contains, codes, false, slice_get}
+use Rattle.std.specs.Prelude.{◌≡◌, ◌⊎◌, ℕ, List, ◌∷◌, [], ◌++◌, Option, Some, None, AllPairs, Contains, codes, false, slice_get}
 use Rattle.std.specs.List.{flat_map}
 use Rattle.std.specs.Ordering.{nat_cmp, ordering_then}
 use Rattle.std.specs.Cmp.Lexicographic.{slice_cmp}
@@ -50,20 +50,21 @@ explained_cmp cmp r s =
     ordering_then (cmp r.key s.key)
     (ordering_then (nat_cmp (letter r.terms.letter) (letter s.terms.letter)) (nat_cmp r.place s.place))
 
--- The record stands at its place, is one of train u, applies on day d and has its mark among the records of its key.
-pub record IsExplained {K B : Type 0} (train_of : K → List ℕ) (entries : List (K × Terms B)) (u : List ℕ) (d : ℕ) (e : Explained K B)
-    : Type 0 where
+-- The record stands at its place, is of train u, applies on day d and has its mark among the records of its key. `IsOf` says of which
+-- trains a key is.
+pub record IsExplained {K B : Type 0} (IsOf : K → List ℕ → Type 0) (entries : List (K × Terms B)) (u : List ℕ) (d : ℕ)
+    (e : Explained K B) : Type 0 where
   pub at : slice_get entries e.place ≡ Some (e.key, e.terms)
-  pub train : train_of e.key ≡ u
+  pub train : IsOf e.key u
   pub applies : Applies e.terms d
   pub marked : IsMarked (of_key entries e.key) d e.terms e.mark
 
--- The records of train u that apply on day d, each once and in order. `train_of` is the train that a key is about.
-pub record AreExplained {K B : Type 0} (cmp : K → K → Ordering) (train_of : K → List ℕ) (entries : List (K × Terms B)) (u : List ℕ)
-    (d : ℕ) (explained : List (Explained K B)) : Type 0 where
+-- The records of train u that apply on day d, each once and in order.
+pub record AreExplained {K B : Type 0} (cmp : K → K → Ordering) (IsOf : K → List ℕ → Type 0) (entries : List (K × Terms B))
+    (u : List ℕ) (d : ℕ) (explained : List (Explained K B)) : Type 0 where
   pub rising : AllPairs (λ r s. explained_cmp cmp r s ≡ Less) explained
-  pub found : (e : Explained K B) → Contains explained e → IsExplained train_of entries u d e
-  pub all : (i : ℕ) (k : K) (r : Terms B) → slice_get entries i ≡ Some (k, r) → train_of k ≡ u → Applies r d →
+  pub found : (e : Explained K B) → Contains explained e → IsExplained IsOf entries u d e
+  pub all : (i : ℕ) (k : K) (r : Terms B) → slice_get entries i ≡ Some (k, r) → IsOf k u → Applies r d →
       (m : Mark) × Contains explained (record { place = i; key = k; terms = r; mark = m })
 
 -- a record of key k is marked as the winner
@@ -124,21 +125,22 @@ explanation_heading format =
     heading (record { format = format; calls = false }) (codes "mark\tkind\tstp_indicator\tfirst_date\tlast_date\tdays_run\tuid")
     association_names
 
--- the train that an association's key is about, and that a train's own is
-abbrev pub base_of : AssocKey → List ℕ
-base_of key = key.base
+-- an association is of both its trains, the base and the associated one
+abbrev pub IsAssociationOf : AssocKey → List ℕ → Type 0
+IsAssociationOf key u = (key.base ≡ u) ⊎ (key.associated ≡ u)
 
-abbrev pub itself : List ℕ → List ℕ
-itself uid = uid
+-- a schedule is of its own train
+abbrev pub IsTrain : List ℕ → List ℕ → Type 0
+IsTrain uid u = uid ≡ u
 
--- The day is in the window of the extract, and the text has the heading, a line for each record of the associations whose base is train u,
--- and then one for each of its schedules, of those that apply on the day.
+-- The day is in the window of the extract, and the text has the heading, a line for each record of the associations of train u, and then
+-- one for each of its schedules, of those that apply on the day.
 pub record IsExplanation (format : Format) (x : ExtractParts) (u : List ℕ) (d : ℕ) (text : List ℕ) : Type 0 where
   pub within : IsWithin (header_window x.header) d
   pub associations : List (Explained AssocKey AssocBody)
-  pub of_associations : AreExplained key_cmp base_of (association_entries x.associations) u d associations
+  pub of_associations : AreExplained key_cmp IsAssociationOf (association_entries x.associations) u d associations
   pub trains : List (Explained (List ℕ) BodyParts)
-  pub of_trains : AreExplained (slice_cmp nat_cmp) itself (schedule_entries x.schedules) u d trains
+  pub of_trains : AreExplained (slice_cmp nat_cmp) IsTrain (schedule_entries x.schedules) u d trains
   pub text_is :
       text ≡ explanation_heading format
       ++ (flat_map (explained_association_line format) associations ++ flat_map (explained_train_line format) trains)

@@ -24,20 +24,20 @@ pub enum Mark {
 }
 
 /// An entry that can be explained.
-pub(crate) trait ExplainedEntry: Entry {
+pub trait ExplainedEntry: Entry {
     ghost use Rattle.std.specs.Prelude.{ℕ, List};
     ghost use Rattle.cif_canon.specs.Explanation.{Explained};
     ghost use Rattle.cif_canon.specs.declared.layout.Format.{Format};
 
-    // The train that a key is about.
-    ghost train_of: { Self.Key → List ℕ };
+    // A record with this key is of this train.
+    ghost is_of: { Self.Key → List ℕ → Type 0 };
 
     // The line of a record with its mark.
     ghost line: { Format → Explained Self.Key Self.Body → List ℕ };
 
-    /// The train that it is about.
-    fn train(&self) -> &Uid
-        ensures { result.now ≡ train_of (Self.key self.now) };
+    /// Whether it is of this train.
+    fn is_of(&self, uid: &Uid) -> bool
+        ensures { IsTrue result ↔ is_of (Self.key self.now) uid.now };
 
     /// Its line with a mark.
     fn line(&self, format: Format, mark: Mark) -> ArrayString<LONGEST>
@@ -60,9 +60,9 @@ pub(crate) struct Applying<'a, E> {
 /// Whether it is a record of the train that applies on the day.
 fn is_applying<E: ExplainedEntry>(entry: &E, uid: &Uid, day: Day) -> bool
     ensures { IsTrue result ↔
-        ((E.train_of (E.key entry.now) ≡ uid.now) × Applies (E.terms entry.now) day) }
+        (E.is_of (E.key entry.now) uid.now × Applies (E.terms entry.now) day) }
 {
-    entry.train() == uid
+    entry.is_of(uid)
         && entry.first() <= day
         && day <= entry.last()
         && entry.days().has(day.weekday())
@@ -91,7 +91,7 @@ pub(crate) fn records_on<'a, E: ExplainedEntry>(
     uid: &Uid,
     day: Day,
 ) -> Result<Vec<Applying<'a, E>>, AllocError>
-    ensures { IfOk result (λ applying. ArePlacedInOrder E.Key.cmp E.train_of
+    ensures { IfOk result (λ applying. ArePlacedInOrder E.Key.cmp E.is_of
         (keyed E.key E.terms entries.now) uid.now day
         (map (placed_of E.key E.terms) applying.items)) }
 {

@@ -25,9 +25,9 @@ use cif_records::Association;
 use std::alloc::Global;
 
 /// Appends why the train runs on the day, or doesn't: a line for each record that applies, with its
-/// mark. First come the associations of which it is the base, by key, and then its schedules; those
-/// of one key are in the order of their letters C, N, O, P, and of one letter in that of the
-/// extract.
+/// mark. First come its associations, of which it is the base or the associated train, by key, and then
+/// its schedules; those of one key are in the order of their letters C, N, O, P, and of one letter in
+/// that of the extract.
 ///
 /// OutsideWindow comes where the day isn't in the extract's window, and then Memory, and Write. A
 /// clash is no fault. Nothing is written before all memory is had.
@@ -178,14 +178,14 @@ fn push_said_of_train(line: &mut ArrayString<LONGEST>, format: Format, schedule:
 }
 
 impl ExplainedEntry for Association {
-    ghost use Rattle.cif_canon.specs.Explanation.{base_of, explained_association_line};
+    ghost use Rattle.cif_canon.specs.Explanation.{IsAssociationOf, explained_association_line};
 
-    ghost train_of = { base_of };
+    ghost is_of = { IsAssociationOf };
 
     ghost line = { explained_association_line };
 
-    fn train(&self) -> &Uid {
-        &self.key.base
+    fn is_of(&self, uid: &Uid) -> bool {
+        self.key.base == *uid || self.key.associated == *uid
     }
 
     fn line(&self, format: Format, mark: Mark) -> ArrayString<LONGEST> {
@@ -200,14 +200,14 @@ impl ExplainedEntry for Association {
 }
 
 impl ExplainedEntry for Schedule {
-    ghost use Rattle.cif_canon.specs.Explanation.{explained_train_line, itself};
+    ghost use Rattle.cif_canon.specs.Explanation.{IsTrain, explained_train_line};
 
-    ghost train_of = { itself };
+    ghost is_of = { IsTrain };
 
     ghost line = { explained_train_line };
 
-    fn train(&self) -> &Uid {
-        &self.uid
+    fn is_of(&self, uid: &Uid) -> bool {
+        self.uid == *uid
     }
 
     fn line(&self, format: Format, mark: Mark) -> ArrayString<LONGEST> {

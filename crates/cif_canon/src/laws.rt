@@ -14,7 +14,7 @@ ghost use Rattle.cif_canon.specs.NormalForm.{IsNormalFormAgain, IsReachedFromFor
 ghost use Rattle.cif_canon.specs.declared.asked.Asked.{Asked};
 ghost use Rattle.cif_canon.specs.declared.explained.Mark.TheVariants.{Wins};
 
-use cif_calendar::Entry;
+use crate::explained::ExplainedEntry;
 
 /// Canonical bytes of one form are equal exactly if what they are made of says the same; they are
 /// their own canonical form, and that of each form's canonical bytes of the same.
@@ -32,18 +32,18 @@ pub fn canonical_bytes_are_unique()
         → IsReachedFromForms form asked x bytes }
 {}
 
-/// What the marks of explained records say. `train_of` is the train that a key is about.
-pub fn marks_say_what_runs<E: Entry>()
+/// What the marks of explained records say.
+pub fn marks_say_what_runs<E: ExplainedEntry>()
     // A record that is marked as the winner has the body that runs; a cancellation has none.
-    ensures runs { (train_of : E.Key → List ℕ) (entries : List (E.Key × Terms E.Body))
+    ensures runs { (entries : List (E.Key × Terms E.Body))
         (uid : List ℕ) (day : ℕ) (explained : List (Explained E.Key E.Body))
-        (e : Explained E.Key E.Body) → AreExplained E.Key.cmp train_of entries uid day explained
+        (e : Explained E.Key E.Body) → AreExplained E.Key.cmp E.is_of entries uid day explained
         → AreLawful (of_key entries e.key) → Contains explained e → e.mark ≡ Wins
         → Runs (of_key entries e.key) day e.terms.body }
     // A key has one exactly if some record of it applies and no two winners differ.
-    ensures agree { (train_of : E.Key → List ℕ) (entries : List (E.Key × Terms E.Body))
+    ensures agree { (entries : List (E.Key × Terms E.Body))
         (uid : List ℕ) (day : ℕ) (explained : List (Explained E.Key E.Body)) (key : E.Key)
-        → AreExplained E.Key.cmp train_of entries uid day explained → train_of key ≡ uid
+        → AreExplained E.Key.cmp E.is_of entries uid day explained → E.is_of key uid
         → HasWinningMark explained key
         ↔ (SomeApplies (of_key entries key) day × IsClear (of_key entries key) day) }
 {}

@@ -45,26 +45,26 @@ placed_cmp cmp r s =
 abbrev pub IsRisingBy : {K B : Type 0} → (K → K → Ordering) → List (Placed K B) → Type 0
 IsRisingBy cmp placed = AllPairs (λ p q. placed_cmp cmp p q ≡ Less) placed
 
--- it stands at its place, is one of train u, and applies on day d
-pub record IsPlaced {K B : Type 0} (train_of : K → List ℕ) (entries : List (K × Terms B)) (u : List ℕ) (d : ℕ) (p : Placed K B)
+-- it stands at its place, is of train u, and applies on day d
+pub record IsPlaced {K B : Type 0} (IsOf : K → List ℕ → Type 0) (entries : List (K × Terms B)) (u : List ℕ) (d : ℕ) (p : Placed K B)
     : Type 0 where
   pub at : slice_get entries p.place ≡ Some (p.key, p.terms)
-  pub train : train_of p.key ≡ u
+  pub train : IsOf p.key u
   pub applies : Applies p.terms d
 
 -- these are the records of train u that apply on day d, of those at places below n, in the order of their places
-pub record ArePlacedBelow {K B : Type 0} (train_of : K → List ℕ) (entries : List (K × Terms B)) (u : List ℕ) (d n : ℕ)
+pub record ArePlacedBelow {K B : Type 0} (IsOf : K → List ℕ → Type 0) (entries : List (K × Terms B)) (u : List ℕ) (d n : ℕ)
     (placed : List (Placed K B)) : Type 0 where
-  pub found : All (IsPlaced train_of entries u d) placed
+  pub found : All (IsPlaced IsOf entries u d) placed
   pub below : All (λ (p : Placed K B). p.place < n) placed
-  pub all : (p : Placed K B) → IsPlaced train_of entries u d p → p.place < n → Contains placed p
+  pub all : (p : Placed K B) → IsPlaced IsOf entries u d p → p.place < n → Contains placed p
   pub rising : AllPairs (λ (p q : Placed K B). p.place < q.place) placed
 
 -- these are all of them, by key, letter and place
-pub record ArePlacedInOrder {K B : Type 0} (cmp : K → K → Ordering) (train_of : K → List ℕ) (entries : List (K × Terms B))
+pub record ArePlacedInOrder {K B : Type 0} (cmp : K → K → Ordering) (IsOf : K → List ℕ → Type 0) (entries : List (K × Terms B))
     (u : List ℕ) (d : ℕ) (placed : List (Placed K B)) : Type 0 where
-  pub found : All (IsPlaced train_of entries u d) placed
-  pub all : (p : Placed K B) → IsPlaced train_of entries u d p → Contains placed p
+  pub found : All (IsPlaced IsOf entries u d) placed
+  pub all : (p : Placed K B) → IsPlaced IsOf entries u d p → Contains placed p
   pub rising : IsRisingBy cmp placed
 
 -- one of the records has this key and this letter

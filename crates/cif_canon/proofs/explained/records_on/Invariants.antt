@@ -6,5 +6,5 @@ use Rattle.cif_canon.proofs.explained.records_on.Given as goal
 
 abbrev pub invariant-loop-place : goal.invariant-loop-place
 invariant-loop-place g l =
-    ArePlacedBelow g.E.ExplainedEntry.train_of (keyed g.E.Entry.key g.E.Entry.terms l.entries) l.uid l.day l.place
+    ArePlacedBelow g.E.ExplainedEntry.is_of (keyed g.E.Entry.key g.E.Entry.terms l.entries) l.uid l.day l.place
     (map (placed_of g.E.Entry.key g.E.Entry.terms) l.applying.items)

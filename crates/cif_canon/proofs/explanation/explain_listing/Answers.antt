@@ -8,7 +8,7 @@ use Rattle.cif_extract.specs.ExtractParts.{extract_parts}
 use Rattle.cif_extract.specs.declared.extract.Schedule.{Schedule}
 use Rattle.cif_records.specs.AssocKey.{key_cmp}
 use Rattle.cif_records.specs.declared.association.Association.{Association}
-use Rattle.cif_canon.specs.Explanation.{base_of, explained_association_line, explained_train_line, explanation_heading, itself}
+use Rattle.cif_canon.specs.Explanation.{IsAssociationOf, explained_association_line, explained_train_line, explanation_heading, IsTrain}
 use Rattle.cif_canon.specs.Steps.Explanation.{ArePlacedInOrder, placed_of}
 use Rattle.cif_canon.proofs.AppendedTexts.{both, fault-answered, text-is}
 use Rattle.cif_canon.proofs.ExplainedTexts.{explanation}
@@ -28,10 +28,10 @@ returns-clause-view g c =
           (both _ _ one other _ _ _ ones.2 others.2)),
       written-so c.answer.result _ (explanation c.args.format (extract_parts c.args.extract.now) c.args.uid.now c.args.day
           c.in_ok-check_within.ensures.ok c.as_slice.result.now _ ones.0 c.as_slice.ensures.value
-          (subst (λ es. ArePlacedInOrder key_cmp base_of (association_entries c.as_slice.result.now) c.args.uid.now c.args.day
+          (subst (λ es. ArePlacedInOrder key_cmp IsAssociationOf (association_entries c.as_slice.result.now) c.args.uid.now c.args.day
           (map (placed_of (λ (a : Association). a.key) association_terms) es)) (sym c.as_slice-3.ensures.value) c.in-Ok.ensures)
           ones.1 c.as_slice-2.result.now _ others.0 c.as_slice-2.ensures.value
-          (subst (λ es. ArePlacedInOrder (slice_cmp nat_cmp) itself (schedule_entries c.as_slice-2.result.now) c.args.uid.now c.args.day
+          (subst (λ es. ArePlacedInOrder (slice_cmp nat_cmp) IsTrain (schedule_entries c.as_slice-2.result.now) c.args.uid.now c.args.day
           (map (placed_of (λ (s : Schedule). s.uid) schedule_terms) es)) (sym c.as_slice-4.ensures.value) c.in-Ok-records_on.ensures)
           others.1),
     )

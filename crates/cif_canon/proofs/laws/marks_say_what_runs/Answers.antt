@@ -4,11 +4,11 @@ use Rattle.cif_canon.proofs.ExplainedMarks.{equal-itself, wins-agree, wins-runs}
 use Rattle.cif_canon.proofs.laws.marks_say_what_runs.Goals as goal
 
 pub returns-clause-runs : goal.returns-clause-runs
-returns-clause-runs g c train_of entries uid day explained e are lawful in_e is =
-    wins-runs g.E.Key.Ord.cmp train_of entries uid day explained are e lawful in_e is
+returns-clause-runs g c entries uid day explained e are lawful in_e is =
+    wins-runs g.E.Key.Ord.cmp g.E.ExplainedEntry.is_of entries uid day explained are e lawful in_e is
 
 pub returns-clause-agree : goal.returns-clause-agree
-returns-clause-agree g c train_of entries uid day explained key are train =
-    wins-agree g.E.Key.Ord.cmp train_of entries uid day explained are
+returns-clause-agree g c entries uid day explained key are train =
+    wins-agree g.E.Key.Ord.cmp g.E.ExplainedEntry.is_of entries uid day explained are
     (same_key-cmp g.E.Key.PartialEq.eq g.E.Key.Ord.cmp g.met.E.Key.Ord.matches_eq g.met.E.Entry.same_key)
     (λ k. equal-itself (g.E.Key.Ord.cmp k k) (g.met.E.Key.Ord.total.antisymm k k)) key train
