@@ -14,20 +14,21 @@ use Rattle.cif_weeks.specs.declared.form.Form.{Form}
 use Rattle.cif_canon.specs.Accepted.{SpellsNarrowed}
 use Rattle.cif_extract.specs.declared.fault.Clash.{Clash}
 use Rattle.cif_canon.specs.Asked.{IsNarrowingFault}
-use Rattle.cif_canon.specs.Clashes.{AreAllClashes, clashes_text}
+use Rattle.cif_views.specs.Clashes.{AreAllClashes, clashes_text}
 use Rattle.cif_canon.specs.Comparison.{AreCompared, comparison_line}
 use Rattle.cif_canon.specs.Counts.{counts_line}
 use Rattle.cif_canon.specs.Differences.{AreDifferences, AreNone, DifferencesParts, differences_text}
-use Rattle.cif_canon.specs.Explanation.{IsExplanation, IsExplanationFault}
+use Rattle.cif_views.specs.Explanation.{IsExplanation, IsExplanationFault}
 use Rattle.cif_canon.specs.Fault.{IsNormaliseFault}
 use Rattle.cif_canon.specs.Normalised.{FaultWrites, IsNormalised}
 use Rattle.cif_canon.specs.Pair.{FaultOfBoth, IsCompareRefusal, ReadsBoth, SpellPair}
-use Rattle.cif_canon.specs.Views.{IsDayFault, IsDayView, IsTrainView}
+use Rattle.cif_canon.specs.Views.{IsDayFault}
+use Rattle.cif_views.specs.Listing.{IsDayListing, IsTrainListing}
 use Rattle.cif_canon.specs.declared.asked.Asked.{Asked}
 use Rattle.cif_canon.specs.declared.comparison.Comparison.{Comparison}
 use Rattle.cif_canon.specs.declared.canonical_form.Counts.{Counts}
-use Rattle.cif_canon.specs.declared.layout.Format.{Format}
-use Rattle.cif_canon.specs.declared.layout.Layout.{Layout}
+use Rattle.cif_canon.specs.declared.rows.Format.{Format}
+use Rattle.cif_views.specs.declared.listing.Listing.{Listing}
 use Rattle.cif_tool.specs.Status.{outcome_of}
 use Rattle.cif_tool.specs.declared.job.Job.{Job}
 use Rattle.cif_tool.specs.declared.job.Job.TheVariants.{Check, Clashes, Compare, Day, Diff, Explain, Normalise, Train}
@@ -70,18 +71,18 @@ pub record IsCheckAnswer (form : Form) (asked : Asked) (bytes text : List ℕ) (
   pub text_is : text ≡ counts_line counts
   pub status_is : status ≡ 0
 
--- `day` answers these bytes by what runs on the day, in this layout.
-pub record IsDayAnswer (layout : Layout) (day : ℕ) (bytes text : List ℕ) (status : ℕ) : Type 0 where
+-- `day` answers these bytes by what runs on the day, in this listing.
+pub record IsDayAnswer (listing : Listing) (day : ℕ) (bytes text : List ℕ) (status : ℕ) : Type 0 where
   pub extract : ExtractParts
   pub spelled : BytesSpellWithin MAX_LINES bytes extract
-  pub view : IsDayView layout extract day text
+  pub view : IsDayListing listing extract day text
   pub status_is : status ≡ 0
 
--- `train` answers these bytes by when the train runs, in this layout.
-pub record IsTrainAnswer (layout : Layout) (form : Form) (asked : Asked) (uid bytes text : List ℕ) (status : ℕ) : Type 0 where
+-- `train` answers these bytes by when the train runs, in this listing.
+pub record IsTrainAnswer (listing : Listing) (form : Form) (asked : Asked) (uid bytes text : List ℕ) (status : ℕ) : Type 0 where
   pub extract : ExtractParts
   pub spelled : SpellsNarrowed MAX_LINES asked extract bytes
-  pub view : IsTrainView layout form extract uid text
+  pub view : IsTrainListing listing form extract uid text
   pub status_is : status ≡ 0
 
 -- `compare` answers two inputs by how they compare in the window that is asked for.
@@ -168,9 +169,9 @@ IsJobAnswer remaining (Compare left_file right_file asked common) source right =
     OfBoth remaining (IsCompareAnswer asked common) source right
 IsJobAnswer remaining (Diff left_file right_file asked common) source right =
     OfBoth remaining (IsDiffAnswer asked common) source right
-IsJobAnswer remaining (Day day file layout) source right = OfInput remaining (IsDayAnswer layout day) source
-IsJobAnswer remaining (Train uid file asked form layout) source right =
-    OfInput remaining (IsTrainAnswer layout form asked uid) source
+IsJobAnswer remaining (Day day file listing) source right = OfInput remaining (IsDayAnswer listing day) source
+IsJobAnswer remaining (Train uid file asked form listing) source right =
+    OfInput remaining (IsTrainAnswer listing form asked uid) source
 IsJobAnswer remaining (Explain uid day file format) source right = OfInput remaining (IsExplainAnswer format uid day) source
 IsJobAnswer remaining (Clashes file asked) source right = OfInput remaining (IsClashesAnswer asked) source
 
@@ -185,9 +186,9 @@ IsJobFault remaining (Compare left_file right_file asked common) source source_n
     FaultOfBoth remaining (IsCompareRefusal asked common) source source_new right right_new result
 IsJobFault remaining (Diff left_file right_file asked common) source source_new right right_new result =
     FaultOfBoth remaining (IsCompareRefusal asked common) source source_new right right_new result
-IsJobFault remaining (Day day file layout) source source_new right right_new result =
+IsJobFault remaining (Day day file listing) source source_new right right_new result =
     FaultOf remaining (IsDayRefusal day) source source_new result
-IsJobFault remaining (Train uid file asked form layout) source source_new right right_new result =
+IsJobFault remaining (Train uid file asked form listing) source source_new right right_new result =
     FaultOf remaining (IsNormaliseFault MAX_LINES asked) source source_new result
 IsJobFault remaining (Explain uid day file format) source source_new right right_new result =
     FaultOf remaining (IsExplainRefusal day) source source_new result

@@ -12,12 +12,12 @@ ghost use Rattle.cif_tool.specs.Answer.{Finishes, ReadsInputs};
 use crate::job::Job;
 use crate::status::{DONE, listed, outcome};
 use cif_canon::{
-    Asked, Format, Layout, check_keeping, clashes, compare, day_listing, differences,
-    explain_listing, narrow, normalise_keeping, read_narrowed, read_pair, train_listing,
-    write_comparison, write_counts,
+    Asked, Format, check_keeping, compare, differences, narrow, normalise_keeping, read_narrowed,
+    read_pair, write_comparison, write_counts,
 };
 use cif_columns::{Day, MAX_LINES, ReadDevice, Sink, Source, Uid, WriteDevice};
 use cif_extract::{Extract, Fault, read_extract};
+use cif_views::{Listing, clashes, day_listing, explain_listing, train_listing};
 use cif_weeks::Form;
 use std::alloc::Global;
 
@@ -132,17 +132,17 @@ pub fn answer_diff<R: ReadDevice, W: WriteDevice>(
     finish(found.write(sink), sink, listed(found.is_empty()))
 }
 
-/// Writes what runs on the day, in this layout, and answers status 0.
+/// Writes what runs on the day, in this listing, and answers status 0.
 pub fn answer_day<R: ReadDevice, W: WriteDevice>(
     alloc: Global,
     source: &mut Source<R>,
     sink: &mut Sink<W>,
     day: Day,
-    layout: Layout,
+    listing: Listing,
     kept: &mut Option<Extract>,
 ) -> Result<u8, Fault>
     ensures answer { Answers W.contents W.write_errors
-        (OfInput R.remaining (IsDayAnswer layout day) source.old)
+        (OfInput R.remaining (IsDayAnswer listing day) source.old)
         sink.old sink.new result }
     ensures fault { FaultOf R.remaining (IsDayRefusal day) source.old source.new result }
     ensures source { FaultReads R.read_errors source.old source.new result }
@@ -151,10 +151,10 @@ pub fn answer_day<R: ReadDevice, W: WriteDevice>(
 {
     let extract = read_extract(alloc, source, MAX_LINES)?;
     let extract = kept.insert(extract);
-    finish(day_listing(alloc, extract, day, sink, layout), sink, DONE)
+    finish(day_listing(alloc, extract, day, sink, listing), sink, DONE)
 }
 
-/// Writes when the train runs, in this layout, and answers status 0.
+/// Writes when the train runs, in this listing, and answers status 0.
 pub fn answer_train<R: ReadDevice, W: WriteDevice>(
     alloc: Global,
     source: &mut Source<R>,
@@ -162,11 +162,11 @@ pub fn answer_train<R: ReadDevice, W: WriteDevice>(
     uid: &Uid,
     asked: &Asked,
     form: Form,
-    layout: Layout,
+    listing: Listing,
     kept: &mut Option<Extract>,
 ) -> Result<u8, Fault>
     ensures answer { Answers W.contents W.write_errors
-        (OfInput R.remaining (IsTrainAnswer layout form asked.now uid.now) source.old)
+        (OfInput R.remaining (IsTrainAnswer listing form asked.now uid.now) source.old)
         sink.old sink.new result }
     ensures fault { FaultOf R.remaining (IsNormaliseFault MAX_LINES asked.now)
         source.old source.new result }
@@ -177,7 +177,7 @@ pub fn answer_train<R: ReadDevice, W: WriteDevice>(
     let extract = read_narrowed(alloc, source, MAX_LINES, asked)?;
     let extract = kept.insert(extract);
     finish(
-        train_listing(alloc, extract, uid, sink, form, layout),
+        train_listing(alloc, extract, uid, sink, form, listing),
         sink,
         DONE,
     )
@@ -287,14 +287,14 @@ pub fn answer<R: ReadDevice, W: WriteDevice>(
         Job::Day {
             day,
             file: _,
-            layout,
-        } => answer_day(alloc, source, sink, *day, *layout, &mut kept.left),
+            listing,
+        } => answer_day(alloc, source, sink, *day, *listing, &mut kept.left),
         Job::Train {
             uid,
             file: _,
             asked,
             form,
-            layout,
+            listing,
         } => answer_train(
             alloc,
             source,
@@ -302,7 +302,7 @@ pub fn answer<R: ReadDevice, W: WriteDevice>(
             uid,
             asked,
             *form,
-            *layout,
+            *listing,
             &mut kept.left,
         ),
         Job::Explain {
