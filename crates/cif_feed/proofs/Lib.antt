@@ -13,3 +13,6 @@ pub mod FeedRuns
 pub mod StrictKinds
 pub mod SpelledFeeds
 pub mod MarkedRecords
+pub mod OwnReasons
+pub mod ToldReasons
+pub mod JudgedRuns
