@@ -8,18 +8,19 @@ use Rattle.std.proofs.lemmas.List.{get_or_default}
 use Rattle.std.specs.List.{list_all, list_any, slice_index}
 use Rattle.std.specs.Prelude.{All, Contains}
 use Rattle.std.specs.Str.Lines.{lines_of_parts, strip_carriage_return}
-use Rattle.cif_columns.specs.ContentReader.{IsNextOf, given, held, limit}
+use Rattle.cif_columns.specs.ContentReader.{IsNextOf}
 use Rattle.cif_columns.specs.Contents.{contents_of}
-use Rattle.cif_columns.specs.FirstLine.{is_printable}
+use Rattle.cif_columns.specs.FirstLine.{is_printable, line_of}
 use Rattle.cif_columns.specs.JudgedContents.{IsGiven, MayGoOn, has_overlong, is_overlong, judged_contents, parts_of}
 use Rattle.cif_columns.specs.Line.{IsLine}
-use Rattle.cif_columns.specs.Source.{HasReadOn, Unread, reader_of, source_ended}
+use Rattle.cif_columns.specs.Source.{HasReadOn, Unread, reader_of, source_ended, unread_of}
+use Rattle.cif_columns.specs.declared.content_reader.ContentReader.{ContentReader}
 use Rattle.cif_columns.specs.declared.refusal.LineFault.{LineFault}
 use Rattle.cif_columns.specs.declared.refusal.LineFault.TheVariants as line_fault
 use Rattle.cif_columns.specs.declared.refusal.Refusal.{Refusal}
 use Rattle.cif_columns.specs.declared.refusal.Refusal.TheVariants as refusal
 use Rattle.cif_columns.specs.declared.source.Source.{Source}
-use Rattle.cif_columns.proofs.ContentRuns.{AreAll}
+use Rattle.cif_columns.proofs.ContentRuns.{AreAll, HasGiven, given_failed, given_too_many}
 use Rattle.cif_columns.proofs.GivenLinesLaws.{known_so}
 use Rattle.cif_columns.proofs.JudgedContents.{judged_all}
 use Rattle.cif_extract.specs.ExtractParts.{ExtractParts, extract_parts}
@@ -39,11 +40,14 @@ use Rattle.cif_records.specs.Record.{record_refusal}
 use Rattle.cif_feed.specs.Judged.{HaveNone, HaveReasons, IsJudgedAs, IsJudgedFault, IsJudgedWhole, IsOutOfPlace, IsReadAsJudged, JudgedLeaves}
 use Rattle.cif_feed.specs.Judged.{NoneHasReason}
 use Rattle.cif_feed.specs.Reasons.{TellReasons, own_reason, reasons_in, reasons_of}
-use Rattle.cif_feed.specs.Steps.Judging.{IsFinished, SomeHasReason}
+use Rattle.cif_feed.specs.Steps.Judging.{HasJudged, IsFinished, IsInOrder, SomeHasReason}
+use Rattle.cif_feed.specs.declared.judged.Judging.{Judging}
+use Rattle.cif_feed.specs.declared.judged.Order.{Order}
 use Rattle.cif_feed.specs.declared.judged.Judged.{Judged}
 use Rattle.cif_feed.specs.declared.judged.Judged.TheVariants as judged
 use Rattle.cif_feed.specs.declared.reasons.Reasons.{Reasons}
-use Rattle.cif_feed.proofs.OwnReasons.{own_none, refused_number}
+use Rattle.cif_feed.proofs.OwnReasons.{judged_line, own_none, own_of_line, reasons_of_more, refused_number}
+use Rattle.cif_feed.proofs.ToldReasons.{tell_nothing}
 
 -- ---- contents that spell an extract
 
@@ -137,6 +141,31 @@ pub only_judged : (start : Option (List ℕ)) (max : ℕ) (after : Unread) (resu
     → IfSome start (λ bytes. (x : ExtractParts) → BytesSpellWithin max bytes x → IsReadAsJudged x result)
 only_judged None max after result ok err = tt
 only_judged (Some bytes) max after result ok err = λ x spells. judged_only max bytes x spells after result ok err
+
+-- ---- a line more
+
+-- a line without a reason
+pub line_judged : (max : ℕ) (cs : List (List ℕ)) (c line : List ℕ) (old : Judging) (order : Order) (result : Result (Unit {0}) Fault)
+    → Ok line ≡ line_of c → record_refusal line ≡ None → HasJudged max cs old
+    → (own_reason line ≡ None → IfOk result (λ done. IsInOrder max (cs ++ line ∷ []) order))
+    → IfOk result (λ done. HasJudged max (cs ++ c ∷ []) (record old { order = order }))
+line_judged max cs c line old order result is none judged so = at result (so own_line)
+  where
+    own_line : own_reason line ≡ None
+    own_line =
+        let found = judged_line c line is in
+        ap own_reason (sym found.0) ∙ own_of_line c found.1 ∙ ap record_refusal found.0 ∙ none
+
+    at : (r : Result (Unit {0}) Fault) → IfOk r (λ done. IsInOrder max (cs ++ line ∷ []) order)
+        → IfOk r (λ done. HasJudged max (cs ++ c ∷ []) (record old { order = order }))
+    at (Err f) h = tt
+    at (Ok done) h =
+        let same = (judged_line c line is).0 in
+        let own : own_reason c ≡ None = ap own_reason same ∙ own_line in
+        record {
+          told = subst (λ l. TellReasons l old.reasons) (sym (reasons_of_more cs c None own)) (tell_nothing (reasons_of cs) old.reasons judged.told);
+          order = subst (λ l. IsInOrder max (cs ++ l ∷ []) order) (sym same) h;
+        }
 
 -- ---- how the judging ends
 
@@ -270,3 +299,15 @@ too_many_fault max (Some bytes) after ended number is over gave = record { over 
         → IsSomeAnd a (IsGiven (λ before. ¬ MayGoOn max before) bytes)
     at None g = g
     at (Some unread) g = record { before = g.before; parts = g.parts; fact = λ goes. omega (arith, g.fact, goes.within) }
+
+-- at a fault of the lines
+module _ {R : Type 0} (remaining : R → Option (List ℕ)) (errors : R → Option ℕ) (start : Option (List ℕ)) (max : ℕ) (reader : ContentReader)
+    (source : Source R) (cs : List (List ℕ)) (so_far : HasGiven remaining start max reader source cs) (reader' : ContentReader)
+    (source' : Source R) where
+  pub line_fault_judged : (l : LineFault) → IsNextOf remaining errors reader source (Err l) reader' source'
+      → IfSome start (λ bytes. IsJudgedFault max bytes (unread_of remaining source') (of_line_fault l))
+  line_fault_judged (line_fault.Refused number why) next =
+      let (numbered, same, over, gave) = given_too_many remaining errors start max reader source cs so_far reader' source' number why next in
+      subst (λ (w : Refusal). IfSome start (λ bytes. IsJudgedFault max bytes (unread_of remaining source') (fault.Refused number w)))
+      (sym same) (too_many_fault max start (remaining (reader_of source')) (source_ended source') number numbered over gave)
+  line_fault_judged line_fault.Read next = given_failed remaining errors start max reader source cs so_far reader' source' next

@@ -56,13 +56,16 @@ own_of_judged c why is = at (nat_eq (length c) 80) (list_all is_printable c) is
     at true false is = let same : BadByte ≡ why = cc in ap Some same
     at false p is = let same : BadLength ≡ why = cc in ap Some same
 
-pub judged_line : (c line : List ℕ) → Ok line ≡ line_of c → c ≡ line
-judged_line c line is = at (nat_eq (length c) 80) (list_all is_printable c) is
+pub judged_line : (c line : List ℕ) → Ok line ≡ line_of c → (c ≡ line) × IsLine c
+judged_line c line is = at (nat_eq (length c) 80) (list_all is_printable c) refl refl is
   where
-    at : (w p : Bool) → Ok line ≡ cond w (cond p (Ok c) (Err BadByte)) (Err BadLength) → c ≡ line
-    at true true is = cc
-    at true false is = absurd (cc)
-    at false p is = absurd (cc)
+    at : (w p : Bool) → w ≡ nat_eq (length c) 80 → p ≡ list_all is_printable c
+        → Ok line ≡ cond w (cond p (Ok c) (Err BadByte)) (Err BadLength) → (c ≡ line) × IsLine c
+    at true true ew ep is =
+        let same : c ≡ line = cc in
+        (same, record { width = eqb-true _ 80 (sym ew); printable = printable_fact c (sym ep) })
+    at true false ew ep is = absurd (cc)
+    at false p ew ep is = absurd (cc)
 
 -- and so is that it is overlong
 pub own_of_long : (c : List ℕ) → length c ≢ 80 → own_reason c ≡ Some BadLength
