@@ -18,3 +18,6 @@ pub mod MarkedRecords
 pub mod SaidPublished
 pub mod SaidUpdate
 pub mod ToldLines
+pub mod OwnReasons
+pub mod ToldReasons
+pub mod JudgedRuns

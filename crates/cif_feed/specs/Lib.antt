@@ -7,11 +7,13 @@ pub mod HolidayCode
 pub mod HolidayDates
 pub mod HolidayText
 pub mod Holidays
+pub mod Judged
 pub mod LastDay
 pub mod PublishedParts
 pub mod Parts
 pub mod Prepared
 pub mod Published
+pub mod Reasons
 pub mod RecordKeys
 pub mod SpellsFeed
 pub mod Steps

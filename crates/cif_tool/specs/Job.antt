@@ -14,7 +14,7 @@ use Rattle.cif_weeks.specs.declared.form.Form.{Form}
 use Rattle.cif_weeks.specs.declared.form.Form.TheVariants.{One, Two}
 use Rattle.cif_tool.specs.CommandLine.{AreFormats, AreForms, Choice, chosen, faults_of}
 use Rattle.cif_tool.specs.declared.job.Job.{Job}
-use Rattle.cif_tool.specs.declared.job.Job.TheVariants.{Check, Clashes, Compare, Day, Diff, Explain, Normalise, Train}
+use Rattle.cif_tool.specs.declared.job.Job.TheVariants.{Check, CheckAll, Clashes, Compare, Day, Diff, Explain, Normalise, Train}
 
 -- the matches have a word of this id
 abbrev pub HasWord : Text → List Row → Type 0
@@ -53,6 +53,10 @@ is_set None = false
 abbrev pub has_common : List Row → Bool
 has_common rows = is_set (first_of (codes "common") rows)
 
+-- whether `--all` is among the words
+abbrev pub has_all : List Row → Bool
+has_all rows = is_set (first_of (codes "all") rows)
+
 -- the format that the word of `--format` names
 abbrev pub format_of : Option Text → Format
 format_of (Some word) = if bytes_eq word (codes "tsv") then format.Tsv else format.Text
@@ -83,7 +87,10 @@ pub record AreTwoFilesWords (rows : List Row) (left right : Text) (asked : Asked
 -- the subcommand is the job's, and its matches hold what the job holds
 abbrev pub IsChosen : Job → Text × List Row → Type 0
 IsChosen (Normalise file asked form) met = (met.0 ≡ codes "normalise") × AreCanonicalWords met.1 (option_map string_bytes file) asked form
-IsChosen (Check file asked form) met = (met.0 ≡ codes "check") × AreCanonicalWords met.1 (option_map string_bytes file) asked form
+IsChosen (Check file asked form) met = (met.0 ≡ codes "check") × (has_all met.1 ≡ false)
+    × AreCanonicalWords met.1 (option_map string_bytes file) asked form
+IsChosen (CheckAll file asked form) met = (met.0 ≡ codes "check") × (has_all met.1 ≡ true)
+    × AreCanonicalWords met.1 (option_map string_bytes file) asked form
 IsChosen (Compare left right asked common) met = (met.0 ≡ codes "compare")
     × AreTwoFilesWords met.1 (string_bytes left) (string_bytes right) asked common
 IsChosen (Diff left right asked common) met = (met.0 ≡ codes "diff")
@@ -129,6 +136,7 @@ pub record Asks (words : List Text) (job : Job) : Type 0 where
 abbrev pub input_names : Job → Option Text × Option Text
 input_names (Normalise file asked form) = (option_map string_bytes file, None)
 input_names (Check file asked form) = (option_map string_bytes file, None)
+input_names (CheckAll file asked form) = (option_map string_bytes file, None)
 input_names (Compare left right asked common) = (Some (string_bytes left), Some (string_bytes right))
 input_names (Diff left right asked common) = (Some (string_bytes left), Some (string_bytes right))
 input_names (Day day file listing) = (option_map string_bytes file, None)

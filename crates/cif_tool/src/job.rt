@@ -28,6 +28,12 @@ pub enum Job {
         asked: Asked,
         form: Form,
     },
+    /// To say which lines have a reason to be refused by themselves, or else what `Check` says.
+    CheckAll {
+        file: Option<String>,
+        asked: Asked,
+        form: Form,
+    },
     /// To say where two extracts first differ. With `common`, dates that aren't asked for are those
     /// of the window that both have in common.
     Compare {
@@ -83,6 +89,7 @@ impl Job {
         match self {
             Job::Normalise { file, .. }
             | Job::Check { file, .. }
+            | Job::CheckAll { file, .. }
             | Job::Day { file, .. }
             | Job::Train { file, .. }
             | Job::Explain { file, .. }

@@ -129,6 +129,7 @@ fn canonical_job(alloc: Global, name: &str, matches: &ArgMatches<'_>) -> Result<
     let file = file_of(alloc, matches)?;
     match name {
         "normalise" => Ok(Job::Normalise { file, asked, form }),
+        _ if has_flag(matches, "all") => Ok(Job::CheckAll { file, asked, form }),
         _ => Ok(Job::Check { file, asked, form }),
     }
 }
