@@ -32,4 +32,4 @@ pub use part::Part;
 pub use published::{PublishedAssociation, PublishedSchedule};
 pub use published_extract::PublishedExtract;
 pub use reasons::Reasons;
-pub use update::Update;
+pub use update::{Outcome, Update, UpdateCounts};
