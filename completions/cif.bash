@@ -53,7 +53,8 @@ _cif() {
     if [[ -z $ended && $written == -* ]]; then
         case $command in
         '') options='-h --help -V --version' ;;
-        normalise | check) options='-v --verbose --from --to --form -h --help' ;;
+        normalise) options='-v --verbose --from --to --form -h --help' ;;
+        check) options='-v --verbose --from --to --form --all -h --help' ;;
         train) options='-v --verbose --from --to --form --stops --format -h --help' ;;
         compare | diff) options='-v --verbose --from --to --common -h --help' ;;
         clashes) options='-v --verbose --from --to -h --help' ;;

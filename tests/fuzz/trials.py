@@ -148,12 +148,17 @@ def of_explanation(job, inputs, want):
     listed = answer(day, inputs)
     yield Trial("the day of it", day, inputs, listed)
     if listed.status == 0:
-        of_uid = [line for line in listed.stdout.split(b"\n") if line[3:9] == job.uid.encode()]
+        of_uid = [line for line in listed.stdout.split(b"\n") if job.uid.encode() in uids_of(line)]
         won = [line for line in want.stdout.split(b"\n") if line.startswith(b"wins  ") and line[10:11] != b"C"]
         if of_uid != list(dict.fromkeys(line[7:10] + line[34:] for line in won)):
             raise Inconsistent("the records that win aren't what the day has")
         canonical = [answer(Job("normalise"), inputs).stdout]
         yield Trial("the same of the canonical extract", job._replace(files=()), canonical, answer(job, canonical))
+
+
+def uids_of(line):
+    """The UID of a line of day, or both if it is of an association."""
+    return (line[3:9], line[10:16]) if line.startswith(b"AA") else (line[3:9],)
 
 
 def of_clashes(job, inputs, want):

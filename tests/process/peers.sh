@@ -85,16 +85,17 @@ unchanged() {
     owes "the file $2 has changed" cmp -s "$row/$2" "$3"
 }
 
-# zeros ROW BEFORE TOLD: the row reads BEFORE bytes, about which the library says TOLD, and then endless zeros. It needs
-# 82 bytes of these, and takes no more than fit a buffer.
+# zeros ROW BEFORE TOLD [MOST]: the row reads BEFORE bytes, about which the library says TOLD, and then endless zeros. It
+# needs MOST of these, 82 if that isn't given, and takes no more than fit a buffer.
 zeros() {
     choose "$1"
     by_hand 'exec "$@"'
     owes "zeros" gives_answer ''
-    hostile HOSTILE_CALL=read HOSTILE_AFTER=$(($2 + 81)) HOSTILE_ERROR=$EIO
-    owes "81 zeros" gives_fault "${3}re" 4 "$READ_FAULT"
-    hostile HOSTILE_CALL=read HOSTILE_AFTER=$(($2 + 82)) HOSTILE_ERROR=$EIO
-    owes "82 zeros" gives_answer "${3}r"
+    most=${4:-82}
+    hostile HOSTILE_CALL=read HOSTILE_AFTER=$(($2 + most - 1)) HOSTILE_ERROR=$EIO
+    owes "$((most - 1)) zeros" gives_fault "${3}re" 4 "$READ_FAULT"
+    hostile HOSTILE_CALL=read HOSTILE_AFTER=$(($2 + most)) HOSTILE_ERROR=$EIO
+    owes "$most zeros" gives_answer "${3}r"
     hostile HOSTILE_CALL=read HOSTILE_AFTER=$(($2 + 65536)) HOSTILE_ERROR=$EIO
     owes "65,536 zeros" gives_answer "$3"
 }

@@ -13,7 +13,7 @@ use Rattle.cif_columns.proofs.WrittenTexts.{failed_first, failed_second, written
 use Rattle.cif_extract.specs.declared.fault.Fault.{Fault}
 use Rattle.cif_extract.specs.declared.fault.Fault.TheVariants.{Write}
 use Rattle.cif_canon.specs.Normalised.{FaultWrites}
-use Rattle.cif_canon.specs.Steps.Writing.{IsAppended}
+use Rattle.cif_canon.specs.Appended.{IsAppended}
 
 module _ {W : Type 0} (contents : W → Option (List ℕ)) (errors : W → Option ℕ) where
   -- by a call that answers whether it was

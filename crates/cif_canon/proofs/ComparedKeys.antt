@@ -1,15 +1,14 @@
 -- Two lists are compared key by key, over their positions in the order of their keys.
 use Rattle.std.proofs.Common.{◌≡◌, ◌⊎◌, inl, inr, ℕ, zero, suc, ◌+◌, ◌-◌, ◌<◌, ◌≤◌, List, [], ◌∷◌, take, drop, length, refl, sym, ap, ◌∙◌}
 use Rattle.std.proofs.Common.{⊎_elim, arith, subst, true≢false}
-use Rattle.std.specs.Prelude.{Contains, Option, Some, None, false}
+use Rattle.std.specs.Prelude.{Option, Some, None, false}
 use Rattle.std.specs.Cmp.{IsTotalOrder, tied_itself}
 use Rattle.std.specs.Ordering.{is_gt, ordering_reverse}
 use Rattle.std.specs.declared.cmp.Ordering.{Ordering}
 use Rattle.std.specs.declared.cmp.Ordering.TheVariants.{Less, Equal, Greater}
 use Rattle.std.proofs.lemmas.Option.{slice_get_within}
-use Rattle.std.proofs.lemmas.List.{length-drop, take-append-drop}
+use Rattle.std.proofs.lemmas.List.{length-drop}
 use Rattle.std.proofs.lemmas.List.Elements.{All-contains}
-use Rattle.std.proofs.lemmas.List.Elements.{Contains-append_right, Contains-append_cases}
 use Rattle.cif_calendar.specs.Terms.{Terms}
 use Rattle.cif_calendar.specs.Keys.{of_key, ArePositionsOf}
 use Rattle.cif_calendar.specs.Meaning.{EntriesSayTheSame}
@@ -19,7 +18,7 @@ use Rattle.cif_calendar.proofs.Positions.{at-contains}
 use Rattle.cif_calendar.proofs.RisingLists.{Contains-none, not_less}
 use Rattle.cif_canon.specs.Comparison.{IsFirstDifference, RunsAlike, RunsDiffer}
 use Rattle.cif_calendar.specs.ByKey.{AnyHasKey, AreAllByKey, HasKey, IsFirstOfBoth, IsFront, IsRising}
-use Rattle.cif_calendar.proofs.KeyTurns.{one-key, rising-after}
+use Rattle.cif_calendar.proofs.KeyTurns.{rising-after}
 
 module _ {K B : Type 0} (cmp : K → K → Ordering) where
   -- one of the keys at these positions of a list, or of those of another

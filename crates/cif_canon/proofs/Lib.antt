@@ -1,19 +1,14 @@
 pub mod AppendedTexts
 pub mod BothRead
-pub mod CallTexts
 pub mod CanonForm
 pub mod CanonTexts
 pub mod ChosenRecords
-pub mod ClashLists
 pub mod ComparedCalendars
 pub mod CompareFaults
 pub mod ComparedKeys
 pub mod DifferentDays
 pub mod DifferentTiplocs
 pub mod DistinctTiplocs
-mod ExplainedMarks
-mod ExplainedTexts
-mod Explaining
 pub mod FoundRecords
 pub mod HandedFaults
 pub mod KeyDifferences
@@ -25,7 +20,6 @@ pub mod MadeFits
 pub mod MadeRecords
 pub mod MarkedTexts
 pub mod MergedSides
-pub mod NamedClashes
 pub mod NormalForms
 pub mod Normalising
 pub mod OnlyDays

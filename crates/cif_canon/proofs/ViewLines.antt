@@ -8,9 +8,9 @@ use Rattle.std.proofs.lemmas.List.Elements.{All-replicate}
 use Rattle.cif_columns.specs.Line.{ArePrintable, IsPrintable}
 use Rattle.cif_columns.specs.Text.{text_of}
 use Rattle.cif_canon.specs.Fields.{fields_text, line_of, separator, shown}
-use Rattle.cif_canon.specs.Steps.Fields.{AreFields, after, width}
-use Rattle.cif_canon.specs.declared.layout.Format.{Format}
-use Rattle.cif_canon.specs.declared.layout.Format.TheVariants.{Tsv}
+use Rattle.cif_canon.specs.Fields.{AreFields, after, width}
+use Rattle.cif_canon.specs.declared.rows.Format.{Format}
+use Rattle.cif_canon.specs.declared.rows.Format.TheVariants.{Tsv}
 
 module _ (format : Format) where
   -- fields behind fields

@@ -1,4 +1,4 @@
--- What is written for the views is their text.
+-- What is listed of records is the text of a view.
 use Rattle.std.proofs.Common.{◌≡◌, ℕ, List, ◌++◌, map, Result, Ok, Err, sym, ap, ◌∙◌, subst}
 use Rattle.std.specs.Cmp.Lexicographic.{nat_list_cmp_total, pointwise, slice_cmp}
 use Rattle.std.specs.List.{flat_map}
@@ -13,6 +13,8 @@ use Rattle.cif_extract.specs.ExtractParts.{ExtractParts}
 use Rattle.cif_extract.specs.declared.fault.Fault.{Fault}
 use Rattle.cif_extract.specs.declared.fault.Fault.TheVariants.{Write}
 use Rattle.cif_records.specs.AssocKey.{key_cmp}
+use Rattle.cif_records.specs.declared.association.AssocBody.{AssocBody}
+use Rattle.cif_records.specs.declared.association.AssocKey.{AssocKey}
 use Rattle.cif_weeks.specs.Permanent.{Permanent}
 use Rattle.cif_weeks.specs.Window.{Window, IsWithin}
 use Rattle.cif_weeks.specs.declared.form.Form.{Form}
@@ -21,9 +23,8 @@ use Rattle.cif_canon.specs.Asked.{header_window}
 use Rattle.cif_canon.specs.Normalised.{IfWritten}
 use Rattle.cif_canon.specs.Steps.Records.{AreCanonicalRecords}
 use Rattle.cif_canon.specs.Steps.Texts.{HasRecord, run_text}
-use Rattle.cif_canon.specs.Steps.Views.{applies_on, association_on, schedule_of, train_on}
-use Rattle.cif_canon.specs.Views.{IsDayView, IsTrainView, association_line, day_heading, schedule_text, train_heading, train_text}
-use Rattle.cif_canon.specs.declared.layout.Layout.{Layout}
+use Rattle.cif_canon.specs.Steps.Views.{applies_on, listed_of, listed_on}
+use Rattle.cif_canon.specs.Views.{DayTexts, IsDayListed, IsTrainListed, TrainTexts}
 use Rattle.cif_canon.proofs.CanonTexts.{have-records, texts-of_runs}
 use Rattle.cif_canon.proofs.ChosenRecords.{chosen-text}
 use Rattle.cif_canon.proofs.RunningRecords.{applying, bodied, own, own-are, own-rising, running}
@@ -49,41 +50,41 @@ have-lines cmp form window entry xs ys runs own same is a =
     (subst (λ rs. All (HasRecord (map entry ys)) rs) (sym is)
     (have-records (map entry ys) own a.records a.runs_of (canonical-dated cmp form window a.records a.canonical)))
 
--- the lines of the associations' runs on a day, and of the trains'
-abbrev pub associations-text : Layout → ExtractParts → ℕ → List Run → List ℕ
-associations-text layout x d = flat_map (run_text (association_on layout d) (association_entries x.associations))
+-- what is listed of the associations' runs on a day, and of the trains'
+abbrev pub associations-text : (AssocKey × AssocBody → List ℕ) → ExtractParts → ℕ → List Run → List ℕ
+associations-text text x d = flat_map (run_text (listed_on text d) (association_entries x.associations))
 
-abbrev pub trains-text : Layout → ExtractParts → ℕ → List Run → List ℕ
-trains-text layout x d = flat_map (run_text (train_on layout d) (schedule_entries x.schedules))
+abbrev pub trains-text : (List ℕ × BodyParts → List ℕ) → ExtractParts → ℕ → List Run → List ℕ
+trains-text text x d = flat_map (run_text (listed_on text d) (schedule_entries x.schedules))
 
-module _ (layout : Layout) (x : ExtractParts) (d : ℕ) (within : IsWithin (header_window x.header) d) (form : Form)
+module _ (listed : DayTexts) (x : ExtractParts) (d : ℕ) (within : IsWithin (header_window x.header) d) (form : Form)
     (associations schedules : List Run)
     (a : AreCanonicalRecords key_cmp form (header_window x.header) (association_entries x.associations) associations)
     (s : AreCanonicalRecords (slice_cmp nat_cmp) form (header_window x.header) (schedule_entries x.schedules) schedules) where
-  pub day-view : IsDayView layout x d
-      (day_heading layout ++ (associations-text layout x d associations ++ trains-text layout x d schedules))
-  day-view = record {
+  pub day-listed : IsDayListed listed x d
+      (listed.heading ++ (associations-text listed.association x d associations ++ trains-text listed.train x d schedules))
+  day-listed = record {
     within = within;
     clear = record { associations = a.clear; schedules = s.clear };
     associations = map bodied (applying d a.records);
     hold = running key_cmp form (header_window x.header) (association_entries x.associations) associations a d within;
     trains = map bodied (applying d s.records);
     run = running (slice_cmp nat_cmp) form (header_window x.header) (schedule_entries x.schedules) schedules s d within;
-    text_is = ap (λ (l : List ℕ). day_heading layout ++ l)
-        (ap (λ (l : List ℕ). l ++ trains-text layout x d schedules)
-        (texts-of_runs (association_entries x.associations) (association_on layout d) associations a.records a.runs_of
-        ∙ chosen-text (λ e. applies_on e.1 d) bodied (association_line layout) a.records)
-        ∙ ap (λ (l : List ℕ). flat_map (association_line layout) (map bodied (applying d a.records)) ++ l)
-        (texts-of_runs (schedule_entries x.schedules) (train_on layout d) schedules s.records s.runs_of
-        ∙ chosen-text (λ e. applies_on e.1 d) bodied (train_text layout) s.records));
+    text_is = ap (λ (l : List ℕ). listed.heading ++ l)
+        (ap (λ (l : List ℕ). l ++ trains-text listed.train x d schedules)
+        (texts-of_runs (association_entries x.associations) (listed_on listed.association d) associations a.records a.runs_of
+        ∙ chosen-text (λ e. applies_on e.1 d) bodied listed.association a.records)
+        ∙ ap (λ (l : List ℕ). flat_map listed.association (map bodied (applying d a.records)) ++ l)
+        (texts-of_runs (schedule_entries x.schedules) (listed_on listed.train d) schedules s.records s.runs_of
+        ∙ chosen-text (λ e. applies_on e.1 d) bodied listed.train s.records));
   }
 
-module _ (layout : Layout) (x : ExtractParts) (uid : List ℕ) (form : Form) (associations schedules : List Run)
+module _ (listed : TrainTexts) (x : ExtractParts) (uid : List ℕ) (form : Form) (associations schedules : List Run)
     (a : AreCanonicalRecords key_cmp form (header_window x.header) (association_entries x.associations) associations)
     (s : AreCanonicalRecords (slice_cmp nat_cmp) form (header_window x.header) (schedule_entries x.schedules) schedules) where
-  pub train-view : IsTrainView layout form x uid
-      (train_heading layout ++ flat_map (run_text (schedule_of layout uid) (schedule_entries x.schedules)) schedules)
-  train-view = record {
+  pub train-listed : IsTrainListed listed form x uid
+      (listed.heading ++ flat_map (run_text (listed_of listed.schedule uid) (schedule_entries x.schedules)) schedules)
+  train-listed = record {
     clear = record { associations = a.clear; schedules = s.clear };
     records = s.records;
     canonical = s.canonical;
@@ -91,7 +92,7 @@ module _ (layout : Layout) (x : ExtractParts) (uid : List ℕ) (form : Form) (as
     own = own (slice_cmp nat_cmp) nat_list_cmp_total s.records s.canonical.rising uid;
     rising = own-rising (slice_cmp nat_cmp) nat_list_cmp_total s.records s.canonical.rising uid;
     are = own-are (slice_cmp nat_cmp) nat_list_cmp_total s.records s.canonical.rising uid;
-    text_is = ap (λ (l : List ℕ). train_heading layout ++ l)
-        (texts-of_runs (schedule_entries x.schedules) (schedule_of layout uid) schedules s.records s.runs_of
-        ∙ chosen-text (λ e. pointwise nat_eq e.0 uid) (λ (e : List ℕ × Permanent BodyParts). e.1) (schedule_text layout) s.records);
+    text_is = ap (λ (l : List ℕ). listed.heading ++ l)
+        (texts-of_runs (schedule_entries x.schedules) (listed_of listed.schedule uid) schedules s.records s.runs_of
+        ∙ chosen-text (λ e. pointwise nat_eq e.0 uid) (λ (e : List ℕ × Permanent BodyParts). e.1) listed.schedule s.records);
   }

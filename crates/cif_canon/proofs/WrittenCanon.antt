@@ -10,7 +10,7 @@ use Rattle.cif_records.specs.Trailer.{trailer_table}
 use Rattle.cif_records.specs.declared.tiploc.Tiploc.{Tiploc}
 use Rattle.cif_weeks.specs.declared.run.Run.{Run}
 use Rattle.cif_canon.specs.Steps.Texts.{association_run_text, canon_text, schedule_run_text, tiploc_text}
-use Rattle.cif_canon.specs.Steps.Writing.{IsAppended}
+use Rattle.cif_canon.specs.Appended.{IsAppended}
 use Rattle.cif_canon.proofs.AppendedTexts.{both}
 
 module _ {W : Type 0} (contents : W → Option (List ℕ)) (errors : W → Option ℕ) (x : ExtractParts) (tiplocs : List Tiploc)

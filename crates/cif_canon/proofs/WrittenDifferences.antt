@@ -13,7 +13,7 @@ use Rattle.cif_weeks.specs.Permanent.{Permanent}
 use Rattle.cif_weeks.specs.declared.run.Run.{Run}
 use Rattle.cif_canon.specs.Differences.{marked_association, marked_schedule, marked_tiploc}
 use Rattle.cif_canon.specs.Steps.Sides.{sided_records, sided_run_text}
-use Rattle.cif_canon.specs.Steps.Writing.{IsAppended}
+use Rattle.cif_canon.specs.Appended.{IsAppended}
 use Rattle.cif_canon.specs.declared.listed_differences.Side.TheVariants.{Left, Right}
 use Rattle.cif_canon.specs.declared.listed_differences.Sided.{Sided}
 use Rattle.cif_canon.proofs.AppendedTexts.{both, text-is}

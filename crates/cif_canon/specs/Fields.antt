@@ -1,9 +1,10 @@
 -- Fields, and the lines that they make: of text, or of a table whose fields have tabs between them.
-use Rattle.std.specs.Prelude.{ℕ, List, [], ◌++◌, map, codes, replicate}
-use Rattle.std.specs.List.{join_with_byte}
+use Rattle.std.specs.Prelude.{⊤, ℕ, ◌+◌, List, [], ◌∷◌, ◌++◌, length, map, codes, replicate}
+use Rattle.std.specs.List.{flat_map, join_with_byte}
+use Rattle.cif_columns.specs.Line.{ArePrintable}
 use Rattle.cif_columns.specs.Text.{text_of}
-use Rattle.cif_canon.specs.declared.layout.Format.{Format}
-use Rattle.cif_canon.specs.declared.layout.Format.TheVariants.{Text, Tsv}
+use Rattle.cif_canon.specs.declared.rows.Format.{Format}
+use Rattle.cif_canon.specs.declared.rows.Format.TheVariants.{Text, Tsv}
 
 -- what stands between fields: a space, or a tab
 abbrev pub separator : Format → ℕ
@@ -26,3 +27,16 @@ line_of format fields = fields_text format fields ++ codes "\n"
 abbrev pub left_out : Format → ℕ → List (List ℕ)
 left_out Text count = []
 left_out Tsv count = replicate count []
+
+-- fields behind a first one
+abbrev pub after : Format → List (List ℕ) → List ℕ
+after format fields = flat_map (λ field. separator format ∷ shown format field) fields
+
+-- fields that can be shown, and their columns with what stands before each
+abbrev pub AreFields : List (List ℕ) → Type 0
+AreFields [] = ⊤
+AreFields (field ∷ fields) = ArePrintable field × AreFields fields
+
+abbrev pub width : List (List ℕ) → ℕ
+width [] = 0
+width (field ∷ fields) = length field + 1 + width fields

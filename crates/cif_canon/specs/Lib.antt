@@ -1,13 +1,11 @@
 pub mod Accepted
+pub mod Appended
 pub mod Asked
-pub mod Calls
 pub mod Canon
 pub mod Canonical
-pub mod Clashes
 pub mod Comparison
 pub mod Counts
 pub mod Differences
-pub mod Explanation
 pub mod Fault
 pub mod Fields
 pub mod Meaning
@@ -15,5 +13,6 @@ pub mod NormalForm
 pub mod Normalised
 pub mod Pair
 pub mod Report
+pub mod Rows
 pub mod Steps
 pub mod Views

@@ -43,7 +43,7 @@ pub fn narrow(extract: &mut Extract, asked: &Asked) -> Result<(), Fault>
 }
 
 /// Whether the date is in the header's window: OutsideWindow comes where it isn't.
-pub(crate) fn check_within(header: &Header, day: Day) -> Result<(), Fault>
+pub fn check_within(header: &Header, day: Day) -> Result<(), Fault>
     ensures ok { IfOk result (λ _. IsWithin (header_window header.now) day) }
     ensures fault { IfErr result (λ fault. (fault ≡ OutsideWindow)
         × ¬ IsWithin (header_window header.now) day) }

@@ -8,7 +8,7 @@ ghost use Rattle.cif_weeks.specs.Runs.{record_of};
 ghost use Rattle.cif_canon.specs.Counts.{counts_line};
 ghost use Rattle.cif_calendar.specs.Entries.{schedule_entries};
 ghost use Rattle.cif_canon.specs.Steps.Texts.{HasRecord, body_at, run_text, schedule_run_text, tiploc_text};
-ghost use Rattle.cif_canon.specs.Steps.Writing.{IsAppended};
+ghost use Rattle.cif_canon.specs.Appended.{IsAppended};
 
 use crate::records::AT_ONCE;
 use crate::writing::answer;

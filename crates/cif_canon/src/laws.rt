@@ -1,20 +1,11 @@
-//! Laws: canonical bytes are unique, and what the marks of an explanation say.
-ghost use Rattle.std.specs.Prelude.{◌≡◌, ◌↔◌, ℕ, Contains, List};
-ghost use Rattle.cif_calendar.specs.Clash.{IsClear};
-ghost use Rattle.cif_calendar.specs.Keys.{of_key};
-ghost use Rattle.cif_calendar.specs.Runs.{Runs};
-ghost use Rattle.cif_calendar.specs.Terms.{AreLawful, Terms};
+//! The law that canonical bytes are unique.
+ghost use Rattle.std.specs.Prelude.{◌≡◌, ℕ, List};
 ghost use Rattle.cif_extract.specs.ExtractParts.{ExtractParts};
 ghost use Rattle.cif_weeks.specs.declared.form.Form.{Form};
 ghost use Rattle.cif_canon.specs.Accepted.{IsAccepted};
 ghost use Rattle.cif_canon.specs.Canonical.{IsCanonicalOf};
-ghost use Rattle.cif_canon.specs.Explanation.{AreExplained, Explained, HasWinningMark};
-ghost use Rattle.cif_canon.specs.Explanation.{SomeApplies};
 ghost use Rattle.cif_canon.specs.NormalForm.{IsNormalFormAgain, IsReachedFromForms, IsUnique};
 ghost use Rattle.cif_canon.specs.declared.asked.Asked.{Asked};
-ghost use Rattle.cif_canon.specs.declared.explained.Mark.TheVariants.{Wins};
-
-use cif_calendar::Entry;
 
 /// Canonical bytes of one form are equal exactly if what they are made of says the same; they are
 /// their own canonical form, and that of each form's canonical bytes of the same.
@@ -30,20 +21,4 @@ pub fn canonical_bytes_are_unique()
     ensures forms { (form : Form) (asked : Asked) (input : List ℕ) (x : ExtractParts)
         (bytes : List ℕ) → IsAccepted asked x input → IsCanonicalOf form x bytes
         → IsReachedFromForms form asked x bytes }
-{}
-
-/// What the marks of explained records say. `train_of` is the train that a key is about.
-pub fn marks_say_what_runs<E: Entry>()
-    // A record that is marked as the winner has the body that runs; a cancellation has none.
-    ensures runs { (train_of : E.Key → List ℕ) (entries : List (E.Key × Terms E.Body))
-        (uid : List ℕ) (day : ℕ) (explained : List (Explained E.Key E.Body))
-        (e : Explained E.Key E.Body) → AreExplained E.Key.cmp train_of entries uid day explained
-        → AreLawful (of_key entries e.key) → Contains explained e → e.mark ≡ Wins
-        → Runs (of_key entries e.key) day e.terms.body }
-    // A key has one exactly if some record of it applies and no two winners differ.
-    ensures agree { (train_of : E.Key → List ℕ) (entries : List (E.Key × Terms E.Body))
-        (uid : List ℕ) (day : ℕ) (explained : List (Explained E.Key E.Body)) (key : E.Key)
-        → AreExplained E.Key.cmp train_of entries uid day explained → train_of key ≡ uid
-        → HasWinningMark explained key
-        ↔ (SomeApplies (of_key entries key) day × IsClear (of_key entries key) day) }
 {}

@@ -7,7 +7,7 @@ ghost use Rattle.cif_extract.specs.declared.fault.Fault.TheVariants.{Write};
 ghost use Rattle.cif_canon.specs.Differences.{mark, marked_text, marked_tiploc};
 ghost use Rattle.cif_canon.specs.Steps.OnlySides.{HasMovedOf};
 ghost use Rattle.cif_canon.specs.Steps.Sides.{HasSidedRecord, at_side, sided_run_text};
-ghost use Rattle.cif_canon.specs.Steps.Writing.{IsAppended};
+ghost use Rattle.cif_canon.specs.Appended.{IsAppended};
 
 use crate::canonical_form::{RecordLines, write_run};
 use crate::writing::{answer, append};

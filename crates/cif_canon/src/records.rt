@@ -52,7 +52,7 @@ pub(crate) fn extract_runs(
 }
 
 /// An entry whose clashes have names.
-pub(crate) trait NamedEntry: Entry {
+pub trait NamedEntry: Entry {
     ghost use Rattle.std.specs.Prelude.{ℕ};
     ghost use Rattle.cif_extract.specs.declared.fault.Clash.{Clash};
 

@@ -1,25 +1,114 @@
 //! What runs on a day, and when a train runs.
-ghost use Rattle.std.specs.Prelude.{◌↔◌, ℕ, List, IfErr, IsTrue, false};
+ghost use Rattle.std.specs.Prelude.{◌≡◌, ◌↔◌, ◌+◌, ◌++◌, ◌≤◌, ℕ, List, IfErr, IsTrue, codes};
+ghost use Rattle.arrayvec.specs.ArrayString.{array_string_len};
 ghost use Rattle.cif_extract.specs.ExtractParts.{extract_parts};
 ghost use Rattle.cif_weeks.specs.Applies.{Applies};
 ghost use Rattle.cif_weeks.specs.Runs.{record_of};
+ghost use Rattle.cif_canon.specs.Appended.{IsAppended};
 ghost use Rattle.cif_canon.specs.Normalised.{FaultWrites, IfWritten};
-ghost use Rattle.cif_canon.specs.Views.{IsDayFault, IsDayView, IsTrainFault, IsTrainView};
-ghost use Rattle.cif_canon.specs.declared.layout.Format.TheVariants.{Text};
+ghost use Rattle.cif_canon.specs.Views.{IsDayFault, IsDayListed, IsDayView, IsTrainFault};
+ghost use Rattle.cif_canon.specs.Views.{IsTrainListed, IsTrainView};
 
 use crate::asked::check_within;
-use crate::call_line::write_train;
 use crate::canonical_form::{RecordLines, write_runs};
-use crate::layout::{
-    ASSOCIATION, Format, Layout, association_line, heading, schedule_row, train_row,
-};
 use crate::records::extract_runs;
+use crate::rows::{Format, LONGEST, association_row, schedule_row, train_row};
 use crate::writing::{answer, append};
+use arrayvec::ArrayString;
 use cif_columns::{Day, Sink, Uid, WriteDevice};
 use cif_extract::{Body, Extract, Fault, Schedule};
 use cif_records::{AssocBody, AssocKey, Association};
 use cif_weeks::{Form, Run};
 use std::alloc::Global;
+
+/// What is listed of a day: a text for each association that holds, and for each train that runs.
+pub trait DayLines {
+    ghost use Rattle.std.specs.Prelude.{ℕ, List};
+    ghost use Rattle.cif_extract.specs.BodyParts.{BodyParts};
+    ghost use Rattle.cif_records.specs.declared.association.AssocBody.{AssocBody};
+    ghost use Rattle.cif_records.specs.declared.association.AssocKey.{AssocKey};
+
+    // The text of an association that holds.
+    ghost association: { Self → AssocKey × AssocBody → List ℕ };
+
+    // The text of a train that runs.
+    ghost train: { Self → List ℕ × BodyParts → List ℕ };
+
+    /// Appends the text of an association that holds.
+    fn write_association<W: WriteDevice>(
+        &self,
+        key: &AssocKey,
+        body: &AssocBody,
+        sink: &mut Sink<W>,
+    )
+        ensures { IsAppended W.contents W.write_errors
+            (association self.now (key.now, body.now)) sink.old sink.new };
+
+    /// Appends the text of a train that runs.
+    fn write_train<W: WriteDevice>(&self, uid: &Uid, body: &Body, sink: &mut Sink<W>)
+        ensures { IsAppended W.contents W.write_errors
+            (train self.now (uid.now, body.now)) sink.old sink.new };
+}
+
+/// What is listed of a train: a text for each of its canonical schedules.
+pub trait TrainLines {
+    ghost use Rattle.std.specs.Prelude.{ℕ, List};
+    ghost use Rattle.cif_extract.specs.BodyParts.{BodyParts};
+    ghost use Rattle.cif_weeks.specs.Permanent.{Permanent};
+
+    // The text of a canonical schedule.
+    ghost schedule: { Self → Permanent BodyParts → List ℕ };
+
+    /// Appends the text of the schedule with the dates and the mask of the run, and with this body.
+    fn write_schedule<W: WriteDevice>(&self, run: &Run, body: &Body, sink: &mut Sink<W>)
+        ensures { IsAppended W.contents W.write_errors
+            (schedule self.now (record_of run.now body.now)) sink.old sink.new };
+}
+
+/// Lines of text, one for each of them.
+#[derive(Clone, Copy)]
+struct TextLines;
+
+impl DayLines for TextLines {
+    ghost use Rattle.cif_canon.specs.Views.{association_line, train_line};
+
+    ghost association = { λ lines. association_line };
+
+    ghost train = { λ lines. train_line };
+
+    fn write_association<W: WriteDevice>(
+        &self,
+        key: &AssocKey,
+        body: &AssocBody,
+        sink: &mut Sink<W>,
+    ) {
+        write_line(association_row(Format::Text, key, body), sink);
+    }
+
+    fn write_train<W: WriteDevice>(&self, uid: &Uid, body: &Body, sink: &mut Sink<W>) {
+        write_line(train_row(Format::Text, uid, body), sink);
+    }
+}
+
+impl TrainLines for TextLines {
+    ghost use Rattle.cif_canon.specs.Views.{schedule_line};
+
+    ghost schedule = { λ lines. schedule_line };
+
+    fn write_schedule<W: WriteDevice>(&self, run: &Run, body: &Body, sink: &mut Sink<W>) {
+        write_line(schedule_row(Format::Text, run, body), sink);
+    }
+}
+
+/// Appends the row and a line feed.
+fn write_line<W: WriteDevice>(row: ArrayString<LONGEST>, sink: &mut Sink<W>)
+    requires { array_string_len row + 1 ≤ LONGEST }
+    ensures { IsAppended W.contents W.write_errors (row.bytes ++ codes "\n") sink.old sink.new }
+{
+    let mut line = row;
+    line.push_str("\n");
+    append(line.as_str(), sink);
+}
 
 /// Appends what runs on the day: a line for each association that holds, rising by key, and then one
 /// for each train that runs, rising by UID.
@@ -34,43 +123,44 @@ pub fn day_view<W: WriteDevice>(
 ) -> Result<(), Fault>
     ensures view { (text : List ℕ)
         × FaultWrites W.contents W.write_errors text sink.old sink.new result
-        × IfWritten result (IsDayView (record { format = Text; calls = false }) (extract_parts extract.now) day text) }
+        × IfWritten result (IsDayView (extract_parts extract.now) day text) }
     ensures fault { IfErr result (IsDayFault (extract_parts extract.now) day) }
 {
-    let layout = Layout {
-        format: Format::Text,
-        calls: false,
-    };
-    day_listing(alloc, extract, day, sink, layout)
+    write_day(alloc, extract, day, sink, "", &TextLines)
 }
 
-/// Appends what runs on the day, as `day_view` does, in this layout. A table begins with the names of its
-/// fields.
-pub fn day_listing<W: WriteDevice>(
+/// Appends a heading, and what `lines` list of what runs on the day: of each association that holds,
+/// rising by key, and then of each train that runs, rising by UID. The faults are those of
+/// `day_view`.
+pub fn write_day<L: DayLines, W: WriteDevice>(
     alloc: Global,
     extract: &Extract,
     day: Day,
     sink: &mut Sink<W>,
-    layout: Layout,
+    heading: &str,
+    lines: &L,
 ) -> Result<(), Fault>
     ensures view { (text : List ℕ)
         × FaultWrites W.contents W.write_errors text sink.old sink.new result
-        × IfWritten result (IsDayView layout (extract_parts extract.now) day text) }
+        × IfWritten result (IsDayListed (record {
+          heading = heading.now;
+          association = L.association lines.now;
+          train = L.train lines.now;
+        }) (extract_parts extract.now) day text) }
     ensures fault { IfErr result (IsDayFault (extract_parts extract.now) day) }
 {
     check_within(&extract.header, day)?;
     let runs = extract_runs(alloc, extract, Form::Two)?;
-    let names = heading(layout, "kind\tuid", ASSOCIATION);
-    append(names.as_str(), sink);
-    let lines = LinesOfDay { day, layout };
+    append(heading, sink);
+    let on_day = OnDay { day, lines };
     write_runs(
-        &lines,
+        &on_day,
         extract.associations.as_slice(),
         runs.associations.as_slice(),
         sink,
     );
     write_runs(
-        &lines,
+        &on_day,
         extract.schedules.as_slice(),
         runs.schedules.as_slice(),
         sink,
@@ -85,17 +175,17 @@ fn applies_on(run: &Run, day: Day) -> bool
     run.first <= day && day <= run.last && run.days.has(day.weekday())
 }
 
-/// The lines of what runs on a day.
-#[derive(Clone, Copy)]
-struct LinesOfDay {
+/// What is listed of the records that apply on a day.
+#[derive(Drop)]
+struct OnDay<'a, L> {
     day: Day,
-    layout: Layout,
+    lines: &'a L,
 }
 
-impl RecordLines<Association> for LinesOfDay {
-    ghost use Rattle.cif_canon.specs.Steps.Views.{association_on};
+impl<'a, L: DayLines> RecordLines<Association> for OnDay<'a, L> {
+    ghost use Rattle.cif_canon.specs.Steps.Views.{listed_on};
 
-    ghost text = { λ lines. association_on lines.layout lines.day };
+    ghost text = { λ on. listed_on (L.association on.lines.now) on.day };
 
     fn write_record<W: WriteDevice>(
         &self,
@@ -105,24 +195,19 @@ impl RecordLines<Association> for LinesOfDay {
         sink: &mut Sink<W>,
     ) {
         if applies_on(run, self.day) {
-            append(association_line(self.layout, key, body).as_str(), sink);
+            self.lines.write_association(key, body, sink);
         }
     }
 }
 
-impl RecordLines<Schedule> for LinesOfDay {
-    ghost use Rattle.cif_canon.specs.Steps.Views.{train_on};
+impl<'a, L: DayLines> RecordLines<Schedule> for OnDay<'a, L> {
+    ghost use Rattle.cif_canon.specs.Steps.Views.{listed_on};
 
-    ghost text = { λ lines. train_on lines.layout lines.day };
+    ghost text = { λ on. listed_on (L.train on.lines.now) on.day };
 
     fn write_record<W: WriteDevice>(&self, uid: &Uid, body: &Body, run: &Run, sink: &mut Sink<W>) {
         if applies_on(run, self.day) {
-            write_train(
-                self.layout,
-                train_row(self.layout.format, uid, body),
-                body,
-                sink,
-            );
+            self.lines.write_train(uid, body, sink);
         }
     }
 }
@@ -141,37 +226,36 @@ pub fn train_view<W: WriteDevice>(
 ) -> Result<(), Fault>
     ensures view { (text : List ℕ)
         × FaultWrites W.contents W.write_errors text sink.old sink.new result
-        × IfWritten result (IsTrainView (record { format = Text; calls = false }) form
-        (extract_parts extract.now) uid.now text) }
+        × IfWritten result (IsTrainView form (extract_parts extract.now) uid.now text) }
     ensures fault { IfErr result (IsTrainFault (extract_parts extract.now)) }
 {
-    let layout = Layout {
-        format: Format::Text,
-        calls: false,
-    };
-    train_listing(alloc, extract, uid, sink, form, layout)
+    write_train(alloc, extract, uid, sink, form, "", &TextLines)
 }
 
-/// Appends when the train runs, as `train_view` does, in this layout. A table begins with the names of its
-/// fields.
-pub fn train_listing<W: WriteDevice>(
+/// Appends a heading, and what `lines` list of each of the train's canonical records in this form,
+/// rising by first date. The faults are those of `train_view`.
+pub fn write_train<L: TrainLines, W: WriteDevice>(
     alloc: Global,
     extract: &Extract,
     uid: &Uid,
     sink: &mut Sink<W>,
     form: Form,
-    layout: Layout,
+    heading: &str,
+    lines: &L,
 ) -> Result<(), Fault>
     ensures view { (text : List ℕ)
         × FaultWrites W.contents W.write_errors text sink.old sink.new result
-        × IfWritten result (IsTrainView layout form (extract_parts extract.now) uid.now text) }
+        × IfWritten result (IsTrainListed (record {
+          heading = heading.now;
+          schedule = L.schedule lines.now;
+        }) form (extract_parts extract.now) uid.now text) }
     ensures fault { IfErr result (IsTrainFault (extract_parts extract.now)) }
 {
     let runs = extract_runs(alloc, extract, form)?;
-    let names = heading(layout, "first_date\tlast_date\tdays_run", "");
-    append(names.as_str(), sink);
+    append(heading, sink);
+    let of_train = OfTrain { uid: *uid, lines };
     write_runs(
-        &LinesOfTrain { uid: *uid, layout },
+        &of_train,
         extract.schedules.as_slice(),
         runs.schedules.as_slice(),
         sink,
@@ -179,26 +263,21 @@ pub fn train_listing<W: WriteDevice>(
     answer(sink)
 }
 
-/// The lines of one train's records.
-#[derive(Clone, Copy)]
-struct LinesOfTrain {
+/// What is listed of one train's records.
+#[derive(Drop)]
+struct OfTrain<'a, L> {
     uid: Uid,
-    layout: Layout,
+    lines: &'a L,
 }
 
-impl RecordLines<Schedule> for LinesOfTrain {
-    ghost use Rattle.cif_canon.specs.Steps.Views.{schedule_of};
+impl<'a, L: TrainLines> RecordLines<Schedule> for OfTrain<'a, L> {
+    ghost use Rattle.cif_canon.specs.Steps.Views.{listed_of};
 
-    ghost text = { λ lines. schedule_of lines.layout lines.uid };
+    ghost text = { λ of. listed_of (L.schedule of.lines.now) of.uid };
 
     fn write_record<W: WriteDevice>(&self, uid: &Uid, body: &Body, run: &Run, sink: &mut Sink<W>) {
         if *uid == self.uid {
-            write_train(
-                self.layout,
-                schedule_row(self.layout.format, run, body),
-                body,
-                sink,
-            );
+            self.lines.write_schedule(run, body, sink);
         }
     }
 }

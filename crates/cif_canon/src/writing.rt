@@ -2,20 +2,20 @@
 ghost use Rattle.std.specs.Prelude.{◌≡◌, IfErr, OnOk, false, true};
 ghost use Rattle.cif_columns.specs.Sink.{sink_failed};
 ghost use Rattle.cif_extract.specs.declared.fault.Fault.TheVariants.{Write};
-ghost use Rattle.cif_canon.specs.Steps.Writing.{IsAppended};
+ghost use Rattle.cif_canon.specs.Appended.{IsAppended};
 
 use cif_columns::{Sink, WriteDevice};
 use cif_extract::Fault;
 
 /// Appends the text, unless the sink has failed.
-pub(crate) fn append<W: WriteDevice>(text: &str, sink: &mut Sink<W>)
+pub fn append<W: WriteDevice>(text: &str, sink: &mut Sink<W>)
     ensures { IsAppended W.contents W.write_errors text.now sink.old sink.new }
 {
     let _ = sink.write_all(text.as_bytes());
 }
 
 /// What a call answers that has written to the sink: Write where the sink has failed.
-pub(crate) fn answer<W: WriteDevice>(sink: &Sink<W>) -> Result<(), Fault>
+pub fn answer<W: WriteDevice>(sink: &Sink<W>) -> Result<(), Fault>
     ensures ok { OnOk result (sink_failed sink.now ≡ false) }
     ensures failed { IfErr result (λ _. sink_failed sink.now ≡ true) }
     ensures fault { IfErr result (λ fault. fault ≡ Write) }

@@ -161,7 +161,7 @@ parts_some p (x ∷ xs) = at (p x) (parts_some p xs)
     at true h = ([], slice_split p xs, refl)
     at false h = (x ∷ h.0, h.1, ap (onto_first x) h.2)
 
-one_part : (xs : List ℕ) → length xs ≤ place xs → slice_split is_line_feed xs ≡ xs ∷ []
+pub one_part : (xs : List ℕ) → length xs ≤ place xs → slice_split is_line_feed xs ≡ xs ∷ []
 one_part [] h = refl
 one_part (x ∷ xs) h = at (is_line_feed x) h (one_part xs)
   where

@@ -47,7 +47,7 @@ one_more {P} bytes ls rest content rest' so_far is next =
     }
 
 -- the bytes that are held are a prefix of those that are left, and the others are those that the reader has
-held_front : (hold rest : List ℕ) (remaining : Option (List ℕ)) → prepend_known hold remaining ≡ Some rest
+pub held_front : (hold rest : List ℕ) (remaining : Option (List ℕ)) → prepend_known hold remaining ≡ Some rest
     → (unread : List ℕ) × (remaining ≡ Some unread) × (rest ≡ hold ++ unread)
 held_front hold rest None e = absurd (cc)
 held_front hold rest (Some unread) e =
@@ -83,7 +83,7 @@ known_both (Some bytes) P Q p q = (p, q)
 -- ---- a reader at a source
 
 -- where nothing is left after what is held, the reader has nothing left
-all_given : (held : List ℕ) (rest : Option (List ℕ)) → prepend_known held rest ≡ Some [] → rest ≡ Some []
+pub all_given : (held : List ℕ) (rest : Option (List ℕ)) → prepend_known held rest ≡ Some [] → rest ≡ Some []
 all_given held None e = cc
 all_given [] (Some bytes) e = e
 all_given (b ∷ held) (Some bytes) e = cc

@@ -1,7 +1,9 @@
 pub mod Codes
 pub mod ColumnReads
 pub mod Comments
+pub mod ContentAnswers
 pub mod ContentReads
+pub mod ContentRuns
 pub mod Dates
 pub mod DayColumns
 pub mod DayDigits
@@ -15,11 +17,13 @@ pub mod FoundInHeld
 pub mod GivenLinesLaws
 pub mod HeldBytes
 pub mod Letters
+pub mod JudgedContents
 pub mod KeptLines
 pub mod LineAnswers
 pub mod LineFifths
 pub mod LineReasons
 pub mod Masks
+pub mod NextContents
 pub mod PackedCodes
 pub mod Parts
 pub mod PassedLines

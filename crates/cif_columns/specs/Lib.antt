@@ -2,6 +2,7 @@ pub mod Activities
 pub mod Ahead
 pub mod Clock
 pub mod Comment
+pub mod ContentReader
 pub mod Contents
 pub mod Day
 pub mod DayDigits
@@ -14,10 +15,12 @@ pub mod FirstLine
 pub mod GivenLines
 pub mod Laws
 pub mod Line
+pub mod JudgedContents
 pub mod LineBuilder
 pub mod LineFault
 pub mod LineReader
 pub mod Lines
+pub mod NextContent
 pub mod PlainTest
 pub mod PublicTime
 pub mod Refusal

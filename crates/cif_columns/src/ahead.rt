@@ -1,15 +1,16 @@
 //! The bytes that are read ahead of the lines, and the line that stands first in them.
-ghost use Rattle.std.specs.Prelude.{◌≡◌, ◌<◌, ◌≤◌, [], ◌≢◌, Some, Ok, OnErr};
+ghost use Rattle.std.specs.Prelude.{◌≡◌, ◌<◌, ◌≤◌, ◌↔◌, [], ◌≢◌, Some, Ok, OnErr};
 ghost use Rattle.std.specs.Prelude.{IfSome, IfNone, IsSome, IsTrue, length, take, drop, true};
 ghost use Rattle.std.specs.Prelude.{false, slice_index, min};
 ghost use Rattle.std.specs.Io.KnownBytes.{Keeps, IsAtEnd};
 ghost use Rattle.std.specs.List.{position_or_len};
 ghost use Rattle.std.specs.Str.Lines.{strip_carriage_return};
 ghost use Rattle.cif_columns.specs.Comment.{is_comment};
-ghost use Rattle.cif_columns.specs.FirstLine.{is_decided, is_line_feed, line_of};
+ghost use Rattle.cif_columns.specs.FirstLine.{has_line_feed, is_decided, is_line_feed, line_of};
 ghost use Rattle.cif_columns.specs.Source.{Reads, reader_of, source_ended, source_failed};
-ghost use Rattle.cif_columns.specs.declared.ahead.TheConstants.{AHEAD, LONGEST_LINE};
+ghost use Rattle.cif_columns.specs.declared.ahead.TheConstants.{AHEAD, MOST_OF_LINE};
 
+use crate::content_reader::NextContent;
 use crate::line::{LINE_TEXT_WIDTH, LINE_WIDTH, Line, are_printable};
 use crate::refusal::Refusal;
 use crate::source::{ReadDevice, ReadFault, Source};
@@ -32,13 +33,23 @@ impl Found {
     fn of_content(content: &[u8]) -> Found
         ensures { result ≡ found_of (line_of content.now) }
     {
-        let Some(columns) = content.as_array::<LINE_WIDTH>() else {
-            return Found::Refused(Refusal::BadLength);
-        };
-        match Line::of(*columns) {
-            Some(line) => Found::Next(line),
-            None => Found::Refused(Refusal::BadByte),
+        match line_of(content) {
+            Ok(line) => Found::Next(line),
+            Err(why) => Found::Refused(why),
         }
+    }
+}
+
+/// The line that a content is, or why it is none.
+fn line_of(content: &[u8]) -> Result<Line, Refusal>
+    ensures { result ≡ line_of content.now }
+{
+    let Some(columns) = content.as_array::<LINE_WIDTH>() else {
+        return Err(Refusal::BadLength);
+    };
+    match Line::of(*columns) {
+        Some(line) => Ok(line),
+        None => Err(Refusal::BadByte),
     }
 }
 
@@ -72,8 +83,8 @@ impl Ahead {
     }
 
     /// Moves the held bytes to the front, reads once behind them, and returns whether any bytes came.
-    fn fill<R: ReadDevice>(&mut self, source: &mut Source<R>) -> Result<bool, ReadFault>
-        requires { length (held_bytes self.old) < LONGEST_LINE }
+    pub(crate) fn fill<R: ReadDevice>(&mut self, source: &mut Source<R>) -> Result<bool, ReadFault>
+        requires { length (held_bytes self.old) < AHEAD }
         ensures bytes { Keeps (known_left R.remaining self.old source.old)
             (known_left R.remaining self.new source.new) }
         ensures more { result ≡ Ok true
@@ -154,7 +165,7 @@ impl Ahead {
             }
             return Some(Found::Refused(Refusal::TooManyLines));
         }
-        if let Some(at) = line_feed(held) {
+        if let Some(at) = line_feed::<LONGEST_LINE>(held) {
             let found = Found::of_content(stripped(&held[..at]));
             self.start += at + 1;
             return Some(found);
@@ -242,7 +253,7 @@ impl Ahead {
         ensures kept { IfNone result (held_bytes self.new ≡ held_bytes self.old) }
     {
         let held = self.as_slice();
-        if let Some(at) = line_feed(held) {
+        if let Some(at) = line_feed::<LONGEST_LINE>(held) {
             if !is_comment(stripped(&held[..at])) {
                 return Some(First::Other);
             }
@@ -299,6 +310,57 @@ impl Ahead {
     }
 }
 
+impl Ahead {
+    ghost use Rattle.cif_columns.specs.Ahead.{held_bytes};
+    ghost use Rattle.cif_columns.specs.NextContent.{IsLast, PassesFirst};
+
+    /// Whether no bytes are held.
+    pub(crate) fn is_empty(&self) -> bool
+        ensures { IsTrue result ↔ (held_bytes self.now ≡ []) }
+    {
+        self.start == self.end
+    }
+
+    /// Passes the content that stands first in the held bytes, if they decide one: it, or that it is
+    /// overlong, which passes nothing.
+    pub(crate) fn decided_content(&mut self) -> Option<NextContent>
+        ensures found { IfSome result (λ content.
+            PassesFirst (held_bytes self.old) content (held_bytes self.new)) }
+        ensures none { IfNone result ((has_line_feed (held_bytes self.old) ≡ false)
+            × (length (held_bytes self.old) < MOST_OF_LINE)) }
+        ensures kept { IfNone result (held_bytes self.new ≡ held_bytes self.old) }
+    {
+        let held = self.as_slice();
+        if let Some(at) = line_feed::<MOST_OF_LINE>(held) {
+            let content = line_of(stripped(&held[..at]));
+            self.start += at + 1;
+            return Some(NextContent::Content(content));
+        }
+        if held.len() < MOST_OF_LINE {
+            return None;
+        }
+        Some(NextContent::Overlong)
+    }
+
+    /// Passes the content that the held bytes are, where no others follow.
+    pub(crate) fn last_content(&mut self) -> NextContent
+        requires no_feed { has_line_feed (held_bytes self.old) ≡ false }
+        requires short { length (held_bytes self.old) < MOST_OF_LINE }
+        ensures { IsLast (held_bytes self.old) result (held_bytes self.new) }
+    {
+        let held = self.as_slice();
+        if held.is_empty() {
+            return NextContent::End;
+        }
+        let content = line_of(held);
+        self.start = self.end;
+        NextContent::Content(content)
+    }
+}
+
+/// How many bytes of a line of any length are read, with its ending, at most.
+pub(crate) const MOST_OF_LINE: usize = 10_000;
+
 /// Whether the content is a comment, which says nothing: it begins with `/!!`, and has at most eighty
 /// bytes, each of which may stand in a line (files that others derive from CIF have them).
 #[tactic(auto, unfolding(crate::specs::Comment::is_comment))]
@@ -315,14 +377,15 @@ pub(crate) fn is_comment(content: &[u8]) -> bool
 /// many bytes and no line feed the first line is too long, whatever follows.
 pub(crate) const LONGEST_LINE: usize = LINE_WIDTH + 2;
 
-/// Where the first line feed is, if it is among the bytes of a line of the greatest length.
-fn line_feed(bytes: &[u8]) -> Option<usize>
+/// Where the first line feed is, if it is among the first `MOST` bytes.
+fn line_feed<const MOST: usize>(bytes: &[u8]) -> Option<usize>
     ensures found { IfSome result (λ at. at ≡ position_or_len is_line_feed bytes.now) }
     ensures within { IfSome result (λ at. at < length bytes.now) }
-    ensures none { IfNone result (min 82 (length bytes.now)
+    ensures near { IfSome result (λ at. at < MOST) }
+    ensures none { IfNone result (min MOST (length bytes.now)
         ≤ position_or_len is_line_feed bytes.now) }
 {
-    for at in 0..bytes.len().min(LONGEST_LINE) {
+    for at in 0..bytes.len().min(MOST) {
         if bytes[at] == b'\n' {
             return Some(at);
         }

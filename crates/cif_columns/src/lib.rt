@@ -5,6 +5,7 @@
 mod activities;
 mod ahead;
 mod clock;
+mod content_reader;
 mod day;
 mod days_run;
 mod field;
@@ -24,6 +25,7 @@ mod uid;
 
 pub use activities::Activities;
 pub use clock::{PublicTime, WorkTime};
+pub use content_reader::{ContentReader, NextContent};
 pub use day::{DAYS_IN_WEEK, Day};
 pub use days_run::DaysRun;
 pub use field::{Field, activities_at, columns_at, field_at, text_at, uid_at};

@@ -1,10 +1,13 @@
 -- What changes leave of each key, and in which order.
-use Rattle.std.proofs.Common.{◌≡◌, Bool, true, false, not, cond, ◌&&◌, ◌||◌, List, [], ◌∷◌, ◌++◌, Option, None, Some, refl, sym, ap, ◌∙◌}
-use Rattle.std.proofs.Common.{append_assoc, append-nil}
+use Rattle.std.proofs.Common.{◌≡◌, ◌↔◌, Bool, true, false, not, cond, ◌&&◌, ◌||◌, List, [], ◌∷◌, ◌++◌, Option, None, Some, refl, sym, ap, ◌∙◌}
+use Rattle.std.proofs.Common.{append_assoc, append-nil, IsTrue}
 use Rattle.std.specs.Cmp.{IsEquivalence}
+use Rattle.std.specs.Ordering.{eq_by_cmp}
+use Rattle.std.specs.declared.cmp.Ordering.{Ordering}
 use Rattle.std.specs.Prelude.{filter}
 use Rattle.std.proofs.lemmas.List.Elements.{filter-append}
-use Rattle.cif_feed.specs.Changes.{ChangeParts, after, after_all, is_changed, last_word, of_key, put, put_last, untouched, without}
+use Rattle.cif_feed.specs.Changes.{ChangeParts, TellsSame, after, after_all, is_changed, is_there, last_word, of_key, put, put_last}
+use Rattle.cif_feed.specs.Changes.{refusal, refusals, untouched, without}
 
 module _ {A : Type 0} where
   -- a filter after a filter
@@ -105,3 +108,55 @@ module _ {K I : Type 0} (same : K → K → Bool) where
       → after_all same records (us ++ vs) ≡ after_all same (after_all same records us) vs
   after_all-append records [] vs = refl
   after_all-append records (u ∷ us) vs = after_all-append (after same records u) us vs
+
+-- ---- tests of keys
+
+bools : (a b : Bool) → (IsTrue a → IsTrue b) → (IsTrue b → IsTrue a) → a ≡ b
+bools true true to back = refl
+bools false false to back = refl
+bools true false to back = sym (to refl)
+bools false true to back = back refl
+
+module _ {K : Type 0} where
+  -- a test that tells whether keys are the same is an equality
+  pub same_equiv : (same : K → K → Bool) → TellsSame same → IsEquivalence same
+  same_equiv same tells = record {
+    refl = λ x. (tells x x).1 refl;
+    symm = λ x y. bools (same x y) (same y x) (λ is. (tells y x).1 (sym ((tells x y).0 is))) (λ is. (tells x y).1 (sym ((tells y x).0 is)));
+    congr = λ x y z is. ap (λ v. same v z) ((tells x y).0 is);
+  }
+
+  -- the order of the keys tells it
+  pub told_by_cmp : (eq : K → K → Bool) (cmp : K → K → Ordering) → ((a b : K) → eq a b ≡ eq_by_cmp cmp a b)
+      → ((a b : K) → IsTrue (eq a b) ↔ (a ≡ b)) → TellsSame (eq_by_cmp cmp)
+  told_by_cmp eq cmp matches same a b = (
+    λ is. (same a b).0 (matches a b ∙ is),
+    λ is. sym (matches a b) ∙ (same a b).1 is,
+  )
+
+  -- tests that tell it agree
+  pub same_alike : (p q : K → K → Bool) → TellsSame p → TellsSame q → (a b : K) → p a b ≡ q a b
+  same_alike p q tp tq a b = bools (p a b) (q a b) (λ is. (tq a b).1 ((tp a b).0 is)) (λ is. (tp a b).1 ((tq a b).0 is))
+
+  module _ {I : Type 0} (p q : K → K → Bool) (agree : (a b : K) → p a b ≡ q a b) where
+    after-alike : (records : List (K × I)) (c : ChangeParts K I) → after p records c ≡ after q records c
+    after-alike records c =
+        ap (λ l. l ++ put c.key c.puts)
+        (filter-alike (λ (r : K × I). not (p r.0 c.key)) (λ r. not (q r.0 c.key)) (λ r. ap not (agree r.0 c.key)) records)
+
+    pub after_all-alike : (records : List (K × I)) (changes : List (ChangeParts K I)) → after_all p records changes ≡ after_all q records changes
+    after_all-alike records [] = refl
+    after_all-alike records (c ∷ changes) =
+        after_all-alike (after p records c) changes ∙ ap (λ l. after_all q l changes) (after-alike records c)
+
+    there-alike : (records : List (K × I)) (key : K) → is_there p records key ≡ is_there q records key
+    there-alike [] key = refl
+    there-alike (r ∷ records) key =
+        ap (λ b. b || is_there p records key) (agree r.0 key) ∙ ap (λ b. q r.0 key || b) (there-alike records key)
+
+    pub refusals-alike : (records : List (K × I)) (changes : List (ChangeParts K I)) → refusals p records changes ≡ refusals q records changes
+    refusals-alike records [] = refl
+    refusals-alike records (c ∷ changes) =
+        ap (λ b. refusal b c ++ refusals p (after p records c) changes) (there-alike records c.key)
+        ∙ ap (λ l. refusal (is_there q records c.key) c ++ l)
+        (refusals-alike (after p records c) changes ∙ ap (λ l. refusals q l changes) (after-alike records c))

@@ -1,7 +1,7 @@
 -- The changes of an update, one after another.
 use Rattle.std.proofs.Common.{◌≡◌, ⊎_elim, ℕ, ◌+◌, ◌<◌, ◌≤◌, ◌==◌, Bool, true, false, not, cond, ◌&&◌, ◌||◌, List, [], ◌∷◌, ◌++◌}
 use Rattle.std.proofs.Common.{length, get_or, take, drop, Option, None, Some, is_some, unwrap_or, Contains, slice_get, refl, sym, ap, ◌∙◌}
-use Rattle.std.proofs.Common.{subst, arith, append_assoc, eq-eqb, length-take, take-append-drop}
+use Rattle.std.proofs.Common.{subst, arith, append-nil, append_assoc, eq-eqb, length-take, take-append-drop}
 use Rattle.std.specs.Cmp.{IsEquivalence}
 use Rattle.std.specs.List.{list_any}
 use Rattle.std.specs.Option.{option_or}
@@ -15,11 +15,12 @@ use Rattle.std.proofs.lemmas.List.Quantifiers.{all_pairs_push}
 use Rattle.std.proofs.lemmas.Option.{same_Some, slice_get_past}
 use Rattle.cif_calendar.proofs.Elements.{Contains-first}
 use Rattle.cif_calendar.proofs.Winning.{terms_at}
-use Rattle.cif_feed.specs.Changes.{AreRefused, ChangeParts, IsFirstRefused, IsRefusedAt, after, after_all, changes_of, is_changed, is_there}
-use Rattle.cif_feed.specs.Changes.{may, of_key, parts_of, put, put_last, untouched, with_keys}
-use Rattle.cif_feed.specs.Steps.Changes.{AreLast, AreRefusedBefore, SaysAlone, SaysThere, is_position, last_from}
+use Rattle.cif_feed.specs.Changes.{ChangeParts, after, after_all, changes_of, is_changed, is_there, key_of, of_key, parts_of, put, put_last}
+use Rattle.cif_feed.specs.Changes.{put_of, refusal, refusals, untouched, with_keys}
+use Rattle.cif_feed.specs.Steps.Changes.{AreLast, SaysAlone, SaysThere, is_position, last_from}
+use Rattle.cif_feed.specs.declared.changes.Action.{Action}
+use Rattle.cif_feed.specs.declared.changes.Action.TheVariants.{New, Revised, Deleted}
 use Rattle.cif_feed.specs.declared.changes.Change.{Change}
-use Rattle.cif_feed.specs.declared.changes.Change.TheVariants as line
 use Rattle.cif_feed.proofs.ChangeLaws.{of_key-after}
 
 -- ---- options and tests
@@ -222,90 +223,14 @@ module _ {K I : Type 0} (same : K → K → Bool) (laws : IsEquivalence same) wh
 
   -- ---- the refused changes
 
-  pub refused-none : (records : List (K × I)) (changes : List (ChangeParts K I)) (refused : List ℕ) → refused ≡ []
-      → AreRefusedBefore same records changes 0 refused
-  refused-none records changes refused none = subst (λ (l : List ℕ). AreRefusedBefore same records changes 0 l) (sym none) (record {
-    rising = λ i j d up below. absurd (omega arith);
-    are = λ at. (λ has. absurd (nothing at has), λ h. absurd (let early : at < 0 = h.0 in omega arith));
-  })
-    where
-      nothing : (at : ℕ) → Contains [] at → ⊥
-      nothing at (k, below, is) = let b : k < 0 = below in omega arith
-
-  module _ (records : List (K × I)) (changes : List (ChangeParts K I)) (n : ℕ) (refused : List ℕ) (c : ChangeParts K I)
-      (so_far : AreRefusedBefore same records changes n refused) (here : slice_get changes n ≡ Some c) where
-    abbrev there_now : Bool
-    there_now = is_there same (after_all same records (take n changes)) c.key
-
-    -- one that may be done
-    pub refused-not : may c.transaction there_now ≡ true → AreRefusedBefore same records changes (n + 1) refused
-    refused-not fine = record {
-      rising = so_far.rising;
-      are = λ at. (
-        λ has. let (early, bad) = (so_far.are at).0 has in (omega arith, bad),
-        λ h. (so_far.are at).1 (⊎_elim
-            (λ (early : at < n). (early, h.1))
-            (λ late.
-            let is : at ≡ n = (let up : at < n + 1 = h.0 in omega arith) in
-            absurd (no (subst (λ (m : ℕ). IsRefusedAt same records changes m) is h.1)))
-            (cases_lt at n)),
-      );
-    }
-      where
-        no : IsRefusedAt same records changes n → ⊥
-        no bad =
-            let one : bad.change ≡ c = same_Some bad.change c (sym bad.is ∙ here) in
-            false≢true (sym (subst (λ (d : ChangeParts K I).
-            may d.transaction (is_there same (after_all same records (take n changes)) d.key) ≡ false) one bad.may_not) ∙ fine)
-
-    -- one that may not
-    pub refused-one : may c.transaction there_now ≡ false → AreRefusedBefore same records changes (n + 1) (refused ++ n ∷ [])
-    refused-one bad = record {
-      rising = all_pairs_push ◌<◌ refused n so_far.rising
-          (λ k d below. ((so_far.are (get_or refused k d)).0 (Contains-get_or refused k d below)).0);
-      are = λ at. (
-        λ has. ⊎_elim
-            (λ before. let (early, is) = (so_far.are at).0 before in (omega arith, is))
-            (λ last. subst (λ (m : ℕ). (m < n + 1) × IsRefusedAt same records changes m) last
-            (omega arith, record { change = c; is = here; may_not = bad }))
-            (Contains-push_cases refused n at has),
-        λ h. ⊎_elim
-            (λ (early : at < n). Contains-append_left refused (n ∷ []) at ((so_far.are at).1 (early, h.1)))
-            (λ late.
-            let is : n ≡ at = (let up : at < n + 1 = h.0 in omega arith) in
-            subst (λ (m : ℕ). Contains (refused ++ n ∷ []) m) is (Contains-push refused n))
-            (cases_lt at n),
-      );
-    }
-
-  pub refused-all : (records : List (K × I)) (changes : List (ChangeParts K I)) (n : ℕ) (refused : List ℕ)
-      → AreRefusedBefore same records changes n refused → length changes ≤ n → AreRefused same records changes refused
-  refused-all records changes n refused so_far end = record {
-    rising = so_far.rising;
-    are = λ at. (λ has. ((so_far.are at).0 has).1, λ bad. (so_far.are at).1 (within at bad, bad));
-  }
-    where
-      within : (at : ℕ) → IsRefusedAt same records changes at → at < n
-      within at bad = ⊎_elim
-          (λ (below : at < length changes). omega arith)
-          (λ past. absurd (let none : slice_get changes at ≡ None = slice_get_past changes at past in let e : None ≡ Some bad.change = sym none ∙ bad.is in cc))
-          (cases_lt at (length changes))
-
-  -- the first of the positions
-  pub refused-first : (records : List (K × I)) (changes : List (ChangeParts K I)) (refused : List ℕ)
-      → AreRefused same records changes refused → IsFirstRefused same records changes (slice_get refused 0)
-  refused-first records changes [] all = λ at bad.
-      let (k, below, is) = (all.are at).1 bad in let none : k < 0 = below in absurd (omega arith)
-  refused-first records changes (first ∷ others) all =
-      ((all.are first).0 (Contains-first first others), λ earlier before bad. early earlier before ((all.are earlier).1 bad))
-    where
-      early : (at : ℕ) → at < first → Contains (first ∷ others) at → ⊥
-      early at before (k, below, is) = ⊎_elim
-          (λ (later : 0 < k). let up : first < get_or (first ∷ others) k at = all.rising 0 k at later below in omega (arith, is))
-          (λ (none : k ≤ 0).
-          let zero : k ≡ 0 = omega arith in
-          let here : first ≡ at = subst (λ n. get_or (first ∷ others) n at ≡ at) zero is in omega arith)
-          (cases_lt 0 k)
+  pub refusals-more : (records : List (K × I)) (changes : List (ChangeParts K I)) (c : ChangeParts K I)
+      → refusals same records (changes ++ c ∷ [])
+      ≡ refusals same records changes ++ refusal (is_there same (after_all same records changes) c.key) c
+  refusals-more records [] c = append-nil (refusal (is_there same records c.key) c)
+  refusals-more records (x ∷ changes) c =
+      ap (λ l. refusal (is_there same records x.key) x ++ l) (refusals-more (after same records x) changes c)
+      ∙ sym (append_assoc (refusal (is_there same records x.key) x) (refusals same (after same records x) changes)
+      (refusal (is_there same (after_all same (after same records x) changes) c.key) c))
 
 -- ---- what the lines of an update are
 
@@ -355,9 +280,12 @@ module _ {K R : Type 0} (key : R → K) where
   pub put-keys : (x : Change K R) (b : Bool)
       → with_keys key (cond (not b) (option_to_list (parts_of key x).puts) []) ≡ cond b [] (put (parts_of key x).key (parts_of key x).puts)
   put-keys x true = refl
-  put-keys (line.New r) false = refl
-  put-keys (line.Revised r) false = refl
-  put-keys (line.Deleted k) false = refl
+  put-keys x false = at x.action
+    where
+      at : (a : Action K R) → with_keys key (option_to_list (put_of a)) ≡ put (key_of key a) (put_of a)
+      at (New r) = refl
+      at (Revised r) = refl
+      at (Deleted k) = refl
 
   -- one change less is left
   pub put-more : (same : K → K → Bool) (records more : List R) (x : Change K R) (others : List (Change K R)) (is_last : Bool)

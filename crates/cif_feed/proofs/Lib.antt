@@ -16,3 +16,9 @@ pub mod SpelledFeeds
 pub mod LinesMade
 pub mod MarkedRecords
 pub mod SaidPublished
+pub mod SaidUpdate
+pub mod ToldLines
+pub mod UpdatesDone
+pub mod OwnReasons
+pub mod ToldReasons
+pub mod JudgedRuns

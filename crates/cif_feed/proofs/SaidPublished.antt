@@ -24,7 +24,7 @@ use Rattle.cif_feed.specs.declared.published_extract.PublishedExtract.{Published
 
 -- ---- one at most
 
-same_association : (p q : PublishedAssociation) → p.association ≡ q.association → p.open_end ≡ q.open_end → p ≡ q
+pub same_association : (p q : PublishedAssociation) → p.association ≡ q.association → p.open_end ≡ q.open_end → p ≡ q
 same_association p q a e =
     let same : ◌≡◌ {A = (v : Association × Bool) × (IsTrue v.1 → v.0.last ≡ last_day)} ((p.association, p.open_end), p.closed)
     ((q.association, q.open_end), q.closed) = Σ_prop_path (λ v. hlevel props) (cc) in
@@ -34,7 +34,7 @@ same_association p q a e =
       closed = v.1;
     } in r) same
 
-same_schedule : (p q : PublishedSchedule) → p.schedule ≡ q.schedule → p.open_end ≡ q.open_end → p.code ≡ q.code → p ≡ q
+pub same_schedule : (p q : PublishedSchedule) → p.schedule ≡ q.schedule → p.open_end ≡ q.open_end → p.code ≡ q.code → p ≡ q
 same_schedule p q s e c =
     let same : ◌≡◌ {A = (v : Schedule × Bool × Option HolidayCode) × (IsTrue v.1 → v.0.last ≡ last_day)}
     ((p.schedule, p.open_end, p.code), p.closed) ((q.schedule, q.open_end, q.code), q.closed) = Σ_prop_path (λ v. hlevel props) (cc) in
@@ -47,7 +47,7 @@ same_schedule p q s e c =
 
 -- what is made of the same elements is the same
 module _ {A B C : Type 0} (P : A → B → C → Type 0) (one : (x : A) (y : B) (z w : C) → P x y z → P x y w → z ≡ w) where
-  same_triples : (xs : List A) (ys : List B) (zs ws : List C) → AreTriples P xs ys zs → AreTriples P xs ys ws → zs ≡ ws
+  pub same_triples : (xs : List A) (ys : List B) (zs ws : List C) → AreTriples P xs ys zs → AreTriples P xs ys ws → zs ≡ ws
   same_triples [] [] [] [] p q = refl
   same_triples [] [] [] (w ∷ ws) p q = absurd q
   same_triples [] [] (z ∷ zs) ws p q = absurd p

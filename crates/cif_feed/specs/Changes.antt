@@ -1,24 +1,49 @@
--- What the lines of an update do, one after another, to records of one kind. `same` says whether two keys are one.
-use Rattle.std.specs.Prelude.{◌≡◌, ◌↔◌, ℕ, ◌<◌, AllPairs, Contains, map, Bool, false, not, List, [], ◌∷◌, ◌++◌, filter, take}
-use Rattle.std.specs.Prelude.{Option, Some, None, if◌then◌else◌, slice_get}
+-- What the lines of an update do, one after another, to records of one kind. `same` is a test that tells whether two keys are the same.
+use Rattle.std.specs.Prelude.{◌≡◌, ◌↔◌, ℕ, IsTrue, map, Bool, false, not, List, [], ◌∷◌, ◌++◌, filter, Option, Some, None, if◌then◌else◌}
 use Rattle.std.specs.List.{list_any}
+use Rattle.cif_feed.specs.declared.changes.Action.{Action}
+use Rattle.cif_feed.specs.declared.changes.Action.TheVariants.{New, Revised, Deleted}
 use Rattle.cif_feed.specs.declared.changes.Change.{Change}
-use Rattle.cif_feed.specs.declared.changes.Change.TheVariants as line
+use Rattle.cif_feed.specs.declared.changes.RefusedLine.{RefusedLine}
 use Rattle.cif_feed.specs.declared.mark.Transaction.{Transaction}
-use Rattle.cif_feed.specs.declared.mark.Transaction.TheVariants.{New, Revised, Deleted}
+use Rattle.cif_feed.specs.declared.mark.Transaction.TheVariants as transaction
 
--- A change: its transaction, the key that it is of, and the record that it puts. A deletion puts none. A line that gives a record
+-- the test tells whether two keys are the same
+abbrev pub TellsSame : {K : Type 0} → (K → K → Bool) → Type 0
+TellsSame {K} same = (a b : K) → IsTrue (same a b) ↔ (a ≡ b)
+
+-- A change: the number of its line, its transaction, the key that it is of, and the record that it puts. A deletion puts none. A line that gives a record
 -- another key is two changes: it deletes the one, and puts the other.
 pub record ChangeParts (K I : Type 0) : Type 0 where
+  pub line : ℕ
   pub transaction : Transaction
   pub key : K
   pub puts : Option I
 
+-- what is done: its transaction, its key, and the record that it puts
+abbrev pub transaction_of : {K R : Type 0} → Action K R → Transaction
+transaction_of (New r) = transaction.New
+transaction_of (Revised r) = transaction.Revised
+transaction_of (Deleted k) = transaction.Deleted
+
+abbrev pub key_of : {K R : Type 0} → (R → K) → Action K R → K
+key_of key (New r) = key r
+key_of key (Revised r) = key r
+key_of key (Deleted k) = k
+
+abbrev pub put_of : {K R : Type 0} → Action K R → Option R
+put_of (New r) = Some r
+put_of (Revised r) = Some r
+put_of (Deleted k) = None
+
 -- what a line of an update does, as a change of the key of its record
 abbrev pub parts_of : {K R : Type 0} → (R → K) → Change K R → ChangeParts K R
-parts_of key (line.New r) = record { transaction = New; key = key r; puts = Some r }
-parts_of key (line.Revised r) = record { transaction = Revised; key = key r; puts = Some r }
-parts_of key (line.Deleted k) = record { transaction = Deleted; key = k; puts = None }
+parts_of key c = record {
+  line = c.line;
+  transaction = transaction_of c.action;
+  key = key_of key c.action;
+  puts = put_of c.action;
+}
 
 abbrev pub changes_of : {K R : Type 0} → (R → K) → List (Change K R) → List (ChangeParts K R)
 changes_of key changes = map (parts_of key) changes
@@ -29,9 +54,9 @@ with_keys key records = map (λ r. (key r, r)) records
 
 -- the change may be done, by whether there are records of its key
 abbrev pub may : Transaction → Bool → Bool
-may New there = not there
-may Revised there = there
-may Deleted there = there
+may transaction.New there = not there
+may transaction.Revised there = there
+may transaction.Deleted there = there
 
 -- the records of a key, in their order
 abbrev pub of_key : {K I : Type 0} → (K → K → Bool) → List (K × I) → K → List (K × I)
@@ -78,21 +103,23 @@ abbrev pub put_last : {K I : Type 0} → (K → K → Bool) → List (ChangePart
 put_last same [] = []
 put_last same (c ∷ changes) = (if is_changed same changes c.key then [] else put c.key c.puts) ++ put_last same changes
 
--- the change at this position, counted from 0, may not be done after those before it
-pub record IsRefusedAt {K I : Type 0} (same : K → K → Bool) (records : List (K × I)) (changes : List (ChangeParts K I)) (at : ℕ)
-    : Type 0 where
-  pub change : ChangeParts K I
-  pub is : slice_get changes at ≡ Some change
-  pub may_not : may change.transaction (is_there same (after_all same records (take at changes)) change.key) ≡ false
+-- a change is refused, by whether there are records of its key
+abbrev pub refusal : {K I : Type 0} → Bool → ChangeParts K I → List RefusedLine
+refusal there c = if may c.transaction there then [] else record { line = c.line; is_there = there } ∷ []
 
--- these are the positions of all such changes, rising
-pub record AreRefused {K I : Type 0} (same : K → K → Bool) (records : List (K × I)) (changes : List (ChangeParts K I)) (refused : List ℕ)
-    : Type 0 where
-  pub rising : AllPairs ◌<◌ refused
-  pub are : (at : ℕ) → Contains refused at ↔ IsRefusedAt same records changes at
+-- the changes that may not be done, each after those before it, in their order
+abbrev pub refusals : {K I : Type 0} → (K → K → Bool) → List (K × I) → List (ChangeParts K I) → List RefusedLine
+refusals same records [] = []
+refusals same records (c ∷ changes) = refusal (is_there same records c.key) c ++ refusals same (after same records c) changes
 
--- the position of the first such change, if there is one
-abbrev pub IsFirstRefused : {K I : Type 0} → (K → K → Bool) → List (K × I) → List (ChangeParts K I) → Option ℕ → Type 0
-IsFirstRefused same records changes None = (at : ℕ) → ¬ IsRefusedAt same records changes at
-IsFirstRefused same records changes (Some at) =
-    IsRefusedAt same records changes at × ((earlier : ℕ) → earlier < at → ¬ IsRefusedAt same records changes earlier)
+-- The new records are the old ones after these changes. Tests that tell whether two keys are the same agree.
+pub record AreAfter {K R : Type 0} (key : R → K) (old : List R) (changes : List (Change K R)) (new : List R) : Type 0 where
+  pub same : K → K → Bool
+  pub tells : TellsSame same
+  pub after : with_keys key new ≡ after_all same (with_keys key old) (changes_of key changes)
+
+-- these are the changes that may not be done, each after those before it
+pub record AreRefused {K R : Type 0} (key : R → K) (old : List R) (changes : List (Change K R)) (refused : List RefusedLine) : Type 0 where
+  pub same : K → K → Bool
+  pub tells : TellsSame same
+  pub are : refused ≡ refusals same (with_keys key old) (changes_of key changes)

@@ -1,12 +1,13 @@
 //! What the lines of an update do to records of one kind.
-ghost use Rattle.std.specs.Prelude.{◌≡◌, ◌↔◌, ◌++◌, [], List, IfOk, IsTrue, is_some, not, reverse, slice_get};
+ghost use Rattle.std.specs.Prelude.{◌≡◌, ◌↔◌, ◌++◌, [], List, IfOk, IsTrue, is_some, not, reverse};
 ghost use Rattle.std.specs.Prelude.{option_to_list, if◌then◌else◌};
 ghost use Rattle.std.specs.Ordering.{eq_by_cmp};
 ghost use Rattle.std.specs.BTreeMap.{get};
-ghost use Rattle.cif_feed.specs.Changes.{AreRefused, ChangeParts, IsFirstRefused, after_all, changes_of};
-ghost use Rattle.cif_feed.specs.Changes.{may, parts_of, put_last, untouched, with_keys};
+ghost use Rattle.cif_feed.specs.Changes.{AreAfter, AreRefused, ChangeParts, changes_of, may, parts_of, put_last};
+ghost use Rattle.cif_feed.specs.Changes.{refusals, untouched, with_keys};
 ghost use Rattle.cif_feed.specs.Steps.Changes.{AreLast, SaysThere, is_position};
 
+use crate::FeedFault;
 use std::alloc::{AllocError, Global};
 use std::collections::BTreeMap;
 
@@ -32,7 +33,16 @@ pub trait Keyed {
 
 /// What a line of an update does.
 #[derive(Drop)]
-pub enum Change<K, R> {
+pub struct Change<K, R> {
+    /// The number of the line.
+    pub line: u64,
+    /// What it does.
+    pub action: Action<K, R>,
+}
+
+/// What is done to the records of a key.
+#[derive(Drop)]
+pub enum Action<K, R> {
     /// Puts a record whose key isn't there.
     New(R),
     /// Takes out the records of the record's key, and puts it.
@@ -41,20 +51,43 @@ pub enum Change<K, R> {
     Deleted(K),
 }
 
+/// A line of an update that may not be done after those before it.
+#[derive(Clone, Copy, Debug, PartialEq, Eq)]
+pub struct RefusedLine {
+    /// The number of the line.
+    pub line: u64,
+    /// Whether there are records of its key: it puts a new one of the same key. Or there are none, and it
+    /// revises or deletes them.
+    pub is_there: bool,
+}
+
+impl RefusedLine {
+    ghost use Rattle.cif_feed.specs.Updated.{refused_fault};
+
+    /// The fault: AlreadyThere or NotThere.
+    pub fn fault(&self) -> FeedFault
+        ensures { result ≡ refused_fault self.now }
+    {
+        if self.is_there {
+            FeedFault::AlreadyThere { line: self.line }
+        } else {
+            FeedFault::NotThere { line: self.line }
+        }
+    }
+}
+
 /// Does the changes, one after another: the records of a change's key are taken out, and what it
-/// puts comes last. Gives the positions of the changes that may not be done, rising: of a new record
-/// whose key is there, and of a revision or a deletion of a key that isn't.
+/// puts comes last. Gives those that may not be done, in their order: a new record whose key is there, and a
+/// revision or a deletion of a key that isn't. They are done all the same.
 pub fn apply<R: Keyed + Drop>(
     alloc: Global,
     records: &mut Vec<R>,
     mut changes: Vec<Change<R::Key, R>>,
-) -> Result<Vec<usize>, AllocError>
-    ensures records { IfOk result (λ _. with_keys R.key records.new.items
-        ≡ after_all (eq_by_cmp R.Key.cmp) (with_keys R.key records.old.items) (changes_of R.key changes.items)) }
-    ensures refused { IfOk result (λ refused. AreRefused (eq_by_cmp R.Key.cmp)
-        (with_keys R.key records.old.items) (changes_of R.key changes.items) refused.items) }
-    ensures first { IfOk result (λ refused. IsFirstRefused (eq_by_cmp R.Key.cmp)
-        (with_keys R.key records.old.items) (changes_of R.key changes.items) (slice_get refused.items 0)) }
+) -> Result<Vec<RefusedLine>, AllocError>
+    ensures records { IfOk result (λ _.
+        AreAfter R.key records.old.items changes.items records.new.items) }
+    ensures refused { IfOk result (λ refused.
+        AreRefused R.key records.old.items changes.items refused.items) }
 {
     let last = last_changes::<R>(alloc, changes.as_slice())?;
     let there = keys_there(alloc, records.as_slice(), &last)?;
@@ -100,22 +133,25 @@ fn keys_there<R: Keyed>(
     Ok(there)
 }
 
-/// The positions of the changes that may not be done, each after those before it.
+/// The changes that may not be done after those before them.
 fn refused_changes<R: Keyed>(
     alloc: Global,
     mut there: BTreeMap<R::Key, bool>,
     changes: &[Change<R::Key, R>],
-) -> Result<Vec<usize>, AllocError>
+) -> Result<Vec<RefusedLine>, AllocError>
     ensures { IfOk result (λ refused. (records : List (R.Key × R))
         → SaysThere (eq_by_cmp R.Key.cmp) records (changes_of R.key changes.now) (get R.Key.cmp there)
-        → AreRefused (eq_by_cmp R.Key.cmp) records (changes_of R.key changes.now) refused.items) }
+        → refused.items ≡ refusals (eq_by_cmp R.Key.cmp) records (changes_of R.key changes.now)) }
 {
     let mut refused = Vec::new(alloc);
-    for (at, change) in changes.iter().enumerate() {
+    for change in changes {
         let key = key_of::<R>(change);
         let is_there = there.get(&key).copied().unwrap_or(false);
         if !may::<R>(change, is_there) {
-            refused.push(at)?;
+            refused.push(RefusedLine {
+                line: change.line,
+                is_there,
+            })?;
         }
         there.insert(key, puts::<R>(change))?;
     }
@@ -183,9 +219,9 @@ fn put_if<R: Drop>(is_put: bool, item: Option<R>, records: &mut Vec<R>) -> Resul
 fn record_of<R: Keyed + Drop>(change: Change<R::Key, R>) -> Option<R>
     ensures { result ≡ (parts_of R.key change).puts }
 {
-    match change {
-        Change::New(record) | Change::Revised(record) => Some(record),
-        Change::Deleted(_key) => None,
+    match change.action {
+        Action::New(record) | Action::Revised(record) => Some(record),
+        Action::Deleted(_key) => None,
     }
 }
 
@@ -193,9 +229,9 @@ fn record_of<R: Keyed + Drop>(change: Change<R::Key, R>) -> Option<R>
 fn key_of<R: Keyed>(change: &Change<R::Key, R>) -> R::Key
     ensures { result ≡ (parts_of R.key change.now).key }
 {
-    match change {
-        Change::New(record) | Change::Revised(record) => record.record_key(),
-        Change::Deleted(key) => R::copied(key),
+    match &change.action {
+        Action::New(record) | Action::Revised(record) => record.record_key(),
+        Action::Deleted(key) => R::copied(key),
     }
 }
 
@@ -203,9 +239,9 @@ fn key_of<R: Keyed>(change: &Change<R::Key, R>) -> R::Key
 fn may<R: Keyed>(change: &Change<R::Key, R>, is_there: bool) -> bool
     ensures { result ≡ may (parts_of R.key change.now).transaction is_there }
 {
-    match change {
-        Change::New(_) => !is_there,
-        Change::Revised(_) | Change::Deleted(_) => is_there,
+    match change.action {
+        Action::New(_) => !is_there,
+        Action::Revised(_) | Action::Deleted(_) => is_there,
     }
 }
 
@@ -213,8 +249,8 @@ fn may<R: Keyed>(change: &Change<R::Key, R>, is_there: bool) -> bool
 fn puts<R: Keyed>(change: &Change<R::Key, R>) -> bool
     ensures { result ≡ is_some (parts_of R.key change.now).puts }
 {
-    match change {
-        Change::New(_) | Change::Revised(_) => true,
-        Change::Deleted(_) => false,
+    match change.action {
+        Action::New(_) | Action::Revised(_) => true,
+        Action::Deleted(_) => false,
     }
 }

@@ -43,7 +43,7 @@ pub(crate) fn from_lines<T: FromLine + Drop>(
 }
 
 /// Takes the last of the marks.
-fn last_of(marks: &mut Vec<Numbered<RecordMark>>) -> Numbered<RecordMark>
+pub(crate) fn last_of<M: Drop>(marks: &mut Vec<M>) -> M
     requires { marks.old.items ≢ [] }
     ensures { marks.old.items ≡ marks.new.items ++ result ∷ [] }
 {

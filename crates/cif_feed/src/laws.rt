@@ -1,12 +1,11 @@
 //! Laws: what a prepared extract and an update say.
 ghost use Rattle.std.specs.Prelude.{◌≡◌, ◌↔◌, ◌≤◌, ◌++◌, ℕ, Bool, List, Option, None, Contains};
-ghost use Rattle.std.specs.Ordering.{eq_by_cmp};
 ghost use Rattle.cif_calendar.specs.Applies.{Applies};
 ghost use Rattle.cif_calendar.specs.Clash.{IsClear};
 ghost use Rattle.cif_calendar.specs.Keys.{of_key};
 ghost use Rattle.cif_calendar.specs.Runs.{Runs};
 ghost use Rattle.cif_calendar.specs.Terms.{Terms};
-ghost use Rattle.cif_feed.specs.Changes.{ChangeParts, after_all, last_word, put_last, untouched};
+ghost use Rattle.cif_feed.specs.Changes.{ChangeParts, TellsSame, after_all, last_word, put_last, untouched};
 ghost use Rattle.cif_feed.specs.Changes.{of_key as records_of_key};
 ghost use Rattle.cif_feed.specs.Parts.{AreParts, IsPart, ended};
 ghost use Rattle.cif_feed.specs.Prepared.{AreClosed, ArePrepared, HaveSameWinners, part_terms};
@@ -58,18 +57,18 @@ pub fn prepared_runs_as_published<E: Entry>()
         × AppliesAsPublished h code r d) }
 {}
 
-/// What changes leave.
-pub fn changes_leave_the_last_word<K: Ord, I>()
+/// What changes leave, by a test that tells whether two keys are the same.
+pub fn changes_leave_the_last_word<K, I>()
     // Of each key, what the last change of it puts, or what was there.
-    ensures last { (records : List (K × I)) (changes : List (ChangeParts K I)) (key : K)
-        → records_of_key (eq_by_cmp K.cmp) (after_all (eq_by_cmp K.cmp) records changes) key
-        ≡ last_word (eq_by_cmp K.cmp) (records_of_key (eq_by_cmp K.cmp) records key) changes key }
+    ensures last { (same : K → K → Bool) (records : List (K × I)) (changes : List (ChangeParts K I)) (key : K)
+        → TellsSame same
+        → records_of_key same (after_all same records changes) key
+        ≡ last_word same (records_of_key same records key) changes key }
     // In order: what no change is of, and then what the changes put last.
-    ensures order { (records : List (K × I)) (changes : List (ChangeParts K I))
-        → after_all (eq_by_cmp K.cmp) records changes
-        ≡ untouched (eq_by_cmp K.cmp) records changes ++ put_last (eq_by_cmp K.cmp) changes }
+    ensures order { (same : K → K → Bool) (records : List (K × I)) (changes : List (ChangeParts K I))
+        → TellsSame same
+        → after_all same records changes ≡ untouched same records changes ++ put_last same changes }
     // Two lists of changes one after the other are the one after the other.
-    ensures sequence { (records : List (K × I)) (one other : List (ChangeParts K I))
-        → after_all (eq_by_cmp K.cmp) records (one ++ other)
-        ≡ after_all (eq_by_cmp K.cmp) (after_all (eq_by_cmp K.cmp) records one) other }
+    ensures sequence { (same : K → K → Bool) (records : List (K × I)) (one other : List (ChangeParts K I))
+        → after_all same records (one ++ other) ≡ after_all same (after_all same records one) other }
 {}

@@ -2,7 +2,7 @@
 ghost use Rattle.std.specs.Prelude.{◌≡◌};
 ghost use Rattle.cif_feed.specs.RecordKeys.{association_key, schedule_key, tiploc_key};
 
-use crate::Keyed;
+use crate::{Keyed, PublishedAssociation, PublishedSchedule};
 use cif_columns::{Day, Stp, Uid};
 use cif_extract::Schedule;
 use cif_records::{AssocKey, Association, Tiploc};
@@ -54,8 +54,8 @@ impl Keyed for Tiploc {
     ghost same_key = { bytes_decides };
 }
 
-/// An association by its key, its first date and its letter.
-impl Keyed for Association {
+/// A published association by its key, its first date and its letter.
+impl Keyed for PublishedAssociation {
     type Key = (AssocKey, Day, Stp);
 
     ghost use Rattle.std.proofs.Common.{rules};
@@ -63,10 +63,10 @@ impl Keyed for Association {
     ghost use Rattle.std.specs.Cmp.Lexicographic.{pointwise_decides, bytes_decides};
     ghost use Rattle.cif_feed.specs.RecordKeys.{association_key};
 
-    ghost key = { association_key };
+    ghost key = { λ a. association_key a.association };
 
     fn record_key(&self) -> (AssocKey, Day, Stp) {
-        association_key(self)
+        association_key(&self.association)
     }
 
     fn copied(known: &(AssocKey, Day, Stp)) -> (AssocKey, Day, Stp) {
@@ -76,8 +76,8 @@ impl Keyed for Association {
     ghost same_key = { Prim.search (rules, common_steps, pointwise_decides, bytes_decides) };
 }
 
-/// A schedule by its UID, its first date and its letter.
-impl Keyed for Schedule {
+/// A published schedule by its UID, its first date and its letter.
+impl Keyed for PublishedSchedule {
     type Key = (Uid, Day, Stp);
 
     ghost use Rattle.std.proofs.Common.{rules};
@@ -85,10 +85,10 @@ impl Keyed for Schedule {
     ghost use Rattle.std.specs.Cmp.Lexicographic.{bytes_decides};
     ghost use Rattle.cif_feed.specs.RecordKeys.{schedule_key};
 
-    ghost key = { schedule_key };
+    ghost key = { λ s. schedule_key s.schedule };
 
     fn record_key(&self) -> (Uid, Day, Stp) {
-        schedule_key(self)
+        schedule_key(&self.schedule)
     }
 
     fn copied(known: &(Uid, Day, Stp)) -> (Uid, Day, Stp) {

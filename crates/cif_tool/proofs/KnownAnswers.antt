@@ -13,18 +13,18 @@ use Rattle.cif_weeks.specs.declared.form.Form.{Form}
 use Rattle.cif_canon.specs.Accepted.{SpellsNarrowed}
 use Rattle.cif_canon.specs.Asked.{IsNarrowed}
 use Rattle.cif_canon.specs.Comparison.{AreCompared, IsCompareFault, comparison_line}
-use Rattle.cif_canon.specs.Clashes.{AreAllClashes, clashes_text}
+use Rattle.cif_views.specs.Clashes.{AreAllClashes, clashes_text}
 use Rattle.cif_canon.specs.Counts.{counts_line}
 use Rattle.cif_canon.specs.Differences.{AreDifferences, AreNone, DifferencesParts, differences_text}
-use Rattle.cif_canon.specs.Explanation.{IsExplanation}
+use Rattle.cif_views.specs.Explanation.{IsExplanation}
 use Rattle.cif_canon.specs.Normalised.{IfWritten, IsNormalised, Normalises}
 use Rattle.cif_canon.specs.Pair.{IsCompareRefusal, ReadAsPair, SpellPair}
-use Rattle.cif_canon.specs.Views.{IsDayView, IsTrainView}
+use Rattle.cif_views.specs.Listing.{IsDayListing, IsTrainListing}
 use Rattle.cif_canon.specs.declared.asked.Asked.{Asked}
 use Rattle.cif_canon.specs.declared.comparison.Comparison.{Comparison}
 use Rattle.cif_canon.specs.declared.canonical_form.Counts.{Counts}
-use Rattle.cif_canon.specs.declared.layout.Format.{Format}
-use Rattle.cif_canon.specs.declared.layout.Layout.{Layout}
+use Rattle.cif_canon.specs.declared.rows.Format.{Format}
+use Rattle.cif_views.specs.declared.listing.Listing.{Listing}
 use Rattle.cif_tool.specs.Answer.{IsCheckAnswer, IsClashesAnswer, IsCompareAnswer, IsDayAnswer, IsDiffAnswer}
 use Rattle.cif_tool.specs.Answer.{IsExplainAnswer, IsListedStatus, IsNormaliseAnswer, IsTrainAnswer}
 use Rattle.cif_tool.specs.Status.{listed_status, outcome_of}
@@ -66,10 +66,10 @@ module _ (start : Option (List ℕ)) where
   normalise-failed form asked text fault.Memory h = tt
 
   module _ (x : ExtractParts) (spelled : IfSome start (λ bytes. BytesSpellWithin MAX_LINES bytes x)) where
-    pub day-answer : (layout : Layout) (day : ℕ) (text : List ℕ) → IsDayView layout x day text →
-        IfSome start (λ bytes. IsDayAnswer layout day bytes text 0)
-    day-answer layout day text view =
-        known_so start (λ bytes. BytesSpellWithin MAX_LINES bytes x) (λ bytes. IsDayAnswer layout day bytes text 0)
+    pub day-answer : (listing : Listing) (day : ℕ) (text : List ℕ) → IsDayListing listing x day text →
+        IfSome start (λ bytes. IsDayAnswer listing day bytes text 0)
+    day-answer listing day text view =
+        known_so start (λ bytes. BytesSpellWithin MAX_LINES bytes x) (λ bytes. IsDayAnswer listing day bytes text 0)
         (λ bytes s. record { extract = x; spelled = s; view = view; status_is = refl }) spelled
 
     pub explain-answer : (format : Format) (uid : List ℕ) (day : ℕ) (text : List ℕ) → IsExplanation format x uid day text →
@@ -92,11 +92,11 @@ module _ (start : Option (List ℕ)) where
           status_is = listed (clashes ≡ []) none tells;
         }) spelled
 
-  pub train-answer : (asked : Asked) (x : ExtractParts) → IfSome start (SpellsNarrowed MAX_LINES asked x) → (layout : Layout)
-      (form : Form) (uid text : List ℕ) → IsTrainView layout form x uid text →
-      IfSome start (λ bytes. IsTrainAnswer layout form asked uid bytes text 0)
-  train-answer asked x spelled layout form uid text view =
-      known_so start (SpellsNarrowed MAX_LINES asked x) (λ bytes. IsTrainAnswer layout form asked uid bytes text 0)
+  pub train-answer : (asked : Asked) (x : ExtractParts) → IfSome start (SpellsNarrowed MAX_LINES asked x) → (listing : Listing)
+      (form : Form) (uid text : List ℕ) → IsTrainListing listing form x uid text →
+      IfSome start (λ bytes. IsTrainAnswer listing form asked uid bytes text 0)
+  train-answer asked x spelled listing form uid text view =
+      known_so start (SpellsNarrowed MAX_LINES asked x) (λ bytes. IsTrainAnswer listing form asked uid bytes text 0)
       (λ bytes s. record { extract = x; spelled = s; view = view; status_is = refl }) spelled
 
 -- two readers, of which what they give is read as these extracts

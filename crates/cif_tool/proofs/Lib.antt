@@ -1,4 +1,5 @@
 pub mod Answered
+pub mod CheckedLines
 pub mod CommandBuilt
 pub mod Each
 pub mod FirstFault

@@ -1,5 +1,7 @@
 -- What the commands answer: a text on the output, and a status.
-use Rattle.std.specs.Prelude.{◌≡◌, ◌⊎◌, ⊤, ℕ, Bool, List, Option, IfSome, Result, Ok, Err, IfOk, IfErr, []}
+use Rattle.std.specs.Prelude.{◌≡◌, ◌⊎◌, ◌≤◌, ⊤, ℕ, Bool, List, Option, Some, IfSome, Result, Ok, Err, IfOk, IfErr, [], Contains, length}
+use Rattle.cif_columns.specs.JudgedContents.{judged_contents}
+use Rattle.cif_columns.specs.declared.refusal.Refusal.{Refusal}
 use Rattle.cif_columns.specs.Sink.{Writes, writer_of}
 use Rattle.cif_columns.specs.Source.{Unread, reader_of}
 use Rattle.cif_columns.specs.declared.line_reader.TheConstants.{MAX_LINES}
@@ -9,28 +11,31 @@ use Rattle.cif_extract.specs.ExtractParts.{ExtractParts}
 use Rattle.cif_extract.specs.ReadFault.{FaultOf, FaultReads, IsReadFault, LeavesNothing}
 use Rattle.cif_extract.specs.SpellsExtract.{BytesSpellWithin}
 use Rattle.cif_extract.specs.declared.fault.Fault.{Fault}
-use Rattle.cif_extract.specs.declared.fault.Fault.TheVariants.{Memory, Write}
+use Rattle.cif_extract.specs.declared.fault.Fault.TheVariants.{Ambiguous, Memory, OutsideWindow, Read, Refused, WindowReversed, Write}
+use Rattle.cif_feed.specs.Judged.{IsJudgedFault, NoneHasReason}
+use Rattle.cif_feed.specs.Reasons.{reasons_in, reasons_text}
 use Rattle.cif_weeks.specs.declared.form.Form.{Form}
 use Rattle.cif_canon.specs.Accepted.{SpellsNarrowed}
 use Rattle.cif_extract.specs.declared.fault.Clash.{Clash}
 use Rattle.cif_canon.specs.Asked.{IsNarrowingFault}
-use Rattle.cif_canon.specs.Clashes.{AreAllClashes, clashes_text}
+use Rattle.cif_views.specs.Clashes.{AreAllClashes, clashes_text}
 use Rattle.cif_canon.specs.Comparison.{AreCompared, comparison_line}
 use Rattle.cif_canon.specs.Counts.{counts_line}
 use Rattle.cif_canon.specs.Differences.{AreDifferences, AreNone, DifferencesParts, differences_text}
-use Rattle.cif_canon.specs.Explanation.{IsExplanation, IsExplanationFault}
+use Rattle.cif_views.specs.Explanation.{IsExplanation, IsExplanationFault}
 use Rattle.cif_canon.specs.Fault.{IsNormaliseFault}
 use Rattle.cif_canon.specs.Normalised.{FaultWrites, IsNormalised}
 use Rattle.cif_canon.specs.Pair.{FaultOfBoth, IsCompareRefusal, ReadsBoth, SpellPair}
-use Rattle.cif_canon.specs.Views.{IsDayFault, IsDayView, IsTrainView}
+use Rattle.cif_canon.specs.Views.{IsDayFault}
+use Rattle.cif_views.specs.Listing.{IsDayListing, IsTrainListing}
 use Rattle.cif_canon.specs.declared.asked.Asked.{Asked}
 use Rattle.cif_canon.specs.declared.comparison.Comparison.{Comparison}
 use Rattle.cif_canon.specs.declared.canonical_form.Counts.{Counts}
-use Rattle.cif_canon.specs.declared.layout.Format.{Format}
-use Rattle.cif_canon.specs.declared.layout.Layout.{Layout}
+use Rattle.cif_canon.specs.declared.rows.Format.{Format}
+use Rattle.cif_views.specs.declared.listing.Listing.{Listing}
 use Rattle.cif_tool.specs.Status.{outcome_of}
 use Rattle.cif_tool.specs.declared.job.Job.{Job}
-use Rattle.cif_tool.specs.declared.job.Job.TheVariants.{Check, Clashes, Compare, Day, Diff, Explain, Normalise, Train}
+use Rattle.cif_tool.specs.declared.job.Job.TheVariants.{Check, CheckAll, Clashes, Compare, Day, Diff, Explain, Normalise, Train}
 
 -- P holds of the status of an answer, whose text was written or, at Write, a prefix of it was
 abbrev pub IfAnswered : Result ℕ Fault → (ℕ → Type 0) → Type 0
@@ -70,18 +75,31 @@ pub record IsCheckAnswer (form : Form) (asked : Asked) (bytes text : List ℕ) (
   pub text_is : text ≡ counts_line counts
   pub status_is : status ≡ 0
 
--- `day` answers these bytes by what runs on the day, in this layout.
-pub record IsDayAnswer (layout : Layout) (day : ℕ) (bytes text : List ℕ) (status : ℕ) : Type 0 where
+-- Some of the lines of these bytes have a reason to be refused, each judged by itself, and the text says which.
+pub record AreReasons (bytes text : List ℕ) (status : ℕ) : Type 0 where
+  pub within : length (judged_contents bytes) ≤ MAX_LINES
+  pub why : Refusal
+  pub some : Contains (reasons_in bytes) (Some why)
+  pub text_is : text ≡ reasons_text (reasons_in bytes)
+  pub status_is : status ≡ 3
+
+-- `check --all` answers these bytes by these reasons, or, where there is none, as `check` does.
+abbrev pub IsCheckAllAnswer : Form → Asked → List ℕ → List ℕ → ℕ → Type 0
+IsCheckAllAnswer form asked bytes text status =
+    AreReasons bytes text status ⊎ (NoneHasReason (judged_contents bytes) × IsCheckAnswer form asked bytes text status)
+
+-- `day` answers these bytes by what runs on the day, in this listing.
+pub record IsDayAnswer (listing : Listing) (day : ℕ) (bytes text : List ℕ) (status : ℕ) : Type 0 where
   pub extract : ExtractParts
   pub spelled : BytesSpellWithin MAX_LINES bytes extract
-  pub view : IsDayView layout extract day text
+  pub view : IsDayListing listing extract day text
   pub status_is : status ≡ 0
 
--- `train` answers these bytes by when the train runs, in this layout.
-pub record IsTrainAnswer (layout : Layout) (form : Form) (asked : Asked) (uid bytes text : List ℕ) (status : ℕ) : Type 0 where
+-- `train` answers these bytes by when the train runs, in this listing.
+pub record IsTrainAnswer (listing : Listing) (form : Form) (asked : Asked) (uid bytes text : List ℕ) (status : ℕ) : Type 0 where
   pub extract : ExtractParts
   pub spelled : SpellsNarrowed MAX_LINES asked extract bytes
-  pub view : IsTrainView layout form extract uid text
+  pub view : IsTrainListing listing form extract uid text
   pub status_is : status ≡ 0
 
 -- `compare` answers two inputs by how they compare in the window that is asked for.
@@ -124,6 +142,24 @@ pub record IsClashesAnswer (asked : Asked) (bytes text : List ℕ) (status : ℕ
   pub text_is : text ≡ clashes_text clashes
   pub status_is : IsListedStatus (clashes ≡ []) status
 
+-- Why `check --all` has no answer to these bytes, where `after` is what the reader has left then: a line is one too many, or the source
+-- failed; or no line has a reason, and it is a fault of `check`.
+abbrev pub IsCheckAllFault : Asked → List ℕ → Unread → Fault → Type 0
+IsCheckAllFault asked bytes after (Refused line why) = IsJudgedFault MAX_LINES bytes after (Refused line why)
+IsCheckAllFault asked bytes after Read = IsJudgedFault MAX_LINES bytes after Read
+IsCheckAllFault asked bytes after Memory = ⊤
+IsCheckAllFault asked bytes after Write = ⊤
+IsCheckAllFault asked bytes after fault =
+    NoneHasReason (judged_contents bytes) × IsNormaliseFault MAX_LINES asked bytes after fault
+
+-- the faults of counting the records of an extract that is read
+abbrev pub IsCountFault : Fault → Type 0
+IsCountFault (Ambiguous clash) = ⊤
+IsCountFault OutsideWindow = ⊤
+IsCountFault WindowReversed = ⊤
+IsCountFault Memory = ⊤
+IsCountFault fault = ⊥
+
 -- Why `day` has no answer to these bytes, where `after` is what the reader has left then: the first refusal, or else what the view
 -- refuses.
 abbrev pub IsDayRefusal : ℕ → List ℕ → Unread → Fault → Type 0
@@ -148,7 +184,8 @@ IsHandedOn holds_nothing new (Ok done) = holds_nothing (writer_of new)
 IsHandedOn holds_nothing new (Err fault) = ⊤
 
 -- What the job's command owes its sources: `compare` and `diff` read both, one after the other, and each other command its input
--- alone. Where it answers, nothing is left of what it has read.
+-- alone. Where it answers, nothing is left of what it has read; but `check --all` reads no more than the first lines of an input that has
+-- one without an end.
 abbrev pub ReadsInputs : {R A : Type 0} → (R → Option (List ℕ)) → (R → Option ℕ) → Job → Source R → Source R → Source R → Source R →
     Result A Fault → Type 0
 ReadsInputs remaining errors (Compare left_file right_file asked common) left left_new right right_new result =
@@ -157,20 +194,28 @@ ReadsInputs remaining errors (Compare left_file right_file asked common) left le
 ReadsInputs remaining errors (Diff left_file right_file asked common) left left_new right right_new result =
     ReadsBoth errors left left_new right right_new result × LeavesNothing remaining left left_new result
     × LeavesNothing remaining right right_new result
+ReadsInputs remaining errors (CheckAll file asked form) source source_new right right_new result =
+    FaultReads errors source source_new result × (right_new ≡ right)
 ReadsInputs remaining errors _ source source_new right right_new result =
     FaultReads errors source source_new result × LeavesNothing remaining source source_new result × (right_new ≡ right)
+
+-- where `check --all` lists no reasons, nothing is left
+abbrev pub LeavesUnlessListed : {R : Type 0} → (R → Option (List ℕ)) → Source R → Source R → Result ℕ Fault → Type 0
+LeavesUnlessListed remaining old new (Ok status) = status ≡ 0 → LeavesNothing {A = ℕ} {E = Fault} remaining old new (Ok status)
+LeavesUnlessListed remaining old new (Err fault) = ⊤
 
 -- what the job's command answers of what the readers of its input and of a second one give
 abbrev pub IsJobAnswer : {R : Type 0} → (R → Option (List ℕ)) → Job → Source R → Source R → List ℕ → ℕ → Type 0
 IsJobAnswer remaining (Normalise file asked form) source right = OfInput remaining (IsNormaliseAnswer form asked) source
 IsJobAnswer remaining (Check file asked form) source right = OfInput remaining (IsCheckAnswer form asked) source
+IsJobAnswer remaining (CheckAll file asked form) source right = OfInput remaining (IsCheckAllAnswer form asked) source
 IsJobAnswer remaining (Compare left_file right_file asked common) source right =
     OfBoth remaining (IsCompareAnswer asked common) source right
 IsJobAnswer remaining (Diff left_file right_file asked common) source right =
     OfBoth remaining (IsDiffAnswer asked common) source right
-IsJobAnswer remaining (Day day file layout) source right = OfInput remaining (IsDayAnswer layout day) source
-IsJobAnswer remaining (Train uid file asked form layout) source right =
-    OfInput remaining (IsTrainAnswer layout form asked uid) source
+IsJobAnswer remaining (Day day file listing) source right = OfInput remaining (IsDayAnswer listing day) source
+IsJobAnswer remaining (Train uid file asked form listing) source right =
+    OfInput remaining (IsTrainAnswer listing form asked uid) source
 IsJobAnswer remaining (Explain uid day file format) source right = OfInput remaining (IsExplainAnswer format uid day) source
 IsJobAnswer remaining (Clashes file asked) source right = OfInput remaining (IsClashesAnswer asked) source
 
@@ -181,13 +226,15 @@ IsJobFault remaining (Normalise file asked form) source source_new right right_n
     FaultOf remaining (IsNormaliseFault MAX_LINES asked) source source_new result
 IsJobFault remaining (Check file asked form) source source_new right right_new result =
     FaultOf remaining (IsNormaliseFault MAX_LINES asked) source source_new result
+IsJobFault remaining (CheckAll file asked form) source source_new right right_new result =
+    FaultOf remaining (IsCheckAllFault asked) source source_new result
 IsJobFault remaining (Compare left_file right_file asked common) source source_new right right_new result =
     FaultOfBoth remaining (IsCompareRefusal asked common) source source_new right right_new result
 IsJobFault remaining (Diff left_file right_file asked common) source source_new right right_new result =
     FaultOfBoth remaining (IsCompareRefusal asked common) source source_new right right_new result
-IsJobFault remaining (Day day file layout) source source_new right right_new result =
+IsJobFault remaining (Day day file listing) source source_new right right_new result =
     FaultOf remaining (IsDayRefusal day) source source_new result
-IsJobFault remaining (Train uid file asked form layout) source source_new right right_new result =
+IsJobFault remaining (Train uid file asked form listing) source source_new right right_new result =
     FaultOf remaining (IsNormaliseFault MAX_LINES asked) source source_new result
 IsJobFault remaining (Explain uid day file format) source source_new right right_new result =
     FaultOf remaining (IsExplainRefusal day) source source_new result

@@ -8,7 +8,7 @@ use Rattle.clap.specs.declared.Command.TheViews.{out-Command}
 use Rattle.clap.specs.declared.builder.ArgAction.TheVariants.{SetTrue}
 use Rattle.clap.specs.declared.builder.ValueParser.TheVariants.{Names}
 use Rattle.cif_tool.specs.declared.command_line.Argument.{Argument}
-use Rattle.cif_tool.specs.declared.command_line.Argument.TheVariants.{Verbose, File, Left, Right, Uid, Date, From, To, Common, Stops}
+use Rattle.cif_tool.specs.declared.command_line.Argument.TheVariants.{Verbose, File, Left, Right, Uid, Date, From, To, All, Common, Stops}
 use Rattle.cif_tool.specs.declared.command_line.Argument.TheVariants.{Form, Format}
 use Rattle.cif_tool.specs.declared.command_line.Choices.{Choices}
 use Rattle.cif_tool.specs.declared.command_line.Kind.{Kind}
@@ -52,6 +52,7 @@ given Uid = (codes "UID", kind.Required)
 given Date = (codes "YYMMDD", kind.Required)
 given From = (codes "from", kind.Date)
 given To = (codes "to", kind.Date)
+given All = (codes "all", kind.Flag)
 given Common = (codes "common", kind.Flag)
 given Stops = (codes "stops", kind.Flag)
 given Form = (codes "form", kind.Form)
@@ -72,9 +73,13 @@ abbrev pub taking : Choices → App → List Argument → App
 taking choices a [] = a
 taking choices a (r ∷ rs) = taking choices (with_rule a (argument choices (given r))) rs
 
--- `cif NAME [-v] [--from YYMMDD] [--to YYMMDD] [--form FORM] [FILE]`
-abbrev pub canonical : List Argument
-canonical = Verbose ∷ File ∷ From ∷ To ∷ Form ∷ []
+-- `cif normalise [-v] [--from YYMMDD] [--to YYMMDD] [--form FORM] [FILE]`
+abbrev pub normalise : List Argument
+normalise = Verbose ∷ File ∷ From ∷ To ∷ Form ∷ []
+
+-- `cif check [-v] [--from YYMMDD] [--to YYMMDD] [--form FORM] [--all] [FILE]`
+abbrev pub check : List Argument
+check = Verbose ∷ File ∷ From ∷ To ∷ Form ∷ All ∷ []
 
 -- `cif NAME [-v] [--from YYMMDD] [--to YYMMDD] [--common] LEFT RIGHT`
 abbrev pub two_files : List Argument
@@ -112,7 +117,7 @@ program name = let made = new_app name in record made { top = record made.top { 
 -- the program `cif` with its eight subcommands
 abbrev pub subcommands : List (Text × List Argument)
 subcommands =
-    (codes "normalise", canonical) ∷ (codes "check", canonical) ∷ (codes "compare", two_files) ∷ (codes "diff", two_files)
+    (codes "normalise", normalise) ∷ (codes "check", check) ∷ (codes "compare", two_files) ∷ (codes "diff", two_files)
     ∷ (codes "day", day) ∷ (codes "train", train) ∷ (codes "explain", explain) ∷ (codes "clashes", clashes) ∷ []
 
 unfoldable pub cif : Choices → App

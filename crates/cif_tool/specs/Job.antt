@@ -5,16 +5,16 @@ use Rattle.std.specs.Prelude.{if◌then◌else◌}
 use Rattle.std.specs.Str.{bytes_eq}
 use Rattle.clap.specs.Words.{Row, Text, first_of}
 use Rattle.cif_canon.specs.declared.asked.Asked.{Asked}
-use Rattle.cif_canon.specs.declared.layout.Format.{Format}
-use Rattle.cif_canon.specs.declared.layout.Format.TheVariants as format
-use Rattle.cif_canon.specs.declared.layout.Layout.{Layout}
+use Rattle.cif_canon.specs.declared.rows.Format.{Format}
+use Rattle.cif_canon.specs.declared.rows.Format.TheVariants as format
+use Rattle.cif_views.specs.declared.listing.Listing.{Listing}
 use Rattle.cif_columns.specs.Day.{StandsInYymmdd}
 use Rattle.cif_columns.specs.Uid.{IsUid}
 use Rattle.cif_weeks.specs.declared.form.Form.{Form}
 use Rattle.cif_weeks.specs.declared.form.Form.TheVariants.{One, Two}
 use Rattle.cif_tool.specs.CommandLine.{AreFormats, AreForms, Choice, chosen, faults_of}
 use Rattle.cif_tool.specs.declared.job.Job.{Job}
-use Rattle.cif_tool.specs.declared.job.Job.TheVariants.{Check, Clashes, Compare, Day, Diff, Explain, Normalise, Train}
+use Rattle.cif_tool.specs.declared.job.Job.TheVariants.{Check, CheckAll, Clashes, Compare, Day, Diff, Explain, Normalise, Train}
 
 -- the matches have a word of this id
 abbrev pub HasWord : Text → List Row → Type 0
@@ -53,14 +53,18 @@ is_set None = false
 abbrev pub has_common : List Row → Bool
 has_common rows = is_set (first_of (codes "common") rows)
 
+-- whether `--all` is among the words
+abbrev pub has_all : List Row → Bool
+has_all rows = is_set (first_of (codes "all") rows)
+
 -- the format that the word of `--format` names
 abbrev pub format_of : Option Text → Format
 format_of (Some word) = if bytes_eq word (codes "tsv") then format.Tsv else format.Text
 format_of None = format.Text
 
--- the layout has this format, and the calls of each train if `--stops` is among the words
-abbrev pub layout_of : List Row → Layout
-layout_of rows = record { format = format_of (first_of (codes "format") rows); calls = is_set (first_of (codes "stops") rows) }
+-- the listing has this format, and the calls of each train if `--stops` is among the words
+abbrev pub listing_of : List Row → Listing
+listing_of rows = record { format = format_of (first_of (codes "format") rows); calls = is_set (first_of (codes "stops") rows) }
 
 -- the six columns of the word are a UID, and it is this one
 abbrev pub IsUidWord : Text → List ℕ → Type 0
@@ -83,19 +87,22 @@ pub record AreTwoFilesWords (rows : List Row) (left right : Text) (asked : Asked
 -- the subcommand is the job's, and its matches hold what the job holds
 abbrev pub IsChosen : Job → Text × List Row → Type 0
 IsChosen (Normalise file asked form) met = (met.0 ≡ codes "normalise") × AreCanonicalWords met.1 (option_map string_bytes file) asked form
-IsChosen (Check file asked form) met = (met.0 ≡ codes "check") × AreCanonicalWords met.1 (option_map string_bytes file) asked form
+IsChosen (Check file asked form) met = (met.0 ≡ codes "check") × (has_all met.1 ≡ false)
+    × AreCanonicalWords met.1 (option_map string_bytes file) asked form
+IsChosen (CheckAll file asked form) met = (met.0 ≡ codes "check") × (has_all met.1 ≡ true)
+    × AreCanonicalWords met.1 (option_map string_bytes file) asked form
 IsChosen (Compare left right asked common) met = (met.0 ≡ codes "compare")
     × AreTwoFilesWords met.1 (string_bytes left) (string_bytes right) asked common
 IsChosen (Diff left right asked common) met = (met.0 ≡ codes "diff")
     × AreTwoFilesWords met.1 (string_bytes left) (string_bytes right) asked common
-IsChosen (Day day file layout) met = (met.0 ≡ codes "day")
+IsChosen (Day day file listing) met = (met.0 ≡ codes "day")
     × IsDateOf (first_of (codes "YYMMDD") met.1) (Some day)
     × HasFile met.1 (option_map string_bytes file)
-    × (layout ≡ layout_of met.1)
-IsChosen (Train uid file asked form layout) met = (met.0 ≡ codes "train")
+    × (listing ≡ listing_of met.1)
+IsChosen (Train uid file asked form listing) met = (met.0 ≡ codes "train")
     × IsSomeAnd (first_of (codes "UID") met.1) (λ word. IsUidWord word uid)
     × AreCanonicalWords met.1 (option_map string_bytes file) asked form
-    × (layout ≡ layout_of met.1)
+    × (listing ≡ listing_of met.1)
 IsChosen (Explain uid day file shape) met = (met.0 ≡ codes "explain")
     × IsSomeAnd (first_of (codes "UID") met.1) (λ word. IsUidWord word uid)
     × IsDateOf (first_of (codes "YYMMDD") met.1) (Some day)
@@ -129,9 +136,10 @@ pub record Asks (words : List Text) (job : Job) : Type 0 where
 abbrev pub input_names : Job → Option Text × Option Text
 input_names (Normalise file asked form) = (option_map string_bytes file, None)
 input_names (Check file asked form) = (option_map string_bytes file, None)
+input_names (CheckAll file asked form) = (option_map string_bytes file, None)
 input_names (Compare left right asked common) = (Some (string_bytes left), Some (string_bytes right))
 input_names (Diff left right asked common) = (Some (string_bytes left), Some (string_bytes right))
-input_names (Day day file layout) = (option_map string_bytes file, None)
-input_names (Train uid file asked form layout) = (option_map string_bytes file, None)
+input_names (Day day file listing) = (option_map string_bytes file, None)
+input_names (Train uid file asked form listing) = (option_map string_bytes file, None)
 input_names (Explain uid day file shape) = (option_map string_bytes file, None)
 input_names (Clashes file asked) = (option_map string_bytes file, None)

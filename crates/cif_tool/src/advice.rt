@@ -5,11 +5,12 @@ use crate::devices::{ExtractInput, LONGEST, LineAgain, START, line_again};
 use crate::job::JobFault;
 use crate::message::Message;
 use crate::refused_columns::{RefusedColumns, columns_refused};
+use crate::status::REFUSED;
 use crate::words::mistaken_word;
 use arrayvec::ArrayString;
-use cif_canon::explain_view;
 use cif_columns::{LINE_WIDTH, MAX_LINES, Refusal, Sink, WriteDevice, as_text};
 use cif_extract::{Clash, Extract, Fault};
+use cif_views::explain_view;
 use itoa::Buffer;
 use std::alloc::Global;
 use std::rt::Files;
@@ -43,6 +44,7 @@ fn add_advice<'a, 'b, R: Files + Input>(
 ) {
     let last = if right.is_touched() { right } else { left };
     match answer {
+        Ok(REFUSED) => add_input(left, message),
         Ok(_) | Err(Fault::OutsideWindow | Fault::WindowsDiffer) => {
             add_window(left, message);
             add_window(right, message);

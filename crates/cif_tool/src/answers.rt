@@ -1,23 +1,30 @@
 //! What each command answers, for any devices, and which of them a job asks for.
+ghost use Rattle.std.specs.Prelude.{ℕ, List, IfErr, IfOk};
 ghost use Rattle.cif_canon.specs.Fault.{IsNormaliseFault};
+ghost use Rattle.cif_canon.specs.Normalised.{IsNormalised};
 ghost use Rattle.cif_canon.specs.Pair.{FaultOfBoth, IsCompareRefusal, ReadsBoth};
+ghost use Rattle.cif_columns.specs.Source.{Unread};
 ghost use Rattle.cif_columns.specs.declared.line_reader.TheConstants.{MAX_LINES};
+ghost use Rattle.cif_extract.specs.ExtractParts.{extract_parts};
 ghost use Rattle.cif_extract.specs.ReadFault.{FaultOf, FaultReads, LeavesNothing};
-ghost use Rattle.cif_tool.specs.Answer.{Answers, IsCheckAnswer, IsClashesAnswer, IsClashesRefusal};
+ghost use Rattle.cif_extract.specs.SpellsExtract.{BytesSpellWithin};
+ghost use Rattle.cif_tool.specs.Answer.{IsCountFault};
+ghost use Rattle.cif_tool.specs.Answer.{Answers, IsCheckAllAnswer, IsCheckAllFault, IsCheckAnswer, LeavesUnlessListed, IsClashesAnswer, IsClashesRefusal};
 ghost use Rattle.cif_tool.specs.Answer.{IsCompareAnswer, IsDayAnswer, IsDayRefusal, IsDiffAnswer};
 ghost use Rattle.cif_tool.specs.Answer.{IsExplainAnswer, IsExplainRefusal, IsHandedOn, IsJobAnswer};
 ghost use Rattle.cif_tool.specs.Answer.{IsJobFault, IsNormaliseAnswer, IsTrainAnswer, OfBoth, OfInput};
 ghost use Rattle.cif_tool.specs.Answer.{Finishes, ReadsInputs};
 
 use crate::job::Job;
-use crate::status::{DONE, listed, outcome};
+use crate::status::{DONE, REFUSED, listed, outcome};
 use cif_canon::{
-    Asked, Format, Layout, check_keeping, clashes, compare, day_listing, differences,
-    explain_listing, narrow, normalise_keeping, read_narrowed, read_pair, train_listing,
-    write_comparison, write_counts,
+    Asked, Counts, Format, canon, check_keeping, compare, differences, narrow, normalise_keeping,
+    read_narrowed, read_pair, write_comparison, write_counts,
 };
 use cif_columns::{Day, MAX_LINES, ReadDevice, Sink, Source, Uid, WriteDevice};
 use cif_extract::{Extract, Fault, read_extract};
+use cif_feed::Judged;
+use cif_views::{Listing, clashes, day_listing, explain_listing, train_listing};
 use cif_weeks::Form;
 use std::alloc::Global;
 
@@ -73,6 +80,63 @@ pub fn answer_check<R: ReadDevice, W: WriteDevice>(
     let counts = check_keeping(alloc, source, MAX_LINES, asked, form, kept)?;
     let written = write_counts(&counts, sink).map_err(Fault::from);
     finish(written, sink, DONE)
+}
+
+/// Writes which reasons the lines of what the source gives have to be refused, each by itself, how many
+/// lines have each, and the first of them, and answers status 3. If none has, it answers as `check` does.
+pub fn answer_check_all<R: ReadDevice, W: WriteDevice>(
+    alloc: Global,
+    source: &mut Source<R>,
+    sink: &mut Sink<W>,
+    asked: &Asked,
+    form: Form,
+    kept: &mut Option<Extract>,
+) -> Result<u8, Fault>
+    ensures answer { Answers W.contents W.write_errors
+        (OfInput R.remaining (IsCheckAllAnswer form asked.now) source.old)
+        sink.old sink.new result }
+    ensures fault { FaultOf R.remaining (IsCheckAllFault asked.now) source.old source.new result }
+    ensures source { FaultReads R.read_errors source.old source.new result }
+    ensures end { LeavesUnlessListed R.remaining source.old source.new result }
+    ensures handed_on { IsHandedOn W.holds_nothing sink.new result }
+{
+    match Judged::read(alloc, source, MAX_LINES)? {
+        Judged::Reasons(reasons) => {
+            let written = reasons.write(sink).map_err(Fault::from);
+            finish(written, sink, REFUSED)
+        }
+        Judged::Extract(extract) => {
+            let counts = counted(alloc, extract, asked, form, kept)?;
+            let written = write_counts(&counts, sink).map_err(Fault::from);
+            finish(written, sink, DONE)
+        }
+    }
+}
+
+/// How many records the canonical extract has of this one, narrowed to the window that is asked for, or
+/// why there is none. The extract is left in `kept`.
+fn counted(
+    alloc: Global,
+    extract: Extract,
+    asked: &Asked,
+    form: Form,
+    kept: &mut Option<Extract>,
+) -> Result<Counts, Fault>
+    ensures ok { IfOk result (λ counts. (bytes : List ℕ)
+        → BytesSpellWithin MAX_LINES bytes (extract_parts extract)
+        → (text : List ℕ) × IsNormalised form asked.now MAX_LINES bytes text counts) }
+    ensures fault { IfErr result (λ fault. (bytes : List ℕ) (after : Unread)
+        → BytesSpellWithin MAX_LINES bytes (extract_parts extract)
+        → IsNormaliseFault MAX_LINES asked.now bytes after fault) }
+    ensures silent { IfErr result IsCountFault }
+{
+    let mut extract = extract;
+    narrow(&mut extract, asked)?;
+    let extract = kept.insert(extract);
+    match canon(alloc, extract, form) {
+        Ok(canon) => Ok(canon.counts()),
+        Err(fault) => Err(fault),
+    }
 }
 
 /// Writes how the extracts of two sources compare, and answers 0 where they say the same, else 1.
@@ -132,17 +196,17 @@ pub fn answer_diff<R: ReadDevice, W: WriteDevice>(
     finish(found.write(sink), sink, listed(found.is_empty()))
 }
 
-/// Writes what runs on the day, in this layout, and answers status 0.
+/// Writes what runs on the day, in this listing, and answers status 0.
 pub fn answer_day<R: ReadDevice, W: WriteDevice>(
     alloc: Global,
     source: &mut Source<R>,
     sink: &mut Sink<W>,
     day: Day,
-    layout: Layout,
+    listing: Listing,
     kept: &mut Option<Extract>,
 ) -> Result<u8, Fault>
     ensures answer { Answers W.contents W.write_errors
-        (OfInput R.remaining (IsDayAnswer layout day) source.old)
+        (OfInput R.remaining (IsDayAnswer listing day) source.old)
         sink.old sink.new result }
     ensures fault { FaultOf R.remaining (IsDayRefusal day) source.old source.new result }
     ensures source { FaultReads R.read_errors source.old source.new result }
@@ -151,10 +215,10 @@ pub fn answer_day<R: ReadDevice, W: WriteDevice>(
 {
     let extract = read_extract(alloc, source, MAX_LINES)?;
     let extract = kept.insert(extract);
-    finish(day_listing(alloc, extract, day, sink, layout), sink, DONE)
+    finish(day_listing(alloc, extract, day, sink, listing), sink, DONE)
 }
 
-/// Writes when the train runs, in this layout, and answers status 0.
+/// Writes when the train runs, in this listing, and answers status 0.
 pub fn answer_train<R: ReadDevice, W: WriteDevice>(
     alloc: Global,
     source: &mut Source<R>,
@@ -162,11 +226,11 @@ pub fn answer_train<R: ReadDevice, W: WriteDevice>(
     uid: &Uid,
     asked: &Asked,
     form: Form,
-    layout: Layout,
+    listing: Listing,
     kept: &mut Option<Extract>,
 ) -> Result<u8, Fault>
     ensures answer { Answers W.contents W.write_errors
-        (OfInput R.remaining (IsTrainAnswer layout form asked.now uid.now) source.old)
+        (OfInput R.remaining (IsTrainAnswer listing form asked.now uid.now) source.old)
         sink.old sink.new result }
     ensures fault { FaultOf R.remaining (IsNormaliseFault MAX_LINES asked.now)
         source.old source.new result }
@@ -177,7 +241,7 @@ pub fn answer_train<R: ReadDevice, W: WriteDevice>(
     let extract = read_narrowed(alloc, source, MAX_LINES, asked)?;
     let extract = kept.insert(extract);
     finish(
-        train_listing(alloc, extract, uid, sink, form, layout),
+        train_listing(alloc, extract, uid, sink, form, listing),
         sink,
         DONE,
     )
@@ -272,6 +336,11 @@ pub fn answer<R: ReadDevice, W: WriteDevice>(
             asked,
             form,
         } => answer_check(alloc, source, sink, asked, *form, &mut kept.left),
+        Job::CheckAll {
+            file: _,
+            asked,
+            form,
+        } => answer_check_all(alloc, source, sink, asked, *form, &mut kept.left),
         Job::Compare {
             left: _,
             right: _,
@@ -287,14 +356,14 @@ pub fn answer<R: ReadDevice, W: WriteDevice>(
         Job::Day {
             day,
             file: _,
-            layout,
-        } => answer_day(alloc, source, sink, *day, *layout, &mut kept.left),
+            listing,
+        } => answer_day(alloc, source, sink, *day, *listing, &mut kept.left),
         Job::Train {
             uid,
             file: _,
             asked,
             form,
-            layout,
+            listing,
         } => answer_train(
             alloc,
             source,
@@ -302,7 +371,7 @@ pub fn answer<R: ReadDevice, W: WriteDevice>(
             uid,
             asked,
             *form,
-            *layout,
+            *listing,
             &mut kept.left,
         ),
         Job::Explain {

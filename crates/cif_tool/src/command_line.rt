@@ -48,6 +48,7 @@ enum Argument {
     Date,
     From,
     To,
+    All,
     Common,
     Stops,
     Form,
@@ -100,6 +101,11 @@ impl Argument {
                 kind: Kind::Date,
                 help: help::TO,
             },
+            Argument::All => Given {
+                id: "all",
+                kind: Kind::Flag,
+                help: help::ALL,
+            },
             Argument::Common => Given {
                 id: "common",
                 kind: Kind::Flag,
@@ -123,15 +129,6 @@ impl Argument {
         }
     }
 }
-
-/// What `normalise` and `check` take.
-const CANONICAL: [Argument; 5] = [
-    Argument::Verbose,
-    Argument::File,
-    Argument::From,
-    Argument::To,
-    Argument::Form,
-];
 
 /// What `compare` and `diff` take.
 const TWO_FILES: [Argument; 6] = [
@@ -219,13 +216,26 @@ fn subcommands() -> &'static [Parts<'static>]
             name: "normalise",
             about: help::NORMALISE,
             more: help::NORMALISE_MORE,
-            arguments: &CANONICAL,
+            arguments: &[
+                Argument::Verbose,
+                Argument::File,
+                Argument::From,
+                Argument::To,
+                Argument::Form,
+            ],
         },
         Parts {
             name: "check",
             about: help::CHECK,
             more: help::CHECK_MORE,
-            arguments: &CANONICAL,
+            arguments: &[
+                Argument::Verbose,
+                Argument::File,
+                Argument::From,
+                Argument::To,
+                Argument::Form,
+                Argument::All,
+            ],
         },
         Parts {
             name: "compare",

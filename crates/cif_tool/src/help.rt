@@ -39,16 +39,21 @@ pub(crate) const CHECK: &str = "Says whether an extract is accepted, and counts 
 pub(crate) const CHECK_MORE: &str = "\
 Prints one line, with the numbers of records in the canonical extract:
   accepted: T tiplocs, A associations, S schedules
+With --all each line is judged by itself first, even if an earlier one is
+refused. If some are refused, prints a line for each reason instead:
+  REASON: N lines, first at line L
 Form 1 joins weeks that have the same days. Form 2 also joins a week that the
 window cuts, if the days that are left of it are alike.
 
-Example:
+Examples:
   cif check extract.cif
+  cif check --all extract.cif
 
 Statuses:
   0  accepted
   2  a usage error
-  3  the input is refused, or the dates asked for don't fit its window
+  3  the input is refused, or the dates asked for don't fit its window;
+     with --all also: lines are refused
   4  reading or writing failed, or memory ran out";
 
 pub(crate) const COMPARE: &str = "Says whether two extracts differ, and where first";
@@ -187,6 +192,8 @@ pub(crate) const FROM: &str = "First date of the window [default: the header's]"
 pub(crate) const TO: &str = "Last date of the window [default: the header's]";
 
 pub(crate) const VERBOSE: &str = "Say more on standard error";
+
+pub(crate) const ALL: &str = "Judge each line by itself, and count the reasons to refuse them";
 
 pub(crate) const COMMON: &str = "Use the common window for dates that aren't given";
 

@@ -5,9 +5,10 @@ ghost use Rattle.cif_tool.specs.declared.job.TheConstants.{LONGEST_LINE};
 use crate::message::escaped;
 use crate::status::{DONE, FAILED, MISTAKEN};
 use arrayvec::ArrayString;
-use cif_canon::{Asked, Format, Layout};
+use cif_canon::{Asked, Format};
 use cif_columns::{Day, Sink, Uid, WriteDevice};
 use cif_extract::Fault;
+use cif_views::Listing;
 use cif_weeks::Form;
 use clap::error::ErrorKind;
 use std::alloc::{AllocError, Global};
@@ -27,6 +28,12 @@ pub enum Job {
         asked: Asked,
         form: Form,
     },
+    /// To say which lines have a reason to be refused by themselves, or else what `Check` says.
+    CheckAll {
+        file: Option<String>,
+        asked: Asked,
+        form: Form,
+    },
     /// To say where two extracts first differ. With `common`, dates that aren't asked for are those
     /// of the window that both have in common.
     Compare {
@@ -42,19 +49,19 @@ pub enum Job {
         asked: Asked,
         common: bool,
     },
-    /// To list what runs on a day, in this layout.
+    /// To list what runs on a day, in this listing.
     Day {
         day: Day,
         file: Option<String>,
-        layout: Layout,
+        listing: Listing,
     },
-    /// To list the canonical schedules of a train, in this layout.
+    /// To list the canonical schedules of a train, in this listing.
     Train {
         uid: Uid,
         file: Option<String>,
         asked: Asked,
         form: Form,
-        layout: Layout,
+        listing: Listing,
     },
     /// To say why a train runs on a day, or doesn't, in this format.
     Explain {
@@ -82,6 +89,7 @@ impl Job {
         match self {
             Job::Normalise { file, .. }
             | Job::Check { file, .. }
+            | Job::CheckAll { file, .. }
             | Job::Day { file, .. }
             | Job::Train { file, .. }
             | Job::Explain { file, .. }

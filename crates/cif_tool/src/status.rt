@@ -17,7 +17,7 @@ pub const DIFFERENT: u8 = 1;
 /// The words of the call are mistaken.
 pub const MISTAKEN: u8 = 2;
 
-/// An input is refused, or a date that was asked for.
+/// An input is refused, or a date that was asked for; of `check --all`, that lines have reasons.
 pub const REFUSED: u8 = 3;
 
 /// A file, a standard stream or a request for memory failed.

@@ -6,14 +6,15 @@ ghost use Rattle.clap.specs.Words.{subcommand_rows_of};
 ghost use Rattle.cif_columns.specs.Day.{StandsInYymmdd};
 ghost use Rattle.cif_tool.specs.Job.{Asks, HasFile, HasWord, IsAskedBy};
 ghost use Rattle.cif_tool.specs.Job.{IsChosen, IsDateOf, IsTaken, IsUidWord, form_of, format_of, is_set};
-ghost use Rattle.cif_tool.specs.Job.{is_standard, layout_of};
+ghost use Rattle.cif_tool.specs.Job.{is_standard, listing_of};
 ghost use Rattle.cif_tool.specs.JobFault.{HasBadDate, IsFaultOf, IsJobOf, IsWordFault, NamesNoDay};
 ghost use Rattle.cif_tool.specs.JobFault.{IsNoUid};
 
 use crate::command_line::matches_of;
 use crate::job::{Job, JobFault};
-use cif_canon::{Asked, Format, Layout};
+use cif_canon::{Asked, Format};
 use cif_columns::{Day, Uid, are_printable};
+use cif_views::Listing;
 use cif_weeks::Form;
 use clap::ArgMatches;
 use clap::error::ErrorKind;
@@ -128,6 +129,7 @@ fn canonical_job(alloc: Global, name: &str, matches: &ArgMatches<'_>) -> Result<
     let file = file_of(alloc, matches)?;
     match name {
         "normalise" => Ok(Job::Normalise { file, asked, form }),
+        _ if has_flag(matches, "all") => Ok(Job::CheckAll { file, asked, form }),
         _ => Ok(Job::Check { file, asked, form }),
     }
 }
@@ -175,7 +177,7 @@ fn day_job(alloc: Global, matches: &ArgMatches<'_>) -> Result<Job, JobFault>
     Ok(Job::Day {
         day,
         file: file_of(alloc, matches)?,
-        layout: layout_of(matches),
+        listing: listing_of(matches),
     })
 }
 
@@ -192,7 +194,7 @@ fn train_job(alloc: Global, matches: &ArgMatches<'_>) -> Result<Job, JobFault>
         asked: asked_of(matches)?,
         form: form_of(matches),
         file: file_of(alloc, matches)?,
-        layout: layout_of(matches),
+        listing: listing_of(matches),
     })
 }
 
@@ -316,11 +318,11 @@ fn has_flag(matches: &ArgMatches<'_>, id: &str) -> bool
     matches!(word_of(matches, id), Some("true"))
 }
 
-/// The layout that the words name.
-fn layout_of(matches: &ArgMatches<'_>) -> Layout
-    ensures { result ≡ layout_of (rows_of (found_of matches.now)) }
+/// The listing that the words name.
+fn listing_of(matches: &ArgMatches<'_>) -> Listing
+    ensures { result ≡ listing_of (rows_of (found_of matches.now)) }
 {
-    Layout {
+    Listing {
         format: format_of(matches),
         calls: has_flag(matches, "stops"),
     }

@@ -3,11 +3,12 @@ use crate::calendars::{write_calendar, write_runs};
 use crate::checksum::Checksum;
 use crate::records::write_records;
 use cif_canon::{
-    Asked, canon, check, clashes, compare, day_view, differences, explain_view, normalise,
-    train_view, write_comparison, write_counts,
+    Asked, canon, check, compare, day_view, differences, normalise, train_view, write_comparison,
+    write_counts,
 };
 use cif_columns::{Day, MAX_LINES, Sink, Source, Uid, WriteDevice, WriteFault};
 use cif_extract::{Extract, Fault, read_extract};
+use cif_views::{clashes, explain_view};
 use cif_weeks::Form;
 use std::alloc::Global;
 

@@ -117,7 +117,7 @@ def some_uid(rng):
 
 
 def association_key(rng, before):
-    """A key, often one that differs in one part from a key before, or that has its first parts alone."""
+    """A key, often one that differs in one part from a key before, has its first parts alone, or its trains the other way."""
     parts = {
         "base": some_uid(rng),
         "associated": some_uid(rng),
@@ -129,6 +129,8 @@ def association_key(rng, before):
         names = list(parts)
         others = [rng.choice(names)] if rng.random() < 0.5 else names[rng.randint(1, 3) :]
         parts = dict(rng.choice(before)) | {name: parts[name] for name in others}
+        if rng.random() < 0.2:
+            parts |= {"base": parts["associated"], "associated": parts["base"]}
     return tuple(parts.items())
 
 

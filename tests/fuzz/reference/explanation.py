@@ -21,10 +21,10 @@ def explained_key(kind, fields_of, key, entries, day):
 
 
 def explained(extract, uid, day):
-    """The lines of the associations whose base UID it is, and then those of the train."""
+    """The lines of the associations that have the UID, and then those of the train."""
     lines = []
     for key, entries in by_key(extract.associations):
-        if key[0] == uid:
+        if uid in key[:2]:
             lines += explained_key("AA", association_fields, key, entries, day)
     for key, entries in by_key(extract.schedules):
         if key == (uid,):

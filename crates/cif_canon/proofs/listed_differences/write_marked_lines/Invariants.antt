@@ -2,7 +2,7 @@
 use Rattle.std.proofs.Common.{◌≡◌, ◌∷◌, ◌++◌, [], ℕ, List, length}
 use Rattle.std.specs.List.{flat_map}
 use Rattle.cif_canon.specs.Differences.{marked_text}
-use Rattle.cif_canon.specs.Steps.Writing.{IsAppended}
+use Rattle.cif_canon.specs.Appended.{IsAppended}
 use Rattle.cif_canon.proofs.listed_differences.write_marked_lines.Given as goal
 
 abbrev pub invariant-loop-rest : goal.invariant-loop-rest

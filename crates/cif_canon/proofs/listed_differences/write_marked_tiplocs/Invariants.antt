@@ -2,7 +2,7 @@
 use Rattle.std.proofs.Common.{take}
 use Rattle.std.specs.List.{flat_map}
 use Rattle.cif_canon.specs.Differences.{marked_tiploc}
-use Rattle.cif_canon.specs.Steps.Writing.{IsAppended}
+use Rattle.cif_canon.specs.Appended.{IsAppended}
 use Rattle.cif_canon.proofs.listed_differences.write_marked_tiplocs.Given as goal
 
 abbrev pub invariant-loop-tiploc : goal.invariant-loop-tiploc

@@ -4,4 +4,4 @@ use Rattle.cif_columns.proofs.FeedPlaces.{place}
 use Rattle.cif_columns.proofs.ahead.line_feed.Given as goal
 
 abbrev pub invariant-loop-at : goal.invariant-loop-at
-invariant-loop-at l = l.at ≤ place l.bytes
+invariant-loop-at g l = l.at ≤ place l.bytes

@@ -13,6 +13,11 @@ returns-in-Check g c =
     let e = c.answer_check.ensures in
     rw c.in-Check.is record { answer = e.answer; fault = e.fault; sources = (e.source, e.end, refl); handed_on = e.handed_on }
 
+pub returns-in-CheckAll : goal.returns-in-CheckAll
+returns-in-CheckAll g c =
+    let e = c.answer_check_all.ensures in
+    rw c.in-CheckAll.is record { answer = e.answer; fault = e.fault; sources = (e.source, refl); handed_on = e.handed_on }
+
 pub returns-in-Compare : goal.returns-in-Compare
 returns-in-Compare g c =
     let e = c.answer_compare.ensures in

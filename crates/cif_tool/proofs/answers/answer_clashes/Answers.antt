@@ -4,7 +4,7 @@ use Rattle.cif_columns.proofs.GivenLinesLaws.{known_so}
 use Rattle.cif_columns.specs.Source.{unread_of}
 use Rattle.cif_extract.specs.ExtractParts.{extract_parts}
 use Rattle.cif_extract.specs.declared.fault.Fault.TheVariants.{Read, Write}
-use Rattle.cif_canon.specs.Clashes.{clashes_text}
+use Rattle.cif_views.specs.Clashes.{clashes_text}
 use Rattle.cif_canon.proofs.HandedFaults.{at-fault, hands, known-fault}
 use Rattle.cif_tool.specs.Answer.{IsClashesRefusal}
 use Rattle.cif_tool.specs.Status.{listed_status}

@@ -19,7 +19,7 @@ returns-clause-answer g c =
     let view = call.ensures.view in
     let x = extract_parts c.insert-extract.result.now in
     handed _ _ _ _ view.0 0 _ call.result call.new.sink c.finish.new.sink c.finish.result view.1
-    (written-then _ _ _ call.result (day-answer _ x read c.args.layout c.args.day view.0) view.2)
+    (written-then _ _ _ call.result (day-answer _ x read c.args.listing c.args.day view.0) view.2)
     c.finish.ensures.finishes
 
 pub returns-clause-fault : goal.returns-clause-fault

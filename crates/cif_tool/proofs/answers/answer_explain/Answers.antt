@@ -4,7 +4,7 @@ use Rattle.cif_columns.proofs.GivenLinesLaws.{known_so}
 use Rattle.cif_columns.specs.Source.{unread_of}
 use Rattle.cif_extract.specs.ExtractParts.{extract_parts}
 use Rattle.cif_extract.specs.declared.fault.Fault.TheVariants.{Read}
-use Rattle.cif_canon.specs.Explanation.{IsExplanationFault}
+use Rattle.cif_views.specs.Explanation.{IsExplanationFault}
 use Rattle.cif_tool.specs.Answer.{IsExplainRefusal}
 use Rattle.cif_tool.proofs.Answered.{handed, handed-fault, written-then}
 use Rattle.cif_canon.proofs.BothRead.{read-on}

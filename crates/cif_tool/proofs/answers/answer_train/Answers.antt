@@ -34,7 +34,7 @@ returns-clause-answer g c =
     let view = call.ensures.view in
     handed _ _ _ _ view.0 0 _ call.result call.new.sink c.finish.new.sink c.finish.result view.1
     (written-then _ _ _ call.result (train-answer _ c.args.asked.now (extract_parts c.insert-extract.result.now) read
-    c.args.layout c.args.form c.args.uid.now view.0) view.2) c.finish.ensures.finishes
+    c.args.listing c.args.form c.args.uid.now view.0) view.2) c.finish.ensures.finishes
 
 pub returns-clause-fault : goal.returns-clause-fault
 returns-clause-fault g c =

@@ -15,7 +15,7 @@ returns-in-Some-clause-found g c =
     c.loop-found.invariant.same_bytes (c.in-Some.ensures.decided refl) c.in-Some.ensures.found
 
 pub fill-requires : goal.fill-requires
-fill-requires g c = rw c.in_default.ensures.kept (undecided_short _ _ c.in_default.ensures.none)
+fill-requires g c = omega (arith, undecided_short _ _ c.in_default.ensures.none, ap length c.in_default.ensures.kept)
 
 pub loop-found-smaller : goal.loop-found-smaller
 loop-found-smaller g c =

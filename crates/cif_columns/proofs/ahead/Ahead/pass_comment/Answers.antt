@@ -13,7 +13,7 @@ returns-in-Some-clause-found g c =
     (held_bytes c.decided_comment.new.self) c.in-Some.first c.loop-first.invariant.same_bytes c.in-Some.ensures.found
 
 pub fill-requires : goal.fill-requires
-fill-requires g c = rw c.in_default.ensures.kept (undecided_short _ _ c.in_default.ensures.none)
+fill-requires g c = omega (arith, undecided_short _ _ c.in_default.ensures.none, ap length c.in_default.ensures.kept)
 
 pub loop-first-smaller : goal.loop-first-smaller
 loop-first-smaller g c =

@@ -1,0 +1,7 @@
+-- The line is that of the row's fields.
+use Rattle.std.proofs.Common.{◌++◌, List, ℕ, ap, codes}
+use Rattle.cif_canon.proofs.AppendedTexts.{text-is}
+use Rattle.cif_canon.proofs.views.TextLinesTrainLines.write_schedule.Goals as goal
+
+pub returns : goal.returns
+returns g c = text-is _ _ _ _ _ _ (ap (λ (l : List ℕ). l ++ codes "\n") c.schedule_row.ensures.text) c.write_line.ensures

@@ -1,0 +1,43 @@
+-- The text has to be named: heading and one train's records; `train-listed` says it is the listing.
+use Rattle.std.proofs.Common.{◌++◌, List, ℕ}
+use Rattle.std.specs.Cmp.Lexicographic.{slice_cmp}
+use Rattle.std.specs.List.{flat_map}
+use Rattle.std.specs.Ordering.{nat_cmp}
+use Rattle.cif_calendar.specs.Entries.{schedule_entries, schedule_entry}
+use Rattle.cif_extract.specs.ExtractParts.{extract_parts}
+use Rattle.cif_canon.specs.Asked.{header_window}
+use Rattle.cif_canon.specs.Steps.Texts.{run_text}
+use Rattle.cif_canon.specs.Steps.Views.{listed_of}
+use Rattle.cif_canon.specs.Views.{TrainTexts}
+use Rattle.cif_canon.proofs.AppendedTexts.{both, fault-answered, text-is}
+use Rattle.cif_canon.proofs.RunTexts.{sources-within}
+use Rattle.cif_canon.proofs.ViewTexts.{have-lines, sliced, train-listed, written-so}
+use Rattle.cif_canon.proofs.views.write_train.Goals as goal
+
+pub write_runs-requires-clause-within : goal.write_runs-requires-clause-within
+write_runs-requires-clause-within g c =
+    sources-within schedule_entry c.as_slice.result.now c.as_slice-2.result.now
+    (have-lines (slice_cmp nat_cmp) c.args.form (header_window c.args.extract.now.header) schedule_entry c.as_slice.result.now _
+    c.as_slice-2.result.now _ c.as_slice.ensures.value c.as_slice-2.ensures.value c.in_ok-runs.ensures.schedules)
+
+pub write_runs-requires-clause-records : goal.write_runs-requires-clause-records
+write_runs-requires-clause-records g c =
+    have-lines (slice_cmp nat_cmp) c.args.form (header_window c.args.extract.now.header) schedule_entry c.as_slice.result.now _
+    c.as_slice-2.result.now _ c.as_slice.ensures.value c.as_slice-2.ensures.value c.in_ok-runs.ensures.schedules
+
+pub returns-clause-view : goal.returns-clause-view
+returns-clause-view g c =
+    let x = extract_parts c.args.extract.now in
+    let uid = c.args.uid.now in
+    let runs = c.in_ok-runs.runs in
+    let listed : TrainTexts =
+    record { heading = c.args.heading.now; schedule = g.L.TrainLines.schedule c.args.lines.now } in
+    let text : List ℕ = flat_map (run_text (listed_of listed.schedule uid) (schedule_entries x.schedules)) runs.schedules.items in (
+      listed.heading ++ text,
+      fault-answered _ _ _ _ _ c.answer.result c.answer.ensures.ok c.answer.ensures.failed c.answer.ensures.fault
+          (both _ _ listed.heading text _ _ _ c.append.ensures
+          (text-is _ _ _ _ _ _ (sliced (listed_of listed.schedule uid) schedule_entry c.as_slice.result.now x.schedules
+          c.as_slice-2.result.now runs.schedules.items c.as_slice.ensures.value c.as_slice-2.ensures.value) c.write_runs.ensures)),
+      written-so c.answer.result _ (train-listed listed x uid c.args.form runs.associations.items runs.schedules.items
+          c.in_ok-runs.ensures.associations c.in_ok-runs.ensures.schedules),
+    )

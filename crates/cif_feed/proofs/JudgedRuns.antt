@@ -1,0 +1,313 @@
+-- What the judged contents so far have come to, and how their judging ends.
+use Rattle.std.proofs.Common.{◌≡◌, ◌≢◌, ◌⊎◌, ℕ, ◌+◌, ◌-◌, ◌<◌, ◌≤◌, Bool, true, false, cond, nat_eq, nat_lt, List, [], ◌∷◌, ◌++◌, ◌||◌, length, take, Option, Some, None}
+use Rattle.std.proofs.Common.{IfErr, IfOk, IfSome, IsSomeAnd, Result, Ok, Err, refl, sym, ap, ◌∙◌, subst, arith, get_or, inl, inr, length-append}
+use Rattle.std.proofs.Common.{length-take, true≢false, ⊎_elim}
+use Rattle.std.proofs.lemmas.Bool.Decides.{nat_tests}
+use Rattle.std.proofs.lemmas.List.Elements.{All-contains, All-head, All-map, All-tail}
+use Rattle.std.proofs.lemmas.List.{get_or_default}
+use Rattle.std.specs.List.{list_all, list_any, slice_index}
+use Rattle.std.specs.Prelude.{All, Contains}
+use Rattle.std.specs.Str.Lines.{lines_of_parts, strip_carriage_return}
+use Rattle.cif_columns.specs.ContentReader.{IsNextOf}
+use Rattle.cif_columns.specs.Contents.{contents_of}
+use Rattle.cif_columns.specs.FirstLine.{is_printable, line_of}
+use Rattle.cif_columns.specs.JudgedContents.{IsGiven, MayGoOn, has_overlong, is_overlong, judged_contents, parts_of}
+use Rattle.cif_columns.specs.Line.{IsLine}
+use Rattle.cif_columns.specs.Source.{HasReadOn, Unread, reader_of, source_ended, unread_of}
+use Rattle.cif_columns.specs.declared.content_reader.ContentReader.{ContentReader}
+use Rattle.cif_columns.specs.declared.refusal.LineFault.{LineFault}
+use Rattle.cif_columns.specs.declared.refusal.LineFault.TheVariants as line_fault
+use Rattle.cif_columns.specs.declared.refusal.Refusal.{Refusal}
+use Rattle.cif_columns.specs.declared.refusal.Refusal.TheVariants as refusal
+use Rattle.cif_columns.specs.declared.source.Source.{Source}
+use Rattle.cif_columns.proofs.ContentRuns.{AreAll, HasGiven, given_failed, given_too_many}
+use Rattle.cif_columns.proofs.GivenLinesLaws.{known_so}
+use Rattle.cif_columns.proofs.JudgedContents.{judged_all}
+use Rattle.cif_extract.specs.ExtractParts.{ExtractParts, extract_parts}
+use Rattle.cif_extract.specs.Fault.{of_line_fault}
+use Rattle.cif_extract.specs.FirstRefusal.{IsRefusedLine, IsTruncated, order_refusal, refusal_of}
+use Rattle.cif_extract.specs.OrderOfRecords.{place_behind}
+use Rattle.cif_extract.specs.ReadFault.{FaultReads, IsOfReading}
+use Rattle.cif_extract.specs.SpellsExtract.{BytesSpellWithin, SpellExtract}
+use Rattle.cif_extract.specs.declared.extract.Extract.{Extract}
+use Rattle.cif_extract.specs.declared.fault.Fault.{Fault}
+use Rattle.cif_extract.specs.declared.fault.Fault.TheVariants as fault
+use Rattle.cif_extract.proofs.OrderLaws.{spelled_fine}
+use Rattle.cif_extract.proofs.SpelledBytes.{one_spelled, spelled-refused}
+use Rattle.cif_records.specs.Checks.{first_of, unless}
+use Rattle.cif_records.specs.Kind.{kind_in}
+use Rattle.cif_records.specs.Record.{record_refusal}
+use Rattle.cif_feed.specs.Judged.{HaveNone, HaveReasons, IsJudgedAs, IsJudgedFault, IsJudgedWhole, IsOutOfPlace, IsReadAsJudged, JudgedLeaves}
+use Rattle.cif_feed.specs.Judged.{NoneHasReason}
+use Rattle.cif_feed.specs.Reasons.{TellReasons, own_reason, reasons_in, reasons_of}
+use Rattle.cif_feed.specs.Steps.Judging.{HasJudged, IsFinished, IsInOrder, SomeHasReason}
+use Rattle.cif_feed.specs.declared.judged.Judging.{Judging}
+use Rattle.cif_feed.specs.declared.judged.Order.{Order}
+use Rattle.cif_feed.specs.declared.judged.Judged.{Judged}
+use Rattle.cif_feed.specs.declared.judged.Judged.TheVariants as judged
+use Rattle.cif_feed.specs.declared.reasons.Reasons.{Reasons}
+use Rattle.cif_feed.proofs.OwnReasons.{judged_line, own_none, own_of_line, reasons_of_more, refused_number}
+use Rattle.cif_feed.proofs.ToldReasons.{tell_nothing}
+
+-- ---- contents that spell an extract
+
+-- what isn't refused behind others has no reason by itself
+own_of_fine : (max : ℕ) (before : List (List ℕ)) (c : List ℕ) → refusal_of max before c ≡ None → own_reason c ≡ None
+unfolding refusal_of own_reason
+own_of_fine max before c is =
+    at (nat_lt (length before) max) (nat_eq (length c) 80) (list_all is_printable c) (order_refusal (place_behind before) (kind_in c)) is
+  where
+    at : (f w p : Bool) (o : Option Refusal)
+        → first_of (unless f refusal.TooManyLines ∷ unless w refusal.BadLength ∷ unless p refusal.BadByte ∷ o ∷ record_refusal c ∷ []) ≡ None
+        → first_of (unless w refusal.BadLength ∷ unless p refusal.BadByte ∷ record_refusal c ∷ []) ≡ None
+    at true true true None is = is
+    at true true true (Some x) is = absurd (cc)
+    at true true false o is = absurd (cc)
+    at true false p o is = absurd (cc)
+    at false w p o is = absurd (cc)
+
+stripped_long : (l : List ℕ) → length l ≤ length (strip_carriage_return l) + 1
+stripped_long l = at (nat_eq (slice_index l (length l - 1)) 13)
+  where
+    at : (b : Bool) → length l ≤ length (cond b (take (length l - 1) l) l) + 1
+    at true = omega (arith, length-take (length l - 1) l)
+    at false = omega arith
+
+overlong_no : (part : List ℕ) → length part < 10000 → is_overlong part ≡ false
+overlong_no part short = grind (arith, nat_tests)
+
+-- no line is overlong
+lines_short : (parts : List (List ℕ)) → All IsLine (lines_of_parts parts) → list_any is_overlong parts ≡ false
+lines_short [] all = refl
+lines_short (x ∷ []) all = at (nat_eq (length x) 0) refl all
+  where
+    at : (b : Bool) → b ≡ nat_eq (length x) 0 → All IsLine (cond b [] (x ∷ [])) → (is_overlong x || false) ≡ false
+    at true e all =
+        let short : length x < 10000 = grind (arith, nat_tests) in
+        ap (λ b. b || false) (overlong_no x short)
+    at false e all =
+        let wide = (All-head IsLine x [] all).width in
+        ap (λ b. b || false) (overlong_no x (omega (arith, wide)))
+lines_short (x ∷ y ∷ parts) all =
+    let wide = (All-head IsLine (strip_carriage_return x) (lines_of_parts (y ∷ parts)) all).width in
+    let short : length x < 10000 = omega (arith, wide, stripped_long x) in
+    ap (λ b. b || list_any is_overlong (y ∷ parts)) (overlong_no x short)
+    ∙ lines_short (y ∷ parts) (All-tail IsLine (strip_carriage_return x) (lines_of_parts (y ∷ parts)) all)
+
+lines_not_overlong : (bytes : List ℕ) → All IsLine (contents_of bytes) → has_overlong bytes ≡ false
+unfolding has_overlong
+lines_not_overlong bytes all = lines_short (parts_of bytes) all
+
+module _ (max : ℕ) (bytes : List ℕ) (x : ExtractParts) (spells : BytesSpellWithin max bytes x) where
+  all_judged : judged_contents bytes ≡ contents_of bytes
+  all_judged = judged_all bytes (lines_not_overlong bytes spells.spell.are_lines)
+
+  -- no line of what spells an extract has a reason
+  none_of_spelled : NoneHasReason (contents_of bytes)
+  none_of_spelled =
+      let fine = spelled_fine max (contents_of bytes) x spells.within spells.spell.are_lines spells.spell.spelled in
+      λ k d below. own_at k d below (own_of_fine max (take k (contents_of bytes)) (get_or (contents_of bytes) k []) (fine.fine k below))
+    where
+      own_at : (k : ℕ) (d : List ℕ) → k < length (contents_of bytes) → own_reason (get_or (contents_of bytes) k []) ≡ None
+          → own_reason (get_or (contents_of bytes) k d) ≡ None
+      own_at k d below is = ap own_reason (get_or_default (contents_of bytes) k d [] below) ∙ is
+
+  none_is : (contents : List (List ℕ)) → NoneHasReason contents → (why : Refusal) → Contains (reasons_of contents) (Some why) → ⊥
+  none_is contents none why there =
+      let all = All-map (λ (r : Option Refusal). r ≡ None) own_reason contents none in
+      let is : Some why ≡ None = All-contains (λ (r : Option Refusal). r ≡ None) (reasons_of contents) (Some why) all there in
+      absurd (cc)
+
+  judged_only : (after : Unread) (result : Result Judged Fault) → IfOk result (IsJudgedAs max bytes after)
+      → IfErr result (IsJudgedFault max bytes after) → IsReadAsJudged x result
+  judged_only after (Ok (judged.Extract extract)) ok err =
+      one_spelled bytes (extract_parts extract) x ok.spell.spell spells.spell
+  judged_only after (Ok (judged.Reasons told)) ok err =
+      absurd (none_is (judged_contents bytes) (rw all_judged none_of_spelled) ok.why ok.some)
+  judged_only after (Err (fault.Refused line refusal.TooManyLines)) ok err =
+      absurd (omega (arith, err.over, ap length all_judged, spells.within))
+  judged_only after (Err (fault.Refused line why)) ok err = absurd (spelled-refused max bytes x spells line why err.first)
+  judged_only after (Err (fault.Ambiguous clash)) ok err = absurd err
+  judged_only after (Err fault.WindowsDiffer) ok err = absurd err
+  judged_only after (Err fault.OutsideWindow) ok err = absurd err
+  judged_only after (Err fault.WindowReversed) ok err = absurd err
+  judged_only after (Err fault.Read) ok err = tt
+  judged_only after (Err fault.Write) ok err = absurd err
+  judged_only after (Err fault.Memory) ok err = tt
+
+-- the same of bytes that may be known
+pub only_judged : (start : Option (List ℕ)) (max : ℕ) (after : Unread) (result : Result Judged Fault)
+    → IfSome start (λ bytes. IfOk result (IsJudgedAs max bytes after)) → IfSome start (λ bytes. IfErr result (IsJudgedFault max bytes after))
+    → IfSome start (λ bytes. (x : ExtractParts) → BytesSpellWithin max bytes x → IsReadAsJudged x result)
+only_judged None max after result ok err = tt
+only_judged (Some bytes) max after result ok err = λ x spells. judged_only max bytes x spells after result ok err
+
+-- ---- a line more
+
+-- a line without a reason
+pub line_judged : (max : ℕ) (cs : List (List ℕ)) (c line : List ℕ) (old : Judging) (order : Order) (result : Result (Unit {0}) Fault)
+    → Ok line ≡ line_of c → record_refusal line ≡ None → HasJudged max cs old
+    → (own_reason line ≡ None → IfOk result (λ done. IsInOrder max (cs ++ line ∷ []) order))
+    → IfOk result (λ done. HasJudged max (cs ++ c ∷ []) (record old { order = order }))
+line_judged max cs c line old order result is none judged so = at result (so own_line)
+  where
+    own_line : own_reason line ≡ None
+    own_line =
+        let found = judged_line c line is in
+        ap own_reason (sym found.0) ∙ own_of_line c found.1 ∙ ap record_refusal found.0 ∙ none
+
+    at : (r : Result (Unit {0}) Fault) → IfOk r (λ done. IsInOrder max (cs ++ line ∷ []) order)
+        → IfOk r (λ done. HasJudged max (cs ++ c ∷ []) (record old { order = order }))
+    at (Err f) h = tt
+    at (Ok done) h =
+        let same = (judged_line c line is).0 in
+        let own : own_reason c ≡ None = ap own_reason same ∙ own_line in
+        record {
+          told = subst (λ l. TellReasons l old.reasons) (sym (reasons_of_more cs c None own)) (tell_nothing (reasons_of cs) old.reasons judged.told);
+          order = subst (λ l. IsInOrder max (cs ++ l ∷ []) order) (sym same) h;
+        }
+
+-- ---- how the judging ends
+
+pub as_out_of_place : (max : ℕ) (bytes : List ℕ) (after : Unread) (line : ℕ) (why : Refusal) → why ≢ refusal.TooManyLines
+    → IsOutOfPlace max bytes after line why → IsJudgedFault max bytes after (fault.Refused line why)
+as_out_of_place max bytes after line refusal.TooManyLines other is = absurd (other refl)
+as_out_of_place max bytes after line _ other is = is
+
+-- at the end of the input
+module _ (max : ℕ) (cs : List (List ℕ)) (within : length cs ≤ max) (after : Unread) (ended : after.ended ≡ true) where
+  told_whole : (bytes : List ℕ) → IsJudgedWhole max bytes after
+  told_whole bytes = λ not. absurd (true≢false (sym ended ∙ not))
+
+  all_as : (bytes : List ℕ) → AreAll bytes cs → (result : Result Judged Fault) → IsFinished max cs result
+      → IfOk result (IsJudgedAs max bytes after) × IfErr result (IsJudgedFault max bytes after)
+  all_as bytes all (Ok (judged.Reasons told)) is = (
+    record {
+      within = omega (arith, ap length all.judged_are, within);
+      why = is.0.0;
+      some = subst (λ l. Contains (reasons_of l) (Some is.0.0)) (sym all.judged_are) is.0.1;
+      tell = subst (λ l. TellReasons (reasons_of l) told) (sym all.judged_are) is.1;
+      whole = told_whole bytes;
+    },
+    tt,
+  )
+  all_as bytes all (Ok (judged.Extract x)) is = (
+    record {
+      none = subst NoneHasReason (sym all.judged_are) is.0;
+      spell = record {
+        spell = record {
+          are_lines = subst (λ l. All IsLine l) (sym all.contents_are) (λ k d below. own_none _ (is.0 k d below));
+          spelled = subst (λ l. SpellExtract l (extract_parts x)) (sym all.contents_are) is.1;
+        };
+        within = omega (arith, ap length all.contents_are, within);
+      };
+    },
+    tt,
+  )
+  all_as bytes all (Err (fault.Refused line why)) is = (
+    tt,
+    as_out_of_place max bytes after line why is.2 (record {
+      none = subst NoneHasReason (sym all.judged_are) is.0;
+      first = subst (λ l. IsRefusedLine max l line why ⊎ IsTruncated max l line why) (sym all.contents_are) is.1;
+      ended = ended;
+    }),
+  )
+  all_as bytes all (Err (fault.Ambiguous clash)) is = absurd is
+  all_as bytes all (Err fault.WindowsDiffer) is = absurd is
+  all_as bytes all (Err fault.OutsideWindow) is = absurd is
+  all_as bytes all (Err fault.WindowReversed) is = absurd is
+  all_as bytes all (Err fault.Read) is = absurd is
+  all_as bytes all (Err fault.Write) is = absurd is
+  all_as bytes all (Err fault.Memory) is = absurd is
+
+  pub finished_ok : (start : Option (List ℕ)) → IfSome start (λ bytes. AreAll bytes cs) → (result : Result Judged Fault)
+      → IsFinished max cs result → IfSome start (λ bytes. IfOk result (IsJudgedAs max bytes after))
+  finished_ok start all result is = known_so start _ _ (λ bytes a. (all_as bytes a result is).0) all
+
+  pub finished_fault : (start : Option (List ℕ)) → IfSome start (λ bytes. AreAll bytes cs) → (result : Result Judged Fault)
+      → IsFinished max cs result → IfSome start (λ bytes. IfErr result (IsJudgedFault max bytes after))
+  finished_fault start all result is = known_so start _ _ (λ bytes a. (all_as bytes a result is).1) all
+
+  pub finished_of_reading : (result : Result Judged Fault) → IsFinished max cs result → IfErr result (IsOfReading max)
+  finished_of_reading (Ok done) is = tt
+  finished_of_reading (Err (fault.Refused line why)) is =
+      ⊎_elim
+      (λ r. let here = refused_number max cs line why r in (here.0, omega (arith, here.1, within)))
+      (λ (t : IsTruncated max cs line why). (omega (arith, t.numbered), omega (arith, t.numbered, within)))
+      is.1
+  finished_of_reading (Err (fault.Ambiguous clash)) is = absurd is
+  finished_of_reading (Err fault.WindowsDiffer) is = absurd is
+  finished_of_reading (Err fault.OutsideWindow) is = absurd is
+  finished_of_reading (Err fault.WindowReversed) is = absurd is
+  finished_of_reading (Err fault.Read) is = absurd is
+  finished_of_reading (Err fault.Write) is = absurd is
+  finished_of_reading (Err fault.Memory) is = absurd is
+
+-- a fault isn't Read, so the source was read on
+pub finished_reads : {R : Type 0} (errors : R → Option ℕ) (max : ℕ) (cs : List (List ℕ)) (s t : Source R) (result : Result Judged Fault)
+    → IsFinished max cs result → HasReadOn errors s t → FaultReads errors s t result
+finished_reads errors max cs s t (Ok done) is read = read
+finished_reads errors max cs s t (Err (fault.Refused line why)) is read = read
+finished_reads errors max cs s t (Err (fault.Ambiguous clash)) is read = absurd is
+finished_reads errors max cs s t (Err fault.WindowsDiffer) is read = absurd is
+finished_reads errors max cs s t (Err fault.OutsideWindow) is read = absurd is
+finished_reads errors max cs s t (Err fault.WindowReversed) is read = absurd is
+finished_reads errors max cs s t (Err fault.Read) is read = absurd is
+finished_reads errors max cs s t (Err fault.Write) is read = absurd is
+finished_reads errors max cs s t (Err fault.Memory) is read = absurd is
+
+pub finished_leaves : {R : Type 0} (remaining : R → Option (List ℕ)) (old new : Source R) (result : Result Judged Fault)
+    → source_ended new ≡ true → IfSome (remaining (reader_of old)) (λ bytes. remaining (reader_of new) ≡ Some [])
+    → JudgedLeaves remaining old new result
+finished_leaves remaining old new (Ok (judged.Extract x)) told left = (told, left)
+finished_leaves remaining old new (Ok (judged.Reasons r)) told left = tt
+finished_leaves remaining old new (Err f) told left = tt
+
+-- at a line that is overlong
+pub overlong_ok : (max : ℕ) (cs : List (List ℕ)) (long : List ℕ) → length cs < max → (start after : Option (List ℕ)) (ended : Bool)
+    → IfSome start (λ bytes. judged_contents bytes ≡ cs ++ long ∷ [])
+    → IfSome start (λ bytes. IsSomeAnd after (IsGiven (λ before. has_overlong before ≡ true) bytes))
+    → (told : Reasons) → SomeHasReason (cs ++ long ∷ []) → TellReasons (reasons_of (cs ++ long ∷ [])) told
+    → IfSome start (λ bytes. HaveReasons max bytes (record { bytes = after; ended = ended }) told)
+overlong_ok max cs long room None after ended is gave told some tell = tt
+overlong_ok max cs long room (Some bytes) after ended is gave told some tell = record {
+  within = omega (arith, ap length is, length-append cs (long ∷ []), room);
+  why = some.0;
+  some = subst (λ l. Contains (reasons_of l) (Some some.0)) (sym is) some.1;
+  tell = subst (λ l. TellReasons (reasons_of l) told) (sym is) tell;
+  whole = λ not. at after gave;
+}
+  where
+    at : (a : Option (List ℕ)) → IsSomeAnd a (IsGiven (λ before. has_overlong before ≡ true) bytes)
+        → IsSomeAnd a (IsGiven (λ before. ¬ MayGoOn max before) bytes)
+    at None g = g
+    at (Some unread) g = record {
+      before = g.before;
+      parts = g.parts;
+      fact = λ goes. true≢false (sym g.fact ∙ goes.none_overlong);
+    }
+
+-- where a line is one too many
+pub too_many_fault : (max : ℕ) (start after : Option (List ℕ)) (ended : Bool) (number : ℕ) → number ≡ max + 1
+    → IfSome start (λ bytes. max < length (judged_contents bytes))
+    → IfSome start (λ bytes. IsSomeAnd after (IsGiven (λ before. max < length (contents_of before)) bytes))
+    → IfSome start (λ bytes. IsJudgedFault max bytes (record { bytes = after; ended = ended }) (fault.Refused number refusal.TooManyLines))
+too_many_fault max None after ended number is over gave = tt
+too_many_fault max (Some bytes) after ended number is over gave = record { over = over; numbered = is; whole = λ not. at after gave }
+  where
+    at : (a : Option (List ℕ)) → IsSomeAnd a (IsGiven (λ before. max < length (contents_of before)) bytes)
+        → IsSomeAnd a (IsGiven (λ before. ¬ MayGoOn max before) bytes)
+    at None g = g
+    at (Some unread) g = record { before = g.before; parts = g.parts; fact = λ goes. omega (arith, g.fact, goes.within) }
+
+-- at a fault of the lines
+module _ {R : Type 0} (remaining : R → Option (List ℕ)) (errors : R → Option ℕ) (start : Option (List ℕ)) (max : ℕ) (reader : ContentReader)
+    (source : Source R) (cs : List (List ℕ)) (so_far : HasGiven remaining start max reader source cs) (reader' : ContentReader)
+    (source' : Source R) where
+  pub line_fault_judged : (l : LineFault) → IsNextOf remaining errors reader source (Err l) reader' source'
+      → IfSome start (λ bytes. IsJudgedFault max bytes (unread_of remaining source') (of_line_fault l))
+  line_fault_judged (line_fault.Refused number why) next =
+      let (numbered, same, over, gave) = given_too_many remaining errors start max reader source cs so_far reader' source' number why next in
+      subst (λ (w : Refusal). IfSome start (λ bytes. IsJudgedFault max bytes (unread_of remaining source') (fault.Refused number w)))
+      (sym same) (too_many_fault max start (remaining (reader_of source')) (source_ended source') number numbered over gave)
+  line_fault_judged line_fault.Read next = given_failed remaining errors start max reader source cs so_far reader' source' next

@@ -1,0 +1,208 @@
+-- How many lines have a reason, and the first of them, line by line.
+use Rattle.std.proofs.Common.{◌≡◌, ◌≢◌, ℕ, ◌+◌, ◌-◌, ◌<◌, ◌≤◌, Bool, true, false, not, cond, nat_eq, List, [], ◌∷◌, ◌++◌, length, Option, Some, None}
+use Rattle.std.proofs.Common.{refl, sym, ap, ◌∙◌, subst, arith, filter, get_or, length-append, set, eq-eqb, ne_eqb}
+use Rattle.std.proofs.lemmas.Bool.{eqb-true, false≢true}
+use Rattle.std.proofs.lemmas.Bool.Decides.{nat_tests}
+use Rattle.std.proofs.lemmas.List.{get_or-set_other, get_or-set_same}
+use Rattle.std.proofs.lemmas.List.Elements.{filter-append}
+use Rattle.std.proofs.lemmas.List.Folds.{position_or_len_push}
+use Rattle.std.specs.List.{flat_map, position_or_len, slice_index}
+use Rattle.cif_columns.specs.Refusal.{number_of}
+use Rattle.cif_columns.specs.declared.refusal.Refusal.{Refusal}
+use Rattle.cif_columns.specs.declared.refusal.Refusal.TheVariants as refusal
+use Rattle.cif_feed.specs.Reasons.{TellReasons, first_for, first_in, is_for, lines_for, lines_in, own_reasons, place_of, reason_line}
+use Rattle.cif_feed.specs.Reasons.{reasons_text, told_text}
+use Rattle.cif_feed.specs.declared.reasons.Reasons.{Reasons}
+
+-- ---- numbers of refusals
+
+pub number_within : (why : Refusal) → (1 ≤ number_of why) × (number_of why ≤ 14)
+number_within refusal.BadLength = (omega arith, omega arith)
+number_within refusal.BadByte = (omega arith, omega arith)
+number_within refusal.UnknownRecord = (omega arith, omega arith)
+number_within refusal.OutOfOrder = (omega arith, omega arith)
+number_within refusal.NotFull = (omega arith, omega arith)
+number_within refusal.BadDate = (omega arith, omega arith)
+number_within refusal.OpenEnd = (omega arith, omega arith)
+number_within refusal.DatesReversed = (omega arith, omega arith)
+number_within refusal.BadDays = (omega arith, omega arith)
+number_within refusal.BankHoliday = (omega arith, omega arith)
+number_within refusal.BadStp = (omega arith, omega arith)
+number_within refusal.BadTime = (omega arith, omega arith)
+number_within refusal.Truncated = (omega arith, omega arith)
+number_within refusal.TooManyLines = (omega arith, omega arith)
+
+-- ---- a test of elements
+
+module _ {A : Type 0} (p : A → Bool) where
+  -- some pass exactly where one does first
+  some_pass : (xs : List A) → 0 < length (filter p xs) → position_or_len p xs < length xs
+  some_pass [] h = absurd (omega arith)
+  some_pass (x ∷ xs) h = at (p x) (some_pass xs) h
+    where
+      at : (b : Bool) → (0 < length (filter p xs) → position_or_len p xs < length xs)
+          → 0 < length (cond b (x ∷ filter p xs) (filter p xs)) → cond (not b) (1 + position_or_len p xs) 0 < length (x ∷ xs)
+      at true more h = omega arith
+      at false more h = omega (arith, more h)
+
+  none_pass : (xs : List A) → length (filter p xs) ≡ 0 → position_or_len p xs ≡ length xs
+  none_pass [] h = refl
+  none_pass (x ∷ xs) h = at (p x) (none_pass xs) h
+    where
+      at : (b : Bool) → (length (filter p xs) ≡ 0 → position_or_len p xs ≡ length xs)
+          → length (cond b (x ∷ filter p xs) (filter p xs)) ≡ 0 → cond (not b) (1 + position_or_len p xs) 0 ≡ length (x ∷ xs)
+      at true more h = absurd (omega (arith, h))
+      at false more h = omega (arith, more h)
+
+  count_push : (xs : List A) (y : A) → length (filter p (xs ++ y ∷ [])) ≡ length (filter p xs) + cond (p y) 1 0
+  count_push xs y = ap length (filter-append p xs (y ∷ [])) ∙ length-append (filter p xs) (filter p (y ∷ []))
+      ∙ ap (λ n. length (filter p xs) + n) (at (p y))
+    where
+      at : (b : Bool) → length (cond b (y ∷ []) []) ≡ cond b 1 0
+      at true = refl
+      at false = refl
+
+  first_kept : (xs : List A) (y : A) → 0 < length (filter p xs) → position_or_len p (xs ++ y ∷ []) ≡ position_or_len p xs
+  first_kept xs y some =
+      let below = some_pass xs some in
+      let ne : position_or_len p xs ≢ length xs = omega (arith, below) in
+      position_or_len_push p xs y
+      ∙ ap (λ b. cond b (length xs + cond (p y) 0 1) (position_or_len p xs)) (ne_eqb (position_or_len p xs) (length xs) ne)
+
+  first_here : (xs : List A) (y : A) → length (filter p xs) ≡ 0 → p y ≡ true → position_or_len p (xs ++ y ∷ []) ≡ length xs
+  first_here xs y none passes =
+      position_or_len_push p xs y
+      ∙ ap (λ b. cond b (length xs + cond (p y) 0 1) (position_or_len p xs)) (eq-eqb (position_or_len p xs) (length xs) (none_pass xs none))
+      ∙ ap (λ b. length xs + cond b 0 1) passes ∙ omega arith
+
+  pub at_most_all : (xs : List A) → length (filter p xs) ≤ length xs
+  at_most_all [] = omega arith
+  at_most_all (x ∷ xs) = at (p x) (at_most_all xs)
+    where
+      at : (b : Bool) → length (filter p xs) ≤ length xs → length (cond b (x ∷ filter p xs) (filter p xs)) ≤ length (x ∷ xs)
+      at true h = omega (arith, h)
+      at false h = omega (arith, h)
+
+-- ---- a line more
+
+-- without a reason
+pub tell_nothing : (reasons : List (Option Refusal)) (r : Reasons) → TellReasons reasons r → TellReasons (reasons ++ None ∷ []) r
+tell_nothing reasons r told = record {
+  lines = λ why. told.lines why ∙ sym (same why);
+  first = λ why some.
+      let before : 0 < lines_for why reasons = omega (arith, some, same why) in
+      told.first why before ∙ ap (λ n. n + 1) (sym (first_kept (is_for why) reasons None before));
+}
+  where
+    same : (why : Refusal) → lines_for why (reasons ++ None ∷ []) ≡ lines_for why reasons
+    same why = omega (arith, count_push (is_for why) reasons None)
+
+-- with this one
+module _ (reasons : List (Option Refusal)) (why : Refusal) (line : ℕ) (old new : Reasons) (told : TellReasons reasons old)
+    (numbered : line ≡ length reasons + 1) (lines_are : new.lines ≡ set old.lines (place_of why) (lines_in old why + 1))
+    (first_are : new.first ≡ set old.first (place_of why) (cond (nat_eq (lines_in old why) 0) line (first_in old why)))
+    (long_lines : length old.lines ≡ 14) (long_first : length old.first ≡ 14) where
+  within : place_of why < 14
+  within = omega (arith, number_within why)
+
+  -- of the same number
+  same_lines : (other : Refusal) → number_of why ≡ number_of other → lines_in new other ≡ lines_for other (reasons ++ Some why ∷ [])
+  same_lines other same =
+      let here : place_of other ≡ place_of why = ap (λ n. n - 1) (sym same) in
+      let below : place_of why < length old.lines = omega (arith, within, long_lines) in
+      ap (λ l. get_or l (place_of other) 0) lines_are ∙ ap (λ n. get_or (set old.lines (place_of why) (lines_in old why + 1)) n 0) here
+      ∙ get_or-set_same old.lines (place_of why) (lines_in old why + 1) 0 below
+      ∙ ap (λ n. get_or old.lines n 0 + 1) (sym here) ∙ ap (λ n. n + 1) (told.lines other)
+      ∙ sym (count_push (is_for other) reasons (Some why)
+      ∙ ap (λ b. lines_for other reasons + cond b 1 0) (eq-eqb (number_of why) (number_of other) same))
+
+  same_first : (other : Refusal) → number_of why ≡ number_of other → first_in new other ≡ first_for other (reasons ++ Some why ∷ [])
+  same_first other same =
+      let here : place_of other ≡ place_of why = ap (λ n. n - 1) (sym same) in
+      let below : place_of why < length old.first = omega (arith, within, long_first) in
+      ap (λ l. get_or l (place_of other) 0) first_are
+      ∙ ap (λ n. get_or (set old.first (place_of why) (cond (nat_eq (lines_in old why) 0) line (first_in old why))) n 0) here
+      ∙ get_or-set_same old.first (place_of why) (cond (nat_eq (lines_in old why) 0) line (first_in old why)) 0 below
+      ∙ ap (λ n. cond (nat_eq (get_or old.lines n 0) 0) line (get_or old.first n 0)) (sym here)
+      ∙ ap (λ n. cond (nat_eq n 0) line (first_in old other)) (told.lines other)
+      ∙ at (nat_eq (lines_for other reasons) 0) refl
+    where
+      passes : is_for other (Some why) ≡ true
+      passes = eq-eqb (number_of why) (number_of other) same
+
+      at : (b : Bool) → b ≡ nat_eq (lines_for other reasons) 0
+          → cond b line (first_in old other) ≡ first_for other (reasons ++ Some why ∷ [])
+      at true e =
+          let none : lines_for other reasons ≡ 0 = eqb-true (lines_for other reasons) 0 (sym e) in
+          numbered ∙ ap (λ n. n + 1) (sym (first_here (is_for other) reasons (Some why) none passes))
+      at false e =
+          let some : 0 < lines_for other reasons = grind (arith, nat_tests) in
+          told.first other some ∙ ap (λ n. n + 1) (sym (first_kept (is_for other) reasons (Some why) some))
+
+  -- and of others
+  other_place : (other : Refusal) → number_of why ≢ number_of other → place_of other ≢ place_of why
+  other_place other ne = λ e. ne (omega (arith, e, number_within why, number_within other))
+
+  other_lines : (other : Refusal) → number_of why ≢ number_of other → lines_in new other ≡ lines_for other (reasons ++ Some why ∷ [])
+  other_lines other ne =
+      ap (λ l. get_or l (place_of other) 0) lines_are
+      ∙ get_or-set_other old.lines (place_of why) (place_of other) (lines_in old why + 1) 0 (other_place other ne) ∙ told.lines other
+      ∙ sym (count_push (is_for other) reasons (Some why)
+      ∙ ap (λ b. lines_for other reasons + cond b 1 0) (ne_eqb (number_of why) (number_of other) ne) ∙ omega arith)
+
+  other_first : (other : Refusal) → number_of why ≢ number_of other → 0 < lines_for other (reasons ++ Some why ∷ [])
+      → first_in new other ≡ first_for other (reasons ++ Some why ∷ [])
+  other_first other ne some =
+      let same = count_push (is_for other) reasons (Some why)
+      ∙ ap (λ b. lines_for other reasons + cond b 1 0) (ne_eqb (number_of why) (number_of other) ne) in
+      let before : 0 < lines_for other reasons = omega (arith, some, same) in
+      ap (λ l. get_or l (place_of other) 0) first_are
+      ∙ get_or-set_other old.first (place_of why) (place_of other) (cond (nat_eq (lines_in old why) 0) line (first_in old why)) 0
+      (other_place other ne)
+      ∙ told.first other before ∙ ap (λ n. n + 1) (sym (first_kept (is_for other) reasons (Some why) before))
+
+  pub tell_more : TellReasons (reasons ++ Some why ∷ []) new
+  tell_more = record {
+    lines = λ other. lines_by other (nat_eq (number_of why) (number_of other)) refl;
+    first = λ other some. first_by other some (nat_eq (number_of why) (number_of other)) refl;
+  }
+    where
+      lines_by : (other : Refusal) (b : Bool) → b ≡ nat_eq (number_of why) (number_of other)
+          → lines_in new other ≡ lines_for other (reasons ++ Some why ∷ [])
+      lines_by other true e = same_lines other (eqb-true _ _ (sym e))
+      lines_by other false e = other_lines other (λ same. false≢true (e ∙ eq-eqb _ _ same))
+
+      first_by : (other : Refusal) → 0 < lines_for other (reasons ++ Some why ∷ []) → (b : Bool)
+          → b ≡ nat_eq (number_of why) (number_of other) → first_in new other ≡ first_for other (reasons ++ Some why ∷ [])
+      first_by other some true e = same_first other (eqb-true _ _ (sym e))
+      first_by other some false e = other_first other (λ same. false≢true (e ∙ eq-eqb _ _ same)) some
+
+-- ---- the text
+
+flat_map_same : (f g : Refusal → List ℕ) → ((why : Refusal) → f why ≡ g why) → (ws : List Refusal) → flat_map f ws ≡ flat_map g ws
+flat_map_same f g same [] = refl
+flat_map_same f g same (w ∷ ws) = ap (λ l. l ++ flat_map f ws) (same w) ∙ ap (λ l. g w ++ l) (flat_map_same f g same ws)
+
+no_line : (why : Refusal) (first other : ℕ) → reason_line why 0 first ≡ reason_line why 0 other
+unfolding reason_line
+no_line why first other = refl
+
+same_line : (why : Refusal) (lines first other : ℕ) → (0 < lines → first ≡ other) → reason_line why lines first ≡ reason_line why lines other
+same_line why lines first other same = at (nat_eq lines 0) refl
+  where
+    at : (b : Bool) → b ≡ nat_eq lines 0 → reason_line why lines first ≡ reason_line why lines other
+    at true e =
+        let none : lines ≡ 0 = eqb-true lines 0 (sym e) in
+        rw none (no_line why first other)
+    at false e =
+        let some : 0 < lines = grind (arith, nat_tests) in
+        ap (reason_line why lines) (same some)
+
+-- they are written as these reasons are
+pub told_as : (reasons : List (Option Refusal)) (r : Reasons) → TellReasons reasons r → told_text r ≡ reasons_text reasons
+unfolding told_text reasons_text
+told_as reasons r told =
+    flat_map_same (λ (why : Refusal). reason_line why (lines_in r why) (first_in r why))
+    (λ (why : Refusal). reason_line why (lines_for why reasons) (first_for why reasons)) (λ why.
+    ap (λ n. reason_line why n (first_in r why)) (told.lines why)
+    ∙ same_line why (lines_for why reasons) (first_in r why) (first_for why reasons) (told.first why)) own_reasons

@@ -1,0 +1,13 @@
+-- Its reason is told too, and the order decides nothing from here on.
+use Rattle.std.proofs.Common.{◌+◌, ◌∙◌, Some, ap, sym, subst}
+use Rattle.std.proofs.lemmas.List.{length-map}
+use Rattle.cif_feed.specs.Reasons.{TellReasons, own_reason, reasons_of}
+use Rattle.cif_feed.proofs.OwnReasons.{reasons_of_more, some_has_here}
+use Rattle.cif_feed.proofs.judged.Judging.refuse.Goals as goal
+
+pub returns : goal.returns
+returns c = λ max contents line judged numbered own. record {
+  told = subst (λ reasons. TellReasons reasons c.count.new.self) (sym (reasons_of_more contents line (Some c.args.why) own))
+      (c.count.ensures (reasons_of contents) judged.told (numbered ∙ ap (λ n. n + 1) (sym (length-map contents own_reason))));
+  order = some_has_here contents line c.args.why own;
+}

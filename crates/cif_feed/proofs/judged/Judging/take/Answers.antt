@@ -1,0 +1,21 @@
+-- A line without a reason is judged by `line_judged`; what isn't read as a record, or is no line, has its reason.
+use Rattle.std.proofs.Common.{◌∙◌, ap, sym}
+use Rattle.cif_records.specs.Record.{record_refusal}
+use Rattle.cif_feed.proofs.JudgedRuns.{line_judged}
+use Rattle.cif_feed.proofs.OwnReasons.{judged_line, own_of_judged, own_of_line}
+use Rattle.cif_feed.proofs.judged.Judging.take.Goals as goal
+
+pub returns-in-Ok-read_record-clause-judged : goal.returns-in-Ok-read_record-clause-judged
+returns-in-Ok-read_record-clause-judged c = λ max contents line judged numbered within is.
+    line_judged max contents line c.in-Ok.line c.args.self.now c.take.new.self c.take.result (sym c.in-Ok.is ∙ is)
+    c.in-Ok-read_record.ensures.exact.0 judged (λ own. c.take.ensures.taken max contents judged.order numbered within own)
+
+pub returns-in-Err-read_record-clause-judged : goal.returns-in-Err-read_record-clause-judged
+returns-in-Err-read_record-clause-judged c = λ max contents line judged numbered within is.
+    let found = judged_line line c.in-Ok.line (sym c.in-Ok.is ∙ is) in
+    c.refuse.ensures max contents line judged numbered
+    (own_of_line line found.1 ∙ ap record_refusal found.0 ∙ c.in-Err-read_record.ensures.exact)
+
+pub returns-in-Err-clause-judged : goal.returns-in-Err-clause-judged
+returns-in-Err-clause-judged c = λ max contents line judged numbered within is.
+    c.refuse-in-Err.ensures max contents line judged numbered (own_of_judged line c.in-Err.why (sym c.in-Err.is ∙ is))

@@ -1,0 +1,41 @@
+-- Each kind of records is changed by itself.
+use Rattle.std.proofs.Common.{◌≡◌, ◌∙◌, ◌++◌, List, [], ap, refl, sym, append_assoc}
+use Rattle.cif_feed.specs.Steps.Changes.{last_line}
+use Rattle.cif_feed.specs.Updated.{told_once}
+use Rattle.cif_feed.specs.declared.changes.RefusedLine.{RefusedLine}
+use Rattle.cif_feed.proofs.ToldLines.{told-three}
+use Rattle.cif_feed.proofs.published_extract.PublishedExtract.update.Goals as goal
+
+pub returns-clause-updated : goal.returns-clause-updated
+returns-clause-updated c = record {
+  header = refl;
+  tiplocs = c.in_ok-of_tiplocs.ensures.records;
+  associations = c.in_ok-of_associations.ensures.records;
+  schedules = c.in_ok-of_schedules.ensures.records;
+}
+
+pub returns-clause-refused : goal.returns-clause-refused
+returns-clause-refused c =
+    let ts = c.in_ok-of_tiplocs.of_tiplocs.items in
+    let aas = c.in_ok-of_associations.of_associations.items in
+    let ss = c.in_ok-of_schedules.of_schedules.items in
+    record {
+      tiplocs = ts;
+      of_tiplocs = c.in_ok-of_tiplocs.ensures.refused;
+      associations = aas;
+      of_associations = c.in_ok-of_associations.ensures.refused;
+      schedules = ss;
+      of_schedules = c.in_ok-of_schedules.ensures.refused;
+      are = rw (
+        c.in_ok-tell_once.ensures.told,
+        c.in_ok-last-2.ensures.told,
+        c.in_ok-last-2.ensures.last,
+        c.in_ok-last.ensures.told,
+        c.in_ok-last.ensures.last,
+        c.new-refused.ensures.items,
+        c.as_slice.ensures.value,
+        c.as_slice-2.ensures.value,
+        c.as_slice-3.ensures.value,
+      )
+          (append_assoc (told_once 0 ts) (told_once (last_line 0 ts) aas) (told_once (last_line (last_line 0 ts) aas) ss) ∙ told-three ts aas ss);
+    }

@@ -1,0 +1,26 @@
+-- A line more is told as `tell_more` says; there are fewer lines so far than a reader gives.
+use Rattle.std.proofs.Common.{◌+◌, ◌∙◌, ap, arith, cond, get_or, nat_eq, set}
+use Rattle.cif_feed.specs.Reasons.{is_for}
+use Rattle.cif_feed.proofs.ToldReasons.{at_most_all, tell_more}
+use Rattle.cif_feed.proofs.reasons.Reasons.count.Goals as goal
+
+pub overflow_add-self : goal.overflow_add-self
+overflow_add-self c =
+    let (reasons, told, numbered) = c.requires.told in
+    omega (
+      arith,
+      told.lines c.args.why,
+      at_most_all (is_for c.args.why) reasons,
+      numbered,
+      c.requires.line,
+      ap (λ n. get_or c.args.self.now.lines n 0) c.place_of-place.ensures.place,
+    )
+
+pub returns : goal.returns
+returns c = λ reasons told numbered.
+    let old = c.args.self.now in
+    let place = c.place_of-place.ensures.place in
+    tell_more reasons c.args.why c.args.line old _ told numbered (ap (λ n. set old.lines n (get_or old.lines n 0 + 1)) place)
+    (ap (set old.first c.place_of-place.result) c.first_of.ensures
+    ∙ ap (λ n. set old.first n (cond (nat_eq (get_or old.lines n 0) 0) c.args.line (get_or old.first n 0))) place) (omega arith)
+    (omega arith)

@@ -1,0 +1,13 @@
+-- The text has the lines of the reasons so far.
+use Rattle.std.proofs.Common.{◌≡◌, ◌*◌, ◌≤◌, take}
+use Rattle.std.specs.List.{flat_map}
+use Rattle.arrayvec.specs.ArrayString.{array_string_len}
+use Rattle.cif_columns.specs.declared.refusal.Refusal.{Refusal}
+use Rattle.cif_feed.specs.Reasons.{first_in, lines_in, reason_line}
+use Rattle.cif_feed.proofs.reasons.Reasons.text_of.Given as goal
+
+abbrev pub invariant-loop-why : goal.invariant-loop-why
+invariant-loop-why l = record {
+  text : l.text.bytes ≡ flat_map (λ (why : Refusal). reason_line why (lines_in l.self why) (first_in l.self why)) (take l.why-index l.reasons);
+  room : array_string_len l.text ≤ 80 * l.why-index;
+}

@@ -1,0 +1,15 @@
+-- What the line does to the published association.
+use Rattle.std.proofs.Common.{◌∙◌, ap}
+use Rattle.cif_columns.specs.declared.stp.Stp.{Stp}
+use Rattle.cif_records.specs.declared.association.AssocKey.{AssocKey}
+use Rattle.cif_feed.specs.UpdateParts.{change_by}
+use Rattle.cif_feed.proofs.update.ChangeTuple3AssocKeyDayStpPublishedAssociationFromLine.from_line.Goals as goal
+
+pub returns : goal.returns
+returns c = record {
+  published = c.from_line-published.result;
+  is = c.from_line-published.ensures;
+  change = c.change_by.ensures
+      ∙ ap (λ (k : AssocKey). change_by c.args.mark.mark.transaction c.args.mark.number (k, c.args.association.first, c.args.mark.mark.letter)
+      c.from_line-published.result) c.copy.ensures;
+}

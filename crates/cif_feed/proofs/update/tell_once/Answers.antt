@@ -1,0 +1,44 @@
+-- One line more is told, or not (`told-more`).
+use Rattle.std.proofs.Common.{◌≡◌, ◌∙◌, ◌++◌, ◌∷◌, [], ◌==◌, ℕ, ◌+◌, Bool, true, false, cond, ap, sym, refl, take, get_or, append-nil, append_assoc, eq-eqb, ne_eqb}
+use Rattle.std.proofs.lemmas.List.{take_all, take_more}
+use Rattle.cif_feed.specs.Steps.Changes.{last_line}
+use Rattle.cif_feed.specs.Updated.{told_once}
+use Rattle.cif_feed.specs.declared.changes.RefusedLine.{RefusedLine}
+use Rattle.cif_feed.proofs.ToldLines.{last-more, told-more}
+use Rattle.cif_feed.proofs.update.tell_once.Goals as goal
+use Rattle.cif_feed.proofs.update.tell_once.Goals.{then-line-last+in_ok-push, else-line-last}
+
+pub loop-line-preserved : goal.loop-line-preserved
+loop-line-preserved c =
+    let xs = c.args.refused.now in
+    let i = c.loop-line.line-index in
+    let p = c.args.previous in
+    let none : RefusedLine = record { line = 0; is_there = false } in
+    let x = get_or xs i none in
+    let (so_far, last) = c.loop-line.invariant in
+    let more = take_more xs i none c.loop-line-test.true in
+    let told : c.args.told.now.items ++ told_once p (take (i + 1) xs)
+    ≡ c.loop-line.told.items ++ cond (x.line == c.loop-line.last) [] (x ∷ []) =
+    (ap (λ l. c.args.told.now.items ++ told_once p l) more
+    ∙ ap (λ l. c.args.told.now.items ++ l) (told-more p (take i xs) x)
+    ∙ sym (append_assoc c.args.told.now.items (told_once p (take i xs)) (cond (x.line == last_line p (take i xs)) [] (x ∷ [])))
+    ∙ ap (λ l. l ++ cond (x.line == last_line p (take i xs)) [] (x ∷ [])) (sym so_far)
+    ∙ ap (λ (n : ℕ). c.loop-line.told.items ++ cond (x.line == n) [] (x ∷ [])) (sym last)) in (
+      elim c.if-line-last.branch [
+        | then-line-last+in_ok-push w ↦ rw (w.told-is, w.in_ok-push.ensures.items) (sym (told
+            ∙ ap (λ b. c.loop-line.told.items ++ cond b [] (x ∷ [])) (ne_eqb x.line c.loop-line.last w.if-line-last.true)))
+        | else-line-last w ↦ rw w.told-is (sym (told
+            ∙ ap (λ b. c.loop-line.told.items ++ cond b [] (x ∷ [])) (eq-eqb x.line c.loop-line.last w.if-line-last.false)
+            ∙ append-nil c.loop-line.told.items))
+      ],
+      sym (ap (last_line p) more ∙ last-more p (take i xs) x),
+    )
+
+pub returns-clause-told : goal.returns-clause-told
+returns-clause-told c =
+    c.loop-line.invariant.0
+    ∙ ap (λ l. c.args.told.now.items ++ told_once c.args.previous l) (take_all c.loop-line.line-index c.args.refused.now c.loop-line-test.false)
+
+pub returns-clause-last : goal.returns-clause-last
+returns-clause-last c =
+    c.loop-line.invariant.1 ∙ ap (last_line c.args.previous) (take_all c.loop-line.line-index c.args.refused.now c.loop-line-test.false)

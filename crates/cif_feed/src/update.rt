@@ -1,0 +1,388 @@
+//! Updates: reading one, and doing what it says to a published extract.
+ghost use Rattle.std.specs.Prelude.{◌≡◌, ◌≢◌, ◌≤◌, ◌++◌, ◌∷◌, [], IfErr, IfOk, IfSome, length, false, reverse};
+ghost use Rattle.cif_columns.specs.Contents.{contents_of};
+ghost use Rattle.cif_columns.specs.Source.{reader_of, source_failed};
+ghost use Rattle.cif_columns.specs.declared.line_reader.TheConstants.{MAX_LINES};
+ghost use Rattle.cif_extract.specs.ReadFault.{FaultOf, LeavesNothing};
+ghost use Rattle.cif_feed.specs.FeedFault.{FeedReads, IsFailure, IsFeedFault, IsOfFeed, IsReadAs};
+ghost use Rattle.cif_feed.specs.HolidayCode.{all_codes};
+ghost use Rattle.cif_feed.specs.PublishedParts.{published_parts};
+ghost use Rattle.cif_feed.specs.SpellsFeed.{feed_parts, passed_of};
+ghost use Rattle.cif_feed.specs.Steps.Marked.{HasMarks};
+ghost use Rattle.cif_feed.specs.UpdateParts.{change_by, tiploc_changes, tiploc_changes_by};
+ghost use Rattle.cif_feed.specs.Updated.{told_once};
+ghost use Rattle.cif_feed.specs.Steps.Changes.{IsDone, last_line};
+ghost use Rattle.cif_feed.specs.declared.feed.Feed.TheVariants as feed;
+
+use crate::feed_reading::{FeedExtract, read_feed};
+use crate::from_lines::{FromLine, from_lines, last_of};
+use crate::mark::{Numbered, RecordMark, TiplocMark};
+use crate::{
+    Action, Change, Feed, FeedFault, HolidayCodes, Keyed, Passed, PublishedAssociation,
+    PublishedExtract, PublishedSchedule, RefusedLine, Transaction, apply,
+};
+use cif_columns::{Day, ReadDevice, Source, Stp, Uid};
+use cif_extract::{Extract, Fault, Schedule};
+use cif_records::{AssocKey, Association, Header, Tiploc};
+use std::alloc::{AllocError, Global};
+
+/// An update of a published extract: what its lines do, in their order.
+#[derive(Drop)]
+pub struct Update {
+    /// Its header, as that of a full extract.
+    pub header: Header,
+    /// What its TI, TA and TD do. A TA that renames a location does two things.
+    pub tiplocs: Vec<Change<[u8; 7], Tiploc>>,
+    /// What its AA do.
+    pub associations: Vec<Change<(AssocKey, Day, Stp), PublishedAssociation>>,
+    /// What its BS do, each with what follows it.
+    pub schedules: Vec<Change<(Uid, Day, Stp), PublishedSchedule>>,
+    /// How many lines there are, by what they do.
+    pub counts: UpdateCounts,
+    /// What was passed over as it was read.
+    pub passed: Passed,
+}
+
+impl Update {
+    ghost use Rattle.cif_feed.specs.UpdateParts.{BytesSpellUpdate, SayUpdate, UpdateParts, update_parts};
+
+    /// The update that the source's contents spell, of which at most `max_lines` may come.
+    ///
+    /// A fault names the first refused content and its first reason; Read comes where the source
+    /// failed before a refused content was decided, and Memory where what a line says can't be kept.
+    /// No other fault is answered. After an update nothing is left in the source.
+    pub fn read<R: ReadDevice>(
+        alloc: Global,
+        source: &mut Source<R>,
+        max_lines: u64,
+    ) -> Result<Update, FeedFault>
+        requires within { max_lines ≤ MAX_LINES }
+        ensures ok { IfSome (R.remaining (reader_of source.old)) (λ bytes. IfOk result
+            (λ update. BytesSpellUpdate max_lines bytes (update_parts update))) }
+        ensures only { IfSome (R.remaining (reader_of source.old)) (λ bytes. (u : UpdateParts)
+            → BytesSpellUpdate max_lines bytes u → IsReadAs update_parts u result) }
+        ensures passed { IfSome (R.remaining (reader_of source.old)) (λ bytes. IfOk result
+            (λ update. update.passed ≡ passed_of (contents_of bytes))) }
+        ensures fault { FaultOf R.remaining (IsFeedFault feed.Update all_codes max_lines) source.old
+            source.new result }
+        ensures answers { IfErr result (IsOfFeed max_lines) }
+        ensures end { LeavesNothing R.remaining source.old source.new result }
+        ensures endless { IfOk result (λ _. source_failed source.old ≡ false) }
+        ensures device { FeedReads R.read_errors source.old source.new result }
+    {
+        match read_feed(alloc, source, max_lines, Feed::Update, HolidayCodes::all()) {
+            Ok(lines) => match Update::of_lines(alloc, lines) {
+                Ok(update) => Ok(update),
+                Err(AllocError) => Err(FeedFault::Extract(Fault::Memory)),
+            },
+            Err(fault) => Err(fault),
+        }
+    }
+
+    /// What these lines say.
+    fn of_lines(alloc: Global, lines: FeedExtract) -> Result<Update, AllocError>
+        requires { HasMarks (feed_parts lines) }
+        ensures says { IfOk result (λ update. SayUpdate (feed_parts lines) (update_parts update)) }
+        ensures passed { IfOk result (λ update. update.passed ≡ lines.passed) }
+    {
+        let FeedExtract {
+            extract,
+            tiploc_marks,
+            association_marks,
+            schedule_marks,
+            passed,
+        } = lines;
+        let Extract {
+            header,
+            tiplocs,
+            associations,
+            schedules,
+        } = extract;
+        let counts = UpdateCounts::of(
+            tiploc_marks.as_slice(),
+            association_marks.as_slice(),
+            schedule_marks.as_slice(),
+        );
+        Ok(Update {
+            header,
+            tiplocs: tiploc_changes(alloc, tiplocs, tiploc_marks)?,
+            associations: from_lines(alloc, associations, association_marks)?,
+            schedules: from_lines(alloc, schedules, schedule_marks)?,
+            counts,
+            passed,
+        })
+    }
+}
+
+impl PublishedExtract {
+    ghost use Rattle.cif_feed.specs.UpdateParts.{BytesSpellUpdate, UpdateParts, update_parts};
+    ghost use Rattle.cif_feed.specs.Updated.{AreRefusedLines, IsOfUpdate, IsUpdateFault, IsUpdated, IsUpdatedBy};
+    ghost use Rattle.cif_feed.specs.Updated.{MayBeDone};
+
+    /// Does what the update says. Gives the lines that may not be done, in their order, each once; they are
+    /// done all the same.
+    pub fn update(&mut self, alloc: Global, update: Update) -> Result<Vec<RefusedLine>, AllocError>
+        ensures updated { IfOk result (λ _.
+            IsUpdated (update_parts update) (published_parts self.old) (published_parts self.new)) }
+        ensures refused { IfOk result (λ refused.
+            AreRefusedLines (update_parts update) (published_parts self.old) refused.items) }
+    {
+        let Update {
+            header,
+            tiplocs,
+            associations,
+            schedules,
+            counts: _,
+            passed: _,
+        } = update;
+        self.header = header;
+        let of_tiplocs = apply(alloc, &mut self.tiplocs, tiplocs)?;
+        let of_associations = apply(alloc, &mut self.associations, associations)?;
+        let of_schedules = apply(alloc, &mut self.schedules, schedules)?;
+        let mut refused = Vec::new(alloc);
+        let last = tell_once(&mut refused, 0, of_tiplocs.as_slice())?;
+        let last = tell_once(&mut refused, last, of_associations.as_slice())?;
+        tell_once(&mut refused, last, of_schedules.as_slice())?;
+        Ok(refused)
+    }
+
+    /// Does what the update says that the source's contents spell, of which at most `max_lines` may come. Of an
+    /// update with a line that may not be done nothing is done, unless it is lenient.
+    ///
+    /// NotThere and AlreadyThere name the first such line; any other fault is one of reading the update. After
+    /// a fault nothing is said of the published extract.
+    pub fn update_from<R: ReadDevice>(
+        &mut self,
+        alloc: Global,
+        source: &mut Source<R>,
+        max_lines: u64,
+        lenient: bool,
+    ) -> Result<Outcome, FeedFault>
+        requires within { max_lines ≤ MAX_LINES }
+        ensures ok { IfSome (R.remaining (reader_of source.old)) (λ bytes. IfOk result (λ done.
+            IsUpdatedBy lenient (published_parts self.old) max_lines bytes (published_parts self.new)
+            done.waived.items)) }
+        ensures only { IfSome (R.remaining (reader_of source.old)) (λ bytes. (u : UpdateParts)
+            → BytesSpellUpdate max_lines bytes u → MayBeDone lenient (published_parts self.old) u
+            → IfErr result IsFailure) }
+        ensures fault { FaultOf R.remaining (IsUpdateFault lenient (published_parts self.old) max_lines)
+            source.old source.new result }
+        ensures answers { IfErr result (IsOfUpdate max_lines) }
+        ensures end { LeavesNothing R.remaining source.old source.new result }
+        ensures endless { IfOk result (λ _. source_failed source.old ≡ false) }
+        ensures device { FeedReads R.read_errors source.old source.new result }
+    {
+        match Update::read(alloc, source, max_lines) {
+            Ok(update) => {
+                let (counts, passed) = (update.counts, update.passed);
+                match self.update(alloc, update) {
+                    Ok(waived) => answer_of(lenient, waived, counts, passed),
+                    Err(AllocError) => Err(FeedFault::Extract(Fault::Memory)),
+                }
+            }
+            Err(fault) => Err(fault),
+        }
+    }
+}
+
+/// What an update did.
+#[derive(Drop)]
+pub struct Outcome {
+    /// The lines that may not be done, and were done all the same. There are none, unless it was lenient.
+    pub waived: Vec<RefusedLine>,
+    /// How many lines it has, by what they do.
+    pub counts: UpdateCounts,
+    /// What was passed over as it was read.
+    pub passed: Passed,
+}
+
+/// What is answered of these lines that may not be done.
+fn answer_of(
+    lenient: bool,
+    waived: Vec<RefusedLine>,
+    counts: UpdateCounts,
+    passed: Passed,
+) -> Result<Outcome, FeedFault>
+    ensures { IsDone lenient waived.items result }
+{
+    match waived.first() {
+        Some(line) if !lenient => Err(line.fault()),
+        _ => Ok(Outcome {
+            waived,
+            counts,
+            passed,
+        }),
+    }
+}
+
+/// How many lines an update has, by what they do.
+#[derive(Clone, Copy, Debug, PartialEq, Eq)]
+pub struct UpdateCounts {
+    /// The TI, and the AA and BS with N.
+    pub put: u64,
+    /// The TA, and the AA and BS with R.
+    pub revised: u64,
+    /// The TD, and the AA and BS with D.
+    pub taken_out: u64,
+}
+
+impl UpdateCounts {
+    /// Of an update with these marks.
+    fn of(
+        tiplocs: &[Numbered<TiplocMark>],
+        associations: &[Numbered<RecordMark>],
+        schedules: &[Numbered<RecordMark>],
+    ) -> UpdateCounts {
+        let mut counts = UpdateCounts {
+            put: 0,
+            revised: 0,
+            taken_out: 0,
+        };
+        for tiploc in tiplocs {
+            counts.add(tiploc.mark.transaction);
+        }
+        for association in associations {
+            counts.add(association.mark.transaction);
+        }
+        for schedule in schedules {
+            counts.add(schedule.mark.transaction);
+        }
+        counts
+    }
+
+    /// Counts a line with this transaction.
+    fn add(&mut self, transaction: Transaction) {
+        match transaction {
+            Transaction::New => self.put = self.put.saturating_add(1),
+            Transaction::Revised => self.revised = self.revised.saturating_add(1),
+            Transaction::Deleted => self.taken_out = self.taken_out.saturating_add(1),
+        }
+    }
+}
+
+/// Appends the lines, but for one that stands behind another of the same number, as this one was. Gives the
+/// number of the last.
+fn tell_once(
+    told: &mut Vec<RefusedLine>,
+    previous: u64,
+    refused: &[RefusedLine],
+) -> Result<u64, AllocError>
+    ensures told { IfOk result (λ _. told.new.items ≡ told.old.items ++ told_once previous refused.now) }
+    ensures last { IfOk result (λ last. last ≡ last_line previous refused.now) }
+{
+    let mut last = previous;
+    for line in refused {
+        if line.line != last {
+            told.push(*line)?;
+        }
+        last = line.line;
+    }
+    Ok(last)
+}
+
+/// What TI, TA and TD do.
+fn tiploc_changes(
+    alloc: Global,
+    mut tiplocs: Vec<Tiploc>,
+    mut marks: Vec<Numbered<TiplocMark>>,
+) -> Result<Vec<Change<[u8; 7], Tiploc>>, AllocError>
+    requires { length marks.items ≡ length tiplocs.items }
+    ensures { IfOk result (λ changes. changes.items ≡ tiploc_changes tiplocs.items marks.items) }
+{
+    let mut changes = Vec::with_capacity(alloc, tiplocs.len())?;
+    while let Some(tiploc) = tiplocs.pop() {
+        push_reversed(&mut changes, tiploc, last_of(&mut marks))?;
+    }
+    changes.reverse();
+    Ok(changes)
+}
+
+/// Appends what a TI, a TA or a TD does, the last first.
+fn push_reversed(
+    changes: &mut Vec<Change<[u8; 7], Tiploc>>,
+    tiploc: Tiploc,
+    mark: Numbered<TiplocMark>,
+) -> Result<(), AllocError>
+    ensures { IfOk result (λ _. changes.new.items ≡ changes.old.items
+        ++ reverse (tiploc_changes_by mark.mark.transaction mark.number mark.mark.tiploc tiploc)) }
+{
+    let line = mark.number;
+    let own = mark.mark.tiploc;
+    match mark.mark.transaction {
+        Transaction::New => push(changes, line, Action::New(tiploc)),
+        Transaction::Deleted => push(changes, line, Action::Deleted(own)),
+        Transaction::Revised => {
+            if tiploc.record_key() == own {
+                push(changes, line, Action::Revised(tiploc))
+            } else {
+                push(changes, line, Action::New(tiploc))?;
+                push(changes, line, Action::Deleted(own))
+            }
+        }
+    }
+}
+
+/// Appends a change.
+fn push(
+    changes: &mut Vec<Change<[u8; 7], Tiploc>>,
+    line: u64,
+    action: Action<[u8; 7], Tiploc>,
+) -> Result<(), AllocError>
+    ensures { IfOk result (λ _. changes.new.items
+        ≡ changes.old.items ++ record { line = line; action = action } ∷ []) }
+{
+    changes.push(Change { line, action })?;
+    Ok(())
+}
+
+/// What a line of this number does that puts this record, or deletes this key.
+fn change_by<K: Drop, R: Drop>(transaction: Transaction, line: u64, key: K, put: R) -> Change<K, R>
+    ensures { result ≡ change_by transaction line key put }
+{
+    let action = match transaction {
+        Transaction::New => Action::New(put),
+        Transaction::Revised => Action::Revised(put),
+        Transaction::Deleted => Action::Deleted(key),
+    };
+    Change { line, action }
+}
+
+impl FromLine for Change<(AssocKey, Day, Stp), PublishedAssociation> {
+    type Record = Association;
+
+    ghost use Rattle.cif_feed.specs.Steps.Marked.{IsClosed, last_of_association};
+    ghost use Rattle.cif_feed.specs.UpdateParts.{IsAssociationChange};
+
+    ghost may = { IsClosed last_of_association };
+
+    ghost is_of = { IsAssociationChange };
+
+    fn from_line(
+        association: Association,
+        mark: Numbered<RecordMark>,
+    ) -> Change<(AssocKey, Day, Stp), PublishedAssociation> {
+        let key = (association.key.copy(), association.first, mark.mark.letter);
+        let published = PublishedAssociation::from_line(association, mark);
+        change_by(mark.mark.transaction, mark.number, key, published)
+    }
+}
+
+impl FromLine for Change<(Uid, Day, Stp), PublishedSchedule> {
+    type Record = Schedule;
+
+    ghost use Rattle.cif_feed.specs.Steps.Marked.{IsClosed, last_of_schedule};
+    ghost use Rattle.cif_feed.specs.UpdateParts.{IsScheduleChange};
+
+    ghost may = { IsClosed last_of_schedule };
+
+    ghost is_of = { IsScheduleChange };
+
+    fn from_line(
+        schedule: Schedule,
+        mark: Numbered<RecordMark>,
+    ) -> Change<(Uid, Day, Stp), PublishedSchedule> {
+        let key = (schedule.uid, schedule.first, mark.mark.letter);
+        let published = PublishedSchedule::from_line(schedule, mark);
+        change_by(mark.mark.transaction, mark.number, key, published)
+    }
+}

@@ -1,0 +1,39 @@
+-- The records that apply, with their marks, are the explanation.
+use Rattle.std.proofs.Common.{◌≡◌, ℕ, List, ◌++◌, refl, subst}
+use Rattle.std.specs.Cmp.Lexicographic.{slice_cmp}
+use Rattle.std.specs.List.{flat_map}
+use Rattle.std.specs.Ordering.{nat_cmp}
+use Rattle.cif_calendar.specs.Entries.{association_entries, schedule_entries}
+use Rattle.cif_extract.specs.BodyParts.{BodyParts}
+use Rattle.cif_extract.specs.ExtractParts.{ExtractParts}
+use Rattle.cif_extract.specs.declared.extract.Schedule.{Schedule}
+use Rattle.cif_records.specs.AssocKey.{key_cmp}
+use Rattle.cif_records.specs.declared.association.AssocBody.{AssocBody}
+use Rattle.cif_records.specs.declared.association.AssocKey.{AssocKey}
+use Rattle.cif_records.specs.declared.association.Association.{Association}
+use Rattle.cif_weeks.specs.Window.{IsWithin}
+use Rattle.cif_canon.specs.Asked.{header_window}
+use Rattle.cif_views.specs.Explanation.{AreExplained, Explained, IsExplanation, IsAssociationOf, explained_association_line, explained_train_line}
+use Rattle.cif_views.specs.Explanation.{explanation_heading, IsTrain}
+use Rattle.cif_views.specs.Steps.Explanation.{AreMarked, ArePlacedInOrder, Placed}
+use Rattle.cif_canon.specs.declared.rows.Format.{Format}
+use Rattle.cif_views.proofs.Explaining.{explained}
+
+pub explanation : (format : Format) (x : ExtractParts) (u : List ℕ) (d : ℕ) → IsWithin (header_window x.header) d
+    → (entries : List Association) (placed : List (Placed AssocKey AssocBody)) (marked : List (Explained AssocKey AssocBody))
+    → entries ≡ x.associations → ArePlacedInOrder key_cmp IsAssociationOf (association_entries entries) u d placed → AreMarked placed placed marked
+    → (trains : List Schedule) (applying : List (Placed (List ℕ) BodyParts)) (shown : List (Explained (List ℕ) BodyParts))
+    → trains ≡ x.schedules → ArePlacedInOrder (slice_cmp nat_cmp) IsTrain (schedule_entries trains) u d applying
+    → AreMarked applying applying shown
+    → IsExplanation format x u d (explanation_heading format
+    ++ (flat_map (explained_association_line format) marked ++ flat_map (explained_train_line format) shown))
+explanation format x u d within entries placed marked same are marks trains applying shown alike be signs = record {
+  within = within;
+  associations = marked;
+  of_associations = subst (λ es. AreExplained key_cmp IsAssociationOf (association_entries es) u d marked) same
+      (explained key_cmp IsAssociationOf (association_entries entries) u d placed are marked marks);
+  trains = shown;
+  of_trains = subst (λ es. AreExplained (slice_cmp nat_cmp) IsTrain (schedule_entries es) u d shown) alike
+      (explained (slice_cmp nat_cmp) IsTrain (schedule_entries trains) u d applying be shown signs);
+  text_is = refl;
+}

@@ -1,0 +1,6 @@
+pub mod CallTexts
+pub mod ClashLists
+mod ExplainedMarks
+mod ExplainedTexts
+mod Explaining
+pub mod NamedClashes

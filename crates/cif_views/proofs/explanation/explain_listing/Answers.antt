@@ -1,0 +1,43 @@
+-- Heading, associations and trains are the explanation (`explanation`).
+use Rattle.std.proofs.Common.{◌∙◌, ◌++◌, map, sym, subst}
+use Rattle.std.specs.Cmp.Lexicographic.{slice_cmp}
+use Rattle.std.specs.List.{flat_map}
+use Rattle.std.specs.Ordering.{nat_cmp}
+use Rattle.cif_calendar.specs.Entries.{association_entries, association_terms, schedule_entries, schedule_terms}
+use Rattle.cif_extract.specs.ExtractParts.{extract_parts}
+use Rattle.cif_extract.specs.declared.extract.Schedule.{Schedule}
+use Rattle.cif_records.specs.AssocKey.{key_cmp}
+use Rattle.cif_records.specs.declared.association.Association.{Association}
+use Rattle.cif_views.specs.Explanation.{IsAssociationOf, explained_association_line, explained_train_line, explanation_heading, IsTrain}
+use Rattle.cif_views.specs.Steps.Explanation.{ArePlacedInOrder, placed_of}
+use Rattle.cif_canon.proofs.AppendedTexts.{both, fault-answered, text-is}
+use Rattle.cif_views.proofs.ExplainedTexts.{explanation}
+use Rattle.cif_canon.proofs.ViewTexts.{written-so}
+use Rattle.cif_views.proofs.explanation.explain_listing.Goals as goal
+
+pub returns-clause-view : goal.returns-clause-view
+returns-clause-view g c =
+    let ones = c.write_marked.ensures in
+    let others = c.write_marked-2.ensures in
+    let head = explanation_heading c.args.format in
+    let one = flat_map (explained_association_line c.args.format) ones.0 in
+    let other = flat_map (explained_train_line c.args.format) others.0 in (
+      head ++ (one ++ other),
+      fault-answered _ _ _ _ _ c.answer.result c.answer.ensures.ok c.answer.ensures.failed c.answer.ensures.fault
+          (both _ _ head (one ++ other) _ _ _ (text-is _ _ _ _ _ _ (c.as_str.ensures.value ∙ c.heading-names.ensures) c.append.ensures)
+          (both _ _ one other _ _ _ ones.2 others.2)),
+      written-so c.answer.result _ (explanation c.args.format (extract_parts c.args.extract.now) c.args.uid.now c.args.day
+          c.in_ok-check_within.ensures.ok c.as_slice.result.now _ ones.0 c.as_slice.ensures.value
+          (subst (λ es. ArePlacedInOrder key_cmp IsAssociationOf (association_entries c.as_slice.result.now) c.args.uid.now c.args.day
+          (map (placed_of (λ (a : Association). a.key) association_terms) es)) (sym c.as_slice-3.ensures.value) c.in-Ok.ensures)
+          ones.1 c.as_slice-2.result.now _ others.0 c.as_slice-2.ensures.value
+          (subst (λ es. ArePlacedInOrder (slice_cmp nat_cmp) IsTrain (schedule_entries c.as_slice-2.result.now) c.args.uid.now c.args.day
+          (map (placed_of (λ (s : Schedule). s.uid) schedule_terms) es)) (sym c.as_slice-4.ensures.value) c.in-Ok-records_on.ensures)
+          others.1),
+    )
+
+pub write_marked-requires : goal.write_marked-requires
+write_marked-requires g c = record { rising = rw c.as_slice-3.ensures.value c.in-Ok.ensures.rising }
+
+pub write_marked-requires-2 : goal.write_marked-requires-2
+write_marked-requires-2 g c = record { rising = rw c.as_slice-4.ensures.value c.in-Ok-records_on.ensures.rising }

@@ -1,0 +1,45 @@
+-- One record after another gets its mark (`one_marked`), and its line goes behind the text (`behind`).
+use Rattle.std.proofs.Common.{◌∷◌, [], ◌++◌, ◌∙◌, ap, arith, map, refl, subst, sym}
+use Rattle.std.proofs.lemmas.List.{get_or-map, take_all}
+use Rattle.std.proofs.lemmas.List.Elements.{All-nil}
+use Rattle.cif_views.specs.Steps.Explanation.{AreMarked, IsMarkAt, IsMarkOf, marked_as, placed_of}
+use Rattle.cif_canon.proofs.AppendedTexts.{behind, nothing, text-is}
+use Rattle.cif_views.proofs.Explaining.{one_marked}
+use Rattle.cif_views.proofs.explanation.write_marked.Goals as goal
+
+pub loop-i-init : goal.loop-i-init
+loop-i-init g c = record {
+  written = ([], (refl, All-nil _), nothing _ _ _);
+  last = λ j is. absurd (omega (arith, is));
+}
+
+pub loop-i-preserved : goal.loop-i-preserved
+loop-i-preserved g c =
+    let (done, marked, appended) = c.loop-i.invariant.written in
+    let of = placed_of g.E.Entry.key g.E.Entry.terms in
+    let one = c.index-applying-i.result in
+    let mark = c.mark_at-mark.result in
+    let e = marked_as (of one) mark in
+    let marks = c.mark_at-mark.ensures c.loop-i.invariant.last in
+    record {
+      written = (
+        done ++ (e ∷ []),
+        one_marked of c.args.applying.now c.loop-i.i done e one c.loop-i-test.true c.index-applying-i.is refl
+            (subst (λ p. IsMarkOf (map of c.args.applying.now) p mark)
+            (get_or-map of c.args.applying.now c.loop-i.i one (of one) c.loop-i-test.true ∙ ap of (sym c.index-applying-i.is))
+            (marks (of one))) marked,
+        behind _ _ (g.E.ExplainedEntry.line c.args.format) done e _ _ _ appended
+            (text-is _ _ _ _ _ _ (c.as_str.ensures.value ∙ c.line.ensures one.place) c.append.ensures),
+      );
+      last = λ j is. subst (λ n. IsMarkAt (map of c.args.applying.now) n mark) (omega (arith, is)) marks;
+    }
+
+pub returns : goal.returns
+returns g c =
+    let (done, marked, appended) = c.loop-i.invariant.written in
+    let of = placed_of g.E.Entry.key g.E.Entry.terms in (
+      done,
+      subst (λ xs. AreMarked (map of c.args.applying.now) (map of xs) done) (take_all c.loop-i.i c.args.applying.now
+          c.loop-i-test.false) marked,
+      appended,
+    )

@@ -1,0 +1,12 @@
+-- The records so far have their marks among all, and what is written is their lines; `mark` is that of the last.
+use Rattle.std.proofs.Common.{◌≡◌, ℕ, ◌+◌, map, take}
+use Rattle.cif_views.specs.Steps.Explanation.{AreMarkedOn, IsMarkAt, placed_of}
+use Rattle.cif_views.proofs.explanation.write_marked.Given as goal
+
+abbrev pub invariant-loop-i : goal.invariant-loop-i
+invariant-loop-i g l = record {
+  written : AreMarkedOn g.W.Write.contents g.W.WriteDevice.write_errors (g.E.ExplainedEntry.line l.format)
+      (map (placed_of g.E.Entry.key g.E.Entry.terms) l.applying)
+      (map (placed_of g.E.Entry.key g.E.Entry.terms) (take l.i l.applying)) l.initial.sink l.sink;
+  last : (j : ℕ) → l.i ≡ j + 1 → IsMarkAt (map (placed_of g.E.Entry.key g.E.Entry.terms) l.applying) j l.mark;
+}

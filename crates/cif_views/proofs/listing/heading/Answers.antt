@@ -1,0 +1,20 @@
+-- The names are appended one by one: they are rewritten from the last on, and brought to the right.
+use Rattle.std.proofs.Common.{◌≡◌, ◌∙◌, ◌++◌, List, ℕ, codes, append_assoc}
+use Rattle.cif_views.specs.Listing.{call_names_if, journey_names}
+use Rattle.cif_views.proofs.listing.heading.Goals as goal
+
+five : (a b c d e : List ℕ) → (((a ++ b) ++ c) ++ d) ++ e ≡ a ++ (b ++ (c ++ (d ++ e)))
+five a b c d e = append_assoc ((a ++ b) ++ c) d e ∙ append_assoc (a ++ b) c (d ++ e) ∙ append_assoc a b (c ++ (d ++ e))
+
+pub returns-in-Tsv : goal.returns-in-Tsv
+returns-in-Tsv c = rw (
+  c.in-Tsv.is,
+  c.push_str-in-Tsv-4.ensures.bytes,
+  c.push_str-in-Tsv-3.ensures.bytes,
+  c.push_str-in-Tsv-2.ensures.bytes,
+  c.push_str-in-Tsv.ensures.bytes,
+  c.push_str.ensures.bytes,
+  c.new-line.ensures,
+  c.call_names.ensures.names,
+)
+    (five c.args.first.now journey_names c.args.others.now (call_names_if c.args.listing) (codes "\n"))

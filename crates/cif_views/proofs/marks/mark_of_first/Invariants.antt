@@ -1,0 +1,10 @@
+-- The records behind that were looked at have the key, and the body if they have the letter.
+use Rattle.std.proofs.Common.{◌+◌, map}
+use Rattle.std.specs.List.{AllWithin}
+use Rattle.cif_views.specs.Steps.Explanation.{IsLike, placed_at, placed_of}
+use Rattle.cif_views.proofs.marks.mark_of_first.Given as goal
+
+abbrev pub invariant-loop-other : goal.invariant-loop-other
+invariant-loop-other g l =
+    AllWithin (IsLike (placed_at 0 (g.E.Entry.key l.one) (g.E.Entry.terms l.one)))
+    (map (placed_of g.E.Entry.key g.E.Entry.terms) l.applying) (l.i + 1) (l.i + 1 + l.other-index)

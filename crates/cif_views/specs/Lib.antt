@@ -1,0 +1,5 @@
+pub mod Calls
+pub mod Clashes
+pub mod Explanation
+pub mod Listing
+pub mod Steps

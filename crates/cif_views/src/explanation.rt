@@ -1,0 +1,223 @@
+//! Why a train runs on a day or doesn't: a line for each record, with its mark.
+ghost use Rattle.std.specs.Prelude.{◌≡◌, ◌+◌, ◌≤◌, ◌++◌, ℕ, List, IfErr, map};
+ghost use Rattle.arrayvec.specs.ArrayString.{array_string_len};
+ghost use Rattle.cif_extract.specs.ExtractParts.{extract_parts};
+ghost use Rattle.cif_views.specs.Explanation.{IsExplanation, IsExplanationFault};
+ghost use Rattle.cif_views.specs.Explanation.{mark_columns, said_of_association, said_of_train};
+ghost use Rattle.cif_views.specs.Explanation.{terms_fields};
+ghost use Rattle.cif_canon.specs.Normalised.{FaultWrites, IfWritten};
+ghost use Rattle.cif_views.specs.Steps.Explanation.{AreMarkedOn, IsRisingBy, placed_of};
+ghost use Rattle.cif_canon.specs.Fields.{after};
+ghost use Rattle.cif_canon.specs.declared.rows.Format.TheVariants.{Text};
+
+use crate::listing::{ASSOCIATION, Listing, heading};
+use crate::marks::{Applying, ExplainedEntry, Mark, mark_at, records_on};
+use arrayvec::ArrayString;
+use cif_calendar::Entry;
+use cif_canon::rows::{
+    LONGEST, NO_ASSOCIATION, NO_TRAIN, push_association, push_field, push_fields, push_left_out,
+    push_train, started,
+};
+use cif_canon::writing::{answer, append};
+use cif_canon::{Format, check_within};
+use cif_columns::{Day, Sink, Uid, WriteDevice};
+use cif_extract::{Extract, Fault, Schedule};
+use cif_records::Association;
+use std::alloc::Global;
+
+/// Appends why the train runs on the day, or doesn't: a line for each record that applies, with its
+/// mark. First come its associations, of which it is the base or the associated train, by key, and then
+/// its schedules; those of one key are in the order of their letters C, N, O, P, and of one letter in
+/// that of the extract.
+///
+/// OutsideWindow comes where the day isn't in the extract's window, and then Memory, and Write. A
+/// clash is no fault. Nothing is written before all memory is had.
+pub fn explain_view<W: WriteDevice>(
+    alloc: Global,
+    extract: &Extract,
+    uid: &Uid,
+    day: Day,
+    sink: &mut Sink<W>,
+) -> Result<(), Fault>
+    ensures view { (text : List ℕ)
+        × FaultWrites W.contents W.write_errors text sink.old sink.new result
+        × IfWritten result (IsExplanation Text (extract_parts extract.now) uid.now day text) }
+    ensures fault { IfErr result (IsExplanationFault (extract_parts extract.now) day) }
+{
+    explain_listing(alloc, extract, uid, day, sink, Format::Text)
+}
+
+/// Appends why the train runs on the day, or doesn't, as `explain_view` does, in this format. A table
+/// begins with the names of its fields.
+pub fn explain_listing<W: WriteDevice>(
+    alloc: Global,
+    extract: &Extract,
+    uid: &Uid,
+    day: Day,
+    sink: &mut Sink<W>,
+    format: Format,
+) -> Result<(), Fault>
+    ensures view { (text : List ℕ)
+        × FaultWrites W.contents W.write_errors text sink.old sink.new result
+        × IfWritten result (IsExplanation format (extract_parts extract.now) uid.now day text) }
+    ensures fault { IfErr result (IsExplanationFault (extract_parts extract.now) day) }
+{
+    check_within(&extract.header, day)?;
+    let Ok(associations) = records_on(alloc, extract.associations.as_slice(), uid, day) else {
+        return Err(Fault::Memory);
+    };
+    let Ok(trains) = records_on(alloc, extract.schedules.as_slice(), uid, day) else {
+        return Err(Fault::Memory);
+    };
+    let listing = Listing {
+        format,
+        calls: false,
+    };
+    let names = heading(
+        listing,
+        "mark\tkind\tstp_indicator\tfirst_date\tlast_date\tdays_run\tuid",
+        ASSOCIATION,
+    );
+    append(names.as_str(), sink);
+    write_marked(format, associations.as_slice(), sink);
+    write_marked(format, trains.as_slice(), sink);
+    answer(sink)
+}
+
+/// Appends the lines of the records that apply, with their marks.
+fn write_marked<E: ExplainedEntry, W: WriteDevice>(
+    format: Format,
+    applying: &[Applying<'_, E>],
+    sink: &mut Sink<W>,
+)
+    requires rising { IsRisingBy E.Key.cmp (map (placed_of E.key E.terms) applying.now) }
+    ensures { AreMarkedOn W.contents W.write_errors (E.line format)
+        (map (placed_of E.key E.terms) applying.now) (map (placed_of E.key E.terms) applying.now)
+        sink.old sink.new }
+{
+    let mut mark = Mark::Wins;
+    for (i, one) in applying.iter().enumerate() {
+        mark = mark_at(applying, i, mark);
+        append(one.entry.line(format, mark).as_str(), sink);
+    }
+}
+
+/// The six columns of a mark.
+fn columns_of(mark: Mark) -> [u8; 6]
+    ensures { result ≡ mark_columns mark }
+{
+    match mark {
+        Mark::Wins => *b"wins  ",
+        Mark::Clash => *b"clash ",
+        Mark::Hidden => *b"hidden",
+    }
+}
+
+/// Appends the letter, the dates and the mask of a record.
+fn push_terms<E: Entry>(line: &mut ArrayString<LONGEST>, format: Format, entry: &E)
+    requires { array_string_len line.old + 24 ≤ LONGEST }
+    ensures text { line.new.bytes ≡ line.old.bytes ++ after format (terms_fields (E.terms entry.now)) }
+    ensures len { array_string_len line.new ≤ array_string_len line.old + 24 }
+{
+    push_fields(
+        line,
+        format,
+        &[
+            &[entry.letter().write()],
+            &entry.first().to_yymmdd(),
+            &entry.last().to_yymmdd(),
+            &entry.days().write(),
+        ],
+    );
+}
+
+/// Appends what an association says.
+fn push_said_of_association(
+    line: &mut ArrayString<LONGEST>,
+    format: Format,
+    association: &Association,
+)
+    requires { array_string_len line.old + 35 ≤ LONGEST }
+    ensures text { line.new.bytes ≡ line.old.bytes
+        ++ after format (said_of_association format association.now.key association.now.body) }
+    ensures len { array_string_len line.new ≤ array_string_len line.old + 35 }
+{
+    match &association.body {
+        Some(body) => push_association(line, format, &association.key, body),
+        None => {
+            let key = &association.key;
+            push_fields(line, format, &[&key.base.write(), &key.associated.write()]);
+            push_left_out(line, format, "\t\t");
+            push_fields(
+                line,
+                format,
+                &[
+                    &key.location.write(),
+                    &key.base_suffix.write(),
+                    &key.associated_suffix.write(),
+                ],
+            );
+            push_left_out(line, format, "\t\t");
+        }
+    }
+}
+
+/// Appends what a schedule says.
+fn push_said_of_train(line: &mut ArrayString<LONGEST>, format: Format, schedule: &Schedule)
+    requires { array_string_len line.old + 52 ≤ LONGEST }
+    ensures text { line.new.bytes ≡ line.old.bytes
+        ++ after format (said_of_train format schedule.now.uid schedule.now.body) }
+    ensures len { array_string_len line.new ≤ array_string_len line.old + 52 }
+{
+    match &schedule.body {
+        Some(body) => push_train(line, format, &schedule.uid, body),
+        None => {
+            push_field(line, format, &schedule.uid.write());
+            push_left_out(line, format, "\t\t\t\t\t\t\t\t\t");
+        }
+    }
+}
+
+impl ExplainedEntry for Association {
+    ghost use Rattle.cif_views.specs.Explanation.{IsAssociationOf, explained_association_line};
+
+    ghost is_of = { IsAssociationOf };
+
+    ghost line = { explained_association_line };
+
+    fn is_of(&self, uid: &Uid) -> bool {
+        self.key.base == *uid || self.key.associated == *uid
+    }
+
+    fn line(&self, format: Format, mark: Mark) -> ArrayString<LONGEST> {
+        let mut line = started(format, &columns_of(mark));
+        push_field(&mut line, format, b"AA");
+        push_terms(&mut line, format, self);
+        push_left_out(&mut line, format, NO_TRAIN);
+        push_said_of_association(&mut line, format, self);
+        line.push_str("\n");
+        line
+    }
+}
+
+impl ExplainedEntry for Schedule {
+    ghost use Rattle.cif_views.specs.Explanation.{IsTrain, explained_train_line};
+
+    ghost is_of = { IsTrain };
+
+    ghost line = { explained_train_line };
+
+    fn is_of(&self, uid: &Uid) -> bool {
+        self.uid == *uid
+    }
+
+    fn line(&self, format: Format, mark: Mark) -> ArrayString<LONGEST> {
+        let mut line = started(format, &columns_of(mark));
+        push_field(&mut line, format, b"BS");
+        push_terms(&mut line, format, self);
+        push_said_of_train(&mut line, format, self);
+        push_left_out(&mut line, format, NO_ASSOCIATION);
+        line.push_str("\n");
+        line
+    }
+}

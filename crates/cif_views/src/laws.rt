@@ -1,0 +1,27 @@
+//! The law on what the marks of an explanation say.
+ghost use Rattle.std.specs.Prelude.{◌≡◌, ◌↔◌, ℕ, Contains, List};
+ghost use Rattle.cif_calendar.specs.Clash.{IsClear};
+ghost use Rattle.cif_calendar.specs.Keys.{of_key};
+ghost use Rattle.cif_calendar.specs.Runs.{Runs};
+ghost use Rattle.cif_calendar.specs.Terms.{AreLawful, Terms};
+ghost use Rattle.cif_views.specs.Explanation.{AreExplained, Explained, HasWinningMark};
+ghost use Rattle.cif_views.specs.Explanation.{SomeApplies};
+ghost use Rattle.cif_views.specs.declared.marks.Mark.TheVariants.{Wins};
+
+use crate::marks::ExplainedEntry;
+
+/// What the marks of explained records say.
+pub fn marks_say_what_runs<E: ExplainedEntry>()
+    // A record that is marked as the winner has the body that runs; a cancellation has none.
+    ensures runs { (entries : List (E.Key × Terms E.Body))
+        (uid : List ℕ) (day : ℕ) (explained : List (Explained E.Key E.Body))
+        (e : Explained E.Key E.Body) → AreExplained E.Key.cmp E.is_of entries uid day explained
+        → AreLawful (of_key entries e.key) → Contains explained e → e.mark ≡ Wins
+        → Runs (of_key entries e.key) day e.terms.body }
+    // A key has one exactly if some record of it applies and no two winners differ.
+    ensures agree { (entries : List (E.Key × Terms E.Body))
+        (uid : List ℕ) (day : ℕ) (explained : List (Explained E.Key E.Body)) (key : E.Key)
+        → AreExplained E.Key.cmp E.is_of entries uid day explained → E.is_of key uid
+        → HasWinningMark explained key
+        ↔ (SomeApplies (of_key entries key) day × IsClear (of_key entries key) day) }
+{}

@@ -1,0 +1,16 @@
+//! What one extract says, for people and for other tools: why a train runs on a day, which records
+//! clash, and what runs, as text or as tables.
+#![tactic(auto)]
+
+mod calls;
+mod clash_list;
+mod explanation;
+mod find_clashes;
+pub mod laws;
+mod listing;
+mod marks;
+
+pub use clash_list::Clashes;
+pub use explanation::{explain_listing, explain_view};
+pub use find_clashes::clashes;
+pub use listing::{Listing, day_listing, train_listing};

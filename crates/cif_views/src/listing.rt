@@ -1,0 +1,163 @@
+//! What runs on a day, and when a train runs, as text or as a table, with or without calls.
+ghost use Rattle.std.specs.Prelude.{◌≡◌, ◌+◌, ◌++◌, ◌≤◌, ℕ, List, IfErr, length};
+ghost use Rattle.arrayvec.specs.ArrayString.{array_string_len};
+ghost use Rattle.cif_canon.specs.Fields.{after};
+ghost use Rattle.cif_canon.specs.Normalised.{FaultWrites, IfWritten};
+ghost use Rattle.cif_canon.specs.Views.{IsDayFault, IsTrainFault};
+ghost use Rattle.cif_extract.specs.ExtractParts.{extract_parts};
+ghost use Rattle.cif_views.specs.Listing.{IsDayListing, IsTrainListing, association_line};
+ghost use Rattle.cif_views.specs.Listing.{call_names_if, heading, no_call};
+
+use crate::calls::write_row;
+use arrayvec::ArrayString;
+use cif_canon::rows::{LONGEST, association_row, push_left_out, schedule_row, train_row};
+use cif_canon::writing::append;
+use cif_canon::{DayLines, Format, TrainLines, write_day, write_train};
+use cif_columns::{Day, Sink, Uid, WriteDevice};
+use cif_extract::{Body, Extract, Fault};
+use cif_records::{AssocBody, AssocKey};
+use cif_weeks::{Form, Run};
+use std::alloc::Global;
+
+/// How what runs is listed.
+#[derive(Clone, Copy, Debug, PartialEq, Eq)]
+pub struct Listing {
+    /// How fields are laid out.
+    pub format: Format,
+    /// Whether the train's calls are listed too: below its line, or in a table each with the fields
+    /// of the train before it.
+    pub calls: bool,
+}
+
+/// The names of the fields of a journey.
+const JOURNEY: &str = "\tidentity\torigin\torigin_suffix\tdeparture\torigin_platform\
+    \tterminus\tterminus_suffix\tarrival\tterminus_platform";
+
+/// The names of the fields of an association.
+pub(crate) const ASSOCIATION: &str = "\tbase_uid\tassociated_uid\tassociation_category\
+    \tdate_indicator\tassociation_location\tbase_suffix\tassociated_suffix\tdiagram_type\
+    \tassociation_type";
+
+/// The names of the fields of a call.
+const CALL: &str = "\tcall\tcall_location\tcall_suffix\tcall_arrival\tcall_departure\
+    \tcall_pass\tcall_public_arrival\tcall_public_departure\tcall_platform\tcall_path\
+    \tcall_line\tcall_activities";
+
+/// The names of a table's fields: the first ones, those of a journey, the others, and those of a call if
+/// calls are listed. Text has none.
+pub(crate) fn heading(listing: Listing, first: &str, others: &str) -> ArrayString<512>
+    requires first { length first.now ≤ 80 }
+    requires others { length others.now ≤ 150 }
+    ensures { result.bytes ≡ heading listing first.now others.now }
+{
+    let mut line = ArrayString::new();
+    match listing.format {
+        Format::Text => line,
+        Format::Tsv => {
+            line.push_str(first);
+            line.push_str(JOURNEY);
+            line.push_str(others);
+            line.push_str(call_names(listing));
+            line.push_str("\n");
+            line
+        }
+    }
+}
+
+/// The names of the fields of a call, if calls are listed.
+fn call_names(listing: Listing) -> &'static str
+    ensures names { result.now ≡ call_names_if listing }
+    ensures len { length result.now ≤ 161 }
+{
+    if listing.calls { CALL } else { "" }
+}
+
+/// Appends what runs on the day, as `day_view` does, in this listing. A table begins with the names of
+/// its fields.
+pub fn day_listing<W: WriteDevice>(
+    alloc: Global,
+    extract: &Extract,
+    day: Day,
+    sink: &mut Sink<W>,
+    listing: Listing,
+) -> Result<(), Fault>
+    ensures view { (text : List ℕ)
+        × FaultWrites W.contents W.write_errors text sink.old sink.new result
+        × IfWritten result (IsDayListing listing (extract_parts extract.now) day text) }
+    ensures fault { IfErr result (IsDayFault (extract_parts extract.now) day) }
+{
+    let names = heading(listing, "kind\tuid", ASSOCIATION);
+    write_day(alloc, extract, day, sink, names.as_str(), &listing)
+}
+
+/// Appends when the train runs, as `train_view` does, in this listing. A table begins with the names of
+/// its fields.
+pub fn train_listing<W: WriteDevice>(
+    alloc: Global,
+    extract: &Extract,
+    uid: &Uid,
+    sink: &mut Sink<W>,
+    form: Form,
+    listing: Listing,
+) -> Result<(), Fault>
+    ensures view { (text : List ℕ)
+        × FaultWrites W.contents W.write_errors text sink.old sink.new result
+        × IfWritten result (IsTrainListing listing form (extract_parts extract.now) uid.now text) }
+    ensures fault { IfErr result (IsTrainFault (extract_parts extract.now)) }
+{
+    let names = heading(listing, "first_date\tlast_date\tdays_run", "");
+    write_train(alloc, extract, uid, sink, form, names.as_str(), &listing)
+}
+
+impl DayLines for Listing {
+    ghost use Rattle.cif_views.specs.Listing.{association_line, train_text};
+
+    ghost association = { association_line };
+
+    ghost train = { train_text };
+
+    fn write_association<W: WriteDevice>(
+        &self,
+        key: &AssocKey,
+        body: &AssocBody,
+        sink: &mut Sink<W>,
+    ) {
+        append(association_line(*self, key, body).as_str(), sink);
+    }
+
+    fn write_train<W: WriteDevice>(&self, uid: &Uid, body: &Body, sink: &mut Sink<W>) {
+        write_row(*self, train_row(self.format, uid, body), body, sink);
+    }
+}
+
+impl TrainLines for Listing {
+    ghost use Rattle.cif_views.specs.Listing.{schedule_text};
+
+    ghost schedule = { schedule_text };
+
+    fn write_schedule<W: WriteDevice>(&self, run: &Run, body: &Body, sink: &mut Sink<W>) {
+        write_row(*self, schedule_row(self.format, run, body), body, sink);
+    }
+}
+
+/// The line of an association that holds.
+#[tactic(auto, unfolding(crate::specs::Listing::association_line))]
+fn association_line(listing: Listing, key: &AssocKey, body: &AssocBody) -> ArrayString<LONGEST>
+    ensures { result.bytes ≡ association_line listing (key.now, body.now) }
+{
+    let mut line = association_row(listing.format, key, body);
+    push_no_call(&mut line, listing);
+    line.push_str("\n");
+    line
+}
+
+/// Appends the fields of a call, empty, if the line is a row of a table of calls.
+fn push_no_call(line: &mut ArrayString<LONGEST>, listing: Listing)
+    requires { array_string_len line.old + 12 ≤ LONGEST }
+    ensures text { line.new.bytes ≡ line.old.bytes ++ after listing.format (no_call listing) }
+    ensures len { array_string_len line.new ≤ array_string_len line.old + 12 }
+{
+    if listing.calls {
+        push_left_out(line, listing.format, "\t\t\t\t\t\t\t\t\t\t\t\t");
+    }
+}
