@@ -22,3 +22,4 @@ pub mod UpdatesDone
 pub mod OwnReasons
 pub mod ToldReasons
 pub mod JudgedRuns
+pub mod WrittenItems

@@ -19,6 +19,7 @@ mod reasons;
 mod record_keys;
 mod update;
 mod words;
+mod written;
 
 pub use changes::{Action, Change, Keyed, RefusedLine, apply};
 pub use feed::{Feed, FeedFault};
