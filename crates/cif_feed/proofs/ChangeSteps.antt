@@ -13,9 +13,10 @@ use Rattle.std.proofs.lemmas.List.Elements.{Contains-get_or, Contains-append_lef
 use Rattle.std.proofs.lemmas.List.Folds.{list_any-append, list_any_at}
 use Rattle.std.proofs.lemmas.List.Quantifiers.{all_pairs_push}
 use Rattle.std.proofs.lemmas.Option.{same_Some, slice_get_past}
+use Rattle.cif_calendar.proofs.Elements.{Contains-first}
 use Rattle.cif_calendar.proofs.Winning.{terms_at}
-use Rattle.cif_feed.specs.Changes.{AreRefused, ChangeParts, IsRefusedAt, after, after_all, changes_of, is_changed, is_there, may, of_key, parts_of, put}
-use Rattle.cif_feed.specs.Changes.{put_last, untouched, with_keys}
+use Rattle.cif_feed.specs.Changes.{AreRefused, ChangeParts, IsFirstRefused, IsRefusedAt, after, after_all, changes_of, is_changed, is_there}
+use Rattle.cif_feed.specs.Changes.{may, of_key, parts_of, put, put_last, untouched, with_keys}
 use Rattle.cif_feed.specs.Steps.Changes.{AreLast, AreRefusedBefore, SaysAlone, SaysThere, is_position, last_from}
 use Rattle.cif_feed.specs.declared.changes.Change.{Change}
 use Rattle.cif_feed.specs.declared.changes.Change.TheVariants as line
@@ -289,6 +290,22 @@ module _ {K I : Type 0} (same : K → K → Bool) (laws : IsEquivalence same) wh
           (λ (below : at < length changes). omega arith)
           (λ past. absurd (let none : slice_get changes at ≡ None = slice_get_past changes at past in let e : None ≡ Some bad.change = sym none ∙ bad.is in cc))
           (cases_lt at (length changes))
+
+  -- the first of the positions
+  pub refused-first : (records : List (K × I)) (changes : List (ChangeParts K I)) (refused : List ℕ)
+      → AreRefused same records changes refused → IsFirstRefused same records changes (slice_get refused 0)
+  refused-first records changes [] all = λ at bad.
+      let (k, below, is) = (all.are at).1 bad in let none : k < 0 = below in absurd (omega arith)
+  refused-first records changes (first ∷ others) all =
+      ((all.are first).0 (Contains-first first others), λ earlier before bad. early earlier before ((all.are earlier).1 bad))
+    where
+      early : (at : ℕ) → at < first → Contains (first ∷ others) at → ⊥
+      early at before (k, below, is) = ⊎_elim
+          (λ (later : 0 < k). let up : first < get_or (first ∷ others) k at = all.rising 0 k at later below in omega (arith, is))
+          (λ (none : k ≤ 0).
+          let zero : k ≡ 0 = omega arith in
+          let here : first ≡ at = subst (λ n. get_or (first ∷ others) n at ≡ at) zero is in omega arith)
+          (cases_lt 0 k)
 
 -- ---- what the lines of an update are
 

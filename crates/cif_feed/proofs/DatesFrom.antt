@@ -6,7 +6,7 @@ use Rattle.std.proofs.lemmas.List.{get_or-drop, get_or_default}
 use Rattle.std.specs.List.Sorted.{IsNonDecreasing}
 use Rattle.cif_columns.specs.Day.{weekday_of}
 use Rattle.cif_columns.specs.DaysRun.{RunsOn}
-use Rattle.cif_feed.specs.HolidayDates.{IsFirstFrom, IsOneOn}
+use Rattle.cif_feed.specs.HolidayDates.{IsFirstFrom, IsDateOnDaysRun}
 
 -- The dates before the place come before `from`, and of those from it up to the index none has its weekday in the mask.
 module _ (dates later : List ℕ) (days : List Bool) (from place index : ℕ) (rise : IsNonDecreasing dates)
@@ -19,7 +19,7 @@ module _ (dates later : List ℕ) (days : List Bool) (from place index : ℕ) (r
   at_later j = ap (λ (l : List ℕ). get_or l j 0) is ∙ get_or-drop place dates j 0
 
   -- a day from `from` on that comes before the date at the index isn't one of them
-  passed : (d : ℕ) → from ≤ d → (index < length later → d < get_or later index 0) → ¬ IsOneOn dates days d
+  passed : (d : ℕ) → from ≤ d → (index < length later → d < get_or later index 0) → ¬ IsDateOnDaysRun dates days d
   passed d early ahead on = at on.listed
     where
       at : Contains dates d → ⊥
@@ -41,14 +41,15 @@ module _ (dates later : List ℕ) (days : List Bool) (from place index : ℕ) (r
           (cases_lt k place)
 
   -- none is found where the date at the index, if there is one, comes after the last
-  pub none-found : (last : ℕ) → (index < length later → last < get_or later index 0) → IsFirstFrom (IsOneOn dates days) from last None
+  pub none-found : (last : ℕ) → (index < length later → last < get_or later index 0)
+      → IsFirstFrom (IsDateOnDaysRun dates days) from last None
   none-found last behind d early late = passed d early (λ there. let b = behind there in omega arith)
 
   -- the date at the index is found where its weekday is in the mask
   pub date-found : (last date : ℕ) → index < length later → date ≡ get_or later index 0 → date ≤ last
       → RunsOn days (weekday_of date)
       → ((k : ℕ) → place ≤ k → k < length dates → from ≤ get_or dates k 0)
-      → IsFirstFrom (IsOneOn dates days) from last (Some date)
+      → IsFirstFrom (IsDateOnDaysRun dates days) from last (Some date)
   date-found last date there at upto on after =
       let below : place + index < length dates = omega (arith, long) in
       let same : date ≡ get_or dates (place + index) 0 = at ∙ at_later index in (

@@ -1,24 +1,28 @@
 -- The text of holidays, byte by byte.
-use Rattle.std.proofs.Common.{◌≡◌, ◌≢◌, ◌⊎◌, inl, inr, ⊎_elim, ◌↔◌, ℕ, ◌+◌, ◌-◌, ◌<◌, ◌≤◌, ◌==◌, Bool, true, false, cond, List, [], ◌∷◌, ◌++◌, length, take, drop}
-use Rattle.std.proofs.Common.{get_or, map, Option, Some, None, Result, Ok, Err, IfErr, IfOk, IfSome, All, Contains, refl, sym, ap, ◌∙◌, subst, arith}
+use Rattle.std.proofs.Common.{◌≡◌, ◌≢◌, ◌⊎◌, inl, inr, ⊎_elim, ◌↔◌, ℕ, ◌+◌, ◌-◌, ◌<◌, ◌≤◌, ◌==◌, Bool, true, false, cond}
+use Rattle.std.proofs.Common.{List, [], ◌∷◌, ◌++◌, length, take, drop, get_or, map, Option, Some, None, Result, Ok, Err}
+use Rattle.std.proofs.Common.{IfErr, IfOk, IfSome, IsSomeAnd, All, Contains, refl, sym, ap, ◌∙◌, subst, arith}
 use Rattle.std.proofs.Common.{append_assoc, append-nil, length-append, length-take, take-append-drop}
 use Rattle.std.specs.Io.KnownBytes.{Consumes, IsAtEnd}
 use Rattle.std.specs.List.{slice_split}
 use Rattle.std.specs.Str.Lines.{lines, lines_of_parts, strip_carriage_return}
-use Rattle.std.proofs.lemmas.Bool.{eqb-true}
+use Rattle.std.proofs.lemmas.Bool.{eqb-true, false≢true}
 use Rattle.std.proofs.lemmas.Bool.Decides.{nat_tests}
-use Rattle.std.proofs.lemmas.List.{take_more}
-use Rattle.std.proofs.lemmas.List.Elements.{All-append, All-cons, All-nil, All-push, Contains-append_left, Contains-push, Contains-push_cases}
+use Rattle.std.proofs.lemmas.List.{get_or_append_left, take_more}
+use Rattle.std.proofs.lemmas.List.Elements.{All-append, All-cons, All-contains, All-nil, All-push, Contains-append_left}
+use Rattle.std.proofs.lemmas.List.Elements.{Contains-append_right, Contains-push, Contains-push_cases}
 use Rattle.std.proofs.lemmas.List.Splits.{slice_split_none}
+use Rattle.cif_calendar.proofs.Elements.{Contains-first}
 use Rattle.cif_columns.specs.Contents.{contents_of}
 use Rattle.cif_columns.specs.FirstLine.{is_line_feed}
-use Rattle.cif_columns.specs.Source.{HasReadOn}
+use Rattle.cif_columns.specs.Source.{HasReadOn, Unread}
 use Rattle.cif_columns.specs.declared.source.Source.{Source}
 use Rattle.cif_columns.proofs.WholeLines.{lines_to_feed, lines_whole}
-use Rattle.cif_feed.specs.HolidayText.{AreHolidaysOf, HolidayReads, IsBadLine, IsFirstBadLine, IsHolidayFault, IsHolidayLine}
-use Rattle.cif_feed.specs.HolidayText.{LineNames, LineSays, SomeLine, SpellHolidays}
+use Rattle.cif_feed.specs.HolidayText.{AreHolidayLines, AreHolidayLinesAndRest, AreHolidaysOf, AreRead, AreWhole, DecidesNoLine}
+use Rattle.cif_feed.specs.HolidayText.{HolidayReads, IsBadLine, IsCutBeforeBadLine, IsFirstBadLine, IsHolidayFault, IsHolidayLine}
+use Rattle.cif_feed.specs.HolidayText.{IsLineDecided, IsLineDecidedBy, IsOfHolidays, LineNames, LineSays, SomeLine, SpellHolidays}
 use Rattle.cif_feed.specs.Holidays.{IsHoliday, Names}
-use Rattle.cif_feed.specs.Steps.HolidayReading.{AreLinesAndRest, AreWhole, HasLineMore, IsLineFault, IsRefusal, IsRefusalBehind}
+use Rattle.cif_feed.specs.Steps.HolidayReading.{AreLinesAndRest, HasLineMore, IsLineFault, IsRefusal, IsRefusalBehind}
 use Rattle.cif_feed.specs.declared.holiday_code.HolidayCode.{HolidayCode}
 use Rattle.cif_feed.specs.declared.holiday_text.HolidayFault.{HolidayFault}
 use Rattle.cif_feed.specs.declared.holiday_text.HolidayFault.TheVariants.{BadHoliday, Read, Memory}
@@ -120,16 +124,37 @@ are-push ls line old new are more = record {
   days = λ code d. swapped (through (more.days code d) (are.days code d)) (some-push (LineSays code d) ls line);
 }
 
+-- no lines
+are-none : AreHolidayLines []
+are-none = record { are = All-nil IsHolidayLine; within = omega arith }
+
+-- no bytes decide a line
+undecided-none : (rest : List ℕ) → rest ≡ [] → DecidesNoLine rest
+undecided-none rest none = subst DecidesNoLine (sym none) (record { no_feed = All-nil (λ (b : ℕ). b ≢ 10); short = omega arith })
+
+-- bytes that decide a line decide it whatever follows
+still-decided : (rest more : List ℕ) → ¬ DecidesNoLine rest → ¬ DecidesNoLine (rest ++ more)
+still-decided rest more decided nothing = decided (record {
+  no_feed = λ k d below. subst (λ (b : ℕ). b ≢ 10) (get_or_append_left rest more d k below)
+      (nothing.no_feed k d (omega (arith, length-append rest more)));
+  short = let short = nothing.short in omega (arith, length-append rest more);
+})
+
+-- a line feed decides a line
+feed-decides : (rest : List ℕ) → ¬ DecidesNoLine (rest ++ 10 ∷ [])
+feed-decides rest nothing = All-contains (λ (b : ℕ). b ≢ 10) (rest ++ 10 ∷ []) 10 nothing.no_feed (Contains-push rest 10) refl
+
+-- so does a byte more than a line may have
+long-decides : (rest : List ℕ) → 1001 < length rest → ¬ DecidesNoLine rest
+long-decides rest long nothing = let short = nothing.short in omega arith
+
 pub taken-none : (h : Holidays) (rest : List ℕ) → rest ≡ [] → ((code : HolidayCode) → ¬ Names h code)
     → ((code : HolidayCode) (d : ℕ) → ¬ IsHoliday h code d) → AreLinesAndRest [] 0 rest h
 taken-none h rest none names days = record {
-  whole = [];
-  parts = sym none;
-  ended = inl refl;
-  no_feed = subst HasNoFeed (sym none) (All-nil (λ (b : ℕ). b ≢ 10));
-  short = subst (λ (l : List ℕ). length l ≤ 1001) (sym none) (omega arith);
+  lines = [];
+  whole_lines_and_rest = record { whole = []; parts = sym none; ended = inl refl; contents = refl; are_lines = are-none };
+  undecided = undecided-none rest none;
   counted = refl;
-  lines = All-nil IsHolidayLine;
   are = record {
     names = λ code. (λ named. absurd (names code named), λ some. absurd (nothing some.1));
     days = λ code d. (λ day. absurd (days code d day), λ some. absurd (nothing some.1));
@@ -140,116 +165,164 @@ taken-none h rest none names days = record {
     nothing (k, below, is) = let b : k < 0 = below in omega arith
 
 module _ (bytes : List ℕ) (count : ℕ) (rest : List ℕ) (h : Holidays) (so_far : AreLinesAndRest bytes count rest h) where
-  abbrev whole : List ℕ
-  whole = so_far.whole
+  abbrev ls : List (List ℕ)
+  ls = so_far.lines
+
+  abbrev before : AreHolidayLinesAndRest bytes so_far.lines rest
+  before = so_far.whole_lines_and_rest
 
   -- the contents, where a line and others follow the whole lines
-  contents_are : (more line : List ℕ) (others : List (List ℕ)) → lines (rest ++ more) ≡ line ∷ others
-      → contents_of (bytes ++ more) ≡ lines whole ++ line ∷ others
-  contents_are more line others is =
-      ap lines (ap (λ l. l ++ more) so_far.parts ∙ append_assoc whole rest more) ∙ whole_lines whole (rest ++ more) so_far.ended
-      ∙ ap (λ l. lines whole ++ l) is
+  contents_are : (more : List ℕ) (others : List (List ℕ)) → lines (rest ++ more) ≡ others → contents_of (bytes ++ more) ≡ ls ++ others
+  contents_are more others is =
+      ap lines (ap (λ l. l ++ more) before.parts ∙ append_assoc before.whole rest more)
+      ∙ whole_lines before.whole (rest ++ more) before.ended
+      ∙ ap (λ l. l ++ lines (rest ++ more)) before.contents ∙ ap (λ l. ls ++ l) is
 
   -- the next line is refused
   refused : (more line : List ℕ) (others : List (List ℕ)) (number : ℕ) → lines (rest ++ more) ≡ line ∷ others → number ≡ count + 1
       → IsBadLine number line → IsFirstBadLine (contents_of (bytes ++ more)) number
   refused more line others number is next bad = record {
-    before = lines whole;
+    before = ls;
     line = line;
     after = others;
-    parts = contents_are more line others is;
-    fine = so_far.lines;
+    parts = contents_are more (line ∷ others) is;
+    none_before = before.are_lines;
     numbered = next ∙ ap (λ n. n + 1) so_far.counted;
     bad = bad;
   }
 
+  -- and these bytes more decide it
+  decided : (more : List ℕ) (number : ℕ) → number ≡ count + 1 → ¬ DecidesNoLine (rest ++ more) → IsLineDecidedBy (bytes ++ more) number
+  decided more number next decides = record {
+    lines = ls;
+    rest = rest ++ more;
+    whole_lines_and_rest = record {
+      whole = before.whole;
+      parts = ap (λ l. l ++ more) before.parts ∙ append_assoc before.whole rest more;
+      ended = before.ended;
+      contents = before.contents;
+      are_lines = before.are_lines;
+    };
+    numbered = next ∙ ap (λ n. n + 1) so_far.counted;
+    decided = decides;
+  }
+
+  -- one line more
+  one_more : (line : List ℕ) → count + 1 ≤ 100000000 → IsHolidayLine line → AreHolidayLines (ls ++ line ∷ [])
+  one_more line few fine = record {
+    are = All-push IsHolidayLine ls line before.are_lines.are fine;
+    within = omega (arith, few, so_far.counted, length-append ls (line ∷ []));
+  }
+
   -- a line feed ends a line of holidays
-  pub taken-line : (byte : ℕ) (none : List ℕ) (new : Holidays) → byte ≡ 10 → none ≡ []
+  pub taken-line : (byte : ℕ) (none : List ℕ) (new : Holidays) → byte ≡ 10 → none ≡ [] → count + 1 ≤ 100000000
       → IsHolidayLine (strip_carriage_return rest) → HasLineMore h (strip_carriage_return rest) new
       → AreLinesAndRest (bytes ++ byte ∷ []) (count + 1) none new
-  taken-line byte none new is_feed is_none fine more =
-      subst (λ (b : ℕ). AreLinesAndRest (bytes ++ b ∷ []) (count + 1) none new) (sym is_feed)
-      (subst (λ (l : List ℕ). AreLinesAndRest (bytes ++ 10 ∷ []) (count + 1) l new) (sym is_none)
-      (let line = strip_carriage_return rest in
-      let now : lines (whole ++ (rest ++ 10 ∷ [])) ≡ lines whole ++ line ∷ [] =
-      whole_lines whole (rest ++ 10 ∷ []) so_far.ended ∙ ap (λ l. lines whole ++ l) (first_line rest [] so_far.no_feed) in
+  taken-line byte none new is_feed is_none few fine more =
+      let line = strip_carriage_return rest in
+      let whole : bytes ++ byte ∷ [] ≡ (before.whole ++ rest) ++ 10 ∷ [] =
+      ap (λ (b : ℕ). bytes ++ b ∷ []) is_feed ∙ ap (λ l. l ++ 10 ∷ []) before.parts in
       record {
-        whole = whole ++ (rest ++ 10 ∷ []);
-        parts = ap (λ l. l ++ 10 ∷ []) so_far.parts ∙ append_assoc whole rest (10 ∷ []) ∙ sym (append-nil _);
-        ended = inr (whole ++ rest, sym (append_assoc whole rest (10 ∷ [])));
-        no_feed = All-nil (λ (b : ℕ). b ≢ 10);
-        short = omega arith;
-        counted = omega (arith, so_far.counted, ap length now, length-append (lines whole) (line ∷ []));
-        lines = subst (All IsHolidayLine) (sym now) (All-push IsHolidayLine (lines whole) line so_far.lines fine);
-        are = subst (λ ls. AreHolidaysOf ls new) (sym now) (are-push (lines whole) line h new so_far.are more);
-      }))
+        lines = ls ++ line ∷ [];
+        whole_lines_and_rest = record {
+          whole = bytes ++ byte ∷ [];
+          parts = sym (append-nil _) ∙ ap (λ l. (bytes ++ byte ∷ []) ++ l) (sym is_none);
+          ended = inr (before.whole ++ rest, whole);
+          contents = ap (λ (b : ℕ). lines (bytes ++ b ∷ [])) is_feed
+              ∙ contents_are (10 ∷ []) (line ∷ []) (first_line rest [] so_far.undecided.no_feed);
+          are_lines = one_more line few fine;
+        };
+        undecided = undecided-none none is_none;
+        counted = omega (arith, so_far.counted, length-append ls (line ∷ []));
+        are = are-push ls line h new so_far.are more;
+      }
 
   -- or one that is refused, whatever follows
   pub refused-line : (byte : ℕ) (fault : HolidayFault) → byte ≡ 10 → IsLineFault (count + 1) (strip_carriage_return rest) fault
       → IsRefusalBehind (bytes ++ byte ∷ []) fault
-  refused-line byte (BadHoliday at) feed (is, bad) = λ more.
-      subst (λ (l : List ℕ). IsFirstBadLine (contents_of l) at)
-      (ap (λ (b : ℕ). bytes ++ b ∷ more) (sym feed) ∙ sym (append_assoc bytes (byte ∷ []) more))
-      (refused (10 ∷ more) (strip_carriage_return rest) (lines more) at (first_line rest more so_far.no_feed) is
-      (subst (λ (n : ℕ). IsBadLine n (strip_carriage_return rest)) (sym is) bad))
+  refused-line byte (BadHoliday at) feed (is, bad) = subst (λ (b : ℕ). IsRefusalBehind (bytes ++ b ∷ []) (BadHoliday at)) (sym feed) (
+    decided (10 ∷ []) at is (feed-decides rest),
+    λ more. subst (λ (l : List ℕ). IsFirstBadLine (contents_of l) at) (sym (append_assoc bytes (10 ∷ []) more))
+        (refused (10 ∷ more) (strip_carriage_return rest) (lines more) at (first_line rest more so_far.undecided.no_feed) is
+        (subst (λ (n : ℕ). IsBadLine n (strip_carriage_return rest)) (sym is) bad)),
+  )
   refused-line byte Read feed fault = absurd fault
   refused-line byte Memory feed fault = tt
 
   -- a byte more than a line may have
-  pub refused-long : (byte : ℕ) → byte ≢ 10 → length rest ≡ 1001 → (more : List ℕ)
-      → IsFirstBadLine (contents_of ((bytes ++ byte ∷ []) ++ more)) (count + 1)
-  refused-long byte other full more =
-      let none = All-push (λ (b : ℕ). b ≢ 10) rest byte so_far.no_feed other in
-      let (line, others, is, long) = long_line (rest ++ byte ∷ []) more none (omega (arith, length-append rest (byte ∷ []))) in
-      subst (λ (l : List ℕ). IsFirstBadLine (contents_of l) (count + 1)) (sym (append_assoc bytes (byte ∷ []) more))
-      (refused (byte ∷ more) line others (count + 1) (ap lines (sym (append_assoc rest (byte ∷ []) more)) ∙ is) refl
-      (inr (λ fine. let within = fine.within in omega arith)))
+  pub refused-long : (byte : ℕ) → byte ≢ 10 → length rest ≡ 1001 → IsRefusalBehind (bytes ++ byte ∷ []) (BadHoliday (count + 1))
+  refused-long byte other full = (
+    decided (byte ∷ []) (count + 1) refl (long-decides (rest ++ byte ∷ []) (omega (arith, length-append rest (byte ∷ [])))),
+    λ more.
+        let none = All-push (λ (b : ℕ). b ≢ 10) rest byte so_far.undecided.no_feed other in
+        let (line, others, is, long) = long_line (rest ++ byte ∷ []) more none (omega (arith, length-append rest (byte ∷ []))) in
+        subst (λ (l : List ℕ). IsFirstBadLine (contents_of l) (count + 1)) (sym (append_assoc bytes (byte ∷ []) more))
+        (refused (byte ∷ more) line others (count + 1) (ap lines (sym (append_assoc rest (byte ∷ []) more)) ∙ is) refl
+        (inr (λ fine. let within = fine.within in omega arith))),
+  )
 
   -- the end after whole lines
-  pub spell-whole : count ≤ 100000000 → rest ≡ [] → SpellHolidays bytes h
-  spell-whole within none =
-      let same : whole ≡ bytes = sym (so_far.parts ∙ ap (λ l. whole ++ l) none ∙ append-nil whole) in
-      subst (λ (l : List ℕ). SpellHolidays l h) same
-      (record { lines = so_far.lines; within = omega (arith, so_far.counted); are = so_far.are })
+  pub spell-whole : rest ≡ [] → SpellHolidays bytes h
+  spell-whole none =
+      let now : contents_of bytes ≡ ls =
+      ap lines (before.parts ∙ ap (λ l. before.whole ++ l) none ∙ append-nil before.whole) ∙ before.contents in
+      record { lines = subst AreHolidayLines (sym now) before.are_lines; are = subst (λ l. AreHolidaysOf l h) (sym now) so_far.are }
 
   -- the end after a last line
   pub spell-last : (new : Holidays) → count + 1 ≤ 100000000 → 0 < length rest → IsHolidayLine rest → HasLineMore h rest new
       → SpellHolidays bytes new
-  spell-last new within some fine more =
-      let now : contents_of bytes ≡ lines whole ++ rest ∷ [] =
-      ap lines so_far.parts ∙ whole_lines whole rest so_far.ended ∙ ap (λ l. lines whole ++ l) (last_line rest so_far.no_feed some) in
+  spell-last new few some fine more =
+      let now : contents_of bytes ≡ ls ++ rest ∷ [] =
+      ap lines (sym (append-nil bytes))
+      ∙ contents_are [] (rest ∷ []) (ap lines (append-nil rest) ∙ last_line rest so_far.undecided.no_feed some) in
       record {
-        lines = subst (All IsHolidayLine) (sym now) (All-push IsHolidayLine (lines whole) rest so_far.lines fine);
-        within = omega (arith, so_far.counted, ap length now, length-append (lines whole) (rest ∷ []));
-        are = subst (λ ls. AreHolidaysOf ls new) (sym now) (are-push (lines whole) rest h new so_far.are more);
+        lines = subst AreHolidayLines (sym now) (one_more rest few fine);
+        are = subst (λ l. AreHolidaysOf l new) (sym now) (are-push ls rest h new so_far.are more);
       }
 
   pub refused-last : (fault : HolidayFault) → 0 < length rest → IsLineFault (count + 1) rest fault → IsRefusal bytes fault
   refused-last (BadHoliday at) some (is, bad) = subst (λ (l : List ℕ). IsFirstBadLine (contents_of l) at) (append-nil bytes)
-      (refused [] rest [] at (ap lines (append-nil rest) ∙ last_line rest so_far.no_feed some) is
+      (refused [] rest [] at (ap lines (append-nil rest) ∙ last_line rest so_far.undecided.no_feed some) is
       (subst (λ (n : ℕ). IsBadLine n rest) (sym is) bad))
   refused-last Read some fault = absurd fault
   refused-last Memory some fault = tt
 
   -- the source fails
-  pub cut : (start after : Option (List ℕ)) → Consumes start after bytes → IfSome start (λ all. IsHolidayFault all after Read)
-  cut None after consumed = tt
-  cut (Some all) None consumed = absurd consumed
-  cut (Some all) (Some unread) consumed = record {
-    whole = whole;
-    rest = rest;
-    parts = consumed ∙ ap (λ l. l ++ unread) so_far.parts ∙ append_assoc whole rest unread;
-    lines = so_far.lines;
-    no_feed = so_far.no_feed;
-    short = so_far.short;
-  }
+  pub cut : (start : Option (List ℕ)) (after : Unread) → Consumes start after.bytes bytes
+      → IfSome start (λ all. IsHolidayFault all after Read)
+  cut start after consumed = at start after.bytes consumed
+    where
+      at : (s a : Option (List ℕ)) → Consumes s a bytes → IfSome s (λ all. IsSomeAnd a (IsCutBeforeBadLine all))
+      at None a consumed = tt
+      at (Some all) None consumed = absurd consumed
+      at (Some all) (Some unread) consumed = record {
+        lines = ls;
+        before = bytes;
+        rest = rest;
+        parts = consumed;
+        whole_lines_and_rest = so_far.whole_lines_and_rest;
+        undecided = so_far.undecided;
+      }
 
 -- bytes that are refused, whatever follows them, with more of these
 pub refused-further : (bytes all more : List ℕ) (fault : HolidayFault) → all ≡ bytes ++ more → IsRefusalBehind bytes fault
     → IsRefusalBehind all fault
-refused-further bytes all more (BadHoliday line) is bad = λ others.
-    subst (λ (l : List ℕ). IsFirstBadLine (contents_of l) line)
-    (sym (append_assoc bytes more others) ∙ ap (λ l. l ++ others) (sym is)) (bad (more ++ others))
+refused-further bytes all more (BadHoliday line) is (decides, bad) = subst (λ (l : List ℕ). IsRefusalBehind l (BadHoliday line)) (sym is) (
+  record {
+    lines = decides.lines;
+    rest = decides.rest ++ more;
+    whole_lines_and_rest = record {
+      whole = decides.whole_lines_and_rest.whole;
+      parts = ap (λ l. l ++ more) decides.whole_lines_and_rest.parts ∙ append_assoc decides.whole_lines_and_rest.whole decides.rest more;
+      ended = decides.whole_lines_and_rest.ended;
+      contents = decides.whole_lines_and_rest.contents;
+      are_lines = decides.whole_lines_and_rest.are_lines;
+    };
+    numbered = decides.numbered;
+    decided = still-decided decides.rest more decides.decided;
+  },
+  λ others. subst (λ (l : List ℕ). IsFirstBadLine (contents_of l) line) (sym (append_assoc bytes more others)) (bad (more ++ others)),
+)
 refused-further bytes all more Read is bad = absurd bad
 refused-further bytes all more Memory is bad = tt
 
@@ -264,18 +337,41 @@ at-place taken bytes i below =
 -- ---- the source
 
 -- bytes that are refused behind what was read
-pub refused_of_start : (start after : Option (List ℕ)) (taken : List ℕ) (fault : HolidayFault) → Consumes start after taken
+pub refused_of_start : (start : Option (List ℕ)) (after : Unread) (taken : List ℕ) (fault : HolidayFault) → Consumes start after.bytes taken
     → IsRefusalBehind taken fault → IfSome start (λ bytes. IsHolidayFault bytes after fault)
-refused_of_start None after taken fault consumed bad = tt
-refused_of_start (Some bytes) None taken fault consumed bad = absurd consumed
-refused_of_start (Some bytes) (Some unread) taken (BadHoliday line) consumed bad =
-    subst (λ (l : List ℕ). IsFirstBadLine (contents_of l) line) (sym consumed) (bad unread)
-refused_of_start (Some bytes) (Some unread) taken Read consumed bad = absurd bad
-refused_of_start (Some bytes) (Some unread) taken Memory consumed bad = tt
+refused_of_start start after taken (BadHoliday line) consumed (decides, bad) = at start after.bytes consumed
+  where
+    at : (s a : Option (List ℕ)) → Consumes s a taken → IfSome s (λ bytes. IsFirstBadLine (contents_of bytes) line
+        × (after.ended ≡ false → IsSomeAnd a (λ unread. IsLineDecided bytes unread line)))
+    at None a consumed = tt
+    at (Some bytes) None consumed = absurd consumed
+    at (Some bytes) (Some unread) consumed = (
+      subst (λ (l : List ℕ). IsFirstBadLine (contents_of l) line) (sym consumed) (bad unread),
+      λ going. record { before = taken; parts = consumed; decided = decides },
+    )
+refused_of_start start after taken Read consumed bad = absurd bad
+refused_of_start None after taken Memory consumed bad = tt
+refused_of_start (Some bytes) after taken Memory consumed bad = tt
 
-module _ (start after : Option (List ℕ)) (taken : List ℕ) (consumed : Consumes start after taken) (at_end : IsAtEnd after) where
+-- a bad line is one that may come, or the one behind them
+pub behind_of_holidays : (taken : List ℕ) (fault : HolidayFault) → IsRefusalBehind taken fault → IsOfHolidays fault
+behind_of_holidays taken (BadHoliday line) (decides, bad) =
+    let within = decides.whole_lines_and_rest.are_lines.within in
+    (omega (arith, decides.numbered), omega (arith, decides.numbered, within))
+behind_of_holidays taken Read bad = absurd bad
+behind_of_holidays taken Memory bad = tt
+
+pub finished_of_holidays : (taken : List ℕ) (r : Result Holidays HolidayFault) → IfErr r (IsRefusal taken) → IfErr r IsOfHolidays
+finished_of_holidays taken (Ok h) bad = tt
+finished_of_holidays taken (Err (BadHoliday line)) bad =
+    let within = bad.none_before.within in (omega (arith, bad.numbered), omega (arith, bad.numbered, within))
+finished_of_holidays taken (Err Read) bad = absurd bad
+finished_of_holidays taken (Err Memory) bad = tt
+
+module _ (start : Option (List ℕ)) (after : Unread) (taken : List ℕ) (consumed : Consumes start after.bytes taken)
+    (at_end : IsAtEnd after.bytes) (told : after.ended ≡ true) where
   all_taken : IfSome start (λ bytes. taken ≡ bytes)
-  all_taken = all start after consumed at_end
+  all_taken = all start after.bytes consumed at_end
     where
       all : (s a : Option (List ℕ)) → Consumes s a taken → IsAtEnd a → IfSome s (λ bytes. taken ≡ bytes)
       all None a consumed end = tt
@@ -283,7 +379,8 @@ module _ (start after : Option (List ℕ)) (taken : List ℕ) (consumed : Consum
       all (Some bytes) (Some unread) consumed end = sym (consumed ∙ ap (λ l. taken ++ l) end ∙ append-nil taken)
 
   -- the holidays, where all was read
-  pub spelled_of_start : (r : Result Holidays HolidayFault) → IfOk r (SpellHolidays taken) → IfSome start (λ bytes. IfOk r (SpellHolidays bytes))
+  pub spelled_of_start : (r : Result Holidays HolidayFault) → IfOk r (SpellHolidays taken)
+      → IfSome start (λ bytes. IfOk r (SpellHolidays bytes))
   spelled_of_start r ok = at start all_taken
     where
       at : (s : Option (List ℕ)) → IfSome s (λ bytes. taken ≡ bytes) → IfSome s (λ bytes. IfOk r (SpellHolidays bytes))
@@ -291,11 +388,15 @@ module _ (start after : Option (List ℕ)) (taken : List ℕ) (consumed : Consum
       at (Some bytes) all = subst (λ (l : List ℕ). IfOk r (SpellHolidays l)) all ok
 
   -- or the refusal
-  pub fault_of_start : (r : Result Holidays HolidayFault) → IfErr r (IsRefusal taken) → IfSome start (λ bytes. IfErr r (IsHolidayFault bytes after))
+  pub fault_of_start : (r : Result Holidays HolidayFault) → IfErr r (IsRefusal taken)
+      → IfSome start (λ bytes. IfErr r (IsHolidayFault bytes after))
   fault_of_start r bad = at start all_taken
     where
       by_fault : (fault : HolidayFault) → IsRefusal taken fault → (bytes : List ℕ) → taken ≡ bytes → IsHolidayFault bytes after fault
-      by_fault (BadHoliday line) refusal bytes same = subst (λ (l : List ℕ). IsFirstBadLine (contents_of l) line) same refusal
+      by_fault (BadHoliday line) refusal bytes same = (
+        subst (λ (l : List ℕ). IsFirstBadLine (contents_of l) line) same refusal,
+        λ going. absurd (false≢true (sym going ∙ told)),
+      )
       by_fault Read refusal bytes same = absurd refusal
       by_fault Memory refusal bytes same = tt
 
@@ -307,6 +408,36 @@ module _ (start after : Option (List ℕ)) (taken : List ℕ) (consumed : Consum
       at : (s : Option (List ℕ)) → IfSome s (λ bytes. taken ≡ bytes) → IfSome s (λ bytes. IfErr r (IsHolidayFault bytes after))
       at None all = tt
       at (Some bytes) all = by_result r bad bytes all
+
+  -- and nothing is left
+  pub nothing_left_of_start : IfSome start (λ bytes. after.bytes ≡ Some [])
+  nothing_left_of_start = at start after.bytes consumed at_end
+    where
+      at : (s a : Option (List ℕ)) → Consumes s a taken → IsAtEnd a → IfSome s (λ bytes. a ≡ Some [])
+      at None a consumed end = tt
+      at (Some bytes) None consumed end = absurd consumed
+      at (Some bytes) (Some unread) consumed end = ap (λ (l : List ℕ). Some l) end
+
+-- a text of holidays has no bad line
+spelled-fine : (bytes : List ℕ) (h : Holidays) (number : ℕ) → SpellHolidays bytes h → ¬ IsFirstBadLine (contents_of bytes) number
+spelled-fine bytes h number spells first = ⊎_elim
+    (λ many.
+    let within = spells.lines.within in
+    omega (arith, first.numbered, ap length first.parts, length-append first.before (first.line ∷ first.after)))
+    (λ other. other (All-contains IsHolidayLine (contents_of bytes) first.line spells.lines.are
+    (subst (λ (l : List (List ℕ)). Contains l first.line) (sym first.parts)
+    (Contains-append_right first.before (first.line ∷ first.after) first.line (Contains-first first.line first.after)))))
+    first.bad
+
+-- so that they are read
+pub read_of_start : (start : Option (List ℕ)) (after : Unread) (r : Result Holidays HolidayFault)
+    → IfSome start (λ bytes. IfErr r (IsHolidayFault bytes after))
+    → IfSome start (λ bytes. (h : Holidays) → SpellHolidays bytes h → AreRead r)
+read_of_start None after r fault = tt
+read_of_start (Some bytes) after (Ok h) fault = λ other spells. tt
+read_of_start (Some bytes) after (Err (BadHoliday line)) fault = λ other spells. absurd (spelled-fine bytes other line spells fault.0)
+read_of_start (Some bytes) after (Err Read) fault = λ other spells. tt
+read_of_start (Some bytes) after (Err Memory) fault = λ other spells. tt
 
 module _ {R : Type 0} (errors : R → Option ℕ) (old new : Source R) (on : HasReadOn errors old new) where
   -- no fault of the bytes is one of the source

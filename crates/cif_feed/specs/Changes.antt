@@ -1,6 +1,6 @@
 -- What the lines of an update do, one after another, to records of one kind. `same` says whether two keys are one.
-use Rattle.std.specs.Prelude.{◌≡◌, ◌↔◌, ℕ, ◌<◌, AllPairs, Contains, map, Bool, false, not, List, [], ◌∷◌, ◌++◌, filter, take, Option, Some, None}
-use Rattle.std.specs.Prelude.{if◌then◌else◌, slice_get}
+use Rattle.std.specs.Prelude.{◌≡◌, ◌↔◌, ℕ, ◌<◌, AllPairs, Contains, map, Bool, false, not, List, [], ◌∷◌, ◌++◌, filter, take}
+use Rattle.std.specs.Prelude.{Option, Some, None, if◌then◌else◌, slice_get}
 use Rattle.std.specs.List.{list_any}
 use Rattle.cif_feed.specs.declared.changes.Change.{Change}
 use Rattle.cif_feed.specs.declared.changes.Change.TheVariants as line
@@ -79,7 +79,8 @@ put_last same [] = []
 put_last same (c ∷ changes) = (if is_changed same changes c.key then [] else put c.key c.puts) ++ put_last same changes
 
 -- the change at this position, counted from 0, may not be done after those before it
-pub record IsRefusedAt {K I : Type 0} (same : K → K → Bool) (records : List (K × I)) (changes : List (ChangeParts K I)) (at : ℕ) : Type 0 where
+pub record IsRefusedAt {K I : Type 0} (same : K → K → Bool) (records : List (K × I)) (changes : List (ChangeParts K I)) (at : ℕ)
+    : Type 0 where
   pub change : ChangeParts K I
   pub is : slice_get changes at ≡ Some change
   pub may_not : may change.transaction (is_there same (after_all same records (take at changes)) change.key) ≡ false
@@ -89,3 +90,9 @@ pub record AreRefused {K I : Type 0} (same : K → K → Bool) (records : List (
     : Type 0 where
   pub rising : AllPairs ◌<◌ refused
   pub are : (at : ℕ) → Contains refused at ↔ IsRefusedAt same records changes at
+
+-- the position of the first such change, if there is one
+abbrev pub IsFirstRefused : {K I : Type 0} → (K → K → Bool) → List (K × I) → List (ChangeParts K I) → Option ℕ → Type 0
+IsFirstRefused same records changes None = (at : ℕ) → ¬ IsRefusedAt same records changes at
+IsFirstRefused same records changes (Some at) =
+    IsRefusedAt same records changes at × ((earlier : ℕ) → earlier < at → ¬ IsRefusedAt same records changes earlier)

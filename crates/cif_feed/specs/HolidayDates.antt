@@ -4,7 +4,7 @@ use Rattle.cif_columns.specs.Day.{weekday_of}
 use Rattle.cif_columns.specs.DaysRun.{RunsOn}
 
 -- d is one of the dates, and its weekday is in the mask
-pub record IsOneOn (dates : List ℕ) (days : List Bool) (d : ℕ) : Type 0 where
+pub record IsDateOnDaysRun (dates : List ℕ) (days : List Bool) (d : ℕ) : Type 0 where
   pub listed : Contains dates d
   pub on_weekday : RunsOn days (weekday_of d)
 

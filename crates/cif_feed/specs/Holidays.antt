@@ -1,6 +1,6 @@
 -- Holidays: for some of the holiday codes, a set of days.
 use Rattle.std.specs.Prelude.{◌≡◌, ◌⊎◌, ◌↔◌, ℕ, List, Bool, Contains, IsTrue}
-use Rattle.cif_feed.specs.HolidayDates.{IsOneOn}
+use Rattle.cif_feed.specs.HolidayDates.{IsDateOnDaysRun}
 use Rattle.cif_feed.specs.declared.holiday_code.HolidayCode.{HolidayCode}
 use Rattle.cif_feed.specs.declared.holiday_code.HolidayCode.TheVariants.{X, E, G}
 use Rattle.cif_feed.specs.declared.holidays.HolidayDates.{HolidayDates}
@@ -22,7 +22,7 @@ IsHoliday h code d = Contains (dates_of h code).days.items d
 
 -- day d is a holiday of the code, and its weekday is in the mask
 abbrev pub IsHolidayOn : Holidays → HolidayCode → List Bool → ℕ → Type 0
-IsHolidayOn h code days d = IsOneOn (dates_of h code).days.items days d
+IsHolidayOn h code days d = IsDateOnDaysRun (dates_of h code).days.items days d
 
 -- The new holidays name the code too, and the days of which P holds are holidays of it. All else is as before.
 pub record HasMore (old : Holidays) (code : HolidayCode) (P : ℕ → Type 0) (new : Holidays) : Type 0 where

@@ -1,14 +1,15 @@
 pub mod Changes
 pub mod FeedFault
-pub mod FeedLines
 pub mod FeedRefusal
 pub mod FeedTexts
+pub mod FromLines
 pub mod HolidayCode
 pub mod HolidayDates
 pub mod HolidayText
 pub mod Holidays
 pub mod Judged
-pub mod Marked
+pub mod LastDay
+pub mod PublishedParts
 pub mod Parts
 pub mod Prepared
 pub mod Published
@@ -16,6 +17,6 @@ pub mod Reasons
 pub mod RecordKeys
 pub mod SpellsFeed
 pub mod Steps
-pub mod Strict
+pub mod ProfileLine
 pub mod Transaction
 pub mod Words

@@ -3,4 +3,5 @@ pub mod Changes
 pub mod FeedReading
 pub mod HolidayReading
 pub mod Judging
+pub mod Marked
 pub mod PartsSoFar

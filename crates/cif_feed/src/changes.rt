@@ -1,10 +1,10 @@
 //! What the lines of an update do to records of one kind.
-ghost use Rattle.std.specs.Prelude.{◌≡◌, ◌++◌, [], List, IfOk, is_some, not, reverse};
+ghost use Rattle.std.specs.Prelude.{◌≡◌, ◌↔◌, ◌++◌, [], List, IfOk, IsTrue, is_some, not, reverse, slice_get};
 ghost use Rattle.std.specs.Prelude.{option_to_list, if◌then◌else◌};
 ghost use Rattle.std.specs.Ordering.{eq_by_cmp};
 ghost use Rattle.std.specs.BTreeMap.{get};
-ghost use Rattle.cif_feed.specs.Changes.{AreRefused, ChangeParts, after_all, changes_of, may, parts_of};
-ghost use Rattle.cif_feed.specs.Changes.{put_last, untouched, with_keys};
+ghost use Rattle.cif_feed.specs.Changes.{AreRefused, ChangeParts, IsFirstRefused, after_all, changes_of};
+ghost use Rattle.cif_feed.specs.Changes.{may, parts_of, put_last, untouched, with_keys};
 ghost use Rattle.cif_feed.specs.Steps.Changes.{AreLast, SaysThere, is_position};
 
 use std::alloc::{AllocError, Global};
@@ -25,6 +25,9 @@ pub trait Keyed {
     /// The same key.
     fn copied(known: &Self::Key) -> Self::Key
         ensures { result ≡ known.now };
+
+    // Keys that compare equal are the same key; that their order is total is a law of `Ord`.
+    ghost same_key: { (a b : Self.Key) → IsTrue (Self.Key.eq a b) ↔ (a ≡ b) };
 }
 
 /// What a line of an update does.
@@ -39,8 +42,8 @@ pub enum Change<K, R> {
 }
 
 /// Does the changes, one after another: the records of a change's key are taken out, and what it
-/// puts comes last. Gives the positions of the changes that may not be done: of a new record whose
-/// key is there, and of a revision or a deletion of a key that isn't.
+/// puts comes last. Gives the positions of the changes that may not be done, rising: of a new record
+/// whose key is there, and of a revision or a deletion of a key that isn't.
 pub fn apply<R: Keyed + Drop>(
     alloc: Global,
     records: &mut Vec<R>,
@@ -50,6 +53,8 @@ pub fn apply<R: Keyed + Drop>(
         ≡ after_all (eq_by_cmp R.Key.cmp) (with_keys R.key records.old.items) (changes_of R.key changes.items)) }
     ensures refused { IfOk result (λ refused. AreRefused (eq_by_cmp R.Key.cmp)
         (with_keys R.key records.old.items) (changes_of R.key changes.items) refused.items) }
+    ensures first { IfOk result (λ refused. IsFirstRefused (eq_by_cmp R.Key.cmp)
+        (with_keys R.key records.old.items) (changes_of R.key changes.items) (slice_get refused.items 0)) }
 {
     let last = last_changes::<R>(alloc, changes.as_slice())?;
     let there = keys_there(alloc, records.as_slice(), &last)?;

@@ -1,7 +1,8 @@
 -- What the reading of a text of holidays has come to.
-use Rattle.std.specs.Prelude.{◌≡◌, ◌≢◌, ◌⊎◌, ◌↔◌, ◌*◌, ◌+◌, ◌≤◌, ℕ, List, [], ◌∷◌, ◌++◌, All, length}
+use Rattle.std.specs.Prelude.{◌≡◌, ◌⊎◌, ◌↔◌, ◌*◌, ◌+◌, ℕ, List, ◌++◌, All, length}
 use Rattle.cif_columns.specs.Contents.{contents_of}
-use Rattle.cif_feed.specs.HolidayText.{AreHolidaysOf, IsBadLine, IsDate, IsFirstBadLine, IsHolidayLine, LineNames, LineSays}
+use Rattle.cif_feed.specs.HolidayText.{AreHolidayLinesAndRest, AreHolidaysOf, DecidesNoLine, IsBadLine, IsDate, IsFirstBadLine}
+use Rattle.cif_feed.specs.HolidayText.{IsLineDecidedBy, LineNames, LineSays}
 use Rattle.cif_feed.specs.Holidays.{IsHoliday, Names}
 use Rattle.cif_feed.specs.declared.holiday_code.HolidayCode.{HolidayCode}
 use Rattle.cif_feed.specs.declared.holiday_text.HolidayFault.{HolidayFault}
@@ -9,20 +10,13 @@ use Rattle.cif_feed.specs.declared.holiday_text.HolidayFault.TheVariants.{BadHol
 use Rattle.cif_feed.specs.declared.holiday_text.HolidayReading.{HolidayReading}
 use Rattle.cif_feed.specs.declared.holidays.Holidays.{Holidays}
 
--- the bytes are none, or end with a line feed
-abbrev pub AreWhole : List ℕ → Type 0
-AreWhole bytes = (bytes ≡ []) ⊎ ((front : List ℕ) × (bytes ≡ front ++ 10 ∷ []))
-
--- these bytes are so many whole lines, which are lines of these holidays, and a rest
+-- these bytes are so many whole lines, which are lines of these holidays, and a rest, which decides no line
 pub record AreLinesAndRest (bytes : List ℕ) (count : ℕ) (rest : List ℕ) (h : Holidays) : Type 0 where
-  pub whole : List ℕ
-  pub parts : bytes ≡ whole ++ rest
-  pub ended : AreWhole whole
-  pub no_feed : All (λ b. b ≢ 10) rest
-  pub short : length rest ≤ 1001
-  pub counted : count ≡ length (contents_of whole)
-  pub lines : All IsHolidayLine (contents_of whole)
-  pub are : AreHolidaysOf (contents_of whole) h
+  pub lines : List (List ℕ)
+  pub whole_lines_and_rest : AreHolidayLinesAndRest bytes lines rest
+  pub undecided : DecidesNoLine rest
+  pub counted : count ≡ length lines
+  pub are : AreHolidaysOf lines h
 
 -- these bytes are taken
 abbrev pub HasTaken : List ℕ → HolidayReading → Type 0
@@ -34,7 +28,7 @@ progress r = r.lines * 1003 + length r.rest.items
 
 -- the bytes are refused, whatever follows them
 abbrev pub IsRefusalBehind : List ℕ → HolidayFault → Type 0
-IsRefusalBehind bytes (BadHoliday line) = (more : List ℕ) → IsFirstBadLine (contents_of (bytes ++ more)) line
+IsRefusalBehind bytes (BadHoliday line) = IsLineDecidedBy bytes line × ((more : List ℕ) → IsFirstBadLine (contents_of (bytes ++ more)) line)
 IsRefusalBehind bytes Read = ⊥
 IsRefusalBehind bytes Memory = Unit {0}
 

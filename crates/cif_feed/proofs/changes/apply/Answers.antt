@@ -2,10 +2,12 @@
 use Rattle.std.proofs.Common.{◌≡◌, ◌∙◌, ◌++◌, ap, sym, subst, reverse}
 use Rattle.std.specs.BTreeMap.{get}
 use Rattle.std.specs.Ordering.{eq_by_cmp}
+use Rattle.std.proofs.lemmas.Cmp.{eq_by_cmp_equiv}
 use Rattle.std.proofs.lemmas.List.{reverse-reverse}
 use Rattle.cif_feed.specs.Changes.{AreRefused, changes_of, put_last, with_keys}
 use Rattle.cif_feed.specs.Steps.Changes.{AreLast, SaysThere}
 use Rattle.cif_feed.proofs.ChangeLaws.{after_all-untouched}
+use Rattle.cif_feed.proofs.ChangeSteps.{refused-first}
 use Rattle.cif_feed.proofs.changes.apply.Goals as goal
 
 pub returns-clause-records : goal.returns-clause-records
@@ -35,3 +37,9 @@ returns-clause-refused g c =
     subst (λ l. AreRefused same records (changes_of key l) c.in_ok-refused.refused.items) c.as_slice-3.ensures.value
     (c.in_ok-refused.ensures records
     (subst (λ l. SaysThere same records (changes_of key l) (get cmp c.in_ok-there.there)) (sym c.as_slice-3.ensures.value) there))
+
+pub returns-clause-first : goal.returns-clause-first
+returns-clause-first g c =
+    let key = g.R.Keyed.key in
+    refused-first (eq_by_cmp g.R.Key.Ord.cmp) (eq_by_cmp_equiv g.met.R.Key.Ord.total) (with_keys key c.args.records.now.items)
+    (changes_of key c.args.changes.items) c.in_ok-refused.refused.items (returns-clause-refused g c)

@@ -7,9 +7,9 @@ use Rattle.cif_feed.proofs.HolidayReadings.{refused-line, refused-long, taken-li
 use Rattle.cif_feed.proofs.holiday_text.HolidayReading.take_byte.Goals as goal
 
 pub returns-in-Err-clause-err : goal.returns-in-Err-clause-err
-returns-in-Err-clause-err c = λ taken so_far more.
+returns-in-Err-clause-err c = λ taken so_far.
     let this = c.args.self.now in
-    refused-long taken this.lines this.rest.items this.holidays so_far c.args.byte c.if-byte-ne10.true c.in-Err.ensures.full more
+    refused-long taken this.lines this.rest.items this.holidays so_far c.args.byte c.if-byte-ne10.true c.in-Err.ensures.full
 
 pub returns-in-Ok-add_line-clause-ok : goal.returns-in-Ok-add_line-clause-ok
 returns-in-Ok-add_line-clause-ok c = λ taken so_far.
@@ -17,7 +17,7 @@ returns-in-Ok-add_line-clause-ok c = λ taken so_far.
     let content = c.without_return-content.ensures ∙ ap strip_carriage_return c.as_slice.ensures.value in
     let ok = c.in-Ok-add_line.ensures.ok in
     taken-line taken this.lines this.rest.items this.holidays so_far c.args.byte c.clear.new.self.items c.add_line.new.self c.if-byte-ne10.false
-    c.clear.ensures
+    c.clear.ensures ok.0
     (subst IsHolidayLine content ok.1) (subst (λ (l : List ℕ). HasLineMore this.holidays l c.add_line.new.self) content ok.2)
 
 pub returns-in-Err-add_line-clause-err : goal.returns-in-Err-add_line-clause-err
