@@ -16,3 +16,10 @@ pub mod LaidPieces
 pub mod Stretches
 pub mod Bodies
 pub mod Words
+pub mod RisingLists
+pub mod KeyTurns
+pub mod KeyPositions
+pub mod SortedPositions
+pub mod FirstEntries
+pub mod PassedKeys
+pub mod FoundClashes

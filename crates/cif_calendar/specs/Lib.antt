@@ -1,7 +1,9 @@
 pub mod Applies
+pub mod ByKey
 pub mod Calendar
 pub mod CalendarFault
 pub mod Clash
+pub mod Clashes
 pub mod Entries
 pub mod Keys
 pub mod Laws

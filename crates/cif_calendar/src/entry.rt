@@ -30,6 +30,10 @@ pub trait Entry {
     fn key(&self) -> &Self::Key
         ensures { result.now ≡ key self.now };
 
+    /// A copy of what the record is about.
+    fn copied_key(&self) -> Self::Key
+        ensures { result ≡ key self.now };
+
     /// The first date on which the record may apply.
     fn first(&self) -> Day
         ensures { result ≡ (terms self.now).first };
@@ -82,6 +86,10 @@ impl Entry for Association {
         &self.key
     }
 
+    fn copied_key(&self) -> AssocKey {
+        self.key.copy()
+    }
+
     fn first(&self) -> Day {
         self.first
     }
@@ -129,6 +137,10 @@ impl Entry for Schedule {
 
     fn key(&self) -> &Uid {
         &self.uid
+    }
+
+    fn copied_key(&self) -> Uid {
+        self.uid
     }
 
     fn first(&self) -> Day {

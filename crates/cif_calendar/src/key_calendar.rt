@@ -3,6 +3,7 @@ ghost use Rattle.std.specs.Prelude.{◌≡◌, ◌≤◌, ◌+◌, Contains, Som
 ghost use Rattle.cif_calendar.specs.Pieces.{Tiles, source_at, winner_of};
 
 use cif_columns::{Day, as_text};
+use cif_records::Header;
 use std::alloc::AllocError;
 use std::error::Error;
 use std::fmt;
@@ -16,6 +17,19 @@ pub struct Window {
     /// The last date.
     pub last: Day,
     ghost in_order: { first ≤ last },
+}
+
+impl Window {
+    /// The window of an extract with this header.
+    pub fn of(header: &Header) -> Window
+        ensures first { result.first ≡ header.now.first }
+        ensures last { result.last ≡ header.now.last }
+    {
+        Window {
+            first: header.first,
+            last: header.last,
+        }
+    }
 }
 
 /// Dates on each of which the same records apply as on the others of its weekday.

@@ -1,13 +1,17 @@
 //! Which record of a timetable wins on each date, and what runs.
 #![tactic(auto)]
 
+mod by_key;
 mod entry;
 mod key_calendar;
+mod key_clashes;
 pub mod laws;
 mod pieces;
 mod standing;
 mod stretch;
 
+pub use by_key::{FirstKey, count_of_first_key, first_key, positions_by_key};
 pub use entry::{Entry, same_body};
 pub use key_calendar::{Calendar, CalendarFault, Piece, Window};
+pub use key_clashes::{KeyClash, clashing_keys};
 pub use pieces::calendar;

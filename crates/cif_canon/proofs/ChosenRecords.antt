@@ -4,7 +4,7 @@ use Rattle.std.specs.Prelude.{ℕ, Contains, if◌then◌else◌}
 use Rattle.std.specs.List.{filter, flat_map}
 use Rattle.std.proofs.lemmas.Bool.{false≢true}
 use Rattle.cif_calendar.proofs.Elements.{Contains-first, Contains-rest, Contains-cases}
-use Rattle.cif_weeks.proofs.RisingLists.{Contains-none}
+use Rattle.cif_calendar.proofs.RisingLists.{Contains-none}
 
 -- an element and others, if it is chosen, and else the others
 abbrev kept : {X : Type 0} → Bool → X → List X → List X

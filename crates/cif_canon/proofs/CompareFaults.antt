@@ -11,7 +11,7 @@ use Rattle.cif_canon.specs.Accepted.{IsClearExtract}
 use Rattle.cif_canon.specs.Asked.{header_window}
 use Rattle.cif_canon.specs.Comparison.{IsCompareFault}
 use Rattle.cif_canon.specs.Fault.{IsCanonFault, IsFirstClashIn}
-use Rattle.cif_canon.proofs.KeyPositions.{true_from_not}
+use Rattle.cif_calendar.proofs.KeyPositions.{true_from_not}
 
 -- headers whose dates aren't found to differ have one window
 pub one-window : (h k : Header) (firsts lasts : Bool) → firsts ≡ not (eqb h.first k.first) → firsts ≡ false →

@@ -14,74 +14,17 @@ use Rattle.cif_calendar.specs.Terms.{Terms}
 use Rattle.cif_calendar.specs.Keys.{of_key, ArePositionsOf}
 use Rattle.cif_calendar.specs.Meaning.{EntriesSayTheSame}
 use Rattle.cif_calendar.specs.Runs.{Runs}
+use Rattle.cif_calendar.proofs.PassedKeys.{HasPassed, key-or-later, later-less, left-before, passed-more, turn}
 use Rattle.cif_calendar.proofs.Positions.{at-contains}
-use Rattle.cif_weeks.proofs.RisingLists.{Contains-none, not_less}
+use Rattle.cif_calendar.proofs.RisingLists.{Contains-none, not_less}
 use Rattle.cif_canon.specs.Comparison.{IsFirstDifference, RunsAlike, RunsDiffer}
-use Rattle.cif_canon.specs.Steps.Turns.{AnyHasKey, AreAllByKey, HasKey, IsFirstOfBoth, IsFront, IsRising}
-use Rattle.cif_canon.proofs.KeyTurns.{one-key, rising-after}
+use Rattle.cif_calendar.specs.ByKey.{AnyHasKey, AreAllByKey, HasKey, IsFirstOfBoth, IsFront, IsRising}
+use Rattle.cif_calendar.proofs.KeyTurns.{one-key, rising-after}
 
 module _ {K B : Type 0} (cmp : K → K → Ordering) where
   -- one of the keys at these positions of a list, or of those of another
   abbrev pub IsLeft : List (K × Terms B) → List ℕ → List (K × Terms B) → List ℕ → K → Type 0
   IsLeft xs l ys r k = AnyHasKey xs l k ⊎ AnyHasKey ys r k
-
-  -- an entry is at the rest, or its key is before all that are left
-  abbrev pub HasPassed : List (K × Terms B) → List ℕ → (K → Type 0) → Type 0
-  HasPassed es rest left = (i : ℕ) (j : K) → HasKey es i j → Contains rest i ⊎ ((k : K) → left k → cmp j k ≡ Less)
-
-  -- one side: the positions of the key are the front, if the key is left
-  module _ (total : IsTotalOrder cmp) (es : List (K × Terms B)) (rest : List ℕ) (left : K → Type 0) (passed : HasPassed es rest left)
-      (k : K) (here : left k) (n : ℕ) (front : IsFront cmp es rest k n) where
-    at-front : (i : ℕ) → Contains (take n rest) i → HasKey es i k
-    at-front i c = All-contains (λ i. HasKey es i k) (take n rest) i front.same c
-
-    at-later : (i : ℕ) (j : K) → Contains (drop n rest) i → HasKey es i j → cmp k j ≡ Less
-    at-later i j c has = All-contains (λ i. (j : K) → HasKey es i j → cmp k j ≡ Less) (drop n rest) i front.later c j has
-
-    pub either : (i : ℕ) → Contains rest i → Contains (take n rest) i ⊎ Contains (drop n rest) i
-    either i c = Contains-append_cases (take n rest) (drop n rest) i
-        (subst (λ (xs : List ℕ). Contains xs i) (sym (take-append-drop n rest)) c)
-
-    pub turn : ArePositionsOf es k (take n rest)
-    turn = record {
-      found = λ i c. let has = at-front i c in (has.terms, has.at);
-      all = λ i r at.
-          let has : HasKey es i k = record { terms = r; at = at } in
-          ⊎_elim
-          (λ in'. ⊎_elim (λ here. here) (λ after. absurd (not_less cmp total k k refl (at-later i k after has))) (either i in'))
-          (λ before. absurd (not_less cmp total k k refl (before k here)))
-          (passed i k has);
-    }
-
-    -- what is later is left
-    pub left-before : (j : K) → AnyHasKey es (drop n rest) j → AnyHasKey es rest j
-    left-before j any = record {
-      position = any.position;
-      member = subst (λ (xs : List ℕ). Contains xs any.position) (take-append-drop n rest)
-          (Contains-append_right (take n rest) (drop n rest) any.position any.member);
-      has = any.has;
-    }
-
-    pub later-less : (j : K) → AnyHasKey es (drop n rest) j → cmp k j ≡ Less
-    later-less j any = at-later any.position j any.member any.has
-
-    -- what was left is the key, or later
-    pub key-or-later : (j : K) → AnyHasKey es rest j → (j ≡ k) ⊎ AnyHasKey es (drop n rest) j
-    key-or-later j any = ⊎_elim
-        (λ first. inl (one-key es any.position j k any.has (at-front any.position first)))
-        (λ later. inr (record { position = any.position; member = later; has = any.has }))
-        (either any.position any.member)
-
-    -- the front has passed too
-    pub passed-more : (next : K → Type 0) → ((j : K) → next j → left j) → ((j : K) → next j → cmp k j ≡ Less) →
-        HasPassed es (drop n rest) next
-    passed-more next still less i j has = ⊎_elim
-        (λ in'. ⊎_elim
-        (λ first. inr (λ m is. subst (λ z. cmp z m ≡ Less) (one-key es i k j (at-front i first) has) (less m is)))
-        (λ later. inl later)
-        (either i in'))
-        (λ before. inr (λ m is. before m (still m is)))
-        (passed i j has)
 
   -- where there is an entry of the key, its front has a position
   front-some : IsTotalOrder cmp → (es : List (K × Terms B)) (rest : List ℕ) (k : K) → AnyHasKey es rest k → (n : ℕ) →
@@ -95,8 +38,8 @@ module _ {K B : Type 0} (cmp : K → K → Ordering) where
   pub record ArePassed (xs ys : List (K × Terms B)) (l r : List ℕ) (Told : K → Type 0) : Type 0 where
     pub left_rising : IsRising cmp xs l
     pub right_rising : IsRising cmp ys r
-    pub left_passed : HasPassed xs l (IsLeft xs l ys r)
-    pub right_passed : HasPassed ys r (IsLeft xs l ys r)
+    pub left_passed : HasPassed cmp xs l (IsLeft xs l ys r)
+    pub right_passed : HasPassed cmp ys r (IsLeft xs l ys r)
     pub told : (k : K) → (IsLeft xs l ys r k → ⊥) → Told k
 
   -- the fronts of both rests are the positions of the key, and the keys of what is later are those that are left, and after it
@@ -187,10 +130,10 @@ module _ {K B : Type 0} (cmp : K → K → Ordering) where
 
       module _ (n m : ℕ) (left_front : IsFront cmp xs l k n) (right_front : IsFront cmp ys r k m) where
         left-turn : ArePositionsOf xs k (take n l)
-        left-turn = turn total xs l (IsLeft xs l ys r) a.left_passed k f.has n left_front
+        left-turn = turn cmp total xs l (IsLeft xs l ys r) a.left_passed k f.has n left_front
 
         right-turn : ArePositionsOf ys k (take m r)
-        right-turn = turn total ys r (IsLeft xs l ys r) a.right_passed k f.has m right_front
+        right-turn = turn cmp total ys r (IsLeft xs l ys r) a.right_passed k f.has m right_front
 
         -- one of the fronts has a position
         front-of_both : 0 < n + m
@@ -206,21 +149,21 @@ module _ {K B : Type 0} (cmp : K → K → Ordering) where
 
         still : (j : K) → IsLeft xs (drop n l) ys (drop m r) j → IsLeft xs l ys r j
         still j = ⊎_elim
-            (λ any. inl (left-before total xs l (IsLeft xs l ys r) a.left_passed k f.has n left_front j any))
-            (λ any. inr (left-before total ys r (IsLeft xs l ys r) a.right_passed k f.has m right_front j any))
+            (λ any. inl (left-before cmp total xs l (IsLeft xs l ys r) a.left_passed k f.has n left_front j any))
+            (λ any. inr (left-before cmp total ys r (IsLeft xs l ys r) a.right_passed k f.has m right_front j any))
 
         less : (j : K) → IsLeft xs (drop n l) ys (drop m r) j → cmp k j ≡ Less
         less j = ⊎_elim
-            (λ any. later-less total xs l (IsLeft xs l ys r) a.left_passed k f.has n left_front j any)
-            (λ any. later-less total ys r (IsLeft xs l ys r) a.right_passed k f.has m right_front j any)
+            (λ any. later-less cmp total xs l (IsLeft xs l ys r) a.left_passed k f.has n left_front j any)
+            (λ any. later-less cmp total ys r (IsLeft xs l ys r) a.right_passed k f.has m right_front j any)
 
         -- a key that was left, and is another, is left
         left-on : (j : K) → (j ≡ k → ⊥) → IsLeft xs l ys r j → IsLeft xs (drop n l) ys (drop m r) j
         left-on j apart = ⊎_elim
             (λ any. ⊎_elim (λ is. absurd (apart is)) (λ later. inl later)
-            (key-or-later total xs l (IsLeft xs l ys r) a.left_passed k f.has n left_front j any))
+            (key-or-later cmp total xs l (IsLeft xs l ys r) a.left_passed k f.has n left_front j any))
             (λ any. ⊎_elim (λ is. absurd (apart is)) (λ later. inr later)
-            (key-or-later total ys r (IsLeft xs l ys r) a.right_passed k f.has m right_front j any))
+            (key-or-later cmp total ys r (IsLeft xs l ys r) a.right_passed k f.has m right_front j any))
 
         pub turns : AreTurns xs ys l r k (take n l) (drop n l) (take m r) (drop m r)
         turns = record {
@@ -242,9 +185,9 @@ module _ {K B : Type 0} (cmp : K → K → Ordering) where
         pass Next here on = record {
           left_rising = rising-after cmp xs l a.left_rising n;
           right_rising = rising-after cmp ys r a.right_rising m;
-          left_passed = passed-more total xs l (IsLeft xs l ys r) a.left_passed k f.has n left_front
+          left_passed = passed-more cmp total xs l (IsLeft xs l ys r) a.left_passed k f.has n left_front
               (IsLeft xs (drop n l) ys (drop m r)) still less;
-          right_passed = passed-more total ys r (IsLeft xs l ys r) a.right_passed k f.has m right_front
+          right_passed = passed-more cmp total ys r (IsLeft xs l ys r) a.right_passed k f.has m right_front
               (IsLeft xs (drop n l) ys (drop m r)) still less;
           told = λ j none. ⊎_elim
               (λ is. subst (λ i. Next i) (sym is) here)

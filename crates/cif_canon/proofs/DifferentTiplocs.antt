@@ -9,7 +9,7 @@ use Rattle.std.proofs.lemmas.Option.{same_Some}
 use Rattle.cif_calendar.proofs.Elements.{Contains-first, Contains-rest, Contains-cases}
 use Rattle.cif_records.specs.declared.tiploc.Tiploc.{Tiploc}
 use Rattle.cif_records.proofs.Tiplocs.{same_tiploc}
-use Rattle.cif_weeks.proofs.RisingLists.{Contains-none, less_one_way, not_less}
+use Rattle.cif_calendar.proofs.RisingLists.{Contains-none, less_one_way, not_less}
 use Rattle.cif_canon.specs.Comparison.{IsFirstTiploc}
 use Rattle.cif_canon.specs.Differences.{AreDifferentTiplocs, of_side}
 use Rattle.cif_canon.specs.declared.listed_differences.Side.{Side}

@@ -25,8 +25,8 @@ use Rattle.cif_weeks.specs.declared.form.Form.{Form}
 use Rattle.cif_weeks.specs.declared.run.Run.{Run}
 use Rattle.cif_weeks.proofs.CalendarSources.{firsts-within}
 use Rattle.cif_canon.specs.Steps.Records.{IsRunOf, AreRunsOfKey, IsKeyFault, extract_fault}
-use Rattle.cif_canon.proofs.KeyPositions.{has-key}
-use Rattle.cif_canon.proofs.KeyTurns.{one-key}
+use Rattle.cif_calendar.proofs.KeyPositions.{has-key}
+use Rattle.cif_calendar.proofs.KeyTurns.{one-key}
 
 module _ {E K B : Type 0} (key : E → K) (terms : E → Terms B) (es : List E) (k : K) (members : List ℕ)
     (p : ArePositionsOf (keyed key terms es) k members) where

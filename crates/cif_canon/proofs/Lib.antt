@@ -14,21 +14,18 @@ pub mod DistinctTiplocs
 mod ExplainedMarks
 mod ExplainedTexts
 mod Explaining
-pub mod FirstEntries
 pub mod FoundRecords
-pub mod FoundClashes
 pub mod HandedFaults
 pub mod KeyDifferences
 pub mod KeptExtract
-pub mod KeyPositions
 pub mod KeyRecords
-pub mod KeyTurns
 pub mod ListedDifferences
 pub mod MadeExtract
 pub mod MadeFits
 pub mod MadeRecords
 pub mod MarkedTexts
 pub mod MergedSides
+pub mod NamedClashes
 pub mod NormalForms
 pub mod Normalising
 pub mod OnlyDays
@@ -39,7 +36,6 @@ pub mod RunningRecords
 pub mod SameExtracts
 pub mod SidedTexts
 pub mod SiftedTiplocs
-pub mod SortedPositions
 pub mod Unique
 pub mod ViewLines
 pub mod ViewTexts

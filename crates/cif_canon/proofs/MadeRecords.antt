@@ -24,10 +24,10 @@ use Rattle.cif_weeks.specs.declared.run.Run.{Run}
 use Rattle.cif_weeks.proofs.JoinedLists.{AllZip-append}
 use Rattle.cif_weeks.proofs.KeyByKey.{HasBody-more, canonical-none, of_key-more, canonical-more}
 use Rattle.cif_weeks.proofs.PermanentEntries.{records-meaning}
-use Rattle.cif_weeks.proofs.RisingLists.{Contains-none, less_one_way, not_less}
+use Rattle.cif_calendar.proofs.RisingLists.{Contains-none, less_one_way, not_less}
 use Rattle.cif_canon.specs.Steps.Records.{IsRunOf, AreSaid, AreRunsOfKey, AreCanonicalRecords, IsKeyFault, IsRecordsFault}
-use Rattle.cif_canon.specs.Steps.Turns.{HasKey, AnyHasKey, IsRising, AreOfFirstKey}
-use Rattle.cif_canon.proofs.KeyTurns.{decided, first-leads, no-entry, one-key, rising-after}
+use Rattle.cif_calendar.specs.ByKey.{HasKey, AnyHasKey, IsRising, AreOfFirstKey}
+use Rattle.cif_calendar.proofs.KeyTurns.{decided, first-leads, no-entry, one-key, rising-after}
 
 -- sets of records that are the same say the same of a key
 AreSaid-same : {K B : Type 0} (window : Window) (es : List (K × Terms B)) (k : K) (xs ys : Permanents B) →

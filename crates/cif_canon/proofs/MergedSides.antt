@@ -6,7 +6,7 @@ use Rattle.std.proofs.lemmas.List.Elements.{Contains-append_cases}
 use Rattle.cif_calendar.proofs.Elements.{Contains-first, Contains-rest, Contains-cases}
 use Rattle.cif_weeks.specs.declared.run.Run.{Run}
 use Rattle.cif_weeks.proofs.JoinedLists.{AllPairs-append}
-use Rattle.cif_weeks.proofs.RisingLists.{Contains-none}
+use Rattle.cif_calendar.proofs.RisingLists.{Contains-none}
 use Rattle.cif_canon.specs.Differences.{is_side, of_side}
 use Rattle.cif_canon.specs.Steps.OnlySides.{AreAppendedRuns, AreMergedRuns, AreMerging, AreRisingRuns, HasMoved, HasMovedOf}
 use Rattle.cif_canon.specs.Steps.OnlySides.{IsFirstSide, RunComesBefore}

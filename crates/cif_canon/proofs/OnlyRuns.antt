@@ -15,7 +15,7 @@ use Rattle.cif_weeks.specs.Window.{IsWithin}
 use Rattle.cif_weeks.specs.declared.form.Form.TheVariants.{Two}
 use Rattle.cif_weeks.specs.declared.run.Run.{Run}
 use Rattle.cif_weeks.proofs.CalendarSources.{firsts-within}
-use Rattle.cif_weeks.proofs.RisingLists.{Contains-none}
+use Rattle.cif_calendar.proofs.RisingLists.{Contains-none}
 use Rattle.cif_canon.specs.Steps.OnlySides.{AreOnlyRuns, AreRisingRuns, IsOnlyCalendar}
 use Rattle.cif_weeks.specs.Window.{window_from}
 

@@ -25,7 +25,7 @@ use Rattle.cif_weeks.specs.declared.form.Form.{Form}
 use Rattle.cif_weeks.specs.declared.run.Run.{Run}
 use Rattle.cif_weeks.proofs.JoinedLists.{AllPairs-map, Contains-map, Contains-from_map}
 use Rattle.cif_weeks.proofs.PermanentEntries.{runs-applies}
-use Rattle.cif_weeks.proofs.RisingLists.{not_less}
+use Rattle.cif_calendar.proofs.RisingLists.{not_less}
 use Rattle.cif_canon.specs.Steps.Records.{AreCanonicalRecords}
 use Rattle.cif_canon.specs.Steps.Views.{applies_on}
 use Rattle.cif_canon.specs.Views.{AreRunning}

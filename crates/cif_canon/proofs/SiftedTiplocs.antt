@@ -9,7 +9,7 @@ use Rattle.std.proofs.lemmas.List.Elements.{Contains-append_cases, Contains-appe
 use Rattle.cif_calendar.proofs.Elements.{Contains-first, Contains-rest, Contains-cases}
 use Rattle.cif_records.specs.declared.tiploc.Tiploc.{Tiploc}
 use Rattle.cif_weeks.proofs.JoinedLists.{AllPairs-append}
-use Rattle.cif_weeks.proofs.RisingLists.{Contains-none}
+use Rattle.cif_calendar.proofs.RisingLists.{Contains-none}
 use Rattle.cif_canon.specs.Differences.{AreDifferentTiplocs, of_side}
 use Rattle.cif_canon.specs.Steps.OnlySides.{AreSifting, HasMoved, HasMovedOf, IsFirstOrder}
 use Rattle.cif_canon.specs.Steps.Tiplocs.{AreDistinct}

@@ -17,7 +17,7 @@ use Rattle.cif_weeks.specs.Permanent.{permanent_entries}
 use Rattle.cif_weeks.specs.Window.{Window}
 use Rattle.cif_weeks.specs.declared.form.Form.{Form}
 use Rattle.cif_weeks.proofs.PermanentEntries.{same-meaning}
-use Rattle.cif_weeks.proofs.RisingLists.{IsOneWay, same_members, less_one_way}
+use Rattle.cif_calendar.proofs.RisingLists.{IsOneWay, same_members, less_one_way}
 use Rattle.cif_weeks.proofs.UniqueByKey.{unique_same}
 use Rattle.cif_canon.specs.Asked.{header_window}
 use Rattle.cif_canon.specs.Canonical.{AreCanonicalEntries, IsCanonicalExtract}

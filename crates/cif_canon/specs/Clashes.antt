@@ -1,28 +1,16 @@
 -- All clashes of an extract, and the lines that name them.
-use Rattle.std.specs.Prelude.{◌≡◌, ℕ, List, ◌++◌, AllPairs, Contains, codes, map}
+use Rattle.std.specs.Prelude.{◌≡◌, ℕ, List, ◌++◌, codes, map}
 use Rattle.std.specs.List.{flat_map}
 use Rattle.std.specs.Ordering.{nat_cmp}
 use Rattle.std.specs.Cmp.Lexicographic.{slice_cmp}
-use Rattle.std.specs.declared.cmp.Ordering.{Ordering}
-use Rattle.std.specs.declared.cmp.Ordering.TheVariants.{Less}
-use Rattle.cif_calendar.specs.Clash.{IsClearFrom, IsFirstClash}
+use Rattle.cif_calendar.specs.Clashes.{AreClashes}
 use Rattle.cif_calendar.specs.Entries.{association_entries, schedule_entries}
-use Rattle.cif_calendar.specs.Keys.{of_key}
-use Rattle.cif_calendar.specs.Terms.{Terms}
 use Rattle.cif_extract.specs.Clash.{clash_text}
 use Rattle.cif_extract.specs.ExtractParts.{ExtractParts}
 use Rattle.cif_extract.specs.declared.fault.Clash.{Clash}
 use Rattle.cif_extract.specs.declared.fault.Clash.TheVariants.{Association, Train}
 use Rattle.cif_records.specs.AssocKey.{key_cmp}
 use Rattle.cif_records.specs.declared.association.AssocKey.{AssocKey}
-
--- The clashes from `first` to `last`: the keys of which some day has one, rising, each once and with its first such day. A key that isn't
--- among them is clear on all these days. `cmp` is the order of the keys.
-pub record AreClashes {K B : Type 0} (cmp : K → K → Ordering) (entries : List (K × Terms B)) (first last : ℕ) (found : List (K × ℕ))
-    : Type 0 where
-  pub rising : AllPairs (λ (x : K × ℕ) (y : K × ℕ). cmp x.0 y.0 ≡ Less) found
-  pub clashes : (k : K) (d : ℕ) → Contains found (k, d) → IsFirstClash (of_key entries k) first last d
-  pub others : (k : K) → ((d : ℕ) → ¬ Contains found (k, d)) → IsClearFrom (of_key entries k) first last
 
 -- a key of associations, or a train, and a day
 abbrev pub association_clash : AssocKey × ℕ → Clash

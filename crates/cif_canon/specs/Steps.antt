@@ -8,6 +8,5 @@ pub mod Records
 pub mod Sides
 pub mod Texts
 pub mod Tiplocs
-pub mod Turns
 pub mod Views
 pub mod Writing

@@ -1,6 +1,7 @@
 //! How two extracts compare: the first difference, and the line that names it.
 ghost use Rattle.std.specs.Prelude.{◌≡◌, ◌↔◌, ◌≤◌, ◌<◌, IfErr, IfOk, OnOk, ℕ, All};
 ghost use Rattle.std.specs.Prelude.{IsTrue, length, map};
+ghost use Rattle.cif_calendar.specs.ByKey.{IsFirstOrNone};
 ghost use Rattle.cif_calendar.specs.Calendar.{IsCalendar, body_on};
 ghost use Rattle.cif_calendar.specs.Clash.{IsClearFrom};
 ghost use Rattle.cif_calendar.specs.Keys.{AreClear, keyed};
@@ -12,13 +13,14 @@ ghost use Rattle.cif_weeks.specs.Runs.{AreSources};
 ghost use Rattle.cif_canon.specs.Comparison.{AreCompared, IsCompareFault, IsComparison};
 ghost use Rattle.cif_canon.specs.Comparison.{IsFirstDifference, comparison_line};
 ghost use Rattle.cif_canon.specs.Steps.Differences.{AreAlikeBy, AreComparable, FindsOther};
-ghost use Rattle.cif_canon.specs.Steps.Differences.{HasBodies, IsBodied, IsFirstOrNone};
+ghost use Rattle.cif_canon.specs.Steps.Differences.{HasBodies, IsBodied};
 
-use crate::records::{extract_runs, window_of};
+use crate::records::extract_runs;
 use crate::tiplocs::different_tiplocs;
-use crate::turns::{NamedEntry, first_key, positions_by_key};
 use arrayvec::ArrayString;
-use cif_calendar::{Calendar, CalendarFault, Entry, Piece, Window, calendar, same_body};
+use cif_calendar::{
+    Calendar, CalendarFault, Entry, Piece, Window, calendar, first_key, positions_by_key, same_body,
+};
 use cif_columns::{Day, Sink, Uid, WriteDevice, WriteFault, as_text};
 use cif_extract::{Clash, Extract, Fault};
 use cif_records::{AssocKey, Tiploc};
@@ -138,7 +140,7 @@ fn first_found<'x>(
             return Ok(Comparison::Tiploc(first.it));
         }
     }
-    let window = window_of(left);
+    let window = Window::of(&left.header);
     match first_difference(
         alloc,
         left.associations.as_slice(),
@@ -165,7 +167,7 @@ fn first_found<'x>(
 
 /// The first key, and its first date of the window, of which the two lists say different things: an
 /// entry with the key, and the date. Neither list has a clash in the window.
-pub(crate) fn first_difference<'a, E: NamedEntry>(
+pub(crate) fn first_difference<'a, E: Entry>(
     alloc: Global,
     left: &'a [E],
     right: &'a [E],

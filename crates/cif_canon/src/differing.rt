@@ -19,10 +19,8 @@ ghost use Rattle.cif_canon.specs.declared.listed_differences.Sided.{Sided};
 use crate::Differences;
 use crate::comparison::{check_comparable, clear_calendar, earlier, first_day, have_same_body};
 use crate::listed_differences::{Side, Sided, push_next};
-use crate::records::window_of;
 use crate::tiplocs::different_tiplocs;
-use crate::turns::{NamedEntry, first_key, positions_by_key};
-use cif_calendar::{Calendar, Entry, Piece, Window};
+use cif_calendar::{Calendar, Entry, Piece, Window, first_key, positions_by_key};
 use cif_columns::Day;
 use cif_extract::{Extract, Fault};
 use cif_weeks::{Form, Run, runs};
@@ -48,7 +46,7 @@ pub fn differences<'a>(
         (IsCompareFault (extract_parts left.now) (extract_parts right.now)) }
 {
     check_comparable(alloc, left, right)?;
-    let window = window_of(left);
+    let window = Window::of(&left.header);
     let Ok(tiplocs) = different_tiplocs(alloc, left.tiplocs.as_slice(), right.tiplocs.as_slice())
     else {
         return Err(Fault::Memory);
@@ -139,7 +137,7 @@ fn push_differences<E: Entry>(
 /// The runs of the canonical records, in form 2, of what only one of the two lists says, by key and
 /// then first date, left before right. The source of a run is the position of an entry of its side,
 /// with the record's key and body. Neither list has a clash in the window.
-pub(crate) fn different_records<E: NamedEntry>(
+pub(crate) fn different_records<E: Entry>(
     alloc: Global,
     left: &[E],
     right: &[E],

@@ -18,7 +18,6 @@ mod normal_form;
 mod pair;
 mod records;
 mod tiplocs;
-mod turns;
 mod views;
 mod writing;
 

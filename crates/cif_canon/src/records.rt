@@ -13,10 +13,10 @@ ghost use Rattle.cif_canon.specs.Steps.Records.{AreRunsOfKey, IsKeyFault, extrac
 ghost use Rattle.cif_weeks.specs.Window.{window_from};
 ghost use Rattle.cif_weeks.specs.declared.form.Form.{Form as AForm};
 
-use crate::turns::{NamedEntry, count_of_first_key, positions_by_key};
-use cif_calendar::{CalendarFault, Entry, Window, calendar};
+use cif_calendar::{CalendarFault, Entry, Window, calendar, count_of_first_key, positions_by_key};
 use cif_columns::Day;
-use cif_extract::{Extract, Fault};
+use cif_extract::{Clash, Extract, Fault, Schedule};
+use cif_records::Association;
 use cif_weeks::{Form, Run, runs, runs_of_few};
 use std::alloc::Global;
 
@@ -42,7 +42,7 @@ pub(crate) fn extract_runs(
         runs.schedules.items) }
     ensures fault { IfErr result (IsCanonFault (extract_parts extract.now)) }
 {
-    let window = window_of(extract);
+    let window = Window::of(&extract.header);
     let associations = canonical_records(alloc, extract.associations.as_slice(), &window, form)?;
     let schedules = canonical_records(alloc, extract.schedules.as_slice(), &window, form)?;
     Ok(ExtractRuns {
@@ -51,14 +51,36 @@ pub(crate) fn extract_runs(
     })
 }
 
-/// The window of the extract.
-pub(crate) fn window_of(extract: &Extract) -> Window
-    ensures first { result.first ≡ extract.now.header.first }
-    ensures last { result.last ≡ extract.now.header.last }
-{
-    Window {
-        first: extract.header.first,
-        last: extract.header.last,
+/// An entry whose clashes have names.
+pub(crate) trait NamedEntry: Entry {
+    ghost use Rattle.std.specs.Prelude.{ℕ};
+    ghost use Rattle.cif_extract.specs.declared.fault.Clash.{Clash};
+
+    // The clash of a key on a day.
+    ghost clash_of: { Self.Key → ℕ → Clash };
+
+    /// The clash of its key on a day.
+    fn clash_on(&self, day: Day) -> Clash
+        ensures { result ≡ clash_of (Self.key self.now) day };
+}
+
+impl NamedEntry for Association {
+    ghost use Rattle.cif_extract.specs.declared.fault.Clash.TheVariants as clash;
+
+    ghost clash_of = { clash.Association };
+
+    fn clash_on(&self, day: Day) -> Clash {
+        Clash::Association(self.key.copy(), day)
+    }
+}
+
+impl NamedEntry for Schedule {
+    ghost use Rattle.cif_extract.specs.declared.fault.Clash.TheVariants as clash;
+
+    ghost clash_of = { clash.Train };
+
+    fn clash_on(&self, day: Day) -> Clash {
+        Clash::Train(self.uid, day)
     }
 }
 

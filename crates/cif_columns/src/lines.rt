@@ -232,13 +232,14 @@ impl<'a> LineSlice<'a> {
     pub fn prefetch(&self) -> bool
         ensures { IsTrue result }
     {
-        let mut most = 0u8;
+        // One byte of each line of the cache, in few instructions: so more of them are asked for at once.
+        let mut bits = 0u8;
         let mut at = 0;
         while at < self.kept.len() {
-            most = most.max(self.kept[at]);
+            bits |= self.kept[at];
             at += CACHE_LINE;
         }
-        most < 128
+        bits < 128
     }
 
     /// A law for proofs: each of them is a line.

@@ -1,5 +1,5 @@
 -- What the lines so far have come to, line by line.
-use Rattle.std.proofs.Common.{◌≡◌, ◌≤◌, ◌≢◌, ℕ, ◌<◌, Bool, true, false, List, [], ◌∷◌, ◌++◌, length, Option, Some, None, Result, Ok, Err}
+use Rattle.std.proofs.Common.{◌≡◌, ◌≤◌, ℕ, ◌<◌, Bool, true, false, List, [], ◌∷◌, ◌++◌, length, Option, Some, None, Result, Ok, Err}
 use Rattle.std.proofs.Common.{arith, refl, sym}
 use Rattle.std.proofs.Common.{ap, ◌∙◌, subst, is_some, cond, IfSome, IfErr, IfOk, inr, ⊎_elim, ◌+◌, true≢false}
 use Rattle.std.proofs.lemmas.List.Elements.{All-cons, All-nil, All-append}

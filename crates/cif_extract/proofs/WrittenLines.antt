@@ -19,29 +19,30 @@ kept_plain (line ∷ lines) [] kept = absurd kept
 kept_plain (line ∷ lines) (t ∷ tables) kept =
     ap (λ l. l ∷ lines) kept.1 ∙ ap (λ ls. plain_line t ∷ ls) (kept_plain lines tables kept.2)
 
--- the text of a schedule is that of its BS and of some lines that follow it, and of the others
-module _ (uid : List ℕ) (first last : ℕ) (days : List Bool) (p : BodyParts) (basic texts : List ℕ) (rest : List (List ℕ))
-    (is : basic ≡ plain_line (basic_rows uid first last days P (Some p.detail)))
-    (others : texts ++ lines_text rest ≡ lines_text (map plain_line (body_tables (Some p)))) where
-  pub schedule_text : lines_text (schedule_lines uid first last days P (Some p)) ≡ ((basic ++ (10 ∷ [])) ++ texts) ++ lines_text rest
-  unfolding schedule_lines
-  schedule_text =
-      ap (λ line. (line ++ (10 ∷ [])) ++ lines_text (map plain_line (body_tables (Some p)))) (sym is)
-      ∙ ap (λ l. (basic ++ (10 ∷ [])) ++ l) (sym others)
-      ∙ sym (append_assoc (basic ++ (10 ∷ [])) texts (lines_text rest))
+-- the text of a line and of others that follow it is that of the line and some of the others, and of the rest
+module _ (line texts : List ℕ) (lines rest : List (List ℕ)) (others : texts ++ lines_text rest ≡ lines_text lines) where
+  in_two_parts : lines_text (line ∷ lines) ≡ ((line ++ (10 ∷ [])) ++ texts) ++ lines_text rest
+  in_two_parts = ap (λ l. (line ++ (10 ∷ [])) ++ l) (sym others) ∙ sym (append_assoc (line ++ (10 ∷ [])) texts (lines_text rest))
 
-  -- the writing of a schedule in these two parts stops in the first
+  -- their writing in these two parts stops in the first
   module _ {W : Type 0} (contents : W → Option (List ℕ)) (errors : W → Option ℕ) (s t : Sink W) where
-    pub schedule_failed : HasFailed contents errors ((basic ++ (10 ∷ [])) ++ texts) s t
-        → HasFailed contents errors (lines_text (schedule_lines uid first last days P (Some p))) s t
-    schedule_failed h =
-        subst (λ text. HasFailed contents errors text s t) (sym schedule_text)
-        (failed_first contents errors ((basic ++ (10 ∷ [])) ++ texts) (lines_text rest) s t h)
+    pub first_failed : HasFailed contents errors ((line ++ (10 ∷ [])) ++ texts) s t
+        → HasFailed contents errors (lines_text (line ∷ lines)) s t
+    first_failed h =
+        subst (λ text. HasFailed contents errors text s t) (sym in_two_parts)
+        (failed_first contents errors ((line ++ (10 ∷ [])) ++ texts) (lines_text rest) s t h)
 
     -- or goes on with the second
-    pub schedule_writes : {A E : Type 0} (u : Sink W) (result : Result A E) → HasWritten contents errors ((basic ++ (10 ∷ [])) ++ texts) s t
+    pub second_writes : {A E : Type 0} (u : Sink W) (result : Result A E) → HasWritten contents errors ((line ++ (10 ∷ [])) ++ texts) s t
         → Writes contents errors (lines_text rest) t u result
-        → Writes contents errors (lines_text (schedule_lines uid first last days P (Some p))) s u result
-    schedule_writes u result written h =
-        subst (λ text. Writes contents errors text s u result) (sym schedule_text)
-        (writes_on contents errors ((basic ++ (10 ∷ [])) ++ texts) (lines_text rest) s t u result written h)
+        → Writes contents errors (lines_text (line ∷ lines)) s u result
+    second_writes u result written h =
+        subst (λ text. Writes contents errors text s u result) (sym in_two_parts)
+        (writes_on contents errors ((line ++ (10 ∷ [])) ++ texts) (lines_text rest) s t u result written h)
+
+-- the text of a schedule is that of its BS and of the lines of its body
+pub schedule_text : (uid : List ℕ) (first last : ℕ) (days : List Bool) (p : BodyParts) (basic : List ℕ)
+    → basic ≡ plain_line (basic_rows uid first last days P (Some p.detail))
+    → lines_text (basic ∷ map plain_line (body_tables (Some p))) ≡ lines_text (schedule_lines uid first last days P (Some p))
+unfolding schedule_lines
+schedule_text uid first last days p basic is = ap (λ line. lines_text (line ∷ map plain_line (body_tables (Some p)))) is

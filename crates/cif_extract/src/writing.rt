@@ -1,17 +1,17 @@
 //! Records as plain lines, each with a line feed.
-ghost use Rattle.std.specs.Prelude.{◌≡◌, ◌≤◌, ◌++◌, ◌∷◌, [], Some};
+ghost use Rattle.std.specs.Prelude.{◌≡◌, ◌≤◌, ◌++◌, ◌∷◌, [], Some, map};
 ghost use Rattle.cif_columns.specs.Field.{plain_line};
 ghost use Rattle.cif_columns.specs.Sink.{Writes};
 ghost use Rattle.cif_columns.specs.declared.stp.Stp.TheVariants.{P};
 ghost use Rattle.cif_columns.specs.Contents.{lines_text};
-ghost use Rattle.cif_extract.specs.Texts.{schedule_lines};
+ghost use Rattle.cif_extract.specs.Texts.{body_tables, schedule_lines};
 ghost use Rattle.cif_records.specs.Association.{association_rows};
 ghost use Rattle.cif_records.specs.Header.{header_table};
 ghost use Rattle.cif_records.specs.Tiploc.{tiploc_table};
 ghost use Rattle.cif_records.specs.Trailer.{trailer_table};
 
 use crate::Body;
-use cif_columns::{Day, DaysRun, LineSlice, LineTexts, Sink, Uid, WriteDevice, WriteFault};
+use cif_columns::{Day, DaysRun, Line, LineSlice, LineTexts, Sink, Uid, WriteDevice, WriteFault};
 use cif_records::{AssocBody, AssocKey, Association, Basic, Header, Tiploc, Trailer};
 use std::marker::Model;
 
@@ -124,7 +124,20 @@ impl<'a> ScheduleWriter<'a> {
         ensures body { self.new ≡ self.old }
     {
         let basic = Basic::permanent_line(uid, &self.body.detail_line(), first, last, days);
-        self.texts.set_first(&basic);
+        self.write_with_basic(&basic, sink)
+    }
+
+    /// Appends this line, as the BS of a schedule, and the plain lines of the body, each with a line feed.
+    pub fn write_with_basic<W: WriteDevice>(
+        &mut self,
+        basic: &Line,
+        sink: &mut Sink<W>,
+    ) -> Result<(), WriteFault>
+        ensures writes { Writes W.contents W.write_errors
+            (lines_text (basic.now ∷ map plain_line (body_tables (Some self.old)))) sink.old sink.new result }
+        ensures body { self.new ≡ self.old }
+    {
+        self.texts.set_first(basic);
         sink.write_all(self.texts.text())?;
         sink.write_lines(&self.rest)
     }

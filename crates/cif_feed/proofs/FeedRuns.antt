@@ -4,7 +4,8 @@ use Rattle.std.proofs.Common.{Some, None, IfErr, IfOk, IfSome, IsSomeAnd, Result
 use Rattle.std.proofs.Common.{below_more, codes, filter, get_or, inl, inr, length-append, map, ne_eqb, true≢false}
 use Rattle.std.proofs.lemmas.Bool.Decides.{nat_tests}
 use Rattle.std.proofs.lemmas.List.{append_cancel_left, get_or_append_left, take-append-le}
-use Rattle.std.proofs.lemmas.List.Elements.{All-cons, All-head, All-nil, All-tail}
+use Rattle.std.proofs.lemmas.Bool.{eqb-true}
+use Rattle.std.proofs.lemmas.List.Elements.{All-cons, All-from_get_or, All-head, All-nil, All-tail}
 use Rattle.std.proofs.lemmas.List.Sums.{count_by-le-length, length-filter}
 use Rattle.std.proofs.Math.Seq.{get_or-append_seam, take-append_seam}
 use Rattle.std.specs.List.{list_all}
@@ -41,19 +42,19 @@ use Rattle.cif_records.specs.Kind.{kind_in}
 use Rattle.cif_records.specs.declared.record.Kind.{Kind}
 use Rattle.cif_records.specs.declared.record.Kind.TheVariants.{Hd, Zz}
 use Rattle.cif_feed.specs.FeedFault.{FeedReads, IsFeedFault, IsOfFeed}
-use Rattle.cif_feed.specs.FeedLines.{as_it_stands, is_note, notes_behind, said, said_by, speaks, strict_lines}
+use Rattle.cif_feed.specs.ProfileLine.{as_it_stands, is_note, notes_may_stand, profile_line, profile_line_by, is_record_line, profile_lines}
 use Rattle.cif_feed.specs.FeedRefusal.{IsFeedContent, IsFeedCut, IsFirstOfFeed, NoneOfFeedRefused, fault_for, feed_refusal, line_refusal}
 use Rattle.cif_feed.specs.FeedRefusal.{not_full, untaken_fault}
-use Rattle.cif_feed.specs.SpellsFeed.{BytesSpellPublished, SpellPublished, published_parts}
+use Rattle.cif_feed.specs.SpellsFeed.{BytesSpellFeed, SpellFeed, feed_parts}
 use Rattle.cif_feed.specs.Steps.FeedReading.{IsFeedHeld, IsFeedTaken}
 use Rattle.cif_feed.specs.declared.feed.Feed.{Feed}
 use Rattle.cif_feed.specs.declared.feed.Feed.TheVariants.{Full, Update}
 use Rattle.cif_feed.specs.declared.feed.FeedFault.{FeedFault}
 use Rattle.cif_feed.specs.declared.feed.FeedFault.TheVariants.{Extract, NotUpdate, BadTransaction}
-use Rattle.cif_feed.specs.declared.holidays.Holidays.{Holidays}
-use Rattle.cif_feed.specs.declared.published.FeedReading.{FeedReading}
-use Rattle.cif_feed.specs.declared.published.Published.{Published}
-use Rattle.cif_feed.proofs.FeedSteps.{comment_kind, named_speaks}
+use Rattle.cif_feed.specs.declared.holiday_code.HolidayCodes.{HolidayCodes}
+use Rattle.cif_feed.specs.declared.feed_reading.FeedReading.{FeedReading}
+use Rattle.cif_feed.specs.declared.feed_reading.FeedExtract.{FeedExtract}
+use Rattle.cif_feed.proofs.FeedSteps.{comment_kind, named_line}
 
 -- a fact of any bytes
 pub known_any : (start : Option (List ℕ)) (P : List ℕ → Type 0) → ((bytes : List ℕ) → P bytes) → IfSome start P
@@ -62,26 +63,26 @@ known_any (Some bytes) P so = so bytes
 
 -- ---- why a content is refused
 
-module _ (feed : Feed) (h : Holidays) (max : ℕ) where
+module _ (feed : Feed) (allowed : HolidayCodes) (max : ℕ) where
   -- a comment never is, where it may come
-  pub comment_fine : (cs : List (List ℕ)) (c : List ℕ) → is_comment c ≡ true → length cs < max → feed_refusal feed h max cs c ≡ None
+  pub comment_fine : (cs : List (List ℕ)) (c : List ℕ) → is_comment c ≡ true → length cs < max → feed_refusal feed allowed max cs c ≡ None
   unfolding feed_refusal
   comment_fine cs c comment room =
       let few : nat_lt (length cs) max ≡ true = grind (arith, nat_tests) in rw (few, comment) refl
 
   -- a line is for what it says, and where
   pub line_why : (cs : List (List ℕ)) (c : List ℕ) → IsLine c → is_comment c ≡ false → length cs < max
-      → feed_refusal feed h max cs c ≡ line_refusal feed h cs c
+      → feed_refusal feed allowed max cs c ≡ line_refusal feed allowed cs c
   unfolding feed_refusal
   line_why cs c is_line no_comment room =
       let few : nat_lt (length cs) max ≡ true = grind (arith, nat_tests) in
       let wide : nat_eq (length c) 80 ≡ true = (let w = is_line.width in grind (arith, nat_tests)) in
       rw (few, no_comment, wide, printable_true c is_line.printable)
-      (or_none (option_or (line_refusal feed h cs c) None) ∙ or_none (line_refusal feed h cs c))
+      (or_none (option_or (line_refusal feed allowed cs c) None) ∙ or_none (line_refusal feed allowed cs c))
 
   -- what is no line and no comment is for that
   content_why : (cs : List (List ℕ)) (c : List ℕ) (number : ℕ) (why : Refusal) → number ≡ length cs + 1
-      → HasLineReason max number c why → (length cs < max → is_comment c ≡ false) → feed_refusal feed h max cs c ≡ Some why
+      → HasLineReason max number c why → (length cs < max → is_comment c ≡ false) → feed_refusal feed allowed max cs c ≡ Some why
   unfolding feed_refusal
   content_why cs c number refusal.TooManyLines is reason no_comment =
       let full : nat_lt (length cs) max ≡ false = grind (arith, nat_tests) in rw full refl
@@ -105,7 +106,7 @@ module _ (feed : Feed) (h : Holidays) (max : ℕ) where
   content_fault number c kind refusal.BadByte reason = refl
   content_fault number c kind _ reason = absurd reason
 
-  -- what is said of any fault is said of the one that has this name
+  -- what is profile_line of any fault is profile_line of the one that has this name
   named_fault : (P : FeedFault → Type 0) (number : ℕ) (kind : Option Kind) (why : Refusal)
       → ((w : Refusal) → P (Extract (fault.Refused number w))) → P (NotUpdate number) → P (BadTransaction number)
       → P (fault_for feed number kind why)
@@ -119,11 +120,11 @@ module _ (feed : Feed) (h : Holidays) (max : ℕ) where
   named_fault P number kind why plain update transaction = plain why
 
   -- a note that isn't refused may stand
-  note_stands : (cs : List (List ℕ)) (c : List ℕ) → feed_refusal feed h max cs c ≡ None → is_note c ≡ true → notes_behind cs ≡ true
+  note_stands : (cs : List (List ℕ)) (c : List ℕ) → feed_refusal feed allowed max cs c ≡ None → is_note c ≡ true → notes_may_stand cs ≡ true
   unfolding feed_refusal
   note_stands cs c none note =
       let no_comment : is_comment c ≡ false = not_true (is_comment c) (λ comment. let other = (comment_kind c comment).0 in cc) in
-      at (nat_lt (length cs) max) (nat_eq (length c) 80) (list_all is_printable c) (notes_behind cs) (rw (no_comment, note) at none)
+      at (nat_lt (length cs) max) (nat_eq (length c) 80) (list_all is_printable c) (notes_may_stand cs) (rw (no_comment, note) at none)
     where
       at : (few wide printable may : Bool)
           → first_of (unless few refusal.TooManyLines ∷ first_of (unless wide refusal.BadLength ∷ unless printable refusal.BadByte
@@ -135,63 +136,83 @@ module _ (feed : Feed) (h : Holidays) (max : ℕ) where
       at true false printable may e = absurd (cc)
       at false wide printable may e = absurd (cc)
 
+  -- a content that isn't refused is one
+  content_is : (cs : List (List ℕ)) (c : List ℕ) → feed_refusal feed allowed max cs c ≡ None → IsFeedContent c
+  unfolding feed_refusal
+  content_is cs c none = at (is_comment c) refl (nat_lt (length cs) max) (nat_eq (length c) 80) (list_all is_printable c) refl refl none
+    where
+      at : (comment : Bool) → comment ≡ is_comment c → (few wide printable : Bool) → wide ≡ nat_eq (length c) 80
+          → printable ≡ list_all is_printable c
+          → first_of (unless few refusal.TooManyLines ∷ cond comment None (first_of (unless wide refusal.BadLength
+          ∷ unless printable refusal.BadByte ∷ line_refusal feed allowed cs c ∷ [])) ∷ []) ≡ None
+          → IsFeedContent c
+      at true comment few wide printable ew ep e = inr (sym comment)
+      at false comment true true true ew ep e = inl (record { width = eqb-true (length c) 80 (sym ew); printable = printable_fact c (sym ep) })
+      at false comment true true false ew ep e = absurd (cc)
+      at false comment true false printable ew ep e = absurd (cc)
+      at false comment false wide printable ew ep e = absurd (cc)
+
+  -- and so each of contents none of which is refused
+  pub contents_are : (cs : List (List ℕ)) → NoneOfFeedRefused feed allowed max cs → All IsFeedContent cs
+  contents_are cs fine = All-from_get_or IsFeedContent cs [] (λ k below. content_is (take k cs) (get_or cs k []) (fine.fine k below))
+
   -- ---- none is refused
 
-  pub none_more : (cs : List (List ℕ)) (c : List ℕ) → NoneOfFeedRefused feed h max cs → feed_refusal feed h max cs c ≡ None
-      → NoneOfFeedRefused feed h max (cs ++ c ∷ [])
+  pub none_more : (cs : List (List ℕ)) (c : List ℕ) → NoneOfFeedRefused feed allowed max cs → feed_refusal feed allowed max cs c ≡ None
+      → NoneOfFeedRefused feed allowed max (cs ++ c ∷ [])
   none_more cs c fine none = record { fine = λ k below. at k (omega (arith, length-append cs (c ∷ []))) }
     where
-      at : (k : ℕ) → k < length cs + 1 → feed_refusal feed h max (take k (cs ++ c ∷ [])) (get_or (cs ++ c ∷ []) k []) ≡ None
-      at = below_more (λ k. feed_refusal feed h max (take k (cs ++ c ∷ [])) (get_or (cs ++ c ∷ []) k []) ≡ None) (length cs)
+      at : (k : ℕ) → k < length cs + 1 → feed_refusal feed allowed max (take k (cs ++ c ∷ [])) (get_or (cs ++ c ∷ []) k []) ≡ None
+      at = below_more (λ k. feed_refusal feed allowed max (take k (cs ++ c ∷ [])) (get_or (cs ++ c ∷ []) k []) ≡ None) (length cs)
           (λ k l. rw (take-append-le k cs (c ∷ []) (omega arith), get_or_append_left cs (c ∷ []) [] k l) (fine.fine k l))
           (rw (take-append_seam cs (c ∷ []), get_or-append_seam cs c [] []) none)
 
-  pub none_none : NoneOfFeedRefused feed h max []
+  pub none_none : NoneOfFeedRefused feed allowed max []
   none_none = record { fine = λ k below. absurd (omega arith) }
 
   -- ---- trailers
 
-  plain_trailer : (f : Feed) (c : List ℕ) → said_by f h (Some Zz) c ≡ as_it_stands c
+  plain_trailer : (f : Feed) (c : List ℕ) → profile_line_by f allowed (Some Zz) c ≡ as_it_stands c
   plain_trailer Full c = refl
   plain_trailer Update c = refl
 
-  -- a line is a trailer where its strict line is
-  no_trailer_one : (c : List ℕ) → IsNoTrailer (said feed h c).line → IsNoTrailer c
+  -- a line is a trailer where its profile line is
+  no_trailer_one : (c : List ℕ) → IsNoTrailer (profile_line feed allowed c).line → IsNoTrailer c
   no_trailer_one c none is =
-      let same : said feed h c ≡ as_it_stands c = ap (λ kind. said_by feed h kind c) is ∙ plain_trailer feed c in
+      let same : profile_line feed allowed c ≡ as_it_stands c = ap (λ kind. profile_line_by feed allowed kind c) is ∙ plain_trailer feed c in
       none (rw same is)
 
-  silent_one : (c : List ℕ) → speaks c ≡ false → IsNoTrailer c
+  silent_one : (c : List ℕ) → is_record_line c ≡ false → IsNoTrailer c
   silent_one c silent is =
-      let other = named_speaks c Zz is in
-      let says : speaks c ≡ true = rw (other.0, other.1) refl in
+      let other = named_line c Zz is in
+      let says : is_record_line c ≡ true = rw (other.0, other.1) refl in
       true≢false (sym says ∙ silent)
 
-  pub no_trailers : (cs : List (List ℕ)) → All IsNoTrailer (strict_lines feed h cs) → All IsNoTrailer cs
+  pub no_trailers : (cs : List (List ℕ)) → All IsNoTrailer (profile_lines feed allowed cs) → All IsNoTrailer cs
   no_trailers [] all = All-nil IsNoTrailer
-  no_trailers (c ∷ cs) all = at (speaks c) refl all (no_trailers cs)
+  no_trailers (c ∷ cs) all = at (is_record_line c) refl all (no_trailers cs)
     where
-      at : (b : Bool) → b ≡ speaks c
-          → All IsNoTrailer (map (λ (content : List ℕ). (said feed h content).line) (cond b (c ∷ filter speaks cs) (filter speaks cs)))
-          → (All IsNoTrailer (strict_lines feed h cs) → All IsNoTrailer cs) → All IsNoTrailer (c ∷ cs)
+      at : (b : Bool) → b ≡ is_record_line c
+          → All IsNoTrailer (map (λ (content : List ℕ). (profile_line feed allowed content).line) (cond b (c ∷ filter is_record_line cs) (filter is_record_line cs)))
+          → (All IsNoTrailer (profile_lines feed allowed cs) → All IsNoTrailer cs) → All IsNoTrailer (c ∷ cs)
       at true e all more =
-          All-cons IsNoTrailer c cs (no_trailer_one c (All-head IsNoTrailer (said feed h c).line (strict_lines feed h cs) all))
-          (more (All-tail IsNoTrailer (said feed h c).line (strict_lines feed h cs) all))
+          All-cons IsNoTrailer c cs (no_trailer_one c (All-head IsNoTrailer (profile_line feed allowed c).line (profile_lines feed allowed cs) all))
+          (more (All-tail IsNoTrailer (profile_line feed allowed c).line (profile_lines feed allowed cs) all))
       at false e all more = All-cons IsNoTrailer c cs (silent_one c (sym e)) (more all)
 
   -- ---- where a reading stops, and why
 
-  module _ (start : Option (List ℕ)) (cs : List (List ℕ)) (fine : NoneOfFeedRefused feed h max cs) where
+  module _ (start : Option (List ℕ)) (cs : List (List ℕ)) (fine : NoneOfFeedRefused feed allowed max cs) where
     -- at a line that is refused
     pub at_feed_line : {R : Type 0} (remaining : R → Option (List ℕ)) (reader : LineReader) (source : Source R) (c : List ℕ) (number : ℕ)
         (why : Refusal)
         → IsReadingContents IsFeedContent remaining start max reader source (cs ++ c ∷ []) → number ≡ length cs + 1
-        → feed_refusal feed h max cs c ≡ Some why
-        → IfSome start (λ bytes. IsFirstOfFeed feed h max (contents_of bytes) (fault_for feed number (kind_in c) why))
+        → feed_refusal feed allowed max cs c ≡ Some why
+        → IfSome start (λ bytes. IsFirstOfFeed feed allowed max (contents_of bytes) (fault_for feed number (kind_in c) why))
     at_feed_line remaining reader source c number why so_far is reason = at start (left remaining reader source) so_far.known
       where
         at : (s rest : Option (List ℕ)) → KnownContents IsFeedContent s (cs ++ c ∷ []) rest
-            → IfSome s (λ bytes. IsFirstOfFeed feed h max (contents_of bytes) (fault_for feed number (kind_in c) why))
+            → IfSome s (λ bytes. IsFirstOfFeed feed allowed max (contents_of bytes) (fault_for feed number (kind_in c) why))
         at None rest known = tt
         at (Some bytes) None known = absurd known
         at (Some bytes) (Some rest) known = inl (record {
@@ -206,15 +227,15 @@ module _ (feed : Feed) (h : Holidays) (max : ℕ) where
         })
 
     -- where all contents were taken, and the trailer came
-    pub feed_whole : (result : Result Published FeedFault) → IfSome start (λ bytes. AreAllContents IsFeedContent max bytes cs)
-        → IfOk result (IsFeedHeld feed h cs)
-        → IfSome start (λ bytes. IfOk result (λ published. BytesSpellPublished feed h max bytes (published_parts published)))
+    pub feed_whole : (result : Result FeedExtract FeedFault) → IfSome start (λ bytes. AreAllContents IsFeedContent max bytes cs)
+        → IfOk result (IsFeedHeld feed allowed cs)
+        → IfSome start (λ bytes. IfOk result (λ x. BytesSpellFeed feed allowed max bytes (feed_parts x)))
     feed_whole (Err f) all held = known_so start _ _ (λ bytes a. tt) all
-    feed_whole (Ok published) all held = known_so start _ _ (λ bytes a. let both = at (contents_of bytes) a.contents a.are_lines a.within in
+    feed_whole (Ok x) all held = known_so start _ _ (λ bytes a. let both = at (contents_of bytes) a.contents a.are_lines a.within in
         record { spell = both.0; within = both.1 }) all
       where
         at : (contents : List (List ℕ)) → contents ≡ cs → All IsFeedContent cs → length cs ≤ max
-            → (s : SpellPublished feed h contents (published_parts published)) × (length contents ≤ max)
+            → (s : SpellFeed feed allowed contents (feed_parts x)) × (length contents ≤ max)
         at contents is are within = (
           rw is (record {
             are_contents = are;
@@ -223,8 +244,7 @@ module _ (feed : Feed) (h : Holidays) (max : ℕ) where
             tiploc_marks = held.tiploc_marks;
             association_marks = held.association_marks;
             schedule_marks = held.schedule_marks;
-            comments = held.comments;
-            notes = held.notes;
+            passed = held.passed;
           }),
           rw is within,
         )
@@ -245,7 +265,7 @@ module _ (feed : Feed) (h : Holidays) (max : ℕ) where
 
       pub at_feed_fault : (fault : LineFault) → IfSome start (λ bytes. AreContentsToFault IsFeedContent max bytes after cs fault)
           → (fault ≢ line_fault.Read → IsNoComment remaining reader source)
-          → IfSome start (λ bytes. IsFeedFault feed h max bytes after (Extract (of_line_fault fault)))
+          → IfSome start (λ bytes. IsFeedFault feed allowed max bytes after (Extract (of_line_fault fault)))
       at_feed_fault (line_fault.Refused number why) faults none =
           at start (left remaining reader source) so_far.known (λ room. none (λ e. cc) so_far.reads_on
           (omega (arith, room, so_far.counted, so_far.same_limit))) faults
@@ -254,7 +274,7 @@ module _ (feed : Feed) (h : Holidays) (max : ℕ) where
               → (length cs < max → IfSome rest (λ bytes. is_comment (first_content bytes) ≡ false))
               → IfSome s (λ bytes. AreContentsToRefusal IsFeedContent max bytes cs number why
               × IsContentDecidedOrLast IsFeedContent max bytes after number)
-              → IfSome s (λ bytes. IsFeedFault feed h max bytes after (Extract (fault.Refused number why)))
+              → IfSome s (λ bytes. IsFeedFault feed allowed max bytes after (Extract (fault.Refused number why)))
           at None rest known none r = tt
           at (Some bytes) None known none r = absurd known
           at (Some bytes) (Some rest) known none r = (
@@ -276,17 +296,17 @@ module _ (feed : Feed) (h : Holidays) (max : ℕ) where
         where
           at : (bytes : List ℕ) (unread : Option (List ℕ))
               → IsSomeAnd unread (λ others. AreContentsToFailure IsFeedContent max bytes others cs)
-              → IsSomeAnd unread (IsFeedCut feed h max bytes)
+              → IsSomeAnd unread (IsFeedCut feed allowed max bytes)
           at bytes None r = absurd r
           at bytes (Some others) r = record { contents = cs; given = r; fine = fine }
 
     -- where the trailer is missing
-    pub feed_truncated : (after : Unread) (number : ℕ) (result : Result Published FeedFault) → after.ended ≡ true
+    pub feed_truncated : (after : Unread) (number : ℕ) (result : Result FeedExtract FeedFault) → after.ended ≡ true
         → IfSome start (λ bytes. AreAllContents IsFeedContent max bytes cs) → number ≡ length cs
         → IfErr result (λ f. f ≡ Extract (fault.Refused (number + 1) refusal.Truncated))
-        → IfErr result (λ f. All IsNoTrailer (strict_lines feed h cs))
-        → IfSome start (λ bytes. IfErr result (IsFeedFault feed h max bytes after))
-    feed_truncated after number (Ok published) told all is err none = known_so start _ _ (λ bytes a. tt) all
+        → IfErr result (λ f. All IsNoTrailer (profile_lines feed allowed cs))
+        → IfSome start (λ bytes. IfErr result (IsFeedFault feed allowed max bytes after))
+    feed_truncated after number (Ok x) told all is err none = known_so start _ _ (λ bytes a. tt) all
     feed_truncated after number (Err f) told all is err none =
         rw err (known_so start _ _ (λ bytes a. (
           inr (record {
@@ -300,12 +320,12 @@ module _ (feed : Feed) (h : Holidays) (max : ℕ) where
     -- a line that isn't taken
     pub feed_untaken : (after : Unread) (number : ℕ) (kind : Option Kind) (s : TakeFault)
         → ((why : Refusal) → s ≡ untaken.Refused why → IfSome start (λ bytes.
-        IsFirstOfFeed feed h max (contents_of bytes) (fault_for feed number kind why)
+        IsFirstOfFeed feed allowed max (contents_of bytes) (fault_for feed number kind why)
         × IsContentDecidedOrLast IsFeedContent max bytes after number))
-        → IfSome start (λ bytes. IsFeedFault feed h max bytes after (untaken_fault feed number kind s))
+        → IfSome start (λ bytes. IsFeedFault feed allowed max bytes after (untaken_fault feed number kind s))
     feed_untaken after number kind (untaken.Refused why) why_so =
-        known_so start _ _ (λ bytes. named_fault (λ f. IsFirstOfFeed feed h max (contents_of bytes) f
-        × IsContentDecidedOrLast IsFeedContent max bytes after number → IsFeedFault feed h max bytes after f)
+        known_so start _ _ (λ bytes. named_fault (λ f. IsFirstOfFeed feed allowed max (contents_of bytes) f
+        × IsContentDecidedOrLast IsFeedContent max bytes after number → IsFeedFault feed allowed max bytes after f)
         number kind why (λ w both. both) (λ both. both) (λ both. both)) (why_so why refl)
     feed_untaken after number kind untaken.Memory why_so = known_any start _ (λ bytes. tt)
 
@@ -319,16 +339,16 @@ module _ (feed : Feed) (h : Holidays) (max : ℕ) where
 
   -- and it was read
   pub untaken_reads : {R : Type 0} (errors : R → Option ℕ) (s t : Source R) (number : ℕ) (kind : Option Kind) (f : TakeFault)
-      → HasReadOn errors s t → FeedReads {A = Published} errors s t (Err (untaken_fault feed number kind f))
+      → HasReadOn errors s t → FeedReads {A = FeedExtract} errors s t (Err (untaken_fault feed number kind f))
   untaken_reads errors s t number kind (untaken.Refused why) read =
-      named_fault (λ f. FeedReads {A = Published} errors s t (Err f)) number kind why (λ w. read) read read
+      named_fault (λ f. FeedReads {A = FeedExtract} errors s t (Err f)) number kind why (λ w. read) read read
   untaken_reads errors s t number kind untaken.Memory read = read
 
 -- the reason for which a line that isn't taken is refused
-pub feed_reason : (feed : Feed) (h : Holidays) (cs : List (List ℕ)) (c : List ℕ) (s : TakeFault) (why : Refusal) (r : FeedReading)
-    → IsFeedTaken feed h cs c (Err s) r → s ≡ untaken.Refused why → line_refusal feed h cs c ≡ Some why
-feed_reason feed h cs c (untaken.Refused x) why r taken e = taken ∙ (let same : x ≡ why = cc in ap Some same)
-feed_reason feed h cs c untaken.Memory why r taken e = cc
+pub feed_reason : (feed : Feed) (allowed : HolidayCodes) (cs : List (List ℕ)) (c : List ℕ) (s : TakeFault) (why : Refusal) (r : FeedReading)
+    → IsFeedTaken feed allowed cs c (Err s) r → s ≡ untaken.Refused why → line_refusal feed allowed cs c ≡ Some why
+feed_reason feed allowed cs c (untaken.Refused x) why r taken e = taken ∙ (let same : x ≡ why = cc in ap Some same)
+feed_reason feed allowed cs c untaken.Memory why r taken e = cc
 
 -- a fault of the lines is one of reading
 pub line_fault_of_feed : (max count : ℕ) (l : LineFault) → count ≤ max → IsNextFault count l → IsOfFeed max (Extract (of_line_fault l))
@@ -336,7 +356,7 @@ line_fault_of_feed max count (line_fault.Refused number why) within next = (omeg
 line_fault_of_feed max count line_fault.Read within next = tt
 
 pub line_fault_reads : {R : Type 0} (errors : R → Option ℕ) (s t u : Source R) (l : LineFault) → HasReadOn errors s t
-    → LineReads {A = Option Line} errors t u (Err l) → FeedReads {A = Published} errors s u (Err (Extract (of_line_fault l)))
+    → LineReads {A = Option Line} errors t u (Err l) → FeedReads {A = FeedExtract} errors s u (Err (Extract (of_line_fault l)))
 line_fault_reads errors s t u (line_fault.Refused number why) p next = read_on_both errors s t u p next
 line_fault_reads errors s t u line_fault.Read p next = failed_after errors s t u p next
 

@@ -1,14 +1,14 @@
 -- One content more of a feed: what the contents say then, and what the reading has come to.
-use Rattle.std.proofs.Common.{◌≡◌, ℕ, ◌+◌, Bool, true, false, cond, not, ◌&&◌, ◌||◌, List, [], ◌∷◌, ◌++◌, length, map, filter, Some, None}
+use Rattle.std.proofs.Common.{◌≡◌, ℕ, ◌+◌, Bool, true, false, cond, not, ◌&&◌, ◌||◌, List, [], ◌∷◌, ◌++◌, length, map, filter, Option, Some, None}
 use Rattle.std.proofs.Common.{Result, Ok, Err, refl, sym, ap, ◌∙◌, subst, take, codes, append-nil, length-append, arith}
 use Rattle.std.proofs.lemmas.Bool.{and_parts}
 use Rattle.std.proofs.lemmas.Grind.{flat_map-append}
 use Rattle.std.proofs.lemmas.List.{map-append, take-take}
 use Rattle.std.proofs.lemmas.List.Elements.{filter-append}
-use Rattle.std.proofs.lemmas.List.Sums.{fold-append}
+use Rattle.std.proofs.lemmas.List.Folds.{list_any-append}
 use Rattle.std.proofs.lemmas.Slice.Eq.{bytes_eq-Decides}
 use Rattle.std.specs.Prelude.{find}
-use Rattle.std.specs.List.{flat_map}
+use Rattle.std.specs.List.{enumerate_from, flat_map, list_any}
 use Rattle.cif_columns.specs.Comment.{is_comment}
 use Rattle.cif_columns.specs.Field.{columns}
 use Rattle.cif_columns.specs.declared.refusal.Refusal.TheVariants.{OutOfOrder}
@@ -21,17 +21,20 @@ use Rattle.cif_records.specs.Checks.{are, unless}
 use Rattle.cif_records.specs.Kind.{is_identity, kind_in, kinds}
 use Rattle.cif_records.specs.declared.record.Kind.{Kind}
 use Rattle.cif_records.specs.declared.record.Kind.TheVariants.{Li}
-use Rattle.cif_feed.specs.FeedLines.{as_it_stands, association_mark, is_note, marks, notes_after, notes_behind, said, said_by, schedule_mark}
-use Rattle.cif_feed.specs.FeedLines.{speaks, strict_lines, tiploc_mark}
+use Rattle.cif_feed.specs.ProfileLine.{as_it_stands, association_mark, is_basic, is_note, is_record_line, is_trailer, marks, notes_may_stand}
+use Rattle.cif_feed.specs.ProfileLine.{profile_line, profile_line_by, profile_lines, schedule_mark, tiploc_mark}
+use Rattle.cif_feed.specs.SpellsFeed.{passed_of}
 use Rattle.cif_feed.specs.Steps.FeedReading.{HasTakenFeed, IsFeedTaken, IsMarked, IsNoteTaken, IsStopTaken, Marks, UnlessMemory, marks_in}
 use Rattle.cif_feed.specs.Steps.FeedReading.{marks_of, with_mark}
 use Rattle.cif_feed.specs.declared.feed.Feed.{Feed}
 use Rattle.cif_feed.specs.declared.feed.Feed.TheVariants.{Full, Update}
-use Rattle.cif_feed.specs.declared.holidays.Holidays.{Holidays}
-use Rattle.cif_feed.specs.declared.published.FeedReading.{FeedReading}
-use Rattle.cif_feed.specs.declared.said.LineMark.{LineMark}
-use Rattle.cif_feed.specs.declared.said.LineMark.TheVariants.{Nothing}
-use Rattle.cif_feed.specs.declared.said.Said.{Said}
+use Rattle.cif_feed.specs.declared.feed_reading.FeedReading.{FeedReading}
+use Rattle.cif_feed.specs.declared.feed_reading.Passed.{Passed}
+use Rattle.cif_feed.specs.declared.holiday_code.HolidayCodes.{HolidayCodes}
+use Rattle.cif_feed.specs.declared.mark.LineMark.{LineMark}
+use Rattle.cif_feed.specs.declared.mark.LineMark.TheVariants.{Nothing}
+use Rattle.cif_feed.specs.declared.profile_line.ProfileLine.{ProfileLine}
+use Rattle.cif_feed.proofs.Enumerated.{enumerate_more}
 
 -- what a step comes to says more
 pub memory_so : {P Q : Type 0} → (P → Q) → (result : Result Unit TakeFault) → read.UnlessMemory P result → UnlessMemory Q result
@@ -70,26 +73,42 @@ unless_true : (b : Bool) → (b ≡ true → ⊥) → b ≡ false
 unless_true true h = absurd (h refl)
 unless_true false h = refl
 
+or_false : (a b : Bool) → b ≡ false → (a || b) ≡ a
+or_false true b is = refl
+or_false false b is = is
+
 -- what names a kind is neither
-pub named_speaks : (c : List ℕ) (kind : Kind) → kind_in c ≡ Some kind → (is_comment c ≡ false) × (is_note c ≡ false)
-named_speaks c kind is = (
+pub named_line : (c : List ℕ) (kind : Kind) → kind_in c ≡ Some kind → (is_comment c ≡ false) × (is_note c ≡ false)
+named_line c kind is = (
   unless_true (is_comment c) (λ e. let none = (comment_kind c e).1 in cc),
   unless_true (is_note c) (λ e. let none = note_kind c e in cc),
 )
 
 -- a location on the way stands as it is
-said_stop : (feed : Feed) (h : Holidays) (c : List ℕ) → said_by feed h (Some Li) c ≡ as_it_stands c
-said_stop Full h c = refl
-said_stop Update h c = refl
+stop_stands : (feed : Feed) (allowed : HolidayCodes) (c : List ℕ) → profile_line_by feed allowed (Some Li) c ≡ as_it_stands c
+stop_stands Full allowed c = refl
+stop_stands Update allowed c = refl
 
 -- ---- what contents say
 
-with_nothing : (m : Marks) → with_mark m Nothing ≡ m
-with_nothing m = rw (append-nil m.tiplocs, append-nil m.associations, append-nil m.schedules) refl
+with_nothing : (m : Marks) (number : ℕ) → with_mark m number Nothing ≡ m
+with_nothing m number = rw (append-nil m.tiplocs, append-nil m.associations, append-nil m.schedules) refl
 
-module _ (feed : Feed) (h : Holidays) (cs : List (List ℕ)) (c : List ℕ) where
+module _ (feed : Feed) (allowed : HolidayCodes) (cs : List (List ℕ)) (c : List ℕ) where
+  -- its number
+  abbrev here : ℕ
+  here = 1 + length cs
+
   one_more : (p : List ℕ → Bool) → filter p (cs ++ c ∷ []) ≡ filter p cs ++ cond (p c) (c ∷ []) []
   one_more p = filter-append p cs (c ∷ [])
+
+  -- the same of contents with their numbers
+  abbrev is_numbered : ℕ × List ℕ → Bool
+  is_numbered = λ (numbered : ℕ × List ℕ). is_record_line numbered.1
+
+  numbered_more : filter is_numbered (enumerate_from 1 (cs ++ c ∷ []))
+      ≡ filter is_numbered (enumerate_from 1 cs) ++ cond (is_record_line c) ((here, c) ∷ []) []
+  numbered_more = ap (filter is_numbered) (enumerate_more 1 cs c) ∙ filter-append is_numbered (enumerate_from 1 cs) ((here, c) ∷ [])
 
   count_yes : (p : List ℕ → Bool) → p c ≡ true → length (filter p (cs ++ c ∷ [])) ≡ length (filter p cs) + 1
   count_yes p is =
@@ -98,147 +117,200 @@ module _ (feed : Feed) (h : Holidays) (cs : List (List ℕ)) (c : List ℕ) wher
   pub count_no : (p : List ℕ → Bool) → p c ≡ false → length (filter p (cs ++ c ∷ [])) ≡ length (filter p cs)
   count_no p is = ap length (one_more p ∙ ap (λ b. filter p cs ++ cond b (c ∷ []) []) is ∙ append-nil (filter p cs))
 
-  may_more : notes_behind (cs ++ c ∷ []) ≡ notes_after (notes_behind cs) (kind_in c)
-  may_more = fold-append _ false cs (c ∷ [])
+  -- whether one of them is
+  any_more : (p : List ℕ → Bool) → list_any p (cs ++ c ∷ []) ≡ (list_any p cs || p c)
+  any_more p = list_any-append p cs (c ∷ []) ∙ ap (λ b. list_any p cs || b) (or_false (p c) false refl)
 
-  module _ (is : speaks c ≡ true) where
-    speaking : filter speaks (cs ++ c ∷ []) ≡ filter speaks cs ++ (c ∷ [])
-    speaking = one_more speaks ∙ ap (λ b. filter speaks cs ++ cond b (c ∷ []) []) is
+  any_same : (p : List ℕ → Bool) → p c ≡ false → list_any p (cs ++ c ∷ []) ≡ list_any p cs
+  any_same p is = any_more p ∙ or_false (list_any p cs) (p c) is
 
-    pub strict_more : strict_lines feed h (cs ++ c ∷ []) ≡ strict_lines feed h cs ++ ((said feed h c).line ∷ [])
-    strict_more = ap (map (λ (content : List ℕ). (said feed h content).line)) speaking ∙ map-append _ (filter speaks cs) (c ∷ [])
+  -- how many comments and notes there are
+  passed_line : is_comment c ≡ false → is_note c ≡ false → passed_of (cs ++ c ∷ []) ≡ passed_of cs
+  passed_line no_comment no_note =
+      let counts : Passed = record { comments = length (filter is_comment cs); notes = length (filter is_note (cs ++ c ∷ [])) } in
+      ap (λ (n : ℕ). record counts { comments = n }) (count_no is_comment no_comment)
+      ∙ ap (λ (n : ℕ). record counts { notes = n }) (count_no is_note no_note)
 
-    marks_more : {A : Type 0} (of_mark : LineMark → List A)
-        → marks of_mark feed h (cs ++ c ∷ []) ≡ marks of_mark feed h cs ++ of_mark (said feed h c).mark
+  module _ (is : is_record_line c ≡ true) where
+    speaking : filter is_record_line (cs ++ c ∷ []) ≡ filter is_record_line cs ++ (c ∷ [])
+    speaking = one_more is_record_line ∙ ap (λ b. filter is_record_line cs ++ cond b (c ∷ []) []) is
+
+    pub lines_more : profile_lines feed allowed (cs ++ c ∷ []) ≡ profile_lines feed allowed cs ++ ((profile_line feed allowed c).line ∷ [])
+    lines_more =
+        ap (map (λ (content : List ℕ). (profile_line feed allowed content).line)) speaking ∙ map-append _ (filter is_record_line cs) (c ∷ [])
+
+    marks_more : {A : Type 0} (of_mark : ℕ → LineMark → List A)
+        → marks of_mark feed allowed (cs ++ c ∷ []) ≡ marks of_mark feed allowed cs ++ of_mark here (profile_line feed allowed c).mark
     marks_more of_mark =
-        let f : List ℕ → List _ = λ (content : List ℕ). of_mark (said feed h content).mark in
-        ap (flat_map f) speaking ∙ flat_map-append f (filter speaks cs) (c ∷ [])
-        ∙ ap (λ l. flat_map f (filter speaks cs) ++ l) (append-nil (f c))
+        let f : ℕ × List ℕ → List _ = λ (numbered : ℕ × List ℕ). of_mark numbered.0 (profile_line feed allowed numbered.1).mark in
+        let old = filter is_numbered (enumerate_from 1 cs) in
+        ap (flat_map f) (numbered_more ∙ ap (λ b. old ++ cond b ((here, c) ∷ []) []) is) ∙ flat_map-append f old ((here, c) ∷ [])
+        ∙ ap (λ l. flat_map f old ++ l) (append-nil (f (here, c)))
 
-    marks_in-more : marks_in feed h (cs ++ c ∷ []) ≡ with_mark (marks_in feed h cs) (said feed h c).mark
+    marks_in-more : marks_in feed allowed (cs ++ c ∷ []) ≡ with_mark (marks_in feed allowed cs) here (profile_line feed allowed c).mark
     marks_in-more = rw (marks_more tiploc_mark, marks_more association_mark, marks_more schedule_mark) refl
 
-  module _ (is : speaks c ≡ false) where
-    silent : filter speaks (cs ++ c ∷ []) ≡ filter speaks cs
-    silent = one_more speaks ∙ ap (λ b. filter speaks cs ++ cond b (c ∷ []) []) is ∙ append-nil (filter speaks cs)
+  module _ (is : is_record_line c ≡ false) where
+    silent : filter is_record_line (cs ++ c ∷ []) ≡ filter is_record_line cs
+    silent = one_more is_record_line ∙ ap (λ b. filter is_record_line cs ++ cond b (c ∷ []) []) is ∙ append-nil (filter is_record_line cs)
 
-    pub strict_same : strict_lines feed h (cs ++ c ∷ []) ≡ strict_lines feed h cs
-    strict_same = ap (map (λ (content : List ℕ). (said feed h content).line)) silent
+    pub lines_same : profile_lines feed allowed (cs ++ c ∷ []) ≡ profile_lines feed allowed cs
+    lines_same = ap (map (λ (content : List ℕ). (profile_line feed allowed content).line)) silent
 
-    marks_in-same : marks_in feed h (cs ++ c ∷ []) ≡ marks_in feed h cs
+    marks_in-same : marks_in feed allowed (cs ++ c ∷ []) ≡ marks_in feed allowed cs
     marks_in-same =
-        ap (λ (l : List (List ℕ)). let m : Marks = record {
-          tiplocs = flat_map (λ (content : List ℕ). tiploc_mark (said feed h content).mark) l;
-          associations = flat_map (λ (content : List ℕ). association_mark (said feed h content).mark) l;
-          schedules = flat_map (λ (content : List ℕ). schedule_mark (said feed h content).mark) l;
-        } in m) silent
+        ap (λ (l : List (ℕ × List ℕ)). let m : Marks = record {
+          tiplocs = flat_map (λ (numbered : ℕ × List ℕ). tiploc_mark numbered.0 (profile_line feed allowed numbered.1).mark) l;
+          associations = flat_map (λ (numbered : ℕ × List ℕ). association_mark numbered.0 (profile_line feed allowed numbered.1).mark) l;
+          schedules = flat_map (λ (numbered : ℕ × List ℕ). schedule_mark numbered.0 (profile_line feed allowed numbered.1).mark) l;
+        } in m)
+        (numbered_more ∙ ap (λ b. filter is_numbered (enumerate_from 1 cs) ++ cond b ((here, c) ∷ []) []) is
+        ∙ append-nil (filter is_numbered (enumerate_from 1 cs)))
 
   -- ---- one more
 
-  line_speaks : is_comment c ≡ false → is_note c ≡ false → speaks c ≡ true
-  line_speaks no_comment no_note = ap (λ b. not b && not (is_note c)) no_comment ∙ ap not no_note
+  is_line : is_comment c ≡ false → is_note c ≡ false → is_record_line c ≡ true
+  is_line no_comment no_note = ap (λ b. not b && not (is_note c)) no_comment ∙ ap not no_note
 
-  -- a line
-  line_step : is_comment c ≡ false → is_note c ≡ false → (old new : FeedReading) → HasTakenFeed feed h cs old
-      → HasTaken (strict_lines feed h cs ++ ((said feed h c).line ∷ [])) (progress_of new.reading)
-      → marks_of new ≡ with_mark (marks_of old) (said feed h c).mark → new.comments ≡ old.comments → new.notes ≡ old.notes
-      → new.notes_may_stand ≡ notes_after old.notes_may_stand (kind_in c) → HasTakenFeed feed h (cs ++ c ∷ []) new
-  line_step no_comment no_note old new so_far taken marked comments notes may =
-      let is = line_speaks no_comment no_note in
+  -- the reading of a line of this number, whose mark is kept
+  record IsLineStep (number : ℕ) (old new : FeedReading) : Type 0 where
+    taken : HasTaken (profile_lines feed allowed cs ++ ((profile_line feed allowed c).line ∷ [])) (progress_of new.reading)
+    marked : marks_of new ≡ with_mark (marks_of old) number (profile_line feed allowed c).mark
+    passed : new.passed ≡ old.passed
+    basic : new.has_basic ≡ (old.has_basic || is_basic (kind_in c))
+    trailer : new.has_trailer ≡ (old.has_trailer || is_trailer (kind_in c))
+
+  line_step : is_comment c ≡ false → is_note c ≡ false → (number : ℕ) → number ≡ length cs + 1 → (old new : FeedReading)
+      → HasTakenFeed feed allowed cs old → IsLineStep number old new → HasTakenFeed feed allowed (cs ++ c ∷ []) new
+  line_step no_comment no_note number at old new so_far step =
+      let is = is_line no_comment no_note in
+      let numbered : number ≡ here = omega (arith, at) in
       record {
-        taken = subst (λ ls. HasTaken ls (progress_of new.reading)) (sym (strict_more is)) taken;
-        marked = marked ∙ ap (λ m. with_mark m (said feed h c).mark) so_far.marked ∙ sym (marks_in-more is);
-        comments = comments ∙ so_far.comments ∙ sym (count_no is_comment no_comment);
-        notes = notes ∙ so_far.notes ∙ sym (count_no is_note no_note);
-        may = may ∙ ap (λ b. notes_after b (kind_in c)) so_far.may ∙ sym may_more;
+        taken = subst (λ ls. HasTaken ls (progress_of new.reading)) (sym (lines_more is)) step.taken;
+        marked = step.marked ∙ ap (λ m. with_mark m number (profile_line feed allowed c).mark) so_far.marked
+            ∙ ap (λ (n : ℕ). with_mark (marks_in feed allowed cs) n (profile_line feed allowed c).mark) numbered ∙ sym (marks_in-more is);
+        passed = step.passed ∙ so_far.passed ∙ sym (passed_line no_comment no_note);
+        basic = step.basic ∙ ap (λ b. b || is_basic (kind_in c)) so_far.basic ∙ sym (any_more (λ content. is_basic (kind_in content)));
+        trailer = step.trailer ∙ ap (λ b. b || is_trailer (kind_in c)) so_far.trailer
+            ∙ sym (any_more (λ content. is_trailer (kind_in content)));
       }
 
+  -- a content that names no kind and is kept by its count alone
+  silent_step : is_record_line c ≡ false → kind_in c ≡ None → (old : FeedReading) (p : Passed) → HasTakenFeed feed allowed cs old
+      → p ≡ passed_of (cs ++ c ∷ []) → HasTakenFeed feed allowed (cs ++ c ∷ []) (record old { passed = p })
+  silent_step nothing no_kind old p so_far counted = record {
+    taken = subst (λ ls. HasTaken ls (progress_of old.reading)) (sym (lines_same nothing)) so_far.taken;
+    marked = so_far.marked ∙ sym (marks_in-same nothing);
+    passed = counted;
+    basic = so_far.basic ∙ sym (any_same (λ content. is_basic (kind_in content)) (ap is_basic no_kind));
+    trailer = so_far.trailer ∙ sym (any_same (λ content. is_trailer (kind_in content)) (ap is_trailer no_kind));
+  }
+
   -- a comment
-  pub comment_step : is_comment c ≡ true → (old new : FeedReading) → HasTakenFeed feed h cs old
-      → new ≡ record old { comments = old.comments + 1 } → HasTakenFeed feed h (cs ++ c ∷ []) new
+  pub comment_step : is_comment c ≡ true → (old new : FeedReading) → HasTakenFeed feed allowed cs old
+      → new ≡ record old { passed = record old.passed { comments = old.passed.comments + 1 } }
+      → HasTakenFeed feed allowed (cs ++ c ∷ []) new
   comment_step comment old new so_far is =
       let (no_note, no_kind) = comment_kind c comment in
-      let nothing : speaks c ≡ false = ap (λ b. not b && not (is_note c)) comment in
-      subst (HasTakenFeed feed h (cs ++ c ∷ [])) (sym is) (record {
-        taken = subst (λ ls. HasTaken ls (progress_of old.reading)) (sym (strict_same nothing)) so_far.taken;
-        marked = so_far.marked ∙ sym (marks_in-same nothing);
-        comments = ap (λ n. n + 1) so_far.comments ∙ sym (count_yes is_comment comment);
-        notes = so_far.notes ∙ sym (count_no is_note no_note);
-        may = so_far.may ∙ sym (may_more ∙ ap (notes_after (notes_behind cs)) no_kind);
-      })
+      let nothing : is_record_line c ≡ false = ap (λ b. not b && not (is_note c)) comment in
+      let counts : Passed = record { comments = length (filter is_comment cs) + 1; notes = length (filter is_note cs) } in
+      subst (HasTakenFeed feed allowed (cs ++ c ∷ [])) (sym is) (silent_step nothing no_kind old _ so_far
+      (ap (λ (p : Passed). let q : Passed = record p { comments = p.comments + 1 } in q) so_far.passed
+      ∙ ap (λ (n : ℕ). record counts { comments = n }) (sym (count_yes is_comment comment))
+      ∙ ap (λ (n : ℕ). let q : Passed = record { comments = length (filter is_comment (cs ++ c ∷ [])); notes = n } in q)
+      (sym (count_no is_note no_note))))
 
   -- a note
-  note_step : is_comment c ≡ false → is_note c ≡ true → (old new : FeedReading) → HasTakenFeed feed h cs old
-      → new ≡ record old { notes = old.notes + 1 } → HasTakenFeed feed h (cs ++ c ∷ []) new
+  note_step : is_comment c ≡ false → is_note c ≡ true → (old new : FeedReading) → HasTakenFeed feed allowed cs old
+      → new ≡ record old { passed = record old.passed { notes = old.passed.notes + 1 } } → HasTakenFeed feed allowed (cs ++ c ∷ []) new
   note_step no_comment note old new so_far is =
-      let nothing : speaks c ≡ false = ap (λ b. not b && not (is_note c)) no_comment ∙ ap not note in
-      subst (HasTakenFeed feed h (cs ++ c ∷ [])) (sym is) (record {
-        taken = subst (λ ls. HasTaken ls (progress_of old.reading)) (sym (strict_same nothing)) so_far.taken;
-        marked = so_far.marked ∙ sym (marks_in-same nothing);
-        comments = so_far.comments ∙ sym (count_no is_comment no_comment);
-        notes = ap (λ n. n + 1) so_far.notes ∙ sym (count_yes is_note note);
-        may = so_far.may ∙ sym (may_more ∙ ap (notes_after (notes_behind cs)) (note_kind c note));
-      })
+      let nothing : is_record_line c ≡ false = ap (λ b. not b && not (is_note c)) no_comment ∙ ap not note in
+      let counts : Passed = record { comments = length (filter is_comment cs); notes = length (filter is_note cs) + 1 } in
+      subst (HasTakenFeed feed allowed (cs ++ c ∷ [])) (sym is) (silent_step nothing (note_kind c note) old _ so_far
+      (ap (λ (p : Passed). let q : Passed = record p { notes = p.notes + 1 } in q) so_far.passed
+      ∙ ap (λ (n : ℕ). record counts { comments = n }) (sym (count_no is_comment no_comment))
+      ∙ ap (λ (n : ℕ). let q : Passed = record { comments = length (filter is_comment (cs ++ c ∷ [])); notes = n } in q)
+      (sym (count_yes is_note note))))
 
   -- ---- what comes of it
 
+  -- the reading knows whether a note may stand
+  may_stand : (old : FeedReading) → HasTakenFeed feed allowed cs old → notes_may_stand cs ≡ (old.has_basic && not old.has_trailer)
+  may_stand old so_far =
+      ap (λ b. b && not (list_any (λ content. is_trailer (kind_in content)) cs)) (sym so_far.basic)
+      ∙ ap (λ b. old.has_basic && not b) (sym so_far.trailer)
+
   pub note_taken : is_comment c ≡ false → is_note c ≡ true → (result : Result Unit TakeFault) (old new : FeedReading)
-      → HasTakenFeed feed h cs old → IsNoteTaken old result new → IsFeedTaken feed h cs c result new
+      → HasTakenFeed feed allowed cs old → IsNoteTaken old result new → IsFeedTaken feed allowed cs c result new
   note_taken no_comment note (Ok done) old new so_far is = (
-    rw note (ap (λ b. unless b OutOfOrder) (sym so_far.may ∙ is.0)),
+    rw note (ap (λ b. unless b OutOfOrder) (may_stand old so_far ∙ is.0)),
     note_step no_comment note old new so_far is.1,
   )
   note_taken no_comment note (Err (Refused why)) old new so_far is =
-      rw note (ap (λ b. unless b OutOfOrder) (sym so_far.may ∙ is.0) ∙ ap Some (sym is.1))
+      rw note (ap (λ b. unless b OutOfOrder) (may_stand old so_far ∙ is.0) ∙ ap Some (sym is.1))
   note_taken no_comment note (Err Memory) old new so_far is = absurd is
 
-  line_marked : is_comment c ≡ false → is_note c ≡ false → (result : Result Unit TakeFault) (old mid new : FeedReading)
-      → HasTakenFeed feed h cs old
-      → IsTakenBehind (strict_lines feed h cs) (said feed h c).line (Ok tt) (progress_of mid.reading)
-      → marks_of mid ≡ marks_of old → mid.comments ≡ old.comments → mid.notes ≡ old.notes
-      → mid.notes_may_stand ≡ notes_after old.notes_may_stand (kind_in c)
-      → UnlessMemory (IsMarked mid (said feed h c).mark new) result → IsFeedTaken feed h cs c result new
-  line_marked no_comment no_note (Ok done) old mid new so_far taken marks comments notes may is = (
-    rw no_note taken.0,
-    line_step no_comment no_note old new so_far
-        (subst (λ r. HasTaken (strict_lines feed h cs ++ ((said feed h c).line ∷ [])) (progress_of r)) (sym is.reading) taken.1)
-        (is.marked ∙ ap (λ m. with_mark m (said feed h c).mark) marks) (is.comments ∙ comments) (is.notes ∙ notes) (is.may ∙ may),
+  -- what is kept of a line whose profile line was taken
+  pub record IsTaken (number : ℕ) (p : ProfileLine) (old mid : FeedReading) : Type 0 where
+    pub profile : p ≡ profile_line feed allowed c
+    pub no_comment : is_comment c ≡ false
+    pub no_note : is_note c ≡ false
+    pub marks : marks_of mid ≡ marks_of old
+    pub passed : mid.passed ≡ old.passed
+    pub basic : mid.has_basic ≡ (old.has_basic || is_basic (kind_in c))
+    pub trailer : mid.has_trailer ≡ (old.has_trailer || is_trailer (kind_in c))
+
+  line_marked : (number : ℕ) (result : Result Unit TakeFault) (old mid new : FeedReading) → number ≡ length cs + 1
+      → HasTakenFeed feed allowed cs old → IsTaken number (profile_line feed allowed c) old mid
+      → IsTakenBehind (profile_lines feed allowed cs) (profile_line feed allowed c).line (Ok tt) (progress_of mid.reading)
+      → UnlessMemory (IsMarked mid number (profile_line feed allowed c).mark new) result → IsFeedTaken feed allowed cs c result new
+  line_marked number (Ok done) old mid new at so_far kept taken is = (
+    rw kept.no_note taken.0,
+    line_step kept.no_comment kept.no_note number at old new so_far (record {
+      taken = subst (λ r. HasTaken (profile_lines feed allowed cs ++ ((profile_line feed allowed c).line ∷ [])) (progress_of r))
+          (sym is.reading) taken.1;
+      marked = is.marked ∙ ap (λ m. with_mark m number (profile_line feed allowed c).mark) kept.marks;
+      passed = is.passed ∙ kept.passed;
+      basic = is.basic ∙ kept.basic;
+      trailer = is.trailer ∙ kept.trailer;
+    }),
   )
-  line_marked no_comment no_note (Err (Refused why)) old mid new so_far taken marks comments notes may is = absurd is
-  line_marked no_comment no_note (Err Memory) old mid new so_far taken marks comments notes may is = tt
+  line_marked number (Err (Refused why)) old mid new at so_far kept taken is = absurd is
+  line_marked number (Err Memory) old mid new at so_far kept taken is = tt
 
-  -- the same, where what the line says is this
-  pub said_marked : (s : Said) → s ≡ said feed h c → is_comment c ≡ false → is_note c ≡ false → (result : Result Unit TakeFault)
-      → (old mid new : FeedReading) → HasTakenFeed feed h cs old
-      → IsTakenBehind (strict_lines feed h cs) s.line (Ok tt) (progress_of mid.reading)
-      → marks_of mid ≡ marks_of old → mid.comments ≡ old.comments → mid.notes ≡ old.notes
-      → mid.notes_may_stand ≡ notes_after old.notes_may_stand (kind_in c)
-      → UnlessMemory (IsMarked mid s.mark new) result → IsFeedTaken feed h cs c result new
-  said_marked s e no_comment no_note result old mid new so_far taken marks comments notes may is =
-      line_marked no_comment no_note result old mid new so_far
-      (subst (λ (x : Said). IsTakenBehind (strict_lines feed h cs) x.line (Ok tt) (progress_of mid.reading)) e taken) marks comments notes
-      may (subst (λ (x : Said). UnlessMemory (IsMarked mid x.mark new) result) e is)
+  -- the same, where its profile line is this
+  pub profile_marked : (p : ProfileLine) (number : ℕ) (result : Result Unit TakeFault) (old mid new : FeedReading)
+      → number ≡ length cs + 1 → HasTakenFeed feed allowed cs old → IsTaken number p old mid
+      → IsTakenBehind (profile_lines feed allowed cs) p.line (Ok tt) (progress_of mid.reading)
+      → UnlessMemory (IsMarked mid number p.mark new) result → IsFeedTaken feed allowed cs c result new
+  profile_marked p number result old mid new at so_far kept taken is =
+      line_marked number result old mid new at so_far (subst (λ (x : ProfileLine). IsTaken number x old mid) kept.profile kept)
+      (subst (λ (x : ProfileLine). IsTakenBehind (profile_lines feed allowed cs) x.line (Ok tt) (progress_of mid.reading)) kept.profile taken)
+      (subst (λ (x : ProfileLine). UnlessMemory (IsMarked mid number x.mark new) result) kept.profile is)
 
-  pub said_untaken : (s : Said) → s ≡ said feed h c → is_note c ≡ false → (fault : TakeFault) (mid new : FeedReading)
-      → IsTakenBehind (strict_lines feed h cs) s.line (Err fault) (progress_of mid.reading) → IsFeedTaken feed h cs c (Err fault) new
-  said_untaken s e no_note (Refused why) mid new is =
-      rw no_note (subst (λ (x : Said). refusal_behind (strict_lines feed h cs) x.line ≡ Some why) e is)
-  said_untaken s e no_note Memory mid new is = tt
+  pub profile_untaken : (p : ProfileLine) → p ≡ profile_line feed allowed c → is_note c ≡ false → (fault : TakeFault) (mid new : FeedReading)
+      → IsTakenBehind (profile_lines feed allowed cs) p.line (Err fault) (progress_of mid.reading) → IsFeedTaken feed allowed cs c (Err fault) new
+  profile_untaken p e no_note (Refused why) mid new is =
+      rw no_note (subst (λ (x : ProfileLine). refusal_behind (profile_lines feed allowed cs) x.line ≡ Some why) e is)
+  profile_untaken p e no_note Memory mid new is = tt
 
-  pub stop_taken : (old new : FeedReading) → HasTakenFeed feed h cs old
-      → IsTakenPlainly (strict_lines feed h cs) c (progress_of new.reading) → new ≡ record old { reading = new.reading }
-      → IsStopTaken feed h cs c new
+  pub stop_taken : (old new : FeedReading) → HasTakenFeed feed allowed cs old
+      → IsTakenPlainly (profile_lines feed allowed cs) c (progress_of new.reading) → new ≡ record old { reading = new.reading }
+      → IsStopTaken feed allowed cs c new
   stop_taken old new so_far plain is =
-      let (no_comment, no_note) = named_speaks c Li plain.kind in
-      let same : said feed h c ≡ as_it_stands c = ap (λ kind. said_by feed h kind c) plain.kind ∙ said_stop feed h c in
+      let (no_comment, no_note) = named_line c Li plain.kind in
+      let same : profile_line feed allowed c ≡ as_it_stands c =
+      ap (λ kind. profile_line_by feed allowed kind c) plain.kind ∙ stop_stands feed allowed c in
       record {
         is_line = plain.is_line;
         no_comment = no_comment;
-        allowed = rw (no_note, same) plain.allowed;
-        taken = line_step no_comment no_note old new so_far
-            (rw same plain.taken)
-            (rw same (ap marks_of is ∙ sym (with_nothing (marks_of old)))) (ap (λ (r : FeedReading). r.comments) is)
-            (ap (λ (r : FeedReading). r.notes) is)
-            (ap (λ (r : FeedReading). r.notes_may_stand) is
-            ∙ sym (ap (notes_after old.notes_may_stand) plain.kind));
+        stands = rw (no_note, same) plain.allowed;
+        taken = line_step no_comment no_note (length cs + 1) refl old new so_far (record {
+          taken = rw same plain.taken;
+          marked = rw same (ap marks_of is ∙ sym (with_nothing (marks_of old) (length cs + 1)));
+          passed = ap (λ (r : FeedReading). r.passed) is;
+          basic = ap (λ (r : FeedReading). r.has_basic) is ∙ sym (or_false old.has_basic (is_basic (kind_in c)) (ap is_basic plain.kind));
+          trailer = ap (λ (r : FeedReading). r.has_trailer) is
+              ∙ sym (or_false old.has_trailer (is_trailer (kind_in c)) (ap is_trailer plain.kind));
+        });
       }

@@ -8,8 +8,11 @@ pub mod HolidayLines
 pub mod HolidayReadings
 pub mod WrittenColumns
 pub mod ChangeSteps
+pub mod Enumerated
 pub mod FeedSteps
 pub mod FeedRuns
-pub mod StrictKinds
+pub mod ProfileKinds
 pub mod SpelledFeeds
+pub mod LinesMade
 pub mod MarkedRecords
+pub mod SaidPublished

@@ -1,11 +1,11 @@
--- The marks of contents are those of the records that their strict lines spell.
+-- The marks of contents are those of the records that their profile lines spell.
 use Rattle.std.proofs.Common.{◌≡◌, ℕ, ◌+◌, ◌-◌, ◌≤◌, Bool, true, false, cond, not, ◌&&◌, List, [], ◌∷◌, ◌++◌, length, take, drop, filter, map}
 use Rattle.std.proofs.Common.{Option, Some, None, refl, sym, ap, ◌∙◌, subst, arith, codes, IsTrue, length-append, length-take, length-drop}
-use Rattle.std.proofs.Common.{append-nil, ⊎_elim, lit<, slice_index}
+use Rattle.std.proofs.Common.{append-nil, ⊎_elim, lit<, slice_index, IfOk, Result, Ok, Err}
 use Rattle.std.proofs.lemmas.Grind.{flat_map-append}
 use Rattle.std.proofs.lemmas.List.{drop-append-le, drop-take, drop_at, take-append-le, take-take, take_at}
 use Rattle.std.proofs.lemmas.List.Elements.{All-cons, All-head, All-nil, All-tail}
-use Rattle.std.specs.List.{flat_map}
+use Rattle.std.specs.List.{enumerate_from, flat_map}
 use Rattle.std.specs.Prelude.{All, find}
 use Rattle.cif_columns.specs.Comment.{is_comment}
 use Rattle.cif_columns.specs.Day.{StandsInYymmdd}
@@ -16,7 +16,7 @@ use Rattle.cif_columns.proofs.DayColumns.{yymmdd_in-stands}
 use Rattle.cif_columns.proofs.DayDigits.{stands-yymmdd_of}
 use Rattle.cif_extract.specs.BodyParts.{extra_records}
 use Rattle.cif_extract.specs.Call.{call_record}
-use Rattle.cif_extract.specs.ExtractParts.{ExtractParts}
+use Rattle.cif_extract.specs.ExtractParts.{ExtractParts, extract_parts}
 use Rattle.cif_extract.specs.Grammar.{AreExtract, AreJourney, AreSchedule, AreSchedules, HaveBody, records_before_trailer}
 use Rattle.cif_extract.specs.SpellsExtract.{SpellAll}
 use Rattle.cif_extract.specs.declared.call.Call.{Call}
@@ -36,24 +36,37 @@ use Rattle.cif_records.specs.declared.record.Record.TheVariants as of
 use Rattle.cif_records.specs.declared.terminus.Terminus.{Terminus}
 use Rattle.cif_records.specs.declared.tiploc.Tiploc.{Tiploc}
 use Rattle.cif_records.proofs.Records.{kind_of, kind_there}
-use Rattle.cif_feed.specs.FeedLines.{association_mark, is_note, marks, said, said_by, schedule_mark, speaks, tiploc_mark}
-use Rattle.cif_feed.specs.FeedRefusal.{IsFeedContent}
-use Rattle.cif_feed.specs.Marked.{AreMarkedAs, HasMarks}
-use Rattle.cif_feed.specs.SpellsFeed.{PublishedParts, SpellPublished}
-use Rattle.cif_feed.specs.Strict.{closed, code_of, is_open, last_day, update_association_by}
-use Rattle.cif_feed.specs.Strict.{strict_tiploc, update_basic_by, with_columns, without}
+use Rattle.cif_feed.specs.FeedRefusal.{IsFeedContent, NoneOfFeedRefused}
+use Rattle.cif_feed.specs.LastDay.{last_day}
+use Rattle.cif_feed.specs.ProfileLine.{association_mark, closed, code_of, is_note, is_open, is_record_line, marks, profile_line}
+use Rattle.cif_feed.specs.ProfileLine.{profile_line_by, profile_lines, schedule_mark, ta_line, ti_line, tiploc_mark, update_association_by}
+use Rattle.cif_feed.specs.ProfileLine.{update_basic_by, with_columns, without_code}
+use Rattle.cif_feed.specs.SpellsFeed.{feed_parts}
+use Rattle.cif_feed.specs.Steps.FeedReading.{IsFeedHeld}
+use Rattle.cif_feed.specs.FromLines.{ArePairs}
+use Rattle.cif_feed.specs.Steps.Marked.{HasMarks, IsClosed, last_of_association, last_of_schedule}
 use Rattle.cif_feed.specs.Transaction.{transaction_in}
 use Rattle.cif_feed.specs.declared.feed.Feed.{Feed}
+use Rattle.cif_feed.specs.declared.feed.FeedFault.{FeedFault}
 use Rattle.cif_feed.specs.declared.feed.Feed.TheVariants.{Full, Update}
+use Rattle.cif_feed.specs.declared.feed_reading.FeedExtract.{FeedExtract}
 use Rattle.cif_feed.specs.declared.holiday_code.HolidayCode.{HolidayCode}
-use Rattle.cif_feed.specs.declared.holidays.Holidays.{Holidays}
-use Rattle.cif_feed.specs.declared.mark.Mark.{Mark}
+use Rattle.cif_feed.specs.declared.holiday_code.HolidayCodes.{HolidayCodes}
+use Rattle.cif_feed.specs.declared.mark.LineMark.{LineMark}
+use Rattle.cif_feed.specs.declared.mark.LineMark.TheVariants as mark
+use Rattle.cif_feed.specs.declared.mark.Numbered.{Numbered}
+use Rattle.cif_feed.specs.declared.mark.RecordMark.{RecordMark}
+use Rattle.cif_feed.specs.declared.mark.TiplocMark.{TiplocMark}
 use Rattle.cif_feed.specs.declared.mark.Transaction.{Transaction}
 use Rattle.cif_feed.specs.declared.mark.Transaction.TheVariants.{New, Revised, Deleted}
-use Rattle.cif_feed.specs.declared.said.LineMark.{LineMark}
-use Rattle.cif_feed.specs.declared.said.LineMark.TheVariants as mark
-use Rattle.cif_feed.specs.declared.said.TiplocMark.{TiplocMark}
-use Rattle.cif_feed.proofs.StrictKinds.{HasKind, by_association, by_basic, close, further, same_line, tiploc_kind, uncode}
+use Rattle.cif_feed.specs.declared.profile_line.ProfileLine.{ProfileLine}
+use Rattle.cif_feed.proofs.Enumerated.{enumerate_filter}
+use Rattle.cif_feed.proofs.FeedRuns.{contents_are}
+use Rattle.cif_feed.proofs.ProfileKinds.{HasKind, by_association, by_basic, close, further, same_line, ta_kind, ti_kind, uncode}
+
+-- the marks are those of these records
+abbrev AreMarked : {A : Type 0} → (A → ℕ) → List (Numbered RecordMark) → List A → Type 0
+AreMarked last ms rs = ArePairs (IsClosed last) rs ms
 
 -- ---- the records of a kind
 
@@ -138,7 +151,7 @@ closed_there first to l from within six ends =
     ∙ written_there first to (yymmdd_of last_day) l from within (last_wide ∙ sym six)
 
 -- a code that is taken out leaves the dates
-code_leaves : (code : Option HolidayCode) (l : List ℕ) → 28 ≤ length l → columns 16 21 (without code l) ≡ columns 16 21 l
+code_leaves : (code : Option HolidayCode) (l : List ℕ) → 28 ≤ length l → columns 16 21 (without_code code l) ≡ columns 16 21 l
 unfolding with_columns
 code_leaves None l long = refl
 code_leaves (Some code) l long =
@@ -186,37 +199,42 @@ MarkFor (Some Bs) m = ⊥
 MarkFor kind mark.Nothing = Unit {0}
 MarkFor kind m = ⊥
 
-module _ (h : Holidays) (c : List ℕ) (is_line : IsLine c) where
+module _ (allowed : HolidayCodes) (c : List ℕ) (is_line : IsLine c) where
   long : 2 ≤ length c
   long = let w = is_line.width in omega (arith, w)
 
-  far : (n : ℕ) → n ≤ 80 → n ≤ length c
-  far n few = let w = is_line.width in omega (arith, w, few)
-
   -- an AA and a BS
-  closed_association : (t : Option Transaction) → ClosedFor (mark.Association (update_association_by t c).mark) (update_association_by t c).line
-  closed_association None ends = cc
-  closed_association (Some New) ends = closed_there 22 27 c (omega arith) (far 22 (omega arith)) (omega arith) ends
-  closed_association (Some Revised) ends =
-      let l = with_columns 3 (codes "N") c in
-      let same = wide_still 3 (codes "N") c (omega arith) (far 3 (omega arith)) in
-      closed_there 22 27 l (omega arith) (omega (arith, same, far 22 (omega arith))) (omega arith) ends
-  closed_association (Some Deleted) ends = cc
+  closed_association_line : (l : List ℕ) → length l ≡ length c → is_open 22 l ≡ true → columns 22 27 (closed 22 l) ≡ yymmdd_of last_day
+  closed_association_line l same ends =
+      let w = is_line.width in closed_there 22 27 l (omega arith) (omega (arith, same, w)) (omega arith) ends
+
+  abbrev revised : List ℕ
+  revised = with_columns 3 (codes "N") c
+
+  revised_wide : length revised ≡ length c
+  revised_wide = wide_still 3 (codes "N") c (omega arith) (let w = is_line.width in omega (arith, w))
+
+  association_marked : (t : Option Transaction) → MarkFor (Some Aa) (update_association_by t c).mark
+      × ClosedFor (update_association_by t c).mark (update_association_by t c).line
+  association_marked None = (tt, λ ends. closed_association_line c refl ends)
+  association_marked (Some New) = (tt, λ ends. closed_association_line c refl ends)
+  association_marked (Some Revised) = (tt, λ ends. closed_association_line revised revised_wide ends)
+  association_marked (Some Deleted) = (tt, λ ends. cc)
 
   closed_basic_line : (l : List ℕ) → length l ≡ length c → is_open 16 l ≡ true
-      → columns 16 21 (without (code_of h l) (closed 16 l)) ≡ yymmdd_of last_day
+      → columns 16 21 (without_code (code_of allowed l) (closed 16 l)) ≡ yymmdd_of last_day
   closed_basic_line l same ends =
       let w = is_line.width in
       let wide = wide_closed 16 l (omega arith) (omega (arith, same, w)) in
-      code_leaves (code_of h l) (closed 16 l) (omega (arith, wide, same, w))
+      code_leaves (code_of allowed l) (closed 16 l) (omega (arith, wide, same, w))
       ∙ closed_there 16 21 l (omega arith) (omega (arith, same, w)) (omega arith) ends
 
-  closed_basic : (t : Option Transaction) → ClosedFor (mark.Schedule (update_basic_by h t c).mark) (update_basic_by h t c).line
-  closed_basic None ends = cc
-  closed_basic (Some New) ends = closed_basic_line c refl ends
-  closed_basic (Some Revised) ends =
-      closed_basic_line (with_columns 3 (codes "N") c) (wide_still 3 (codes "N") c (omega arith) (far 3 (omega arith))) ends
-  closed_basic (Some Deleted) ends = cc
+  basic_marked : (t : Option Transaction) → MarkFor (Some Bs) (update_basic_by allowed t c).mark
+      × ClosedFor (update_basic_by allowed t c).mark (update_basic_by allowed t c).line
+  basic_marked None = (tt, λ ends. closed_basic_line c refl ends)
+  basic_marked (Some New) = (tt, λ ends. closed_basic_line c refl ends)
+  basic_marked (Some Revised) = (tt, λ ends. closed_basic_line revised revised_wide ends)
+  basic_marked (Some Deleted) = (tt, λ ends. cc)
 
   -- by its kind
   named : (l : List ℕ) (kind : Option Kind) (m : LineMark) → HasKind c l → kind_in c ≡ kind → MarkFor kind m → MarkFor (kind_in l) m
@@ -225,32 +243,32 @@ module _ (h : Holidays) (c : List ℕ) (is_line : IsLine c) where
   own : HasKind c c
   own = same_line c long
 
-  tiploc_named : (m : TiplocMark) → MarkFor (kind_in (strict_tiploc c)) (mark.Tiploc m)
-  tiploc_named m = subst (λ (k : Option Kind). MarkFor k (mark.Tiploc m)) (sym (tiploc_kind c h own)) tt
+  tiploc_named : (l : List ℕ) → kind_in l ≡ Some Ti → (m : TiplocMark) → MarkFor (kind_in l) (mark.Tiploc m)
+  tiploc_named l is m = subst (λ (k : Option Kind). MarkFor k (mark.Tiploc m)) (sym is) tt
 
   by_kind : (feed : Feed) (kind : Option Kind) → kind_in c ≡ kind
-      → MarkFor (kind_in (said_by feed h kind c).line) (said_by feed h kind c).mark
-      × ClosedFor (said_by feed h kind c).mark (said_by feed h kind c).line
+      → MarkFor (kind_in (profile_line_by feed allowed kind c).line) (profile_line_by feed allowed kind c).mark
+      × ClosedFor (profile_line_by feed allowed kind c).mark (profile_line_by feed allowed kind c).line
   by_kind feed (Some Ti) is = (named c (Some Ti) _ own is tt, tt)
   by_kind Full (Some Aa) is = (
     named _ (Some Aa) _ (close c 22 c (omega arith) own) is tt,
-    λ ends. closed_association (Some New) ends,
+    (association_marked (Some New)).1,
   )
   by_kind Full (Some Bs) is = (
-    named _ (Some Bs) _ (uncode c (code_of h c) _ (close c 16 c (omega arith) own)) is tt,
-    λ ends. closed_basic (Some New) ends,
+    named _ (Some Bs) _ (uncode c (code_of allowed c) _ (close c 16 c (omega arith) own)) is tt,
+    (basic_marked (Some New)).1,
   )
   by_kind Update (Some Hd) is = (named _ (Some Hd) _ (further c 47 _ c (omega arith) own) is tt, tt)
-  by_kind Update (Some Ta) is = (tiploc_named _, tt)
-  by_kind Update (Some Td) is = (tiploc_named _, tt)
-  by_kind Update (Some Aa) is = (
-    named _ (Some Aa) _ (by_association c h own (transaction_in (slice_index c 2))) is tt,
-    closed_association (transaction_in (slice_index c 2)),
-  )
-  by_kind Update (Some Bs) is = (
-    named _ (Some Bs) _ (by_basic c h own (transaction_in (slice_index c 2))) is tt,
-    closed_basic (transaction_in (slice_index c 2)),
-  )
+  by_kind Update (Some Ta) is = (tiploc_named (ta_line c) (ta_kind c allowed own) (record { transaction = Revised; tiploc = columns 3 9 c }), tt)
+  by_kind Update (Some Td) is = (tiploc_named (ti_line c) (ti_kind c allowed own) (record { transaction = Deleted; tiploc = columns 3 9 c }), tt)
+  by_kind Update (Some Aa) is =
+      let t = transaction_in (slice_index c 2) in
+      let marked = association_marked t in
+      (named _ (Some Aa) _ (by_association c allowed own t) is marked.0, marked.1)
+  by_kind Update (Some Bs) is =
+      let t = transaction_in (slice_index c 2) in
+      let marked = basic_marked t in
+      (named _ (Some Bs) _ (by_basic c allowed own t) is marked.0, marked.1)
   by_kind Full None is = (named c None _ own is tt, tt)
   by_kind Update None is = (named c None _ own is tt, tt)
   by_kind Full (Some Hd) is = (named c (Some Hd) _ own is tt, tt)
@@ -271,15 +289,15 @@ module _ (h : Holidays) (c : List ℕ) (is_line : IsLine c) where
 
 -- ---- the mark of a line, and the record that it spells
 
-record Fits (m : LineMark) (r : Record) : Type 0 where
-  tiplocs : length (tiploc_mark m) ≡ length (tiploc_of r)
-  associations : AreMarkedAs (λ (a : Association). a.last) (association_mark m) (association_of r)
-  schedules : AreMarkedAs (λ (b : Basic). b.last) (schedule_mark m) (basic_of r)
+record Fits (number : ℕ) (m : LineMark) (r : Record) : Type 0 where
+  tiplocs : length (tiploc_mark number m) ≡ length (tiploc_of r)
+  associations : AreMarked last_of_association (association_mark number m) (association_of r)
+  schedules : AreMarked (λ (b : Basic). b.last) (schedule_mark number m) (basic_of r)
 
-fit : (m : LineMark) (l : List ℕ) (r : Record) → MarkFor (kind_in l) m → ClosedFor m l → SpellsRecord l r → Fits m r
-fit m l r for closes spells = at m r (subst (λ k. MarkFor k m) (kind_there l r spells) for) closes spells
+fit : (number : ℕ) (m : LineMark) (l : List ℕ) (r : Record) → MarkFor (kind_in l) m → ClosedFor m l → SpellsRecord l r → Fits number m r
+fit number m l r for closes spells = at m r (subst (λ k. MarkFor k m) (kind_there l r spells) for) closes spells
   where
-    at : (m : LineMark) (r : Record) → MarkFor (Some (kind_of r)) m → ClosedFor m l → SpellsRecord l r → Fits m r
+    at : (m : LineMark) (r : Record) → MarkFor (Some (kind_of r)) m → ClosedFor m l → SpellsRecord l r → Fits number m r
     at (mark.Tiploc m) (of.Tiploc t) for closes spells = record { tiplocs = refl; associations = tt; schedules = tt }
     at (mark.Association m) (of.Association a) for closes spells = record {
       tiplocs = refl;
@@ -302,52 +320,56 @@ fit m l r for closes spells = at m r (subst (λ k. MarkFor k m) (kind_there l r 
 
 -- ---- all of them
 
-marked_both : {A : Type 0} (last : A → ℕ) (ms ns : List Mark) (rs ss : List A) → AreMarkedAs last ms rs → AreMarkedAs last ns ss
-    → AreMarkedAs last (ms ++ ns) (rs ++ ss)
+marked_both : {A : Type 0} (last : A → ℕ) (ms ns : List (Numbered RecordMark)) (rs ss : List A) → AreMarked last ms rs → AreMarked last ns ss
+    → AreMarked last (ms ++ ns) (rs ++ ss)
 marked_both last [] ns [] ss p q = q
 marked_both last [] ns (r ∷ rs) ss p q = absurd p
 marked_both last (m ∷ ms) ns [] ss p q = absurd p
 marked_both last (m ∷ ms) ns (r ∷ rs) ss p q = (p.0, marked_both last ms ns rs ss p.1 q)
 
-module _ (feed : Feed) (h : Holidays) where
-  record FitAll (cs : List (List ℕ)) (rs : List Record) : Type 0 where
-    tiplocs : length (flat_map (λ (c : List ℕ). tiploc_mark (said feed h c).mark) cs) ≡ length (flat_map tiploc_of rs)
-    associations : AreMarkedAs (λ (a : Association). a.last) (flat_map (λ (c : List ℕ). association_mark (said feed h c).mark) cs)
-        (flat_map association_of rs)
-    schedules : AreMarkedAs (λ (b : Basic). b.last) (flat_map (λ (c : List ℕ). schedule_mark (said feed h c).mark) cs)
-        (flat_map basic_of rs)
+module _ (feed : Feed) (allowed : HolidayCodes) where
+  -- the marks of one numbered content
+  abbrev of_one : {A : Type 0} → (ℕ → LineMark → List A) → ℕ × List ℕ → List A
+  of_one of_mark n = of_mark n.0 (profile_line feed allowed n.1).mark
 
-  fit_all : (cs : List (List ℕ)) → All IsLine cs → (rs : List Record)
-      → SpellAll (map (λ (content : List ℕ). (said feed h content).line) cs) rs → FitAll cs rs
+  record FitAll (ns : List (ℕ × List ℕ)) (rs : List Record) : Type 0 where
+    tiplocs : length (flat_map (of_one tiploc_mark) ns) ≡ length (flat_map tiploc_of rs)
+    associations : AreMarked last_of_association (flat_map (of_one association_mark) ns) (flat_map association_of rs)
+    schedules : AreMarked (λ (b : Basic). b.last) (flat_map (of_one schedule_mark) ns) (flat_map basic_of rs)
+
+  fit_all : (ns : List (ℕ × List ℕ)) → All IsLine (map (λ (n : ℕ × List ℕ). n.1) ns) → (rs : List Record)
+      → SpellAll (map (λ (content : List ℕ). (profile_line feed allowed content).line) (map (λ (n : ℕ × List ℕ). n.1) ns)) rs → FitAll ns rs
   fit_all [] are [] spell = record { tiplocs = refl; associations = tt; schedules = tt }
   fit_all [] are (r ∷ rs) spell = absurd spell
-  fit_all (c ∷ cs) are [] spell = absurd spell
-  fit_all (c ∷ cs) are (r ∷ rs) spell =
-      let is = by_kind h c (All-head IsLine c cs are) feed (kind_in c) refl in
-      let one = fit (said feed h c).mark (said feed h c).line r is.0 is.1 spell.0 in
-      let more = fit_all cs (All-tail IsLine c cs are) rs spell.1 in
+  fit_all (n ∷ ns) are [] spell = absurd spell
+  fit_all (n ∷ ns) are (r ∷ rs) spell =
+      let c = n.1 in
+      let others = map (λ (x : ℕ × List ℕ). x.1) ns in
+      let is = by_kind allowed c (All-head IsLine c others are) feed (kind_in c) refl in
+      let one = fit n.0 (profile_line feed allowed c).mark (profile_line feed allowed c).line r is.0 is.1 spell.0 in
+      let more = fit_all ns (All-tail IsLine c others are) rs spell.1 in
       record {
         tiplocs = omega (
           arith,
           one.tiplocs,
           more.tiplocs,
-          length-append (tiploc_mark (said feed h c).mark) (flat_map (λ (x : List ℕ). tiploc_mark (said feed h x).mark) cs),
+          length-append (of_one tiploc_mark n) (flat_map (of_one tiploc_mark) ns),
           length-append (tiploc_of r) (flat_map tiploc_of rs),
         );
-        associations = marked_both _ (association_mark (said feed h c).mark) _ (association_of r) _ one.associations more.associations;
-        schedules = marked_both _ (schedule_mark (said feed h c).mark) _ (basic_of r) _ one.schedules more.schedules;
+        associations = marked_both _ (of_one association_mark n) _ (association_of r) _ one.associations more.associations;
+        schedules = marked_both _ (of_one schedule_mark n) _ (basic_of r) _ one.schedules more.schedules;
       }
 
-speaking_lines : (cs : List (List ℕ)) → All IsFeedContent cs → All IsLine (filter speaks cs)
-speaking_lines [] are = All-nil IsLine
-speaking_lines (c ∷ cs) are =
-    at (is_comment c) (is_note c) refl (All-head IsFeedContent c cs are) (speaking_lines cs (All-tail IsFeedContent c cs are))
+record_lines : (cs : List (List ℕ)) → All IsFeedContent cs → All IsLine (filter is_record_line cs)
+record_lines [] are = All-nil IsLine
+record_lines (c ∷ cs) are =
+    at (is_comment c) (is_note c) refl (All-head IsFeedContent c cs are) (record_lines cs (All-tail IsFeedContent c cs are))
   where
-    at : (b n : Bool) → b ≡ is_comment c → IsFeedContent c → All IsLine (filter speaks cs)
-        → All IsLine (cond (not b && not n) (c ∷ filter speaks cs) (filter speaks cs))
+    at : (b n : Bool) → b ≡ is_comment c → IsFeedContent c → All IsLine (filter is_record_line cs)
+        → All IsLine (cond (not b && not n) (c ∷ filter is_record_line cs) (filter is_record_line cs))
     at true n e is more = more
     at false true e is more = more
-    at false false e is more = All-cons IsLine c (filter speaks cs) (⊎_elim (λ l. l) (λ comment. absurd (cc)) is) more
+    at false false e is more = All-cons IsLine c (filter is_record_line cs) (⊎_elim (λ l. l) (λ comment. absurd (cc)) is) more
 
 -- ---- the records of an extract
 
@@ -381,18 +403,18 @@ groups_none f quiet none groups (s ∷ ss) are =
     ap (flat_map f) parts ∙ flat_map-append f own others
     ∙ ap (λ l. l ++ flat_map f others) (own_basic f quiet own s one ∙ none one.basic) ∙ groups_none f quiet none others ss more
 
-take_first : (ms : List Mark) (b : Basic) (rest : List Basic) (s : Schedule) (ss : List Schedule) → b.last ≡ s.last
-    → AreMarkedAs (λ (b : Basic). b.last) ms (b ∷ rest)
-    → ((ns : List Mark) → AreMarkedAs (λ (b : Basic). b.last) ns rest → AreMarkedAs (λ (s : Schedule). s.last) ns ss)
-    → AreMarkedAs (λ (s : Schedule). s.last) ms (s ∷ ss)
+take_first : (ms : List (Numbered RecordMark)) (b : Basic) (rest : List Basic) (s : Schedule) (ss : List Schedule) → b.last ≡ s.last
+    → AreMarked (λ (b : Basic). b.last) ms (b ∷ rest)
+    → ((ns : List (Numbered RecordMark)) → AreMarked (λ (b : Basic). b.last) ns rest → AreMarked last_of_schedule ns ss)
+    → AreMarked last_of_schedule ms (s ∷ ss)
 take_first [] b rest s ss same p more = absurd p
 take_first (m ∷ ms) b rest s ss same p more = (λ ends. sym same ∙ p.0 ends, more ms p.1)
 
-groups_marked : (ms : List Mark) (groups : List Record) (ss : List Schedule) → AreSchedules groups ss
-    → AreMarkedAs (λ (b : Basic). b.last) ms (flat_map basic_of groups) → AreMarkedAs (λ (s : Schedule). s.last) ms ss
-groups_marked ms groups [] are marked = at ms (subst (λ g. AreMarkedAs (λ (b : Basic). b.last) ms (flat_map basic_of g)) are marked)
+groups_marked : (ms : List (Numbered RecordMark)) (groups : List Record) (ss : List Schedule) → AreSchedules groups ss
+    → AreMarked (λ (b : Basic). b.last) ms (flat_map basic_of groups) → AreMarked last_of_schedule ms ss
+groups_marked ms groups [] are marked = at ms (subst (λ g. AreMarked (λ (b : Basic). b.last) ms (flat_map basic_of g)) are marked)
   where
-    at : (ms : List Mark) → AreMarkedAs (λ (b : Basic). b.last) ms [] → AreMarkedAs (λ (s : Schedule). s.last) ms []
+    at : (ms : List (Numbered RecordMark)) → AreMarked (λ (b : Basic). b.last) ms [] → AreMarked last_of_schedule ms []
     at [] p = tt
     at (m ∷ ms) p = absurd p
 groups_marked ms groups (s ∷ ss) are marked =
@@ -401,7 +423,7 @@ groups_marked ms groups (s ∷ ss) are marked =
     ap (flat_map basic_of) parts ∙ flat_map-append basic_of own others
     ∙ ap (λ l. l ++ flat_map basic_of others) (own_basic basic_of no_basics own s one) in
     take_first ms one.basic (flat_map basic_of others) s ss one.terms.last
-    (subst (AreMarkedAs (λ (b : Basic). b.last) ms) split marked) (λ ns. groups_marked ns others ss more)
+    (subst (AreMarked (λ (b : Basic). b.last) ms) split marked) (λ ns. groups_marked ns others ss more)
 
 all_one : {B : Type 0} (f : Record → List B) (g : B → Record) → ((b : B) → f (g b) ≡ b ∷ []) → (bs : List B)
     → flat_map f (map g bs) ≡ bs
@@ -428,12 +450,16 @@ module _ {B : Type 0} (f : Record → List B) (header : (x : Header) → f (of.H
 
 -- ---- what a published extract holds
 
-pub marks_fit : (feed : Feed) (h : Holidays) (cs : List (List ℕ)) (x : PublishedParts) → SpellPublished feed h cs x → HasMarks x
-marks_fit feed h cs x s =
+pub marks_fit : (feed : Feed) (allowed : HolidayCodes) (cs : List (List ℕ)) (x : FeedExtract) → All IsFeedContent cs
+    → IsFeedHeld feed allowed cs x → HasMarks (feed_parts x)
+marks_fit feed allowed cs x are_contents s =
     let rs = s.extract.records in
     let are = s.extract.are in
-    let e = x.extract in
-    let all = fit_all feed h (filter speaks cs) (speaking_lines cs s.are_contents) rs s.extract.spelled in
+    let e = extract_parts x.extract in
+    let ns = filter (λ (n : ℕ × List ℕ). is_record_line n.1) (enumerate_from 1 cs) in
+    let same = enumerate_filter is_record_line 1 cs in
+    let all = fit_all feed allowed ns (subst (All IsLine) (sym same) (record_lines cs are_contents)) rs
+    (subst (λ l. SpellAll (map (λ (content : List ℕ). (profile_line feed allowed content).line) l) rs) (sym same) s.extract.spelled) in
     let tiplocs : flat_map tiploc_of rs ≡ e.tiplocs =
     by_parts tiploc_of (λ x. refl) refl rs e are
     ∙ ap (λ l. l ++ (flat_map tiploc_of (map of.Association e.associations) ++ flat_map tiploc_of are.schedules))
@@ -456,9 +482,14 @@ marks_fit feed h cs x s =
     ∙ ap (λ l. l ++ flat_map basic_of are.schedules) (none_of basic_of of.Association (λ a. refl) e.associations) in
     record {
       tiplocs = ap length s.tiploc_marks ∙ all.tiplocs ∙ ap length tiplocs;
-      associations = subst (λ ms. AreMarkedAs (λ (a : Association). a.last) ms e.associations) (sym s.association_marks)
-          (subst (AreMarkedAs (λ (a : Association). a.last) (marks association_mark feed h cs)) associations all.associations);
-      schedules = subst (λ ms. AreMarkedAs (λ (v : Schedule). v.last) ms e.schedules) (sym s.schedule_marks)
-          (groups_marked (marks schedule_mark feed h cs) are.schedules e.schedules are.are_schedules
-          (subst (AreMarkedAs (λ (b : Basic). b.last) (marks schedule_mark feed h cs)) basics all.schedules));
+      associations = subst (λ ms. AreMarked last_of_association ms e.associations) (sym s.association_marks)
+          (subst (AreMarked last_of_association (marks association_mark feed allowed cs)) associations all.associations);
+      schedules = subst (λ ms. AreMarked last_of_schedule ms e.schedules) (sym s.schedule_marks)
+          (groups_marked (marks schedule_mark feed allowed cs) are.schedules e.schedules are.are_schedules
+          (subst (AreMarked (λ (b : Basic). b.last) (marks schedule_mark feed allowed cs)) basics all.schedules));
     }
+
+pub marked_result : (feed : Feed) (allowed : HolidayCodes) (max : ℕ) (cs : List (List ℕ)) → NoneOfFeedRefused feed allowed max cs
+    → (result : Result FeedExtract FeedFault) → IfOk result (IsFeedHeld feed allowed cs) → IfOk result (λ x. HasMarks (feed_parts x))
+marked_result feed allowed max cs fine (Ok x) held = marks_fit feed allowed cs x (contents_are feed allowed max cs fine) held
+marked_result feed allowed max cs fine (Err f) held = tt

@@ -12,12 +12,11 @@ use Rattle.cif_calendar.specs.Terms.{Records, Terms}
 use Rattle.cif_calendar.specs.Wins.{Wins}
 use Rattle.cif_columns.specs.Stp.{letter}
 use Rattle.cif_feed.specs.Parts.{AreParts, IsPart, ended}
-use Rattle.cif_feed.specs.Prepared.{AreMarked, ArePrepared, part_terms, prepared_last}
-use Rattle.cif_feed.specs.Published.{AppliesAsPublished, CountOn}
-use Rattle.cif_feed.specs.Strict.{last_day}
+use Rattle.cif_feed.specs.LastDay.{last_day}
+use Rattle.cif_feed.specs.Prepared.{AreClosed, ArePrepared, HaveSameWinners, part_terms, prepared_last}
+use Rattle.cif_feed.specs.Published.{AppliesAsPublished, CountOn, PublishedTerms}
 use Rattle.cif_feed.specs.declared.holiday_code.HolidayCode.{HolidayCode}
 use Rattle.cif_feed.specs.declared.holidays.Holidays.{Holidays}
-use Rattle.cif_feed.specs.declared.mark.Mark.{Mark}
 use Rattle.cif_feed.specs.declared.part.Part.{Part}
 
 -- ---- two sets of records
@@ -112,73 +111,74 @@ module _ {X Y : Type 0} (f : X → Y) where
 
 module _ {K B : Type 0} (h : Holidays) (window_last : ℕ) where
   -- the parts of one entry
-  record HasParts (e : K × (Terms B × Mark)) (parts : List Part) : Type 0 where
-    are : AreParts h e.1.1.code (ended (prepared_last window_last e.1.0 e.1.1) e.1.0) parts
+  record HasParts (e : K × PublishedTerms B) (parts : List Part) : Type 0 where
+    are : AreParts h e.1.code (ended (prepared_last window_last e.1) e.1.terms) parts
 
   -- an entry's parts are among the prepared records
-  parts-of_entry : (entries : List (K × (Terms B × Mark))) (prepared : List (K × Terms B)) → ArePrepared h window_last entries prepared
-      → (e : K × (Terms B × Mark)) → Contains entries e
-      → (parts : List Part) × HasParts e parts × ((p : Part) → Contains parts p → Contains prepared (e.0, part_terms e.1.0 p))
+  parts-of_entry : (entries : List (K × PublishedTerms B)) (prepared : List (K × Terms B)) → ArePrepared h window_last entries prepared
+      → (e : K × PublishedTerms B) → Contains entries e
+      → (parts : List Part) × HasParts e parts × ((p : Part) → Contains parts p → Contains prepared (e.0, part_terms e.1.terms p))
   parts-of_entry [] prepared none e (k, below, is) = absurd (omega arith)
   parts-of_entry (x ∷ entries) prepared (parts, others, are, joined, rest) e has = ⊎_elim
       (λ first. subst
-      (λ (y : K × (Terms B × Mark)). (ps : List Part) × HasParts y ps
-      × ((p : Part) → Contains ps p → Contains prepared (y.0, part_terms y.1.0 p)))
+      (λ (y : K × PublishedTerms B). (ps : List Part) × HasParts y ps
+      × ((p : Part) → Contains ps p → Contains prepared (y.0, part_terms y.1.terms p)))
       first (
         parts,
         record { are = are },
-        λ p listed. subst (λ (l : List (K × Terms B)). Contains l (x.0, part_terms x.1.0 p)) (sym joined)
-            (Contains-append_left (map (λ (q : Part). (x.0, part_terms x.1.0 q)) parts) others (x.0, part_terms x.1.0 p)
-            (Contains-map (λ (q : Part). (x.0, part_terms x.1.0 q)) parts p listed)),
+        λ p listed. subst (λ (l : List (K × Terms B)). Contains l (x.0, part_terms x.1.terms p)) (sym joined)
+            (Contains-append_left (map (λ (q : Part). (x.0, part_terms x.1.terms q)) parts) others (x.0, part_terms x.1.terms p)
+            (Contains-map (λ (q : Part). (x.0, part_terms x.1.terms q)) parts p listed)),
       ))
       (λ later.
       let (ps, own, all) = parts-of_entry entries others rest e later in (
         ps,
         own,
-        λ p listed. subst (λ (l : List (K × Terms B)). Contains l (e.0, part_terms e.1.0 p)) (sym joined)
-            (Contains-append_right (map (λ (q : Part). (x.0, part_terms x.1.0 q)) parts) others (e.0, part_terms e.1.0 p) (all p listed)),
+        λ p listed. subst (λ (l : List (K × Terms B)). Contains l (e.0, part_terms e.1.terms p)) (sym joined)
+            (Contains-append_right (map (λ (q : Part). (x.0, part_terms x.1.terms q)) parts) others (e.0, part_terms e.1.terms p) (all p listed)),
       ))
       (Contains-cases x entries e has)
 
   -- a prepared record is a part of an entry
-  entry-of_part : (entries : List (K × (Terms B × Mark))) (prepared : List (K × Terms B)) → ArePrepared h window_last entries prepared
+  entry-of_part : (entries : List (K × PublishedTerms B)) (prepared : List (K × Terms B)) → ArePrepared h window_last entries prepared
       → (s : K × Terms B) → Contains prepared s
-      → (e : K × (Terms B × Mark)) × Contains entries e × (parts : List Part) × HasParts e parts
-      × (p : Part) × Contains parts p × (s ≡ (e.0, part_terms e.1.0 p))
+      → (e : K × PublishedTerms B) × Contains entries e × (parts : List Part) × HasParts e parts
+      × (p : Part) × Contains parts p × (s ≡ (e.0, part_terms e.1.terms p))
   entry-of_part [] prepared none s has = absurd
       (let (k, below, is) = subst (λ (l : List (K × Terms B)). Contains l s) none has in let b : k < 0 = below in omega arith)
   entry-of_part (x ∷ entries) prepared (parts, others, are, joined, rest) s has = ⊎_elim
       (λ own.
-      let (p, listed, is) = Contains-from_map (λ (q : Part). (x.0, part_terms x.1.0 q)) parts s own in
+      let (p, listed, is) = Contains-from_map (λ (q : Part). (x.0, part_terms x.1.terms q)) parts s own in
       (x, Contains-first x entries, parts, record { are = are }, p, listed, sym is))
       (λ later.
       let (e, found, ps, own, p, listed, is) = entry-of_part entries others rest s later in
       (e, Contains-rest x entries e found, ps, own, p, listed, is))
-      (Contains-append_cases (map (λ (q : Part). (x.0, part_terms x.1.0 q)) parts) others s
+      (Contains-append_cases (map (λ (q : Part). (x.0, part_terms x.1.terms q)) parts) others s
       (subst (λ (l : List (K × Terms B)). Contains l s) joined has))
 
-  module _ (entries : List (K × (Terms B × Mark))) (prepared : List (K × Terms B)) (are : ArePrepared h window_last entries prepared)
-      (marked : AreMarked entries) (k : K) (d : ℕ) (in_window : d ≤ window_last) (is_day : d ≤ last_day) where
+  module _ (entries : List (K × PublishedTerms B)) (prepared : List (K × Terms B)) (are : ArePrepared h window_last entries prepared)
+      (closed : AreClosed entries) (k : K) (d : ℕ) (in_window : d ≤ window_last) (is_day : d ≤ last_day) where
     -- the day isn't after the record's last in the prepared extract
-    in_prepared : (r : Terms B) (m : Mark) (b : Bool) → m.open_end ≡ b → r.first ≤ d → d ≤ r.last
+    in_prepared : (r : Terms B) (b : Bool) → r.first ≤ d → d ≤ r.last
         → d ≤ cond b (max r.first window_last) r.last
-    in_prepared r m true is from upto = omega arith
-    in_prepared r m false is from upto = upto
+    in_prepared r true from upto = omega arith
+    in_prepared r false from upto = upto
 
-    in_published : (e : K × (Terms B × Mark)) → Contains entries e → (b : Bool) → e.1.1.open_end ≡ b
-        → d ≤ cond b (max e.1.0.first window_last) e.1.0.last → d ≤ e.1.0.last
+    in_published : (e : K × PublishedTerms B) → Contains entries e → (b : Bool) → e.1.open_end ≡ b
+        → d ≤ cond b (max e.1.terms.first window_last) e.1.terms.last → d ≤ e.1.terms.last
     in_published e found true is within =
-        let ends = All-contains (λ (x : K × (Terms B × Mark)). IsTrue x.1.1.open_end → x.1.0.last ≡ last_day) entries e marked found is in
-        let last : e.1.0.last ≡ 36524 = ends in omega arith
+        let ends = All-contains (λ (x : K × PublishedTerms B). IsTrue x.1.open_end → x.1.terms.last ≡ last_day) entries e closed found is in
+        let last : e.1.terms.last ≡ 36524 = ends in omega arith
     in_published e found false is within = within
 
     published-match : Match (λ r. CountOn h entries k d r) (of_key prepared k) d
     published-match = record {
       found = λ r count on.
-          let (parts, own, all) = parts-of_entry entries prepared are (k, (r, count.mark)) count.listed in
+          let e : PublishedTerms B = record { terms = r; open_end = count.open_end; code = count.code } in
+          let (parts, own, all) = parts-of_entry entries prepared are (k, e) count.listed in
           let (p, listed, applies) =
-          part-applies h count.mark.code r (prepared_last window_last r count.mark) parts own.are d
-          (in_prepared r count.mark count.mark.open_end refl on.begun on.unfinished)
+          part-applies h e.code r (prepared_last window_last e) parts own.are d
+          (in_prepared r e.open_end on.begun on.unfinished)
           (record { applies = on; no_holiday = count.no_holiday }) in
           (part_terms r p, record { listed = all p listed; applies = applies; letters = refl; bodies = refl });
     }
@@ -189,24 +189,25 @@ module _ {K B : Type 0} (h : Holidays) (window_last : ℕ) where
     }
       where
         at : (s : Terms B) → Applies s d
-            → (e : K × (Terms B × Mark)) × Contains entries e × (parts : List Part) × HasParts e parts
-            × (p : Part) × Contains parts p × (◌≡◌ {A = K × Terms B} (k, s) (e.0, part_terms e.1.0 p))
+            → (e : K × PublishedTerms B) × Contains entries e × (parts : List Part) × HasParts e parts
+            × (p : Part) × Contains parts p × (◌≡◌ {A = K × Terms B} (k, s) (e.0, part_terms e.1.terms p))
             → (r : Terms B) × IsMatch (λ t. CountOn h entries k d t) d s r
         at s on (e, found, parts, own, p, listed, is) =
             let key : k ≡ e.0 = ap (λ (x : K × Terms B). x.0) is in
-            let terms : s ≡ part_terms e.1.0 p = ap (λ (x : K × Terms B). x.1) is in
-            let part_on : Applies (part_terms e.1.0 p) d = subst (λ (t : Terms B). Applies t d) terms on in
-            let upto : d ≤ prepared_last window_last e.1.0 e.1.1 =
-            (let ends : p.last ≤ prepared_last window_last e.1.0 e.1.1 =
-            (All-contains (IsPart h e.1.1.code (ended (prepared_last window_last e.1.0 e.1.1) e.1.0)) parts p own.are.are listed).upto in
+            let terms : s ≡ part_terms e.1.terms p = ap (λ (x : K × Terms B). x.1) is in
+            let part_on : Applies (part_terms e.1.terms p) d = subst (λ (t : Terms B). Applies t d) terms on in
+            let upto : d ≤ prepared_last window_last e.1 =
+            (let ends : p.last ≤ prepared_last window_last e.1 =
+            (All-contains (IsPart h e.1.code (ended (prepared_last window_last e.1) e.1.terms)) parts p own.are.are listed).upto in
             let unfinished : d ≤ p.last = part_on.unfinished in omega arith) in
             let applies =
-            applies-part h e.1.1.code e.1.0 (prepared_last window_last e.1.0 e.1.1) parts own.are d
-            (in_published e found e.1.1.open_end refl upto) p listed part_on in (
-              e.1.0,
+            applies-part h e.1.code e.1.terms (prepared_last window_last e.1) parts own.are d
+            (in_published e found e.1.open_end refl upto) p listed part_on in (
+              e.1.terms,
               record {
                 listed = record {
-                  mark = e.1.1;
+                  open_end = e.1.open_end;
+                  code = e.1.code;
                   listed = subst (λ (j : K). Contains entries (j, e.1)) (sym key) found;
                   no_holiday = applies.no_holiday;
                 };
@@ -215,6 +216,12 @@ module _ {K B : Type 0} (h : Holidays) (window_last : ℕ) where
                 bodies = sym (ap (λ (t : Terms B). t.body) terms);
               },
             )
+
+    pub prepared-wins : HaveSameWinners (of_key prepared k) (λ r. CountOn h entries k d r) d
+    prepared-wins = (
+      record { winner = match-wins d (of_key prepared k) (λ r. CountOn h entries k d r) prepared-match published-match },
+      record { winner = match-wins d (λ r. CountOn h entries k d r) (of_key prepared k) published-match prepared-match },
+    )
 
     pub prepared-runs : (o : Option B) → Runs (of_key prepared k) d o ↔ Runs (λ r. CountOn h entries k d r) d o
     prepared-runs o = (

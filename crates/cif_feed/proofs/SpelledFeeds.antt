@@ -19,71 +19,70 @@ use Rattle.cif_extract.proofs.OneExtract.{one_extract}
 use Rattle.cif_extract.proofs.SpelledLines.{spelled_behind, spelled_trailer}
 use Rattle.cif_records.specs.Checks.{unless}
 use Rattle.cif_records.proofs.Judging.{none-some}
-use Rattle.cif_feed.specs.FeedFault.{IsFeedFault, IsReadAsPublished}
-use Rattle.cif_feed.specs.FeedLines.{is_note, notes_behind, said, speaks, strict_lines}
+use Rattle.cif_feed.specs.FeedFault.{IsFeedFault, IsReadAs}
+use Rattle.cif_feed.specs.ProfileLine.{is_note, notes_may_stand, profile_line, is_record_line, profile_lines}
 use Rattle.cif_feed.specs.FeedRefusal.{IsFeedContent, IsFeedTruncated, IsFirstOfFeed, IsRefusedContent, line_refusal}
-use Rattle.cif_feed.specs.SpellsFeed.{BytesSpellPublished, PublishedParts, SpellPublished, published_parts}
+use Rattle.cif_feed.specs.SpellsFeed.{BytesSpellFeed, FeedParts, SpellFeed, feed_parts}
 use Rattle.cif_feed.specs.declared.feed.Feed.{Feed}
 use Rattle.cif_feed.specs.declared.feed.FeedFault.{FeedFault}
 use Rattle.cif_feed.specs.declared.feed.FeedFault.TheVariants.{Extract, NotUpdate, BadTransaction, NotThere, AlreadyThere}
-use Rattle.cif_feed.specs.declared.holidays.Holidays.{Holidays}
-use Rattle.cif_feed.specs.declared.published.Published.{Published}
+use Rattle.cif_feed.specs.declared.holiday_code.HolidayCodes.{HolidayCodes}
+use Rattle.cif_feed.specs.declared.feed_reading.FeedExtract.{FeedExtract}
+use Rattle.cif_feed.specs.declared.feed_reading.Passed.{Passed}
 use Rattle.cif_feed.proofs.FeedRuns.{comment_fine, line_why}
-use Rattle.cif_feed.proofs.StrictKinds.{said_no_trailer}
+use Rattle.cif_feed.proofs.ProfileKinds.{profile_no_trailer}
 
 -- parts that are the same, one by one
-same_parts : (a b : PublishedParts) → a.extract ≡ b.extract → a.tiploc_marks ≡ b.tiploc_marks → a.association_marks ≡ b.association_marks
-    → a.schedule_marks ≡ b.schedule_marks → a.comments ≡ b.comments → a.notes ≡ b.notes → a ≡ b
-same_parts a b e t aa s c n =
+same_parts : (a b : FeedParts) → a.extract ≡ b.extract → a.tiploc_marks ≡ b.tiploc_marks → a.association_marks ≡ b.association_marks
+    → a.schedule_marks ≡ b.schedule_marks → a.passed ≡ b.passed → a ≡ b
+same_parts a b e t aa s c =
     ap (λ (v : ExtractParts). record a { extract = v }) e ∙ ap (λ v. record a { extract = b.extract; tiploc_marks = v }) t
     ∙ ap (λ v. record a { extract = b.extract; tiploc_marks = b.tiploc_marks; association_marks = v }) aa
-    ∙ ap (λ v. record b { schedule_marks = v; comments = a.comments; notes = a.notes }) s
-    ∙ ap (λ (v : ℕ). record b { comments = v; notes = a.notes }) c ∙ ap (λ (v : ℕ). record b { notes = v }) n
+    ∙ ap (λ v. record b { schedule_marks = v; passed = a.passed }) s ∙ ap (λ (v : Passed). record b { passed = v }) c
 
-module _ (feed : Feed) (h : Holidays) (max : ℕ) where
+module _ (feed : Feed) (allowed : HolidayCodes) (max : ℕ) where
   -- contents spell one at most
-  one_published : (cs : List (List ℕ)) (x y : PublishedParts) → SpellPublished feed h cs x → SpellPublished feed h cs y → x ≡ y
-  one_published cs x y p q =
-      same_parts x y (one_extract (strict_lines feed h cs) x.extract y.extract p.extract q.extract) (p.tiploc_marks ∙ sym q.tiploc_marks)
-      (p.association_marks ∙ sym q.association_marks) (p.schedule_marks ∙ sym q.schedule_marks) (p.comments ∙ sym q.comments)
-      (p.notes ∙ sym q.notes)
+  one_feed : (cs : List (List ℕ)) (x y : FeedParts) → SpellFeed feed allowed cs x → SpellFeed feed allowed cs y → x ≡ y
+  one_feed cs x y p q =
+      same_parts x y (one_extract (profile_lines feed allowed cs) x.extract y.extract p.extract q.extract) (p.tiploc_marks ∙ sym q.tiploc_marks)
+      (p.association_marks ∙ sym q.association_marks) (p.schedule_marks ∙ sym q.schedule_marks) (p.passed ∙ sym q.passed)
 
-  -- the strict lines before and after one that says something
-  strict_parts : (before : List (List ℕ)) (c : List ℕ) (after : List (List ℕ)) → speaks c ≡ true
-      → strict_lines feed h (before ++ c ∷ after) ≡ strict_lines feed h before ++ (said feed h c).line ∷ strict_lines feed h after
-  strict_parts before c after is =
-      ap (map (λ (content : List ℕ). (said feed h content).line)) (filter-append speaks before (c ∷ after)
-      ∙ ap (λ b. filter speaks before ++ cond b (c ∷ filter speaks after) (filter speaks after)) is)
-      ∙ map-append _ (filter speaks before) (c ∷ filter speaks after)
+  -- the profile lines before and after one that says something
+  profile_parts : (before : List (List ℕ)) (c : List ℕ) (after : List (List ℕ)) → is_record_line c ≡ true
+      → profile_lines feed allowed (before ++ c ∷ after) ≡ profile_lines feed allowed before ++ (profile_line feed allowed c).line ∷ profile_lines feed allowed after
+  profile_parts before c after is =
+      ap (map (λ (content : List ℕ). (profile_line feed allowed content).line)) (filter-append is_record_line before (c ∷ after)
+      ∙ ap (λ b. filter is_record_line before ++ cond b (c ∷ filter is_record_line after) (filter is_record_line after)) is)
+      ∙ map-append _ (filter is_record_line before) (c ∷ filter is_record_line after)
 
-  -- none of the strict lines is a trailer, where none of the contents is
-  strict_no_trailers : (cs : List (List ℕ)) → All IsFeedContent cs → All IsNoTrailer cs → All IsNoTrailer (strict_lines feed h cs)
-  strict_no_trailers [] are all = All-nil IsNoTrailer
-  strict_no_trailers (c ∷ cs) are all =
+  -- none of the profile lines is a trailer, where none of the contents is
+  profile_no_trailers : (cs : List (List ℕ)) → All IsFeedContent cs → All IsNoTrailer cs → All IsNoTrailer (profile_lines feed allowed cs)
+  profile_no_trailers [] are all = All-nil IsNoTrailer
+  profile_no_trailers (c ∷ cs) are all =
       at (is_comment c) (is_note c) refl (All-head IsFeedContent c cs are) (All-head IsNoTrailer c cs all)
-      (strict_no_trailers cs (All-tail IsFeedContent c cs are) (All-tail IsNoTrailer c cs all))
+      (profile_no_trailers cs (All-tail IsFeedContent c cs are) (All-tail IsNoTrailer c cs all))
     where
-      at : (b n : Bool) → b ≡ is_comment c → IsFeedContent c → IsNoTrailer c → All IsNoTrailer (strict_lines feed h cs)
-          → All IsNoTrailer (map (λ (content : List ℕ). (said feed h content).line)
-          (cond (not b && not n) (c ∷ filter speaks cs) (filter speaks cs)))
+      at : (b n : Bool) → b ≡ is_comment c → IsFeedContent c → IsNoTrailer c → All IsNoTrailer (profile_lines feed allowed cs)
+          → All IsNoTrailer (map (λ (content : List ℕ). (profile_line feed allowed content).line)
+          (cond (not b && not n) (c ∷ filter is_record_line cs) (filter is_record_line cs)))
       at true n e is none more = more
       at false true e is none more = more
       at false false e is none more =
-          All-cons IsNoTrailer (said feed h c).line (strict_lines feed h cs)
-          (said_no_trailer feed h c (long is) none) more
+          All-cons IsNoTrailer (profile_line feed allowed c).line (profile_lines feed allowed cs)
+          (profile_no_trailer feed allowed c (long is) none) more
         where
           long : IsFeedContent c → 2 ≤ length c
           long = ⊎_elim (λ (l : IsLine c). let w = l.width in omega (arith, w)) (λ comment. absurd (cc))
 
-  module _ (cs : List (List ℕ)) (x : PublishedParts) (within : length cs ≤ max) where
+  module _ (cs : List (List ℕ)) (x : FeedParts) (within : length cs ≤ max) where
     -- none of the contents is refused
-    spelled_refused : (f : FeedFault) → SpellPublished feed h cs x → IsRefusedContent feed h max cs f → ⊥
-    spelled_refused f spells r = at (subst (λ l. SpellPublished feed h l x) r.parts spells)
+    spelled_refused : (f : FeedFault) → SpellFeed feed allowed cs x → IsRefusedContent feed allowed max cs f → ⊥
+    spelled_refused f spells r = at (subst (λ l. SpellFeed feed allowed l x) r.parts spells)
       where
         room : length r.before < max
         room = omega (arith, within, ap length r.parts, length-append r.before (r.content ∷ r.after))
 
-        at : SpellPublished feed h (r.before ++ r.content ∷ r.after) x → ⊥
+        at : SpellFeed feed allowed (r.before ++ r.content ∷ r.after) x → ⊥
         at s = by (is_comment r.content) (is_note r.content) refl refl
           where
             here : length r.before < length (r.before ++ r.content ∷ r.after)
@@ -98,41 +97,41 @@ module _ (feed : Feed) (h : Holidays) (max : ℕ) where
             is_line : is_comment r.content ≡ false → IsLine r.content
             is_line no_comment = ⊎_elim (λ l. l) (λ comment. absurd (cc)) is
 
-            refused : is_comment r.content ≡ false → line_refusal feed h r.before r.content ≡ Some r.why
-            refused no_comment = sym (line_why feed h max r.before r.content (is_line no_comment) no_comment room) ∙ r.reason
+            refused : is_comment r.content ≡ false → line_refusal feed allowed r.before r.content ≡ Some r.why
+            refused no_comment = sym (line_why feed allowed max r.before r.content (is_line no_comment) no_comment room) ∙ r.reason
 
             by : (b n : Bool) → b ≡ is_comment r.content → n ≡ is_note r.content → ⊥
-            by true n eb en = none-some _ r.why (comment_fine feed h max r.before r.content (sym eb) room) r.reason
+            by true n eb en = none-some _ r.why (comment_fine feed allowed max r.before r.content (sym eb) room) r.reason
             by false true eb en =
-                let may : notes_behind r.before ≡ true =
-                ap notes_behind (sym (take-append_seam r.before (r.content ∷ r.after)))
+                let may : notes_may_stand r.before ≡ true =
+                ap notes_may_stand (sym (take-append_seam r.before (r.content ∷ r.after)))
                 ∙ s.notes_stand (length r.before) here (ap is_note seam ∙ sym en) in
                 let why = refused (sym eb) in
-                let stands : line_refusal feed h r.before r.content ≡ None =
-                ap (λ b. cond b (unless (notes_behind r.before) OutOfOrder)
-                (refusal_behind (strict_lines feed h r.before) (said feed h r.content).line)) (sym en) ∙ ap (λ b. unless b OutOfOrder) may in
+                let stands : line_refusal feed allowed r.before r.content ≡ None =
+                ap (λ b. cond b (unless (notes_may_stand r.before) OutOfOrder)
+                (refusal_behind (profile_lines feed allowed r.before) (profile_line feed allowed r.content).line)) (sym en) ∙ ap (λ b. unless b OutOfOrder) may in
                 none-some _ r.why stands why
             by false false eb en =
-                let says : speaks r.content ≡ true = ap (λ b. not b && not (is_note r.content)) (sym eb) ∙ ap not (sym en) in
-                let fine = spelled_behind (strict_lines feed h r.before) (said feed h r.content).line (strict_lines feed h r.after) x.extract
-                (subst (λ ls. SpellExtract ls x.extract) (strict_parts r.before r.content r.after says) s.extract) in
-                none-some _ r.why (ap (λ b. cond b (unless (notes_behind r.before) OutOfOrder)
-                (refusal_behind (strict_lines feed h r.before) (said feed h r.content).line)) (sym en) ∙ fine) (refused (sym eb))
+                let says : is_record_line r.content ≡ true = ap (λ b. not b && not (is_note r.content)) (sym eb) ∙ ap not (sym en) in
+                let fine = spelled_behind (profile_lines feed allowed r.before) (profile_line feed allowed r.content).line (profile_lines feed allowed r.after) x.extract
+                (subst (λ ls. SpellExtract ls x.extract) (profile_parts r.before r.content r.after says) s.extract) in
+                none-some _ r.why (ap (λ b. cond b (unless (notes_may_stand r.before) OutOfOrder)
+                (refusal_behind (profile_lines feed allowed r.before) (profile_line feed allowed r.content).line)) (sym en) ∙ fine) (refused (sym eb))
 
     -- and one is a trailer
-    spelled_whole : (f : FeedFault) → SpellPublished feed h cs x → IsFeedTruncated feed h max cs f → ⊥
+    spelled_whole : (f : FeedFault) → SpellFeed feed allowed cs x → IsFeedTruncated feed allowed max cs f → ⊥
     spelled_whole f s t =
-        spelled_trailer (strict_lines feed h cs) x.extract s.extract (strict_no_trailers cs s.are_contents t.no_trailer)
+        spelled_trailer (profile_lines feed allowed cs) x.extract s.extract (profile_no_trailers cs s.are_contents t.no_trailer)
 
-    spelled_first : (f : FeedFault) → SpellPublished feed h cs x → IsFirstOfFeed feed h max cs f → ⊥
+    spelled_first : (f : FeedFault) → SpellFeed feed allowed cs x → IsFirstOfFeed feed allowed max cs f → ⊥
     spelled_first f s = ⊎_elim (spelled_refused f s) (spelled_whole f s)
 
   -- what is answered, by what the answers say of the bytes
-  read_as : (bytes : List ℕ) (x : PublishedParts) → BytesSpellPublished feed h max bytes x → (after : Unread)
-      → (result : Result Published FeedFault)
-      → IfOk result (λ published. BytesSpellPublished feed h max bytes (published_parts published))
-      → IfErr result (IsFeedFault feed h max bytes after) → IsReadAsPublished x result
-  read_as bytes x s after (Ok p) ok err = one_published (contents_of bytes) (published_parts p) x ok.spell s.spell
+  read_as : (bytes : List ℕ) (x : FeedParts) → BytesSpellFeed feed allowed max bytes x → (after : Unread)
+      → (result : Result FeedExtract FeedFault)
+      → IfOk result (λ published. BytesSpellFeed feed allowed max bytes (feed_parts published))
+      → IfErr result (IsFeedFault feed allowed max bytes after) → IsReadAs feed_parts x result
+  read_as bytes x s after (Ok p) ok err = one_feed (contents_of bytes) (feed_parts p) x ok.spell s.spell
   read_as bytes x s after (Err (Extract (fault.Refused line why))) ok err =
       absurd (spelled_first (contents_of bytes) x s.within _ s.spell err.0)
   read_as bytes x s after (Err (Extract (fault.Ambiguous clash))) ok err = absurd err
@@ -148,15 +147,15 @@ module _ (feed : Feed) (h : Holidays) (max : ℕ) where
   read_as bytes x s after (Err (AlreadyThere line)) ok err = absurd err
 
   -- the same of bytes that may be known
-  pub only_published : (start : Option (List ℕ)) (after : Unread) (result : Result Published FeedFault)
-      → IfSome start (λ bytes. IfOk result (λ published. BytesSpellPublished feed h max bytes (published_parts published)))
-      → IfSome start (λ bytes. IfErr result (IsFeedFault feed h max bytes after))
-      → IfSome start (λ bytes. (x : PublishedParts) → BytesSpellPublished feed h max bytes x → IsReadAsPublished x result)
-  only_published None after result ok err = tt
-  only_published (Some bytes) after result ok err = λ x s. read_as bytes x s after result ok err
+  pub only_feed : (start : Option (List ℕ)) (after : Unread) (result : Result FeedExtract FeedFault)
+      → IfSome start (λ bytes. IfOk result (λ published. BytesSpellFeed feed allowed max bytes (feed_parts published)))
+      → IfSome start (λ bytes. IfErr result (IsFeedFault feed allowed max bytes after))
+      → IfSome start (λ bytes. (x : FeedParts) → BytesSpellFeed feed allowed max bytes x → IsReadAs feed_parts x result)
+  only_feed None after result ok err = tt
+  only_feed (Some bytes) after result ok err = λ x s. read_as bytes x s after result ok err
 
   pub only_feed_fault : (start : Option (List ℕ)) (after : Unread) (f : FeedFault)
-      → IfSome start (λ bytes. IsFeedFault feed h max bytes after f)
-      → IfSome start (λ bytes. (x : PublishedParts) → BytesSpellPublished feed h max bytes x → IsReadAsPublished x (Err f))
+      → IfSome start (λ bytes. IsFeedFault feed allowed max bytes after f)
+      → IfSome start (λ bytes. (x : FeedParts) → BytesSpellFeed feed allowed max bytes x → IsReadAs feed_parts x (Err f))
   only_feed_fault None after f err = tt
   only_feed_fault (Some bytes) after f err = λ x s. read_as bytes x s after (Err f) tt err

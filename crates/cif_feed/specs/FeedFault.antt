@@ -7,26 +7,24 @@ use Rattle.cif_columns.specs.declared.source.Source.{Source}
 use Rattle.cif_extract.specs.ReadFault.{IsLineNumber}
 use Rattle.cif_extract.specs.declared.fault.Fault.TheVariants.{Refused, Read, Memory}
 use Rattle.cif_feed.specs.FeedRefusal.{IsFeedContent, IsFeedCut, IsFirstOfFeed}
-use Rattle.cif_feed.specs.SpellsFeed.{PublishedParts, published_parts}
 use Rattle.cif_feed.specs.declared.feed.Feed.{Feed}
 use Rattle.cif_feed.specs.declared.feed.FeedFault.{FeedFault}
 use Rattle.cif_feed.specs.declared.feed.FeedFault.TheVariants.{Extract, NotUpdate, BadTransaction}
-use Rattle.cif_feed.specs.declared.holidays.Holidays.{Holidays}
-use Rattle.cif_feed.specs.declared.published.Published.{Published}
+use Rattle.cif_feed.specs.declared.holiday_code.HolidayCodes.{HolidayCodes}
 
 -- Why these bytes are none, or can't be read, where `after` is left then: their first refusal, of a content that is decided, or a failure
 -- of the source before one was. No contract foretells that memory runs out.
-abbrev pub IsFeedFault : Feed → Holidays → ℕ → List ℕ → Unread → FeedFault → Type 0
-IsFeedFault feed h max bytes after (Extract (Refused line why)) =
-    IsFirstOfFeed feed h max (contents_of bytes) (Extract (Refused line why)) × IsContentDecidedOrLast IsFeedContent max bytes after line
-IsFeedFault feed h max bytes after (Extract Read) = IsSomeAnd after.bytes (IsFeedCut feed h max bytes)
-IsFeedFault feed h max bytes after (Extract Memory) = Unit {0}
-IsFeedFault feed h max bytes after (Extract _) = ⊥
-IsFeedFault feed h max bytes after (NotUpdate line) =
-    IsFirstOfFeed feed h max (contents_of bytes) (NotUpdate line) × IsContentDecidedOrLast IsFeedContent max bytes after line
-IsFeedFault feed h max bytes after (BadTransaction line) =
-    IsFirstOfFeed feed h max (contents_of bytes) (BadTransaction line) × IsContentDecidedOrLast IsFeedContent max bytes after line
-IsFeedFault feed h max bytes after _ = ⊥
+abbrev pub IsFeedFault : Feed → HolidayCodes → ℕ → List ℕ → Unread → FeedFault → Type 0
+IsFeedFault feed allowed max bytes after (Extract (Refused line why)) =
+    IsFirstOfFeed feed allowed max (contents_of bytes) (Extract (Refused line why)) × IsContentDecidedOrLast IsFeedContent max bytes after line
+IsFeedFault feed allowed max bytes after (Extract Read) = IsSomeAnd after.bytes (IsFeedCut feed allowed max bytes)
+IsFeedFault feed allowed max bytes after (Extract Memory) = Unit {0}
+IsFeedFault feed allowed max bytes after (Extract _) = ⊥
+IsFeedFault feed allowed max bytes after (NotUpdate line) =
+    IsFirstOfFeed feed allowed max (contents_of bytes) (NotUpdate line) × IsContentDecidedOrLast IsFeedContent max bytes after line
+IsFeedFault feed allowed max bytes after (BadTransaction line) =
+    IsFirstOfFeed feed allowed max (contents_of bytes) (BadTransaction line) × IsContentDecidedOrLast IsFeedContent max bytes after line
+IsFeedFault feed allowed max bytes after _ = ⊥
 
 -- the faults of reading at most max contents, for any source
 abbrev pub IsOfFeed : ℕ → FeedFault → Type 0
@@ -38,12 +36,16 @@ IsOfFeed max (NotUpdate line) = IsLineNumber max line
 IsOfFeed max (BadTransaction line) = IsLineNumber max line
 IsOfFeed max _ = ⊥
 
--- what is answered where the bytes spell one of these parts: it, unless the source fails or memory runs out
-abbrev pub IsReadAsPublished : PublishedParts → Result Published FeedFault → Type 0
-IsReadAsPublished x (Ok published) = published_parts published ≡ x
-IsReadAsPublished x (Err (Extract Read)) = Unit {0}
-IsReadAsPublished x (Err (Extract Memory)) = Unit {0}
-IsReadAsPublished x (Err _) = ⊥
+-- the source fails, or memory runs out
+abbrev pub IsFailure : FeedFault → Type 0
+IsFailure (Extract Read) = Unit {0}
+IsFailure (Extract Memory) = Unit {0}
+IsFailure fault = ⊥
+
+-- what is answered where the bytes spell these parts: them, unless the source fails or memory runs out
+abbrev pub IsReadAs : {A B : Type 0} → (A → B) → B → Result A FeedFault → Type 0
+IsReadAs parts x (Ok read) = parts read ≡ x
+IsReadAs parts x (Err fault) = IsFailure fault
 
 -- what a call that may answer such a fault owes its source: it fails to read exactly where it answers Read
 abbrev pub FeedReads : {R A : Type 0} → (R → Option ℕ) → Source R → Source R → Result A FeedFault → Type 0

@@ -16,38 +16,39 @@ use Rattle.cif_records.specs.Checks.{first_of, unless}
 use Rattle.cif_records.specs.Kind.{kind_in}
 use Rattle.cif_records.specs.declared.record.Kind.{Kind}
 use Rattle.cif_records.specs.declared.record.Kind.TheVariants.{Hd, Zz}
-use Rattle.cif_feed.specs.FeedLines.{is_note, notes_behind, said, strict_lines}
+use Rattle.cif_feed.specs.ProfileLine.{is_note, notes_may_stand, profile_line, profile_lines}
 use Rattle.cif_feed.specs.declared.feed.Feed.{Feed}
 use Rattle.cif_feed.specs.declared.feed.Feed.TheVariants.{Full, Update}
 use Rattle.cif_feed.specs.declared.feed.FeedFault.{FeedFault}
 use Rattle.cif_feed.specs.declared.feed.FeedFault.TheVariants.{Extract, NotUpdate, BadTransaction}
-use Rattle.cif_feed.specs.declared.holidays.Holidays.{Holidays}
+use Rattle.cif_feed.specs.declared.holiday_code.HolidayCodes.{HolidayCodes}
 
 -- a content that says something or is refused: a comment, or a line
 abbrev pub IsFeedContent : List ℕ → Type 0
 IsFeedContent content = IsLine content ⊎ (is_comment content ≡ true)
 
--- The first reason to refuse a line that comes after these contents: a note where none may stand, or that of its strict line behind
+-- The first reason to refuse a line that comes after these contents: a note where none may stand, or that of its profile line behind
 -- theirs.
-abbrev pub line_refusal : Feed → Holidays → List (List ℕ) → List ℕ → Option Refusal
-line_refusal feed h before line =
-    if is_note line then unless (notes_behind before) OutOfOrder else refusal_behind (strict_lines feed h before) (said feed h line).line
+abbrev pub line_refusal : Feed → HolidayCodes → List (List ℕ) → List ℕ → Option Refusal
+line_refusal feed allowed before line =
+    if is_note line then unless (notes_may_stand before) OutOfOrder
+    else refusal_behind (profile_lines feed allowed before) (profile_line feed allowed line).line
 
 -- The first reason to refuse a content that comes after these, where max may come: it is one too many; or it is no comment, and isn't
 -- eighty bytes, or one of them may stand in no line, or it is refused as a line.
-unfoldable pub feed_refusal : Feed → Holidays → ℕ → List (List ℕ) → List ℕ → Option Refusal
-feed_refusal feed h max before content = first_of (
+unfoldable pub feed_refusal : Feed → HolidayCodes → ℕ → List (List ℕ) → List ℕ → Option Refusal
+feed_refusal feed allowed max before content = first_of (
     unless (nat_lt (length before) max) TooManyLines
     ∷ (if is_comment content then None else first_of (
     unless (length content == 80) BadLength
     ∷ unless (list_all is_printable content) BadByte
-    ∷ line_refusal feed h before content
+    ∷ line_refusal feed allowed before content
     ∷ []))
     ∷ [])
 
 -- there is no reason to refuse any of these contents, each after those before it
-pub record NoneOfFeedRefused (feed : Feed) (h : Holidays) (max : ℕ) (contents : List (List ℕ)) : Type 0 where
-  pub fine : (k : ℕ) → k < length contents → feed_refusal feed h max (take k contents) (slice_index_or contents k []) ≡ None
+pub record NoneOfFeedRefused (feed : Feed) (allowed : HolidayCodes) (max : ℕ) (contents : List (List ℕ)) : Type 0 where
+  pub fine : (k : ℕ) → k < length contents → feed_refusal feed allowed max (take k contents) (slice_index_or contents k []) ≡ None
 
 -- what NotFull is called, by the kind of the line that is refused for it
 abbrev pub not_full : Feed → ℕ → Option Kind → FeedFault
@@ -67,29 +68,29 @@ untaken_fault feed number kind (untaken.Refused why) = fault_for feed number kin
 untaken_fault feed number kind untaken.Memory = Extract Memory
 
 -- the first of the contents that is refused, and its fault
-pub record IsRefusedContent (feed : Feed) (h : Holidays) (max : ℕ) (contents : List (List ℕ)) (fault : FeedFault) : Type 0 where
+pub record IsRefusedContent (feed : Feed) (allowed : HolidayCodes) (max : ℕ) (contents : List (List ℕ)) (fault : FeedFault) : Type 0 where
   pub before : List (List ℕ)
   pub content : List ℕ
   pub after : List (List ℕ)
   pub parts : contents ≡ before ++ content ∷ after
-  pub fine : NoneOfFeedRefused feed h max before
+  pub fine : NoneOfFeedRefused feed allowed max before
   pub why : Refusal
-  pub reason : feed_refusal feed h max before content ≡ Some why
+  pub reason : feed_refusal feed allowed max before content ≡ Some why
   pub is : fault ≡ fault_for feed (length before + 1) (kind_in content) why
 
 -- no content is refused and none is a trailer: the line after the last is missing
-pub record IsFeedTruncated (feed : Feed) (h : Holidays) (max : ℕ) (contents : List (List ℕ)) (fault : FeedFault) : Type 0 where
-  pub fine : NoneOfFeedRefused feed h max contents
+pub record IsFeedTruncated (feed : Feed) (allowed : HolidayCodes) (max : ℕ) (contents : List (List ℕ)) (fault : FeedFault) : Type 0 where
+  pub fine : NoneOfFeedRefused feed allowed max contents
   pub no_trailer : All (λ content. kind_in content ≢ Some Zz) contents
   pub is : fault ≡ Extract (Refused (length contents + 1) Truncated)
 
 -- the first refusal of contents, as a fault
-abbrev pub IsFirstOfFeed : Feed → Holidays → ℕ → List (List ℕ) → FeedFault → Type 0
-IsFirstOfFeed feed h max contents fault = IsRefusedContent feed h max contents fault ⊎ IsFeedTruncated feed h max contents fault
+abbrev pub IsFirstOfFeed : Feed → HolidayCodes → ℕ → List (List ℕ) → FeedFault → Type 0
+IsFirstOfFeed feed allowed max contents fault = IsRefusedContent feed allowed max contents fault ⊎ IsFeedTruncated feed allowed max contents fault
 
 -- A source failed before a refused content was decided: of these bytes it gave all but those unread. What it gave are whole contents,
 -- none of them refused, and then a rest, which decides no line.
-pub record IsFeedCut (feed : Feed) (h : Holidays) (max : ℕ) (bytes unread : List ℕ) : Type 0 where
+pub record IsFeedCut (feed : Feed) (allowed : HolidayCodes) (max : ℕ) (bytes unread : List ℕ) : Type 0 where
   pub contents : List (List ℕ)
   pub given : AreContentsToFailure IsFeedContent max bytes unread contents
-  pub fine : NoneOfFeedRefused feed h max contents
+  pub fine : NoneOfFeedRefused feed allowed max contents

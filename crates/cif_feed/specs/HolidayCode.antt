@@ -1,7 +1,8 @@
--- The holiday codes, by their letters.
-use Rattle.std.specs.Prelude.{ℕ, ◌==◌, Option, Some, None, if◌then◌else◌}
+-- The holiday codes, by their letters, and sets of them.
+use Rattle.std.specs.Prelude.{ℕ, ◌==◌, Bool, true, Option, Some, None, if◌then◌else◌}
 use Rattle.cif_feed.specs.declared.holiday_code.HolidayCode.{HolidayCode}
 use Rattle.cif_feed.specs.declared.holiday_code.HolidayCode.TheVariants.{X, E, G}
+use Rattle.cif_feed.specs.declared.holiday_code.HolidayCodes.{HolidayCodes}
 
 -- the ASCII letter
 abbrev pub letter : HolidayCode → ℕ
@@ -13,3 +14,13 @@ letter G = 71
 abbrev pub code_in : ℕ → Option HolidayCode
 code_in column =
     if column == 88 then Some X else (if column == 69 then Some E else (if column == 71 then Some G else None))
+
+-- the code is among these
+abbrev pub has_code : HolidayCodes → HolidayCode → Bool
+has_code codes X = codes.bank
+has_code codes E = codes.edinburgh
+has_code codes G = codes.glasgow
+
+-- all codes
+abbrev pub all_codes : HolidayCodes
+all_codes = record { bank = true; edinburgh = true; glasgow = true }

@@ -1,28 +1,41 @@
 -- The prepared records of published ones.
 use Rattle.std.specs.Prelude.{◌≡◌, ℕ, List, [], ◌∷◌, ◌++◌, All, IsTrue, map, max, if◌then◌else◌}
-use Rattle.cif_calendar.specs.Terms.{Terms}
+use Rattle.cif_calendar.specs.Terms.{Records, Terms}
+use Rattle.cif_calendar.specs.Wins.{Wins}
+use Rattle.cif_feed.specs.LastDay.{last_day}
 use Rattle.cif_feed.specs.Parts.{AreParts, ended}
-use Rattle.cif_feed.specs.Strict.{last_day}
+use Rattle.cif_feed.specs.Published.{PublishedTerms}
 use Rattle.cif_feed.specs.declared.holidays.Holidays.{Holidays}
-use Rattle.cif_feed.specs.declared.mark.Mark.{Mark}
 use Rattle.cif_feed.specs.declared.part.Part.{Part}
 
 -- The last day of a record in a prepared extract, by the last day of the window: an open end becomes the later of that and of the first
 -- day.
-abbrev pub prepared_last : {B : Type 0} → ℕ → Terms B → Mark → ℕ
-prepared_last window_last r mark = if mark.open_end then max r.first window_last else r.last
+abbrev pub prepared_last : {B : Type 0} → ℕ → PublishedTerms B → ℕ
+prepared_last window_last r = if r.open_end then max r.terms.first window_last else r.terms.last
 
 -- a part of a record: a record with its dates
 abbrev pub part_terms : {B : Type 0} → Terms B → Part → Terms B
 part_terms r p = record r { first = p.first; last = p.last }
 
+-- these are the parts of a published record, in a window that ends on this day
+abbrev pub ArePartsOf : {B : Type 0} → Holidays → ℕ → PublishedTerms B → List Part → Type 0
+ArePartsOf h window_last r parts = AreParts h r.code (ended (prepared_last window_last r) r.terms) parts
+
 -- The prepared records are the parts of the published ones, each record's in its place.
-abbrev pub ArePrepared : {K B : Type 0} → Holidays → ℕ → List (K × (Terms B × Mark)) → List (K × Terms B) → Type 0
+abbrev pub ArePrepared : {K B : Type 0} → Holidays → ℕ → List (K × PublishedTerms B) → List (K × Terms B) → Type 0
 ArePrepared h window_last [] prepared = prepared ≡ []
 ArePrepared {K} {B} h window_last (e ∷ entries) prepared = (parts : List Part) × (others : List (K × Terms B))
-    × AreParts h e.1.1.code (ended (prepared_last window_last e.1.0 e.1.1) e.1.0) parts
-    × (prepared ≡ map (λ p. (e.0, part_terms e.1.0 p)) parts ++ others) × ArePrepared h window_last entries others
+    × ArePartsOf h window_last e.1 parts
+    × (prepared ≡ map (λ p. (e.0, part_terms e.1.terms p)) parts ++ others) × ArePrepared h window_last entries others
 
 -- each open end is the last day that there is
-abbrev pub AreMarked : {K B : Type 0} → List (K × (Terms B × Mark)) → Type 0
-AreMarked entries = All (λ e. IsTrue e.1.1.open_end → e.1.0.last ≡ last_day) entries
+abbrev pub AreClosed : {K B : Type 0} → List (K × PublishedTerms B) → Type 0
+AreClosed entries = All (λ e. IsTrue e.1.open_end → e.1.terms.last ≡ last_day) entries
+
+-- each winner of the one set of records on day d has one of its letter and its body in the other
+pub record WinAlso {B : Type 0} (xs ys : Records B) (d : ℕ) : Type 0 where
+  pub winner : (r : Terms B) → Wins xs d r → (s : Terms B) × Wins ys d s × (s.letter ≡ r.letter) × (s.body ≡ r.body)
+
+-- the same bodies win in both, with the same letters
+abbrev pub HaveSameWinners : {B : Type 0} → Records B → Records B → ℕ → Type 0
+HaveSameWinners xs ys d = WinAlso xs ys d × WinAlso ys xs d

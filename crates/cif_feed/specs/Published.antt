@@ -1,11 +1,17 @@
 -- When a published record applies, and which records count on a day.
-use Rattle.std.specs.Prelude.{ℕ, List, Option, Some, None, Contains}
+use Rattle.std.specs.Prelude.{ℕ, Bool, List, Option, Some, None, Contains}
 use Rattle.cif_calendar.specs.Applies.{Applies}
 use Rattle.cif_calendar.specs.Terms.{Terms}
 use Rattle.cif_feed.specs.Holidays.{IsHoliday}
 use Rattle.cif_feed.specs.declared.holiday_code.HolidayCode.{HolidayCode}
 use Rattle.cif_feed.specs.declared.holidays.Holidays.{Holidays}
-use Rattle.cif_feed.specs.declared.mark.Mark.{Mark}
+
+-- What the rules read of a published record: its terms as a record of this profile, in which an open end is the last day that there is;
+-- whether its end is open; and its holiday code.
+pub record PublishedTerms (B : Type 0) : Type 0 where
+  pub terms : Terms B
+  pub open_end : Bool
+  pub code : Option HolidayCode
 
 -- day d is a holiday of a record's code, if it has one
 abbrev pub IsHolidayOf : Holidays → Option HolidayCode → ℕ → Type 0
@@ -20,7 +26,8 @@ pub record AppliesAsPublished {B : Type 0} (h : Holidays) (code : Option Holiday
 
 -- The records of key k that count on day d: those for which it is no holiday. Of them `Wins`, `Runs` and `IsClear` say which win, what runs
 -- and whether there is a clash, so that these follow from what applies as published.
-pub record CountOn {K B : Type 0} (h : Holidays) (entries : List (K × (Terms B × Mark))) (k : K) (d : ℕ) (r : Terms B) : Type 0 where
-  pub mark : Mark
-  pub listed : Contains entries (k, (r, mark))
-  pub no_holiday : ¬ IsHolidayOf h mark.code d
+pub record CountOn {K B : Type 0} (h : Holidays) (entries : List (K × PublishedTerms B)) (k : K) (d : ℕ) (r : Terms B) : Type 0 where
+  pub open_end : Bool
+  pub code : Option HolidayCode
+  pub listed : Contains entries (k, (record { terms = r; open_end = open_end; code = code }))
+  pub no_holiday : ¬ IsHolidayOf h code d

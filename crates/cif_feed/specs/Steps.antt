@@ -2,4 +2,5 @@
 pub mod Changes
 pub mod FeedReading
 pub mod HolidayReading
+pub mod Marked
 pub mod PartsSoFar

@@ -43,3 +43,40 @@ impl HolidayCode {
         }
     }
 }
+
+/// Some of the holiday codes: those that may stand in a feed.
+#[derive(Clone, Copy, Debug, PartialEq, Eq)]
+pub struct HolidayCodes {
+    /// Bank holiday Mondays.
+    pub bank: bool,
+    /// The holidays of Edinburgh.
+    pub edinburgh: bool,
+    /// The holidays of Glasgow.
+    pub glasgow: bool,
+}
+
+impl HolidayCodes {
+    ghost use Rattle.cif_feed.specs.HolidayCode.{all_codes, has_code};
+
+    /// All of them.
+    pub fn all() -> HolidayCodes
+        ensures { result ≡ all_codes }
+    {
+        HolidayCodes {
+            bank: true,
+            edinburgh: true,
+            glasgow: true,
+        }
+    }
+
+    /// Whether the code is among them.
+    pub fn has(self, code: HolidayCode) -> bool
+        ensures { result ≡ has_code self code }
+    {
+        match code {
+            HolidayCode::X => self.bank,
+            HolidayCode::E => self.edinburgh,
+            HolidayCode::G => self.glasgow,
+        }
+    }
+}

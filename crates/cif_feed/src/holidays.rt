@@ -5,7 +5,7 @@ ghost use Rattle.std.specs.List.Sorted.{IsNonDecreasing};
 ghost use Rattle.cif_columns.specs.Day.{weekday_of};
 ghost use Rattle.cif_columns.specs.DaysRun.{RunsOn};
 
-use crate::HolidayCode;
+use crate::{HolidayCode, HolidayCodes};
 use cif_columns::{Day, DaysRun};
 use std::alloc::{AllocError, Global};
 
@@ -21,13 +21,13 @@ pub(crate) struct HolidayDates {
 impl HolidayDates {
     ghost use Rattle.cif_feed.specs.HolidayDates.{IsDateOnDaysRun, IsFirstFrom};
 
-    /// No dates of a code, named or not.
-    fn none(alloc: Global, is_named: bool) -> HolidayDates
-        ensures named { result.is_named ≡ is_named }
+    /// No dates of a code, which isn't named.
+    fn none(alloc: Global) -> HolidayDates
+        ensures named { result.is_named ≡ false }
         ensures days { result.days.items ≡ [] }
     {
         HolidayDates {
-            is_named,
+            is_named: false,
             days: Vec::new(alloc),
         }
     }
@@ -94,6 +94,7 @@ pub struct Holidays {
 
 impl Holidays {
     ghost use Rattle.cif_feed.specs.declared.holiday_code.HolidayCode.{HolidayCode};
+    ghost use Rattle.cif_feed.specs.HolidayCode.{has_code};
     ghost use Rattle.cif_feed.specs.HolidayDates.{IsFirstFrom};
     ghost use Rattle.cif_feed.specs.Holidays.{HasMore, IsHoliday, IsHolidayOn, Names, dates_of};
 
@@ -103,21 +104,9 @@ impl Holidays {
         ensures days { (code : HolidayCode) (day : ℕ) → ¬ IsHoliday result code day }
     {
         Holidays {
-            bank: HolidayDates::none(alloc, false),
-            edinburgh: HolidayDates::none(alloc, false),
-            glasgow: HolidayDates::none(alloc, false),
-        }
-    }
-
-    /// Each code is named, and has no dates. An update takes each code as it stands.
-    pub fn naming_all(alloc: Global) -> Holidays
-        ensures names { (code : HolidayCode) → Names result code }
-        ensures days { (code : HolidayCode) (day : ℕ) → ¬ IsHoliday result code day }
-    {
-        Holidays {
-            bank: HolidayDates::none(alloc, true),
-            edinburgh: HolidayDates::none(alloc, true),
-            glasgow: HolidayDates::none(alloc, true),
+            bank: HolidayDates::none(alloc),
+            edinburgh: HolidayDates::none(alloc),
+            glasgow: HolidayDates::none(alloc),
         }
     }
 
@@ -126,6 +115,17 @@ impl Holidays {
         ensures { IsTrue result ↔ Names self.now code }
     {
         self.dates(code).is_named
+    }
+
+    /// The codes that are named.
+    pub fn codes(&self) -> HolidayCodes
+        ensures { (code : HolidayCode) → IsTrue (has_code result code) ↔ Names self.now code }
+    {
+        HolidayCodes {
+            bank: self.bank.is_named,
+            edinburgh: self.edinburgh.is_named,
+            glasgow: self.glasgow.is_named,
+        }
     }
 
     /// Whether the day is a holiday of the code.

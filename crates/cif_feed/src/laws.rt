@@ -1,5 +1,5 @@
 //! Laws: what a prepared extract and an update say.
-ghost use Rattle.std.specs.Prelude.{◌≡◌, ◌↔◌, ◌≤◌, ◌++◌, ℕ, List, Option, None, Contains};
+ghost use Rattle.std.specs.Prelude.{◌≡◌, ◌↔◌, ◌≤◌, ◌++◌, ℕ, Bool, List, Option, None, Contains};
 ghost use Rattle.std.specs.Ordering.{eq_by_cmp};
 ghost use Rattle.cif_calendar.specs.Applies.{Applies};
 ghost use Rattle.cif_calendar.specs.Clash.{IsClear};
@@ -9,12 +9,11 @@ ghost use Rattle.cif_calendar.specs.Terms.{Terms};
 ghost use Rattle.cif_feed.specs.Changes.{ChangeParts, after_all, last_word, put_last, untouched};
 ghost use Rattle.cif_feed.specs.Changes.{of_key as records_of_key};
 ghost use Rattle.cif_feed.specs.Parts.{AreParts, IsPart, ended};
-ghost use Rattle.cif_feed.specs.Prepared.{AreMarked, ArePrepared, part_terms};
-ghost use Rattle.cif_feed.specs.Published.{AppliesAsPublished, CountOn};
-ghost use Rattle.cif_feed.specs.Strict.{last_day};
+ghost use Rattle.cif_feed.specs.Prepared.{AreClosed, ArePrepared, HaveSameWinners, part_terms};
+ghost use Rattle.cif_feed.specs.Published.{AppliesAsPublished, CountOn, PublishedTerms};
+ghost use Rattle.cif_feed.specs.LastDay.{last_day};
 ghost use Rattle.cif_feed.specs.declared.holiday_code.HolidayCode.{HolidayCode};
 ghost use Rattle.cif_feed.specs.declared.holidays.Holidays.{Holidays};
-ghost use Rattle.cif_feed.specs.declared.mark.Mark.{Mark};
 ghost use Rattle.cif_feed.specs.declared.part.Part.{Part};
 
 use cif_calendar::Entry;
@@ -33,23 +32,30 @@ pub fn parts_apply_as_published<E: Entry>()
 
 /// On each date up to the window's last, the prepared records say what the published ones do.
 pub fn prepared_runs_as_published<E: Entry>()
+    // For each key winners of the same letters and bodies.
+    ensures wins { (h : Holidays) (window_last : ℕ) (entries : List (E.Key × PublishedTerms E.Body))
+        (prepared : List (E.Key × Terms E.Body)) (k : E.Key) (d : ℕ)
+        → ArePrepared h window_last entries prepared → AreClosed entries
+        → d ≤ window_last → d ≤ last_day → HaveSameWinners (of_key prepared k) (CountOn h entries k d) d }
     // For each key the same runs.
-    ensures runs { (h : Holidays) (window_last : ℕ) (entries : List (E.Key × (Terms E.Body × Mark)))
+    ensures runs { (h : Holidays) (window_last : ℕ) (entries : List (E.Key × PublishedTerms E.Body))
         (prepared : List (E.Key × Terms E.Body)) (k : E.Key) (d : ℕ) (o : Option E.Body)
-        → ArePrepared h window_last entries prepared → AreMarked entries
+        → ArePrepared h window_last entries prepared → AreClosed entries
         → d ≤ window_last → d ≤ last_day
         → Runs (of_key prepared k) d o ↔ Runs (CountOn h entries k d) d o }
     // For each key there is a clash in both or in neither.
-    ensures clear { (h : Holidays) (window_last : ℕ) (entries : List (E.Key × (Terms E.Body × Mark)))
+    ensures clear { (h : Holidays) (window_last : ℕ) (entries : List (E.Key × PublishedTerms E.Body))
         (prepared : List (E.Key × Terms E.Body)) (k : E.Key) (d : ℕ)
-        → ArePrepared h window_last entries prepared → AreMarked entries
+        → ArePrepared h window_last entries prepared → AreClosed entries
         → d ≤ window_last → d ≤ last_day
         → IsClear (of_key prepared k) d ↔ IsClear (CountOn h entries k d) d }
     // A record counts and applies exactly if it is one of the key's that applies as published.
-    ensures counts { (h : Holidays) (entries : List (E.Key × (Terms E.Body × Mark)))
+    ensures counts { (h : Holidays) (entries : List (E.Key × PublishedTerms E.Body))
         (k : E.Key) (d : ℕ) (r : Terms E.Body)
         → (CountOn h entries k d r × Applies r d)
-        ↔ ((mark : Mark) × Contains entries (k, (r, mark)) × AppliesAsPublished h mark.code r d) }
+        ↔ ((open_end : Bool) × (code : Option HolidayCode)
+        × Contains entries (k, record { terms = r; open_end = open_end; code = code })
+        × AppliesAsPublished h code r d) }
 {}
 
 /// What changes leave.

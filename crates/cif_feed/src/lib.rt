@@ -3,25 +3,27 @@
 
 mod changes;
 mod feed;
+mod feed_reading;
+mod from_lines;
 mod holiday_code;
 mod holiday_text;
 mod holidays;
 pub mod laws;
 mod mark;
 mod part;
+mod profile_line;
 mod published;
+mod published_extract;
 mod record_keys;
-mod said;
-mod strict;
 mod words;
 
 pub use changes::{Change, Keyed, apply};
 pub use feed::{Feed, FeedFault};
-pub use holiday_code::HolidayCode;
+pub use feed_reading::Passed;
+pub use holiday_code::{HolidayCode, HolidayCodes};
 pub use holiday_text::HolidayFault;
 pub use holidays::Holidays;
-pub use mark::{Mark, Transaction};
+pub use mark::Transaction;
 pub use part::Part;
-pub use published::Published;
-pub use said::TiplocMark;
-pub use strict::{StrictLine, strict_header, strict_tiploc};
+pub use published::{PublishedAssociation, PublishedSchedule};
+pub use published_extract::PublishedExtract;

@@ -1,4 +1,4 @@
-//! What the strict line of a published line leaves out.
+//! What a line of a feed says beyond its profile line.
 ghost use Rattle.std.specs.Prelude.{◌≡◌, IfSome, Some};
 ghost use Rattle.cif_feed.specs.Transaction.{transaction_in};
 
@@ -30,15 +30,40 @@ impl Transaction {
     }
 }
 
-/// What the strict line of an AA or a BS leaves out.
+/// What a TI, a TA or a TD says beyond its profile line.
 #[derive(Clone, Copy, Debug, PartialEq, Eq)]
-pub struct Mark {
-    /// Whether the end is open: the last date is `999999`. The strict line has the last day there is.
-    pub open_end: bool,
-    /// Column 29 of a BS, where the code is known. The strict line has a space.
-    pub code: Option<HolidayCode>,
-    /// Column 3. The strict line has `N`.
-    pub transaction: Transaction,
-    /// Column 80 of a deletion. The strict line of a BS has `C`, so that no journey has to follow.
-    pub letter: Option<Stp>,
+pub(crate) struct TiplocMark {
+    /// New for TI, Revised for TA, Deleted for TD.
+    pub(crate) transaction: Transaction,
+    /// Columns 3 to 9. The profile line of a TA has its new TIPLOC there, if it has one.
+    pub(crate) tiploc: [u8; 7],
+}
+
+/// What an AA or a BS says beyond its profile line.
+#[derive(Clone, Copy, Debug, PartialEq, Eq)]
+pub(crate) struct RecordMark {
+    /// Column 3. The profile line has `N`.
+    pub(crate) transaction: Transaction,
+    /// Column 80. The profile line of a deleted BS has `C`, so that no journey has to follow.
+    pub(crate) letter: Stp,
+    /// Whether the last date is `999999`. The profile line has the last day there is.
+    pub(crate) open_end: bool,
+    /// Column 29 of a BS, where it is a code that may stand. The profile line has a space.
+    pub(crate) code: Option<HolidayCode>,
+}
+
+/// What a line says beyond its profile line, by its kind.
+#[derive(Clone, Copy, Debug, PartialEq, Eq)]
+pub(crate) enum LineMark {
+    Nothing,
+    Tiploc(TiplocMark),
+    Association(RecordMark),
+    Schedule(RecordMark),
+}
+
+/// What the line of this number says beyond its profile line.
+#[derive(Clone, Copy, Debug, PartialEq, Eq)]
+pub(crate) struct Numbered<M> {
+    pub(crate) number: u64,
+    pub(crate) mark: M,
 }

@@ -10,7 +10,7 @@ use Rattle.cif_weeks.specs.WhatRuns.{HasBody}
 use Rattle.cif_weeks.specs.HaveForm.{HaveForm}
 use Rattle.cif_weeks.specs.Canonical.{AreCanonical, Precedes, with_key}
 use Rattle.cif_weeks.proofs.JoinedLists.{Contains-map, Contains-from_map, AllPairs-map, AllPairs-append}
-use Rattle.cif_weeks.proofs.RisingLists.{Contains-none, not_less}
+use Rattle.cif_calendar.proofs.RisingLists.{Contains-none, not_less}
 
 -- more records have the bodies of fewer
 pub HasBody-more : {B : Type 0} (xs ys : Permanents B) → ((r : Permanent B) → xs r → ys r) → (n : ℕ) (b : B) → HasBody xs n b →

@@ -18,7 +18,6 @@ pub mod MemberRuns
 pub mod PermanentEntries
 pub mod PieceRuns
 pub mod PieceSpans
-pub mod RisingLists
 pub mod SameDays
 pub mod Separate
 pub mod SourceRuns

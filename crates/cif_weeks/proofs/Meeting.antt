@@ -7,7 +7,7 @@ use Rattle.cif_weeks.specs.Separate.{AreSeparate}
 use Rattle.cif_weeks.specs.HaveForm.{HaveForm}
 use Rattle.cif_weeks.specs.WhatRuns.{HasBody}
 use Rattle.cif_weeks.specs.Steps.Growing.{IsApartFrom}
-use Rattle.cif_weeks.proofs.RisingLists.{AllPairs-members}
+use Rattle.cif_calendar.proofs.RisingLists.{AllPairs-members}
 use Rattle.cif_weeks.proofs.AlignedDays.{IsTight, tight, week_of-applies}
 use Rattle.cif_weeks.proofs.Separate.{AreSeparate-sym, separate-from_before}
 

@@ -19,7 +19,7 @@ use Rattle.cif_weeks.specs.Steps.PieceSpans.{source_in}
 use Rattle.cif_weeks.specs.Steps.Spans.{HasDay, IsSourceAmong}
 use Rattle.cif_weeks.proofs.Growth.{body-source, has-below, inside, source-body}
 use Rattle.cif_weeks.proofs.SourcesIn.{source_in-piece}
-use Rattle.cif_weeks.proofs.RisingLists.{Contains-none}
+use Rattle.cif_calendar.proofs.RisingLists.{Contains-none}
 
 -- a piece of the calendar
 pub record IsPieceOf (c : CalendarParts) (p : Piece) : Type 0 where

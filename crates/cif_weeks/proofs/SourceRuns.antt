@@ -13,7 +13,7 @@ use Rattle.cif_weeks.specs.Steps.BodyRuns.{AreRunsOfBody, HasBody, HasSource}
 use Rattle.cif_weeks.specs.Steps.PieceSpans.{AreBySource}
 use Rattle.cif_weeks.specs.Steps.Spans.{IsAgreed, IsDisputed, Shows}
 use Rattle.cif_weeks.proofs.Cuts.{Contains-take, cut-cases, cut-first, cut-rest, take-contains}
-use Rattle.cif_weeks.proofs.RisingLists.{Contains-none}
+use Rattle.cif_calendar.proofs.RisingLists.{Contains-none}
 use Rattle.cif_weeks.proofs.SpanRuns.{AreRunsOf, runs-joined, runs-of_body, runs-over}
 use Rattle.cif_weeks.proofs.WeekDays.{same_or_other}
 

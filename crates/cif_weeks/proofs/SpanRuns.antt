@@ -16,7 +16,7 @@ use Rattle.cif_weeks.specs.Steps.BodyRuns.{dates_of}
 use Rattle.cif_weeks.specs.Steps.Growing.{IsGrown}
 use Rattle.cif_weeks.specs.Steps.Spans.{IsAgreed, Shows}
 use Rattle.cif_weeks.proofs.JoinedLists.{AllPairs-append}
-use Rattle.cif_weeks.proofs.RisingLists.{AllPairs-members, Contains-none}
+use Rattle.cif_calendar.proofs.RisingLists.{AllPairs-members, Contains-none}
 use Rattle.cif_weeks.proofs.SameDays.{breaks-over, grown-over}
 
 -- whether two runs begin on one date

@@ -9,7 +9,7 @@ use Rattle.cif_weeks.specs.HaveForm.{HaveForm}
 use Rattle.cif_weeks.specs.WhatRuns.{HasBody, SayWhatRuns, SayTheSame}
 use Rattle.cif_weeks.specs.Meets.{Meets}
 use Rattle.cif_weeks.proofs.WeekDays.{masks_equal}
-use Rattle.cif_weeks.proofs.RisingLists.{same_members}
+use Rattle.cif_calendar.proofs.RisingLists.{same_members}
 use Rattle.cif_weeks.proofs.AlignedDays.{DayOfWeek, IsTight, tight, within-tight, week_of-applies, day_in_week, full_week, full_two}
 
 -- two records apply on the same days of a week

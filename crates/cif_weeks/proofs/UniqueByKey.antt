@@ -6,7 +6,7 @@ use Rattle.cif_weeks.proofs.Words.{Form, Window, Permanent}
 use Rattle.cif_weeks.specs.WhatRuns.{SayTheSame}
 use Rattle.cif_calendar.specs.Keys.{of_key}
 use Rattle.cif_weeks.specs.Canonical.{Precedes, AreCanonical, SayWhatRunsByKey, SayTheSameByKey}
-use Rattle.cif_weeks.proofs.RisingLists.{IsOneWay, same_members, less_one_way, not_less}
+use Rattle.cif_calendar.proofs.RisingLists.{IsOneWay, same_members, less_one_way, not_less}
 use Rattle.cif_weeks.proofs.Unique.{member, SayTheSame-sym, SayTheSame-from_runs}
 
 module _ {K B : Type 0} (cmp : K → K → Ordering) (total : IsTotalOrder cmp) where

@@ -32,11 +32,6 @@ AreAlikeBy xs p ys q d = body_at xs (winner_of p d) ≡ body_at ys (winner_of q 
 pub record HasBodies {B : Type 0} (xs : List (Terms B)) (p : Piece) (first last : ℕ) : Type 0 where
   pub bodied : (d : ℕ) → first ≤ d → d ≤ last → IsBodied xs (winner_of p d)
 
--- it is the first, or there is none
-abbrev pub IsFirstOrNone : {A : Type 0} → Type 0 → (A → Type 0) → Option A → Type 0
-IsFirstOrNone none is_first None = none
-IsFirstOrNone none is_first (Some first) = is_first first
-
 -- two extracts that can be compared: they have one window, and neither has a clash in it
 pub record AreComparable (x y : ExtractParts) : Type 0 where
   pub window : header_window x.header ≡ header_window y.header

@@ -1,16 +1,11 @@
--- The clashes are those of all keys but the ones with entries at `rest`, and these are greater.
-use Rattle.std.proofs.Common.{◌<◌, length}
-use Rattle.std.specs.Prelude.{All}
+-- Behind the known clashes are those that were told so far.
+use Rattle.std.proofs.Common.{◌≡◌, ◌++◌, take}
+use Rattle.std.specs.List.{flat_map}
 use Rattle.cif_calendar.specs.Keys.{keyed}
-use Rattle.cif_canon.proofs.FoundClashes.{AreAddedSoFar}
+use Rattle.cif_canon.specs.Steps.Clashes.{named}
 use Rattle.cif_canon.proofs.all_clashes.add_clashes.Given as goal
 
-abbrev pub invariant-loop-rest : goal.invariant-loop-rest
-invariant-loop-rest g l = record {
-  within : All (λ i. i < length l.entries) l.rest;
-  added : AreAddedSoFar g.E.Key.Ord.cmp (keyed g.E.Entry.key g.E.Entry.terms l.entries) l.window.first l.window.last
-      g.E.NamedEntry.clash_of l.fn.known.items l.all.items l.rest;
-}
-
-abbrev pub decreases-loop-rest : goal.decreases-loop-rest
-decreases-loop-rest g l = length l.rest
+abbrev pub invariant-loop-clash : goal.invariant-loop-clash
+invariant-loop-clash g l =
+    l.all.items ≡ l.fn.known.items
+    ++ flat_map (named g.E.NamedEntry.clash_of (keyed g.E.Entry.key g.E.Entry.terms l.entries)) (take l.clash-index l.found)

@@ -13,7 +13,7 @@ use Rattle.cif_canon.proofs.all_clashes.clashes.Goals.{In-Ok-add_clashes}
 -- the clashes of both slices are those of the extract
 found : (c : In-Ok-add_clashes) → AreAllClashes (extract_parts c.args.extract.now) c.in-Ok-add_clashes.all.items
 found c =
-    all-found (extract_parts c.args.extract.now) _ _ _ _ _ _ _ c.window_of-window.ensures.first c.window_of-window.ensures.last
+    all-found (extract_parts c.args.extract.now) _ _ _ _ _ _ _ c.of-window.ensures.first c.of-window.ensures.last
     c.as_slice.ensures.value c.as_slice-2.ensures.value c.new-none.ensures.items c.in-Ok.ensures c.in-Ok-add_clashes.ensures
 
 pub returns-in-Ok-add_clashes-clause-all : goal.returns-in-Ok-add_clashes-clause-all

@@ -6,10 +6,10 @@ use Rattle.std.proofs.lemmas.List.Elements.{All-drop, All-take}
 use Rattle.cif_calendar.specs.Keys.{keyed}
 use Rattle.cif_calendar.proofs.FirstClash.{same_key-cmp}
 use Rattle.cif_weeks.proofs.CalendarSources.{calendar_sources}
-use Rattle.cif_canon.specs.Steps.Turns.{AreAllByKey}
+use Rattle.cif_calendar.specs.ByKey.{AreAllByKey}
 use Rattle.cif_canon.proofs.ComparedCalendars.{alike-on, clear-positions, differ-on}
 use Rattle.cif_canon.proofs.ComparedKeys.{AreFronts, all-alike, alike-nothing, are-fronts}
-use Rattle.cif_canon.proofs.KeyPositions.{all-within}
+use Rattle.cif_calendar.proofs.KeyPositions.{all-within}
 use Rattle.cif_canon.proofs.comparison.first_difference.Given.{Over}
 use Rattle.cif_canon.proofs.comparison.first_difference.Goals as goal
 use Rattle.cif_canon.proofs.comparison.first_difference.Goals.{In-Some}

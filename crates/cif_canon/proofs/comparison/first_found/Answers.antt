@@ -8,31 +8,31 @@ use Rattle.cif_records.specs.declared.tiploc.Tiploc.{Tiploc}
 use Rattle.cif_weeks.specs.Window.{Window}
 use Rattle.cif_canon.proofs.DifferentTiplocs.{first-tiploc, no-tiploc}
 use Rattle.cif_canon.proofs.comparison.first_found.Goals as goal
-use Rattle.cif_canon.proofs.comparison.first_found.Goals.{After-window_of-window, In_default, In-Ok-None}
+use Rattle.cif_canon.proofs.comparison.first_found.Goals.{After-of-window, In_default, In-Ok-None}
 
 -- the window is that of the right extract too
-right_first : (c : After-window_of-window) → c.window_of-window.result.first ≡ c.args.right.now.header.first
-right_first c = c.window_of-window.ensures.first ∙ ap (λ (w : Window). w.first) c.requires.window
+right_first : (c : After-of-window) → c.of-window.result.first ≡ c.args.right.now.header.first
+right_first c = c.of-window.ensures.first ∙ ap (λ (w : Window). w.first) c.requires.window
 
-right_last : (c : After-window_of-window) → c.window_of-window.result.last ≡ c.args.right.now.header.last
-right_last c = c.window_of-window.ensures.last ∙ ap (λ (w : Window). w.last) c.requires.window
+right_last : (c : After-of-window) → c.of-window.result.last ≡ c.args.right.now.header.last
+right_last c = c.of-window.ensures.last ∙ ap (λ (w : Window). w.last) c.requires.window
 
 pub first_difference-requires-clause-left : goal.first_difference-requires-clause-left
 first_difference-requires-clause-left c =
-    rw (c.as_slice-4.ensures.value, c.window_of-window.ensures.first, c.window_of-window.ensures.last) c.requires.left.associations
+    rw (c.as_slice-4.ensures.value, c.of-window.ensures.first, c.of-window.ensures.last) c.requires.left.associations
 
 pub first_difference-requires-clause-right : goal.first_difference-requires-clause-right
 first_difference-requires-clause-right c =
-    let at = (goal.at.first_difference-requires-clause-right c).After-window_of-window in
+    let at = (goal.at.first_difference-requires-clause-right c).After-of-window in
     rw (c.as_slice-5.ensures.value, right_first at, right_last at) c.requires.right.associations
 
 pub first_difference-requires-2-clause-left : goal.first_difference-requires-2-clause-left
 first_difference-requires-2-clause-left c =
-    rw (c.as_slice-6.ensures.value, c.window_of-window.ensures.first, c.window_of-window.ensures.last) c.requires.left.schedules
+    rw (c.as_slice-6.ensures.value, c.of-window.ensures.first, c.of-window.ensures.last) c.requires.left.schedules
 
 pub first_difference-requires-2-clause-right : goal.first_difference-requires-2-clause-right
 first_difference-requires-2-clause-right c =
-    let at = (goal.at.first_difference-requires-2-clause-right c).After-window_of-window in
+    let at = (goal.at.first_difference-requires-2-clause-right c).After-of-window in
     rw (c.as_slice-7.ensures.value, right_first at, right_last at) c.requires.right.schedules
 
 pub returns-in-Some : goal.returns-in-Some
@@ -50,7 +50,7 @@ tiplocs c =
 
 pub returns-in-Ok-Some : goal.returns-in-Ok-Some
 returns-in-Ok-Some c =
-    let window = c.window_of-window.ensures in
+    let window = c.of-window.ensures in
     let found =
     rw (c.in-Ok-Some.field-0-is, c.as_slice-4.ensures.value, c.as_slice-5.ensures.value, window.first, window.last) at
     c.in-Ok-Some.ensures in
@@ -60,7 +60,7 @@ returns-in-Ok-Some c =
 associations : (c : In-Ok-None) → EntriesSayTheSame (association_entries c.args.left.now.associations.items)
     (association_entries c.args.right.now.associations.items) c.args.left.now.header.first c.args.left.now.header.last
 associations c =
-    let window = c.window_of-window.ensures in
+    let window = c.of-window.ensures in
     rw (c.in-Ok-None.field-0-is, c.as_slice-4.ensures.value, c.as_slice-5.ensures.value, window.first, window.last) at
     c.in-Ok-None.ensures
 
@@ -68,7 +68,7 @@ pub returns-in-Ok-Some-first_difference : goal.returns-in-Ok-Some-first_differen
 returns-in-Ok-Some-first_difference c =
     let at = goal.at.returns-in-Ok-Some-first_difference c in
     let is = c.in-Ok-Some-first_difference in
-    let window = c.window_of-window.ensures in
+    let window = c.of-window.ensures in
     let found = rw (is.field-0-is, c.as_slice-6.ensures.value, c.as_slice-7.ensures.value, window.first, window.last) at is.ensures in
     (tiplocs at.In_default, associations at.In-Ok-None, found)
 
@@ -76,6 +76,6 @@ pub returns-in-Ok-None-first_difference : goal.returns-in-Ok-None-first_differen
 returns-in-Ok-None-first_difference c =
     let at = goal.at.returns-in-Ok-None-first_difference c in
     let is = c.in-Ok-None-first_difference in
-    let window = c.window_of-window.ensures in
+    let window = c.of-window.ensures in
     let same = rw (is.field-0-is, c.as_slice-6.ensures.value, c.as_slice-7.ensures.value, window.first, window.last) at is.ensures in
     record { tiplocs = tiplocs at.In_default; associations = associations at.In-Ok-None; schedules = same }

@@ -11,14 +11,14 @@ use Rattle.cif_canon.specs.Differences.{AreDifferentTiplocs}
 use Rattle.cif_canon.specs.Steps.OnlySides.{AreDifferentRuns}
 use Rattle.cif_canon.proofs.ListedDifferences.{are-differences, kind-records, none-agree, turn-left}
 use Rattle.cif_canon.proofs.differing.differences.Goals as goal
-use Rattle.cif_canon.proofs.differing.differences.Goals.{After-window_of-window, In-Ok-different_records, In-Ok-different_records-2, In-Ok}
+use Rattle.cif_canon.proofs.differing.differences.Goals.{After-of-window, In-Ok-different_records, In-Ok-different_records-2, In-Ok}
 
 -- the window is that of the right extract too
-right_first : (c : After-window_of-window) → c.window_of-window.result.first ≡ c.args.right.now.header.first
-right_first c = c.window_of-window.ensures.first ∙ ap (λ (w : Window). w.first) c.in_ok-check_comparable.ensures.ok.window
+right_first : (c : After-of-window) → c.of-window.result.first ≡ c.args.right.now.header.first
+right_first c = c.of-window.ensures.first ∙ ap (λ (w : Window). w.first) c.in_ok-check_comparable.ensures.ok.window
 
-right_last : (c : After-window_of-window) → c.window_of-window.result.last ≡ c.args.right.now.header.last
-right_last c = c.window_of-window.ensures.last ∙ ap (λ (w : Window). w.last) c.in_ok-check_comparable.ensures.ok.window
+right_last : (c : After-of-window) → c.of-window.result.last ≡ c.args.right.now.header.last
+right_last c = c.of-window.ensures.last ∙ ap (λ (w : Window). w.last) c.in_ok-check_comparable.ensures.ok.window
 
 tiplocs : (c : In-Ok) →
     AreDifferentTiplocs c.args.left.now.tiplocs.items c.args.right.now.tiplocs.items c.in-Ok.tiplocs.items
@@ -28,34 +28,34 @@ associations : (c : In-Ok-different_records) → AreDifferentRuns key_cmp (heade
     (association_entries c.args.left.now.associations.items) (association_entries c.args.right.now.associations.items)
     c.in-Ok-different_records.associations.items
 associations c =
-    rw (c.as_slice-3.ensures.value, c.as_slice-4.ensures.value, c.window_of-window.ensures.first, c.window_of-window.ensures.last) at
+    rw (c.as_slice-3.ensures.value, c.as_slice-4.ensures.value, c.of-window.ensures.first, c.of-window.ensures.last) at
     c.in-Ok-different_records.ensures
 
 schedules : (c : In-Ok-different_records-2) → AreDifferentRuns (slice_cmp nat_cmp) (header_window c.args.left.now.header)
     (schedule_entries c.args.left.now.schedules.items) (schedule_entries c.args.right.now.schedules.items)
     c.in-Ok-different_records-2.schedules.items
 schedules c =
-    rw (c.as_slice-5.ensures.value, c.as_slice-6.ensures.value, c.window_of-window.ensures.first, c.window_of-window.ensures.last) at
+    rw (c.as_slice-5.ensures.value, c.as_slice-6.ensures.value, c.of-window.ensures.first, c.of-window.ensures.last) at
     c.in-Ok-different_records-2.ensures
 
 pub different_records-requires-clause-left : goal.different_records-requires-clause-left
 different_records-requires-clause-left c =
-    rw (c.as_slice-3.ensures.value, c.window_of-window.ensures.first, c.window_of-window.ensures.last)
+    rw (c.as_slice-3.ensures.value, c.of-window.ensures.first, c.of-window.ensures.last)
     c.in_ok-check_comparable.ensures.ok.left.associations
 
 pub different_records-requires-clause-right : goal.different_records-requires-clause-right
 different_records-requires-clause-right c =
-    let at = (goal.at.different_records-requires-clause-right c).After-window_of-window in
+    let at = (goal.at.different_records-requires-clause-right c).After-of-window in
     rw (c.as_slice-4.ensures.value, right_first at, right_last at) c.in_ok-check_comparable.ensures.ok.right.associations
 
 pub different_records-requires-2-clause-left : goal.different_records-requires-2-clause-left
 different_records-requires-2-clause-left c =
-    rw (c.as_slice-5.ensures.value, c.window_of-window.ensures.first, c.window_of-window.ensures.last)
+    rw (c.as_slice-5.ensures.value, c.of-window.ensures.first, c.of-window.ensures.last)
     c.in_ok-check_comparable.ensures.ok.left.schedules
 
 pub different_records-requires-2-clause-right : goal.different_records-requires-2-clause-right
 different_records-requires-2-clause-right c =
-    let at = (goal.at.different_records-requires-2-clause-right c).After-window_of-window in
+    let at = (goal.at.different_records-requires-2-clause-right c).After-of-window in
     rw (c.as_slice-6.ensures.value, right_first at, right_last at) c.in_ok-check_comparable.ensures.ok.right.schedules
 
 pub of-requires-clause-associations : goal.of-requires-clause-associations

@@ -9,13 +9,13 @@ use Rattle.cif_calendar.proofs.FirstClash.{same_key-cmp}
 use Rattle.cif_weeks.specs.declared.run.Run.{Run}
 use Rattle.cif_weeks.specs.Window.{window_from}
 use Rattle.cif_weeks.proofs.CalendarSources.{calendar_sources}
-use Rattle.cif_canon.specs.Steps.Turns.{AreAllByKey}
+use Rattle.cif_calendar.specs.ByKey.{AreAllByKey}
 use Rattle.cif_canon.specs.declared.listed_differences.Sided.{Sided}
 use Rattle.cif_canon.proofs.ComparedCalendars.{clear-positions}
 use Rattle.cif_canon.proofs.ComparedKeys.{AreTurns, turns}
 use Rattle.cif_canon.proofs.FoundRecords.{AreFound, AreTold, found-all, found-first, found-key}
 use Rattle.cif_canon.proofs.KeyDifferences.{key-only, key-told}
-use Rattle.cif_canon.proofs.KeyPositions.{all-within}
+use Rattle.cif_calendar.proofs.KeyPositions.{all-within}
 use Rattle.cif_canon.proofs.differing.different_records.Given.{Over}
 use Rattle.cif_canon.proofs.differing.different_records.Goals as goal
 use Rattle.cif_canon.proofs.differing.different_records.Goals.{In-Some}

@@ -8,7 +8,7 @@ use Rattle.cif_calendar.proofs.FirstClash.{same_key-cmp}
 use Rattle.cif_columns.specs.Stp.{letter}
 use Rattle.cif_canon.specs.Steps.Explanation.{IsLike, placed_of}
 use Rattle.cif_canon.proofs.Explaining.{mark-clash, mark-wins, member-behind, member-map, one-member}
-use Rattle.cif_canon.proofs.KeyPositions.{true_from_not}
+use Rattle.cif_calendar.proofs.KeyPositions.{true_from_not}
 use Rattle.cif_canon.proofs.explained.mark_of_first.Goals as goal
 use Rattle.cif_canon.proofs.explained.mark_of_first.Goals.{else-write-via-then-write+else-not-same_body, else-write-via-else-write}
 

@@ -18,7 +18,7 @@ associations : (c : In_ok-associations) → AreCanonicalRecords key_cmp c.args.f
     (association_entries c.args.extract.now.associations.items) c.in_ok-associations.associations.items
 associations c =
     of_slice (λ window xs. AreCanonicalRecords key_cmp c.args.form window (association_entries xs) c.in_ok-associations.associations.items)
-    c.args.extract.now.header _ _ _ _ c.window_of-window.ensures.first c.window_of-window.ensures.last c.as_slice.ensures.value
+    c.args.extract.now.header _ _ _ _ c.of-window.ensures.first c.of-window.ensures.last c.as_slice.ensures.value
     c.in_ok-associations.ensures.records
 
 pub returns-in_err-associations-clause-fault : goal.returns-in_err-associations-clause-fault
@@ -28,7 +28,7 @@ returns-in_err-associations-clause-fault c =
     hands c.from_residual.result _ c.from_residual.ensures.1 (IsCanonFault x)
     (associations-fault x fault
     (of_slice (λ window xs. IsRecordsFault key_cmp Association (association_entries xs) window fault) x.header _ _ _ _
-    c.window_of-window.ensures.first c.window_of-window.ensures.last c.as_slice.ensures.value c.in_err-associations.ensures.fault))
+    c.of-window.ensures.first c.of-window.ensures.last c.as_slice.ensures.value c.in_err-associations.ensures.fault))
 
 pub returns-in_err-schedules-clause-fault : goal.returns-in_err-schedules-clause-fault
 returns-in_err-schedules-clause-fault c =
@@ -38,7 +38,7 @@ returns-in_err-schedules-clause-fault c =
     hands c.from_residual-in_err-schedules.result _ c.from_residual-in_err-schedules.ensures.1 (IsCanonFault x)
     (schedules-fault x clear fault
     (of_slice (λ window xs. IsRecordsFault (slice_cmp nat_cmp) Train (schedule_entries xs) window fault) x.header _ _ _ _
-    c.window_of-window.ensures.first c.window_of-window.ensures.last c.as_slice-2.ensures.value c.in_err-schedules.ensures.fault))
+    c.of-window.ensures.first c.of-window.ensures.last c.as_slice-2.ensures.value c.in_err-schedules.ensures.fault))
 
 pub returns-clause-associations : goal.returns-clause-associations
 returns-clause-associations c = associations (goal.at.returns-clause-associations c).In_ok-associations
@@ -46,5 +46,5 @@ returns-clause-associations c = associations (goal.at.returns-clause-association
 pub returns-clause-schedules : goal.returns-clause-schedules
 returns-clause-schedules c =
     of_slice (λ window xs. AreCanonicalRecords (slice_cmp nat_cmp) c.args.form window (schedule_entries xs)
-    c.in_ok-schedules.schedules.items) c.args.extract.now.header _ _ _ _ c.window_of-window.ensures.first c.window_of-window.ensures.last
+    c.in_ok-schedules.schedules.items) c.args.extract.now.header _ _ _ _ c.of-window.ensures.first c.of-window.ensures.last
     c.as_slice-2.ensures.value c.in_ok-schedules.ensures.records

@@ -1,5 +1,6 @@
 -- A byte more is as small as the others (`small`).
-use Rattle.std.proofs.Common.{◌<◌, All, arith, subst, sym}
+use Rattle.std.proofs.Common.{◌<◌, All, subst, sym}
+use Rattle.std.proofs.lemmas.Nat.{or_lt}
 use Rattle.std.proofs.lemmas.List.Elements.{All-get_or}
 use Rattle.cif_columns.proofs.KeptLines.{keep_view, small}
 use Rattle.cif_columns.proofs.lines.LineSlice.prefetch.Goals as goal
@@ -10,5 +11,4 @@ loop-at-preserved c =
     let k = keep_view kept c.args.self.now c.self.invariant c.self.view_is in
     let byte = All-get_or (λ b. b < 128) kept c.loop-at.at 0 c.loop-at-test.true
     (subst (All (λ b. b < 128)) (sym k.is) (small c.args.self.now k.are_lines)) in
-    let so_far = c.loop-at.invariant in
-    omega (arith, byte, so_far, c.max-most.ensures)
+    or_lt 7 c.loop-at.bits _ c.loop-at.invariant byte

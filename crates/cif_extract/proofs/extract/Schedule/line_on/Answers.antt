@@ -1,5 +1,5 @@
 -- The detail's own line has its columns where the BS has them (`detail_columns`), and a blank line has none there.
-use Rattle.std.proofs.Common.{None, Some, ap, refl, sym, ◌∙◌}
+use Rattle.std.proofs.Common.{ap, sym, ◌∙◌}
 use Rattle.std.specs.Option.{option_map}
 use Rattle.cif_columns.specs.Field.{columns, plain_line}
 use Rattle.cif_extract.specs.BodyParts.{BodyParts}

@@ -1,0 +1,52 @@
+-- Of each list those that have the entry's key are counted and split off.
+use Rattle.std.proofs.Common.{sym, subst}
+use Rattle.cif_calendar.specs.Keys.{keyed}
+use Rattle.cif_calendar.specs.ByKey.{AreFrom, IsFront}
+use Rattle.cif_calendar.proofs.by_key.first_key.Goals as goal
+
+pub count_of_key-left_count-requires-clause-from : goal.count_of_key-left_count-requires-clause-from
+count_of_key-left_count-requires-clause-from g c =
+    subst (AreFrom g.E.Key.Ord.cmp (keyed g.E.Entry.key g.E.Entry.terms c.args.left.now) c.args.left_positions.now) (sym c.key.ensures)
+    c.in-Some.ensures.left_from
+
+pub count_of_key-right_count-requires-clause-from : goal.count_of_key-right_count-requires-clause-from
+count_of_key-right_count-requires-clause-from g c =
+    subst (AreFrom g.E.Key.Ord.cmp (keyed g.E.Entry.key g.E.Entry.terms c.args.right.now) c.args.right_positions.now) (sym c.key-2.ensures)
+    c.in-Some.ensures.right_from
+
+pub split_at-requires : goal.split_at-requires
+split_at-requires g c = c.count_of_key-left_count.ensures.upto
+
+pub split_at-requires-2 : goal.split_at-requires-2
+split_at-requires-2 g c = c.count_of_key-right_count.ensures.upto
+
+pub returns : goal.returns
+returns g c = record {
+  first = c.in-Some.ensures;
+  left_split = record {
+    count = c.count_of_key-left_count.result;
+    is_front = subst (λ k. IsFront g.E.Key.Ord.cmp (keyed g.E.Entry.key g.E.Entry.terms c.args.left.now) c.args.left_positions.now k
+        c.count_of_key-left_count.result) c.key.ensures c.count_of_key-left_count.ensures;
+    front_is = c.split_at.ensures.front;
+    later_is = c.split_at.ensures.back;
+  };
+  right_split = record {
+    count = c.count_of_key-right_count.result;
+    is_front = subst (λ k. IsFront g.E.Key.Ord.cmp (keyed g.E.Entry.key g.E.Entry.terms c.args.right.now) c.args.right_positions.now k
+        c.count_of_key-right_count.result) c.key-2.ensures c.count_of_key-right_count.ensures;
+    front_is = c.split_at-2.ensures.front;
+    later_is = c.split_at-2.ensures.back;
+  };
+}
+
+pub first_entry-requires-clause-left : goal.first_entry-requires-clause-left
+first_entry-requires-clause-left g c = c.requires.left
+
+pub first_entry-requires-clause-right : goal.first_entry-requires-clause-right
+first_entry-requires-clause-right g c = c.requires.right
+
+pub first_entry-requires-clause-left_rising : goal.first_entry-requires-clause-left_rising
+first_entry-requires-clause-left_rising g c = c.requires.left_rising
+
+pub first_entry-requires-clause-right_rising : goal.first_entry-requires-clause-right_rising
+first_entry-requires-clause-right_rising g c = c.requires.right_rising

@@ -1,0 +1,28 @@
+-- The keys with a clash in a window, each with its first day.
+use Rattle.std.specs.Prelude.{◌≡◌, ℕ, List, Option, Some, AllPairs, Contains, map, slice_get}
+use Rattle.std.specs.Option.{option_map}
+use Rattle.std.specs.declared.cmp.Ordering.{Ordering}
+use Rattle.std.specs.declared.cmp.Ordering.TheVariants.{Less}
+use Rattle.cif_calendar.specs.Clash.{IsClearFrom, IsFirstClash}
+use Rattle.cif_calendar.specs.Keys.{of_key}
+use Rattle.cif_calendar.specs.Terms.{Terms}
+use Rattle.cif_calendar.specs.declared.key_clashes.KeyClash.{KeyClash}
+
+-- The clashes from `first` to `last`: the keys of which some day has one, rising, each once and with its first such day. A key that isn't
+-- among them is clear on all these days. `cmp` is the order of the keys.
+pub record AreClashes {K B : Type 0} (cmp : K → K → Ordering) (entries : List (K × Terms B)) (first last : ℕ) (found : List (K × ℕ))
+    : Type 0 where
+  pub rising : AllPairs (λ (x : K × ℕ) (y : K × ℕ). cmp x.0 y.0 ≡ Less) found
+  pub clashes : (k : K) (d : ℕ) → Contains found (k, d) → IsFirstClash (of_key entries k) first last d
+  pub others : (k : K) → ((d : ℕ) → ¬ Contains found (k, d)) → IsClearFrom (of_key entries k) first last
+
+-- what is told of a clash: the key of the entry at its position, and its day
+abbrev pub told : {K B : Type 0} → List (K × Terms B) → KeyClash → Option (K × ℕ)
+told entries clash = option_map (λ e. (e.0, clash.day)) (slice_get entries clash.position)
+
+-- what is told of these are the clashes, one by one
+pub record TellClashes {K B : Type 0} (cmp : K → K → Ordering) (entries : List (K × Terms B)) (first last : ℕ) (found : List KeyClash)
+    : Type 0 where
+  pub clashes : List (K × ℕ)
+  pub are : AreClashes cmp entries first last clashes
+  pub tell : map (told entries) found ≡ map Some clashes

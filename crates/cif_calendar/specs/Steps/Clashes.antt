@@ -1,0 +1,27 @@
+-- The clashes of keys, as they are found one after another. No public clause cites it.
+use Rattle.std.specs.Prelude.{◌≡◌, ◌⊎◌, ℕ, List, Some, [], ◌∷◌, ◌++◌}
+use Rattle.cif_calendar.specs.Clash.{IsClearFrom, IsFirstClash}
+use Rattle.cif_calendar.specs.Clashes.{told}
+use Rattle.cif_calendar.specs.Keys.{of_key}
+use Rattle.cif_calendar.specs.Terms.{Terms}
+use Rattle.cif_calendar.specs.declared.key_calendar.CalendarFault.{CalendarFault}
+use Rattle.cif_calendar.specs.declared.key_calendar.CalendarFault.TheVariants.{Ambiguous, Memory}
+use Rattle.cif_calendar.specs.declared.key_clashes.KeyClash.{KeyClash}
+
+-- key k has its first clash on a day, and this is told behind what was found
+pub record IsClashAdded {K B : Type 0} (entries : List (K × Terms B)) (first last : ℕ) (k : K) (found more : List KeyClash) : Type 0 where
+  pub day : ℕ
+  pub clash : IsFirstClash (of_key entries k) first last day
+  pub one : KeyClash
+  pub tells : told entries one ≡ Some (k, day)
+  pub added : more ≡ found ++ (one ∷ [])
+
+-- key k is clear, and nothing was added; or else its first clash
+abbrev pub IsAddedOfKey : {K B : Type 0} → List (K × Terms B) → ℕ → ℕ → K → List KeyClash → List KeyClash → Type 0
+IsAddedOfKey entries first last k found more =
+    (IsClearFrom (of_key entries k) first last × (more ≡ found)) ⊎ IsClashAdded entries first last k found more
+
+-- the clash that a fault of a calendar tells, with this position, came behind what was found
+abbrev pub IsFaultAdded : ℕ → CalendarFault → List KeyClash → List KeyClash → Type 0
+IsFaultAdded position (Ambiguous day) found more = more ≡ found ++ (record { position = position; day = day } ∷ [])
+IsFaultAdded position Memory found more = ⊥

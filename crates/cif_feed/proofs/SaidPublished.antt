@@ -1,0 +1,101 @@
+-- A published extract is what its lines say, and there is one at most.
+use Rattle.std.proofs.Common.{◌≡◌, ℕ, Bool, List, [], ◌∷◌, Option, Some, None, Result, Ok, Err, IfOk, IfSome, IsTrue, refl, sym, ap, ◌∙◌}
+use Rattle.std.proofs.Common.{subst}
+use Rattle.std.proofs.Props.{props}
+use mathlib.Core.HLevel.{Σ_prop_path}
+use Rattle.cif_extract.specs.declared.extract.Schedule.{Schedule}
+use Rattle.cif_records.specs.declared.association.Association.{Association}
+use Rattle.cif_records.specs.declared.header.Header.{Header}
+use Rattle.cif_records.specs.declared.tiploc.Tiploc.{Tiploc}
+use Rattle.cif_feed.specs.FeedFault.{IsReadAs}
+use Rattle.cif_feed.specs.FromLines.{AreTriples}
+use Rattle.cif_feed.specs.LastDay.{last_day}
+use Rattle.cif_feed.specs.PublishedParts.{BytesSpellPublished, IsPublishedAssociation, IsPublishedSchedule, PublishedParts, SayPublished}
+use Rattle.cif_feed.specs.PublishedParts.{published_parts}
+use Rattle.cif_feed.specs.SpellsFeed.{BytesSpellFeed, FeedParts, feed_parts}
+use Rattle.cif_feed.specs.declared.feed.Feed.TheVariants.{Full}
+use Rattle.cif_feed.specs.declared.feed.FeedFault.{FeedFault}
+use Rattle.cif_feed.specs.declared.feed_reading.FeedExtract.{FeedExtract}
+use Rattle.cif_feed.specs.declared.holiday_code.HolidayCode.{HolidayCode}
+use Rattle.cif_feed.specs.declared.holiday_code.HolidayCodes.{HolidayCodes}
+use Rattle.cif_feed.specs.declared.published.PublishedAssociation.{PublishedAssociation}
+use Rattle.cif_feed.specs.declared.published.PublishedSchedule.{PublishedSchedule}
+use Rattle.cif_feed.specs.declared.published_extract.PublishedExtract.{PublishedExtract}
+
+-- ---- one at most
+
+same_association : (p q : PublishedAssociation) → p.association ≡ q.association → p.open_end ≡ q.open_end → p ≡ q
+same_association p q a e =
+    let same : ◌≡◌ {A = (v : Association × Bool) × (IsTrue v.1 → v.0.last ≡ last_day)} ((p.association, p.open_end), p.closed)
+    ((q.association, q.open_end), q.closed) = Σ_prop_path (λ v. hlevel props) (cc) in
+    ap (λ (v : (w : Association × Bool) × (IsTrue w.1 → w.0.last ≡ last_day)). let r : PublishedAssociation = record {
+      association = v.0.0;
+      open_end = v.0.1;
+      closed = v.1;
+    } in r) same
+
+same_schedule : (p q : PublishedSchedule) → p.schedule ≡ q.schedule → p.open_end ≡ q.open_end → p.code ≡ q.code → p ≡ q
+same_schedule p q s e c =
+    let same : ◌≡◌ {A = (v : Schedule × Bool × Option HolidayCode) × (IsTrue v.1 → v.0.last ≡ last_day)}
+    ((p.schedule, p.open_end, p.code), p.closed) ((q.schedule, q.open_end, q.code), q.closed) = Σ_prop_path (λ v. hlevel props) (cc) in
+    ap (λ (v : (w : Schedule × Bool × Option HolidayCode) × (IsTrue w.1 → w.0.last ≡ last_day)). let r : PublishedSchedule = record {
+      schedule = v.0.0;
+      open_end = v.0.1;
+      code = v.0.2;
+      closed = v.1;
+    } in r) same
+
+-- what is made of the same elements is the same
+module _ {A B C : Type 0} (P : A → B → C → Type 0) (one : (x : A) (y : B) (z w : C) → P x y z → P x y w → z ≡ w) where
+  same_triples : (xs : List A) (ys : List B) (zs ws : List C) → AreTriples P xs ys zs → AreTriples P xs ys ws → zs ≡ ws
+  same_triples [] [] [] [] p q = refl
+  same_triples [] [] [] (w ∷ ws) p q = absurd q
+  same_triples [] [] (z ∷ zs) ws p q = absurd p
+  same_triples [] (y ∷ ys) zs ws p q = absurd p
+  same_triples (x ∷ xs) [] zs ws p q = absurd p
+  same_triples (x ∷ xs) (y ∷ ys) [] ws p q = absurd p
+  same_triples (x ∷ xs) (y ∷ ys) (z ∷ zs) [] p q = absurd q
+  same_triples (x ∷ xs) (y ∷ ys) (z ∷ zs) (w ∷ ws) p q =
+      ap (λ v. v ∷ zs) (one x y z w p.0 q.0) ∙ ap (λ vs. w ∷ vs) (same_triples xs ys zs ws p.1 q.1)
+
+one_said : (lines : FeedParts) (p q : PublishedParts) → SayPublished lines p → SayPublished lines q → p ≡ q
+one_said lines p q s t =
+    ap (λ (v : Header). record p { header = v }) (s.header ∙ sym t.header)
+    ∙ ap (λ (v : List Tiploc). record p { header = q.header; tiplocs = v }) (s.tiplocs ∙ sym t.tiplocs)
+    ∙ ap (λ (v : List PublishedAssociation). record q { associations = v; schedules = p.schedules })
+    (same_triples IsPublishedAssociation
+    (λ x y z w a b. same_association z w (a.of_profile ∙ sym b.of_profile) (a.open_end ∙ sym b.open_end)) _ _ p.associations q.associations
+    s.associations t.associations)
+    ∙ ap (λ (v : List PublishedSchedule). record q { schedules = v })
+    (same_triples IsPublishedSchedule
+    (λ x y z w a b. same_schedule z w (a.of_profile ∙ sym b.of_profile) (a.open_end ∙ sym b.open_end) (a.code ∙ sym b.code)) _ _
+    p.schedules q.schedules s.schedules t.schedules)
+
+-- ---- what is read
+
+module _ (allowed : HolidayCodes) (max : ℕ) where
+  pub said_ok : (start : Option (List ℕ)) (lines : FeedExtract) (result : Result PublishedExtract FeedFault)
+      → IfSome start (λ bytes. BytesSpellFeed Full allowed max bytes (feed_parts lines))
+      → IfOk result (λ x. SayPublished (feed_parts lines) (published_parts x))
+      → IfSome start (λ bytes. IfOk result (λ x. BytesSpellPublished allowed max bytes (published_parts x)))
+  said_ok None lines result spelled says = tt
+  said_ok (Some bytes) lines (Err f) spelled says = tt
+  said_ok (Some bytes) lines (Ok x) spelled says = record {
+    spell = record { lines = feed_parts lines; spelled = spelled.spell; says = says };
+    within = spelled.within;
+  }
+
+  pub said_only : (start : Option (List ℕ)) (lines : FeedExtract) (x : PublishedExtract)
+      → IfSome start (λ bytes. (y : FeedParts) → BytesSpellFeed Full allowed max bytes y → feed_parts lines ≡ y)
+      → SayPublished (feed_parts lines) (published_parts x)
+      → IfSome start (λ bytes. (y : PublishedParts) → BytesSpellPublished allowed max bytes y → published_parts x ≡ y)
+  said_only None lines x only says = tt
+  said_only (Some bytes) lines x only says = λ y s.
+      let same = only s.spell.lines (record { spell = s.spell.spelled; within = s.within }) in
+      one_said (feed_parts lines) (published_parts x) y says (subst (λ l. SayPublished l y) (sym same) s.spell.says)
+
+  pub fault_only : (start : Option (List ℕ)) (f : FeedFault)
+      → IfSome start (λ bytes. (y : FeedParts) → BytesSpellFeed Full allowed max bytes y → IsReadAs feed_parts y (Err f))
+      → IfSome start (λ bytes. (y : PublishedParts) → BytesSpellPublished allowed max bytes y → IsReadAs published_parts y (Err f))
+  fault_only None f only = tt
+  fault_only (Some bytes) f only = λ y s. only s.spell.lines (record { spell = s.spell.spelled; within = s.within })

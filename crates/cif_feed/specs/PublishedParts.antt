@@ -1,0 +1,125 @@
+-- What a published extract holds, when bytes spell it, and its text.
+use Rattle.std.specs.Prelude.{◌≡◌, ℕ, ◌≤◌, List, [], ◌∷◌, ◌++◌, map, length, codes, Bool, if◌then◌else◌, Option, Some, None}
+use Rattle.std.specs.List.{flat_map}
+use Rattle.cif_columns.specs.Contents.{contents_of, lines_text}
+use Rattle.cif_columns.specs.Field.{plain_line}
+use Rattle.cif_extract.specs.Texts.{body_tables, rows_on}
+use Rattle.cif_calendar.specs.Entries.{association_terms, schedule_terms}
+use Rattle.cif_calendar.specs.Terms.{Terms}
+use Rattle.cif_extract.specs.BodyParts.{BodyParts}
+use Rattle.cif_extract.specs.declared.extract.Schedule.{Schedule}
+use Rattle.cif_records.specs.Association.{association_table}
+use Rattle.cif_records.specs.Header.{header_table}
+use Rattle.cif_records.specs.Tiploc.{tiploc_table}
+use Rattle.cif_records.specs.Trailer.{trailer_table}
+use Rattle.cif_records.specs.declared.association.AssocBody.{AssocBody}
+use Rattle.cif_records.specs.declared.association.AssocKey.{AssocKey}
+use Rattle.cif_records.specs.declared.association.Association.{Association}
+use Rattle.cif_records.specs.declared.header.Header.{Header}
+use Rattle.cif_records.specs.declared.tiploc.Tiploc.{Tiploc}
+use Rattle.cif_feed.specs.FromLines.{AreTriples}
+use Rattle.cif_feed.specs.HolidayCode.{letter}
+use Rattle.cif_feed.specs.ProfileLine.{with_columns}
+use Rattle.cif_feed.specs.Published.{PublishedTerms}
+use Rattle.cif_feed.specs.SpellsFeed.{FeedParts, SpellFeed}
+use Rattle.cif_feed.specs.declared.feed.Feed.TheVariants.{Full}
+use Rattle.cif_feed.specs.declared.holiday_code.HolidayCode.{HolidayCode}
+use Rattle.cif_feed.specs.declared.holiday_code.HolidayCodes.{HolidayCodes}
+use Rattle.cif_feed.specs.declared.mark.Numbered.{Numbered}
+use Rattle.cif_feed.specs.declared.mark.RecordMark.{RecordMark}
+use Rattle.cif_feed.specs.declared.published.PublishedAssociation.{PublishedAssociation}
+use Rattle.cif_feed.specs.declared.published.PublishedSchedule.{PublishedSchedule}
+use Rattle.cif_feed.specs.declared.published_extract.PublishedExtract.{PublishedExtract}
+
+-- the header, and the other records in their order and with repeats
+pub record PublishedParts : Type 0 where
+  pub header : Header
+  pub tiplocs : List Tiploc
+  pub associations : List PublishedAssociation
+  pub schedules : List PublishedSchedule
+
+-- the parts of a published extract, whose vectors have capacities too
+abbrev pub published_parts : PublishedExtract → PublishedParts
+published_parts x = record {
+  header = x.header;
+  tiplocs = x.tiplocs.items;
+  associations = x.associations.items;
+  schedules = x.schedules.items;
+}
+
+-- ---- what contents spell
+
+-- The published association is this one, with what its line says of its end; and so is the schedule, with its code.
+pub record IsPublishedAssociation (r : Association) (m : Numbered RecordMark) (a : PublishedAssociation) : Type 0 where
+  pub of_profile : a.association ≡ r
+  pub open_end : a.open_end ≡ m.mark.open_end
+
+pub record IsPublishedSchedule (r : Schedule) (m : Numbered RecordMark) (s : PublishedSchedule) : Type 0 where
+  pub of_profile : s.schedule ≡ r
+  pub open_end : s.open_end ≡ m.mark.open_end
+  pub code : s.code ≡ m.mark.code
+
+-- The lines say a published extract of these parts.
+pub record SayPublished (lines : FeedParts) (p : PublishedParts) : Type 0 where
+  pub header : p.header ≡ lines.extract.header
+  pub tiplocs : p.tiplocs ≡ lines.extract.tiplocs
+  pub associations : AreTriples IsPublishedAssociation lines.extract.associations lines.association_marks p.associations
+  pub schedules : AreTriples IsPublishedSchedule lines.extract.schedules lines.schedule_marks p.schedules
+
+-- The contents spell a published extract of these parts.
+pub record SpellPublished (allowed : HolidayCodes) (contents : List (List ℕ)) (p : PublishedParts) : Type 0 where
+  pub lines : FeedParts
+  pub spelled : SpellFeed Full allowed contents lines
+  pub says : SayPublished lines p
+
+-- the bytes spell it, in at most max contents
+pub record BytesSpellPublished (allowed : HolidayCodes) (max : ℕ) (bytes : List ℕ) (p : PublishedParts) : Type 0 where
+  pub spell : SpellPublished allowed (contents_of bytes) p
+  pub within : length (contents_of bytes) ≤ max
+
+-- ---- what the rules read of its records
+
+abbrev pub published_association_terms : PublishedAssociation → PublishedTerms AssocBody
+published_association_terms a = record { terms = association_terms a.association; open_end = a.open_end; code = None }
+
+abbrev pub published_schedule_terms : PublishedSchedule → PublishedTerms BodyParts
+published_schedule_terms s = record { terms = schedule_terms s.schedule; open_end = s.open_end; code = s.code }
+
+-- the associations by their keys, and the schedules by their UIDs
+abbrev pub published_associations : List PublishedAssociation → List (AssocKey × PublishedTerms AssocBody)
+published_associations associations = map (λ (a : PublishedAssociation). (a.association.key, published_association_terms a)) associations
+
+abbrev pub published_schedules : List PublishedSchedule → List (List ℕ × PublishedTerms BodyParts)
+published_schedules schedules = map (λ (s : PublishedSchedule). (s.schedule.uid, published_schedule_terms s)) schedules
+
+-- ---- its text
+
+-- the line, with an open end in the six columns from the one of this number on
+abbrev pub with_open_end : Bool → ℕ → List ℕ → List ℕ
+with_open_end open_end first line = if open_end then with_columns first (codes "999999") line else line
+
+-- the line, with a holiday code in column 29
+abbrev pub with_code : Option HolidayCode → List ℕ → List ℕ
+with_code None line = line
+with_code (Some code) line = with_columns 29 (letter code ∷ []) line
+
+-- the lines of an association, and of a schedule: plain but for an open end and a code
+abbrev pub published_association_line : PublishedAssociation → List ℕ
+published_association_line a = with_open_end a.open_end 22 (plain_line (association_table a.association))
+
+abbrev pub published_basic_line : PublishedSchedule → List ℕ
+published_basic_line s =
+    with_code s.code (with_open_end s.open_end 16 (plain_line (rows_on s.schedule.first s.schedule.last s.schedule)))
+
+abbrev pub published_schedule_lines : PublishedSchedule → List (List ℕ)
+published_schedule_lines s = published_basic_line s ∷ map plain_line (body_tables s.schedule.body)
+
+-- the lines of a published extract
+abbrev pub published_lines : PublishedParts → List (List ℕ)
+published_lines p = plain_line (header_table p.header) ∷ (map (λ (t : Tiploc). plain_line (tiploc_table t)) p.tiplocs
+    ++ (map published_association_line p.associations
+    ++ (flat_map published_schedule_lines p.schedules ++ (plain_line trailer_table ∷ []))))
+
+-- its text: its lines, each with a line feed, and nothing else
+abbrev pub published_text : PublishedParts → List ℕ
+published_text p = lines_text (published_lines p)
