@@ -11,6 +11,8 @@ pub mod LastDay
 pub mod PublishedParts
 pub mod Parts
 pub mod Prepared
+pub mod PreparedParts
+pub mod PreparedRecord
 pub mod Published
 pub mod RecordKeys
 pub mod SpellsFeed

@@ -4,3 +4,5 @@ pub mod FeedReading
 pub mod HolidayReading
 pub mod Marked
 pub mod PartsSoFar
+pub mod PreparedSoFar
+pub mod PreparedTexts
