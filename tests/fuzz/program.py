@@ -1,7 +1,7 @@
 """Runs the program on a job, in a folder of its own with the inputs of the job."""
 import subprocess
 
-from reference.answers import Answer
+from reference.answers import Answer, names_of
 
 SECONDS = 60
 NO_END = Answer(b"", b"", f"none after {SECONDS} seconds")
@@ -14,20 +14,24 @@ def words_of(job):
         words += [] if word is None else [option, word]
     words += ["--common"] if job.common else []
     words += ["--stops"] if job.stops else []
+    words += ["--all"] if job.all else []
+    words += [] if job.holidays is None else ["--holidays", job.holidays]
+    words += ["--drop-clashes"] if job.drop_clashes else []
+    words += ["--lenient"] if job.lenient else []
     return words + [word for word in (job.uid, job.day) if word is not None] + list(job.files)
 
 
 def written(folder, job, inputs):
     """Writes the inputs into a new folder; one that is None isn't there."""
     folder.mkdir()
-    for name, data in zip(job.files or ("stdin",), inputs):
+    for name, data in zip(names_of(job), inputs):
         if data is not None:
-            (folder / name).write_bytes(data)
+            (folder / ("stdin" if name == "-" else name)).write_bytes(data)
 
 
 def answer_of(cif, folder, job):
     """What the program prints and ends with in that folder."""
-    piped = b"" if job.files else (folder / "stdin").read_bytes()
+    piped = (folder / "stdin").read_bytes() if "-" in names_of(job) else b""
     try:
         done = subprocess.run([cif, *words_of(job)], cwd=folder, input=piped, capture_output=True, timeout=SECONDS, check=False)
     except subprocess.TimeoutExpired:

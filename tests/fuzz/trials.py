@@ -10,9 +10,10 @@ from itertools import chain
 from generator.cases import OFTEN, some_bytes, some_case
 from generator.damage import damaged, damaged_in_turn
 from generator.derived import changed_once, said_otherwise
+from generator.feeds import SMALL as SMALL_FEEDS
 from generator.spelling import PLAIN, spelled, with_one_moved
 from generator.timetables import each_sort
-from reference.answers import SOME, Answer, Job, answer, date_of
+from reference.answers import OF_FEEDS, SOME, Answer, Job, answer, date_of
 from reference.dates import yymmdd
 from reference.extracts import common_of, read_extract
 from reference.faults import REFUSED
@@ -180,10 +181,34 @@ def of_view(job, inputs, want):
     yield Trial("the same of the canonical extract", job._replace(files=()), [output], want)
 
 
-def of_damage(rng, data):
-    """What check says of an input after each of some damages."""
+def of_prepared(job, inputs, want):
+    """What is prepared is an extract of the profile, of which prepare writes the same again."""
+    again = job._replace(files=(), holidays=None)
+    yield Trial("the output again", again, [want.stdout], want._replace(stderr=b""))
+
+
+def of_update(job, inputs, want):
+    """Several updates do what the one after the other do."""
+    if len(inputs) == 2:
+        return
+    full, *updates = inputs
+    for number, update in enumerate(updates):
+        one = job._replace(files=("full.cif", "update.cif"))
+        done = answer(one, [full, update])
+        yield Trial(f"update {number + 1} by itself", one, [full, update], done)
+        full = done.stdout
+    if full != want.stdout:
+        raise Inconsistent("several updates don't do what the one after the other do")
+
+
+def of_damage(rng, case, options):
+    """A case of prepare or update after each of some damages to an input; of any other, what check says of its first one."""
     for _ in range(DAMAGED):
-        inputs, job = [damaged(rng, data)], Job("check")
+        job, inputs = Job("check", all=options and rng.random() < 0.5), case.inputs[:1]
+        if case.job.command in OF_FEEDS:
+            job, inputs = case.job, list(case.inputs)
+        at = rng.randrange(len(inputs))
+        inputs[at] = damaged(rng, inputs[at])
         yield Trial("damaged", job, inputs, answer(job, inputs))
 
 
@@ -194,6 +219,15 @@ def of_small_extracts(rng, turn):
         yield Trial("small and damaged", job, [data], answer(job, [data]))
     data, job = spelled(rng, [with_one_moved(rng, line) for line in lines], PLAIN), Job("normalise")
     yield Trial("small, with moved texts", job, [data], answer(job, [data]))
+
+
+def of_small_feeds(rng, turn, command):
+    """The same of small inputs of prepare and update."""
+    make, damaged_one = SMALL_FEEDS[command]
+    job, inputs = make(rng)
+    for data in damaged_in_turn(inputs[damaged_one], range(turn * SMALL, (turn + 1) * SMALL)):
+        inputs = [*inputs[:damaged_one], data, *inputs[damaged_one + 1 :]]
+        yield Trial("small and damaged", job, inputs, answer(job, inputs))
 
 
 def of_faults(rng, commands, options):
@@ -222,6 +256,8 @@ FURTHER = {
     "train": of_view,
     "explain": of_explanation,
     "clashes": of_clashes,
+    "prepare": of_prepared,
+    "update": of_update,
 }
 
 
@@ -229,8 +265,10 @@ def trials_of(rng, turn, case, commands, options):
     """All trials of a case that are of these commands; turn counts the cases."""
     want = answer(case.job, case.inputs)
     further = [[Trial("", case.job, case.inputs, want)], of_small_extracts(rng, turn), of_faults(rng, commands, options)]
-    if case.timetable:
-        further.append(of_damage(rng, case.inputs[0]))
+    if case.job.command in OF_FEEDS:
+        further.append(of_small_feeds(rng, turn, case.job.command))
+    if case.timetable or case.job.command in OF_FEEDS and None not in case.inputs:
+        further.append(of_damage(rng, case, options))
     if want.status in (0, SOME):
         further.append(further_trials(rng, case, want, options))
     yield from (trial for trial in chain(*further) if trial.job.command in commands)

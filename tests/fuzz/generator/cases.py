@@ -1,11 +1,14 @@
 """Cases: a job, its inputs, and the timetable from which the first of them was made."""
 from collections import namedtuple
 
-from reference.answers import Job, OF_TWO, OPTIONS
+from reference import HAS_FEEDS
+from reference.answers import Job, OF_FEEDS, OF_TWO, OPTIONS
 from reference.dates import DAY, yymmdd
 
 from .damage import damaged
 from .derived import changed_once, said_otherwise
+from .feeds import some_feed
+from .published import spelled_as_published
 from .spelling import some_habits, spelled
 from .timetables import UIDS, some_header, some_timetable
 from .windows import bounded, some_day, some_window, with_one_end_moved
@@ -15,6 +18,8 @@ from .windows import bounded, some_day, some_window, with_one_end_moved
 Case = namedtuple("Case", "job inputs timetable")
 
 COMMANDS = {"normalise": 32, "check": 6, "compare": 14, "diff": 16, "day": 7, "train": 10, "explain": 9, "clashes": 6}
+COMMANDS |= {"prepare": 12, "update": 14} if HAS_FEEDS else {}
+
 FORMS = (None, None, "1", "1", "2")
 NO_FORMS = ("3", "0", "", "12", "1 ", "one")
 BAD_DATE_WORDS = ("260230", "2601141", "26014", "", "26 114", "999999", "abcdef", "260114 ", "26\u06611", "\u0662\u0666\u0661")
@@ -23,8 +28,9 @@ BAD_UID_WORDS = ("C0012", "C001234", "", "C0012\t", "C0012\u00e9", "C001\u00e9",
 # How likely a job has dates, and how likely each fault of a job or its inputs is: where most cases are to be accepted, and
 # where many are to have several faults, which show the fault that comes first.
 FAULTS = ("dates", "mistake", "no date", "outside", "reversed", "no UID", "no file", "damage", "another window", "clash")
-SELDOM = dict(zip(FAULTS, (0.4, 0.005, 0.02, 0.04, 0.04, 0.04, 0.02, 0.15, 0.08, None)))
-OFTEN = dict(zip(FAULTS, (0.8, 0.05, 0.2, 0.3, 0.4, 0.4, 0.1, 0.3, 0.4, 1)))
+FAULTS += ("no code", "no holidays", "stray line", "astray", "wrong header")
+SELDOM = dict(zip(FAULTS, (0.4, 0.005, 0.02, 0.04, 0.04, 0.04, 0.02, 0.15, 0.08, None, 0.06, 0.05, 0.04, 0.1, 0.01)))
+OFTEN = dict(zip(FAULTS, (0.8, 0.05, 0.2, 0.3, 0.4, 0.4, 0.1, 0.3, 0.4, 1, 0.3, 0.3, 0.3, 0.4, 0.2)))
 
 # The same of clashes, for the commands that accept them.
 CLASHES = (0, 0.2, 1, 1)
@@ -55,16 +61,16 @@ def window_words(rng, window, odds):
     return [word if rng.random() < 0.7 else None for word in words]
 
 
-def uid_of(record):
-    """The UID of a train, or the base UID of an association."""
-    return record.key[0][1]
+def uid_of(rng, record):
+    """The UID of a train, or one of both of an association."""
+    return rng.choice(record.key[:2])[1]
 
 
 def uid_word(rng, records, odds):
     if rng.random() < odds["no UID"]:
         return rng.choice(BAD_UID_WORDS)
     if records and rng.random() < 0.95:
-        return uid_of(rng.choice(records))
+        return uid_of(rng, rng.choice(records))
     return rng.choice(UIDS)
 
 
@@ -77,7 +83,7 @@ def uid_and_day(rng, timetable, odds):
     if not apply or rng.random() < 0.3:
         return uid_word(rng, records, odds), date_word(rng, timetable.window, odds)
     record, day = rng.choice(apply)
-    return uid_of(record), yymmdd(day)
+    return uid_of(rng, record), yymmdd(day)
 
 
 def beside_it(rng, window):
@@ -110,18 +116,22 @@ def second_timetable(rng, job, timetable, odds):
 
 def some_files(rng, command, odds):
     names = ("left.cif", "right.cif") if command in OF_TWO else ("extract.cif",) if rng.random() < 0.3 else ()
+    if rng.random() < 0.1:
+        names = rng.choice([("-", *names[1:]), (*names[:-1], "-"), ("-",) * len(names)] if names else [("-",)])
     return (*names, "further.cif") if names and rng.random() < odds["mistake"] else names
 
 
 def some_inputs(rng, job, timetable, odds):
     """The bytes of each input, and whether they are as they were spelled."""
     inputs, sound = [some_bytes(rng, timetable)], True
+    if job.all and rng.random() < 0.5:
+        inputs, sound = [spelled_as_published(rng, timetable.lines(), odds)], False
     if job.command in OF_TWO:
         inputs.append(some_bytes(rng, second_timetable(rng, job, timetable, odds)))
     for at, data in enumerate(inputs):
         if rng.random() < odds["damage"] / len(inputs):
             inputs[at], sound = damaged(rng, data), False
-        if job.files and rng.random() < odds["no file"]:
+        if job.files and job.files[at] != "-" and rng.random() < odds["no file"]:
             inputs[at], sound = None, False
     return inputs, sound
 
@@ -150,12 +160,16 @@ def with_options(rng, job, timetable, odds):
         job = job._replace(stops=rng.random() < 0.5)
     if "form" in taken:
         job = job._replace(form=rng.choice(FORMS if rng.random() > odds["mistake"] else NO_FORMS))
+    if "all" in taken:
+        job = job._replace(all=rng.random() < 0.5)
     return job
 
 
 def some_case(rng, commands, options, odds):
     """A case of one of these commands; options says whether the job may have some."""
     command = rng.choices(commands, [COMMANDS[name] for name in commands])[0]
+    if command in OF_FEEDS:
+        return Case(*some_feed(rng, command, odds), None)
     clashes = rng.choice(CLASHES) if command in ("explain", "clashes") else odds["clash"]
     timetable = some_timetable(rng, clashes)
     job = some_job(rng, command, timetable, options, odds)

@@ -5,7 +5,7 @@ from reference import values
 from reference.layouts import LAYOUTS
 
 NO_DATES = ("260230", "290229", "260001", "261301", "260100", "260132", "26 105", "26010A", "      ", "000000")
-IDENTITIES = ("HD", "TI", "TA", "TD", "AA", "BS", "BX", "LO", "LI", "CR", "LT", "ZZ", "TN", "LN", "XX", "  ", "bs", "B ")
+IDENTITIES = ("HD", "TI", "TA", "TD", "AA", "BS", "BX", "LO", "LI", "CR", "LT", "ZZ", "TN", "LN", "/!!", "XX", "  ", "bs", "B ")
 
 
 def with_other_signs(text, signs):
@@ -15,8 +15,8 @@ def with_other_signs(text, signs):
 
 TIMES = (*with_other_signs("0000", ("/3: ", "/: ", "/6: ", "/: ")), *with_other_signs("    ", "0000"), "2400", "0900", "9:00")
 BAD_FIELDS = {
-    values.full: ("U", " ", "f"),
-    values.new: ("R", "D", " ", "n"),
+    values.full: ("U", "F", " ", "f"),
+    values.new: ("R", "D", "N", " ", "n"),
     values.header_date: ("999999", "311259", *NO_DATES, "311299", "010160", "300226", "290228", "010100"),
     values.first_date: ("999999", "591231", *NO_DATES, "999999", "991231", "600101", "000229"),
     values.last_date: ("999999", "600101", *NO_DATES, "999999", "991231", "591231", "999998"),
@@ -99,18 +99,25 @@ def cut_behind_one(rng, lines):
     del lines[rng.randint(1, len(lines)) :]
 
 
+def long_line(rng, lines):
+    """A line of as many bytes as are read of one, or of one more, and behind the last line one that is refused."""
+    lines.insert(rng.randint(0, len(lines)), b"X" * rng.choice([9999, 10000]) + b"\n")
+    lines.append(empty_line("XX"))
+
+
 def of_another_kind(rng, lines):
     at = rng.randrange(len(lines))
-    lines[at] = rng.choice(IDENTITIES).encode() + lines[at][2:]
+    identity = rng.choice(IDENTITIES).encode()
+    lines[at] = identity + lines[at][len(identity) :]
 
 
 def sorts_of(lines):
-    """The kind of each line, and whether it is of a cancellation."""
-    found, cancelled = [], False
+    """The kind of each line, and whether it is of a cancellation or a deleted record: its `C` or `D`, or an empty text."""
+    found, idle = [], ""
     for line in lines:
-        if line[:2] in (b"AA", b"BS", b"ZZ"):
-            cancelled = line[:2] != b"ZZ" and line[79:80] == b"C"
-        found.append((line[:2].decode("latin-1"), cancelled))
+        if line[:2] in (b"AA", b"BS"):
+            idle = "D" if line[2:3] == b"D" else "C" if line[79:80] == b"C" else ""
+        found.append((line[:2].decode("latin-1"), "" if line[:2] == b"ZZ" else idle))
     return found
 
 
@@ -144,12 +151,12 @@ def reversed_dates(rng, lines):
 
 
 def field_places(lines):
-    """The fields that can be wrong: what sort each is, its line, and the field; those of cancellations are sorts too."""
+    """The fields that can be wrong: what sort each is, its line, and the field; those of idle records are sorts too."""
     found = []
-    for at, (kind, cancelled) in enumerate(sorts_of(lines)):
+    for at, (kind, idle) in enumerate(sorts_of(lines)):
         for field in LAYOUTS.get(kind, ()):
             if field.read in BAD_FIELDS:
-                found.append(((field.read.__name__, cancelled), at, field))
+                found.append(((field.read.__name__, idle), at, field))
     return found
 
 
@@ -190,6 +197,7 @@ DAMAGES = {
     of_lines(dropped): 8,
     of_lines(repeated): 8,
     of_lines(cut_behind_one): 4,
+    of_lines(long_line): 2,
     of_lines(of_another_kind): 10,
     of_lines(further): 6,
     of_lines(with_another_ending): 6,
@@ -212,12 +220,12 @@ def damaged(rng, data):
 
 def spoiled(line, sort):
     """The line with another text in one field; and with such texts in two fields that are read otherwise."""
-    kind, cancelled = sort
+    kind, idle = sort
     fields = [(field, BAD_FIELDS[field.read]) for field in LAYOUTS.get(kind, ()) if field.read in BAD_FIELDS]
     for field, texts in fields:
-        yield from (with_text(line, field, text) for text in texts[: 1 if cancelled else None])
+        yield from (with_text(line, field, text) for text in texts[: 1 if idle else None])
     for (one, ones), (other, others) in combinations(fields, 2):
-        if one.read != other.read and not cancelled:
+        if one.read != other.read and not idle:
             yield from (with_text(with_text(line, one, text), other, last) for text, last in product(ones[:2], others[:2]))
 
 

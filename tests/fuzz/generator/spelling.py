@@ -2,7 +2,7 @@
 from dataclasses import dataclass
 
 from reference import values
-from reference.layouts import ASSOCIATION_BODY, LAYOUTS, TRAIN_BODY, WIDTH, columns_of
+from reference.layouts import BODIES, LAYOUTS, WIDTH, columns_of, read_fields
 
 from .fields import COMMON, PRINTABLE, of_width
 
@@ -44,9 +44,8 @@ MOVES = {values.text: moved_text, values.activities: with_gaps}
 
 
 def meaningful_fields(kind, line):
-    """The fields of a line but for those that a cancellation lacks."""
-    of_body = {"AA": ASSOCIATION_BODY, "BS": TRAIN_BODY}.get(kind, ())
-    return [field for field in LAYOUTS[kind] if line[WIDTH - 1] != "C" or field.name not in of_body]
+    """The fields of a line but for those that a cancellation lacks, or a deleted record."""
+    return [field for field in read_fields(kind, line) if line[WIDTH - 1] != "C" or field.name not in BODIES.get(kind, ())]
 
 
 def with_columns(line, field, columns):
@@ -67,19 +66,17 @@ def with_one_moved(rng, line):
 
 
 def respelled(rng, line, habits):
-    """A line that spells what the plain line does."""
-    if not habits.moved and not habits.filled:
+    """A line that spells what the plain line does; a comment or a note stays."""
+    if not LAYOUTS.get(line[:2]) or not habits.moved and not habits.filled:
         return line
     kind = line[:2]
-    signs = [None] * WIDTH
-    signs[:2] = kind
+    found = kind + of_width(rng, WIDTH - 2, PRINTABLE) if rng.random() < habits.filled else line
     for field in meaningful_fields(kind, line):
         columns = columns_of(line, field)
         if field.read in MOVES and rng.random() < habits.moved:
             columns = MOVES[field.read](rng, columns)
-        signs[field.first - 1 : field.last] = columns
-    filling = of_width(rng, WIDTH, PRINTABLE) if rng.random() < habits.filled else line
-    return "".join(filling[at] if sign is None else sign for at, sign in enumerate(signs))
+        found = with_columns(found, field, columns)
+    return found
 
 
 def spelled(rng, lines, habits):

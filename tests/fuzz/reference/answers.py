@@ -2,35 +2,46 @@
 import re
 from collections import namedtuple
 
-from . import texts
+from . import published, texts
 from .dates import from_yymmdd
 from .explanation import explained
 from .extracts import common_of, narrowed, read_extract, window_of
 from .faults import Fault, REFUSED, WORDS
+from .holidays import read_holidays
 from .meaning import Meaning, all_clashes, first_difference
+from .reasons import all_reasons
 
 # What the words of a command ask for. Dates and a UID are words as they were given, or None where there is none; without
-# a form it is 2, and common says whether --common is there. Files are names; where there is none, the command reads standard
-# input.
-Job = namedtuple("Job", "command files day uid first last form common stops", defaults=((), None, None, None, None, None, False, False))
+# a form it is 2, and common, stops, all, drop_clashes and lenient say whether such an option is there. Files and holidays are
+# names; where there is no file, the command reads standard input, as it does where the name is `-`.
+NAMES = "command files day uid first last form common stops all holidays drop_clashes lenient"
+DEFAULTS = ((), None, None, None, None, None, False, False, False, None, False, False)
+Job = namedtuple("Job", NAMES, defaults=DEFAULTS)
 
 Answer = namedtuple("Answer", "stdout stderr status")
 
 UID = re.compile(r"[ -~]{6}")
 SOME = 1
 
-# The options that each command takes, and the commands that take two files; the others take one or none.
+# The options that each command takes, and the commands that take two files; update takes two or more, the others one or none.
 OPTIONS = {
     "normalise": {"first", "last", "form"},
-    "check": {"first", "last", "form"},
+    "check": {"first", "last", "form", "all"},
     "compare": {"first", "last", "common"},
     "diff": {"first", "last", "common"},
     "day": {"stops"},
     "train": {"first", "last", "form", "stops"},
     "explain": set(),
     "clashes": {"first", "last"},
+    "prepare": {"holidays", "drop_clashes"},
+    "update": {"lenient"},
 }
 OF_TWO = ("compare", "diff")
+OF_FEEDS = ("prepare", "update")
+
+# How the fault is told that two inputs are standard input.
+TWICE = {"prepare": "--holidays and FILE are both standard input", "update": "two inputs are standard input"}
+TWICE |= dict.fromkeys(OF_TWO, "LEFT and RIGHT are both standard input")
 
 # Where the command line itself is at fault, standard error begins so, and what follows isn't fixed.
 MISTAKE = Answer(b"", b"error:", WORDS)
@@ -44,11 +55,50 @@ def date_of(word):
     return day
 
 
+def names_of(job):
+    """The names of the inputs: those of the files, and then that of the holidays."""
+    return [*(job.files or ("-",)), *(() if job.holidays is None else (job.holidays,))]
+
+
 def output(job, inputs):
-    """The lines of standard output, and the status; inputs has the bytes of each, or None where it can't be read."""
+    """The lines of standard output, the status, and the lines of standard error.
+
+    Inputs has the bytes of each input in the order of names_of, or None where it can't be read.
+    """
     if job.uid is not None and not UID.fullmatch(job.uid):
         raise Fault("bad UID", WORDS)
     day, asked = date_of(job.day), (date_of(job.first), date_of(job.last))
+    if names_of(job).count("-") > 1:
+        raise Fault(TWICE[job.command], WORDS)
+    if job.command in OF_FEEDS:
+        lines, told = (of_prepare if job.command == "prepare" else of_update)(job, inputs)
+        return lines, 0, told
+    reasons = all_reasons(inputs[0]) if job.all else []
+    return (reasons, REFUSED, []) if reasons else (*of_extracts(job, day, asked, inputs), [])
+
+
+def of_prepare(job, inputs):
+    """The lines of the prepared extract, and a line for each key that is dropped."""
+    holidays = {} if job.holidays is None else read_holidays(inputs[1])
+    records = published.prepared(published.read_published(inputs[0], holidays), holidays)
+    dropped = []
+    if job.drop_clashes:
+        records, dropped = published.without_clashes(records)
+    return published.written(records), [f"dropped: {clash}" for clash in dropped]
+
+
+def of_update(job, inputs):
+    """The lines of the full extract after all updates, and a line for each line that is waived."""
+    full, *updates = inputs
+    records, told = published.read_published(full), []
+    for data in updates:
+        records, waived = published.updated(records, published.read_update(data), job.lenient)
+        told += [f"{line} (waived)" for line in waived]
+    return published.written(records), told
+
+
+def of_extracts(job, day, asked, inputs):
+    """The lines and the status of the commands that read extracts of the profile."""
     extracts = [read_extract(data) for data in inputs]
     if job.common:
         asked = [given or common for given, common in zip(asked, common_of(extracts))]
@@ -66,7 +116,7 @@ def said(job, day, extracts):
     if job.command == "explain":
         return explained(extracts[0], job.uid, day), 0
     if job.command == "clashes":
-        return some_or_none(all_clashes(extracts[0]))
+        return some_or_none(list(all_clashes(extracts[0]).values()))
     meaning, *others = [Meaning(extract) for extract in extracts]
     form = job.form or "2"
     if job.command == "normalise":
@@ -96,9 +146,11 @@ def agrees(want, got):
 
 def is_mistake(job):
     """Whether the command doesn't take such options, or not so many files."""
-    given = {name for name in ("first", "last", "form", "common", "stops") if getattr(job, name) not in (None, False)}
-    counts = (2,) if job.command in OF_TWO else (0, 1)
-    return not given <= OPTIONS[job.command] or job.form not in (None, "1", "2") or len(job.files) not in counts
+    names = ("first", "last", "form", "common", "stops", "all", "holidays", "drop_clashes", "lenient")
+    given = {name for name in names if getattr(job, name) not in (None, False)}
+    count = len(job.files)
+    fits = count >= 2 if job.command == "update" else count == 2 if job.command in OF_TWO else count <= 1
+    return not (given <= OPTIONS[job.command] and job.form in (None, "1", "2") and fits)
 
 
 def answer(job, inputs):
@@ -106,7 +158,11 @@ def answer(job, inputs):
     if is_mistake(job):
         return MISTAKE
     try:
-        lines, status = output(job, inputs)
+        lines, status, told = output(job, inputs)
     except Fault as fault:
         return Answer(b"", f"cif: {fault.text}\n".encode(), fault.status)
-    return Answer("".join(line + "\n" for line in lines).encode(), b"", status)
+    return Answer(text_of(lines), text_of(f"cif: {line}" for line in told), status)
+
+
+def text_of(lines):
+    return "".join(line + "\n" for line in lines).encode()

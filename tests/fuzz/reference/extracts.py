@@ -9,6 +9,13 @@ from .faults import FAILED, Fault, REFUSED, Refusal, of_line
 # The fields of HD, the columns 3-72 of each TI, and the records about associations and about schedules.
 Extract = namedtuple("Extract", "header tiplocs associations schedules")
 
+# A line but those of BX and a journey: its number, its kind and its fields; and the plain lines of BX and a journey behind it.
+Record = namedtuple("Record", "number kind fields lines")
+
+# How extracts of one sort are read: the kinds of record that they have, the readers that stand for some of those of the
+# layouts, and whether they may have comments.
+Sort = namedtuple("Sort", "kinds readers comments")
+
 # A record about a key: the texts of the key, first and last date, days run, letter and body, which a cancellation lacks.
 Entry = namedtuple("Entry", "key first last days letter body")
 
@@ -18,7 +25,13 @@ Body = namedtuple("Body", "fields lines")
 
 PRINTABLE = re.compile(rb"[\x20-\x7e]*")
 KINDS = ("HD", "TI", "TA", "TD", "AA", "BS", "BX", "LO", "LI", "CR", "LT", "ZZ")
+OF_PROFILE = Sort(KINDS, {}, False)
+NOTES = ("TN", "LN")
+COMMENT = re.compile(rb"/!![\x20-\x7e]{,77}")
 START = "the start of the input"
+OF_SCHEDULE = ("BS", "BX", "LO", "LI", "CR", "LT")
+
+# What stands behind the kind where a journey may lack: of a cancellation, or of a deleted record.
 OF_CANCELLATION = " of a cancellation"
 MAY_FOLLOW = {
     START: ("HD",),
@@ -52,65 +65,84 @@ def line_of(content):
     return content.decode("ascii")
 
 
-def kind_of(line, before):
-    """The kind of a line that stands behind the one before."""
-    kind = line[:2]
-    if kind not in KINDS:
+def kind_of(line, kinds):
+    if line[:2] not in kinds:
         raise Refusal("UnknownRecord")
-    if ("TI" if kind in ("TA", "TD") else kind) not in MAY_FOLLOW[before]:
-        raise Refusal("OutOfOrder")
+    return line[:2]
+
+
+def may_follow(kind, before):
+    """Whether a line of this kind may stand behind the one before."""
+    if kind in NOTES:
+        return before[:2] in OF_SCHEDULE
+    return ("TI" if kind in ("TA", "TD") else kind) in MAY_FOLLOW[before]
+
+
+def place_behind(kind, fields, before):
+    """What MAY_FOLLOW calls the place behind a line."""
+    if kind in NOTES:
+        return before
     if kind in ("TA", "TD"):
-        raise Refusal("NotFull")
-    return kind
+        return "TI"
+    alone = (fields["letter"] == "C" or fields["transaction"] == "D") if kind == "BS" else before.endswith(OF_CANCELLATION)
+    return kind + OF_CANCELLATION if alone and kind in ("BS", "BX") else kind
 
 
-def records_of(data):
-    """The kind and the fields of each line, up to ZZ and the end of the input."""
+def records_of(data, sort):
+    """The records of an input, up to ZZ and the end of the input; None is an input that can't be read."""
+    if data is None:
+        raise Fault("ReadFault", FAILED)
     records, before = [], START
     contents = contents_of(data)
     for number, content in enumerate(contents, 1):
+        if sort.comments and COMMENT.fullmatch(content):
+            continue
         try:
             line = line_of(content)
-            kind = kind_of(line, before)
-            fields = layouts.read(kind, line)
+            kind = kind_of(line, sort.kinds)
+            if not may_follow(kind, before):
+                raise Refusal("OutOfOrder")
+            fields = layouts.read(kind, line, sort.readers)
         except Refusal as refusal:
             raise of_line(number, refusal.name) from None
-        records.append((kind, fields))
-        of_cancellation = fields["letter"] == "C" if kind == "BS" else kind == "BX" and before.endswith(OF_CANCELLATION)
-        before = kind + OF_CANCELLATION if of_cancellation else kind
+        if kind in OF_SCHEDULE[1:]:
+            records[-1].lines.append(layouts.plain(kind, fields))
+        elif kind not in NOTES:
+            records.append(Record(number, kind, fields, []))
+        before = place_behind(kind, fields, before)
     if before != "ZZ":
         raise of_line(len(contents) + 1, "Truncated")
     return records
 
 
-def entry(kind, fields, key, body, lines):
-    """The record about a key that AA or BS and the lines that belong to it are."""
-    first, last = layouts.window_of(kind, fields)
-    named = tuple((name, fields[name]) for name in body)
-    found = None if fields["letter"] == "C" else Body(named, tuple(lines))
-    return Entry(tuple(fields[name] for name in key), first, last, fields["days"], fields["letter"], found)
+def of_kind(records, kind):
+    return [record for record in records if record.kind == kind]
+
+
+def key_of(record):
+    """The key of an association or a schedule."""
+    return tuple(record.fields[name] for name in layouts.KEYS[record.kind])
+
+
+def entry(record):
+    """What a record says about its key."""
+    fields = record.fields
+    first, last = layouts.window_of(record.kind, fields)
+    named = tuple((name, fields[name]) for name in layouts.BODIES[record.kind])
+    body = None if fields["letter"] == "C" else Body(named, tuple(record.lines))
+    return Entry(key_of(record), first, last, fields["days"], fields["letter"], body)
+
+
+def extract_of(records):
+    """The extract that these records are."""
+    [header] = of_kind(records, "HD")
+    tiplocs = [record.fields["tiploc"] for record in of_kind(records, "TI")]
+    associations, schedules = ([entry(record) for record in of_kind(records, kind)] for kind in ("AA", "BS"))
+    return Extract(header.fields, tiplocs, associations, schedules)
 
 
 def read_extract(data):
-    """The extract that an input is; None is an input that can't be read."""
-    if data is None:
-        raise Fault("ReadFault", FAILED)
-    extract = Extract(None, [], [], [])
-    schedules = []
-    for kind, fields in records_of(data):
-        if kind == "HD":
-            extract = extract._replace(header=fields)
-        elif kind == "TI":
-            extract.tiplocs.append(fields["tiploc"])
-        elif kind == "AA":
-            extract.associations.append(entry(kind, fields, layouts.ASSOCIATION_KEY, layouts.ASSOCIATION_BODY, []))
-        elif kind == "BS":
-            schedules.append((fields, []))
-        elif kind != "ZZ":
-            schedules[-1][1].append(layouts.plain(kind, fields))
-    for fields, lines in schedules:
-        extract.schedules.append(entry("BS", fields, layouts.TRAIN_KEY, layouts.TRAIN_BODY, lines))
-    return extract
+    return extract_of(records_of(data, OF_PROFILE))
 
 
 def window_of(extract):

@@ -58,6 +58,12 @@ LAYOUTS = {
         (55, 60, "last", values.header_date),
     ),
     "TI": layout((3, 72, "tiploc", values.as_it_stands)),
+    "TA": layout(
+        (1, 2, "identity", values.of_update),
+        (3, 72, "tiploc", values.as_it_stands),
+        (73, 79, "new_tiploc", values.as_it_stands),
+    ),
+    "TD": layout((1, 2, "identity", values.of_update), (3, 9, "tiploc", values.as_it_stands)),
     "AA": layout(
         (3, 3, "transaction", values.new),
         (4, 9, "base", values.as_it_stands),
@@ -136,26 +142,49 @@ LAYOUTS = {
         (26, 37, "activities", values.activities),
     ),
     "ZZ": layout(),
+    "TN": layout(),
+    "LN": layout(),
 }
 
 ASSOCIATION_KEY = ("base", "associated", "location", "base_suffix", "associated_suffix")
 ASSOCIATION_BODY = ("category", "date_indicator", "diagram", "type")
 TRAIN_KEY = ("uid",)
 TRAIN_BODY = ("status", *(name for name, _ in TRAIN_TEXTS))
+KEYS = {"AA": ASSOCIATION_KEY, "BS": TRAIN_KEY}
+BODIES = {"AA": ASSOCIATION_BODY, "BS": TRAIN_BODY}
+
+# The fields that are read of a deleted record.
+OF_DELETED = {
+    kind: [field for field in LAYOUTS[kind] if field.name in ("transaction", "first", "letter", *names)]
+    for kind, names in KEYS.items()
+}
 
 
 def columns_of(line, field):
     return line[field.first - 1 : field.last]
 
 
-def read(kind, line):
-    """The fields of a line by their names, as they are written; raises the first refusal in the order of columns."""
+def read_fields(kind, line):
+    """The fields that are read of a line."""
+    return OF_DELETED[kind] if kind in OF_DELETED and line[2] == "D" else LAYOUTS[kind]
+
+
+def read(kind, line, instead):
+    """The fields of a line by their names, as they are written; raises the first refusal in the order of columns.
+
+    Instead has the readers that stand for some of those of the layouts.
+    """
     fields = {}
-    for field in LAYOUTS[kind]:
-        fields[field.name] = field.read(columns_of(line, field))
-        if field.name == "last" and window_of(kind, fields)[0] > window_of(kind, fields)[1]:
+    for field in read_fields(kind, line):
+        fields[field.name] = instead.get(field.read, field.read)(columns_of(line, field))
+        if field.name == "last" and is_reversed(kind, fields):
             raise Refusal("DatesReversed")
     return fields
+
+
+def is_reversed(kind, fields):
+    """Whether the first date of a record is after its last date, if it has one."""
+    return fields["last"] != values.OPEN_END and window_of(kind, fields)[0] > window_of(kind, fields)[1]
 
 
 def window_of(kind, fields):

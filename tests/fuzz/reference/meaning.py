@@ -53,13 +53,13 @@ def running(entries, days):
 
 
 def all_clashes(extract):
-    """The name of the first clash of each key that has one: associations, then trains, each rising by key."""
-    found = []
+    """Each key that has a clash, with the name of its first one: associations, then trains, each rising by key."""
+    found = {}
     for entries in extract.associations, extract.schedules:
         for key, of_key in by_key(entries):
             for day in dates_of(window_of(extract)):
                 if len({entry.body for entry in winners(of_key, day)}) > 1:
-                    found.append(f"{name_of(key)} on {yymmdd(day)}")
+                    found[key] = f"{name_of(key)} on {yymmdd(day)}"
                     break
     return found
 

@@ -11,6 +11,7 @@ WORKING_TIME = re.compile(rf" {{5}}|{HOUR_AND_MINUTE}[ H]")
 PUBLIC_TIME = re.compile(rf" {{4}}|{HOUR_AND_MINUTE}")
 DAYS_RUN = re.compile(r"[01]{7}")
 OPEN_END = "999999"
+HOLIDAY_CODES = ("X", "E", "G")
 
 
 def as_it_stands(columns):
@@ -76,3 +77,30 @@ def new(columns):
 
 def bank_holiday(columns):
     return wanted(columns, columns == " ", "BankHoliday")
+
+
+def of_update(columns):
+    """The identity of a record that only update extracts have."""
+    return wanted(columns, False, "NotFull")
+
+
+# ---- of published extracts
+
+
+def last_date_or_open_end(columns):
+    return columns if columns == OPEN_END else last_date(columns)
+
+
+def holiday_code(codes):
+    """A reader of column 29 where these codes may stand."""
+    return lambda columns: wanted(columns, columns in (" ", *codes), "BankHoliday")
+
+
+def update(columns):
+    """The update indicator of an update extract."""
+    return wanted(columns, columns == "U", "NotUpdate")
+
+
+def transaction(columns):
+    """The transaction type in an update extract."""
+    return wanted(columns, columns in ("N", "R", "D"), "BadTransaction")

@@ -1,0 +1,108 @@
+"""Jobs of prepare and update, and their inputs."""
+from dataclasses import replace
+
+from reference.answers import Job, names_of
+from reference.dates import DAY
+from reference.layouts import plain
+from reference.values import OPEN_END
+
+from .damage import damaged
+from .published import field_text, published, some_comment, some_holidays, some_note, spelled_as_published, with_field
+from .spelling import some_habits, spelled
+from .timetables import each_sort, some_timetable
+from .updates import header_line, some_update, with_same_key
+from .windows import bounded
+
+
+def some_published(rng):
+    """A timetable, some of whose records begin after its window, and some of which stand a second time with other dates.
+
+    Now and then its associations are all of one of its trains.
+    """
+    timetable = some_timetable(rng, rng.choice([0, 0.3, 1]))
+    if timetable.schedules and rng.random() < 0.3:
+        base = ("base", rng.choice(timetable.schedules).key[0][1])
+        timetable.associations = [replace(record, key=(base, *record.key[1:])) for record in timetable.associations]
+    for records in timetable.associations, timetable.schedules:
+        for at, record in enumerate(records):
+            if rng.random() < 0.05:
+                first = bounded(timetable.window[1] + rng.choice([1, 2, 30]) * DAY)
+                records[at] = replace(record, first=first, last=bounded(first + rng.choice([0, 9]) * DAY))
+        if records and rng.random() < 0.3:
+            records.append(with_same_key(rng, timetable, rng.choice(records)))
+    return timetable
+
+
+def some_prepare(rng, odds):
+    lines = published(rng, some_published(rng).lines(), odds)
+    job = Job("prepare", rng.choice([(), ("extract.cif",), ("-",)]), drop_clashes=rng.random() < 0.5)
+    inputs = [spelled(rng, lines, some_habits(rng))]
+    coded = any(line[:2] == "BS" and field_text(line, "bank_holiday") != " " for line in lines)
+    if rng.random() < (1 - odds["no code"] if coded else 0.4):
+        job = job._replace(holidays="-" if job.files == ("extract.cif",) and rng.random() < 0.3 else "holidays.txt")
+        inputs.append(some_holidays(rng, lines, odds))
+    if rng.random() < odds["mistake"]:
+        job = job._replace(files=rng.choice([(), ("-",)]), holidays="-")
+        inputs = [inputs[0], inputs[0]]
+    return job, inputs
+
+
+def some_update_job(rng, odds):
+    timetable, lenient = some_published(rng), rng.random() < 0.4
+    astray = rng.choice([0, 0.3 if lenient else odds["astray"]])
+    inputs = [spelled_as_published(rng, timetable.lines(), odds)]
+    for _ in range(rng.choice([1, 1, 1, 2, 2, 3])):
+        lines, timetable = some_update(rng, timetable, odds, astray)
+        inputs.append(spelled_as_published(rng, lines, odds))
+    names = ["full.cif", *(f"update-{number}.cif" for number in range(1, len(inputs)))]
+    for _ in range(1 + (rng.random() < odds["mistake"]) if rng.random() < 0.2 else 0):
+        names[rng.randrange(len(names))] = "-"
+    if rng.random() < odds["mistake"] / 2:
+        names, inputs = names[:1], inputs[:1]
+    if rng.random() < odds["wrong header"] / 2:
+        inputs.reverse()
+    return Job("update", tuple(names), lenient=lenient), inputs
+
+
+def some_feed(rng, command, odds):
+    """A job of one of these commands, and its inputs."""
+    job, inputs = (some_prepare if command == "prepare" else some_update_job)(rng, odds)
+    for at, name in enumerate(names_of(job)):
+        if rng.random() < odds["damage"] / len(inputs):
+            inputs[at] = damaged(rng, inputs[at])
+        if name != "-" and rng.random() < odds["no file"]:
+            inputs[at] = None
+    if rng.random() < odds["mistake"] / 2:
+        job = job._replace(**rng.choice([{"form": "2"}, {"first": "260105"}, {"all": True}, {"stops": True}]))
+    return job, inputs
+
+
+# ---- small ones, with a line of each sort
+
+
+def small_published(rng):
+    """A job and its inputs: an extract in which every sort of line of published extracts stands once."""
+    first, *lines = each_sort(rng).lines()
+    at = next(at for at, line in enumerate(lines) if line[:2] == "BS")
+    coded = with_field(with_field(lines[at], "bank_holiday", "X"), "last", OPEN_END)
+    lines = [first, some_comment(rng), *lines[:at], coded, some_note(rng), *lines[at + 1 :]]
+    return Job("prepare", holidays="holidays.txt"), ["\n".join(lines).encode() + b"\n", b"X\n"]
+
+
+def small_update(rng):
+    """The same of an update, in which each line finds what it needs."""
+    timetable = each_sort(rng)
+    [value] = timetable.tiplocs
+    tiplocs = [plain("TD", {"identity": "TD", "tiploc": value[:7]}), plain("TI", {"tiploc": value})]
+    tiplocs.append(plain("TA", {"identity": "TA", "tiploc": value, "new_tiploc": "NEW    "}))
+    lines = [header_line(rng, timetable, "U"), *tiplocs]
+    for records in timetable.associations, timetable.schedules:
+        for transaction in "DNR":
+            for record in records:
+                one, *behind = record.lines()
+                lines += [with_field(one, "transaction", transaction), *behind]
+    full, update = ("\n".join(of_one).encode() + b"\n" for of_one in (timetable.lines(), [*lines, plain("ZZ", {})]))
+    return Job("update", ("full.cif", "update.cif"), lenient=rng.random() < 0.5), [full, update]
+
+
+SMALL = {"prepare": (small_published, 0), "update": (small_update, 1)}

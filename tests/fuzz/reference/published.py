@@ -1,0 +1,122 @@
+"""Published extracts: how they are read, the extract of the profile that is made of one, and what updates do to one."""
+from itertools import pairwise
+
+from . import values
+from .dates import DAY, from_yymmdd, yymmdd
+from .extracts import KINDS, NOTES, Sort, extract_of, key_of, of_kind, records_of
+from .faults import of_line
+from .layouts import BODIES, LAYOUTS, plain, window_of
+from .meaning import all_clashes
+
+OPEN_ENDS = {values.last_date: values.last_date_or_open_end}
+TRANSACTIONS = {values.full: values.update, values.new: values.transaction, values.of_update: values.as_it_stands}
+
+
+def read_published(data, codes=values.HOLIDAY_CODES):
+    """The records of a published extract in which these holiday codes may stand."""
+    readers = OPEN_ENDS | {values.bank_holiday: values.holiday_code(codes)}
+    return records_of(data, Sort((*KINDS, *NOTES), readers, True))
+
+
+def read_update(data):
+    readers = OPEN_ENDS | TRANSACTIONS | {values.bank_holiday: values.holiday_code(values.HOLIDAY_CODES)}
+    return records_of(data, Sort((*KINDS, *NOTES), readers, True))
+
+
+# ---- written
+
+
+def plain_lines(record):
+    """The lines of a record; a cancellation has no body."""
+    if record.fields.get("letter") != "C":
+        return [plain(record.kind, record.fields), *record.lines]
+    body = [field for field in LAYOUTS[record.kind] if field.name in BODIES[record.kind]]
+    return [plain(record.kind, record.fields | {field.name: " " * (field.last - field.first + 1) for field in body})]
+
+
+def written(records):
+    """The lines of an extract: those of each kind in the order of its records."""
+    kinds = ("HD", "TI", "AA", "BS", "ZZ")
+    return [line for kind in kinds for record in of_kind(records, kind) for line in plain_lines(record)]
+
+
+# ---- prepared
+
+
+def parts(record, window, holidays):
+    """The records of the profile that stand for an association or a schedule, which is cut at its holidays."""
+    fields = record.fields
+    first = from_yymmdd(fields["first"])
+    last = max(first, window[1]) if fields["last"] == values.OPEN_END else from_yymmdd(fields["last"])
+    days = holidays.get(fields.get("bank_holiday"), ())
+    cuts = [day for day in sorted(days) if first <= day <= last and fields["days"][day.weekday()] == "1"]
+    for before, behind in pairwise([first - DAY, *cuts, last + DAY]):
+        start, end = before + DAY, behind - DAY
+        if start <= end:
+            dates = {"first": yymmdd(start), "last": yymmdd(end), "bank_holiday": " "}
+            yield record._replace(fields=fields | dates)
+
+
+def prepared(records, holidays):
+    """The records of the prepared extract."""
+    [header] = of_kind(records, "HD")
+    window, found = window_of("HD", header.fields), []
+    for record in records:
+        found += parts(record, window, holidays) if record.kind in BODIES else [record]
+    return found
+
+
+def without_clashes(records):
+    """The records of the keys that have no clash, and the first clash of each other key."""
+    clashes = all_clashes(extract_of(records))
+    return [record for record in records if record.kind not in BODIES or key_of(record) not in clashes], list(clashes.values())
+
+
+# ---- updated
+
+
+def update_key(record):
+    """What an update knows a record by."""
+    if record.kind not in BODIES:
+        return record.fields["tiploc"][:7]
+    return record.kind, *key_of(record), record.fields["first"], record.fields["letter"]
+
+
+def put_by(record):
+    """The record that a line of an update puts, if it puts one."""
+    if record.kind == "TA":
+        tiploc, new = record.fields["tiploc"], record.fields["new_tiploc"]
+        return record._replace(kind="TI", fields={"tiploc": (tiploc[:7] if new == " " * 7 else new) + tiploc[7:]})
+    if record.kind == "TD" or record.fields.get("transaction") == "D":
+        return None
+    return record if record.kind == "TI" else record._replace(fields=record.fields | {"transaction": "N"})
+
+
+def refusal_of(record, put, there):
+    """Why a line of an update can't do what it says, or None; there has the keys of all records that are there."""
+    new = record.kind == "TI" or record.fields.get("transaction") == "N"
+    if not new and update_key(record) not in there:
+        return "NotThere"
+    also = put is not None and (new or update_key(put) != update_key(record)) and update_key(put) in there
+    return "AlreadyThere" if also else None
+
+
+def updated(records, update, lenient):
+    """The records after an update, and its lines that are waived, each by its number with its refusal."""
+    [header], [trailer], [update_header] = of_kind(records, "HD"), of_kind(records, "ZZ"), of_kind(update, "HD")
+    there = [(update_key(record), record) for record in records if record.kind not in ("HD", "ZZ")]
+    waived = []
+    for record in update:
+        if record.kind in ("HD", "ZZ"):
+            continue
+        put = put_by(record)
+        refusal = refusal_of(record, put, {key for key, _ in there})
+        if refusal and not lenient:
+            raise of_line(record.number, refusal)
+        if refusal:
+            waived.append(f"line {record.number}: {refusal}")
+        taken_out = {update_key(one) for one in (record, put) if one}
+        there = [(key, other) for key, other in there if key not in taken_out]
+        there += [(update_key(put), put)] if put else []
+    header = update_header._replace(fields=update_header.fields | {"update": "F"})
+    return [header, *(record for _, record in there), trailer], waived
