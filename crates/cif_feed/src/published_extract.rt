@@ -200,12 +200,7 @@ impl Written for PublishedSchedule {
         texts: &mut LineTexts,
         sink: &mut Sink<W>,
     ) -> Result<(), WriteFault> {
-        write_schedule(
-            &self.basic_line(),
-            self.schedule.body.as_ref(),
-            texts,
-            sink,
-        )
+        write_schedule(&self.basic_line(), self.schedule.body.as_ref(), texts, sink)
     }
 }
 
