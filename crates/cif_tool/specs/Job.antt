@@ -13,8 +13,12 @@ use Rattle.cif_columns.specs.Uid.{IsUid}
 use Rattle.cif_weeks.specs.declared.form.Form.{Form}
 use Rattle.cif_weeks.specs.declared.form.Form.TheVariants.{One, Two}
 use Rattle.cif_tool.specs.CommandLine.{AreFormats, AreForms, Choice, chosen, faults_of}
+use Rattle.cif_tool.specs.declared.job.FeedJob.{FeedJob}
+use Rattle.cif_tool.specs.declared.job.FeedJob.TheVariants.{Prepare, Update}
 use Rattle.cif_tool.specs.declared.job.Job.{Job}
 use Rattle.cif_tool.specs.declared.job.Job.TheVariants.{Check, CheckAll, Clashes, Compare, Day, Diff, Explain, Normalise, Train}
+use Rattle.cif_tool.specs.declared.job.Task.{Task}
+use Rattle.cif_tool.specs.declared.job.Task.TheVariants.{Extract, Feed}
 
 -- the matches have a word of this id
 abbrev pub HasWord : Text → List Row → Type 0
@@ -112,6 +116,16 @@ IsChosen (Clashes file asked) met = (met.0 ≡ codes "clashes")
     × IsAskedBy met.1 asked
     × HasFile met.1 (option_map string_bytes file)
 
+-- the subcommand is the feed job's, and its matches hold what the job holds
+abbrev pub IsFeedChosen : FeedJob → Text × List Row → Type 0
+IsFeedChosen (Prepare holidays drop_clashes file) met = ⊥
+IsFeedChosen (Update full updates lenient) met = ⊥
+
+-- the subcommand is the task's, and its matches hold what the task holds
+abbrev pub IsTaskChosen : Task → Text × List Row → Type 0
+IsTaskChosen (Extract job) = IsChosen job
+IsTaskChosen (Feed job) = IsFeedChosen job
+
 -- the subcommand is one of the program's own, with the words that it wants
 abbrev pub IsTaken : Text × List Row → Type 0
 IsTaken met = (met.0 ≡ codes "normalise") ⊎ ((met.0 ≡ codes "check")
@@ -122,14 +136,14 @@ IsTaken met = (met.0 ≡ codes "normalise") ⊎ ((met.0 ≡ codes "check")
     ⊎ (((met.0 ≡ codes "explain") × HasWord (codes "UID") met.1 × HasWord (codes "YYMMDD") met.1)
     ⊎ (met.0 ≡ codes "clashes")))))))
 
--- `clap` takes the words, enters the job's subcommand and finds what the job holds
-pub record Asks (words : List Text) (job : Job) : Type 0 where
+-- `clap` takes the words, enters the task's subcommand and finds what the task holds
+pub record Asks (words : List Text) (task : Task) : Type 0 where
   pub forms : Choice
   pub are_forms : AreForms forms
   pub formats : Choice
   pub are_formats : AreFormats formats
   pub taken : faults_of forms formats words ≡ []
-  pub is_chosen : IsSomeAnd (chosen forms formats words) (IsChosen job)
+  pub is_chosen : IsSomeAnd (chosen forms formats words) (IsTaskChosen task)
 
 -- The names of the inputs that a job reads: the first is standard input where it is absent, and each is where it is `-`. Only `compare`
 -- and `diff` have a second.

@@ -12,10 +12,11 @@ use Rattle.cif_columns.specs.declared.sink.WriteFault.{WriteFault}
 use Rattle.cif_extract.specs.declared.fault.Fault.{Fault}
 use Rattle.cif_extract.specs.declared.fault.Fault.TheVariants.{Write, Memory as OutOfMemory}
 use Rattle.cif_tool.specs.CommandLine.{AreFormats, AreForms, Choice, chosen, faults_of}
-use Rattle.cif_tool.specs.Job.{IsChosen, is_standard}
+use Rattle.cif_tool.specs.Job.{IsChosen, IsTaskChosen, is_standard}
 use Rattle.cif_tool.specs.declared.job.Job.{Job}
 use Rattle.cif_tool.specs.declared.job.JobFault.{JobFault}
 use Rattle.cif_tool.specs.declared.job.JobFault.TheVariants.{Usage, BadDate, BadUid, OneInput, Memory}
+use Rattle.cif_tool.specs.declared.job.Task.{Task}
 
 -- six digits YYMMDD that name a day aren't the word
 abbrev pub NamesNoDay : Text → Type 0
@@ -53,6 +54,11 @@ IsWordFault (Usage error) met = ⊥
 -- the matches of a subcommand ask for the job, or for nothing, as the fault says
 pub record IsJobOf (met : Text × List Row) (result : Result Job JobFault) : Type 0 where
   pub ok : IfOk result (λ job. IsChosen job met)
+  pub err : IfErr result (λ fault. IsWordFault fault met)
+
+-- the matches of a subcommand ask for the task, or for nothing, as the fault says
+pub record IsTaskOf (met : Text × List Row) (result : Result Task JobFault) : Type 0 where
+  pub ok : IfOk result (λ task. IsTaskChosen task met)
   pub err : IfErr result (λ fault. IsWordFault fault met)
 
 -- `clap` refuses the words, by the error's kind, or it takes them and one of them is no UID or no date, or both inputs are standard input

@@ -13,7 +13,17 @@ use cif_weeks::Form;
 use clap::error::ErrorKind;
 use std::alloc::{AllocError, Global};
 
-/// What a call of `cif` asks for. A file that isn't named is the standard input, and so is `-`.
+/// What a call of `cif` asks for.
+#[derive(Drop)]
+pub enum Task {
+    /// Something of extracts.
+    Extract(Job),
+    /// Something of published extracts.
+    Feed(FeedJob),
+}
+
+/// What a call of `cif` asks for that reads extracts. A file that isn't named is the standard
+/// input, and so is `-`.
 #[derive(Drop)]
 pub enum Job {
     /// To write the canonical extract.
@@ -99,6 +109,26 @@ impl Job {
             }
         }
     }
+}
+
+/// What a call of `cif` asks for that reads published extracts. A file that isn't named is the
+/// standard input, and so is `-`; holidays that aren't named are none.
+#[derive(Drop)]
+pub enum FeedJob {
+    /// To write the prepared extract of a published one. With `drop_clashes`, what clashes in it is
+    /// left out.
+    Prepare {
+        holidays: Option<String>,
+        drop_clashes: bool,
+        file: Option<String>,
+    },
+    /// To write what updates, one after the other, make of a full published extract. With `lenient`,
+    /// a line whose key is there already, or isn't there, is waived.
+    Update {
+        full: String,
+        updates: Vec<String>,
+        lenient: bool,
+    },
 }
 
 /// The bytes of the longest line that names a fault, with its line feed.

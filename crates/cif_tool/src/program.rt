@@ -3,9 +3,10 @@
 use crate::advice::{advise, advise_on_word};
 use crate::answers::{Kept, answer};
 use crate::devices::{ExtractInput, Output};
-use crate::job::{Job, JobFault};
+use crate::feeds::feed_task;
+use crate::job::{Job, JobFault, Task};
 use crate::status::{MISTAKEN, end};
-use crate::words::job_of;
+use crate::words::task_of;
 use cif_columns::{ReadDevice, Sink, Source, WriteDevice};
 use cif_extract::Fault;
 use std::alloc::Global;
@@ -44,11 +45,14 @@ fn asked<R: Env + Files + Input + Print + AllocGlobal, W: WriteDevice>(
     errors: &mut Sink<W>,
 ) -> u8 {
     let verbose = is_verbose(words.as_slice());
-    match job_of(rt.alloc(), words) {
-        Ok(job) => {
-            let status = done(rt, &job, verbose, errors);
+    match task_of(rt.alloc(), words) {
+        Ok(task) => {
+            let status = match &task {
+                Task::Extract(job) => done(rt, job, verbose, errors),
+                Task::Feed(job) => feed_task(rt, job, verbose, errors),
+            };
             // The process ends after this: nothing is gained by freeing it.
-            mem::forget(job);
+            mem::forget(task);
             status
         }
         Err(fault) => refused(rt, fault, verbose, errors),

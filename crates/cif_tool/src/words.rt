@@ -4,14 +4,14 @@ ghost use Rattle.std.specs.Prelude.{codes, map, option_map, string_bytes};
 ghost use Rattle.clap.specs.Words.{first_of, found_of, kind_of, rows_of};
 ghost use Rattle.clap.specs.Words.{subcommand_rows_of};
 ghost use Rattle.cif_columns.specs.Day.{StandsInYymmdd};
-ghost use Rattle.cif_tool.specs.Job.{Asks, HasFile, HasWord, IsAskedBy};
+ghost use Rattle.cif_tool.specs.Job.{Asks, HasFile, HasWord, IsAskedBy, IsTaskChosen};
 ghost use Rattle.cif_tool.specs.Job.{IsChosen, IsDateOf, IsTaken, IsUidWord, form_of, format_of, is_set};
 ghost use Rattle.cif_tool.specs.Job.{is_standard, listing_of};
-ghost use Rattle.cif_tool.specs.JobFault.{HasBadDate, IsFaultOf, IsJobOf, IsWordFault, NamesNoDay};
-ghost use Rattle.cif_tool.specs.JobFault.{IsNoUid};
+ghost use Rattle.cif_tool.specs.JobFault.{HasBadDate, IsFaultOf, IsJobOf, IsTaskOf, IsWordFault};
+ghost use Rattle.cif_tool.specs.JobFault.{IsNoUid, NamesNoDay};
 
 use crate::command_line::matches_of;
-use crate::job::{Job, JobFault};
+use crate::job::{Job, JobFault, Task};
 use cif_canon::{Asked, Format};
 use cif_columns::{Day, Uid, are_printable};
 use cif_views::Listing;
@@ -34,7 +34,7 @@ static FORMATS: [&str; 2] = ["text", "tsv"];
 /// call itself.
 // Inlined, it would keep `clap`'s 25 KiB on the stack while the job is done.
 #[inline(never)]
-pub fn job_of(alloc: Global, words: Vec<String>) -> Result<Job, JobFault>
+pub fn task_of(alloc: Global, words: Vec<String>) -> Result<Task, JobFault>
     ensures asked { IfOk result (Asks (map string_bytes words.items)) }
     ensures refused { IfErr result (IsFaultOf (map string_bytes words.items)) }
 {
@@ -44,7 +44,7 @@ pub fn job_of(alloc: Global, words: Vec<String>) -> Result<Job, JobFault>
         FORMATS.as_slice(),
         words.as_slice(),
     ) {
-        Ok(matches) => chosen_job(alloc, &matches),
+        Ok(matches) => chosen_task(alloc, &matches),
         Err(error) => Err(fault_of_error(error)),
     }
 }
@@ -91,16 +91,24 @@ fn fault_of_error(error: clap::Error) -> JobFault
 // ---- the jobs
 
 /// What the subcommand that was entered asks for.
-fn chosen_job(alloc: Global, matches: &ArgMatches<'_>) -> Result<Job, JobFault>
+fn chosen_task(alloc: Global, matches: &ArgMatches<'_>) -> Result<Task, JobFault>
     requires { IsSomeAnd (subcommand_rows_of matches.now) IsTaken }
-    ensures ok { IfOk result (λ job. IsSomeAnd (subcommand_rows_of matches.now) (IsChosen job)) }
+    ensures ok { IfOk result (λ task. IsSomeAnd (subcommand_rows_of matches.now) (IsTaskChosen task)) }
     ensures err { IfErr result (λ fault.
         IsSomeAnd (subcommand_rows_of matches.now) (IsWordFault fault)) }
 {
     match matches.subcommand() {
-        Some((name, inner)) => named_job(alloc, name, inner),
+        Some((name, inner)) => named_task(alloc, name, inner),
         None => unreachable!(),
     }
+}
+
+/// What the subcommand of this name asks for.
+fn named_task(alloc: Global, name: &str, matches: &ArgMatches<'_>) -> Result<Task, JobFault>
+    requires { IsTaken (name.now, rows_of (found_of matches.now)) }
+    ensures { IsTaskOf (name.now, rows_of (found_of matches.now)) result }
+{
+    Ok(Task::Extract(named_job(alloc, name, matches)?))
 }
 
 /// What the subcommand of this name asks for.
