@@ -193,7 +193,7 @@ pub(crate) const TO: &str = "Last date of the window [default: the header's]";
 
 pub(crate) const VERBOSE: &str = "Say more on standard error";
 
-pub(crate) const ALL: &str = "Judge each line by itself, and count the reasons to refuse them";
+pub(crate) const ALL: &str = "Judge each line by itself, and count the reasons";
 
 pub(crate) const COMMON: &str = "Use the common window for dates that aren't given";
 
