@@ -10,6 +10,7 @@ use crate::words::mistaken_word;
 use arrayvec::ArrayString;
 use cif_columns::{LINE_WIDTH, MAX_LINES, Refusal, Sink, WriteDevice, as_text};
 use cif_extract::{Clash, Extract, Fault};
+use cif_feed::FeedFault;
 use cif_views::explain_view;
 use itoa::Buffer;
 use std::alloc::Global;
@@ -62,6 +63,37 @@ fn add_advice<'a, 'b, R: Files + Input>(
             let _ = add_clash(alloc, clash, left, right, kept, message);
         }
         Err(Fault::Memory) => {}
+    }
+}
+
+/// Adds what helps with a fault of a published extract or an update, which this input gave.
+pub(crate) fn advise_on_feed<R: Files + Input>(
+    alloc: Global,
+    fault: &FeedFault,
+    input: &ExtractInput<'_, R>,
+    message: &mut Message,
+) {
+    let line = match fault {
+        FeedFault::Extract(Fault::Refused { line, why }) => {
+            return add_refusal(input, *line, *why, message);
+        }
+        FeedFault::Extract(Fault::Read) => {
+            return add_failure(alloc, input.side(), input.name(), input.failure, message);
+        }
+        FeedFault::Extract(_) => return,
+        FeedFault::NotUpdate { line }
+        | FeedFault::BadTransaction { line }
+        | FeedFault::NotThere { line }
+        | FeedFault::AlreadyThere { line } => *line,
+    };
+    add_input(input, message);
+    if let Some(line) = refused_line(input, line) {
+        message.line(&[shown(line.bytes.as_slice()).as_str()]);
+    }
+    match fault {
+        FeedFault::NotUpdate { .. } => message.line(&["column 47: must be U, of an update"]),
+        FeedFault::BadTransaction { .. } => message.line(&["column 3: must be N, R or D"]),
+        _ => message.line(&["--lenient goes on after such a line"]),
     }
 }
 

@@ -16,7 +16,7 @@ use std::rt::Files;
 use std::{env, io, mem};
 
 /// The bytes of output that are gathered before they are written.
-const OUTPUT_BUFFER: usize = 65_536;
+pub(crate) const OUTPUT_BUFFER: usize = 65_536;
 
 const NOT_TEXT: &str =
     "error: an argument is no text in UTF-8\n\nFor more information, try '--help'.\n";
