@@ -207,7 +207,11 @@ pub(crate) fn advise_on_word<W: WriteDevice>(
     let must = match fault {
         JobFault::BadDate => "': must be a valid date as six digits, YYMMDD",
         JobFault::BadUid => "': must be six printable ASCII characters",
-        JobFault::Usage(_) | JobFault::OneInput | JobFault::Memory => return,
+        JobFault::Usage(_)
+        | JobFault::OneInput
+        | JobFault::OneInputOfPrepare
+        | JobFault::OneInputOfUpdate
+        | JobFault::Memory => return,
     };
     if let Some(word) = mistaken_word(alloc, words, fault) {
         let mut message = Message::new(alloc);

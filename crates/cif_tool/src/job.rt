@@ -132,7 +132,7 @@ pub enum FeedJob {
 }
 
 /// The bytes of the longest line that names a fault, with its line feed.
-const LONGEST_LINE: usize = 44;
+const LONGEST_LINE: usize = 49;
 
 /// Why a call of `cif` asks for nothing.
 #[derive(Drop)]
@@ -145,6 +145,10 @@ pub enum JobFault {
     BadUid,
     /// Both inputs of `compare` or `diff` are the standard input.
     OneInput,
+    /// The holidays and the extract of `prepare` are both the standard input.
+    OneInputOfPrepare,
+    /// Two or more of the extracts of `update` are the standard input.
+    OneInputOfUpdate,
     /// Memory ran out.
     Memory,
 }
@@ -208,7 +212,11 @@ impl JobFault {
                 ErrorKind::DisplayHelp | ErrorKind::DisplayVersion => DONE,
                 _ => MISTAKEN,
             },
-            JobFault::BadDate | JobFault::BadUid | JobFault::OneInput => MISTAKEN,
+            JobFault::BadDate
+            | JobFault::BadUid
+            | JobFault::OneInput
+            | JobFault::OneInputOfPrepare
+            | JobFault::OneInputOfUpdate => MISTAKEN,
             JobFault::Memory => FAILED,
         }
     }
@@ -223,6 +231,8 @@ impl JobFault {
             JobFault::BadDate => Some("cif: bad date"),
             JobFault::BadUid => Some("cif: bad UID"),
             JobFault::OneInput => Some("cif: LEFT and RIGHT are both standard input"),
+            JobFault::OneInputOfPrepare => Some("cif: --holidays and FILE are both standard input"),
+            JobFault::OneInputOfUpdate => Some("cif: two inputs are standard input"),
             JobFault::Memory => Some("cif: Memory"),
         }
     }
