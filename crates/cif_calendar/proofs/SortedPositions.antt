@@ -1,42 +1,75 @@
--- Positions that are sorted by the keys of their entries rise.
-use Rattle.std.proofs.Common.{◌≡◌, ◌∙◌, ℕ, ◌≤◌, List, Option, Some, None, false, ap, arith, get_or, sym, subst}
-use Rattle.std.specs.Prelude.{slice_get}
+-- Positions that are sorted by what stands for the keys of their entries rise.
+use Rattle.std.proofs.Common.{◌≡◌, ◌∙◌, ℕ, zero, suc, ◌+◌, ◌≤◌, ◌<◌, List, [], ◌∷◌, ◌++◌, Bool, length, map}
+use Rattle.std.proofs.Common.{ap, arith, get_or, refl, sym, subst}
+use Rattle.std.specs.Prelude.{All, Contains}
 use Rattle.std.specs.Cmp.{IsTotalOrder}
-use Rattle.std.specs.Cmp.Lexicographic.{options_total}
-use Rattle.std.specs.List.Sorted.{IsSortedByKey}
-use Rattle.std.specs.Option.{option_cmp, option_map}
+use Rattle.std.specs.List.{range_with_len}
+use Rattle.std.specs.List.Sorted.{IsPermutation, IsSortedBy}
 use Rattle.std.specs.Ordering.{is_gt, is_lt}
 use Rattle.std.specs.declared.cmp.Ordering.{Ordering}
-use Rattle.std.proofs.lemmas.List.Sorted.{ranks_by, sorted_far}
-use Rattle.std.proofs.lemmas.Option.{same_Some, slice_get-map}
+use Rattle.std.proofs.lemmas.List.{get_or-map, length-map, map-append}
+use Rattle.std.proofs.lemmas.List.Elements.{All-nil, All-push, All-same}
+use Rattle.std.proofs.lemmas.List.Sorted.{All-permutation, Contains-permutation, IsPermutation-map, ranks_by, sorted_far}
 use Rattle.cif_calendar.specs.Terms.{Terms}
-use Rattle.cif_calendar.specs.Keys.{keyed}
-use Rattle.cif_calendar.specs.ByKey.{HasKey, IsRising}
-use Rattle.cif_calendar.proofs.KeyPositions.{not_gt}
+use Rattle.cif_calendar.specs.Ranks.{AreRanked}
+use Rattle.cif_calendar.specs.ByKey.{AreAllByKey, HasKey, IsRising}
+use Rattle.cif_calendar.proofs.KeyPositions.{not_gt, range-within, range-whole}
 
-module _ {E K B : Type 0} (key : E → K) (terms : E → Terms B) where
-  -- the key of the entry at a position, if there is one
-  abbrev pub key_at : List E → ℕ → Option K
-  key_at es i = option_map key (slice_get es i)
+range-more : (a n b : ℕ) → a + n ≡ b → range_with_len a (n + 1) ≡ range_with_len a n ++ b ∷ []
+range-more a zero b is = ap (λ i. i ∷ []) (omega arith)
+range-more a (suc n) b is =
+    let e : suc n + 1 ≡ suc (n + 1) = omega arith in
+    rw e (ap (λ l. a ∷ l) (range-more (a + 1) n b (omega arith)))
 
-  its-key : (e : Option E) (k : K) (t : Terms B) → option_map {U = K × Terms B} (λ x. (key x, terms x)) e ≡ Some (k, t)
-      → option_map key e ≡ Some k
-  its-key (Some x) k t same = ap Some (ap (λ (p : K × Terms B). p.0) (same_Some _ _ same))
-  its-key None k t same = absurd cc
+abbrev pub is_before : {R : Type 0} → (R → R → Ordering) → R × ℕ → R × ℕ → Bool
+is_before cmp p q = is_lt (cmp p.0 q.0)
 
-  at-key : (es : List E) (i : ℕ) (k : K) → HasKey (keyed key terms es) i k → key_at es i ≡ Some k
-  at-key es i k has =
-      its-key (slice_get es i) k has.terms (sym (slice_get-map (λ x. (key x, terms x)) es i) ∙ has.at)
+module _ {K B R : Type 0} (stands_for : R → K → Type 0) (entries : List (K × Terms B)) where
+  -- the first of the pair stands for the key of the entry at the second
+  abbrev Stands : R × ℕ → Type 0
+  Stands p = (k : K) → HasKey entries p.1 k → stands_for p.0 k
 
-  pub rising-from_sort : (cmp : K → K → Ordering) → IsTotalOrder cmp → (es : List E) (positions : List ℕ)
-      → IsSortedByKey (key_at es) (option_cmp cmp) positions → IsRising cmp (keyed key terms es) positions
-  rising-from_sort cmp total es positions sorted = record {
-    pairs = λ i j d lt below a b p q.
-        let le : i ≤ j = omega arith in
-        let far = sorted_far (λ m n. is_lt (option_cmp cmp (key_at es m) (key_at es n))) (ranks_by (options_total total) (key_at es))
-        positions sorted i j d le below in
-        let less : is_lt (option_cmp cmp (Some b) (Some a)) ≡ false =
-        subst (λ o. is_lt (option_cmp cmp o (Some a)) ≡ false) (at-key es _ b q)
-        (subst (λ o. is_lt (option_cmp cmp (key_at es (get_or positions j d)) o) ≡ false) (at-key es _ a p) far) in
-        ap is_gt (total.antisymm a b) ∙ not_gt (cmp b a) less;
+  pub ranked-none : AreRanked stands_for entries 0 []
+  ranked-none = record { positions = refl; ranks = All-nil _ }
+
+  pub ranked-more : (n : ℕ) (ranked : List (R × ℕ)) (r : R) → AreRanked stands_for entries n ranked
+      → ((k : K) → HasKey entries n k → stands_for r k) → AreRanked stands_for entries (n + 1) (ranked ++ (r, n) ∷ [])
+  ranked-more n ranked r h stands = record {
+    positions = map-append (λ (p : R × ℕ). p.1) ranked ((r, n) ∷ []) ∙ ap (λ l. l ++ n ∷ []) h.positions ∙ sym (range-more 0 n n (omega arith));
+    ranks = All-push Stands ranked (r, n) h.ranks stands;
   }
+
+  module _ (rank_cmp : R → R → Ordering) (cmp : K → K → Ordering) (rank_total : IsTotalOrder rank_cmp) (total : IsTotalOrder cmp)
+      (same_order : (r s : R) (a b : K) → stands_for r a → stands_for s b → rank_cmp r s ≡ cmp a b) where
+    -- of two pairs, the later is not before the earlier
+    in-order : (sorted : List (R × ℕ)) (x : R × ℕ) → All Stands sorted
+        → IsSortedBy (is_before rank_cmp) sorted → IsRising cmp entries (map (λ p. p.1) sorted)
+    in-order sorted x ranks up = record {
+      pairs = λ i j d lt below a b p q.
+          let long : length (map (λ (p : R × ℕ). p.1) sorted) ≡ length sorted = length-map sorted (λ p. p.1) in
+          let le : i ≤ j = omega arith in
+          let under : j < length sorted = omega arith in
+          let over : i < length sorted = omega arith in
+          let far = sorted_far (is_before rank_cmp) (ranks_by rank_total (λ (p : R × ℕ). p.0)) sorted up i j x le under in
+          let one = ranks i x over a (subst (λ n. HasKey entries n a) (get_or-map (λ (p : R × ℕ). p.1) sorted i x d over) p) in
+          let other = ranks j x under b (subst (λ n. HasKey entries n b) (get_or-map (λ (p : R × ℕ). p.1) sorted j x d under) q) in
+          ap is_gt (total.antisymm a b)
+          ∙ not_gt (cmp b a) (ap is_lt (sym (same_order _ _ b a other one)) ∙ far);
+    }
+
+    rising : (sorted : List (R × ℕ)) → All Stands sorted
+        → IsSortedBy (is_before rank_cmp) sorted → IsRising cmp entries (map (λ p. p.1) sorted)
+    rising [] ranks up = record { pairs = λ i j d lt below a b p q. absurd (omega arith) }
+    rising (x ∷ sorted) ranks up = in-order (x ∷ sorted) x ranks up
+
+    pub by-ranks : (ranked sorted : List (R × ℕ)) → AreRanked stands_for entries (length entries) ranked → IsPermutation ranked sorted
+        → IsSortedBy (is_before rank_cmp) sorted → AreAllByKey cmp entries (map (λ p. p.1) sorted)
+    by-ranks ranked sorted h moved up =
+        let n = length entries in
+        let swapped = IsPermutation-map (λ (p : R × ℕ). p.1) ranked sorted moved in
+        record {
+          within = All-permutation (λ i. i < n) _ _ swapped (All-same (λ i. i < n) _ _ h.positions (range-within n));
+          whole = λ i l. Contains-permutation _ _ i swapped
+              (subst (λ (xs : List ℕ). Contains xs i) (sym h.positions) (range-whole n i l));
+          rising = rising sorted (All-permutation Stands ranked sorted moved h.ranks) up;
+        }

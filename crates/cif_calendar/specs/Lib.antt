@@ -9,6 +9,7 @@ pub mod Keys
 pub mod Laws
 pub mod Meaning
 pub mod Pieces
+pub mod Ranks
 pub mod Runs
 pub mod Source
 pub mod Steps

@@ -1,7 +1,8 @@
 //! The positions of entries in the order of their keys.
-ghost use Rattle.std.specs.Prelude.{◌≡◌, ◌<◌, All, IfOk, length, option_map, slice_get};
+ghost use Rattle.std.specs.Prelude.{◌≡◌, ◌<◌, All, IfOk, length};
 ghost use Rattle.cif_calendar.specs.Keys.{keyed};
 ghost use Rattle.cif_calendar.specs.ByKey.{AreAllByKey, AreFrom, AreOfFirstKey, IsFirstKey};
+ghost use Rattle.cif_calendar.specs.Ranks.{AreRanked};
 ghost use Rattle.cif_calendar.specs.ByKey.{IsFirstOfBoth, IsFirstOrNone, IsFront, IsRising};
 
 use crate::entry::Entry;
@@ -9,25 +10,39 @@ use std::alloc::{AllocError, Global};
 
 /// The positions of all entries, in the order of their keys.
 pub fn positions_by_key<E: Entry>(alloc: Global, entries: &[E]) -> Result<Vec<usize>, AllocError>
-where
-    E::Key: Drop,
     ensures { IfOk result (λ positions.
         AreAllByKey E.Key.cmp (keyed E.key E.terms entries.now) positions.items) }
 {
-    let mut positions: Vec<usize> = (0..entries.len()).collect(alloc)?;
     // A sort that looked for the keys among the entries would wait for memory at each comparison.
-    positions.sort_by_cached_key(
-        |i|
-            ensures key { result ≡ option_map E.key (slice_get entries.entry.now i.now) }
-            ensures same { entries.exit ≡ entries.entry }
-        {
-            match entries.get(*i) {
-                Some(entry) => Some(entry.copied_key()),
-                None => None,
-            }
-        },
-    )?;
-    Ok(positions)
+    let mut ranked = ranked_positions(alloc, entries)?;
+    ranked.sort_unstable_by(
+        |one, other|
+            ensures { result ≡ E.Rank.cmp one.now.0 other.now.0 }
+        { one.0.cmp(&other.0) },
+    );
+    ranked
+        .iter()
+        .map(
+            |pair|
+                ensures { result ≡ pair.now.1 }
+            { pair.1 },
+        )
+        .collect(alloc)
+}
+
+/// The positions of all entries, each behind what stands for its key.
+fn ranked_positions<E: Entry>(
+    alloc: Global,
+    entries: &[E],
+) -> Result<Vec<(E::Rank, usize)>, AllocError>
+    ensures { IfOk result (λ ranked.
+        AreRanked E.stands_for (keyed E.key E.terms entries.now) (length entries.now) ranked.items) }
+{
+    let mut ranked = Vec::with_capacity(alloc, entries.len())?;
+    for position in 0..entries.len() {
+        ranked.push((entries[position].rank(), position))?;
+    }
+    Ok(ranked)
 }
 
 /// How many of the positions, from the first on, are of entries with one key. The positions are in

@@ -17,11 +17,17 @@ pub trait Entry {
     /// What the record is about: a train's UID, or the five fields that name an association.
     type Key: Ord;
 
+    /// What stands for a key where keys are sorted.
+    type Rank: Ord + Drop;
+
     /// What runs on the record's dates. Two bodies that are equal are the same thing to run.
     type Body: Eq;
 
     // What the record is about.
     ghost key: { Self → Self.Key };
+
+    // The rank stands for the key.
+    ghost stands_for: { Self.Rank → Self.Key → Type 0 };
 
     // Its dates, its letter and what runs.
     ghost terms: { Self → Terms Self.Body };
@@ -30,9 +36,9 @@ pub trait Entry {
     fn key(&self) -> &Self::Key
         ensures { result.now ≡ key self.now };
 
-    /// A copy of what the record is about.
-    fn copied_key(&self) -> Self::Key
-        ensures { result ≡ key self.now };
+    /// What stands for the key of the record.
+    fn rank(&self) -> Self::Rank
+        ensures { stands_for result (key self.now) };
 
     /// The first date on which the record may apply.
     fn first(&self) -> Day
@@ -57,6 +63,10 @@ pub trait Entry {
     // Keys that compare equal are the same key; that their order is total is a law of `Ord`.
     ghost same_key: { (a b : Self.Key) → IsTrue (Self.Key.eq a b) ↔ (a ≡ b) };
 
+    // Ranks have the order of their keys.
+    ghost same_order: { (r s : Self.Rank) (a b : Self.Key) → stands_for r a → stands_for s b
+        → Self.Rank.cmp r s ≡ Self.Key.cmp a b };
+
     // Bodies that compare equal are the same body.
     ghost same_body: { (a b : Self.Body) → IsTrue (Self.Body.eq a b) ↔ (a ≡ b) };
 
@@ -70,15 +80,21 @@ pub trait Entry {
 impl Entry for Association {
     type Key = AssocKey;
 
+    type Rank = AssocKey;
+
     type Body = AssocBody;
 
     ghost use Rattle.std.proofs.Common.{rules};
     ghost use Rattle.std.proofs.lemmas.Grind.{common_steps};
+    ghost use Rattle.cif_records.specs.AssocKey.{key_cmp};
     ghost use Rattle.cif_calendar.specs.Entries.{association_terms};
+    ghost use Rattle.cif_calendar.specs.Ranks.{order_of_keys};
     ghost use Rattle.cif_calendar.specs.Laws.Bodied.{cancelled-from_bodied};
     ghost use Rattle.std.specs.Cmp.Lexicographic.{pointwise_decides, bytes_decides};
 
     ghost key = { λ a. a.key };
+
+    ghost stands_for = { λ rank key. rank ≡ key };
 
     ghost terms = { association_terms };
 
@@ -86,7 +102,7 @@ impl Entry for Association {
         &self.key
     }
 
-    fn copied_key(&self) -> AssocKey {
+    fn rank(&self) -> AssocKey {
         self.key.copy()
     }
 
@@ -114,6 +130,8 @@ impl Entry for Association {
 
     ghost same_body = { Prim.search (rules, common_steps, pointwise_decides, bytes_decides) };
 
+    ghost same_order = { order_of_keys key_cmp };
+
     ghost dates_ordered = { λ a. a.in_order };
 
     ghost cancelled = { λ a. cancelled-from_bodied a.letter a.body a.bodied };
@@ -122,16 +140,22 @@ impl Entry for Association {
 impl Entry for Schedule {
     type Key = Uid;
 
+    // The columns as one number, since two numbers are compared in a third of the time.
+    type Rank = u64;
+
     type Body = Body;
 
     ghost use Rattle.std.proofs.Common.{rules};
     ghost use Rattle.std.proofs.lemmas.Grind.{common_steps};
     ghost use Rattle.cif_calendar.specs.Entries.{schedule_terms};
+    ghost use Rattle.cif_calendar.specs.Ranks.{IsNumberOf, order_of_numbers};
     ghost use Rattle.cif_calendar.specs.Laws.Bodied.{cancelled-from_bodied};
     ghost use Rattle.cif_extract.specs.Laws.SameBody.{same_body};
     ghost use Rattle.std.specs.Cmp.Lexicographic.{bytes_decides};
 
     ghost key = { λ s. s.uid };
+
+    ghost stands_for = { IsNumberOf };
 
     ghost terms = { schedule_terms };
 
@@ -139,8 +163,9 @@ impl Entry for Schedule {
         &self.uid
     }
 
-    fn copied_key(&self) -> Uid {
-        self.uid
+    fn rank(&self) -> u64 {
+        let [a, b, c, d, e, f] = self.uid.write();
+        u64::from_be_bytes([0, 0, a, b, c, d, e, f])
     }
 
     fn first(&self) -> Day {
@@ -166,6 +191,8 @@ impl Entry for Schedule {
     ghost same_key = { Prim.search (rules, common_steps, bytes_decides) };
 
     ghost same_body = { same_body };
+
+    ghost same_order = { order_of_numbers };
 
     ghost dates_ordered = { λ s. s.in_order };
 

@@ -26,8 +26,6 @@ pub fn clashing_keys<E: Entry>(
     entries: &[E],
     window: &Window,
 ) -> Result<Vec<KeyClash>, AllocError>
-where
-    E::Key: Drop,
     ensures clashes { IfOk result (λ found. TellClashes E.Key.cmp (keyed E.key E.terms entries.now)
         window.now.first window.now.last found.items) }
     ensures within { IfOk result (λ found. All (λ clash. clash.position < length entries.now) found.items) }

@@ -1,5 +1,5 @@
 -- Why there is no canonical form.
-use Rattle.std.specs.Prelude.{ℕ, ⊤, List, Option}
+use Rattle.std.specs.Prelude.{ℕ, ⊤, List}
 use Rattle.std.specs.Ordering.{nat_cmp}
 use Rattle.std.specs.Cmp.Lexicographic.{slice_cmp}
 use Rattle.cif_calendar.specs.Keys.{AreClear, IsFirstClashOf}

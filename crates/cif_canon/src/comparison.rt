@@ -173,8 +173,6 @@ pub(crate) fn first_difference<'a, E: Entry>(
     right: &'a [E],
     window: &Window,
 ) -> Result<Option<(&'a E, Day)>, AllocError>
-where
-    E::Key: Drop,
     requires left { AreClear (keyed E.key E.terms left.now) window.now.first window.now.last }
     requires right { AreClear (keyed E.key E.terms right.now) window.now.first window.now.last }
     ensures { IfOk result (IsFirstOrNone

@@ -143,8 +143,6 @@ pub(crate) fn different_records<E: Entry>(
     right: &[E],
     window: &Window,
 ) -> Result<Vec<Sided<Run>>, AllocError>
-where
-    E::Key: Drop,
     requires left { AreClear (keyed E.key E.terms left.now) window.now.first window.now.last }
     requires right { AreClear (keyed E.key E.terms right.now) window.now.first window.now.last }
     ensures { IfOk result (λ runs. AreDifferentRuns E.Key.cmp

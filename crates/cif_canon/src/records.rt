@@ -135,7 +135,7 @@ fn make_runs_of_key<E: NamedEntry>(
 
 /// How many entries or records are looked at before they are worked on. In the order of their keys
 /// they stand far from one another; so memory is waited for once, and not for each of them.
-pub(crate) const AT_ONCE: usize = 16;
+pub(crate) const AT_ONCE: usize = 32;
 
 /// Looks at the entries at the positions: each first date is one, but to know it, the entry has to
 /// come from memory.
@@ -162,8 +162,6 @@ pub(crate) fn canonical_records<E: NamedEntry>(
     window: &Window,
     form: Form,
 ) -> Result<Vec<Run>, Fault>
-where
-    E::Key: Drop,
     ensures records { IfOk result (λ runs.
         AreCanonicalRecords E.Key.cmp form (window_from window.now.first window.now.last)
         (keyed E.key E.terms entries.now) runs.items) }

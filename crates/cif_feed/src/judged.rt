@@ -8,12 +8,13 @@ ghost use Rattle.cif_extract.specs.ExtractParts.{ExtractParts};
 ghost use Rattle.cif_extract.specs.ReadFault.{FaultOf, FaultReads, IsOfReading};
 ghost use Rattle.cif_extract.specs.SpellsExtract.{BytesSpellWithin};
 ghost use Rattle.cif_feed.specs.Reasons.{own_reason};
+ghost use Rattle.cif_records.specs.Record.{record_refusal};
 ghost use Rattle.cif_feed.specs.Steps.Judging.{HasJudged, IsFinished, IsInOrder};
 
 use crate::reasons::Reasons;
 use cif_columns::{ContentReader, Line, NextContent, ReadDevice, Refusal, Source};
 use cif_extract::{Extract, Fault, Reading, TakeFault};
-use cif_records::read_record;
+use cif_records::{is_plain_line, kind_of, read_record};
 use std::alloc::Global;
 
 /// What comes of an input whose lines are judged each by itself.
@@ -123,9 +124,9 @@ impl Judging {
         ensures memory { IfErr result (λ fault. fault ≡ Fault.Memory) }
     {
         match content {
-            Ok(line) => match read_record(&line) {
-                Ok(_) => self.order.take(alloc, &line, number),
-                Err(why) => {
+            Ok(line) => match own_refusal(&line) {
+                None => self.order.take(alloc, &line, number),
+                Some(why) => {
                     self.refuse(why, number);
                     Ok(())
                 }
@@ -171,6 +172,22 @@ impl Judging {
                 }),
             },
         }
+    }
+}
+
+/// Why a line is refused by itself, if it is.
+fn own_refusal(line: &Line) -> Option<Refusal>
+    ensures { result ≡ record_refusal line.now }
+{
+    // `read_record` alone would do. Of most lines this spares the reading of their fields.
+    if let Some(kind) = kind_of(line)
+        && is_plain_line(kind, line)
+    {
+        return None;
+    }
+    match read_record(line) {
+        Ok(_) => None,
+        Err(why) => Some(why),
     }
 }
 

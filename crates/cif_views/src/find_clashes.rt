@@ -44,8 +44,6 @@ fn add_clashes<E: NamedEntry>(
     entries: &[E],
     window: &Window,
 ) -> Result<Vec<Clash>, AllocError>
-where
-    E::Key: Drop,
     ensures { IfOk result (λ all. AreAdded E.Key.cmp E.clash_of (keyed E.key E.terms entries.now)
         window.now.first window.now.last known.items all.items) }
 {

@@ -1,35 +1,38 @@
--- The sorted positions are those of all entries, so what holds of these is carried over by the permutation.
-use Rattle.std.proofs.Common.{◌≡◌, ◌<◌, ℕ, List, Ok, arith, length, refl, rules, subst, sym}
-use Rattle.std.specs.Prelude.{Contains}
-use Rattle.std.specs.List.{range_with_len}
+-- The sorted pairs are those of all entries, in the order of what stands for their keys.
+use Rattle.std.proofs.Common.{◌≡◌, ◌∙◌, length, rules, subst, sym, map, ℕ}
 use Rattle.std.specs.declared.alloc.AllocError.{AllocError}
+use Rattle.std.specs.List.Sorted.{IsSortedBy}
 use Rattle.std.proofs.lemmas.Fn.{always_returns_same}
-use Rattle.std.proofs.lemmas.Iterator.{YieldsList-from_range, items_from_collect}
+use Rattle.std.proofs.lemmas.Iterator.{YieldsList-from_map, YieldsList-from_slice, items_from_collect}
+use Rattle.std.proofs.lemmas.Iterator.Consumers.{YieldsList-at}
 use Rattle.std.proofs.lemmas.List.{length-map}
-use Rattle.std.proofs.lemmas.List.Elements.{All-same}
-use Rattle.std.proofs.lemmas.List.Sorted.{All-permutation, Contains-permutation}
+use Rattle.std.proofs.lemmas.List.Sorted.{ranks_by}
+use Rattle.std.proofs.lemmas.Result.{IfOk-weaker}
 use Rattle.cif_calendar.specs.Keys.{keyed}
-use Rattle.cif_calendar.proofs.KeyPositions.{range-within, range-whole}
-use Rattle.cif_calendar.proofs.SortedPositions.{key_at, rising-from_sort}
+use Rattle.cif_calendar.specs.Ranks.{AreRanked}
+use Rattle.cif_calendar.specs.ByKey.{AreAllByKey}
+use Rattle.cif_calendar.proofs.SortedPositions.{by-ranks, is_before}
 use Rattle.cif_calendar.proofs.by_key.positions_by_key.Goals as goal
 
 pub returns : goal.returns
 returns g c =
-    let es = c.args.entries.now in
-    let key = g.E.Entry.key in
-    let terms = g.E.Entry.terms in
-    let n = length (keyed key terms es) in
-    let long : length es ≡ n = sym (length-map es (λ x. (key x, terms x))) in
-    let ps = c.in_ok-positions.positions.items in
-    let qs = c.sort_by_cached_key.new.self.items in
-    let all : ps ≡ range_with_len 0 n =
-    items_from_collect {E = AllocError} (Ok c.in_ok-positions.positions) c.in_ok-positions.ensures.ran
-    (YieldsList-from_range 0 (length es) n refl (omega (arith, long))) in
-    let sorted = c.in_ok-sort_by_cached_key.ensures in
-    record {
-      within = All-permutation (λ i. i < n) ps qs sorted.permutation (All-same (λ i. i < n) ps _ all (range-within n));
-      whole = λ i h. Contains-permutation ps qs i sorted.permutation
-          (subst (λ (xs : List ℕ). Contains xs i) (sym all) (range-whole n i h));
-      rising = rising-from_sort key terms g.E.Key.Ord.cmp g.met.E.Key.Ord.total es qs
-          (sorted.sorted (key_at key terms es) (always_returns_same _ _ _ (λ a r f k. search rules)));
-    }
+    let es = keyed g.E.Entry.key g.E.Entry.terms c.args.entries.now in
+    let cmp = g.E.Rank.Ord.cmp in
+    let stands = g.E.Entry.stands_for in
+    let pairs = c.sort_unstable_by.new.self.items in
+    let long : length c.args.entries.now ≡ length es =
+    sym (length-map c.args.entries.now (λ x. (g.E.Entry.key x, g.E.Entry.terms x))) in
+    let ranked : AreRanked stands es (length es) c.in_ok-ranked.ranked.items =
+    subst (λ n. AreRanked stands es n c.in_ok-ranked.ranked.items) long c.in_ok-ranked.ensures in
+    let up : IsSortedBy (is_before cmp) pairs =
+    c.sort_unstable_by.ensures.sorted (is_before cmp) (ranks_by g.met.E.Rank.Ord.total (λ (p : g.row.E-Rank.Denot × ℕ). p.0))
+    (always_returns_same _ _ _ (λ a r f k. search rules)) in
+    IfOk-weaker c.collect.result (λ w. w.items ≡ map (λ (p : g.row.E-Rank.Denot × ℕ). p.1) pairs)
+    (λ positions. AreAllByKey g.E.Key.Ord.cmp es positions.items)
+    (λ positions is. subst (AreAllByKey g.E.Key.Ord.cmp es) (sym is)
+    (by-ranks stands es cmp g.E.Key.Ord.cmp g.met.E.Rank.Ord.total g.met.E.Key.Ord.total g.met.E.Entry.same_order
+    c.in_ok-ranked.ranked.items pairs ranked c.sort_unstable_by.ensures.permutation up))
+    (items_from_collect {E = AllocError} c.collect.result c.collect.ensures.ran
+    (YieldsList-from_map _ (λ (p : g.row.E-Rank.Denot × ℕ). p.1)
+    (YieldsList-at c.map.ensures.source (YieldsList-from_slice pairs (c.iter.ensures.rest ∙ c.deref.ensures.value))) c.map.ensures.closure
+    (λ x r q k. search rules)))

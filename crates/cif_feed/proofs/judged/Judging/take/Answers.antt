@@ -5,16 +5,16 @@ use Rattle.cif_feed.proofs.JudgedRuns.{line_judged}
 use Rattle.cif_feed.proofs.OwnReasons.{judged_line, own_of_judged, own_of_line}
 use Rattle.cif_feed.proofs.judged.Judging.take.Goals as goal
 
-pub returns-in-Ok-read_record-clause-judged : goal.returns-in-Ok-read_record-clause-judged
-returns-in-Ok-read_record-clause-judged c = λ max contents line judged numbered within is.
+pub returns-in-None-clause-judged : goal.returns-in-None-clause-judged
+returns-in-None-clause-judged c = λ max contents line judged numbered within is.
     line_judged max contents line c.in-Ok.line c.args.self.now c.take.new.self c.take.result (sym c.in-Ok.is ∙ is)
-    c.in-Ok-read_record.ensures.exact.0 judged (λ own. c.take.ensures.taken max contents judged.order numbered within own)
+    (sym c.in-None.ensures) judged (λ own. c.take.ensures.taken max contents judged.order numbered within own)
 
-pub returns-in-Err-read_record-clause-judged : goal.returns-in-Err-read_record-clause-judged
-returns-in-Err-read_record-clause-judged c = λ max contents line judged numbered within is.
+pub returns-in-Some-clause-judged : goal.returns-in-Some-clause-judged
+returns-in-Some-clause-judged c = λ max contents line judged numbered within is.
     let found = judged_line line c.in-Ok.line (sym c.in-Ok.is ∙ is) in
     c.refuse.ensures max contents line judged numbered
-    (own_of_line line found.1 ∙ ap record_refusal found.0 ∙ c.in-Err-read_record.ensures.exact)
+    (own_of_line line found.1 ∙ ap record_refusal found.0 ∙ sym c.in-Some.ensures)
 
 pub returns-in-Err-clause-judged : goal.returns-in-Err-clause-judged
 returns-in-Err-clause-judged c = λ max contents line judged numbered within is.

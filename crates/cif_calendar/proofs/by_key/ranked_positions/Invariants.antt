@@ -1,0 +1,8 @@
+-- The entries so far are ranked.
+use Rattle.cif_calendar.specs.Keys.{keyed}
+use Rattle.cif_calendar.specs.Ranks.{AreRanked}
+use Rattle.cif_calendar.proofs.by_key.ranked_positions.Given as goal
+
+abbrev pub invariant-loop-position : goal.invariant-loop-position
+invariant-loop-position g l =
+    AreRanked g.E.Entry.stands_for (keyed g.E.Entry.key g.E.Entry.terms l.entries) l.position l.ranked.items
