@@ -1,6 +1,8 @@
 pub mod ChangeLaws
 pub mod PartLists
+pub mod PreparedLists
 pub mod PreparedRuns
+pub mod PreparedWriting
 pub mod GrownHolidays
 pub mod DatesFrom
 pub mod WordLists

@@ -1,8 +1,8 @@
 -- A prepared extract runs as the published one: the parts of a record apply where it applies as published, and two sets of records agree on
 -- a day on which each record of one has its match in the other.
 use Rattle.std.proofs.Common.{◌≡◌, ⊎_elim, ◌↔◌, ℕ, ◌≤◌, ◌<◌, Bool, true, false, List, [], ◌∷◌, map, max}
-use Rattle.std.proofs.Common.{Option, Some, None, cond, refl, sym, ap, ◌∙◌, subst, arith, Contains, IsTrue}
-use Rattle.std.proofs.lemmas.List.Elements.{All-contains, Contains-append_cases, Contains-append_left, Contains-append_right}
+use Rattle.std.proofs.Common.{Option, Some, None, cond, refl, sym, ap, ◌∙◌, subst, arith, get_or, Contains, IsTrue}
+use Rattle.std.proofs.lemmas.List.Elements.{All-contains, All-map, Contains-append_cases, Contains-append_left, Contains-append_right}
 use Rattle.cif_calendar.proofs.Elements.{Contains-cases, Contains-first, Contains-rest}
 use Rattle.cif_calendar.specs.Applies.{Applies}
 use Rattle.cif_calendar.specs.Clash.{IsClear}
@@ -15,9 +15,12 @@ use Rattle.cif_feed.specs.Parts.{AreParts, IsPart, ended}
 use Rattle.cif_feed.specs.LastDay.{last_day}
 use Rattle.cif_feed.specs.Prepared.{AreClosed, ArePrepared, HaveSameWinners, part_terms, prepared_last}
 use Rattle.cif_feed.specs.Published.{AppliesAsPublished, CountOn, PublishedTerms}
+use Rattle.cif_feed.specs.PublishedParts.{published_associations, published_schedules}
 use Rattle.cif_feed.specs.declared.holiday_code.HolidayCode.{HolidayCode}
 use Rattle.cif_feed.specs.declared.holidays.Holidays.{Holidays}
 use Rattle.cif_feed.specs.declared.part.Part.{Part}
+use Rattle.cif_feed.specs.declared.published.PublishedAssociation.{PublishedAssociation}
+use Rattle.cif_feed.specs.declared.published.PublishedSchedule.{PublishedSchedule}
 
 -- ---- two sets of records
 
@@ -234,3 +237,11 @@ module _ {K B : Type 0} (h : Holidays) (window_last : ℕ) where
       match-clear d (of_key prepared k) (λ r. CountOn h entries k d r) prepared-match published-match,
       match-clear d (λ r. CountOn h entries k d r) (of_key prepared k) published-match prepared-match,
     )
+
+-- ---- open ends
+
+pub closed-associations : (xs : List PublishedAssociation) → AreClosed (published_associations xs)
+closed-associations xs = All-map (λ e. IsTrue e.1.open_end → e.1.terms.last ≡ last_day) _ xs (λ k d below. (get_or xs k d).closed)
+
+pub closed-schedules : (ss : List PublishedSchedule) → AreClosed (published_schedules ss)
+closed-schedules ss = All-map (λ e. IsTrue e.1.open_end → e.1.terms.last ≡ last_day) _ ss (λ k d below. (get_or ss k d).closed)

@@ -12,6 +12,8 @@ pub mod LastDay
 pub mod PublishedParts
 pub mod Parts
 pub mod Prepared
+pub mod PreparedParts
+pub mod PreparedRecord
 pub mod Published
 pub mod Reasons
 pub mod RecordKeys

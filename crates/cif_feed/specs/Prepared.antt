@@ -1,10 +1,13 @@
 -- The prepared records of published ones.
-use Rattle.std.specs.Prelude.{◌≡◌, ℕ, List, [], ◌∷◌, ◌++◌, All, IsTrue, map, max, if◌then◌else◌}
+use Rattle.std.specs.Prelude.{◌≡◌, ◌↔◌, ℕ, Bool, List, [], ◌∷◌, ◌++◌, Option, All, IsTrue, map, max, if◌then◌else◌}
+use Rattle.cif_calendar.specs.Clash.{IsClear}
+use Rattle.cif_calendar.specs.Runs.{Runs}
 use Rattle.cif_calendar.specs.Terms.{Records, Terms}
 use Rattle.cif_calendar.specs.Wins.{Wins}
 use Rattle.cif_feed.specs.LastDay.{last_day}
 use Rattle.cif_feed.specs.Parts.{AreParts, ended}
 use Rattle.cif_feed.specs.Published.{PublishedTerms}
+use Rattle.cif_feed.specs.declared.holiday_code.HolidayCode.{HolidayCode}
 use Rattle.cif_feed.specs.declared.holidays.Holidays.{Holidays}
 use Rattle.cif_feed.specs.declared.part.Part.{Part}
 
@@ -16,6 +19,14 @@ prepared_last window_last r = if r.open_end then max r.terms.first window_last e
 -- a part of a record: a record with its dates
 abbrev pub part_terms : {B : Type 0} → Terms B → Part → Terms B
 part_terms r p = record r { first = p.first; last = p.last }
+
+-- a part of a record with its key
+abbrev pub part_entry : {K B : Type 0} → K → Terms B → Part → K × Terms B
+part_entry key r p = (key, part_terms r p)
+
+-- a published record of these terms
+abbrev pub published_terms : {B : Type 0} → Terms B → Bool → Option HolidayCode → PublishedTerms B
+published_terms terms open_end code = record { terms = terms; open_end = open_end; code = code }
 
 -- these are the parts of a published record, in a window that ends on this day
 abbrev pub ArePartsOf : {B : Type 0} → Holidays → ℕ → PublishedTerms B → List Part → Type 0
@@ -39,3 +50,9 @@ pub record WinAlso {B : Type 0} (xs ys : Records B) (d : ℕ) : Type 0 where
 -- the same bodies win in both, with the same letters
 abbrev pub HaveSameWinners : {B : Type 0} → Records B → Records B → ℕ → Type 0
 HaveSameWinners xs ys d = WinAlso xs ys d × WinAlso ys xs d
+
+-- the records of the one set say of day d what those of the other do: who wins, what runs, and whether there is a clash
+pub record SayTheSame {B : Type 0} (xs ys : Records B) (d : ℕ) : Type 0 where
+  pub winners : HaveSameWinners xs ys d
+  pub runs : (o : Option B) → Runs xs d o ↔ Runs ys d o
+  pub clear : IsClear xs d ↔ IsClear ys d

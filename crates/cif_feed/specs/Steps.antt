@@ -5,4 +5,6 @@ pub mod HolidayReading
 pub mod Judging
 pub mod Marked
 pub mod PartsSoFar
+pub mod PreparedSoFar
+pub mod PreparedTexts
 pub mod Written

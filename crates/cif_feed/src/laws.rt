@@ -2,14 +2,19 @@
 ghost use Rattle.std.specs.Prelude.{◌≡◌, ◌↔◌, ◌≤◌, ◌++◌, ℕ, Bool, List, Option, None, Contains};
 ghost use Rattle.cif_calendar.specs.Applies.{Applies};
 ghost use Rattle.cif_calendar.specs.Clash.{IsClear};
+ghost use Rattle.cif_calendar.specs.Entries.{association_entries, schedule_entries};
 ghost use Rattle.cif_calendar.specs.Keys.{of_key};
 ghost use Rattle.cif_calendar.specs.Runs.{Runs};
 ghost use Rattle.cif_calendar.specs.Terms.{Terms};
 ghost use Rattle.cif_feed.specs.Changes.{ChangeParts, TellsSame, after_all, last_word, put_last, untouched};
 ghost use Rattle.cif_feed.specs.Changes.{of_key as records_of_key};
 ghost use Rattle.cif_feed.specs.Parts.{AreParts, IsPart, ended};
-ghost use Rattle.cif_feed.specs.Prepared.{AreClosed, ArePrepared, HaveSameWinners, part_terms};
+ghost use Rattle.cif_extract.specs.ExtractParts.{ExtractParts};
+ghost use Rattle.cif_records.specs.declared.association.AssocKey.{AssocKey};
+ghost use Rattle.cif_feed.specs.Prepared.{AreClosed, ArePrepared, HaveSameWinners, SayTheSame, part_terms};
+ghost use Rattle.cif_feed.specs.PreparedParts.{IsPrepared};
 ghost use Rattle.cif_feed.specs.Published.{AppliesAsPublished, CountOn, PublishedTerms};
+ghost use Rattle.cif_feed.specs.PublishedParts.{PublishedParts, published_associations, published_schedules};
 ghost use Rattle.cif_feed.specs.LastDay.{last_day};
 ghost use Rattle.cif_feed.specs.declared.holiday_code.HolidayCode.{HolidayCode};
 ghost use Rattle.cif_feed.specs.declared.holidays.Holidays.{Holidays};
@@ -55,6 +60,18 @@ pub fn prepared_runs_as_published<E: Entry>()
         ↔ ((open_end : Bool) × (code : Option HolidayCode)
         × Contains entries (k, record { terms = r; open_end = open_end; code = code })
         × AppliesAsPublished h code r d) }
+{}
+
+/// On each date of its window, a prepared extract says of each key what the published one does.
+pub fn prepared_extracts_say_the_same()
+    ensures associations { (h : Holidays) (p : PublishedParts) (x : ExtractParts) (k : AssocKey) (d : ℕ)
+        → IsPrepared h p x → d ≤ p.header.last → d ≤ last_day
+        → SayTheSame (of_key (association_entries x.associations) k)
+        (CountOn h (published_associations p.associations) k d) d }
+    ensures trains { (h : Holidays) (p : PublishedParts) (x : ExtractParts) (k : List ℕ) (d : ℕ)
+        → IsPrepared h p x → d ≤ p.header.last → d ≤ last_day
+        → SayTheSame (of_key (schedule_entries x.schedules) k)
+        (CountOn h (published_schedules p.schedules) k d) d }
 {}
 
 /// What changes leave, by a test that tells whether two keys are the same.

@@ -26,10 +26,21 @@ pub(crate) fn feed_task<R: Files + Input + Print + AllocGlobal, W: WriteDevice>(
 ) -> u8 {
     let mut told = Told {
         waived: Vec::new(rt.alloc()),
+        dropped: Vec::new(rt.alloc()),
         message: Message::new(rt.alloc()),
     };
     let answer = match job {
-        FeedJob::Prepare { .. } => return FAILED,
+        FeedJob::Prepare {
+            holidays,
+            drop_clashes,
+            file,
+        } => prepare(
+            rt,
+            holidays.as_deref(),
+            *drop_clashes,
+            file.as_deref(),
+            &mut told,
+        ),
         FeedJob::Update {
             full,
             updates,
@@ -39,6 +50,7 @@ pub(crate) fn feed_task<R: Files + Input + Print + AllocGlobal, W: WriteDevice>(
     let status = match &answer {
         Ok(()) => {
             tell_waived(told.waived.as_slice(), errors);
+            tell_dropped(told.dropped.as_slice(), errors);
             DONE
         }
         Err(fault) => {
@@ -57,8 +69,53 @@ pub(crate) fn feed_task<R: Files + Input + Print + AllocGlobal, W: WriteDevice>(
 struct Told {
     /// The lines that may not be done, and were done all the same.
     waived: Vec<RefusedLine>,
+    /// The clashes whose records were left out.
+    dropped: Vec<Clash>,
     /// What `--verbose` says.
     message: Message,
+}
+
+/// Why a task isn't done.
+#[derive(Drop)]
+enum TaskFault {
+    /// A line of the holidays, by its number, isn't as it has to be.
+    BadHoliday { line: u64 },
+    /// Anything else.
+    Feed(FeedFault),
+}
+
+impl From<FeedFault> for TaskFault {
+    ghost from_gives = { λ feed fault. Unit {0} };
+
+    fn from(fault: FeedFault) -> TaskFault {
+        TaskFault::Feed(fault)
+    }
+}
+
+/// Writes the prepared extract of the file.
+fn prepare<R: Files + Input + Print + AllocGlobal>(
+    rt: &R,
+    holidays: Option<&str>,
+    drop_clashes: bool,
+    file: Option<&str>,
+    told: &mut Told,
+) -> Result<(), TaskFault> {
+    let holidays = read_holidays(rt, holidays, told)?;
+    let extract = read_published(rt, file, &holidays, told)?;
+    let Ok(mut prepared) = extract.prepare(rt.alloc(), &holidays) else {
+        return Err(memory());
+    };
+    if drop_clashes {
+        match prepared.drop_clashes(rt.alloc()) {
+            Ok(dropped) => told.dropped = dropped,
+            Err(_) => return Err(memory()),
+        }
+    }
+    let written = write(rt, &prepared, told);
+    // The process ends after this: the system takes back the memory of all bodies at once.
+    mem::forget(prepared);
+    mem::forget(extract);
+    written
 }
 
 /// Writes what the updates make of the full extract.
