@@ -1,8 +1,8 @@
 -- What a `ContentReader` answers, by what was decided, by what came last, and where its source failed.
-use Rattle.std.proofs.Common.{◌≡◌, ◌≢◌, ◌⊎◌, ℕ, ◌+◌, ◌<◌, ◌≤◌, false, true, List, [], length, Option, Some, IfSome, Result, Ok, Err, refl, sym, ap}
+use Rattle.std.proofs.Common.{◌≡◌, ◌⊎◌, ℕ, ◌+◌, ◌≤◌, false, true, List, length, Option, Result, Ok, Err, refl, sym, ap}
 use Rattle.std.proofs.Common.{◌∙◌, arith, subst, ⊎_elim}
-use Rattle.std.specs.Io.KnownBytes.{IsAtEnd, Keeps, prepend_known}
-use Rattle.cif_columns.specs.ContentReader.{AnswersContent, HoldsNext, IsDecidedNext, IsLastOf, IsNextOf, IsUndecided, given, held, left, limit}
+use Rattle.std.specs.Io.KnownBytes.{IsAtEnd, Keeps}
+use Rattle.cif_columns.specs.ContentReader.{IsDecidedNext, IsLastOf, IsNextOf, IsUndecided, given, held, left, limit}
 use Rattle.cif_columns.specs.FirstLine.{first_content}
 use Rattle.cif_columns.specs.NextContent.{before_feed}
 use Rattle.cif_columns.specs.Source.{HasFailedToRead, HasReadOn, reader_of, source_ended, source_failed}

@@ -1,18 +1,17 @@
 -- The contents that a `ContentReader` has given so far, and how that ends.
 use Rattle.std.proofs.Common.{◌≡◌, ◌≢◌, ℕ, ◌+◌, ◌<◌, ◌≤◌, true, false, List, [], ◌∷◌, ◌++◌, length, Option, None, Some, IfSome, IsSomeAnd}
-use Rattle.std.proofs.Common.{Result, Ok, Err, refl, sym, ap, ◌∙◌, arith, append_assoc, append-nil, length-append, subst, true≢false}
+use Rattle.std.proofs.Common.{Result, Ok, Err, refl, sym, ap, ◌∙◌, arith, append_assoc, append-nil, length-append, subst}
 use Rattle.std.proofs.Common.{Bool, nat_eq}
 use Rattle.std.proofs.lemmas.Bool.{eqb-true}
 use Rattle.std.proofs.lemmas.Bool.Decides.{nat_tests}
-use Rattle.std.specs.Io.KnownBytes.{Keeps, prepend_known}
+use Rattle.std.specs.Io.KnownBytes.{prepend_known}
 use Rattle.cif_columns.specs.ContentReader.{AnswersContent, IsNextOf, given, held, left, limit}
 use Rattle.cif_columns.specs.Contents.{contents_of}
-use Rattle.cif_columns.specs.FirstLine.{after_content, first_content, line_of}
+use Rattle.cif_columns.specs.FirstLine.{first_content, line_of}
 use Rattle.cif_columns.specs.JudgedContents.{IsGiven, MayGoOn, has_overlong, judged_contents}
-use Rattle.cif_columns.specs.NextContent.{IsFirst, before_feed}
-use Rattle.cif_columns.specs.Source.{Unread, reader_of, unread_of}
+use Rattle.cif_columns.specs.NextContent.{before_feed}
+use Rattle.cif_columns.specs.Source.{reader_of}
 use Rattle.cif_columns.specs.declared.content_reader.ContentReader.{ContentReader}
-use Rattle.cif_columns.specs.declared.content_reader.NextContent.{NextContent}
 use Rattle.cif_columns.specs.declared.content_reader.NextContent.TheVariants.{Content, Overlong, End}
 use Rattle.cif_columns.specs.declared.refusal.LineFault.TheVariants.{Refused, Read}
 use Rattle.cif_columns.specs.declared.refusal.Refusal.{Refusal}

@@ -1,13 +1,13 @@
 -- The contents of bytes that are judged, one after another.
-use Rattle.std.proofs.Common.{◌≡◌, ◌⊎◌, ℕ, ◌+◌, ◌<◌, ◌≤◌, Bool, true, false, not, cond, nat_eq, nat_le, List, [], ◌∷◌, ◌++◌, ◌||◌, length}
-use Rattle.std.proofs.Common.{take, drop, refl, sym, ap, ◌∙◌, arith, get_or, append_assoc, append-nil, length-append, length-take, ltb-false}
-use Rattle.std.proofs.Common.{drop_of_length-le, ne_eqb, ◌≢◌, All, inl, inr, ⊎_elim}
+use Rattle.std.proofs.Common.{◌≡◌, ℕ, ◌+◌, ◌<◌, ◌≤◌, Bool, true, false, not, cond, nat_le, List, [], ◌∷◌, ◌++◌, ◌||◌, length}
+use Rattle.std.proofs.Common.{refl, sym, ap, ◌∙◌, arith, get_or, append_assoc, append-nil, length-take, ltb-false}
+use Rattle.std.proofs.Common.{drop_of_length-le, ne_eqb, ◌≢◌, All, ⊎_elim}
 use Rattle.std.proofs.lemmas.Bool.{cases_lt, eqb-true, ltb-true}
 use Rattle.std.proofs.lemmas.Bool.Decides.{nat_tests}
 use Rattle.std.proofs.lemmas.List.{get_or-take}
 use Rattle.std.proofs.lemmas.List.Splits.{slice_split_at}
 use Rattle.std.proofs.lemmas.List.Sums.{fails_before_first, passes_at_first, split_at_first}
-use Rattle.std.specs.List.{after_first, before_first, list_any, onto_first, slice_split}
+use Rattle.std.specs.List.{before_first, list_any}
 use Rattle.std.specs.Str.Lines.{lines_of_parts, strip_carriage_return}
 use Rattle.cif_columns.specs.Contents.{contents_of}
 use Rattle.cif_columns.specs.FirstLine.{after_content, first_content, has_line_feed, is_line_feed}

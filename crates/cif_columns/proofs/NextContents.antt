@@ -1,13 +1,13 @@
 -- The content that stands first in held bytes, and so in all that is left.
-use Rattle.std.proofs.Common.{◌≡◌, ◌≢◌, ℕ, ◌+◌, ◌<◌, ◌≤◌, Bool, true, false, cond, List, [], ◌++◌, length, take, drop, min, Option, None, Some}
-use Rattle.std.proofs.Common.{append-nil, subst, IfSome, Result, Ok, Err, refl, sym, ap, ◌∙◌, arith, length-append, ltb-false, drop_of_length-le}
+use Rattle.std.proofs.Common.{◌≡◌, ℕ, ◌+◌, ◌<◌, ◌≤◌, false, cond, List, [], ◌++◌, length, take, drop, min, Option, None, Some}
+use Rattle.std.proofs.Common.{append-nil, subst, IfSome, Result, Ok, refl, sym, ap, ◌∙◌, arith, length-append, ltb-false, drop_of_length-le}
 use Rattle.std.proofs.lemmas.Bool.{ltb-true}
 use Rattle.std.proofs.lemmas.Bool.Decides.{nat_tests}
 use Rattle.std.specs.Io.KnownBytes.{IsAtEnd, Keeps, prepend_known}
 use Rattle.std.specs.List.{before_first}
 use Rattle.std.specs.Str.Lines.{strip_carriage_return}
 use Rattle.cif_columns.specs.ContentReader.{AnswersContent}
-use Rattle.cif_columns.specs.FirstLine.{after_content, first_content, has_line_feed, is_line_feed, line_of}
+use Rattle.cif_columns.specs.FirstLine.{has_line_feed, is_line_feed, line_of}
 use Rattle.cif_columns.specs.NextContent.{IsFirst, IsLast, PassesFirst}
 use Rattle.cif_columns.specs.declared.content_reader.NextContent.{NextContent}
 use Rattle.cif_columns.specs.declared.content_reader.NextContent.TheVariants.{Content, Overlong, End}

@@ -4,7 +4,7 @@ use Rattle.cif_columns.specs.Ahead.{held_bytes, known_left}
 use Rattle.cif_columns.specs.FirstLine.{has_line_feed, line_of}
 use Rattle.cif_columns.specs.LineReader.{LineReads}
 use Rattle.cif_columns.specs.NextContent.{IsFirst, IsLast, PassesFirst, before_feed}
-use Rattle.cif_columns.specs.Source.{reader_of, source_ended, source_failed}
+use Rattle.cif_columns.specs.Source.{source_ended, source_failed}
 use Rattle.cif_columns.specs.declared.content_reader.ContentReader.{ContentReader}
 use Rattle.cif_columns.specs.declared.content_reader.NextContent.{NextContent}
 use Rattle.cif_columns.specs.declared.content_reader.NextContent.TheVariants.{Content, Overlong, End}

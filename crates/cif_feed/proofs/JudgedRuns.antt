@@ -1,6 +1,6 @@
 -- What the judged contents so far have come to, and how their judging ends.
 use Rattle.std.proofs.Common.{◌≡◌, ◌≢◌, ◌⊎◌, ℕ, ◌+◌, ◌-◌, ◌<◌, ◌≤◌, Bool, true, false, cond, nat_eq, nat_lt, List, [], ◌∷◌, ◌++◌, ◌||◌, length, take, Option, Some, None}
-use Rattle.std.proofs.Common.{IfErr, IfOk, IfSome, IsSomeAnd, Result, Ok, Err, refl, sym, ap, ◌∙◌, subst, arith, get_or, inl, inr, length-append}
+use Rattle.std.proofs.Common.{IfErr, IfOk, IfSome, IsSomeAnd, Result, Ok, Err, refl, sym, ap, ◌∙◌, subst, arith, get_or, length-append}
 use Rattle.std.proofs.Common.{length-take, true≢false, ⊎_elim}
 use Rattle.std.proofs.lemmas.Bool.Decides.{nat_tests}
 use Rattle.std.proofs.lemmas.List.Elements.{All-contains, All-head, All-map, All-tail}
@@ -29,7 +29,6 @@ use Rattle.cif_extract.specs.FirstRefusal.{IsRefusedLine, IsTruncated, order_ref
 use Rattle.cif_extract.specs.OrderOfRecords.{place_behind}
 use Rattle.cif_extract.specs.ReadFault.{FaultReads, IsOfReading}
 use Rattle.cif_extract.specs.SpellsExtract.{BytesSpellWithin, SpellExtract}
-use Rattle.cif_extract.specs.declared.extract.Extract.{Extract}
 use Rattle.cif_extract.specs.declared.fault.Fault.{Fault}
 use Rattle.cif_extract.specs.declared.fault.Fault.TheVariants as fault
 use Rattle.cif_extract.proofs.OrderLaws.{spelled_fine}
@@ -37,9 +36,9 @@ use Rattle.cif_extract.proofs.SpelledBytes.{one_spelled, spelled-refused}
 use Rattle.cif_records.specs.Checks.{first_of, unless}
 use Rattle.cif_records.specs.Kind.{kind_in}
 use Rattle.cif_records.specs.Record.{record_refusal}
-use Rattle.cif_feed.specs.Judged.{HaveNone, HaveReasons, IsJudgedAs, IsJudgedFault, IsJudgedWhole, IsOutOfPlace, IsReadAsJudged, JudgedLeaves}
+use Rattle.cif_feed.specs.Judged.{HaveReasons, IsJudgedAs, IsJudgedFault, IsJudgedWhole, IsOutOfPlace, IsReadAsJudged, JudgedLeaves}
 use Rattle.cif_feed.specs.Judged.{NoneHasReason}
-use Rattle.cif_feed.specs.Reasons.{TellReasons, own_reason, reasons_in, reasons_of}
+use Rattle.cif_feed.specs.Reasons.{TellReasons, own_reason, reasons_of}
 use Rattle.cif_feed.specs.Steps.Judging.{HasJudged, IsFinished, IsInOrder, SomeHasReason}
 use Rattle.cif_feed.specs.declared.judged.Judging.{Judging}
 use Rattle.cif_feed.specs.declared.judged.Order.{Order}

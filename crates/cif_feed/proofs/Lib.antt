@@ -18,6 +18,8 @@ pub mod MarkedRecords
 pub mod SaidPublished
 pub mod SaidUpdate
 pub mod ToldLines
+pub mod UpdatesDone
 pub mod OwnReasons
 pub mod ToldReasons
 pub mod JudgedRuns
+pub mod WrittenItems

@@ -1,13 +1,12 @@
 -- The reason of a content by itself, and why it is refused behind others.
 use Rattle.std.proofs.Common.{◌≡◌, ◌≢◌, ℕ, ◌+◌, ◌<◌, ◌≤◌, Bool, true, false, cond, nat_eq, nat_lt, List, [], ◌∷◌, ◌++◌, length, Option, Some, None}
-use Rattle.std.proofs.Common.{Result, Ok, Err, refl, sym, ap, ◌∙◌, subst, arith, append_assoc, length-append, ne_eqb}
+use Rattle.std.proofs.Common.{Ok, Err, refl, sym, ap, ◌∙◌, subst, arith, append_assoc, length-append, ne_eqb}
 use Rattle.std.proofs.lemmas.Bool.{eqb-true}
 use Rattle.std.proofs.lemmas.Bool.Decides.{nat_tests}
 use Rattle.std.proofs.lemmas.List.{map-append}
 use Rattle.std.proofs.lemmas.List.Elements.{All-append, All-cons, All-nil, Contains-append_left, Contains-push}
 use Rattle.std.specs.List.{list_all}
-use Rattle.std.specs.Option.{option_or}
-use Rattle.std.specs.Prelude.{All, Contains}
+use Rattle.std.specs.Prelude.{Contains}
 use Rattle.cif_columns.specs.FirstLine.{is_printable, line_of}
 use Rattle.cif_columns.specs.Line.{IsLine}
 use Rattle.cif_columns.specs.declared.refusal.Refusal.{Refusal}
@@ -15,9 +14,9 @@ use Rattle.cif_columns.specs.declared.refusal.Refusal.TheVariants.{BadLength, Ba
 use Rattle.cif_columns.proofs.PrintableBytes.{printable_fact, printable_true}
 use Rattle.cif_extract.specs.FirstRefusal.{IsRefusedLine, NoneRefused, order_refusal, refusal_of}
 use Rattle.cif_extract.specs.OrderOfRecords.{may_stand, place_behind}
-use Rattle.cif_extract.specs.Taken.{HasTaken, IsTakenBehind, refusal_behind}
+use Rattle.cif_extract.specs.Taken.{refusal_behind}
 use Rattle.cif_extract.specs.declared.place.Place.{Place}
-use Rattle.cif_extract.proofs.FirstRefusals.{line_refusal, none_refused-more, none_refused-none, or_none}
+use Rattle.cif_extract.proofs.FirstRefusals.{line_refusal, none_refused-more, or_none}
 use Rattle.cif_records.specs.Checks.{first_of, unless}
 use Rattle.cif_records.specs.Kind.{kind_in}
 use Rattle.cif_records.specs.Record.{record_refusal}

@@ -111,3 +111,15 @@ refusal there c = if may c.transaction there then [] else record { line = c.line
 abbrev pub refusals : {K I : Type 0} → (K → K → Bool) → List (K × I) → List (ChangeParts K I) → List RefusedLine
 refusals same records [] = []
 refusals same records (c ∷ changes) = refusal (is_there same records c.key) c ++ refusals same (after same records c) changes
+
+-- The new records are the old ones after these changes. Tests that tell whether two keys are the same agree.
+pub record AreAfter {K R : Type 0} (key : R → K) (old : List R) (changes : List (Change K R)) (new : List R) : Type 0 where
+  pub same : K → K → Bool
+  pub tells : TellsSame same
+  pub after : with_keys key new ≡ after_all same (with_keys key old) (changes_of key changes)
+
+-- these are the changes that may not be done, each after those before it
+pub record AreRefused {K R : Type 0} (key : R → K) (old : List R) (changes : List (Change K R)) (refused : List RefusedLine) : Type 0 where
+  pub same : K → K → Bool
+  pub tells : TellsSame same
+  pub are : refused ≡ refusals same (with_keys key old) (changes_of key changes)

@@ -5,3 +5,4 @@ pub mod HolidayReading
 pub mod Judging
 pub mod Marked
 pub mod PartsSoFar
+pub mod Written

@@ -1,12 +1,16 @@
 -- What an update does to a published extract.
-use Rattle.std.specs.Prelude.{◌≡◌, ℕ, ◌==◌, Bool, List, [], ◌∷◌, ◌++◌, if◌then◌else◌}
-use Rattle.cif_records.specs.declared.tiploc.Tiploc.{Tiploc}
-use Rattle.cif_feed.specs.Changes.{TellsSame, after_all, changes_of, refusals, with_keys}
+use Rattle.std.specs.Prelude.{◌≡◌, ◌⊎◌, ℕ, ◌==◌, Bool, true, false, List, [], ◌∷◌, ◌++◌, Some, slice_get, if◌then◌else◌}
+use Rattle.cif_columns.specs.Source.{Unread}
+use Rattle.cif_feed.specs.Changes.{AreAfter, AreRefused}
+use Rattle.cif_feed.specs.FeedFault.{IsFeedFault, IsOfFeed}
+use Rattle.cif_feed.specs.HolidayCode.{all_codes}
 use Rattle.cif_feed.specs.PublishedParts.{PublishedParts}
 use Rattle.cif_feed.specs.RecordKeys.{association_key, schedule_key, tiploc_key}
-use Rattle.cif_feed.specs.UpdateParts.{AssociationKey, ScheduleKey, UpdateParts}
-use Rattle.cif_feed.specs.declared.changes.Change.{Change}
+use Rattle.cif_feed.specs.UpdateParts.{AssociationKey, BytesSpellUpdate, ScheduleKey, UpdateParts}
 use Rattle.cif_feed.specs.declared.changes.RefusedLine.{RefusedLine}
+use Rattle.cif_feed.specs.declared.feed.Feed.TheVariants.{Update}
+use Rattle.cif_feed.specs.declared.feed.FeedFault.{FeedFault}
+use Rattle.cif_feed.specs.declared.feed.FeedFault.TheVariants.{NotThere, AlreadyThere}
 use Rattle.cif_feed.specs.declared.published.PublishedAssociation.{PublishedAssociation}
 use Rattle.cif_feed.specs.declared.published.PublishedSchedule.{PublishedSchedule}
 
@@ -17,10 +21,6 @@ published_association_key a = association_key a.association
 abbrev pub published_schedule_key : PublishedSchedule → ScheduleKey
 published_schedule_key s = schedule_key s.schedule
 
--- the new records are the old ones after these changes
-pub record AreAfter {K R : Type 0} (key : R → K) (old : List R) (changes : List (Change K R)) (new : List R) : Type 0 where
-  pub after : (same : K → K → Bool) → TellsSame same → with_keys key new ≡ after_all same (with_keys key old) (changes_of key changes)
-
 -- The new extract is the old one after the update: it has the header of the update, and of each kind what was there and was not taken
 -- out, and then what was put.
 pub record IsUpdated (u : UpdateParts) (old new : PublishedParts) : Type 0 where
@@ -28,10 +28,6 @@ pub record IsUpdated (u : UpdateParts) (old new : PublishedParts) : Type 0 where
   pub tiplocs : AreAfter tiploc_key old.tiplocs u.tiplocs new.tiplocs
   pub associations : AreAfter published_association_key old.associations u.associations new.associations
   pub schedules : AreAfter published_schedule_key old.schedules u.schedules new.schedules
-
--- these are the changes that may not be done, each after those before it
-pub record AreRefused {K R : Type 0} (key : R → K) (old : List R) (changes : List (Change K R)) (refused : List RefusedLine) : Type 0 where
-  pub are : (same : K → K → Bool) → TellsSame same → refused ≡ refusals same (with_keys key old) (changes_of key changes)
 
 -- each of the refused lines once, under its first refusal; those of one line stand together
 abbrev pub told_once : ℕ → List RefusedLine → List RefusedLine
@@ -47,3 +43,45 @@ pub record AreRefusedLines (u : UpdateParts) (old : PublishedParts) (lines : Lis
   pub schedules : List RefusedLine
   pub of_schedules : AreRefused published_schedule_key old.schedules u.schedules schedules
   pub are : lines ≡ told_once 0 (tiplocs ++ (associations ++ schedules))
+
+-- the fault of a line that may not be done
+abbrev pub refused_fault : RefusedLine → FeedFault
+refused_fault r = if r.is_there then AlreadyThere r.line else NotThere r.line
+
+-- A line of an update is refused: the first that may not be done, of an update that these bytes spell, and it isn't lenient.
+pub record IsLineRefused (lenient : Bool) (old : PublishedParts) (max : ℕ) (bytes : List ℕ) (line : RefusedLine) : Type 0 where
+  pub strict : lenient ≡ false
+  pub update : UpdateParts
+  pub spelled : BytesSpellUpdate max bytes update
+  pub lines : List RefusedLine
+  pub refused : AreRefusedLines update old lines
+  pub first : slice_get lines 0 ≡ Some line
+
+-- Why an update is not done to a published extract, where `after` is left of its bytes then: for what can't be read, or for the first line
+-- that may not be done.
+abbrev pub IsUpdateFault : Bool → PublishedParts → ℕ → List ℕ → Unread → FeedFault → Type 0
+IsUpdateFault lenient old max bytes after (NotThere line) =
+    IsLineRefused lenient old max bytes (record { line = line; is_there = false })
+IsUpdateFault lenient old max bytes after (AlreadyThere line) =
+    IsLineRefused lenient old max bytes (record { line = line; is_there = true })
+IsUpdateFault lenient old max bytes after fault = IsFeedFault Update all_codes max bytes after fault
+
+-- An update was done to a published extract: the one that these bytes spell, whose lines that may not be done are those waived. There are
+-- none, unless it is lenient.
+pub record IsUpdatedBy (lenient : Bool) (old : PublishedParts) (max : ℕ) (bytes : List ℕ) (new : PublishedParts) (waived : List RefusedLine)
+    : Type 0 where
+  pub update : UpdateParts
+  pub spelled : BytesSpellUpdate max bytes update
+  pub updated : IsUpdated update old new
+  pub refused : AreRefusedLines update old waived
+  pub strict : lenient ≡ false → waived ≡ []
+
+-- a line is no fault of an update that may be done, or that is lenient
+abbrev pub MayBeDone : Bool → PublishedParts → UpdateParts → Type 0
+MayBeDone lenient old update = (lenient ≡ true) ⊎ AreRefusedLines update old []
+
+-- the faults of doing an update of at most max contents, for any source
+abbrev pub IsOfUpdate : ℕ → FeedFault → Type 0
+IsOfUpdate max (NotThere line) = Unit {0}
+IsOfUpdate max (AlreadyThere line) = Unit {0}
+IsOfUpdate max fault = IsOfFeed max fault

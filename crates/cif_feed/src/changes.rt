@@ -1,12 +1,13 @@
 //! What the lines of an update do to records of one kind.
-ghost use Rattle.std.specs.Prelude.{◌≡◌, ◌↔◌, ◌++◌, [], Bool, List, IfOk, IsTrue, is_some, not, reverse};
+ghost use Rattle.std.specs.Prelude.{◌≡◌, ◌↔◌, ◌++◌, [], List, IfOk, IsTrue, is_some, not, reverse};
 ghost use Rattle.std.specs.Prelude.{option_to_list, if◌then◌else◌};
 ghost use Rattle.std.specs.Ordering.{eq_by_cmp};
 ghost use Rattle.std.specs.BTreeMap.{get};
-ghost use Rattle.cif_feed.specs.Changes.{ChangeParts, after_all, changes_of, may, parts_of, put_last};
-ghost use Rattle.cif_feed.specs.Changes.{TellsSame, refusals, untouched, with_keys};
+ghost use Rattle.cif_feed.specs.Changes.{AreAfter, AreRefused, ChangeParts, changes_of, may, parts_of, put_last};
+ghost use Rattle.cif_feed.specs.Changes.{refusals, untouched, with_keys};
 ghost use Rattle.cif_feed.specs.Steps.Changes.{AreLast, SaysThere, is_position};
 
+use crate::FeedFault;
 use std::alloc::{AllocError, Global};
 use std::collections::BTreeMap;
 
@@ -60,6 +61,21 @@ pub struct RefusedLine {
     pub is_there: bool,
 }
 
+impl RefusedLine {
+    ghost use Rattle.cif_feed.specs.Updated.{refused_fault};
+
+    /// The fault: AlreadyThere or NotThere.
+    pub fn fault(&self) -> FeedFault
+        ensures { result ≡ refused_fault self.now }
+    {
+        if self.is_there {
+            FeedFault::AlreadyThere { line: self.line }
+        } else {
+            FeedFault::NotThere { line: self.line }
+        }
+    }
+}
+
 /// Does the changes, one after another: the records of a change's key are taken out, and what it
 /// puts comes last. Gives those that may not be done, in their order: a new record whose key is there, and a
 /// revision or a deletion of a key that isn't. They are done all the same.
@@ -68,12 +84,10 @@ pub fn apply<R: Keyed + Drop>(
     records: &mut Vec<R>,
     mut changes: Vec<Change<R::Key, R>>,
 ) -> Result<Vec<RefusedLine>, AllocError>
-    ensures records { IfOk result (λ _. (same : R.Key → R.Key → Bool) → TellsSame same
-        → with_keys R.key records.new.items
-        ≡ after_all same (with_keys R.key records.old.items) (changes_of R.key changes.items)) }
-    ensures refused { IfOk result (λ refused. (same : R.Key → R.Key → Bool) → TellsSame same
-        → refused.items
-        ≡ refusals same (with_keys R.key records.old.items) (changes_of R.key changes.items)) }
+    ensures records { IfOk result (λ _.
+        AreAfter R.key records.old.items changes.items records.new.items) }
+    ensures refused { IfOk result (λ refused.
+        AreRefused R.key records.old.items changes.items refused.items) }
 {
     let last = last_changes::<R>(alloc, changes.as_slice())?;
     let there = keys_there(alloc, records.as_slice(), &last)?;

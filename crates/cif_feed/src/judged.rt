@@ -35,6 +35,8 @@ impl Judged {
     /// before it have; or else where no line has a reason, and the lines spell no extract for their
     /// order, or want a trailer. Read comes where the source failed before all lines were judged, and
     /// Memory where what a line says can't be kept. No other fault is answered.
+    // Inlined, it would keep what is read ahead on the stack of its caller.
+    #[inline(never)]
     pub fn read<R: ReadDevice>(
         alloc: Global,
         source: &mut Source<R>,

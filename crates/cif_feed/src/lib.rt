@@ -19,6 +19,7 @@ mod reasons;
 mod record_keys;
 mod update;
 mod words;
+mod written;
 
 pub use changes::{Action, Change, Keyed, RefusedLine, apply};
 pub use feed::{Feed, FeedFault};
@@ -32,4 +33,4 @@ pub use part::Part;
 pub use published::{PublishedAssociation, PublishedSchedule};
 pub use published_extract::PublishedExtract;
 pub use reasons::Reasons;
-pub use update::Update;
+pub use update::{Outcome, Update, UpdateCounts};

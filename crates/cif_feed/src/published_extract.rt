@@ -5,6 +5,7 @@ ghost use Rattle.cif_columns.specs.Source.{reader_of, source_failed};
 ghost use Rattle.cif_columns.specs.declared.line_reader.TheConstants.{MAX_LINES};
 ghost use Rattle.cif_extract.specs.ReadFault.{FaultOf, LeavesNothing};
 ghost use Rattle.cif_feed.specs.FeedFault.{FeedReads, IsFeedFault, IsOfFeed, IsReadAs};
+ghost use Rattle.cif_feed.specs.PublishedParts.{with_code, with_open_end};
 ghost use Rattle.cif_feed.specs.SpellsFeed.{feed_parts, passed_of};
 ghost use Rattle.cif_feed.specs.Steps.Marked.{HasMarks};
 ghost use Rattle.cif_feed.specs.declared.feed.Feed.TheVariants.{Full};
@@ -12,8 +13,12 @@ ghost use Rattle.cif_feed.specs.declared.feed.Feed.TheVariants.{Full};
 use crate::feed_reading::{FeedExtract, read_feed};
 use crate::from_lines::{FromLine, from_lines};
 use crate::mark::{Numbered, RecordMark};
-use crate::{Feed, FeedFault, HolidayCodes, Passed, PublishedAssociation, PublishedSchedule};
-use cif_columns::{ReadDevice, Source};
+use crate::profile_line::with_columns;
+use crate::written::{Written, write_records, write_schedule};
+use crate::{
+    Feed, FeedFault, HolidayCode, HolidayCodes, Passed, PublishedAssociation, PublishedSchedule,
+};
+use cif_columns::{Line, LineTexts, ReadDevice, Sink, Source, WriteDevice, WriteFault};
 use cif_extract::{Extract, Fault, Schedule};
 use cif_records::{Association, Header, Tiploc};
 use std::alloc::{AllocError, Global};
@@ -99,6 +104,108 @@ impl PublishedExtract {
             schedules: from_lines(alloc, schedules, schedule_marks)?,
             passed,
         })
+    }
+}
+
+impl PublishedExtract {
+    ghost use Rattle.cif_columns.specs.Sink.{Writes};
+    ghost use Rattle.cif_feed.specs.PublishedParts.{published_parts, published_text};
+
+    /// Appends its text, each line with a line feed: plain lines, but for open ends and holiday codes. It
+    /// takes no memory.
+    pub fn write<W: WriteDevice>(&self, sink: &mut Sink<W>) -> Result<(), WriteFault>
+        ensures { Writes W.contents W.write_errors
+            (published_text (published_parts self.now)) sink.old sink.new result }
+    {
+        write_records(
+            &self.header,
+            self.tiplocs.as_slice(),
+            self.associations.as_slice(),
+            self.schedules.as_slice(),
+            sink,
+        )
+    }
+}
+
+impl PublishedAssociation {
+    ghost use Rattle.cif_feed.specs.PublishedParts.{published_association_line};
+
+    /// Its line: plain, but for an open end.
+    fn line(&self) -> Line
+        ensures { result ≡ published_association_line self.now }
+    {
+        let association = &self.association;
+        let line = association.line_on(association.first, association.last);
+        with_open_end(self.open_end, 22, &line)
+    }
+}
+
+impl PublishedSchedule {
+    ghost use Rattle.cif_feed.specs.PublishedParts.{published_basic_line};
+
+    /// The line of its BS: plain, but for an open end and a holiday code.
+    fn basic_line(&self) -> Line
+        ensures { result ≡ published_basic_line self.now }
+    {
+        let schedule = &self.schedule;
+        let line = schedule.line_on(schedule.first, schedule.last);
+        with_code(self.code, &with_open_end(self.open_end, 16, &line))
+    }
+}
+
+/// The line, with an open end in the six columns from `first` on, if there is one.
+fn with_open_end(open_end: bool, first: usize, line: &Line) -> Line
+    requires from_one { 1 ≤ first }
+    requires within { first ≤ 75 }
+    ensures { result ≡ with_open_end open_end first line.now }
+{
+    if open_end {
+        with_columns(line, first, b"999999")
+    } else {
+        *line
+    }
+}
+
+/// The line, with a holiday code in column 29, if there is one.
+fn with_code(code: Option<HolidayCode>, line: &Line) -> Line
+    ensures { result ≡ with_code code line.now }
+{
+    match code {
+        Some(code) => with_columns(line, 29, &[code.write()]),
+        None => *line,
+    }
+}
+
+impl Written for PublishedAssociation {
+    ghost use Rattle.cif_feed.specs.Steps.Written.{published_association_text};
+
+    ghost text = { published_association_text };
+
+    fn write<W: WriteDevice>(
+        &self,
+        _texts: &mut LineTexts,
+        sink: &mut Sink<W>,
+    ) -> Result<(), WriteFault> {
+        sink.write_line(&self.line())
+    }
+}
+
+impl Written for PublishedSchedule {
+    ghost use Rattle.cif_feed.specs.Steps.Written.{published_schedule_text};
+
+    ghost text = { published_schedule_text };
+
+    fn write<W: WriteDevice>(
+        &self,
+        texts: &mut LineTexts,
+        sink: &mut Sink<W>,
+    ) -> Result<(), WriteFault> {
+        write_schedule(
+            &self.basic_line(),
+            self.schedule.body.as_ref(),
+            texts,
+            sink,
+        )
     }
 }
 

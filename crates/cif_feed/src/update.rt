@@ -4,14 +4,14 @@ ghost use Rattle.cif_columns.specs.Contents.{contents_of};
 ghost use Rattle.cif_columns.specs.Source.{reader_of, source_failed};
 ghost use Rattle.cif_columns.specs.declared.line_reader.TheConstants.{MAX_LINES};
 ghost use Rattle.cif_extract.specs.ReadFault.{FaultOf, LeavesNothing};
-ghost use Rattle.cif_feed.specs.FeedFault.{FeedReads, IsFeedFault, IsOfFeed, IsReadAs};
+ghost use Rattle.cif_feed.specs.FeedFault.{FeedReads, IsFailure, IsFeedFault, IsOfFeed, IsReadAs};
 ghost use Rattle.cif_feed.specs.HolidayCode.{all_codes};
 ghost use Rattle.cif_feed.specs.PublishedParts.{published_parts};
 ghost use Rattle.cif_feed.specs.SpellsFeed.{feed_parts, passed_of};
 ghost use Rattle.cif_feed.specs.Steps.Marked.{HasMarks};
 ghost use Rattle.cif_feed.specs.UpdateParts.{change_by, tiploc_changes, tiploc_changes_by};
 ghost use Rattle.cif_feed.specs.Updated.{told_once};
-ghost use Rattle.cif_feed.specs.Steps.Changes.{last_line};
+ghost use Rattle.cif_feed.specs.Steps.Changes.{IsDone, last_line};
 ghost use Rattle.cif_feed.specs.declared.feed.Feed.TheVariants as feed;
 
 use crate::feed_reading::{FeedExtract, read_feed};
@@ -37,6 +37,8 @@ pub struct Update {
     pub associations: Vec<Change<(AssocKey, Day, Stp), PublishedAssociation>>,
     /// What its BS do, each with what follows it.
     pub schedules: Vec<Change<(Uid, Day, Stp), PublishedSchedule>>,
+    /// How many lines there are, by what they do.
+    pub counts: UpdateCounts,
     /// What was passed over as it was read.
     pub passed: Passed,
 }
@@ -96,19 +98,26 @@ impl Update {
             associations,
             schedules,
         } = extract;
+        let counts = UpdateCounts::of(
+            tiploc_marks.as_slice(),
+            association_marks.as_slice(),
+            schedule_marks.as_slice(),
+        );
         Ok(Update {
             header,
             tiplocs: tiploc_changes(alloc, tiplocs, tiploc_marks)?,
             associations: from_lines(alloc, associations, association_marks)?,
             schedules: from_lines(alloc, schedules, schedule_marks)?,
+            counts,
             passed,
         })
     }
 }
 
 impl PublishedExtract {
-    ghost use Rattle.cif_feed.specs.UpdateParts.{update_parts};
-    ghost use Rattle.cif_feed.specs.Updated.{AreRefusedLines, IsUpdated};
+    ghost use Rattle.cif_feed.specs.UpdateParts.{BytesSpellUpdate, UpdateParts, update_parts};
+    ghost use Rattle.cif_feed.specs.Updated.{AreRefusedLines, IsOfUpdate, IsUpdateFault, IsUpdated, IsUpdatedBy};
+    ghost use Rattle.cif_feed.specs.Updated.{MayBeDone};
 
     /// Does what the update says. Gives the lines that may not be done, in their order, each once; they are
     /// done all the same.
@@ -123,6 +132,7 @@ impl PublishedExtract {
             tiplocs,
             associations,
             schedules,
+            counts: _,
             passed: _,
         } = update;
         self.header = header;
@@ -134,6 +144,119 @@ impl PublishedExtract {
         let last = tell_once(&mut refused, last, of_associations.as_slice())?;
         tell_once(&mut refused, last, of_schedules.as_slice())?;
         Ok(refused)
+    }
+
+    /// Does what the update says that the source's contents spell, of which at most `max_lines` may come. Of an
+    /// update with a line that may not be done nothing is done, unless it is lenient.
+    ///
+    /// NotThere and AlreadyThere name the first such line; any other fault is one of reading the update. After
+    /// a fault nothing is said of the published extract.
+    pub fn update_from<R: ReadDevice>(
+        &mut self,
+        alloc: Global,
+        source: &mut Source<R>,
+        max_lines: u64,
+        lenient: bool,
+    ) -> Result<Outcome, FeedFault>
+        requires within { max_lines ≤ MAX_LINES }
+        ensures ok { IfSome (R.remaining (reader_of source.old)) (λ bytes. IfOk result (λ done.
+            IsUpdatedBy lenient (published_parts self.old) max_lines bytes (published_parts self.new)
+            done.waived.items)) }
+        ensures only { IfSome (R.remaining (reader_of source.old)) (λ bytes. (u : UpdateParts)
+            → BytesSpellUpdate max_lines bytes u → MayBeDone lenient (published_parts self.old) u
+            → IfErr result IsFailure) }
+        ensures fault { FaultOf R.remaining (IsUpdateFault lenient (published_parts self.old) max_lines)
+            source.old source.new result }
+        ensures answers { IfErr result (IsOfUpdate max_lines) }
+        ensures end { LeavesNothing R.remaining source.old source.new result }
+        ensures endless { IfOk result (λ _. source_failed source.old ≡ false) }
+        ensures device { FeedReads R.read_errors source.old source.new result }
+    {
+        match Update::read(alloc, source, max_lines) {
+            Ok(update) => {
+                let (counts, passed) = (update.counts, update.passed);
+                match self.update(alloc, update) {
+                    Ok(waived) => answer_of(lenient, waived, counts, passed),
+                    Err(AllocError) => Err(FeedFault::Extract(Fault::Memory)),
+                }
+            }
+            Err(fault) => Err(fault),
+        }
+    }
+}
+
+/// What an update did.
+#[derive(Drop)]
+pub struct Outcome {
+    /// The lines that may not be done, and were done all the same. There are none, unless it was lenient.
+    pub waived: Vec<RefusedLine>,
+    /// How many lines it has, by what they do.
+    pub counts: UpdateCounts,
+    /// What was passed over as it was read.
+    pub passed: Passed,
+}
+
+/// What is answered of these lines that may not be done.
+fn answer_of(
+    lenient: bool,
+    waived: Vec<RefusedLine>,
+    counts: UpdateCounts,
+    passed: Passed,
+) -> Result<Outcome, FeedFault>
+    ensures { IsDone lenient waived.items result }
+{
+    match waived.first() {
+        Some(line) if !lenient => Err(line.fault()),
+        _ => Ok(Outcome {
+            waived,
+            counts,
+            passed,
+        }),
+    }
+}
+
+/// How many lines an update has, by what they do.
+#[derive(Clone, Copy, Debug, PartialEq, Eq)]
+pub struct UpdateCounts {
+    /// The TI, and the AA and BS with N.
+    pub put: u64,
+    /// The TA, and the AA and BS with R.
+    pub revised: u64,
+    /// The TD, and the AA and BS with D.
+    pub taken_out: u64,
+}
+
+impl UpdateCounts {
+    /// Of an update with these marks.
+    fn of(
+        tiplocs: &[Numbered<TiplocMark>],
+        associations: &[Numbered<RecordMark>],
+        schedules: &[Numbered<RecordMark>],
+    ) -> UpdateCounts {
+        let mut counts = UpdateCounts {
+            put: 0,
+            revised: 0,
+            taken_out: 0,
+        };
+        for tiploc in tiplocs {
+            counts.add(tiploc.mark.transaction);
+        }
+        for association in associations {
+            counts.add(association.mark.transaction);
+        }
+        for schedule in schedules {
+            counts.add(schedule.mark.transaction);
+        }
+        counts
+    }
+
+    /// Counts a line with this transaction.
+    fn add(&mut self, transaction: Transaction) {
+        match transaction {
+            Transaction::New => self.put = self.put.saturating_add(1),
+            Transaction::Revised => self.revised = self.revised.saturating_add(1),
+            Transaction::Deleted => self.taken_out = self.taken_out.saturating_add(1),
+        }
     }
 }
 

@@ -13,15 +13,16 @@ use Rattle.cif_records.specs.declared.association.AssocKey.{AssocKey}
 use Rattle.cif_records.specs.declared.association.Association.{Association}
 use Rattle.cif_weeks.specs.Window.{IsWithin}
 use Rattle.cif_canon.specs.Asked.{header_window}
-use Rattle.cif_views.specs.Explanation.{AreExplained, Explained, IsExplanation, IsAssociationOf, explained_association_line, explained_train_line}
-use Rattle.cif_views.specs.Explanation.{explanation_heading, IsTrain}
+use Rattle.cif_views.specs.Explanation.{AreExplained, Explained, IsAssociationOf, IsExplanation, IsTrain}
+use Rattle.cif_views.specs.Explanation.{explained_association_line, explained_train_line, explanation_heading}
 use Rattle.cif_views.specs.Steps.Explanation.{AreMarked, ArePlacedInOrder, Placed}
 use Rattle.cif_canon.specs.declared.rows.Format.{Format}
 use Rattle.cif_views.proofs.Explaining.{explained}
 
 pub explanation : (format : Format) (x : ExtractParts) (u : List ℕ) (d : ℕ) → IsWithin (header_window x.header) d
     → (entries : List Association) (placed : List (Placed AssocKey AssocBody)) (marked : List (Explained AssocKey AssocBody))
-    → entries ≡ x.associations → ArePlacedInOrder key_cmp IsAssociationOf (association_entries entries) u d placed → AreMarked placed placed marked
+    → entries ≡ x.associations → ArePlacedInOrder key_cmp IsAssociationOf (association_entries entries) u d placed
+    → AreMarked placed placed marked
     → (trains : List Schedule) (applying : List (Placed (List ℕ) BodyParts)) (shown : List (Explained (List ℕ) BodyParts))
     → trains ≡ x.schedules → ArePlacedInOrder (slice_cmp nat_cmp) IsTrain (schedule_entries trains) u d applying
     → AreMarked applying applying shown

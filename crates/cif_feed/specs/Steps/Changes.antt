@@ -1,7 +1,10 @@
 -- Where changes stand, for the contracts of the steps of doing them. A map is seen as the value at each key.
-use Rattle.std.specs.Prelude.{◌≡◌, ℕ, ◌+◌, ◌==◌, ◌&&◌, Bool, true, false, List, [], ◌∷◌, Option, Some, None, unwrap_or, if◌then◌else◌}
+use Rattle.std.specs.Prelude.{◌≡◌, ℕ, ◌+◌, ◌==◌, ◌&&◌, Bool, true, false, List, [], ◌∷◌, Option, Some, None, Result, Ok, Err, slice_get, unwrap_or, if◌then◌else◌}
 use Rattle.std.specs.Option.{option_or}
 use Rattle.cif_feed.specs.declared.changes.RefusedLine.{RefusedLine}
+use Rattle.cif_feed.specs.declared.feed.FeedFault.{FeedFault}
+use Rattle.cif_feed.specs.declared.feed.FeedFault.TheVariants.{NotThere, AlreadyThere}
+use Rattle.cif_feed.specs.declared.update.Outcome.{Outcome}
 use Rattle.cif_feed.specs.Changes.{ChangeParts, is_changed, is_there}
 
 -- the position of the last change of a key, where the first change has this one
@@ -32,3 +35,12 @@ pub record SaysAlone {K I : Type 0} (same : K → K → Bool) (records : List (K
 abbrev pub last_line : ℕ → List RefusedLine → ℕ
 last_line previous [] = previous
 last_line previous (r ∷ refused) = last_line r.line refused
+
+-- what is answered of lines that may not be done: they are waived, where the update is lenient or there are none; else it is the first
+abbrev pub IsDone : Bool → List RefusedLine → Result Outcome FeedFault → Type 0
+IsDone lenient waived (Ok done) = (done.waived.items ≡ waived) × (lenient ≡ false → waived ≡ [])
+IsDone lenient waived (Err (NotThere line)) =
+    (lenient ≡ false) × (slice_get waived 0 ≡ Some (record { line = line; is_there = false }))
+IsDone lenient waived (Err (AlreadyThere line)) =
+    (lenient ≡ false) × (slice_get waived 0 ≡ Some (record { line = line; is_there = true }))
+IsDone lenient waived (Err fault) = ⊥

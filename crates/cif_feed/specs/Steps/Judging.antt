@@ -1,5 +1,5 @@
 -- What the judging of lines has come to, content by content.
-use Rattle.std.specs.Prelude.{◌≡◌, ◌≢◌, ◌⊎◌, ℕ, List, Contains, Option, Some, Result, Ok, Err}
+use Rattle.std.specs.Prelude.{◌≢◌, ◌⊎◌, ℕ, List, Contains, Some, Result, Ok, Err}
 use Rattle.cif_columns.specs.declared.refusal.Refusal.{Refusal}
 use Rattle.cif_columns.specs.declared.refusal.Refusal.TheVariants.{OutOfOrder, TooManyLines}
 use Rattle.cif_extract.specs.ExtractParts.{extract_parts}

@@ -1,5 +1,5 @@
 -- What stands before a line feed is the first content, and too many bytes without one begin one that is overlong.
-use Rattle.std.proofs.Common.{◌+◌, ◌<◌, ◌≤◌, ◌∙◌, ap, arith, drop, length, refl, sym}
+use Rattle.std.proofs.Common.{◌+◌, ◌≤◌, ◌∙◌, ap, arith, drop, length, refl, sym}
 use Rattle.cif_columns.specs.FirstLine.{line_of}
 use Rattle.cif_columns.proofs.HeldBytes.{range_length, range_rest}
 use Rattle.cif_columns.proofs.NextContents.{holds_no_feed, passes_feed}

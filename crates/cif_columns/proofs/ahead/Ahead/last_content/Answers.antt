@@ -1,5 +1,5 @@
 -- Bytes without a line feed are one content, and nothing is after it.
-use Rattle.std.proofs.Common.{◌<◌, ◌∙◌, ap, arith, length, refl, sym}
+use Rattle.std.proofs.Common.{◌<◌, ◌∙◌, ap, arith, length}
 use Rattle.std.proofs.lemmas.Grind.{common_steps}
 use Rattle.cif_columns.specs.Ahead.{held_bytes}
 use Rattle.cif_columns.specs.FirstLine.{line_of}

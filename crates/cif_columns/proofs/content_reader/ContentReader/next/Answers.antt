@@ -1,7 +1,7 @@
 -- What the held bytes decide is so of all that is left; the loop ends, as undecided bytes are fewer than 10,000.
-use Rattle.std.proofs.Common.{Ok, ap, arith, inl, inr, length, refl, subst, sym, ◌∙◌}
+use Rattle.std.proofs.Common.{Ok, ap, arith, inl, inr, length, refl, sym, ◌∙◌}
 use Rattle.std.proofs.KnownBytes.{Keeps-refl, Keeps-trans}
-use Rattle.cif_columns.specs.ContentReader.{IsUndecided, given, held, limit}
+use Rattle.cif_columns.specs.ContentReader.{held}
 use Rattle.cif_columns.specs.declared.content_reader.ContentReader.{ContentReader}
 use Rattle.cif_columns.proofs.ContentAnswers.{decided_next, failed_next, last_next, still_undecided}
 use Rattle.cif_columns.proofs.ReadSources.{failed_after, read_nothing, read_on_both}

@@ -1,5 +1,5 @@
 -- The invariant names the contents so far: one more (`given_more`), one too many, one that is overlong, and the end are said of them all.
-use Rattle.std.proofs.Common.{◌≡◌, ◌+◌, ◌<◌, ◌≤◌, ◌∙◌, ap, arith, IfSome, inl, inr, length, [], ◌++◌, ◌∷◌, Ok, Err, refl, subst, sym, ⊎_elim}
+use Rattle.std.proofs.Common.{◌≡◌, ◌+◌, ◌<◌, ◌≤◌, ◌∙◌, arith, IfSome, inl, inr, length, [], ◌++◌, ◌∷◌, Ok, Err, refl, subst, sym, ⊎_elim}
 use Rattle.cif_columns.proofs.ContentRuns.{given_all, given_more, given_none, given_overlong}
 use Rattle.cif_columns.proofs.ReadSources.{read_nothing, read_on_both}
 use Rattle.cif_columns.specs.Source.{source_ended, unread_of}

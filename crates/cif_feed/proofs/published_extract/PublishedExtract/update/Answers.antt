@@ -9,9 +9,9 @@ use Rattle.cif_feed.proofs.published_extract.PublishedExtract.update.Goals as go
 pub returns-clause-updated : goal.returns-clause-updated
 returns-clause-updated c = record {
   header = refl;
-  tiplocs = record { after = c.in_ok-of_tiplocs.ensures.records };
-  associations = record { after = c.in_ok-of_associations.ensures.records };
-  schedules = record { after = c.in_ok-of_schedules.ensures.records };
+  tiplocs = c.in_ok-of_tiplocs.ensures.records;
+  associations = c.in_ok-of_associations.ensures.records;
+  schedules = c.in_ok-of_schedules.ensures.records;
 }
 
 pub returns-clause-refused : goal.returns-clause-refused
@@ -21,11 +21,11 @@ returns-clause-refused c =
     let ss = c.in_ok-of_schedules.of_schedules.items in
     record {
       tiplocs = ts;
-      of_tiplocs = record { are = c.in_ok-of_tiplocs.ensures.refused };
+      of_tiplocs = c.in_ok-of_tiplocs.ensures.refused;
       associations = aas;
-      of_associations = record { are = c.in_ok-of_associations.ensures.refused };
+      of_associations = c.in_ok-of_associations.ensures.refused;
       schedules = ss;
-      of_schedules = record { are = c.in_ok-of_schedules.ensures.refused };
+      of_schedules = c.in_ok-of_schedules.ensures.refused;
       are = rw (
         c.in_ok-tell_once.ensures.told,
         c.in_ok-last-2.ensures.told,

@@ -1,0 +1,35 @@
+-- The texts of records, one after another.
+use Rattle.std.specs.Prelude.{ℕ, List, [], ◌∷◌, ◌++◌}
+use Rattle.std.specs.List.{flat_map}
+use Rattle.cif_columns.specs.Contents.{lines_text}
+use Rattle.cif_columns.specs.Field.{plain_line}
+use Rattle.cif_records.specs.Header.{header_table}
+use Rattle.cif_records.specs.Tiploc.{tiploc_table}
+use Rattle.cif_records.specs.Trailer.{trailer_table}
+use Rattle.cif_records.specs.declared.header.Header.{Header}
+use Rattle.cif_records.specs.declared.tiploc.Tiploc.{Tiploc}
+use Rattle.cif_feed.specs.PublishedParts.{published_association_line, published_schedule_lines}
+use Rattle.cif_feed.specs.declared.published.PublishedAssociation.{PublishedAssociation}
+use Rattle.cif_feed.specs.declared.published.PublishedSchedule.{PublishedSchedule}
+
+-- the line of a location, with a line feed
+abbrev pub tiploc_text : Tiploc → List ℕ
+tiploc_text t = plain_line (tiploc_table t) ++ 10 ∷ []
+
+abbrev pub head_text : Header → List ℕ
+head_text header = plain_line (header_table header) ++ 10 ∷ []
+
+abbrev pub trailer_text : List ℕ
+trailer_text = plain_line trailer_table ++ 10 ∷ []
+
+-- the texts of a header, of locations, these of associations and of schedules, and that of the trailer
+abbrev pub records_text : Header → List Tiploc → List ℕ → List ℕ → List ℕ
+records_text header tiplocs associations schedules =
+    head_text header ++ (flat_map tiploc_text tiplocs ++ (associations ++ (schedules ++ trailer_text)))
+
+-- the texts of the records of a published extract
+abbrev pub published_association_text : PublishedAssociation → List ℕ
+published_association_text a = published_association_line a ++ 10 ∷ []
+
+abbrev pub published_schedule_text : PublishedSchedule → List ℕ
+published_schedule_text s = lines_text (published_schedule_lines s)
