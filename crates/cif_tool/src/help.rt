@@ -3,11 +3,11 @@
 pub(crate) const CIF: &str = "Works out what runs on each date of a CIF timetable extract";
 
 pub(crate) const CIF_MORE: &str = "\
-Each command reads full extracts: lines of 80 columns, from HD to ZZ. Published
-ones with holiday codes, open end dates, notes or comments go through `cif
-prepare` first, and update extracts through `cif update`. A date is six digits,
-YYMMDD. Faults go to standard error; --verbose says more about them. `cif help
-COMMAND` says what a command prints.
+Each command reads full extracts: lines of 80 columns, from HD to ZZ. Those
+with holiday codes, open end dates, notes or comments go through `cif prepare`
+first, and update extracts through `cif update`. A date is six digits, YYMMDD.
+Faults go to standard error; --verbose says more about them. `cif help COMMAND`
+says what a command prints.
 
 Example:
   cif normalise extract.cif > canonical.cif
