@@ -1,6 +1,6 @@
 -- Why the words of a call ask for nothing.
-use Rattle.std.specs.Prelude.{◌≡◌, ◌≢◌, ◌⊎◌, ◌<◌, ℕ, List, [], ◌∷◌, ◌++◌, Option, Some, None, ⊤, IfErr, IfOk, IfSome, IsSomeAnd, Result, Ok, Err}
-use Rattle.std.specs.Prelude.{true, codes}
+use Rattle.std.specs.Prelude.{◌≡◌, ◌≢◌, ◌⊎◌, ◌<◌, ℕ, List, [], ◌∷◌, ◌++◌, Option, Some, None, ⊤, IfErr, IfOk, IfSome, IsSomeAnd}
+use Rattle.std.specs.Prelude.{Result, Ok, Err, true, codes}
 use Rattle.clap.specs.Words.{IsAmong, Row, Text, all_of, first_of, kind_of}
 use Rattle.clap.specs.declared.error.ErrorKind.{ErrorKind}
 use Rattle.clap.specs.declared.error.ErrorKind.TheVariants.{DisplayHelp, DisplayVersion}

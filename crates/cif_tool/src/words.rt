@@ -32,8 +32,8 @@ static FORMATS: [&str; 2] = ["text", "tsv"];
 ///
 /// `Usage` comes where `clap` refuses the words, or where they ask for help or for the version;
 /// else `BadUid` where a UID is no UID, else `BadDate` where a date is no date, and else `OneInput`,
-/// `OneInputOfPrepare` or `OneInputOfUpdate` where two inputs are the standard input; `Memory` where memory ran out, in `clap` or in this
-/// call itself.
+/// `OneInputOfPrepare` or `OneInputOfUpdate` where two inputs are the standard input; `Memory` where
+/// memory ran out, in `clap` or in this call itself.
 // Inlined, it would keep `clap`'s 25 KiB on the stack while the job is done.
 #[inline(never)]
 pub fn task_of(alloc: Global, words: Vec<String>) -> Result<Task, JobFault>
