@@ -5,10 +5,10 @@ use Rattle.clap.specs.Words.{Row, Text}
 use Rattle.cif_tool.specs.Job.{IsTaken}
 use Rattle.cif_tool.specs.JobFault.{IsFaultAt}
 use Rattle.cif_tool.proofs.OwnSubcommand.{enters_own}
-use Rattle.cif_tool.proofs.words.job_of.Goals as goal
+use Rattle.cif_tool.proofs.words.task_of.Goals as goal
 
-pub chosen_job-requires : goal.chosen_job-requires
-chosen_job-requires c =
+pub chosen_task-requires : goal.chosen_task-requires
+chosen_task-requires c =
     subst (λ (o : Option (Text × List Row)). IsSomeAnd o IsTaken) (sym c.in-Ok.ensures.ok) (enters_own _ _ _ c.in-Ok.ensures.kinds)
 
 pub returns-clause-refused : goal.returns-clause-refused
