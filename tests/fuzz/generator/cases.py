@@ -17,7 +17,7 @@ from .windows import bounded, some_day, some_window, with_one_end_moved
 Case = namedtuple("Case", "job inputs timetable")
 
 COMMANDS = {"normalise": 32, "check": 6, "compare": 14, "diff": 16, "day": 7, "train": 10, "explain": 9, "clashes": 6}
-COMMANDS |= {"prepare": 12, "update": 14}
+COMMANDS |= {command: 13 for command in OF_FEEDS}
 
 FORMS = (None, None, "1", "1", "2")
 NO_FORMS = ("3", "0", "", "12", "1 ", "one")
