@@ -4,7 +4,7 @@ READ_FAULT="cif: ReadFault"
 WRITE_FAULT="cif: WriteFault"
 
 # The names of the inputs that a row may have
-INPUTS="stdin extract left right holidays full update update2"
+INPUTS="stdin extract left right holidays full update-1 update-2"
 
 # The errors that a call fails with, by their numbers
 EINTR=4
