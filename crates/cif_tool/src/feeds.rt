@@ -168,14 +168,21 @@ fn prepare<R: Files + Input + Print + AllocGlobal>(
         None => Holidays::new(rt.alloc()),
     };
     let extract = read_published(rt, "", file, holidays.codes(), told)?;
-    let Ok(prepared) = extract.prepare(rt.alloc(), &holidays) else {
+    let Ok(mut prepared) = extract.prepare(rt.alloc(), &holidays) else {
         return Err(MEMORY);
     };
     let mut text = counts_of(&extract.passed, open_ends_of(&extract));
-    let _ = write!(text, ", records cut by holidays: {}", 0_u64);
+    let _ = write!(
+        text,
+        ", records cut by holidays: {}",
+        extract.count_cut(&holidays)
+    );
     add_counts("", name_of(file), &extract.header, &text, &mut told.counts);
     if drop_clashes {
-        return Err(MEMORY);
+        match prepared.drop_clashes(rt.alloc()) {
+            Ok(dropped) => told.dropped = dropped,
+            Err(_) => return Err(MEMORY),
+        }
     }
     let written = write(rt, &Answer::Prepared(&prepared), told);
     // The process ends after this: the system takes back the memory of all bodies at once.

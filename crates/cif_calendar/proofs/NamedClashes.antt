@@ -1,19 +1,18 @@
 -- Clashes that are told by positions, and their names one after another.
-use Rattle.std.proofs.Common.{◌≡◌, ℕ, ◌+◌, ◌<◌, ◌≤◌, List, [], ◌∷◌, ◌++◌, Some, take, length, get_or}
+use Rattle.std.proofs.Common.{◌≡◌, ℕ, ◌+◌, ◌<◌, ◌≤◌, List, [], ◌∷◌, ◌++◌, Some, map, take, length, get_or}
 use Rattle.std.proofs.Common.{sym, ◌∙◌, ap, append_assoc, append-nil}
 use Rattle.std.specs.List.{flat_map}
 use Rattle.std.specs.Option.{option_map}
-use Rattle.std.specs.declared.cmp.Ordering.{Ordering}
 use Rattle.std.proofs.lemmas.Grind.{flat_map-append}
 use Rattle.std.proofs.lemmas.List.{take_all, take_more}
 use Rattle.std.proofs.lemmas.List.Concat.{flat_map_single}
 use Rattle.std.proofs.lemmas.List.Folds.{flat_map-map}
 use Rattle.cif_calendar.specs.ByKey.{HasKey}
-use Rattle.cif_calendar.specs.Clashes.{TellClashes, told}
+use Rattle.cif_calendar.specs.Clashes.{told}
 use Rattle.cif_calendar.specs.Terms.{Terms}
 use Rattle.cif_calendar.specs.declared.key_clashes.KeyClash.{KeyClash}
 use Rattle.cif_extract.specs.declared.fault.Clash.{Clash}
-use Rattle.cif_views.specs.Steps.Clashes.{AreAdded, named, named_if}
+use Rattle.cif_calendar.specs.Steps.Clashes.{named, named_if}
 
 module _ {K B : Type 0} (name : K → ℕ → Clash) (es : List (K × Terms B)) (known : List Clash) (found : List KeyClash) where
   -- the name of a clash, by the key at its position
@@ -35,15 +34,13 @@ module _ {K B : Type 0} (name : K → ℕ → Clash) (es : List (K × Terms B)) 
       (append-nil (named name es clash) ∙ named-one clash k has)))
 
   -- all of them
-  pub named-all : (cmp : K → K → Ordering) (first last n : ℕ) → TellClashes cmp es first last found → length found ≤ n →
-      (all : List Clash) → all ≡ known ++ flat_map (named name es) (take n found) → AreAdded cmp name es first last known all
-  named-all cmp first last n t over all so_far = record {
-    found = t.clashes;
-    clashes = t.are;
-    added = so_far ∙ ap (λ (l : List Clash). known ++ l)
-        (ap (flat_map (named name es)) (take_all n found over)
-        ∙ sym (flat_map-map (named_if name) (told es) found)
-        ∙ ap (flat_map (named_if name)) t.tell
-        ∙ flat_map-map (named_if name) Some t.clashes
-        ∙ flat_map_single (λ (f : K × ℕ). name f.0 f.1) t.clashes);
-  }
+  pub named-all : (keys : List (K × ℕ)) → map (told es) found ≡ map Some keys → (n : ℕ) → length found ≤ n →
+      (all : List Clash) → all ≡ known ++ flat_map (named name es) (take n found) →
+      all ≡ known ++ map (λ (k : K × ℕ). name k.0 k.1) keys
+  named-all keys tell n over all so_far =
+      so_far ∙ ap (λ (l : List Clash). known ++ l)
+      (ap (flat_map (named name es)) (take_all n found over)
+      ∙ sym (flat_map-map (named_if name) (told es) found)
+      ∙ ap (flat_map (named_if name)) tell
+      ∙ flat_map-map (named_if name) Some keys
+      ∙ flat_map_single (λ (k : K × ℕ). name k.0 k.1) keys)
