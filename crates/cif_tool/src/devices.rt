@@ -186,7 +186,7 @@ impl<W: Write> Write for Output<'_, W> {
     fn write(&mut self, bytes: &[u8]) -> io::Result<usize> {
         match self.writer.write(bytes) {
             Ok(count) => {
-                self.written.count(&bytes[..count]);
+                self.written.count(bytes.get(..count).unwrap_or(bytes));
                 Ok(count)
             }
             Err(error) => {

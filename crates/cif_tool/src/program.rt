@@ -60,7 +60,7 @@ fn asked<R: Env + Files + Input + Print + AllocGlobal, W: WriteDevice>(
 }
 
 /// Says why the words ask for nothing, and returns the status to exit with.
-// Inlined, it would keep its faults on the stack while the job is done.
+// Inlined, it would keep its faults on the stack while the task is done.
 #[inline(never)]
 fn refused<R: Env + Print + AllocGlobal, W: WriteDevice>(
     rt: &R,
@@ -96,6 +96,8 @@ fn is_verbose(words: &[String]) -> bool {
 }
 
 /// Answers the job on the standard output, and returns the status to exit with.
+// Inlined, it would keep its inputs on the stack while a feed is read.
+#[inline(never)]
 fn done<R: Files + Input + Print + AllocGlobal, W: WriteDevice>(
     rt: &R,
     job: &Job,
