@@ -25,3 +25,12 @@ pub mod OwnReasons
 pub mod ToldReasons
 pub mod JudgedRuns
 pub mod WrittenItems
+pub mod KnownLines
+pub mod OwnLines
+pub mod OwnParts
+pub mod PublishedLines
+pub mod PublishedTexts
+pub mod StillLines
+pub mod FittingUpdates
+pub mod UpdatesInTurn
+pub mod PreparedFits

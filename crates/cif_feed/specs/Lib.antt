@@ -9,6 +9,7 @@ pub mod HolidayText
 pub mod Holidays
 pub mod Judged
 pub mod LastDay
+pub mod OfProfile
 pub mod PublishedParts
 pub mod Parts
 pub mod Prepared
@@ -23,4 +24,6 @@ pub mod ProfileLine
 pub mod Transaction
 pub mod UpdateParts
 pub mod Updated
+pub mod UpdatesInTurn
 pub mod Words
+pub mod WrittenExtracts
