@@ -1,5 +1,6 @@
 -- What an update leaves fits the columns of lines, where what was there does.
-use Rattle.std.proofs.Common.{◌≡◌, ℕ, Bool, true, false, cond, not, List, [], ◌∷◌, ◌++◌, map, filter, Option, Some, None, IfSome, refl, sym, ap, ◌∙◌, subst}
+use Rattle.std.proofs.Common.{◌≡◌, ℕ, Bool, true, false, cond, not, List, [], ◌∷◌, ◌++◌, map, filter, Option, Some, None, IfSome, refl}
+use Rattle.std.proofs.Common.{sym, ap, ◌∙◌, subst}
 use Rattle.std.specs.List.{flat_map}
 use Rattle.cif_columns.specs.Contents.{contents_of}
 use Rattle.cif_columns.specs.Field.{AllFit, Row}
@@ -69,7 +70,8 @@ module _ {K R : Type 0} (P : R → Type 0) where
   put-is key None p = tt
   put-is key (Some r) p = (p, tt)
 
-  after-each : (same : K → K → Bool) (records : List (K × R)) (changes : List (ChangeParts K R)) → Each IsEntry records → Each PutsOne changes
+  after-each : (same : K → K → Bool) (records : List (K × R)) (changes : List (ChangeParts K R)) → Each IsEntry records
+      → Each PutsOne changes
       → Each IsEntry (after_all same records changes)
   after-each same records [] old puts = old
   after-each same records (c ∷ changes) old puts =
@@ -239,7 +241,8 @@ module _ (x : ExtractParts) where
         (fit-append schedules end (each_lists x.schedules e.schedules) e.trailer)),
   )
 
-pub updated_fits : (max : ℕ) (bytes : List ℕ) (u : UpdateParts) (old new : PublishedParts) → BytesSpellUpdate max bytes u → IsUpdated u old new
+pub updated_fits : (max : ℕ) (bytes : List ℕ) (u : UpdateParts) (old new : PublishedParts) → BytesSpellUpdate max bytes u
+    → IsUpdated u old new
     → FitsColumns (of_profile old) → FitsColumns (of_profile new)
 updated_fits max bytes u old new s up fits =
     let lines = s.spell.lines in

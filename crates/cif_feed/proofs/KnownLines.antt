@@ -1,5 +1,6 @@
 -- Contents whose profile lines are known: what these spell, they spell as a published extract.
-use Rattle.std.proofs.Common.{◌≡◌, ℕ, ◌+◌, true, false, cond, not, ◌&&◌, List, [], ◌∷◌, ◌++◌, filter, map, refl, sym, ap, ◌∙◌, subst, inl, Some}
+use Rattle.std.proofs.Common.{◌≡◌, ℕ, ◌+◌, true, false, cond, not, ◌&&◌, List, [], ◌∷◌, ◌++◌, filter, map, refl, sym, ap, ◌∙◌, subst, inl}
+use Rattle.std.proofs.Common.{Some}
 use Rattle.std.proofs.lemmas.List.Elements.{All-cons, All-nil}
 use Rattle.std.specs.List.{enumerate_from, flat_map}
 use Rattle.std.specs.Prelude.{All}
@@ -10,7 +11,8 @@ use Rattle.cif_records.specs.Kind.{kind_in}
 use Rattle.cif_records.specs.declared.record.Kind.{Kind}
 use Rattle.cif_feed.specs.FeedRefusal.{IsFeedContent}
 use Rattle.cif_feed.specs.FromLines.{ArePairs}
-use Rattle.cif_feed.specs.ProfileLine.{association_mark, is_note, is_record_line, marks, profile_line, profile_lines, schedule_mark, tiploc_mark}
+use Rattle.cif_feed.specs.ProfileLine.{association_mark, is_note, is_record_line, marks, profile_line, profile_lines, schedule_mark}
+use Rattle.cif_feed.specs.ProfileLine.{tiploc_mark}
 use Rattle.cif_feed.specs.SpellsFeed.{FeedParts, SpellFeed, passed_of}
 use Rattle.cif_feed.specs.declared.feed.Feed.TheVariants.{Full}
 use Rattle.cif_feed.specs.declared.holiday_code.HolidayCodes.{HolidayCodes}

@@ -34,3 +34,5 @@ pub mod StillLines
 pub mod FittingUpdates
 pub mod UpdatesInTurn
 pub mod PreparedFits
+pub mod WrittenOver
+pub mod FeedLayouts

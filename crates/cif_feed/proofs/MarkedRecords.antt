@@ -175,7 +175,7 @@ wide_still first d l from within =
       within,
     )
 
-wide_closed : (first : ℕ) (l : List ℕ) → 1 ≤ first → first + 5 ≤ length l → length (closed first l) ≡ length l
+pub wide_closed : (first : ℕ) (l : List ℕ) → 1 ≤ first → first + 5 ≤ length l → length (closed first l) ≡ length l
 wide_closed first l from within = at (is_open first l)
   where
     at : (b : Bool) → length (cond b (with_columns first (yymmdd_of last_day) l) l) ≡ length l

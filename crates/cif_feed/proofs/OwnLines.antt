@@ -1,5 +1,6 @@
 -- A line of this profile is its own profile line, and its mark says nothing: so an extract of this profile is a published one.
-use Rattle.std.proofs.Common.{◌≡◌, ℕ, ◌+◌, Bool, true, false, cond, List, [], ◌∷◌, ◌++◌, length, map, take, drop, get_or, Option, Some, None, refl, sym, ap, ◌∙◌}
+use Rattle.std.proofs.Common.{◌≡◌, ℕ, ◌+◌, Bool, true, false, cond, List, [], ◌∷◌, ◌++◌, length, map, take, drop, get_or, Option, Some}
+use Rattle.std.proofs.Common.{None, refl, sym, ap, ◌∙◌}
 use Rattle.std.proofs.Common.{subst, codes, arith, get_or-take, get_or-drop, slice_index}
 use Rattle.std.proofs.lemmas.List.Elements.{All-head, All-tail}
 use Rattle.std.specs.List.{enumerate_from, flat_map}
@@ -126,7 +127,8 @@ module _ (allowed : HolidayCodes) where
   schedule_bare number mark.Nothing more says rest = rest
 
   all_bare : (of_mark : ℕ → LineMark → List (Numbered RecordMark))
-      → ((number : ℕ) (m : LineMark) (more : List (Numbered RecordMark)) → SaysNothing m → AreBare more → AreBare (of_mark number m ++ more))
+      → ((number : ℕ) (m : LineMark) (more : List (Numbered RecordMark)) → SaysNothing m → AreBare more
+      → AreBare (of_mark number m ++ more))
       → (n : ℕ) (cs : List (List ℕ)) (rs : List Record) → SpellAll cs rs → AreBare (marks_from allowed of_mark n cs)
   all_bare of_mark bare n [] rs spell = tt
   all_bare of_mark bare n (c ∷ cs) [] spell = absurd spell
@@ -160,9 +162,11 @@ module _ (allowed : HolidayCodes) where
         header = refl;
         tiplocs = refl;
         associations = bare_associations x.associations (marks association_mark Full allowed cs) marked.associations
-            (subst AreBare (sym (all_marks allowed association_mark cs cs reads)) (all_bare association_mark association_bare 1 cs s.records s.spelled));
+            (subst AreBare (sym (all_marks allowed association_mark cs cs reads))
+            (all_bare association_mark association_bare 1 cs s.records s.spelled));
         schedules = bare_schedules x.schedules (marks schedule_mark Full allowed cs) marked.schedules
-            (subst AreBare (sym (all_marks allowed schedule_mark cs cs reads)) (all_bare schedule_mark schedule_bare 1 cs s.records s.spelled));
+            (subst AreBare (sym (all_marks allowed schedule_mark cs cs reads))
+            (all_bare schedule_mark schedule_bare 1 cs s.records s.spelled));
       }
 
   pub own_published : (max : ℕ) (bytes : List ℕ) (x : ExtractParts) → BytesSpellWithin max bytes x

@@ -1,5 +1,6 @@
 -- An extract of this profile is its own prepared extract, and has no other.
-use Rattle.std.proofs.Common.{◌≡◌, ◌↔◌, ℕ, ◌<◌, ◌≤◌, false, List, [], ◌∷◌, ◌++◌, map, length, get_or, None, refl, sym, ap, ◌∙◌, subst, ⊎_elim, arith}
+use Rattle.std.proofs.Common.{◌≡◌, ◌↔◌, ℕ, ◌<◌, ◌≤◌, false, List, [], ◌∷◌, ◌++◌, map, length, get_or, None, refl, sym, ap, ◌∙◌, subst}
+use Rattle.std.proofs.Common.{⊎_elim, arith}
 use Rattle.std.specs.Prelude.{AllPairs, Contains}
 use Rattle.cif_calendar.specs.Entries.{association_entries, association_entry, schedule_entries, schedule_entry}
 use Rattle.cif_calendar.specs.Terms.{Terms}
@@ -138,7 +139,8 @@ module _ (h : Holidays) (x : ExtractParts) where
   prepared_same y p =
       let last = x.header.last in
       let associations = same_all association_entry one_association y.associations x.associations
-      (prepared_is h last (association_entries x.associations) (association_entries y.associations) (associations_in_order h last x.associations)
+      (prepared_is h last (association_entries x.associations) (association_entries y.associations)
+      (associations_in_order h last x.associations)
       (subst (λ l. ArePrepared h last l (association_entries y.associations)) (associations_as h last x.associations) p.associations)) in
       let schedules = same_all schedule_entry one_schedule y.schedules x.schedules
       (prepared_is h last (schedule_entries x.schedules) (schedule_entries y.schedules) (schedules_in_order h last x.schedules)

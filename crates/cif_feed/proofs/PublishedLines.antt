@@ -1,6 +1,8 @@
 -- The lines that are written of an association and of a BS: their profile lines are the plain lines, and their marks say the rest.
-use Rattle.std.proofs.Common.{◌≡◌, ℕ, ◌+◌, ◌-◌, ◌≤◌, Bool, true, false, cond, List, [], ◌∷◌, ◌++◌, length, take, drop, Option, Some, None, refl, sym}
-use Rattle.std.proofs.Common.{ap, ◌∙◌, subst, codes, arith, IsTrue, append_assoc, length-append, length-take, length-drop, lit<, slice_index}
+use Rattle.std.proofs.Common.{◌≡◌, ℕ, ◌+◌, ◌-◌, ◌≤◌, Bool, true, false, cond, List, [], ◌∷◌, ◌++◌, length, take, drop, Option, Some, None}
+use Rattle.std.proofs.Common.{refl, sym}
+use Rattle.std.proofs.Common.{ap, ◌∙◌, subst, codes, arith, IsTrue, append_assoc, length-append, length-take, length-drop, lit<}
+use Rattle.std.proofs.Common.{slice_index}
 use Rattle.std.proofs.lemmas.List.{drop-drop, drop_at, get_or_at, take-append-drop, take_at}
 use Rattle.std.proofs.lemmas.List.Elements.{All-append, All-drop, All-take}
 use Rattle.std.specs.Prelude.{find}
@@ -103,7 +105,8 @@ module _ (no_end : Bool) (own : List ℕ) (last : ℕ) (stands : StandsInYymmdd 
       where
         by : (b : Bool) → b ≡ no_end → cond b (with_columns first (yymmdd_of last_day) (end_line b)) (end_line b) ≡ front ++ (own ++ rest)
         by true is =
-            written_over first front nines rest from place (yymmdd_of last_day) last_wide ∙ ap (λ l. front ++ (l ++ rest)) (own_last (sym is))
+            written_over first front nines rest from place (yymmdd_of last_day) last_wide
+            ∙ ap (λ l. front ++ (l ++ rest)) (own_last (sym is))
         by false is = refl
 
 -- ---- an AA
@@ -231,7 +234,8 @@ code_kind : (l c : List ℕ) (code : Option HolidayCode) → HasKind l c → Has
 code_kind l c None has = has
 code_kind l c (Some code) has = further l 29 (letter code ∷ []) c (omega arith) has
 
-pub basic_written : (allowed : HolidayCodes) (l : List ℕ) (last : ℕ) (no_end : Bool) (code : Option HolidayCode) → IsLine l → kind_in l ≡ Some Bs
+pub basic_written : (allowed : HolidayCodes) (l : List ℕ) (last : ℕ) (no_end : Bool) (code : Option HolidayCode) → IsLine l
+    → kind_in l ≡ Some Bs
     → StandsInYymmdd (columns 16 21 l) last → columns 29 29 l ≡ codes " " → (no_end ≡ true → last ≡ last_day)
     → ((k : HolidayCode) → code ≡ Some k → IsTrue (has_code allowed k))
     → IsWrittenBasic allowed l (with_code code (with_open_end no_end 16 l)) no_end code
@@ -247,12 +251,14 @@ basic_written allowed l last no_end code is_line named stands space closes may =
     let b_wide : length b ≡ 6 = ends_wide no_end own last stands closes no_end in
     let o_wide : length own ≡ 6 = ap length stands.spelled in
     let tail : drop 21 l ≡ c ++ (codes " " ++ e) =
-    parted 7 1 (drop 21 l) ∙ ap (λ k. c ++ (take 1 k ++ drop 8 (drop 21 l))) (drop-drop 7 21 l) ∙ ap (λ k. c ++ (k ++ drop 8 (drop 21 l))) space
+    parted 7 1 (drop 21 l) ∙ ap (λ k. c ++ (take 1 k ++ drop 8 (drop 21 l))) (drop-drop 7 21 l)
+    ∙ ap (λ k. c ++ (k ++ drop 8 (drop 21 l))) space
     ∙ ap (λ k. c ++ (codes " " ++ k)) (drop-drop 8 21 l) in
     let split : l ≡ basic_columns a c e a_wide c_wide own (codes " ") =
     parted 15 6 l ∙ ap (λ k. a ++ (own ++ k)) tail in
     let opens : with_open_end no_end 16 l ≡ basic_columns a c e a_wide c_wide b (codes " ") =
-    ap (with_open_end no_end 16) split ∙ opened no_end own last stands closes 16 a (c ++ (codes " " ++ e)) (omega arith) a_wide no_end refl in
+    ap (with_open_end no_end 16) split ∙ opened no_end own last stands closes 16 a (c ++ (codes " " ++ e))
+    (omega arith) a_wide no_end refl in
     let put : with_code code (with_open_end no_end 16 l) ≡ basic_columns a c e a_wide c_wide b (code_columns code) =
     ap (with_code code) opens ∙ coded a c e a_wide c_wide b code b_wide in
     let rest = c ++ (code_columns code ++ e) in

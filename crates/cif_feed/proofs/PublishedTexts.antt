@@ -1,5 +1,6 @@
 -- The text of a published extract spells it.
-use Rattle.std.proofs.Common.{◌≡◌, ℕ, ◌+◌, ◌≤◌, List, [], ◌∷◌, ◌++◌, length, map, Option, Some, None, refl, sym, ap, ◌∙◌, subst, arith, IsTrue}
+use Rattle.std.proofs.Common.{◌≡◌, ℕ, ◌+◌, ◌≤◌, List, [], ◌∷◌, ◌++◌, length, map, Option, Some, None, refl, sym, ap, ◌∙◌, subst, arith}
+use Rattle.std.proofs.Common.{IsTrue}
 use Rattle.std.proofs.Common.{append-nil, append_assoc}
 use Rattle.std.proofs.lemmas.Grind.{flat_map-append}
 use Rattle.std.proofs.lemmas.List.{map-append}
@@ -40,7 +41,8 @@ use Rattle.cif_feed.specs.HolidayCode.{all_codes, has_code}
 use Rattle.cif_feed.specs.OfProfile.{of_profile}
 use Rattle.cif_feed.specs.ProfileLine.{association_mark, marks, profile_line, profile_line_by, schedule_mark}
 use Rattle.cif_feed.specs.PublishedParts.{BytesSpellPublished, IsPublishedAssociation, IsPublishedSchedule, PublishedParts, SayPublished}
-use Rattle.cif_feed.specs.PublishedParts.{SpellPublished, published_association_line, published_basic_line, published_lines, published_schedule_lines}
+use Rattle.cif_feed.specs.PublishedParts.{SpellPublished, published_association_line, published_basic_line, published_lines}
+use Rattle.cif_feed.specs.PublishedParts.{published_schedule_lines}
 use Rattle.cif_feed.specs.PublishedParts.{published_text}
 use Rattle.cif_feed.specs.SpellsFeed.{FeedParts}
 use Rattle.cif_feed.specs.WrittenExtracts.{CodesMayStand}
@@ -59,7 +61,8 @@ use Rattle.cif_feed.proofs.PublishedLines.{association_written, basic_written}
 use Rattle.cif_feed.proofs.StillLines.{feed_fits}
 
 -- facts of three lists that follow others
-triples-append : {A B C : Type 0} (P : A → B → C → Type 0) (al : List A) (bs : List B) (cs : List C) (ds : List A) (es : List B) (fs : List C)
+triples-append : {A B C : Type 0} (P : A → B → C → Type 0) (al : List A) (bs : List B) (cs : List C) (ds : List A) (es : List B)
+    (fs : List C)
     → AreTriples P al bs cs → AreTriples P ds es fs → AreTriples P (al ++ ds) (bs ++ es) (cs ++ fs)
 triples-append P [] [] [] ds es fs p q = q
 triples-append P [] [] (c ∷ cs) ds es fs p q = absurd p
@@ -91,7 +94,8 @@ module _ (allowed : HolidayCodes) where
   marks-append of_mark n (c ∷ cs) ds =
       let own = of_mark n (profile_line Full allowed c).mark in
       let first = marks_from allowed of_mark (n + 1) cs in
-      ap (λ l. own ++ l) (marks-append of_mark (n + 1) cs ds) ∙ sym (append_assoc own first (marks_from allowed of_mark (n + 1 + length cs) ds))
+      ap (λ l. own ++ l) (marks-append of_mark (n + 1) cs ds) ∙ sym (append_assoc own first (marks_from allowed of_mark
+      (n + 1 + length cs) ds))
       ∙ ap (λ (k : ℕ). (own ++ first) ++ marks_from allowed of_mark k ds) (omega arith)
 
   -- Contents whose profile lines are these, and whose marks, from any number on, are those of these associations and schedules.
@@ -163,7 +167,8 @@ module _ (allowed : HolidayCodes) where
       let l = plain_line (association_table a.association) in
       let c = published_association_line a in
       let spells = records.spells r fits in
-      let w = association_written l a.association.last a.open_end (records.line r fits) (kind_there l r spells) spells.1.1.1.1.1.0 a.closed in
+      let w = association_written l a.association.last a.open_end (records.line r fits)
+      (kind_there l r spells) spells.1.1.1.1.1.0 a.closed in
       record {
         reads = (
           record {
@@ -255,7 +260,8 @@ module _ (allowed : HolidayCodes) where
       at None = journey
       at (Some x) = (tt, journey)
 
-  body : (b : Option BodyParts) → AllTablesFit (body_tables b) → IsBlock (map plain_line (body_tables b)) (map plain_line (body_tables b)) [] []
+  body : (b : Option BodyParts) → AllTablesFit (body_tables b) → IsBlock (map plain_line (body_tables b)) (map plain_line
+      (body_tables b)) [] []
   body None fits = nothing
   body (Some b) fits = others (body_records b) (body_other b) fits
 
@@ -290,13 +296,15 @@ module _ (allowed : HolidayCodes) where
         let last = plain_line trailer_table ∷ [] in
         let behind = fit-back ts (al ++ (ss ++ end)) fits.1 in
         let back = fit-back al (ss ++ end) behind in
-        let lines : plain_line (header_table p.header) ∷ (map plain_line ts ++ (map plain_line al ++ (map plain_line ss ++ last))) ≡ extract_lines x =
+        let lines : plain_line (header_table p.header) ∷ (map plain_line ts ++ (map plain_line al ++
+        (map plain_line ss ++ last))) ≡ extract_lines x =
         ap (λ l. plain_line (header_table p.header) ∷ l) (sym (map-append plain_line ts (al ++ (ss ++ end))
         ∙ ap (λ l. map plain_line ts ++ l) (map-append plain_line al (ss ++ end)
         ∙ ap (λ l. map plain_line al ++ l) (map-append plain_line ss end)))) in
         let made = both (plain_line (header_table p.header) ∷ []) (plain_line (header_table p.header) ∷ []) _ _ [] (p.associations ++ []) []
         (p.schedules ++ []) (other_one (of.Header p.header) tt fits.0)
-        (both (map (λ (t : Tiploc). plain_line (tiploc_table t)) p.tiplocs) (map plain_line ts) _ _ [] (p.associations ++ []) [] (p.schedules ++ [])
+        (both (map (λ (t : Tiploc). plain_line (tiploc_table t)) p.tiplocs) (map plain_line ts) _ _ [] (p.associations ++ []) []
+        (p.schedules ++ [])
         (tiplocs p.tiplocs (fit-front ts (al ++ (ss ++ end)) fits.1))
         (both (map published_association_line p.associations) (map plain_line al) _ _ p.associations [] [] (p.schedules ++ [])
         (associations p.associations (fit-front al (ss ++ end) behind))
@@ -382,6 +390,7 @@ said_profile lines p s =
     (said_associations x.associations lines.association_marks p.associations s.associations)
     ∙ ap (λ (v : List Schedule). record x { schedules = v }) (said_schedules x.schedules lines.schedule_marks p.schedules s.schedules)
 
-pub said_fits : (allowed : HolidayCodes) (cs : List (List ℕ)) (p : PublishedParts) → SpellPublished allowed cs p → FitsColumns (of_profile p)
+pub said_fits : (allowed : HolidayCodes) (cs : List (List ℕ)) (p : PublishedParts) → SpellPublished allowed cs p
+    → FitsColumns (of_profile p)
 said_fits allowed cs p s =
     subst FitsColumns (sym (said_profile s.lines p s.says)) (feed_fits Full allowed cs s.lines s.spelled)

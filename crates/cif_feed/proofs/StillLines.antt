@@ -1,5 +1,6 @@
 -- The profile line of a line is a line. So what a feed says fits the columns of lines.
-use Rattle.std.proofs.Common.{◌≡◌, ℕ, ◌≤◌, Bool, true, false, cond, List, length, codes, replicate, Option, Some, None, is_some, arith, lit≤, slice_index, refl, ◌-◌, ◌+◌, ◌==◌}
+use Rattle.std.proofs.Common.{◌≡◌, ℕ, ◌≤◌, Bool, true, false, cond, List, length, codes, replicate, Option, Some, None, is_some, arith}
+use Rattle.std.proofs.Common.{lit≤, slice_index, refl, ◌-◌, ◌+◌, ◌==◌}
 use Rattle.std.proofs.Common.{filter}
 use Rattle.std.proofs.lemmas.List.Elements.{All-map, All-replicate, All-weaker}
 use Rattle.std.specs.Prelude.{All}
@@ -67,7 +68,8 @@ module _ (allowed : HolidayCodes) (c : List ℕ) (is : IsLine c) where
   by_association (Some Revised) = close 22 (with_columns 3 (codes "N") c) (lit≤ tt) (lit≤ tt) (named c is)
   by_association (Some Deleted) =
       named _ (dated 22 _ (lit≤ tt) (lit≤ tt)
-      (line_still 28 (codes "0000000   ") _ (blank 47 33 c (lit≤ tt) (lit≤ tt) is) (printable_fact (codes "0000000   ") refl) (lit≤ tt) (lit≤ tt)))
+      (line_still 28 (codes "0000000   ") _ (blank 47 33 c (lit≤ tt) (lit≤ tt) is) (printable_fact (codes "0000000   ") refl) (lit≤ tt)
+      (lit≤ tt)))
 
   basic : (l : List ℕ) → IsLine l → IsLine (without_code (code_of allowed l) (closed 16 l))
   basic l line = uncode (code_of allowed l) (closed 16 l) (close 16 l (lit≤ tt) (lit≤ tt) line)

@@ -1,5 +1,6 @@
 -- Updates that are done one after another, in one run or in two.
-use Rattle.std.proofs.Common.{◌≡◌, ◌↔◌, ℕ, ◌≤◌, Bool, true, false, List, [], ◌∷◌, ◌++◌, length, map, Some, refl, sym, ap, ◌∙◌, subst, inl, inr, ⊎_elim}
+use Rattle.std.proofs.Common.{◌≡◌, ◌↔◌, ℕ, ◌≤◌, Bool, true, false, List, [], ◌∷◌, ◌++◌, length, map, Some, refl, sym, ap, ◌∙◌, subst, inl}
+use Rattle.std.proofs.Common.{inr, ⊎_elim}
 use Rattle.std.proofs.Common.{append_assoc, slice_get}
 use Rattle.std.proofs.lemmas.List.{append_cancel_left}
 use Rattle.cif_columns.specs.Contents.{contents_of}
@@ -39,16 +40,19 @@ same_with_keys {K} {R} key (x ∷ xs) (y ∷ ys) e =
     ap (λ (z : R). z ∷ xs) (ap (λ (v : K × R). v.1) heads) ∙ ap (λ zs. y ∷ zs) (same_with_keys key xs ys tails)
 
 -- changes leave one list
-one_after : {K R : Type 0} (key : R → K) (old : List R) (cs : List (Change K R)) (p q : List R) → AreAfter key old cs p → AreAfter key old cs q
+one_after : {K R : Type 0} (key : R → K) (old : List R) (cs : List (Change K R)) (p q : List R) → AreAfter key old cs p
+    → AreAfter key old cs q
     → p ≡ q
 one_after key old cs p q a b =
     same_with_keys key p q
-    (a.after ∙ after_all-alike a.same b.same (same_alike a.same b.same a.tells b.tells) (with_keys key old) (changes_of key cs) ∙ sym b.after)
+    (a.after ∙ after_all-alike a.same b.same (same_alike a.same b.same a.tells b.tells) (with_keys key old) (changes_of key cs)
+    ∙ sym b.after)
 
 one_updated : (u : UpdateParts) (old p q : PublishedParts) → IsUpdated u old p → IsUpdated u old q → p ≡ q
 one_updated u old p q a b =
     ap (λ (v : Header). record p { header = v }) (a.header ∙ sym b.header)
-    ∙ ap (λ (v : List Tiploc). record p { header = q.header; tiplocs = v }) (one_after _ old.tiplocs u.tiplocs p.tiplocs q.tiplocs a.tiplocs b.tiplocs)
+    ∙ ap (λ (v : List Tiploc). record p { header = q.header; tiplocs = v })
+    (one_after _ old.tiplocs u.tiplocs p.tiplocs q.tiplocs a.tiplocs b.tiplocs)
     ∙ ap (λ (v : List PublishedAssociation). record q { associations = v; schedules = p.schedules })
     (one_after _ old.associations u.associations p.associations q.associations a.associations b.associations)
     ∙ ap (λ (v : List PublishedSchedule). record q { schedules = v })
@@ -70,7 +74,8 @@ module _ (lenient : Bool) (max : ℕ) where
       }
 
   -- and so are several
-  one_done : (old : PublishedParts) (us : List (List ℕ)) (p q : PublishedParts) (v w : List RefusedLine) → AreUpdatesDone lenient max old us p v
+  one_done : (old : PublishedParts) (us : List (List ℕ)) (p q : PublishedParts) (v w : List RefusedLine)
+      → AreUpdatesDone lenient max old us p v
       → AreUpdatesDone lenient max old us q w → AreSame p q v w
   one_done old [] p q v w a b = record { parts = a.0 ∙ sym b.0; lines = a.1 ∙ sym b.1 }
   one_done old (u ∷ us) p q v w a b =
@@ -85,7 +90,8 @@ module _ (lenient : Bool) (max : ℕ) where
       }
 
   -- what fits stays such
-  done_fits : (old : PublishedParts) (us : List (List ℕ)) (new : PublishedParts) (w : List RefusedLine) → AreUpdatesDone lenient max old us new w
+  done_fits : (old : PublishedParts) (us : List (List ℕ)) (new : PublishedParts) (w : List RefusedLine)
+      → AreUpdatesDone lenient max old us new w
       → FitsColumns (of_profile old) → FitsColumns (of_profile new)
   done_fits old [] new w done fits = subst (λ p. FitsColumns (of_profile p)) (sym done.0) fits
   done_fits old (u ∷ us) new w done fits =
@@ -118,9 +124,11 @@ module _ (lenient : Bool) (max : ℕ) where
       }
 
   joined : (old : PublishedParts) (us vs : List (List ℕ)) (mid new : PublishedParts) (v w : List RefusedLine)
-      → AreUpdatesDone lenient max old us mid v → AreUpdatesDone lenient max mid vs new w → AreUpdatesDone lenient max old (us ++ vs) new (v ++ w)
+      → AreUpdatesDone lenient max old us mid v → AreUpdatesDone lenient max mid vs new w
+      → AreUpdatesDone lenient max old (us ++ vs) new (v ++ w)
   joined old [] vs mid new v w one other =
-      subst (λ l. AreUpdatesDone lenient max old vs new (l ++ w)) (sym one.1) (subst (λ p. AreUpdatesDone lenient max p vs new w) one.0 other)
+      subst (λ l. AreUpdatesDone lenient max old vs new (l ++ w)) (sym one.1) (subst
+      (λ p. AreUpdatesDone lenient max p vs new w) one.0 other)
   joined old (u ∷ us) vs mid new v w one other =
       let (next, first, others, done, more, all) = one in (
         next,
@@ -137,7 +145,8 @@ module _ (lenient : Bool) (max : ℕ) where
   not_both : (old : PublishedParts) (u : List ℕ) (new : PublishedParts) (w : List RefusedLine) (fault : FeedFault)
       → IsUpdatedBy lenient old max u new w → IsRefusedFor lenient max old u fault → ⊥
   not_both old u new w fault done refused = ⊎_elim
-      (λ first. spelled_first Update all_codes max (contents_of u) done.spelled.spell.lines done.spelled.within fault done.spelled.spell.spelled first)
+      (λ first. let s = done.spelled in
+      spelled_first Update all_codes max (contents_of u) s.spell.lines s.within fault s.spell.spelled first)
       (λ some. by some.0 some.1)
       refused
     where
@@ -145,7 +154,8 @@ module _ (lenient : Bool) (max : ℕ) where
       by line r =
           let same = one_update (contents_of u) r.update done.update r.spelled.spell done.spelled.spell in
           let none : r.lines ≡ [] =
-          one_list done.update old r.lines w (subst (λ x. AreRefusedLines x old r.lines) same r.refused) done.refused ∙ done.strict r.strict in
+          one_list done.update old r.lines w (subst (λ x. AreRefusedLines x old r.lines) same r.refused) done.refused
+          ∙ done.strict r.strict in
           let no : slice_get [] 0 ≡ Some line = sym (ap (λ l. slice_get l 0) none) ∙ r.first in cc
 
   -- behind updates that are done it is one of the others
@@ -197,7 +207,8 @@ module _ (lenient : Bool) (max : ℕ) where
           let two = parted all.old us vs all.new (waived ++ later) all.done in
           let one = one_done written.old us two.mid written.new two.first waived
           (subst (λ p. AreUpdatesDone lenient max p us two.mid two.first) (same_start all.old all.spelled) two.one) written.done in
-          let rest : two.later ≡ later = append_cancel_left waived two.later later (ap (λ l. l ++ two.later) (sym one.lines) ∙ sym two.all) in
+          let rest : two.later ≡ later = append_cancel_left waived two.later later (ap (λ l. l ++ two.later) (sym one.lines)
+          ∙ sym two.all) in
           record {
             old = written.new;
             spelled = read_again;

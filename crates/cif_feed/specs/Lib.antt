@@ -9,6 +9,7 @@ pub mod HolidayText
 pub mod Holidays
 pub mod Judged
 pub mod LastDay
+pub mod LayoutRefusals
 pub mod OfProfile
 pub mod PublishedParts
 pub mod Parts

@@ -1,5 +1,5 @@
 //! Laws: which published extract and which update bytes spell, and what a prepared extract and an update say.
-ghost use Rattle.std.specs.Prelude.{◌≡◌, ◌↔◌, ◌≤◌, ◌++◌, ℕ, Bool, List, Option, None, Contains, length};
+ghost use Rattle.std.specs.Prelude.{◌≡◌, ◌↔◌, ◌≤◌, ◌++◌, ℕ, Bool, List, Option, None, Contains, false, length};
 ghost use Rattle.cif_calendar.specs.Applies.{Applies};
 ghost use Rattle.cif_calendar.specs.Clash.{IsClear};
 ghost use Rattle.cif_calendar.specs.Entries.{association_entries, schedule_entries};
@@ -26,6 +26,14 @@ ghost use Rattle.cif_feed.specs.PublishedParts.{published_lines, published_text}
 ghost use Rattle.cif_feed.specs.UpdateParts.{BytesSpellUpdate};
 ghost use Rattle.cif_feed.specs.Updated.{IsUpdated};
 ghost use Rattle.cif_feed.specs.UpdatesInTurn.{IsRefused, IsWritten};
+ghost use Rattle.cif_columns.specs.Line.{IsLine};
+ghost use Rattle.cif_extract.specs.OrderOfRecords.{place_behind};
+ghost use Rattle.cif_records.specs.Kind.{kind_in};
+ghost use Rattle.cif_records.specs.Record.{record_refusal};
+ghost use Rattle.cif_feed.specs.FeedRefusal.{line_refusal};
+ghost use Rattle.cif_feed.specs.LayoutRefusals.{feed_refusal_as, refusal_at};
+ghost use Rattle.cif_feed.specs.ProfileLine.{is_note, profile_line, profile_lines};
+ghost use Rattle.cif_feed.specs.declared.feed.Feed.{Feed};
 ghost use Rattle.cif_feed.specs.WrittenExtracts.{CodesMayStand};
 ghost use Rattle.cif_feed.specs.declared.changes.RefusedLine.{RefusedLine};
 ghost use Rattle.cif_feed.specs.declared.feed.FeedFault.{FeedFault};
@@ -179,4 +187,15 @@ pub fn prepared_texts_spell_extracts()
         → FitsColumns (of_profile p) → IsPrepared h p x → FitsColumns x }
     ensures spells { (h : Holidays) (p : PublishedParts) (x : ExtractParts)
         → FitsColumns (of_profile p) → IsPrepared h p x → BytesSpell (extract_text x) x }
+{}
+
+/// A line of a feed is refused for the first of its fields that may not stand in its columns, as the layouts
+/// have them: that its profile line is judged in its place changes nothing.
+pub fn lines_are_refused_by_their_layouts()
+    ensures record { (feed : Feed) (allowed : HolidayCodes) (line : List ℕ) → IsLine line
+        → record_refusal (profile_line feed allowed line).line ≡ feed_refusal_as feed allowed (kind_in line) line }
+    // Before that it is refused where its kind may not stand. A note is refused for its place alone.
+    ensures place { (feed : Feed) (allowed : HolidayCodes) (before : List (List ℕ)) (line : List ℕ) → IsLine line
+        → is_note line ≡ false → line_refusal feed allowed before line
+        ≡ refusal_at feed allowed (place_behind (profile_lines feed allowed before)) line }
 {}
