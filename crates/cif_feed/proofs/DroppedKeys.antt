@@ -33,7 +33,7 @@ use Rattle.cif_feed.specs.PreparedRecord.{terms_on}
 use Rattle.cif_feed.specs.Steps.Dropping.{AreTold, are_of, is_of}
 use Rattle.cif_feed.specs.declared.prepared_record.PreparedRecord.{PreparedRecord}
 use Rattle.cif_feed.specs.declared.published_extract.PublishedExtract.{PublishedExtract}
-use Rattle.cif_feed.proofs.ListSteps.{any-has, any-map, any-of, filter-has, filter-of, iff-by, left-of, map-filter, map-has, map-of, not-tells, right-of}
+use Rattle.cif_feed.proofs.ListSteps.{Contains-from_map, Contains-map, any-has, any-map, any-of, filter-has, filter-of, iff-by, left-of, map-filter, not-tells, right-of}
 
 -- ---- which keys are told
 
@@ -158,18 +158,18 @@ module _ {A K B : Type 0} (entry : A → K × Terms B) (Told : K → Type 0) (xs
   -- a record that is left is one of the old ones, whose key isn't told
   pub left-old : (k : K) (r : Terms B) → Contains (map entry ys) (k, r) → Contains (map entry xs) (k, r) × (¬ Told k)
   left-old k r has =
-      let (a, listed, is) = map-of entry ys (k, r) has in
+      let (a, listed, is) = Contains-from_map entry ys (k, r) has in
       let (old, passes) = filter-of those.test xs a (subst (λ l. Contains l a) those.are listed) in (
-        subst (Contains (map entry xs)) is (map-has entry xs a old),
+        subst (Contains (map entry xs)) is (Contains-map entry xs a old),
         subst (λ j. ¬ Told j) (ap (λ (e : K × Terms B). e.0) is) ((those.tells a).0 passes),
       )
 
   pub old-left : (k : K) (r : Terms B) → ¬ Told k → Contains (map entry xs) (k, r) → Contains (map entry ys) (k, r)
   old-left k r other has =
-      let (a, listed, is) = map-of entry xs (k, r) has in
+      let (a, listed, is) = Contains-from_map entry xs (k, r) has in
       let passes = (those.tells a).1 (subst (λ j. ¬ Told j) (sym (ap (λ (e : K × Terms B). e.0) is)) other) in
       subst (Contains (map entry ys)) is
-      (map-has entry ys a (subst (λ l. Contains l a) (sym those.are) (filter-has those.test xs a listed passes)))
+      (Contains-map entry ys a (subst (λ l. Contains l a) (sym those.are) (filter-has those.test xs a listed passes)))
 
   same-left : (k : K) → ¬ Told k → SameRecords (of_key (map entry xs) k) (of_key (map entry ys) k)
   same-left k other = record { same = λ r. (old-left k r other, λ has. (left-old k r has).0) }

@@ -10,18 +10,18 @@ use Rattle.cif_calendar.proofs.Elements.{Contains-cases, Contains-first, Contain
 use Rattle.cif_calendar.proofs.RisingLists.{Contains-none}
 
 module _ {A B : Type 0} (f : A → B) where
-  pub map-has : (xs : List A) (x : A) → Contains xs x → Contains (map f xs) (f x)
-  map-has [] x has = absurd (Contains-none x has)
-  map-has (y ∷ ys) x has = ⊎_elim
+  pub Contains-map : (xs : List A) (x : A) → Contains xs x → Contains (map f xs) (f x)
+  Contains-map [] x has = absurd (Contains-none x has)
+  Contains-map (y ∷ ys) x has = ⊎_elim
       (λ is. subst (λ z. Contains (f y ∷ map f ys) (f z)) is (Contains-first (f y) (map f ys)))
-      (λ rest. Contains-rest (f y) (map f ys) (f x) (map-has ys x rest))
+      (λ rest. Contains-rest (f y) (map f ys) (f x) (Contains-map ys x rest))
       (Contains-cases y ys x has)
 
-  pub map-of : (xs : List A) (z : B) → Contains (map f xs) z → (x : A) × Contains xs x × (f x ≡ z)
-  map-of [] z has = absurd (Contains-none z has)
-  map-of (y ∷ ys) z has = ⊎_elim
+  pub Contains-from_map : (xs : List A) (z : B) → Contains (map f xs) z → (x : A) × Contains xs x × (f x ≡ z)
+  Contains-from_map [] z has = absurd (Contains-none z has)
+  Contains-from_map (y ∷ ys) z has = ⊎_elim
       (λ is. (y, Contains-first y ys, is))
-      (λ rest. let (x, other, is) = map-of ys z rest in (x, Contains-rest y ys x other, is))
+      (λ rest. let (x, other, is) = Contains-from_map ys z rest in (x, Contains-rest y ys x other, is))
       (Contains-cases (f y) (map f ys) z has)
 
   pub map-filter : (p : B → Bool) (xs : List A) → map f (filter (λ x. p (f x)) xs) ≡ filter p (map f xs)
@@ -66,19 +66,19 @@ module _ {A B C : Type 0} (f : A → C) (g : B → C) (apart : (x : A) (y : B) �
   pub left-of : ((x y : A) → f x ≡ f y → x ≡ y) → (x : A) → Contains (map f xs ++ map g ys) (f x) ↔ Contains xs x
   left-of same x = (
     λ has. ⊎_elim
-        (λ left. let (y, other, is) = map-of f xs (f x) left in subst (Contains xs) (same y x is) other)
-        (λ right. let (y, other, is) = map-of g ys (f x) right in absurd (apart x y (sym is)))
+        (λ left. let (y, other, is) = Contains-from_map f xs (f x) left in subst (Contains xs) (same y x is) other)
+        (λ right. let (y, other, is) = Contains-from_map g ys (f x) right in absurd (apart x y (sym is)))
         (Contains-append_cases (map f xs) (map g ys) (f x) has),
-    λ has. Contains-append_left (map f xs) (map g ys) (f x) (map-has f xs x has),
+    λ has. Contains-append_left (map f xs) (map g ys) (f x) (Contains-map f xs x has),
   )
 
   pub right-of : ((x y : B) → g x ≡ g y → x ≡ y) → (y : B) → Contains (map f xs ++ map g ys) (g y) ↔ Contains ys y
   right-of same y = (
     λ has. ⊎_elim
-        (λ left. let (x, other, is) = map-of f xs (g y) left in absurd (apart x y is))
-        (λ right. let (z, other, is) = map-of g ys (g y) right in subst (Contains ys) (same z y is) other)
+        (λ left. let (x, other, is) = Contains-from_map f xs (g y) left in absurd (apart x y is))
+        (λ right. let (z, other, is) = Contains-from_map g ys (g y) right in subst (Contains ys) (same z y is) other)
         (Contains-append_cases (map f xs) (map g ys) (g y) has),
-    λ has. Contains-append_right (map f xs) (map g ys) (g y) (map-has g ys y has),
+    λ has. Contains-append_right (map f xs) (map g ys) (g y) (Contains-map g ys y has),
   )
 
 -- a test and its negation

@@ -42,7 +42,8 @@ impl<'a> Model for Prepared<'a> {
 }
 
 impl PublishedExtract {
-    /// Its prepared extract, with these holidays.
+    /// Its prepared extract, with these holidays. A code that they don't name cuts nothing; an extract
+    /// that is read with `Holidays::codes` has none.
     pub fn prepare<'a>(
         &'a self,
         alloc: Global,
