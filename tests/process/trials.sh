@@ -302,8 +302,8 @@ cut_fault() {
     fi
 }
 
-# each_end ROW NAME WIDTH: the row's first input, which is accepted, ends before its first byte, before its second, and
-# so on
+# each_end ROW NAME WIDTH [PATTERN]: the row's first input, which is accepted, ends before its first byte, before its second,
+# and so on; where it ends within a line, the library says PATTERN, or `rz`
 each_end() {
     choose "$1"
     at=0
@@ -318,7 +318,7 @@ each_end() {
         elif [ $rest -eq 80 ]; then
             owes "the input ends at byte $at" gives_fault 'rz*' 3 "$fault"
         else
-            owes "the input ends at byte $at" gives_fault rz 3 "$fault"
+            owes "the input ends at byte $at" gives_fault "${4-rz}" 3 "$fault"
         fi
         at=$((at + 1))
     done
