@@ -5,7 +5,7 @@ use Rattle.cif_canon.specs.Accepted.{IsClearExtract}
 use Rattle.cif_canon.specs.Comparison.{IsCompareFault}
 use Rattle.cif_canon.proofs.CompareFaults.{compare-fault, one-window}
 use Rattle.cif_canon.proofs.HandedFaults.{hands}
-use Rattle.cif_canon.proofs.comparison.check_comparable.Goals as goal
+use Rattle.cif_canon.proofs.differing.check_comparable.Goals as goal
 
 pub returns-in_err-extract_runs-clause-fault : goal.returns-in_err-extract_runs-clause-fault
 returns-in_err-extract_runs-clause-fault c =

@@ -1,7 +1,7 @@
 -- The days before `day` are alike, and `day` is as many days behind the first as the loop went round.
 use Rattle.std.proofs.Common.{◌≡◌, ◌≤◌, ◌<◌, ◌+◌, ℕ, map}
 use Rattle.cif_canon.specs.Steps.Differences.{AreAlikeBy}
-use Rattle.cif_canon.proofs.comparison.first_in_pieces.Given as goal
+use Rattle.cif_canon.proofs.only_days.are_pieces_alike.Given as goal
 
 abbrev pub invariant-loop : goal.invariant-loop
 invariant-loop g l = record {

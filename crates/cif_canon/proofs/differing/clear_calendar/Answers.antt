@@ -3,7 +3,7 @@ use Rattle.cif_calendar.specs.Calendar.{IsFault}
 use Rattle.cif_calendar.specs.Source.{IsChosen}
 use Rattle.std.proofs.Common.{map, subst}
 use Rattle.cif_calendar.proofs.FirstClash.{first_clash-clear}
-use Rattle.cif_canon.proofs.comparison.clear_calendar.Goals as goal
+use Rattle.cif_canon.proofs.differing.clear_calendar.Goals as goal
 
 pub unreachable-requires : goal.unreachable-requires
 unreachable-requires g c =

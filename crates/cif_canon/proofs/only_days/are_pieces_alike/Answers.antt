@@ -5,9 +5,9 @@ use Rattle.std.proofs.lemmas.Bool.{false≢true}
 use Rattle.cif_calendar.specs.Source.{body_at}
 use Rattle.cif_canon.specs.Steps.Differences.{AreAlikeBy}
 use Rattle.cif_canon.proofs.DifferentDays.{alike-week, day-more, not-below}
-use Rattle.cif_canon.proofs.comparison.first_in_pieces.Given.{Over}
-use Rattle.cif_canon.proofs.comparison.first_in_pieces.Goals as goal
-use Rattle.cif_canon.proofs.comparison.first_in_pieces.Goals.{After-from-weekday}
+use Rattle.cif_canon.proofs.only_days.are_pieces_alike.Given.{Over}
+use Rattle.cif_canon.proofs.only_days.are_pieces_alike.Goals as goal
+use Rattle.cif_canon.proofs.only_days.are_pieces_alike.Goals.{After-from-weekday}
 
 pub have_same_body-requires-clause-left : goal.have_same_body-requires-clause-left
 have_same_body-requires-clause-left g c i is =
@@ -20,10 +20,12 @@ have_same_body-requires-clause-right g c i is =
     (sym (ap (λ w. get_or c.args.peer.now.winners w None) (c.from-weekday.ensures ∙ c.weekday.ensures.value)) ∙ is)
 
 pub returns : goal.returns
-returns g c =
-    alike-week (map g.E.Entry.terms c.args.left.now) c.args.piece.now (map g.E.Entry.terms c.args.right.now) c.args.peer.now
-    c.args.first c.args.last (λ d a b. c.loop.invariant.alike d a
-    (omega (arith, b, c.loop.invariant.day_is, c.loop-test.false, c.loop.auto.counter-end)))
+returns g c = (
+  λ yes. alike-week (map g.E.Entry.terms c.args.left.now) c.args.piece.now (map g.E.Entry.terms c.args.right.now) c.args.peer.now
+      c.args.first c.args.last (λ d a b. c.loop.invariant.alike d a
+      (omega (arith, b, c.loop.invariant.day_is, c.loop-test.false, c.loop.auto.counter-end))),
+  λ all. refl,
+)
 
 pub bounds-piece-weekday : goal.bounds-piece-weekday
 bounds-piece-weekday g c = omega (arith, c.from-weekday.ensures, c.weekday.ensures.in_range)
@@ -40,12 +42,10 @@ alike-here g c =
 
 pub returns-then-not-have_same_body : goal.returns-then-not-have_same_body
 returns-then-not-have_same_body g c =
-    let here = alike-here g (goal.at.returns-then-not-have_same_body g c).After-from-weekday in record {
-      from = omega (arith, c.loop.invariant.day_is);
-      upto = c.loop.invariant.upto;
-      other = λ alike. false≢true (c.if-not-have_same_body.ensures.1 (here.1 alike));
-      before = c.loop.invariant.alike;
-    }
+    let here = alike-here g (goal.at.returns-then-not-have_same_body g c).After-from-weekday in (
+      λ no. absurd (false≢true no),
+      λ all. c.if-not-have_same_body.ensures.1 (here.1 (all c.loop.day (omega (arith, c.loop.invariant.day_is)) c.loop.invariant.upto)),
+    )
 
 pub loop-preserved : goal.loop-preserved
 loop-preserved g c =
@@ -58,8 +58,11 @@ loop-preserved g c =
     }
 
 pub returns-in-None : goal.returns-in-None
-returns-in-None g c d from upto =
-    let here = alike-here g (goal.at.returns-in-None g c).After-from-weekday in
-    let ends = not-below _ _ c.in-None.ensures in
-    day-more _ c.args.first c.loop.day c.loop.invariant.alike (here.0 (c.if-not-have_same_body.ensures.0 refl)) d
-    from (omega (arith, ends, upto))
+returns-in-None g c = (
+  λ yes d from upto.
+      let here = alike-here g (goal.at.returns-in-None g c).After-from-weekday in
+      let ends = not-below _ _ c.in-None.ensures in
+      day-more _ c.args.first c.loop.day c.loop.invariant.alike (here.0 (c.if-not-have_same_body.ensures.0 refl)) d
+      from (omega (arith, ends, upto)),
+  λ all. refl,
+)

@@ -4,7 +4,7 @@ use Rattle.cif_calendar.specs.Pieces.{Tiles}
 use Rattle.cif_calendar.specs.declared.key_calendar.Piece.{Piece}
 use Rattle.cif_canon.proofs.DifferentDays.{not-below, piece-bodies, piece-ends}
 use Rattle.cif_canon.proofs.OnlyDays.{only-more, tiles-more}
-use Rattle.cif_canon.proofs.differing.only_calendar.Goals as goal
+use Rattle.cif_canon.proofs.only_days.only_calendar.Goals as goal
 
 pub loop-pieces-init : goal.loop-pieces-init
 loop-pieces-init g c = record {

@@ -3,7 +3,7 @@ use Rattle.std.proofs.Common.{◌≡◌, ◌+◌, ◌∙◌, sym, ap, arith, len
 use Rattle.cif_columns.specs.Day.{weekday_of}
 use Rattle.cif_canon.proofs.DifferentDays.{not-below}
 use Rattle.cif_canon.proofs.OnlyDays.{only-last, only-step, only-week}
-use Rattle.cif_canon.proofs.differing.only_winners.Goals as goal
+use Rattle.cif_canon.proofs.only_days.only_winners.Goals as goal
 
 pub only_source-winner-requires-clause-left : goal.only_source-winner-requires-clause-left
 only_source-winner-requires-clause-left g c i is =

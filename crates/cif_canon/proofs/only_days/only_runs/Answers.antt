@@ -2,7 +2,7 @@
 use Rattle.std.proofs.Common.{map}
 use Rattle.std.proofs.lemmas.Result.{IfOk-weaker}
 use Rattle.cif_canon.proofs.OnlyRuns.{only-runs, only-sources, rising-runs}
-use Rattle.cif_canon.proofs.differing.only_runs.Goals as goal
+use Rattle.cif_canon.proofs.only_days.only_runs.Goals as goal
 
 pub runs-requires : goal.runs-requires
 runs-requires g c =

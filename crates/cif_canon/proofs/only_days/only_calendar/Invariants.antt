@@ -2,7 +2,7 @@
 use Rattle.std.proofs.Common.{◌≤◌, ◌<◌, ◌-◌, ℕ, map}
 use Rattle.cif_calendar.specs.Pieces.{Tiles, source_at}
 use Rattle.cif_canon.specs.Steps.OnlySides.{IsOnlySource}
-use Rattle.cif_canon.proofs.differing.only_calendar.Given as goal
+use Rattle.cif_canon.proofs.only_days.only_calendar.Given as goal
 
 abbrev pub invariant-loop-pieces : goal.invariant-loop-pieces
 invariant-loop-pieces g l = record {
