@@ -8,25 +8,19 @@ ghost use Rattle.cif_columns.specs.Day.{StandsInYymmdd};
 ghost use Rattle.cif_tool.specs.Job.{Asks, HasFile, HasWord, IsAskedBy, IsChosen, IsDateOf};
 ghost use Rattle.cif_tool.specs.Job.{IsExtractTaken, IsTaken, IsTaskChosen, IsUidWord, form_of, format_of};
 ghost use Rattle.cif_tool.specs.Job.{is_set, is_standard, listing_of, names_standard, reads_standard};
-ghost use Rattle.cif_tool.specs.Job.{standard_inputs};
+ghost use Rattle.cif_tool.specs.Job.{standard_inputs, table_of};
 ghost use Rattle.cif_tool.specs.JobFault.{HasBadDate, IsFaultOf, IsFeedJobOf, IsJobOf, IsNoUid};
 ghost use Rattle.cif_tool.specs.JobFault.{IsTaskOf, IsWordFault, NamesNoDay};
 
-use crate::command_line::matches_of;
+use crate::command_line::{all_choices, matches_of};
 use crate::job::{FeedJob, Job, JobFault, Task};
 use cif_canon::{Asked, Format};
 use cif_columns::{Day, Uid, are_printable};
-use cif_views::Listing;
+use cif_views::{Listing, Table};
 use cif_weeks::Form;
 use clap::ArgMatches;
 use clap::error::ErrorKind;
 use std::alloc::{AllocError, Global};
-
-/// The words that name a form.
-static FORMS: [&str; 2] = ["1", "2"];
-
-/// The words that name a format.
-static FORMATS: [&str; 2] = ["text", "tsv"];
 
 /// What the words of a call ask for, of which the first is the program's name.
 ///
@@ -40,12 +34,7 @@ pub fn task_of(alloc: Global, words: Vec<String>) -> Result<Task, JobFault>
     ensures asked { IfOk result (Asks (map string_bytes words.items)) }
     ensures refused { IfErr result (IsFaultOf (map string_bytes words.items)) }
 {
-    match matches_of(
-        alloc,
-        FORMS.as_slice(),
-        FORMATS.as_slice(),
-        words.as_slice(),
-    ) {
+    match matches_of(alloc, &all_choices(), words.as_slice()) {
         Ok(matches) => chosen_task(alloc, &matches),
         Err(error) => Err(fault_of_error(error)),
     }
@@ -58,7 +47,7 @@ pub(crate) fn mistaken_word<'a>(
     words: &'a [String],
     fault: &JobFault,
 ) -> Option<&'a str> {
-    match matches_of(alloc, FORMS.as_slice(), FORMATS.as_slice(), words) {
+    match matches_of(alloc, &all_choices(), words) {
         Ok(matches) => match (matches.subcommand(), fault) {
             (Some((_, inner)), JobFault::BadUid) => word_of(inner, "UID"),
             (Some((_, inner)), _) => mistaken_date(inner),
@@ -129,6 +118,8 @@ fn named_job(alloc: Global, name: &str, matches: &ArgMatches<'_>) -> Result<Job,
         "train" => train_job(alloc, matches),
         "explain" => explain_job(alloc, matches),
         "clashes" => clashes_job(alloc, matches),
+        "table" => table_job(alloc, matches),
+        "calendar" => calendar_job(alloc, matches),
         _ => unreachable!(),
     }
 }
@@ -176,6 +167,7 @@ fn two_files_job(alloc: Global, name: &str, matches: &ArgMatches<'_>) -> Result<
             common,
             left,
             right,
+            format: format_of(matches),
         }),
     }
 }
@@ -237,6 +229,34 @@ fn clashes_job(alloc: Global, matches: &ArgMatches<'_>) -> Result<Job, JobFault>
     ensures { IsJobOf (codes "clashes", rows_of (found_of matches.now)) result }
 {
     Ok(Job::Clashes {
+        asked: asked_of(matches)?,
+        file: file_of(alloc, matches)?,
+    })
+}
+
+/// What `table` asks for.
+fn table_job(alloc: Global, matches: &ArgMatches<'_>) -> Result<Job, JobFault>
+    requires { HasWord (codes "TABLE") (rows_of (found_of matches.now)) }
+    ensures { IsJobOf (codes "table", rows_of (found_of matches.now)) result }
+{
+    Ok(Job::Table {
+        table: table_of(required_word(matches, "TABLE")),
+        asked: asked_of(matches)?,
+        form: form_of(matches),
+        file: file_of(alloc, matches)?,
+    })
+}
+
+/// What `calendar` asks for.
+fn calendar_job(alloc: Global, matches: &ArgMatches<'_>) -> Result<Job, JobFault>
+    requires { HasWord (codes "UID") (rows_of (found_of matches.now)) }
+    ensures { IsJobOf (codes "calendar", rows_of (found_of matches.now)) result }
+{
+    let Some(uid) = uid_of_word(required_word(matches, "UID")) else {
+        return Err(JobFault::BadUid);
+    };
+    Ok(Job::Calendar {
+        uid,
         asked: asked_of(matches)?,
         file: file_of(alloc, matches)?,
     })
@@ -461,6 +481,20 @@ fn listing_of(matches: &ArgMatches<'_>) -> Listing
 }
 
 // ---- the values of words
+
+/// The table of this name.
+fn table_of(word: &str) -> Table
+    ensures { result ≡ table_of word.now }
+{
+    match word {
+        "header" => Table::Header,
+        "tiplocs" => Table::Tiplocs,
+        "associations" => Table::Associations,
+        "schedules" => Table::Schedules,
+        "calls" => Table::Calls,
+        _ => Table::Changes,
+    }
+}
 
 /// The day that six digits YYMMDD name.
 fn day_of_word(word: &str) -> Option<Day>
