@@ -19,6 +19,7 @@ use Rattle.cif_tool.specs.declared.command_line.Argument.{Argument}
 use Rattle.cif_tool.specs.declared.command_line.Choices.{Choices}
 use Rattle.cif_tool.specs.declared.command_line.Kind.{Kind}
 use Rattle.cif_tool.specs.declared.command_line.Kind.TheVariants as kind
+use Rattle.cif_tool.specs.declared.job.Call.{Call}
 use Rattle.cif_tool.specs.declared.job.FeedJob.{FeedJob}
 use Rattle.cif_tool.specs.declared.job.FeedJob.TheVariants.{Prepare, Update}
 use Rattle.cif_tool.specs.declared.job.Job.{Job}
@@ -180,6 +181,10 @@ abbrev pub IsTaskChosen : Task → Text × List Row → Type 0
 IsTaskChosen (Extract job) = IsChosen job
 IsTaskChosen (Feed job) = IsFeedChosen job
 
+-- the same of the task of a call, and it is to say more if `--verbose` is among the words
+abbrev pub IsCallChosen : Call → Text × List Row → Type 0
+IsCallChosen call met = IsTaskChosen call.task met × (call.verbose ≡ is_set (first_of (codes "verbose") met.1))
+
 -- a word of this id is there, if one of its kind may not be left out, and so is the rest
 abbrev pub HasRequiredWord : Kind → Text → List Row → Type 0 → Type 0
 HasRequiredWord kind.Required id rows Rest = HasWord id rows × Rest
@@ -204,12 +209,12 @@ IsExtractTaken met = IsAmongTaken extract_subcommands met
 abbrev pub IsTaken : Text × List Row → Type 0
 IsTaken met = IsExtractTaken met ⊎ IsAmongTaken feed_subcommands met
 
--- `clap` takes the words, enters the task's subcommand and finds what the task holds
-pub record Asks (words : List Text) (task : Task) : Type 0 where
+-- `clap` takes the words, enters the task's subcommand and finds what the call holds
+pub record Asks (words : List Text) (call : Call) : Type 0 where
   pub choices : Choices
   pub are_choices : AreChoices choices
   pub taken : faults_of choices words ≡ []
-  pub is_chosen : IsSomeAnd (chosen choices words) (IsTaskChosen task)
+  pub is_chosen : IsSomeAnd (chosen choices words) (IsCallChosen call)
 
 -- The names of the inputs that a job reads: the first is standard input where it is absent, and each is where it is `-`. Only `compare`
 -- and `diff` have a second.

@@ -13,6 +13,13 @@ use cif_weeks::Form;
 use clap::error::ErrorKind;
 use std::alloc::{AllocError, Global};
 
+/// What a call of `cif` asks for, and whether it is to say more on standard error.
+#[derive(Drop)]
+pub struct Call {
+    pub task: Task,
+    pub verbose: bool,
+}
+
 /// What a call of `cif` asks for.
 #[derive(Drop)]
 pub enum Task {

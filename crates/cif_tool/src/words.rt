@@ -5,15 +5,15 @@ ghost use Rattle.std.specs.Prelude.{true};
 ghost use Rattle.clap.specs.Words.{all_of, first_of, found_of, kind_of, rows_of};
 ghost use Rattle.clap.specs.Words.{subcommand_rows_of};
 ghost use Rattle.cif_columns.specs.Day.{StandsInYymmdd};
-ghost use Rattle.cif_tool.specs.Job.{Asks, HasFile, HasWord, IsAskedBy, IsChosen, IsDateOf};
-ghost use Rattle.cif_tool.specs.Job.{IsExtractTaken, IsTaken, IsTaskChosen, IsUidWord, form_of, format_of};
+ghost use Rattle.cif_tool.specs.Job.{Asks, HasFile, HasWord, IsAskedBy, IsCallChosen, IsDateOf};
+ghost use Rattle.cif_tool.specs.Job.{IsExtractTaken, IsTaken, IsUidWord, form_of, format_of};
 ghost use Rattle.cif_tool.specs.Job.{is_set, is_standard, listing_of, names_standard, reads_standard};
 ghost use Rattle.cif_tool.specs.Job.{standard_inputs, table_of};
 ghost use Rattle.cif_tool.specs.JobFault.{HasBadDate, IsFaultOf, IsFeedJobOf, IsJobOf, IsNoUid};
 ghost use Rattle.cif_tool.specs.JobFault.{IsTaskOf, IsWordFault, NamesNoDay};
 
 use crate::command_line::{all_choices, matches_of};
-use crate::job::{FeedJob, Job, JobFault, Task};
+use crate::job::{Call, FeedJob, Job, JobFault, Task};
 use cif_canon::{Asked, Format};
 use cif_columns::{Day, Uid, are_printable};
 use cif_views::{Listing, Table};
@@ -30,7 +30,7 @@ use std::alloc::{AllocError, Global};
 /// memory ran out, in `clap` or in this call itself.
 // Inlined, it would keep `clap`'s 25 KiB on the stack while the job is done.
 #[inline(never)]
-pub fn task_of(alloc: Global, words: Vec<String>) -> Result<Task, JobFault>
+pub fn task_of(alloc: Global, words: Vec<String>) -> Result<Call, JobFault>
     ensures asked { IfOk result (Asks (map string_bytes words.items)) }
     ensures refused { IfErr result (IsFaultOf (map string_bytes words.items)) }
 {
@@ -40,7 +40,8 @@ pub fn task_of(alloc: Global, words: Vec<String>) -> Result<Task, JobFault>
     }
 }
 
-/// The first word that should name a date, or the UID, and doesn't: which, `fault` says.
+/// The first word that should name a date, or the UID, and doesn't, as `fault` says; none where
+/// `--verbose` isn't among the words.
 #[inline(never)]
 pub(crate) fn mistaken_word<'a>(
     alloc: Global,
@@ -48,10 +49,12 @@ pub(crate) fn mistaken_word<'a>(
     fault: &JobFault,
 ) -> Option<&'a str> {
     match matches_of(alloc, &all_choices(), words) {
-        Ok(matches) => match (matches.subcommand(), fault) {
-            (Some((_, inner)), JobFault::BadUid) => word_of(inner, "UID"),
-            (Some((_, inner)), _) => mistaken_date(inner),
-            (None, _) => None,
+        Ok(matches) => match matches.subcommand() {
+            Some((_, inner)) if has_flag(inner, "verbose") => match fault {
+                JobFault::BadUid => word_of(inner, "UID"),
+                _ => mistaken_date(inner),
+            },
+            _ => None,
         },
         Err(_) => None,
     }
@@ -82,14 +85,17 @@ fn fault_of_error(error: clap::Error) -> JobFault
 // ---- the jobs
 
 /// What the subcommand that was entered asks for.
-fn chosen_task(alloc: Global, matches: &ArgMatches<'_>) -> Result<Task, JobFault>
+fn chosen_task(alloc: Global, matches: &ArgMatches<'_>) -> Result<Call, JobFault>
     requires { IsSomeAnd (subcommand_rows_of matches.now) IsTaken }
-    ensures ok { IfOk result (λ task. IsSomeAnd (subcommand_rows_of matches.now) (IsTaskChosen task)) }
+    ensures ok { IfOk result (λ call. IsSomeAnd (subcommand_rows_of matches.now) (IsCallChosen call)) }
     ensures err { IfErr result (λ fault.
         IsSomeAnd (subcommand_rows_of matches.now) (IsWordFault fault)) }
 {
     match matches.subcommand() {
-        Some((name, inner)) => named_task(alloc, name, inner),
+        Some((name, inner)) => Ok(Call {
+            task: named_task(alloc, name, inner)?,
+            verbose: has_flag(inner, "verbose"),
+        }),
         None => unreachable!(),
     }
 }
