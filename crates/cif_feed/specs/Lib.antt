@@ -1,4 +1,6 @@
 pub mod Changes
+pub mod CutCount
+pub mod Dropped
 pub mod FeedFault
 pub mod FeedRefusal
 pub mod FeedTexts

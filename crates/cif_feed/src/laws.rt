@@ -8,8 +8,10 @@ ghost use Rattle.cif_calendar.specs.Runs.{Runs};
 ghost use Rattle.cif_calendar.specs.Terms.{Terms};
 ghost use Rattle.cif_feed.specs.Changes.{ChangeParts, TellsSame, after_all, last_word, put_last, untouched};
 ghost use Rattle.cif_feed.specs.Changes.{of_key as records_of_key};
+ghost use Rattle.cif_feed.specs.Dropped.{AreClearWithout, AreDropped, IsToldAssociation, IsToldTrain};
 ghost use Rattle.cif_feed.specs.Parts.{AreParts, IsPart, ended};
 ghost use Rattle.cif_extract.specs.ExtractParts.{ExtractParts};
+ghost use Rattle.cif_extract.specs.declared.fault.Clash.{Clash};
 ghost use Rattle.cif_records.specs.declared.association.AssocKey.{AssocKey};
 ghost use Rattle.cif_feed.specs.Prepared.{AreClosed, ArePrepared, HaveSameWinners, SayTheSame, part_terms};
 ghost use Rattle.cif_feed.specs.PreparedParts.{IsPrepared};
@@ -113,6 +115,17 @@ pub fn changes_leave_the_last_word<K, I>()
     // Two lists of changes one after the other are the one after the other.
     ensures sequence { (same : K → K → Bool) (records : List (K × I)) (one other : List (ChangeParts K I))
         → after_all same records (one ++ other) ≡ after_all same (after_all same records one) other }
+{}
+
+/// Without the records of the keys that are told, an extract is clear in its window, and says of each other
+/// key what it said.
+pub fn dropped_extracts_are_clear()
+    ensures associations { (old new : ExtractParts) (clashes : List Clash) → AreDropped old clashes new
+        → AreClearWithout (IsToldAssociation clashes) old.header.first old.header.last
+        (association_entries old.associations) (association_entries new.associations) }
+    ensures trains { (old new : ExtractParts) (clashes : List Clash) → AreDropped old clashes new
+        → AreClearWithout (IsToldTrain clashes) old.header.first old.header.last
+        (schedule_entries old.schedules) (schedule_entries new.schedules) }
 {}
 
 /// Contents spell one published extract at most, and one update.
