@@ -47,7 +47,7 @@ module _ {A : Type 0} (P : A → Type 0) where
   each-append [] ys p q = q
   each-append (x ∷ xs) ys p q = (p.0, each-append xs ys p.1 q)
 
-  each-filter : (test : A → Bool) (xs : List A) → Each P xs → Each P (filter test xs)
+  pub each-filter : (test : A → Bool) (xs : List A) → Each P xs → Each P (filter test xs)
   each-filter test [] p = tt
   each-filter test (x ∷ xs) p = at (test x) (each-filter test xs p.1)
     where
