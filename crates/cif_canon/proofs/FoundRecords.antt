@@ -24,11 +24,10 @@ use Rattle.cif_weeks.proofs.AlignedDays.{tight}
 use Rattle.cif_weeks.proofs.JoinedLists.{AllPairs-append, AllZip-append, Contains-from_map, zip-back}
 use Rattle.cif_weeks.proofs.KeyByKey.{HasBody-more, canonical-more, canonical-none, of_key-more}
 use Rattle.cif_calendar.proofs.RisingLists.{Contains-none, less_one_way, not_less}
-use Rattle.cif_canon.specs.Differences.{ComesBefore, OnlySays, RunsApplied, SaysNothing, TurnInto, is_side, of_side}
+use Rattle.cif_canon.specs.Differences.{ComesBefore, OnlySays, RunsApplied, SaysNothing, TurnInto, at_side, is_side, of_side}
 use Rattle.cif_canon.specs.Comparison.{IsFirstDifference}
 use Rattle.cif_canon.specs.Steps.OnlySides.{AreDifferentRuns, AreMergedRuns, IsFirstFound, IsSidedRunOf, RunComesBefore}
 use Rattle.cif_canon.specs.Steps.Records.{IsRunOf}
-use Rattle.cif_canon.specs.Steps.Sides.{at_side}
 use Rattle.cif_canon.specs.declared.differing.Extent.{Extent}
 use Rattle.cif_canon.specs.declared.differing.Extent.TheVariants.{AllKeys, FirstKey}
 use Rattle.cif_calendar.specs.ByKey.{AreAllByKey, IsFirstOfBoth, IsFront}
@@ -165,8 +164,8 @@ module _ {K B : Type 0} (cmp : K → K → Ordering) (total : IsTotalOrder cmp) 
     (are : AreMergedRuns lefts rights merged) (says : (d : ℕ) → IsWithin window d → AreRuns xs ys k d) where
   zipped : AreZipped xs ys merged (with_key k left.records) (with_key k right.records)
   zipped = zip-sides xs ys merged (with_key k left.records) (with_key k right.records)
-      (subst (λ (z : List Run). AllZip (IsRunOf xs) z (with_key k left.records)) (sym are.left) left.runs_of)
-      (subst (λ (z : List Run). AllZip (IsRunOf ys) z (with_key k right.records)) (sym are.right) right.runs_of)
+      (subst (λ (z : List Run). AllZip (IsRunOf xs) z (with_key k left.records)) (sym (are.sides Left)) left.runs_of)
+      (subst (λ (z : List Run). AllZip (IsRunOf ys) z (with_key k right.records)) (sym (are.sides Right)) right.runs_of)
 
   -- the records of one side
   own : (side : Side) → AreOnlyOfKey window (at_side xs ys side) (at_side ys xs side) k (at_side lefts rights side)
@@ -526,8 +525,7 @@ module _ {K B : Type 0} (cmp : K → K → Ordering) (total : IsTotalOrder cmp) 
           first = first.0;
           none = first.1;
           different = λ all. record {
-            left = record { canonical = a.canonical Left; exact = λ k d b within. (told all k).says Left d b within };
-            right = record { canonical = a.canonical Right; exact = λ k d b within. (told all k).says Right d b within };
+            only = λ side. record { canonical = a.canonical side; exact = λ k d b within. (told all k).says side d b within };
             in_order = a.in_order;
           };
           turn = λ all. turn-all window xs ys a.found (told all);

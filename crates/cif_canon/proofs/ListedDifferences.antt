@@ -27,17 +27,17 @@ use Rattle.cif_canon.specs.Accepted.{IsClearExtract}
 use Rattle.cif_canon.specs.Asked.{header_window}
 use Rattle.cif_canon.specs.Comparison.{IsFirstDifference}
 use Rattle.cif_canon.specs.Differences.{AreDifferences, AreDifferentRecords, AreDifferentTiplocs, AreNone, DifferencesParts}
-use Rattle.cif_canon.specs.Differences.{TurnInto, TurnLeftIntoRight, of_side}
+use Rattle.cif_canon.specs.Differences.{IsOnlyIn, TurnInto, TurnLeftIntoRight, at_side, of_side}
 use Rattle.cif_canon.specs.Meaning.{Agree}
 use Rattle.cif_canon.specs.Steps.OnlySides.{AreDifferentRuns, IsFirstFound, IsSidedRunOf}
-use Rattle.cif_canon.specs.Steps.Sides.{HasSidedRecord, at_side, sided_records}
+use Rattle.cif_canon.specs.Steps.Sides.{HasSidedRecord, sided_records}
 use Rattle.cif_canon.specs.declared.differing.Extent.TheVariants.{AllKeys}
 use Rattle.cif_canon.specs.declared.listed_differences.Side.{Side}
 use Rattle.cif_canon.specs.declared.listed_differences.Side.TheVariants.{Left, Right}
 use Rattle.cif_canon.specs.declared.listed_differences.Sided.{Sided}
-use Rattle.cif_canon.proofs.DifferentTiplocs.{has-or-not, no-tiploc}
+use Rattle.cif_canon.proofs.DifferentTiplocs.{has-or-not, no-tiploc, with_side}
 use Rattle.cif_canon.proofs.FoundRecords.{no-member}
-use Rattle.cif_canon.proofs.MergedSides.{side-member}
+use Rattle.cif_canon.proofs.MergedSides.{from-side, side-member}
 use Rattle.cif_canon.proofs.SidedTexts.{have-sided_records, records-of_runs}
 
 -- ---- one kind of record
@@ -56,14 +56,10 @@ module _ {K B : Type 0} (cmp : K → K → Ordering) (window : Window) (xs ys : 
   pub kind-none : (sided_records xs ys runs ≡ []) ↔ EntriesSayTheSame xs ys window.first window.last
   kind-none = (λ h. subst (IsFirstFound cmp window xs ys) (sym are ∙ h) a.first, λ h. are ∙ a.none h)
 
-  canonical-of : (side : Side) → AreCanonical cmp Two window (of_side side a.found)
-  canonical-of Left = (a.different refl).left.canonical
-  canonical-of Right = (a.different refl).right.canonical
-
   dated : (s : Sided (K × Permanent B)) → Contains a.found s → s.it.1.first ≤ s.it.1.last
   dated s in' =
       (tight s.it.1 window Two
-      (((canonical-of s.side).have_form s.it.0).aligned s.it.1 (side-member a.found s in'))).on_first.unfinished
+      ((((a.different refl).only s.side).canonical.have_form s.it.0).aligned s.it.1 (side-member a.found s in'))).on_first.unfinished
 
   pub kind-records : All (HasSidedRecord xs ys) runs
   kind-records = have-sided_records xs ys runs a.found a.runs_of (λ i d below. dated _ (Contains-get_or a.found i d below))
@@ -106,28 +102,30 @@ first-within {K = K} {B = B} key terms es fs (t ∷ runs) (e ∷ found) z s is =
 -- ---- locations
 
 module _ (xs ys : List Tiploc) (found : List (Sided Tiploc)) (a : AreDifferentTiplocs xs ys found) where
+  of-only : (side : Side) (t : Tiploc) → Contains (of_side side found) t ↔ IsOnlyIn xs ys (with_side side t)
+  of-only side t = (
+    λ h. (a.only (with_side side t)).0 (from-side side found t h),
+    λ h. side-member found (with_side side t) ((a.only (with_side side t)).1 h),
+  )
+
   pub tiplocs-turn : (t : Tiploc) → Contains ys t
       ↔ (Contains (of_side Right found) t ⊎ (Contains xs t × ¬ Contains (of_side Left found) t))
-  tiplocs-turn t = (
+  tiplocs-turn t = let left = of-only Left t in let right = of-only Right t in (
+    λ h. ⊎_elim (λ has. inr (has, λ only. (left.0 only).1 h)) (λ none. inl (right.1 (h, none))) (has-or-not xs t),
     λ h. ⊎_elim
-        (λ has. inr (has, λ only. ((a.left t).0 only).1 h))
-        (λ none. inl ((a.right t).1 (h, none)))
-        (has-or-not xs t),
-    λ h. ⊎_elim
-        (λ new. ((a.right t).0 new).0)
-        (λ kept. ⊎_elim (λ has. has) (λ none. absurd (kept.1 ((a.left t).1 (kept.0, none)))) (has-or-not ys t))
+        (λ new. (right.0 new).0)
+        (λ kept. ⊎_elim (λ has. has) (λ none. absurd (kept.1 (left.1 (kept.0, none)))) (has-or-not ys t))
         h,
   )
 
-  one-side : ((t : Tiploc) → Contains xs t ↔ Contains ys t) → (s : Sided Tiploc) (side : Side) → s.side ≡ side →
-      Contains (of_side side found) s.it → ⊥
-  one-side same s Left is h = let only = (a.left s.it).0 h in only.1 ((same s.it).0 only.0)
-  one-side same s Right is h = let only = (a.right s.it).0 h in only.1 ((same s.it).1 only.0)
+  one-side : ((t : Tiploc) → Contains xs t ↔ Contains ys t) → (side : Side) (t : Tiploc) → IsOnlyIn xs ys (with_side side t) → ⊥
+  one-side same Left t only = only.1 ((same t).0 only.0)
+  one-side same Right t only = only.1 ((same t).1 only.0)
 
   pub tiplocs-none : (found ≡ []) ↔ ((t : Tiploc) → Contains xs t ↔ Contains ys t)
   tiplocs-none = (
     λ is. no-tiploc xs ys found a (ap (λ z. slice_get z 0) is),
-    λ same. no-member found (λ s in'. one-side same s s.side refl (side-member found s in')),
+    λ same. no-member found (λ s in'. one-side same s.side s.it ((a.only s).0 in')),
   )
 
 -- ---- all kinds

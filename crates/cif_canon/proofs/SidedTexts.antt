@@ -11,9 +11,9 @@ use Rattle.cif_records.specs.declared.association.AssocKey.{AssocKey}
 use Rattle.cif_records.specs.declared.tiploc.Tiploc.{Tiploc}
 use Rattle.cif_weeks.specs.Permanent.{Permanent}
 use Rattle.cif_weeks.specs.declared.run.Run.{Run}
-use Rattle.cif_canon.specs.Differences.{AreNone}
+use Rattle.cif_canon.specs.Differences.{AreNone, at_side}
 use Rattle.cif_canon.specs.Steps.OnlySides.{IsSidedRunOf}
-use Rattle.cif_canon.specs.Steps.Sides.{HasSidedRecord, at_side, sided_records, sided_run_text, with_record}
+use Rattle.cif_canon.specs.Steps.Sides.{HasSidedRecord, sided_records, sided_run_text, with_record}
 use Rattle.cif_canon.specs.Steps.Texts.{HasRecord, record_at, text_if}
 use Rattle.cif_canon.specs.declared.listed_differences.Side.{Side}
 use Rattle.cif_canon.specs.declared.listed_differences.Side.TheVariants.{Left, Right}

@@ -8,7 +8,7 @@ ghost use Rattle.cif_extract.specs.ExtractParts.{extract_parts};
 ghost use Rattle.cif_canon.specs.Comparison.{AreCompared, IsCompareFault, IsComparison};
 ghost use Rattle.cif_canon.specs.Comparison.{IsFirstDifference, comparison_line};
 ghost use Rattle.cif_canon.specs.Steps.Differences.{AreComparable};
-ghost use Rattle.cif_canon.specs.Steps.Sides.{at_side};
+ghost use Rattle.cif_canon.specs.Differences.{at_side};
 
 use crate::differing::{Extent, check_comparable, different_records};
 use crate::listed_differences::{Side, Sided};

@@ -22,9 +22,8 @@ use Rattle.cif_weeks.specs.Window.{Window, IsWithin}
 use Rattle.cif_weeks.specs.declared.form.Form.TheVariants.{Two}
 use Rattle.cif_weeks.specs.declared.run.Run.{Run}
 use Rattle.cif_canon.specs.Comparison.{IsFirstDifference}
-use Rattle.cif_canon.specs.Differences.{AreDifferentRecords, TurnInto, of_side}
+use Rattle.cif_canon.specs.Differences.{AreDifferentRecords, IsOnlyIn, TurnInto, at_side, of_side}
 use Rattle.cif_canon.specs.Steps.Records.{IsRunOf}
-use Rattle.cif_canon.specs.Steps.Sides.{at_side}
 use Rattle.cif_canon.specs.declared.differing.Extent.{Extent}
 use Rattle.cif_canon.specs.declared.differing.Extent.TheVariants.{AllKeys}
 use Rattle.cif_canon.specs.declared.listed_differences.Side.{Side}
@@ -73,8 +72,7 @@ AreRisingRuns runs = AllPairs (λ r s. r.first < s.first) runs
 
 -- the runs of both sides in one list, in order
 pub record AreMergedRuns (lefts rights : List Run) (merged : List (Sided Run)) : Type 0 where
-  pub left : of_side Left merged ≡ lefts
-  pub right : of_side Right merged ≡ rights
+  pub sides : (side : Side) → of_side side merged ≡ at_side lefts rights side
   pub in_order : AllPairs RunComesBefore merged
 
 -- the runs of both sides are behind the others
@@ -87,13 +85,10 @@ pub record AreAppendedRuns (lefts rights : List Run) (old new : List (Sided Run)
 pub record AreMerging (lefts rights : List Run) (l r : List Run) (old new : List (Sided Run)) : Type 0 where
   pub merged : List (Sided Run)
   pub appended : new ≡ old ++ merged
-  pub left : of_side Left merged ++ l ≡ lefts
-  pub right : of_side Right merged ++ r ≡ rights
+  pub sides : (side : Side) → of_side side merged ++ at_side l r side ≡ at_side lefts rights side
   pub in_order : AllPairs RunComesBefore merged
-  pub left_after : (s : Sided Run) (x : Run) → Contains merged s → Contains l x → RunComesBefore s (record { side = Left; it = x })
-  pub right_after : (s : Sided Run) (x : Run) → Contains merged s → Contains r x → RunComesBefore s (record { side = Right; it = x })
-  pub left_rising : AreRisingRuns l
-  pub right_rising : AreRisingRuns r
+  pub after : (s t : Sided Run) → Contains merged s → Contains (at_side l r t.side) t.it → RunComesBefore s t
+  pub rising : (side : Side) → AreRisingRuns (at_side l r side)
 
 -- the side of the run that comes first of two lists; none where there is no run
 abbrev pub IsFirstSide : List Run → List Run → Option Side → Type 0
@@ -112,16 +107,13 @@ IsFirstOrder (x ∷ xs) [] (Some Less) = Unit {0}
 IsFirstOrder (x ∷ xs) (y ∷ ys) (Some order) = slice_cmp nat_cmp x.columns y.columns ≡ order
 IsFirstOrder _ _ _ = ⊥
 
--- Of the locations that only one of two lists has, those so far are found, and the others are left; both lists rise strictly.
+-- Of the locations that only one of two lists has, those so far are found, and the others are left, after them; both rests rise strictly.
 pub record AreSifting (lefts rights : List Tiploc) (l r : List Tiploc) (found : List (Sided Tiploc)) : Type 0 where
-  pub left : (t : Tiploc) → (Contains lefts t × ¬ Contains rights t) ↔ (Contains (of_side Left found) t ⊎ (Contains l t × ¬ Contains r t))
-  pub right : (t : Tiploc) → (Contains rights t × ¬ Contains lefts t)
-      ↔ (Contains (of_side Right found) t ⊎ (Contains r t × ¬ Contains l t))
+  pub only : (s : Sided Tiploc) → IsOnlyIn lefts rights s ↔ (Contains found s ⊎ IsOnlyIn l r s)
   pub rising : AllPairs (λ s t. slice_cmp nat_cmp s.it.columns t.it.columns ≡ Less) found
-  pub left_after : (s : Sided Tiploc) (t : Tiploc) → Contains found s → Contains l t → slice_cmp nat_cmp s.it.columns t.columns ≡ Less
-  pub right_after : (s : Sided Tiploc) (t : Tiploc) → Contains found s → Contains r t → slice_cmp nat_cmp s.it.columns t.columns ≡ Less
-  pub left_rising : AllPairs (λ s t. slice_cmp nat_cmp s.columns t.columns ≡ Less) l
-  pub right_rising : AllPairs (λ s t. slice_cmp nat_cmp s.columns t.columns ≡ Less) r
+  pub after : (s t : Sided Tiploc) → Contains found s → Contains (at_side l r t.side) t.it →
+      slice_cmp nat_cmp s.it.columns t.it.columns ≡ Less
+  pub rests : (side : Side) → AllPairs (λ s t. slice_cmp nat_cmp s.columns t.columns ≡ Less) (at_side l r side)
 
 -- the first item has moved behind the others, with its side
 pub record HasMoved {T : Type 0} (side : Side) (items rest : List T) (old new : List (Sided T)) : Type 0 where
@@ -131,8 +123,8 @@ pub record HasMoved {T : Type 0} (side : Side) (items rest : List T) (old new : 
 
 -- the first item of a side has moved, and those of the other side are left
 abbrev pub HasMovedOf : {T : Type 0} → Side → List T → List T → List T → List T → List (Sided T) → List (Sided T) → Type 0
-HasMovedOf Left lefts rights l r old new = HasMoved Left lefts l old new × (r ≡ rights)
-HasMovedOf Right lefts rights l r old new = HasMoved Right rights r old new × (l ≡ lefts)
+HasMovedOf side lefts rights l r old new =
+    HasMoved side (at_side lefts rights side) (at_side l r side) old new × (at_side r l side ≡ at_side rights lefts side)
 
 -- what a key's two calendars say by themselves is behind the runs that were found
 pub record AreKeyDifferences {B : Type 0} (xs : List (Terms B)) (c : CalendarParts) (ys : List (Terms B)) (e : CalendarParts)
