@@ -45,13 +45,6 @@ module _ {K B : Type 0} (entries : List (K × Terms B)) where
       (record { it = e; is = record-of_run run e zip.0; in_order = All-head IsDated e records dated })
       (have-records runs records zip.1 (All-tail IsDated e records dated))
 
-  pub same-number : (runs : List Run) (records : List (K × Permanent B)) → AllZip (IsRunOf entries) runs records →
-      length runs ≡ length records
-  same-number [] [] zip = refl
-  same-number [] (e ∷ records) zip = absurd zip
-  same-number (run ∷ runs) [] zip = absurd zip
-  same-number (run ∷ runs) (e ∷ records) zip = ap suc (same-number runs records zip.1)
-
   pub texts-of_runs : (text : K × Permanent B → List ℕ) (runs : List Run) (records : List (K × Permanent B)) →
       AllZip (IsRunOf entries) runs records → flat_map (λ run. text_if text (record_at entries run)) runs ≡ flat_map text records
   texts-of_runs text [] [] zip = refl

@@ -15,14 +15,14 @@ use Rattle.cif_calendar.specs.Terms.{Terms}
 use Rattle.cif_calendar.proofs.Elements.{Contains-first, Contains-cases}
 use Rattle.cif_weeks.specs.Canonical.{AreCanonical, with_key}
 use Rattle.cif_weeks.specs.HaveForm.{HaveForm}
-use Rattle.cif_weeks.specs.Permanent.{Permanent, Permanents}
+use Rattle.cif_weeks.specs.Permanent.{Permanent}
 use Rattle.cif_weeks.specs.WhatRuns.{HasBody}
 use Rattle.cif_weeks.specs.Window.{Window, IsWithin}
 use Rattle.cif_weeks.specs.declared.form.Form.TheVariants.{Two}
 use Rattle.cif_weeks.specs.declared.run.Run.{Run}
 use Rattle.cif_weeks.proofs.AlignedDays.{tight}
 use Rattle.cif_weeks.proofs.JoinedLists.{AllPairs-append, AllZip-append, Contains-from_map, zip-back}
-use Rattle.cif_weeks.proofs.KeyByKey.{HasBody-more, canonical-more, canonical-none, of_key-more}
+use Rattle.cif_weeks.proofs.KeyByKey.{canonical-more, canonical-none}
 use Rattle.cif_calendar.proofs.RisingLists.{Contains-none, less_one_way, not_less}
 use Rattle.cif_canon.specs.Differences.{ComesBefore, OnlySays, RunsApplied, SaysNothing, TurnInto, at_side, is_side, of_side}
 use Rattle.cif_canon.specs.Comparison.{IsFirstDifference}
@@ -35,6 +35,7 @@ use Rattle.cif_canon.specs.declared.listed_differences.Side.{Side}
 use Rattle.cif_canon.specs.declared.listed_differences.Side.TheVariants.{Left, Right}
 use Rattle.cif_canon.specs.declared.listed_differences.Sided.{Sided}
 use Rattle.cif_canon.proofs.ComparedKeys.{ArePassed, IsLeft, nobody, pass, passed-nothing, turns}
+use Rattle.cif_canon.proofs.KeyRecords.{bodies-other, bodies-own}
 use Rattle.cif_canon.proofs.MergedSides.{from-side, of_side-append, pairs-head, side-member}
 use Rattle.cif_canon.proofs.OnlyRuns.{pairs-zip}
 
@@ -121,32 +122,6 @@ module _ {K B : Type 0} (cmp : K → K → Ordering) (window : Window) (xs ys : 
     before = λ s k in'. absurd (Contains-none s in');
     passed = passed;
   }
-
--- sets with the same records say the same
-same-bodies : {B : Type 0} (us vs : Permanents B) → ((r : Permanent B) → us r ↔ vs r) → (d : ℕ) (b : B) → HasBody us d b ↔ HasBody vs d b
-same-bodies us vs same d b =
-    (λ h. HasBody-more us vs (λ r. (same r).0) d b h, λ h. HasBody-more vs us (λ r. (same r).1) d b h)
-
-module _ {K B : Type 0} (records : List (K × Permanent B)) (k : K) (own : List (Permanent B)) where
-  -- the key's own records say what is said of it, if it had none
-  pub bodies-own : ((r : Permanent B) → of_key records k r → ⊥) → (d : ℕ) (b : B) →
-      HasBody (of_key (records ++ with_key k own) k) d b ↔ HasBody (Contains own) d b
-  bodies-own none d b =
-      same-bodies (of_key (records ++ with_key k own) k) (Contains own)
-      (λ r. let more = of_key-more records k own k r in (
-        λ h. ⊎_elim (λ old. absurd (none r old)) (λ new. new.1) (more.0 h),
-        λ new. more.1 (inr (refl, new)),
-      )) d b
-
-  -- and of another key is said what was
-  pub bodies-other : (j : K) → (j ≡ k → ⊥) → (d : ℕ) (b : B) →
-      HasBody (of_key (records ++ with_key k own) j) d b ↔ HasBody (of_key records j) d b
-  bodies-other j apart d b =
-      same-bodies (of_key (records ++ with_key k own) j) (of_key records j)
-      (λ r. let more = of_key-more records k own j r in (
-        λ h. ⊎_elim (λ old. old) (λ new. absurd (apart new.0)) (more.0 h),
-        λ old. more.1 (inl old),
-      )) d b
 
 -- one record comes before another by first date, and where that is the same the left one before the right one
 abbrev DatesBefore : {K B : Type 0} → Sided (K × Permanent B) → Sided (K × Permanent B) → Type 0

@@ -1,5 +1,5 @@
 -- The runs of a key's calendar are those of the key's canonical records.
-use Rattle.std.proofs.Common.{◌≡◌, ℕ, ◌<◌, List, [], ◌∷◌, Some, map, length, get_or, sym, ◌∙◌, ap, subst}
+use Rattle.std.proofs.Common.{◌≡◌, inl, inr, ℕ, ◌<◌, List, [], ◌∷◌, ◌++◌, Some, map, length, get_or, refl, sym, ◌∙◌, ap, subst, ⊎_elim}
 use Rattle.std.specs.Prelude.{All, Contains, IsNone, ◌↔◌}
 use Rattle.std.specs.List.{AllZip}
 use Rattle.std.specs.Option.{option_and_then}
@@ -18,15 +18,43 @@ use Rattle.cif_extract.specs.declared.fault.Clash.{Clash}
 use Rattle.cif_weeks.specs.Canonical.{with_key}
 use Rattle.cif_weeks.specs.HaveForm.{HaveForm}
 use Rattle.cif_weeks.specs.MemberRuns.{AreRunsOfMembers, IsMembersRun}
-use Rattle.cif_weeks.specs.Permanent.{Permanent}
+use Rattle.cif_weeks.specs.Permanent.{Permanent, Permanents}
 use Rattle.cif_weeks.specs.Runs.{IsRunOf as IsCalendarRun, AreCanonicalRuns, window_of}
+use Rattle.cif_weeks.specs.WhatRuns.{HasBody}
 use Rattle.cif_weeks.specs.Window.{Window, IsWithin, window_from}
 use Rattle.cif_weeks.specs.declared.form.Form.{Form}
 use Rattle.cif_weeks.specs.declared.run.Run.{Run}
 use Rattle.cif_weeks.proofs.CalendarSources.{firsts-within}
+use Rattle.cif_weeks.proofs.KeyByKey.{HasBody-more, of_key-more}
 use Rattle.cif_canon.specs.Steps.Records.{IsRunOf, AreRunsOfKey, IsKeyFault, extract_fault}
 use Rattle.cif_calendar.proofs.KeyPositions.{has-key}
 use Rattle.cif_calendar.proofs.KeyTurns.{one-key}
+
+-- sets with the same records say the same
+same-bodies : {B : Type 0} (us vs : Permanents B) → ((r : Permanent B) → us r ↔ vs r) → (d : ℕ) (b : B) → HasBody us d b ↔ HasBody vs d b
+same-bodies us vs same d b =
+    (λ h. HasBody-more us vs (λ r. (same r).0) d b h, λ h. HasBody-more vs us (λ r. (same r).1) d b h)
+
+module _ {K B : Type 0} (records : List (K × Permanent B)) (k : K) (own : List (Permanent B)) where
+  -- the key's own records say what is said of it, if it had none
+  pub bodies-own : ((r : Permanent B) → of_key records k r → ⊥) → (d : ℕ) (b : B) →
+      HasBody (of_key (records ++ with_key k own) k) d b ↔ HasBody (Contains own) d b
+  bodies-own none d b =
+      same-bodies (of_key (records ++ with_key k own) k) (Contains own)
+      (λ r. let more = of_key-more records k own k r in (
+        λ h. ⊎_elim (λ old. absurd (none r old)) (λ new. new.1) (more.0 h),
+        λ new. more.1 (inr (refl, new)),
+      )) d b
+
+  -- and of another key is said what was
+  pub bodies-other : (j : K) → (j ≡ k → ⊥) → (d : ℕ) (b : B) →
+      HasBody (of_key (records ++ with_key k own) j) d b ↔ HasBody (of_key records j) d b
+  bodies-other j apart d b =
+      same-bodies (of_key (records ++ with_key k own) j) (of_key records j)
+      (λ r. let more = of_key-more records k own j r in (
+        λ h. ⊎_elim (λ old. old) (λ new. absurd (apart new.0)) (more.0 h),
+        λ old. more.1 (inl old),
+      )) d b
 
 module _ {E K B : Type 0} (key : E → K) (terms : E → Terms B) (es : List E) (k : K) (members : List ℕ)
     (p : ArePositionsOf (keyed key terms es) k members) where

@@ -1,6 +1,7 @@
 -- Runs of both sides in one list.
 use Rattle.std.proofs.Common.{◌≡◌, ◌⊎◌, inl, inr, ℕ, zero, suc, ◌+◌, ◌<◌, ◌≤◌, Bool, true, false, List, [], ◌∷◌, ◌++◌, Some, None}
 use Rattle.std.proofs.Common.{refl, sym, ap, ◌∙◌, subst, arith, get_or, length, ⊎_elim, append_assoc, append-nil, true≢false}
+use Rattle.std.proofs.Math.Nat.{eq-or-lt_of_le}
 use Rattle.std.specs.Prelude.{AllPairs, Contains, if◌then◌else◌}
 use Rattle.std.proofs.lemmas.List.Elements.{Contains-get_or, Contains-push_cases}
 use Rattle.std.proofs.lemmas.List.Quantifiers.{all_pairs_push}
@@ -107,9 +108,6 @@ module _ {A : Type 0} (P : Side → A → Type 0) (own theirs : A) where
 
 -- ---- which run is first
 
-le-cases : (m n : ℕ) → m ≤ n → (m < n) ⊎ (m ≡ n)
-le-cases m n h = grind (arith, h)
-
 -- it comes before those of the other side
 first-before : (side : Side) (x : Run) (own theirs : List Run) →
     IsFirstSide (at_side (x ∷ own) theirs side) (at_side theirs (x ∷ own) side) (Some side) → AreRisingRuns theirs → (y : Run) →
@@ -125,7 +123,7 @@ first-before side x own (z ∷ theirs) h rising y in' = before side h (⊎_elim
         z.first ≤ y.first → RunComesBefore (record { side = side; it = x }) (record { side = other side; it = y })
     before Left h from =
         let upto : x.first ≤ z.first = h in
-        ⊎_elim (λ less. inl less) (λ same. inr (same, refl, refl)) (le-cases x.first y.first (omega arith))
+        ⊎_elim (λ same. inr (same, refl, refl)) (λ less. inl less) (eq-or-lt_of_le (let far : x.first ≤ y.first = omega arith in far))
     before Right h from = let less : x.first < z.first = h in inl (omega arith)
 
 -- ---- one more
