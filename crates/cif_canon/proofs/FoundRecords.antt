@@ -14,7 +14,6 @@ use Rattle.cif_calendar.specs.Runs.{Runs}
 use Rattle.cif_calendar.specs.Terms.{Terms}
 use Rattle.cif_calendar.proofs.Elements.{Contains-first, Contains-cases}
 use Rattle.cif_weeks.specs.Canonical.{AreCanonical, with_key}
-use Rattle.cif_weeks.specs.HaveForm.{HaveForm}
 use Rattle.cif_weeks.specs.Permanent.{Permanent}
 use Rattle.cif_weeks.specs.WhatRuns.{HasBody}
 use Rattle.cif_weeks.specs.Window.{Window, IsWithin}
@@ -27,7 +26,7 @@ use Rattle.cif_calendar.proofs.RisingLists.{Contains-none, less_one_way, not_les
 use Rattle.cif_canon.specs.Differences.{ComesBefore, OnlySays, RunsApplied, SaysNothing, TurnInto, at_side, is_side, of_side}
 use Rattle.cif_canon.specs.Comparison.{IsFirstDifference}
 use Rattle.cif_canon.specs.Steps.OnlySides.{AreDifferentRuns, AreMergedRuns, IsFirstFound, IsSidedRunOf, RunComesBefore}
-use Rattle.cif_canon.specs.Steps.Records.{IsRunOf}
+use Rattle.cif_canon.specs.Steps.Records.{AreRunsOf, IsRunOf}
 use Rattle.cif_canon.specs.declared.differing.Extent.{Extent}
 use Rattle.cif_canon.specs.declared.differing.Extent.TheVariants.{AllKeys, FirstKey}
 use Rattle.cif_calendar.specs.ByKey.{AreAllByKey, IsFirstOfBoth, IsFront}
@@ -35,17 +34,13 @@ use Rattle.cif_canon.specs.declared.listed_differences.Side.{Side}
 use Rattle.cif_canon.specs.declared.listed_differences.Side.TheVariants.{Left, Right}
 use Rattle.cif_canon.specs.declared.listed_differences.Sided.{Sided}
 use Rattle.cif_canon.proofs.ComparedKeys.{ArePassed, IsLeft, nobody, pass, passed-nothing, turns}
-use Rattle.cif_canon.proofs.KeyRecords.{bodies-other, bodies-own}
+use Rattle.cif_canon.proofs.KeyRecords.{bodies-other, bodies-own, zip-keyed}
 use Rattle.cif_canon.proofs.MergedSides.{from-side, of_side-append, pairs-head, side-member}
 use Rattle.cif_canon.proofs.OnlyRuns.{pairs-zip}
 
 -- the runs are those of the canonical records of what only the first list says of key k
-pub record AreOnlyOfKey {K B : Type 0} (window : Window) (xs ys : List (K × Terms B)) (k : K) (runs : List Run) : Type 0 where
-  pub records : List (Permanent B)
-  pub runs_of : AllZip (IsRunOf xs) runs (with_key k records)
-  pub rising : AllPairs (λ r s. r.first < s.first) records
-  pub have_form : HaveForm Two window (Contains records)
-  pub say : (n : ℕ) (b : B) → IsWithin window n → HasBody (Contains records) n b ↔ OnlySays xs ys k n b
+abbrev pub AreOnlyOfKey : {K B : Type 0} → Window → List (K × Terms B) → List (K × Terms B) → K → List Run → Type 0
+AreOnlyOfKey window xs ys k runs = AreRunsOf Two window (λ run r. IsRunOf xs run (k, r)) (OnlySays xs ys k) runs
 
 -- on day d one body runs for key k by both lists, or two, or none
 pub record AreRuns {K B : Type 0} (xs ys : List (K × Terms B)) (k : K) (d : ℕ) : Type 0 where
@@ -139,8 +134,8 @@ module _ {K B : Type 0} (cmp : K → K → Ordering) (total : IsTotalOrder cmp) 
     (are : AreMergedRuns lefts rights merged) (says : (d : ℕ) → IsWithin window d → AreRuns xs ys k d) where
   zipped : AreZipped xs ys merged (with_key k left.records) (with_key k right.records)
   zipped = zip-sides xs ys merged (with_key k left.records) (with_key k right.records)
-      (subst (λ (z : List Run). AllZip (IsRunOf xs) z (with_key k left.records)) (sym (are.sides Left)) left.runs_of)
-      (subst (λ (z : List Run). AllZip (IsRunOf ys) z (with_key k right.records)) (sym (are.sides Right)) right.runs_of)
+      (subst (λ (z : List Run). AllZip (IsRunOf xs) z (with_key k left.records)) (sym (are.sides Left)) (zip-keyed xs k lefts left.records left.runs_of))
+      (subst (λ (z : List Run). AllZip (IsRunOf ys) z (with_key k right.records)) (sym (are.sides Right)) (zip-keyed ys k rights right.records right.runs_of))
 
   -- the records of one side
   own : (side : Side) → AreOnlyOfKey window (at_side xs ys side) (at_side ys xs side) k (at_side lefts rights side)
@@ -203,7 +198,7 @@ module _ {K B : Type 0} (cmp : K → K → Ordering) (total : IsTotalOrder cmp) 
         (λ p is. absurd (not_less cmp total k k refl (old side k p is))) d b in
         let say = (own side).say d b within in
         subst (λ (z : List (K × Permanent B)). HasBody (of_key z k) d b ↔ OnlySays (at_side xs ys side) (at_side ys xs side) k d b)
-        (sym (all side)) (λ h. say.0 (bodies.0 h), λ h. bodies.1 (say.1 h));
+        (sym (all side)) (λ h. say.1 (bodies.0 h), λ h. bodies.1 (say.0 h));
     runs = says;
   }
 

@@ -26,7 +26,7 @@ use Rattle.cif_calendar.proofs.RisingLists.{Contains-none, less_one_way, not_les
 use Rattle.cif_canon.specs.Steps.Records.{IsRunOf, AreSaid, AreRunsOfKey, AreCanonicalRecords, IsKeyFault, IsRecordsFault}
 use Rattle.cif_calendar.specs.ByKey.{AnyHasKey, IsRising, AreOfFirstKey}
 use Rattle.cif_calendar.proofs.KeyTurns.{decided, first-leads, no-entry, rising-after}
-use Rattle.cif_canon.proofs.KeyRecords.{bodies-other, bodies-own}
+use Rattle.cif_canon.proofs.KeyRecords.{bodies-other, bodies-own, zip-keyed}
 
 module _ {K B : Type 0} (cmp : K → K → Ordering) (form : Form) (window : Window) (es : List (K × Terms B)) where
   -- the runs are those of all keys but the ones with entries at `rest`, which are after them
@@ -117,21 +117,21 @@ module _ {K B : Type 0} (cmp : K → K → Ordering) (form : Form) (window : Win
 
       -- with the records of the run's key the list says what runs for it too
       said-more : (k : K) → (AnyHasKey es (drop n rest) k → ⊥) → (k ≡ run.key) ⊎ (k ≡ run.key → ⊥) →
-          AreSaid window es k (of_key (made.records ++ with_key run.key a.records) k)
+          AreSaid window es k (of_key (made.records ++ with_key run.key a.own.records) k)
       said-more k none (inl is) =
-          subst (λ i. AreSaid window es i (of_key (made.records ++ with_key run.key a.records) i)) (sym is) (record {
-            clear = a.said.clear;
+          subst (λ i. AreSaid window es i (of_key (made.records ++ with_key run.key a.own.records) i)) (sym is) (record {
+            clear = a.clear;
             say = λ d b within.
-                let bodies = bodies-own made.records run.key a.records
+                let bodies = bodies-own made.records run.key a.own.records
                 (λ r old. absurd (not_less cmp total run.key run.key refl (made.before run.key run.key r old leads))) d b in
-                let say = a.said.say d b within in
+                let say = a.own.say d b within in
                 (λ runs. bodies.1 (say.0 runs), λ has. say.1 (bodies.0 has));
           })
       said-more k none (inr apart) =
           let was = made.said k (λ any. ⊎_elim apart none (either k any)) in record {
             clear = was.clear;
             say = λ d b within.
-                let bodies = bodies-other made.records run.key a.records k apart d b in
+                let bodies = bodies-other made.records run.key a.own.records k apart d b in
                 let say = was.say d b within in
                 (λ runs. bodies.1 (say.0 runs), λ has. say.1 (bodies.0 has));
           }
@@ -141,13 +141,14 @@ module _ {K B : Type 0} (cmp : K → K → Ordering) (form : Form) (window : Win
         rising = rising-after cmp es rest made.rising n;
         passed = passed-more cmp total es rest (AnyHasKey es rest) made.passed run.key leads n run.front (AnyHasKey es (drop n rest)) left
             later;
-        records = made.records ++ with_key run.key a.records;
-        runs_of = AllZip-append (IsRunOf es) runs own made.records (with_key run.key a.records) made.runs_of a.runs_of;
-        canonical = canonical-more made.records run.key a.records cmp total form window made.canonical
-            (λ j r in'. made.before j run.key r in' leads) a.rising a.have_form;
+        records = made.records ++ with_key run.key a.own.records;
+        runs_of = AllZip-append (IsRunOf es) runs own made.records (with_key run.key a.own.records) made.runs_of
+            (zip-keyed es run.key own a.own.records a.own.runs_of);
+        canonical = canonical-more made.records run.key a.own.records cmp total form window made.canonical
+            (λ j r in'. made.before j run.key r in' leads) a.own.rising a.own.have_form;
         before = λ j k r in' any. ⊎_elim
             (λ old. made.before j k r old (left k any))
             (λ new. subst (λ i. cmp i k ≡ Less) (sym new.0) (later k any))
-            ((of_key-more made.records run.key a.records j r).0 in');
+            ((of_key-more made.records run.key a.own.records j r).0 in');
         said = λ k none. said-more k none (decided cmp total same k run.key (cmp k run.key) refl);
       }

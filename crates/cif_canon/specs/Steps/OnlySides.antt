@@ -14,16 +14,14 @@ use Rattle.cif_calendar.specs.Terms.{Terms}
 use Rattle.cif_calendar.specs.declared.key_calendar.Piece.{Piece}
 use Rattle.cif_columns.specs.Day.{weekday_of}
 use Rattle.cif_records.specs.declared.tiploc.Tiploc.{Tiploc}
-use Rattle.cif_weeks.specs.HaveForm.{HaveForm}
 use Rattle.cif_weeks.specs.Permanent.{Permanent}
 use Rattle.cif_weeks.specs.Runs.{IsRunOf as IsCalendarRun, window_of}
-use Rattle.cif_weeks.specs.WhatRuns.{HasBody}
 use Rattle.cif_weeks.specs.Window.{Window, IsWithin}
 use Rattle.cif_weeks.specs.declared.form.Form.TheVariants.{Two}
 use Rattle.cif_weeks.specs.declared.run.Run.{Run}
 use Rattle.cif_canon.specs.Comparison.{IsFirstDifference}
 use Rattle.cif_canon.specs.Differences.{AreDifferentRecords, IsOnlyIn, TurnInto, at_side, of_side}
-use Rattle.cif_canon.specs.Steps.Records.{IsRunOf}
+use Rattle.cif_canon.specs.Steps.Records.{AreRunsOf, IsRunOf}
 use Rattle.cif_canon.specs.declared.differing.Extent.{Extent}
 use Rattle.cif_canon.specs.declared.differing.Extent.TheVariants.{AllKeys}
 use Rattle.cif_canon.specs.declared.listed_differences.Side.{Side}
@@ -50,15 +48,9 @@ pub record IsOnlyCalendar {B : Type 0} (xs : List (Terms B)) (c : CalendarParts)
 
 -- The runs are those of the canonical records, in form 2, of what only calendar c says: body b on a day on which by c it runs, and by
 -- e it doesn't.
-pub record AreOnlyRuns {B : Type 0} (xs : List (Terms B)) (c : CalendarParts) (ys : List (Terms B)) (e : CalendarParts) (runs : List Run)
-    : Type 0 where
-  pub records : List (Permanent B)
-  pub runs_of : AllZip (IsCalendarRun xs c) runs records
-  pub within : (r : Permanent B) → Contains records r → IsWithin (window_of c) r.first
-  pub rising : AllPairs (λ r s. r.first < s.first) records
-  pub have_form : HaveForm Two (window_of c) (Contains records)
-  pub say : (n : ℕ) (b : B) → IsWithin (window_of c) n →
-      HasBody (Contains records) n b ↔ ((body_on xs c n ≡ Some b) × (body_on ys e n ≢ Some b))
+abbrev pub AreOnlyRuns : {B : Type 0} → List (Terms B) → CalendarParts → List (Terms B) → CalendarParts → List Run → Type 0
+AreOnlyRuns {B} xs c ys e runs =
+    AreRunsOf Two (window_of c) (IsCalendarRun xs c) (λ n (b : B). (body_on xs c n ≡ Some b) × (body_on ys e n ≢ Some b)) runs
 
 -- ---- runs of both sides in one list
 
