@@ -1,5 +1,5 @@
 -- The days on which two calendars have the same bodies.
-use Rattle.std.proofs.Common.{◌≡◌, ◌⊎◌, ℕ, ◌+◌, ◌-◌, ◌%◌, ◌<◌, ◌≤◌, List, Option, Some, None, map, refl, sym, ap, ◌∙◌, subst}
+use Rattle.std.proofs.Common.{◌≡◌, ℕ, ◌+◌, ◌-◌, ◌%◌, ◌<◌, ◌≤◌, List, Option, Some, None, map, refl, sym, ap, ◌∙◌, subst}
 use Rattle.std.proofs.Common.{arith, ⊎_elim, get_or, length}
 use Rattle.std.specs.Prelude.{◌↔◌, Bool, Contains, IsSome, IsTrue, slice_get}
 use Rattle.std.specs.Option.{option_and_then}

@@ -8,7 +8,9 @@ use Rattle.std.specs.declared.cmp.Ordering.{Ordering}
 use Rattle.std.specs.declared.cmp.Ordering.TheVariants.{Less, Equal}
 use Rattle.std.proofs.lemmas.List.Elements.{Contains-append_cases, Contains-get_or}
 use Rattle.std.proofs.lemmas.Option.{same_Some}
-use Rattle.cif_calendar.specs.Keys.{of_key}
+use Rattle.cif_calendar.specs.Clash.{IsClearFrom}
+use Rattle.cif_calendar.specs.Keys.{AreClear, of_key}
+use Rattle.cif_calendar.proofs.NoEntries.{none-clear}
 use Rattle.cif_calendar.specs.Meaning.{EntriesSayTheSame}
 use Rattle.cif_calendar.specs.Runs.{Runs}
 use Rattle.cif_calendar.specs.Terms.{Terms}
@@ -25,7 +27,7 @@ use Rattle.cif_weeks.proofs.KeyByKey.{canonical-more, canonical-none}
 use Rattle.cif_calendar.proofs.RisingLists.{Contains-none, less_one_way, not_less}
 use Rattle.cif_canon.specs.Differences.{ComesBefore, OnlySays, RunsApplied, SaysNothing, TurnInto, at_side, is_side, of_side}
 use Rattle.cif_canon.specs.Comparison.{IsFirstDifference}
-use Rattle.cif_canon.specs.Steps.OnlySides.{AreDifferentRuns, AreMergedRuns, IsFirstFound, IsSidedRunOf, RunComesBefore}
+use Rattle.cif_canon.specs.Steps.OnlySides.{AreDifferentRuns, AreMergedRuns, AreSame, IsFirstFound, IsSidedRunOf, RunComesBefore}
 use Rattle.cif_canon.specs.Steps.Records.{AreRunsOf, IsRunOf}
 use Rattle.cif_canon.specs.declared.differing.Extent.{Extent}
 use Rattle.cif_canon.specs.declared.differing.Extent.TheVariants.{AllKeys, FirstKey}
@@ -91,9 +93,10 @@ module _ {K B : Type 0} (xs ys : List (K × Terms B)) where
 
 -- ---- what is found of one key more
 
--- of key k the records of each side say what only its list does, and it is known what runs by each
+-- of key k each list is clear, the records of its side say what only it does, and it is known what runs by each
 pub record AreTold {K B : Type 0} (window : Window) (xs ys : List (K × Terms B)) (found : List (Sided (K × Permanent B))) (k : K) : Type 0
   where
+    pub clear : (side : Side) → IsClearFrom (of_key (at_side xs ys side) k) window.first window.last
     pub says : (side : Side) (d : ℕ) (b : B) → IsWithin window d →
         HasBody (of_key (of_side side found) k) d b ↔ OnlySays (at_side xs ys side) (at_side ys xs side) k d b
     pub runs : (d : ℕ) → IsWithin window d → AreRuns xs ys k d
@@ -131,7 +134,8 @@ with-key {K} {B} k own e in' =
 module _ {K B : Type 0} (cmp : K → K → Ordering) (total : IsTotalOrder cmp) (window : Window) (xs ys : List (K × Terms B)) (l r : List ℕ)
     (runs : List (Sided Run)) (a : AreFound cmp window xs ys l r runs) (k : K) (here : IsLeft cmp xs l ys r k) (lefts rights : List Run)
     (left : AreOnlyOfKey window xs ys k lefts) (right : AreOnlyOfKey window ys xs k rights) (merged : List (Sided Run))
-    (are : AreMergedRuns lefts rights merged) (says : (d : ℕ) → IsWithin window d → AreRuns xs ys k d) where
+    (are : AreMergedRuns lefts rights merged)
+    (clears : (side : Side) → IsClearFrom (of_key (at_side xs ys side) k) window.first window.last) (says : (d : ℕ) → IsWithin window d → AreRuns xs ys k d) where
   zipped : AreZipped xs ys merged (with_key k left.records) (with_key k right.records)
   zipped = zip-sides xs ys merged (with_key k left.records) (with_key k right.records)
       (subst (λ (z : List Run). AllZip (IsRunOf xs) z (with_key k left.records)) (sym (are.sides Left)) (zip-keyed xs k lefts left.records left.runs_of))
@@ -193,6 +197,7 @@ module _ {K B : Type 0} (cmp : K → K → Ordering) (total : IsTotalOrder cmp) 
   -- for the key itself
   told-here : AreTold window xs ys (a.found ++ zipped.found) k
   told-here = record {
+    clear = clears;
     says = λ side d b within.
         let bodies = bodies-own (of_side side a.found) k (own side).records
         (λ p is. absurd (not_less cmp total k k refl (old side k p is))) d b in
@@ -205,6 +210,7 @@ module _ {K B : Type 0} (cmp : K → K → Ordering) (total : IsTotalOrder cmp) 
   -- and for another
   told-there : (j : K) → (j ≡ k → ⊥) → AreTold window xs ys a.found j → AreTold window xs ys (a.found ++ zipped.found) j
   told-there j apart t = record {
+    clear = t.clear;
     says = λ side d b within.
         let bodies = bodies-other (of_side side a.found) k (own side).records j apart d b in
         let say = t.says side d b within in
@@ -238,6 +244,7 @@ module _ {K B : Type 0} (cmp : K → K → Ordering) (total : IsTotalOrder cmp) 
 told-idle : {K B : Type 0} (window : Window) (xs ys : List (K × Terms B)) (k : K) → ((t : Terms B) → of_key xs k t → ⊥) →
     ((t : Terms B) → of_key ys k t → ⊥) → AreTold window xs ys [] k
 told-idle {K} {B} window xs ys k no_x no_y = record {
+  clear = λ side. none-clear (of_key (at_side xs ys side) k) (nothing side) window.first window.last;
   says = λ side d b within. (
     λ h. absurd (Contains-none (k, h.it) h.listed),
     λ h. absurd (nothing side h.runs.winner h.runs.wins.listed),
@@ -372,10 +379,16 @@ module _ {K B : Type 0} (window : Window) (xs ys : List (K × Terms B)) (found :
     pub turn-all : TurnInto window xs ys found
     turn-all = record { runs = λ k d o within. turn-on k (told k) d within o }
 
-    same-all : found ≡ [] → EntriesSayTheSame xs ys window.first window.last
+    clear-all : (side : Side) → AreClear (at_side xs ys side) window.first window.last
+    clear-all side = record { key = λ k. (told k).clear side }
+
+    same-all : found ≡ [] → AreSame window xs ys
     same-all is = record {
-      same = λ k d o from upto.
-          silent-same k (told k) d (record { from = from; upto = upto }) (none-says Left k d) (none-says Right k d) o;
+      clear = clear-all;
+      same = record {
+        same = λ k d o from upto.
+            silent-same k (told k) d (record { from = from; upto = upto }) (none-says Left k d) (none-says Right k d) o;
+      };
     } where
       none-says : (side : Side) (k : K) (d : ℕ) → SaysNothing side found k d
       none-says side k d b h =
@@ -475,7 +488,7 @@ module _ {K B : Type 0} (cmp : K → K → Ordering) (total : IsTotalOrder cmp) 
   of-first : (found : List (Sided (K × Permanent B))) → AllPairs (ComesBefore cmp) found →
       ((side : Side) → AreCanonical cmp Two window (of_side side found)) →
       ((s : Sided (K × Permanent B)) (k : K) → Contains found s → (cmp s.it.0 k ≡ Less → ⊥) → AreTold window xs ys found k) →
-      (found ≡ [] → EntriesSayTheSame xs ys window.first window.last) →
+      (found ≡ [] → AreSame window xs ys) →
       IsFirstFound cmp window xs ys found × (EntriesSayTheSame xs ys window.first window.last → found ≡ [])
   of-first [] in_order canonical told none = (none refl, λ same. refl)
   of-first (s ∷ others) in_order canonical told none =
@@ -485,7 +498,7 @@ module _ {K B : Type 0} (cmp : K → K → Ordering) (total : IsTotalOrder cmp) 
       )
 
   module _ (l r : List ℕ) (runs : List (Sided Run)) (a : AreFound cmp window xs ys l r runs) (extent : Extent) where
-    different-runs : (a.found ≡ [] → EntriesSayTheSame xs ys window.first window.last) →
+    different-runs : (a.found ≡ [] → AreSame window xs ys) →
         (extent ≡ AllKeys → (k : K) → AreTold window xs ys a.found k) → AreDifferentRuns cmp window xs ys extent runs
     different-runs none told =
         let first = of-first a.found a.in_order a.canonical
@@ -494,6 +507,7 @@ module _ {K B : Type 0} (cmp : K → K → Ordering) (total : IsTotalOrder cmp) 
           runs_of = a.runs_of;
           first = first.0;
           none = first.1;
+          clear = λ all. clear-all window xs ys a.found (told all);
           different = λ all. record {
             only = λ side. record { canonical = a.canonical side; exact = λ k d b within. (told all k).says side d b within };
             in_order = a.in_order;

@@ -7,19 +7,18 @@ use Rattle.cif_columns.specs.declared.stp.Stp.TheVariants.{C}
 use Rattle.cif_calendar.specs.Calendar.{CalendarParts, IsCalendar, body_on}
 use Rattle.cif_calendar.specs.Clash.{IsClearFrom}
 use Rattle.cif_calendar.specs.Keys.{ArePositionsOf, keyed, of_key}
-use Rattle.cif_calendar.specs.Source.{IsChosen}
 use Rattle.cif_calendar.specs.Terms.{Terms}
-use Rattle.cif_calendar.proofs.KeyCalendar.{key-runs}
-use Rattle.cif_calendar.proofs.Positions.{positions-records}
-use Rattle.cif_calendar.proofs.Sets.{IsClearFrom-same}
+use Rattle.cif_calendar.proofs.KeyCalendar.{key-clear, key-runs}
 use Rattle.cif_weeks.specs.Runs.{IsRunOf as IsCalendarRun, window_of}
 use Rattle.cif_weeks.specs.Window.{IsWithin}
 use Rattle.cif_weeks.specs.declared.form.Form.TheVariants.{Two}
 use Rattle.cif_weeks.specs.declared.run.Run.{Run}
-use Rattle.cif_canon.specs.Differences.{OnlySays}
+use Rattle.cif_canon.specs.Differences.{OnlySays, at_side}
 use Rattle.cif_canon.specs.Steps.OnlySides.{AreOnlyRuns}
 use Rattle.cif_canon.specs.Steps.Records.{IsRunOf}
 use Rattle.cif_weeks.specs.Window.{window_from}
+use Rattle.cif_canon.specs.declared.listed_differences.Side.{Side}
+use Rattle.cif_canon.specs.declared.listed_differences.Side.TheVariants.{Left, Right}
 use Rattle.cif_canon.proofs.FoundRecords.{AreOnlyOfKey, AreRuns}
 use Rattle.cif_canon.proofs.KeyRecords.{key-run, runs-as, window-is}
 
@@ -35,18 +34,14 @@ module _ {B : Type 0} (eq : B → B → Bool) (law : (a b : B) → IsTrue (eq a 
   decide-bodies (Some a) None = inr (λ e. cc)
   decide-bodies (Some a) (Some b) = decide-body a b (eq a b) refl
 
--- the positions of a clear key are clear
-pub clear-positions : {E K B : Type 0} (key : E → K) (terms : E → Terms B) (es : List E) (k : K) (members : List ℕ) →
-    ArePositionsOf (keyed key terms es) k members → (first last : ℕ) → IsClearFrom (of_key (keyed key terms es) k) first last →
-    IsClearFrom (IsChosen (map terms es) members) first last
-clear-positions key terms es k members p first last h =
-    let same = positions-records key terms es k members p in
-    IsClearFrom-same _ _ (record { same = λ r. ((same.same r).1, (same.same r).0) }) first last h
-
 module _ {E K B : Type 0} (key : E → K) (terms : E → Terms B) (cancelled : (e : E) → IsNone (terms e).body ↔ ((terms e).letter ≡ C))
     (es fs : List E) (k : K) (l r : List ℕ) (p : ArePositionsOf (keyed key terms es) k l) (q : ArePositionsOf (keyed key terms fs) k r)
     (first last : ℕ) (one other : CalendarParts) (cal : IsCalendar (map terms es) l first last one)
     (dar : IsCalendar (map terms fs) r first last other) where
+  pub key-clears : (side : Side) → IsClearFrom (of_key (at_side (keyed key terms es) (keyed key terms fs) side) k) first last
+  key-clears Left = key-clear key terms es k l p first last one cal
+  key-clears Right = key-clear key terms fs k r q first last other dar
+
   pub key-only : (runs : List Run) → AreOnlyRuns (map terms es) one (map terms fs) other runs →
       AreOnlyOfKey (window_from first last) (keyed key terms es) (keyed key terms fs) k runs
   key-only runs a =

@@ -8,7 +8,7 @@ use Rattle.std.specs.declared.cmp.Ordering.{Ordering}
 use Rattle.std.proofs.lemmas.List.Elements.{Contains-get_or}
 use Rattle.std.proofs.lemmas.Option.{same_Some, slice_get_within}
 use Rattle.cif_calendar.specs.ByKey.{HasKey}
-use Rattle.cif_calendar.specs.Keys.{keyed}
+use Rattle.cif_calendar.specs.Keys.{AreClear, keyed}
 use Rattle.cif_calendar.proofs.KeyPositions.{within-entries}
 use Rattle.cif_calendar.proofs.KeyTurns.{one-key}
 use Rattle.cif_calendar.specs.Entries.{association_entries, schedule_entries}
@@ -17,7 +17,6 @@ use Rattle.cif_calendar.specs.Terms.{Terms}
 use Rattle.cif_extract.specs.ExtractParts.{ExtractParts}
 use Rattle.cif_records.specs.AssocKey.{key_cmp}
 use Rattle.cif_records.specs.declared.tiploc.Tiploc.{Tiploc}
-use Rattle.cif_weeks.specs.Canonical.{AreCanonical}
 use Rattle.cif_weeks.specs.Permanent.{Permanent}
 use Rattle.cif_weeks.specs.Window.{Window}
 use Rattle.cif_weeks.specs.declared.form.Form.TheVariants.{Two}
@@ -29,7 +28,7 @@ use Rattle.cif_canon.specs.Comparison.{IsFirstDifference}
 use Rattle.cif_canon.specs.Differences.{AreDifferences, AreDifferentRecords, AreDifferentTiplocs, AreNone, DifferencesParts}
 use Rattle.cif_canon.specs.Differences.{IsOnlyIn, TurnInto, TurnLeftIntoRight, at_side, of_side}
 use Rattle.cif_canon.specs.Meaning.{Agree}
-use Rattle.cif_canon.specs.Steps.OnlySides.{AreDifferentRuns, IsFirstFound, IsSidedRunOf}
+use Rattle.cif_canon.specs.Steps.OnlySides.{AreDifferentRuns, AreSame, IsFirstFound, IsSidedRunOf}
 use Rattle.cif_canon.specs.Steps.Sides.{HasSidedRecord, sided_records}
 use Rattle.cif_canon.specs.declared.differing.Extent.TheVariants.{AllKeys}
 use Rattle.cif_canon.specs.declared.listed_differences.Side.{Side}
@@ -54,7 +53,7 @@ module _ {K B : Type 0} (cmp : K → K → Ordering) (window : Window) (xs ys : 
   kind-turn = subst (TurnInto window xs ys) (sym are) (a.turn refl)
 
   pub kind-none : (sided_records xs ys runs ≡ []) ↔ EntriesSayTheSame xs ys window.first window.last
-  kind-none = (λ h. subst (IsFirstFound cmp window xs ys) (sym are ∙ h) a.first, λ h. are ∙ a.none h)
+  kind-none = (λ h. (subst (IsFirstFound cmp window xs ys) (sym are ∙ h) a.first).same, λ h. are ∙ a.none h)
 
   dated : (s : Sided (K × Permanent B)) → Contains a.found s → s.it.1.first ≤ s.it.1.last
   dated s in' =
@@ -64,10 +63,10 @@ module _ {K B : Type 0} (cmp : K → K → Ordering) (window : Window) (xs ys : 
   pub kind-records : All (HasSidedRecord xs ys) runs
   kind-records = have-sided_records xs ys runs a.found a.runs_of (λ i d below. dated _ (Contains-get_or a.found i d below))
 
--- the first run is at the first difference, and there is none where the lists say the same
+-- the first run is at the first difference, and there is none where the lists are the same
 module _ {K B : Type 0} (cmp : K → K → Ordering) (window : Window) (xs ys : List (K × Terms B)) where
   abbrev IsFirstRun : Option (Sided Run) → Type 0
-  IsFirstRun None = EntriesSayTheSame xs ys window.first window.last
+  IsFirstRun None = AreSame window xs ys
   IsFirstRun (Some s) = (k : K) → HasKey (at_side xs ys s.side) s.it.source k →
       IsFirstDifference cmp xs ys window.first window.last k s.it.first
 
@@ -130,8 +129,16 @@ module _ (xs ys : List Tiploc) (found : List (Sided Tiploc)) (a : AreDifferentTi
 
 -- ---- all kinds
 
-module _ (x y : ExtractParts) (window : header_window x.header ≡ header_window y.header) (left : IsClearExtract x)
-    (right : IsClearExtract y) (tiplocs : List (Sided Tiploc)) (at : AreDifferentTiplocs x.tiplocs y.tiplocs tiplocs)
+-- the right extract is clear in the left one's window
+pub clear-right : (x y : ExtractParts) → header_window x.header ≡ header_window y.header →
+    AreClear (association_entries y.associations) x.header.first x.header.last →
+    AreClear (schedule_entries y.schedules) x.header.first x.header.last → IsClearExtract y
+clear-right x y window associations schedules = record {
+  associations = subst (λ (w : Window). AreClear (association_entries y.associations) w.first w.last) window associations;
+  schedules = subst (λ (w : Window). AreClear (schedule_entries y.schedules) w.first w.last) window schedules;
+}
+
+module _ (x y : ExtractParts) (window : header_window x.header ≡ header_window y.header) (tiplocs : List (Sided Tiploc)) (at : AreDifferentTiplocs x.tiplocs y.tiplocs tiplocs)
     (associations : List (Sided Run))
     (aa : AreDifferentRuns key_cmp (header_window x.header) (association_entries x.associations) (association_entries y.associations)
     AllKeys associations) (schedules : List (Sided Run))
@@ -144,8 +151,8 @@ module _ (x y : ExtractParts) (window : header_window x.header ≡ header_window
   } → AreDifferences x y d
   are-differences d is = subst (AreDifferences x y) (sym is) (record {
     window = window;
-    left = left;
-    right = right;
+    left = record { associations = aa.clear refl Left; schedules = bs.clear refl Left };
+    right = clear-right x y window (aa.clear refl Right) (bs.clear refl Right);
     tiplocs = at;
     associations = kind-different key_cmp (header_window x.header) (association_entries x.associations)
         (association_entries y.associations) associations aa;

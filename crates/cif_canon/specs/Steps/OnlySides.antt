@@ -7,6 +7,7 @@ use Rattle.std.specs.Cmp.Lexicographic.{slice_cmp}
 use Rattle.std.specs.declared.cmp.Ordering.{Ordering}
 use Rattle.std.specs.declared.cmp.Ordering.TheVariants.{Less, Greater}
 use Rattle.cif_calendar.specs.Calendar.{CalendarParts, body_on}
+use Rattle.cif_calendar.specs.Keys.{AreClear}
 use Rattle.cif_calendar.specs.Meaning.{EntriesSayTheSame}
 use Rattle.cif_calendar.specs.Pieces.{source_at, winner_of}
 use Rattle.cif_calendar.specs.Source.{body_at}
@@ -16,7 +17,7 @@ use Rattle.cif_columns.specs.Day.{weekday_of}
 use Rattle.cif_records.specs.declared.tiploc.Tiploc.{Tiploc}
 use Rattle.cif_weeks.specs.Permanent.{Permanent}
 use Rattle.cif_weeks.specs.Runs.{IsRunOf as IsCalendarRun, window_of}
-use Rattle.cif_weeks.specs.Window.{Window, IsWithin}
+use Rattle.cif_weeks.specs.Window.{Window}
 use Rattle.cif_weeks.specs.declared.form.Form.TheVariants.{Two}
 use Rattle.cif_weeks.specs.declared.run.Run.{Run}
 use Rattle.cif_canon.specs.Comparison.{IsFirstDifference}
@@ -134,20 +135,26 @@ pub record IsSidedRunOf {K B : Type 0} (xs ys : List (K × Terms B)) (run : Side
   pub side : run.side ≡ e.side
   pub run_of : IsRunOf (at_side xs ys e.side) run.it e.it
 
--- what is first of what is found: nothing where the lists say the same, and else a record with the key and the day of the first
+-- both lists are clear, and they say the same
+pub record AreSame {K B : Type 0} (window : Window) (xs ys : List (K × Terms B)) : Type 0 where
+  pub clear : (side : Side) → AreClear (at_side xs ys side) window.first window.last
+  pub same : EntriesSayTheSame xs ys window.first window.last
+
+-- what is first of what is found: nothing where the lists are the same, and else a record with the key and the day of the first
 -- difference
 abbrev pub IsFirstFound : {K B : Type 0} → (K → K → Ordering) → Window → List (K × Terms B) → List (K × Terms B)
     → List (Sided (K × Permanent B)) → Type 0
-IsFirstFound cmp window xs ys [] = EntriesSayTheSame xs ys window.first window.last
+IsFirstFound cmp window xs ys [] = AreSame window xs ys
 IsFirstFound cmp window xs ys (s ∷ found) = IsFirstDifference cmp xs ys window.first window.last s.it.0 s.it.1.first
 
 -- The runs are, one by one, those of records, of which the first is at the first difference of two lists, and there is none where the
--- lists say the same. Of all keys they are the differences of the lists, and turn the one into the other.
+-- lists say the same. Of all keys, which are clear, they are the differences of the lists, and turn the one into the other.
 pub record AreDifferentRuns {K B : Type 0} (cmp : K → K → Ordering) (window : Window) (xs ys : List (K × Terms B)) (extent : Extent)
     (runs : List (Sided Run)) : Type 0 where
   pub found : List (Sided (K × Permanent B))
   pub runs_of : AllZip (IsSidedRunOf xs ys) runs found
   pub first : IsFirstFound cmp window xs ys found
   pub none : EntriesSayTheSame xs ys window.first window.last → found ≡ []
+  pub clear : extent ≡ AllKeys → (side : Side) → AreClear (at_side xs ys side) window.first window.last
   pub different : extent ≡ AllKeys → AreDifferentRecords cmp window xs ys found
   pub turn : extent ≡ AllKeys → TurnInto window xs ys found

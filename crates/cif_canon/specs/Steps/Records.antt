@@ -12,7 +12,7 @@ use Rattle.cif_calendar.specs.declared.key_calendar.CalendarFault.TheVariants as
 use Rattle.cif_extract.specs.declared.fault.Clash.{Clash}
 use Rattle.cif_extract.specs.declared.fault.Fault.{Fault}
 use Rattle.cif_extract.specs.declared.fault.Fault.TheVariants as fault
-use Rattle.cif_weeks.specs.Canonical.{AreCanonical, with_key}
+use Rattle.cif_weeks.specs.Canonical.{AreCanonical}
 use Rattle.cif_weeks.specs.HaveForm.{HaveForm}
 use Rattle.cif_weeks.specs.Permanent.{Permanent, Permanents, permanent_entries}
 use Rattle.cif_weeks.specs.Runs.{record_of}

@@ -1,5 +1,5 @@
 -- Each calendar has pieces of its own: up to the earlier end `alike-by_pieces` tells of both calendars, date by date.
-use Rattle.std.proofs.Common.{◌≡◌, ℕ, ◌∙◌, arith, map, refl, sym, ⊎_elim}
+use Rattle.std.proofs.Common.{◌≡◌, ◌∙◌, arith, map, refl, sym, ⊎_elim}
 use Rattle.std.specs.Prelude.{IsTrue, ◌↔◌}
 use Rattle.std.proofs.lemmas.Bool.{cases_lt, false≢true}
 use Rattle.cif_calendar.specs.Calendar.{body_on}
