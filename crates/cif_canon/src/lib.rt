@@ -26,6 +26,5 @@ pub use normal_form::{
     canon, check, check_keeping, normalise, normalise_keeping, read_narrowed, report,
 };
 pub use pair::read_pair;
-pub use records::NamedEntry;
 pub use rows::Format;
 pub use views::{DayLines, TrainLines, day_view, train_view, write_day, write_train};

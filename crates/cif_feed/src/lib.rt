@@ -2,6 +2,8 @@
 #![tactic(auto)]
 
 mod changes;
+mod cut_count;
+mod drop_clashes;
 mod feed;
 mod feed_reading;
 mod from_lines;
@@ -14,7 +16,6 @@ mod mark;
 mod part;
 mod prepare;
 mod prepared_record;
-mod prepared_text;
 mod profile_line;
 mod published;
 mod published_extract;

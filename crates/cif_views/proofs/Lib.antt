@@ -3,4 +3,3 @@ pub mod ClashLists
 mod ExplainedMarks
 mod ExplainedTexts
 mod Explaining
-pub mod NamedClashes
