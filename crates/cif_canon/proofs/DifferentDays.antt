@@ -7,15 +7,13 @@ use Rattle.std.proofs.lemmas.Bool.{cases_lt, false≢true}
 use Rattle.std.proofs.lemmas.List.{length-map}
 use Rattle.std.proofs.lemmas.Option.{slice_get_within}
 use Rattle.cif_calendar.proofs.Winning.{terms_at}
-use Rattle.cif_columns.specs.Day.{weekday_of}
-use Rattle.cif_calendar.specs.Calendar.{CalendarParts, body_on}
 use Rattle.cif_calendar.specs.Pieces.{Tiles, winner_of}
 use Rattle.cif_calendar.specs.Source.{body_at}
-use Rattle.cif_calendar.specs.Terms.{Terms}
 use Rattle.cif_calendar.specs.declared.key_calendar.Piece.{Piece}
 use Rattle.cif_calendar.proofs.PieceLists.{source_at-piece, tiles-ends}
 use Rattle.cif_weeks.specs.Runs.{AreSources}
 use Rattle.cif_canon.specs.Steps.Differences.{AreAlikeBy, HasBodies, HoldsFrom}
+use Rattle.cif_canon.proofs.Words.{CalendarParts, Terms, body_on, weekday_of}
 
 -- a day and the one of its weekday in the seven days from another
 pub in-week : (first d : ℕ) → first ≤ d → (e : ℕ) × (first ≤ e) × (e < first + 7) × (e ≤ d) × (weekday_of e ≡ weekday_of d)

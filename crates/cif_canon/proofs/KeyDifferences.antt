@@ -6,19 +6,14 @@ use Rattle.std.proofs.lemmas.Option.{same_Some}
 use Rattle.cif_columns.specs.declared.stp.Stp.TheVariants.{C}
 use Rattle.cif_calendar.specs.Calendar.{CalendarParts, IsCalendar, body_on}
 use Rattle.cif_calendar.specs.Clash.{IsClearFrom}
-use Rattle.cif_calendar.specs.Keys.{ArePositionsOf, keyed, of_key}
-use Rattle.cif_calendar.specs.Terms.{Terms}
 use Rattle.cif_calendar.proofs.KeyCalendar.{key-clear, key-runs}
 use Rattle.cif_weeks.specs.Runs.{IsRunOf as IsCalendarRun, window_of}
-use Rattle.cif_weeks.specs.Window.{IsWithin}
-use Rattle.cif_weeks.specs.declared.form.Form.TheVariants.{Two}
-use Rattle.cif_weeks.specs.declared.run.Run.{Run}
 use Rattle.cif_canon.specs.Differences.{OnlySays, at_side}
 use Rattle.cif_canon.specs.Steps.OnlySides.{AreOnlyRuns}
 use Rattle.cif_canon.specs.Steps.Records.{IsRunOf}
-use Rattle.cif_weeks.specs.Window.{window_from}
 use Rattle.cif_canon.specs.declared.listed_differences.Side.{Side}
 use Rattle.cif_canon.specs.declared.listed_differences.Side.TheVariants.{Left, Right}
+use Rattle.cif_canon.proofs.Words.{ArePositionsOf, IsWithin, Run, Terms, Two, keyed, of_key, window_from}
 use Rattle.cif_canon.proofs.FoundRecords.{AreOnlyOfKey, AreRuns}
 use Rattle.cif_canon.proofs.KeyRecords.{key-run, runs-as, window-is}
 

@@ -8,7 +8,6 @@ use Rattle.cif_calendar.specs.Terms.{SameRecords, Terms}
 use Rattle.cif_calendar.specs.Calendar.{CalendarParts, IsCalendar, IsFault, body_on}
 use Rattle.cif_calendar.specs.declared.key_calendar.CalendarFault.{CalendarFault}
 use Rattle.cif_calendar.specs.declared.key_calendar.CalendarFault.TheVariants.{Ambiguous, Memory}
-use Rattle.cif_calendar.specs.Keys.{keyed, of_key, ArePositionsOf}
 use Rattle.cif_calendar.specs.Runs.{BodyRuns}
 use Rattle.cif_calendar.specs.Source.{IsChosen}
 use Rattle.cif_calendar.proofs.Elements.{Contains-first, Contains-rest}
@@ -21,15 +20,13 @@ use Rattle.cif_weeks.specs.MemberRuns.{AreRunsOfMembers, IsMembersRun}
 use Rattle.cif_weeks.specs.Permanent.{Permanent, Permanents}
 use Rattle.cif_weeks.specs.Runs.{IsRunOf as IsCalendarRun, AreCanonicalRuns, window_of}
 use Rattle.cif_weeks.specs.WhatRuns.{HasBody}
-use Rattle.cif_weeks.specs.Window.{Window, IsWithin, window_from}
-use Rattle.cif_weeks.specs.declared.form.Form.{Form}
-use Rattle.cif_weeks.specs.declared.run.Run.{Run}
 use Rattle.cif_weeks.proofs.AlignedDays.{tight}
 use Rattle.cif_weeks.proofs.JoinedLists.{zip-back, zip-map}
 use Rattle.cif_weeks.proofs.KeyByKey.{HasBody-more, of_key-more}
 use Rattle.cif_canon.specs.Steps.Records.{IsRunOf, AreRunsOf, AreRunsOfKey, IsKeyFault, extract_fault}
 use Rattle.cif_calendar.proofs.KeyPositions.{has-key}
 use Rattle.cif_calendar.proofs.KeyTurns.{one-key}
+use Rattle.cif_canon.proofs.Words.{ArePositionsOf, Form, IsWithin, Run, Window, keyed, of_key, window_from}
 
 -- sets with the same records say the same
 same-bodies : {B : Type 0} (us vs : Permanents B) → ((r : Permanent B) → us r ↔ vs r) → (d : ℕ) (b : B) → HasBody us d b ↔ HasBody vs d b

@@ -4,7 +4,6 @@ use Rattle.std.proofs.Common.{⊎_elim, arith}
 use Rattle.std.specs.Prelude.{◌↔◌, ◌&&◌, AllPairs, Contains, IsTrue, Some, nat_eq, nat_le, slice_index_or}
 use Rattle.std.proofs.lemmas.Bool.{and_from, and_parts, false≢true, le-leb, leb-true}
 use Rattle.std.proofs.lemmas.Option.{same_Some}
-use Rattle.cif_columns.specs.Day.{weekday_of}
 use Rattle.cif_columns.specs.DaysRun.{RunsOn}
 use Rattle.std.specs.Cmp.{IsTotalOrder}
 use Rattle.std.specs.Cmp.Lexicographic.{pointwise, bytes_decides}
@@ -13,21 +12,15 @@ use Rattle.std.specs.declared.cmp.Ordering.{Ordering}
 use Rattle.std.specs.declared.cmp.Ordering.TheVariants.{Less}
 use Rattle.std.proofs.lemmas.List.Elements.{Contains-get_or}
 use Rattle.std.proofs.lemmas.List.Kept.{AllPairs-filter}
-use Rattle.cif_calendar.specs.Keys.{of_key}
-use Rattle.cif_calendar.specs.Terms.{Terms}
 use Rattle.cif_weeks.specs.Applies.{Applies}
 use Rattle.cif_weeks.specs.Canonical.{Precedes}
-use Rattle.cif_weeks.specs.Permanent.{Permanent}
-use Rattle.cif_weeks.specs.Runs.{record_of}
-use Rattle.cif_weeks.specs.Window.{Window, IsWithin}
-use Rattle.cif_weeks.specs.declared.form.Form.{Form}
-use Rattle.cif_weeks.specs.declared.run.Run.{Run}
 use Rattle.cif_weeks.proofs.JoinedLists.{AllPairs-map, Contains-map, Contains-from_map}
 use Rattle.cif_weeks.proofs.PermanentEntries.{runs-applies}
 use Rattle.cif_calendar.proofs.RisingLists.{not_less}
 use Rattle.cif_canon.specs.Steps.Records.{AreCanonicalRecords}
 use Rattle.cif_canon.specs.Steps.Views.{applies_on}
 use Rattle.cif_canon.specs.Views.{AreRunning}
+use Rattle.cif_canon.proofs.Words.{Form, IsWithin, Permanent, Run, Terms, Window, of_key, record_of, weekday_of}
 use Rattle.cif_canon.proofs.ChosenRecords.{chosen, chosen-from}
 
 -- ---- the test of a day
