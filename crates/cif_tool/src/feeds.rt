@@ -10,7 +10,7 @@ use arrayvec::ArrayString;
 use cif_columns::{MAX_LINES, Sink, Source, WriteDevice, WriteFault};
 use cif_extract::{Clash, Fault};
 use cif_feed::{
-    FeedFault, HolidayCodes, HolidayFault, Holidays, Passed, Prepared, PublishedExtract,
+    FeedFault, HolidayCodes, HolidayFault, Holidays, Outcome, Passed, Prepared, PublishedExtract,
     RefusedLine,
 };
 use cif_records::Header;
@@ -30,7 +30,7 @@ pub(crate) fn feed_task<R: Files + Input + Print + AllocGlobal, W: WriteDevice>(
     verbose: bool,
     errors: &mut Sink<W>,
 ) -> u8 {
-    let mut told = Told::new(rt.alloc());
+    let mut told = Told::new(rt.alloc(), verbose);
     let done = match job {
         FeedJob::Prepare {
             holidays,
@@ -52,16 +52,12 @@ pub(crate) fn feed_task<R: Files + Input + Print + AllocGlobal, W: WriteDevice>(
     match &done {
         Ok(()) => {
             told.tell(errors);
-            if verbose {
-                told.counts.tell(errors);
-            }
+            told.counts.tell(errors);
             DONE
         }
         Err(fault) => {
             fault.tell(errors);
-            if verbose {
-                told.advice.tell(errors);
-            }
+            told.advice.tell(errors);
             fault.status()
         }
     }
@@ -74,6 +70,8 @@ struct Told {
     waived: Vec<RefusedLine>,
     /// The clashes whose records were left out.
     dropped: Vec<Clash>,
+    /// Whether more is said.
+    verbose: bool,
     /// What `--verbose` says where all was done.
     counts: Message,
     /// What `--verbose` says of a fault.
@@ -81,10 +79,11 @@ struct Told {
 }
 
 impl Told {
-    fn new(alloc: Global) -> Self {
+    fn new(alloc: Global, verbose: bool) -> Self {
         Told {
             waived: Vec::new(alloc),
             dropped: Vec::new(alloc),
+            verbose,
             counts: Message::new(alloc),
             advice: Message::new(alloc),
         }
@@ -171,13 +170,15 @@ fn prepare<R: Files + Input + Print + AllocGlobal>(
     let Ok(mut prepared) = extract.prepare(rt.alloc(), &holidays) else {
         return Err(MEMORY);
     };
-    let mut text = counts_of(&extract.passed, open_ends_of(&extract));
-    let _ = write!(
-        text,
-        ", records cut by holidays: {}",
-        extract.count_cut(&holidays)
-    );
-    add_counts("", name_of(file), &extract.header, &text, &mut told.counts);
+    if told.verbose {
+        let mut text = counts_of(&extract.passed, open_ends_of(&extract));
+        let _ = write!(
+            text,
+            ", records cut by holidays: {}",
+            extract.count_cut(&holidays)
+        );
+        add_counts("", name_of(file), &extract.header, &text, &mut told.counts);
+    }
     if drop_clashes {
         match prepared.drop_clashes(rt.alloc()) {
             Ok(dropped) => told.dropped = dropped,
@@ -202,12 +203,16 @@ fn read_holidays<R: Files + Input + Print + AllocGlobal>(
     match Holidays::read(rt.alloc(), &mut source) {
         Ok(holidays) => Ok(holidays),
         Err(HolidayFault::BadHoliday { line }) => {
-            add_holiday_line(source.reader(), line, &mut told.advice);
+            if told.verbose {
+                add_holiday_line(source.reader(), line, &mut told.advice);
+            }
             Err(TaskFault::BadHoliday { line })
         }
         Err(HolidayFault::Read) => {
             let fault = FeedFault::Extract(Fault::Read);
-            add_feed_fault(rt.alloc(), &fault, source.reader(), &mut told.advice);
+            if told.verbose {
+                add_feed_fault(rt.alloc(), &fault, source.reader(), &mut told.advice);
+            }
             Err(TaskFault::Feed(fault))
         }
         Err(HolidayFault::Memory) => Err(MEMORY),
@@ -227,7 +232,9 @@ fn read_published<R: Files + Input + Print + AllocGlobal>(
     match PublishedExtract::read(rt.alloc(), &mut source, MAX_LINES, allowed) {
         Ok(extract) => Ok(extract),
         Err(fault) => {
-            add_feed_fault(rt.alloc(), &fault, source.reader(), &mut told.advice);
+            if told.verbose {
+                add_feed_fault(rt.alloc(), &fault, source.reader(), &mut told.advice);
+            }
             Err(TaskFault::Feed(fault))
         }
     }
@@ -244,14 +251,16 @@ fn update<R: Files + Input + Print + AllocGlobal>(
     told: &mut Told,
 ) -> Result<(), TaskFault> {
     let mut extract = read_published(rt, "FULL, ", Some(full), HolidayCodes::all(), told)?;
-    let text = counts_of(&extract.passed, open_ends_of(&extract));
-    add_counts(
-        "FULL, ",
-        name_of(Some(full)),
-        &extract.header,
-        &text,
-        &mut told.counts,
-    );
+    if told.verbose {
+        let text = counts_of(&extract.passed, open_ends_of(&extract));
+        add_counts(
+            "FULL, ",
+            name_of(Some(full)),
+            &extract.header,
+            &text,
+            &mut told.counts,
+        );
+    }
     for name in updates {
         do_update(rt, name.as_str(), lenient, &mut extract, told)?;
     }
@@ -273,28 +282,18 @@ fn do_update<R: Files + Input + Print + AllocGlobal>(
     let mut source = Source::new(ExtractInput::of(rt, "UPDATE, ", Some(name)));
     match extract.update_from(rt.alloc(), &mut source, MAX_LINES, lenient) {
         Ok(outcome) => {
-            let done = &outcome.counts;
-            let mut text = counts_of(&outcome.passed, done.open_ends);
-            let _ = write!(
-                text,
-                ", put: {}, revised: {}, taken out: {}",
-                done.put, done.revised, done.taken_out
-            );
-            let input = source.reader();
-            add_counts(
-                input.side(),
-                input.name(),
-                &extract.header,
-                &text,
-                &mut told.counts,
-            );
+            if told.verbose {
+                add_outcome(source.reader(), &extract.header, &outcome, &mut told.counts);
+            }
             match told.waived.extend_from_slice(outcome.waived.as_slice()) {
                 Ok(()) => Ok(()),
                 Err(_) => Err(MEMORY),
             }
         }
         Err(fault) => {
-            add_feed_fault(rt.alloc(), &fault, source.reader(), &mut told.advice);
+            if told.verbose {
+                add_feed_fault(rt.alloc(), &fault, source.reader(), &mut told.advice);
+            }
             Err(TaskFault::Feed(fault))
         }
     }
@@ -341,13 +340,15 @@ fn write<R: Files + Input + Print + AllocGlobal>(
     // A `BufWriter` that is dropped writes what it holds, also after a failure.
     mem::forget(output);
     if done.is_err() {
-        add_failure(
-            rt.alloc(),
-            "",
-            "standard output",
-            written.failure,
-            &mut told.advice,
-        );
+        if told.verbose {
+            add_failure(
+                rt.alloc(),
+                "",
+                "standard output",
+                written.failure,
+                &mut told.advice,
+            );
+        }
         return Err(TaskFault::Feed(FeedFault::Extract(Fault::Write)));
     }
     Ok(())
@@ -376,6 +377,23 @@ fn counts_of(passed: &Passed, open_ends: u64) -> Counts {
 fn add_counts(side: &str, name: &str, header: &Header, text: &Counts, counts: &mut Message) {
     add_window(side, name, header, counts);
     counts.line(&[side, name, ": ", text.as_str()]);
+}
+
+/// Adds the header's window and the counts of an update that was done.
+fn add_outcome<R: Files + Input>(
+    input: &ExtractInput<'_, R>,
+    header: &Header,
+    outcome: &Outcome,
+    counts: &mut Message,
+) {
+    let done = &outcome.counts;
+    let mut text = counts_of(&outcome.passed, done.open_ends);
+    let _ = write!(
+        text,
+        ", put: {}, revised: {}, taken out: {}",
+        done.put, done.revised, done.taken_out
+    );
+    add_counts(input.side(), input.name(), header, &text, counts);
 }
 
 /// How many records have an open end.
