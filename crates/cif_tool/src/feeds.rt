@@ -1,17 +1,18 @@
 //! From a call that reads published extracts to its status. No clause says what is done here: the rows of
-//! `tests/` show it on the built program. What is read, done and written is said by the clauses of `cif_feed`.
-use crate::advice::{add_failure, add_feed_fault, add_holiday_line, add_window};
-use crate::devices::{ExtractInput, Output, Written, name_of};
+//! `tests/` show it on the built program. What is read, done and written is said by the clauses of `cif_feed`:
+//! of `prepare` by one, and of `update` input by input.
+use crate::advice::{add_feed_fault, add_holiday_line, add_window, add_write_failure};
+use crate::devices::{ExtractInput, Output, Written};
 use crate::job::FeedJob;
 use crate::message::Message;
 use crate::program::OUTPUT_BUFFER;
 use crate::status::{DONE, REFUSED, status};
 use arrayvec::ArrayString;
-use cif_columns::{MAX_LINES, Sink, Source, WriteDevice, WriteFault};
+use cif_columns::{MAX_LINES, Sink, Source, WriteDevice};
 use cif_extract::{Clash, Fault};
 use cif_feed::{
-    FeedFault, HolidayCodes, HolidayFault, Holidays, Outcome, Passed, Prepared, PublishedExtract,
-    RefusedLine,
+    FeedFault, HolidayCodes, HolidayFault, Holidays, Outcome, Passed, PublishedExtract,
+    RefusedLine, write_prepared,
 };
 use cif_records::Header;
 use itoa::Buffer;
@@ -89,6 +90,19 @@ impl Told {
         }
     }
 
+    /// Adds what helps with a fault, which this input gave, or the output.
+    fn advise<R: Files + Input>(
+        &mut self,
+        alloc: Global,
+        fault: &FeedFault,
+        input: &ExtractInput<'_, R>,
+        written: &Written,
+    ) {
+        if self.verbose {
+            add_feed_fault(alloc, fault, input, written, &mut self.advice);
+        }
+    }
+
     /// Names each line that was waived, and each clash whose records were left out.
     fn tell<W: WriteDevice>(&self, errors: &mut Sink<W>) {
         for line in self.waived.as_slice() {
@@ -155,6 +169,7 @@ fn tell_line<W: WriteDevice>(parts: &[&str], errors: &mut Sink<W>) {
 // ---- prepare
 
 /// Writes the prepared extract of the file.
+#[inline(never)]
 fn prepare<R: Files + Input + Print + AllocGlobal>(
     rt: &R,
     holidays: Option<&str>,
@@ -162,34 +177,66 @@ fn prepare<R: Files + Input + Print + AllocGlobal>(
     file: Option<&str>,
     told: &mut Told,
 ) -> Result<(), TaskFault> {
+    let alloc = rt.alloc();
     let holidays = match holidays {
         Some(name) => read_holidays(rt, name, told)?,
-        None => Holidays::new(rt.alloc()),
+        None => Holidays::new(alloc),
     };
-    let extract = read_published(rt, "", file, holidays.codes(), told)?;
-    let Ok(mut prepared) = extract.prepare(rt.alloc(), &holidays) else {
+    let mut written = Written::new();
+    let output = Output {
+        writer: io::writer(rt),
+        written: &mut written,
+    };
+    let Ok(output) = BufWriter::with_capacity(alloc, OUTPUT_BUFFER, output) else {
         return Err(MEMORY);
     };
-    if told.verbose {
-        let mut text = counts_of(&extract.passed, open_ends_of(&extract));
-        let _ = write!(
-            text,
-            ", records cut by holidays: {}",
-            extract.count_cut(&holidays)
-        );
-        add_counts("", name_of(file), &extract.header, &text, &mut told.counts);
-    }
-    if drop_clashes {
-        match prepared.drop_clashes(rt.alloc()) {
-            Ok(dropped) => told.dropped = dropped,
-            Err(_) => return Err(MEMORY),
+    let mut output = Sink::new(output);
+    let mut source = Source::new(ExtractInput::of(rt, "", file));
+    let mut kept = None;
+    let answer = write_prepared(
+        alloc,
+        &mut source,
+        &mut output,
+        MAX_LINES,
+        &holidays,
+        drop_clashes,
+        &mut kept,
+    );
+    let answer = flushed(answer, &mut output);
+    // A `BufWriter` that is dropped writes what it holds, also after a failure.
+    mem::forget(output);
+    let done = match answer {
+        Ok(dropped) => {
+            told.dropped = dropped;
+            if let Some(extract) = &kept
+                && told.verbose
+            {
+                add_prepared(source.reader(), extract, &holidays, &mut told.counts);
+            }
+            Ok(())
         }
-    }
-    let written = write(rt, &Answer::Prepared(&prepared), told);
+        Err(fault) => {
+            told.advise(alloc, &fault, source.reader(), &written);
+            Err(TaskFault::Feed(fault))
+        }
+    };
     // The process ends after this: the system takes back the memory of all bodies at once.
-    mem::forget(prepared);
-    mem::forget(extract);
-    written
+    mem::forget(kept);
+    done
+}
+
+/// The answer, once what was written is handed on.
+fn flushed<T: Drop, W: WriteDevice>(
+    answer: Result<T, FeedFault>,
+    output: &mut Sink<W>,
+) -> Result<T, FeedFault> {
+    match answer {
+        Ok(done) => match output.flush() {
+            Ok(()) => Ok(done),
+            Err(_) => Err(FeedFault::Extract(Fault::Write)),
+        },
+        Err(fault) => Err(fault),
+    }
 }
 
 /// The holidays of this file.
@@ -210,33 +257,10 @@ fn read_holidays<R: Files + Input + Print + AllocGlobal>(
         }
         Err(HolidayFault::Read) => {
             let fault = FeedFault::Extract(Fault::Read);
-            if told.verbose {
-                add_feed_fault(rt.alloc(), &fault, source.reader(), &mut told.advice);
-            }
+            told.advise(rt.alloc(), &fault, source.reader(), &Written::new());
             Err(TaskFault::Feed(fault))
         }
         Err(HolidayFault::Memory) => Err(MEMORY),
-    }
-}
-
-/// The published extract of this file, in which these holiday codes may stand.
-#[inline(never)]
-fn read_published<R: Files + Input + Print + AllocGlobal>(
-    rt: &R,
-    side: &'static str,
-    file: Option<&str>,
-    allowed: HolidayCodes,
-    told: &mut Told,
-) -> Result<PublishedExtract, TaskFault> {
-    let mut source = Source::new(ExtractInput::of(rt, side, file));
-    match PublishedExtract::read(rt.alloc(), &mut source, MAX_LINES, allowed) {
-        Ok(extract) => Ok(extract),
-        Err(fault) => {
-            if told.verbose {
-                add_feed_fault(rt.alloc(), &fault, source.reader(), &mut told.advice);
-            }
-            Err(TaskFault::Feed(fault))
-        }
     }
 }
 
@@ -250,24 +274,44 @@ fn update<R: Files + Input + Print + AllocGlobal>(
     lenient: bool,
     told: &mut Told,
 ) -> Result<(), TaskFault> {
-    let mut extract = read_published(rt, "FULL, ", Some(full), HolidayCodes::all(), told)?;
-    if told.verbose {
-        let text = counts_of(&extract.passed, open_ends_of(&extract));
-        add_counts(
-            "FULL, ",
-            name_of(Some(full)),
-            &extract.header,
-            &text,
-            &mut told.counts,
-        );
-    }
+    let mut extract = read_full(rt, full, told)?;
     for name in updates {
         do_update(rt, name.as_str(), lenient, &mut extract, told)?;
     }
-    let written = write(rt, &Answer::Published(&extract), told);
+    let written = write(rt, &extract, told);
     // The process ends after this: the system takes back the memory of all bodies at once.
     mem::forget(extract);
     written
+}
+
+/// The full extract of this file.
+#[inline(never)]
+fn read_full<R: Files + Input + Print + AllocGlobal>(
+    rt: &R,
+    name: &str,
+    told: &mut Told,
+) -> Result<PublishedExtract, TaskFault> {
+    let mut source = Source::new(ExtractInput::of(rt, "FULL, ", Some(name)));
+    match PublishedExtract::read(rt.alloc(), &mut source, MAX_LINES, HolidayCodes::all()) {
+        Ok(extract) => {
+            if told.verbose {
+                let input = source.reader();
+                let text = counts_of(&extract.passed, open_ends_of(&extract));
+                add_counts(
+                    input.side(),
+                    input.name(),
+                    &extract.header,
+                    &text,
+                    &mut told.counts,
+                );
+            }
+            Ok(extract)
+        }
+        Err(fault) => {
+            told.advise(rt.alloc(), &fault, source.reader(), &Written::new());
+            Err(TaskFault::Feed(fault))
+        }
+    }
 }
 
 /// Does the update of this file.
@@ -291,37 +335,19 @@ fn do_update<R: Files + Input + Print + AllocGlobal>(
             }
         }
         Err(fault) => {
-            if told.verbose {
-                add_feed_fault(rt.alloc(), &fault, source.reader(), &mut told.advice);
-            }
+            told.advise(rt.alloc(), &fault, source.reader(), &Written::new());
             Err(TaskFault::Feed(fault))
         }
     }
 }
 
-// ---- the output
+// ---- the output of update
 
-/// What is written.
-#[derive(Drop)]
-enum Answer<'a, 'b> {
-    Prepared(&'a Prepared<'b>),
-    Published(&'a PublishedExtract),
-}
-
-impl Answer<'_, '_> {
-    fn write<W: WriteDevice>(&self, sink: &mut Sink<W>) -> Result<(), WriteFault> {
-        match self {
-            Answer::Prepared(extract) => extract.write(sink),
-            Answer::Published(extract) => extract.write(sink),
-        }
-    }
-}
-
-/// Writes the answer on the standard output.
+/// Writes the extract on the standard output.
 #[inline(never)]
 fn write<R: Files + Input + Print + AllocGlobal>(
     rt: &R,
-    answer: &Answer<'_, '_>,
+    extract: &PublishedExtract,
     told: &mut Told,
 ) -> Result<(), TaskFault> {
     let mut written = Written::new();
@@ -333,21 +359,15 @@ fn write<R: Files + Input + Print + AllocGlobal>(
         return Err(MEMORY);
     };
     let mut output = Sink::new(output);
-    let done = match answer.write(&mut output) {
+    let done = match extract.write(&mut output) {
         Ok(()) => output.flush(),
         Err(fault) => Err(fault),
     };
-    // A `BufWriter` that is dropped writes what it holds, also after a failure.
+    // As in `prepare`.
     mem::forget(output);
     if done.is_err() {
         if told.verbose {
-            add_failure(
-                rt.alloc(),
-                "",
-                "standard output",
-                written.failure,
-                &mut told.advice,
-            );
+            add_write_failure(rt.alloc(), &written, &mut told.advice);
         }
         return Err(TaskFault::Feed(FeedFault::Extract(Fault::Write)));
     }
@@ -377,6 +397,22 @@ fn counts_of(passed: &Passed, open_ends: u64) -> Counts {
 fn add_counts(side: &str, name: &str, header: &Header, text: &Counts, counts: &mut Message) {
     add_window(side, name, header, counts);
     counts.line(&[side, name, ": ", text.as_str()]);
+}
+
+/// Adds the window and the counts of an extract that was prepared with these holidays.
+fn add_prepared<R: Files + Input>(
+    input: &ExtractInput<'_, R>,
+    extract: &PublishedExtract,
+    holidays: &Holidays,
+    counts: &mut Message,
+) {
+    let mut text = counts_of(&extract.passed, open_ends_of(extract));
+    let _ = write!(
+        text,
+        ", records cut by holidays: {}",
+        extract.count_cut(holidays)
+    );
+    add_counts(input.side(), input.name(), &extract.header, &text, counts);
 }
 
 /// Adds the header's window and the counts of an update that was done.
