@@ -8,44 +8,35 @@ use Rattle.std.specs.declared.cmp.Ordering.{Ordering}
 use Rattle.std.specs.declared.cmp.Ordering.TheVariants.{Less, Equal}
 use Rattle.std.proofs.lemmas.List.Elements.{Contains-append_cases, Contains-get_or}
 use Rattle.std.proofs.lemmas.Option.{same_Some}
-use Rattle.cif_calendar.specs.Keys.{of_key}
-use Rattle.cif_calendar.specs.Meaning.{EntriesSayTheSame}
+use Rattle.cif_calendar.specs.Clash.{IsClearFrom}
+use Rattle.cif_calendar.proofs.NoEntries.{none-clear}
 use Rattle.cif_calendar.specs.Runs.{Runs}
-use Rattle.cif_calendar.specs.Terms.{Terms}
 use Rattle.cif_calendar.proofs.Elements.{Contains-first, Contains-cases}
 use Rattle.cif_weeks.specs.Canonical.{AreCanonical, with_key}
-use Rattle.cif_weeks.specs.HaveForm.{HaveForm}
-use Rattle.cif_weeks.specs.Permanent.{Permanent, Permanents}
 use Rattle.cif_weeks.specs.WhatRuns.{HasBody}
-use Rattle.cif_weeks.specs.Window.{Window, IsWithin}
-use Rattle.cif_weeks.specs.declared.form.Form.TheVariants.{Two}
-use Rattle.cif_weeks.specs.declared.run.Run.{Run}
 use Rattle.cif_weeks.proofs.AlignedDays.{tight}
 use Rattle.cif_weeks.proofs.JoinedLists.{AllPairs-append, AllZip-append, Contains-from_map, zip-back}
-use Rattle.cif_weeks.proofs.KeyByKey.{HasBody-more, canonical-more, canonical-none, of_key-more}
+use Rattle.cif_weeks.proofs.KeyByKey.{canonical-more, canonical-none}
 use Rattle.cif_calendar.proofs.RisingLists.{Contains-none, less_one_way, not_less}
-use Rattle.cif_canon.specs.Differences.{ComesBefore, OnlySays, RunsApplied, SaysNothing, TurnInto, is_side, of_side}
+use Rattle.cif_canon.specs.Differences.{ComesBefore, OnlySays, RunsApplied, SaysNothing, TurnInto, at_side, is_side, of_side}
 use Rattle.cif_canon.specs.Comparison.{IsFirstDifference}
-use Rattle.cif_canon.specs.Steps.OnlySides.{AreDifferentRuns, AreMergedRuns, IsFirstFound, IsSidedRunOf, RunComesBefore}
-use Rattle.cif_canon.specs.Steps.Records.{IsRunOf}
-use Rattle.cif_canon.specs.Steps.Sides.{at_side}
+use Rattle.cif_canon.specs.Steps.OnlySides.{AreDifferentRuns, AreMergedRuns, AreSame, IsFirstFound, IsSidedRunOf, RunComesBefore}
+use Rattle.cif_canon.specs.Steps.Records.{AreRunsOf, IsRunOf}
 use Rattle.cif_canon.specs.declared.differing.Extent.{Extent}
 use Rattle.cif_canon.specs.declared.differing.Extent.TheVariants.{AllKeys, FirstKey}
 use Rattle.cif_calendar.specs.ByKey.{AreAllByKey, IsFirstOfBoth, IsFront}
 use Rattle.cif_canon.specs.declared.listed_differences.Side.{Side}
 use Rattle.cif_canon.specs.declared.listed_differences.Side.TheVariants.{Left, Right}
 use Rattle.cif_canon.specs.declared.listed_differences.Sided.{Sided}
+use Rattle.cif_canon.proofs.Words.{AreClear, EntriesSayTheSame, IsWithin, Permanent, Run, Terms, Two, Window, of_key}
 use Rattle.cif_canon.proofs.ComparedKeys.{ArePassed, IsLeft, nobody, pass, passed-nothing, turns}
+use Rattle.cif_canon.proofs.KeyRecords.{bodies-other, bodies-own, zip-keyed}
 use Rattle.cif_canon.proofs.MergedSides.{from-side, of_side-append, pairs-head, side-member}
 use Rattle.cif_canon.proofs.OnlyRuns.{pairs-zip}
 
 -- the runs are those of the canonical records of what only the first list says of key k
-pub record AreOnlyOfKey {K B : Type 0} (window : Window) (xs ys : List (K × Terms B)) (k : K) (runs : List Run) : Type 0 where
-  pub records : List (Permanent B)
-  pub runs_of : AllZip (IsRunOf xs) runs (with_key k records)
-  pub rising : AllPairs (λ r s. r.first < s.first) records
-  pub have_form : HaveForm Two window (Contains records)
-  pub say : (n : ℕ) (b : B) → IsWithin window n → HasBody (Contains records) n b ↔ OnlySays xs ys k n b
+abbrev pub AreOnlyOfKey : {K B : Type 0} → Window → List (K × Terms B) → List (K × Terms B) → K → List Run → Type 0
+AreOnlyOfKey window xs ys k runs = AreRunsOf Two window (λ run r. IsRunOf xs run (k, r)) (OnlySays xs ys k) runs
 
 -- on day d one body runs for key k by both lists, or two, or none
 pub record AreRuns {K B : Type 0} (xs ys : List (K × Terms B)) (k : K) (d : ℕ) : Type 0 where
@@ -96,9 +87,10 @@ module _ {K B : Type 0} (xs ys : List (K × Terms B)) where
 
 -- ---- what is found of one key more
 
--- of key k the records of each side say what only its list does, and it is known what runs by each
+-- of key k each list is clear, the records of its side say what only it does, and it is known what runs by each
 pub record AreTold {K B : Type 0} (window : Window) (xs ys : List (K × Terms B)) (found : List (Sided (K × Permanent B))) (k : K) : Type 0
   where
+    pub clear : (side : Side) → IsClearFrom (of_key (at_side xs ys side) k) window.first window.last
     pub says : (side : Side) (d : ℕ) (b : B) → IsWithin window d →
         HasBody (of_key (of_side side found) k) d b ↔ OnlySays (at_side xs ys side) (at_side ys xs side) k d b
     pub runs : (d : ℕ) → IsWithin window d → AreRuns xs ys k d
@@ -123,32 +115,6 @@ module _ {K B : Type 0} (cmp : K → K → Ordering) (window : Window) (xs ys : 
     passed = passed;
   }
 
--- sets with the same records say the same
-same-bodies : {B : Type 0} (us vs : Permanents B) → ((r : Permanent B) → us r ↔ vs r) → (d : ℕ) (b : B) → HasBody us d b ↔ HasBody vs d b
-same-bodies us vs same d b =
-    (λ h. HasBody-more us vs (λ r. (same r).0) d b h, λ h. HasBody-more vs us (λ r. (same r).1) d b h)
-
-module _ {K B : Type 0} (records : List (K × Permanent B)) (k : K) (own : List (Permanent B)) where
-  -- the key's own records say what is said of it, if it had none
-  pub bodies-own : ((r : Permanent B) → of_key records k r → ⊥) → (d : ℕ) (b : B) →
-      HasBody (of_key (records ++ with_key k own) k) d b ↔ HasBody (Contains own) d b
-  bodies-own none d b =
-      same-bodies (of_key (records ++ with_key k own) k) (Contains own)
-      (λ r. let more = of_key-more records k own k r in (
-        λ h. ⊎_elim (λ old. absurd (none r old)) (λ new. new.1) (more.0 h),
-        λ new. more.1 (inr (refl, new)),
-      )) d b
-
-  -- and of another key is said what was
-  pub bodies-other : (j : K) → (j ≡ k → ⊥) → (d : ℕ) (b : B) →
-      HasBody (of_key (records ++ with_key k own) j) d b ↔ HasBody (of_key records j) d b
-  bodies-other j apart d b =
-      same-bodies (of_key (records ++ with_key k own) j) (of_key records j)
-      (λ r. let more = of_key-more records k own j r in (
-        λ h. ⊎_elim (λ old. old) (λ new. absurd (apart new.0)) (more.0 h),
-        λ old. more.1 (inl old),
-      )) d b
-
 -- one record comes before another by first date, and where that is the same the left one before the right one
 abbrev DatesBefore : {K B : Type 0} → Sided (K × Permanent B) → Sided (K × Permanent B) → Type 0
 DatesBefore s t = (s.it.1.first < t.it.1.first) ⊎ ((s.it.1.first ≡ t.it.1.first) × (s.side ≡ Left) × (t.side ≡ Right))
@@ -162,11 +128,12 @@ with-key {K} {B} k own e in' =
 module _ {K B : Type 0} (cmp : K → K → Ordering) (total : IsTotalOrder cmp) (window : Window) (xs ys : List (K × Terms B)) (l r : List ℕ)
     (runs : List (Sided Run)) (a : AreFound cmp window xs ys l r runs) (k : K) (here : IsLeft cmp xs l ys r k) (lefts rights : List Run)
     (left : AreOnlyOfKey window xs ys k lefts) (right : AreOnlyOfKey window ys xs k rights) (merged : List (Sided Run))
-    (are : AreMergedRuns lefts rights merged) (says : (d : ℕ) → IsWithin window d → AreRuns xs ys k d) where
+    (are : AreMergedRuns lefts rights merged)
+    (clears : (side : Side) → IsClearFrom (of_key (at_side xs ys side) k) window.first window.last) (says : (d : ℕ) → IsWithin window d → AreRuns xs ys k d) where
   zipped : AreZipped xs ys merged (with_key k left.records) (with_key k right.records)
   zipped = zip-sides xs ys merged (with_key k left.records) (with_key k right.records)
-      (subst (λ (z : List Run). AllZip (IsRunOf xs) z (with_key k left.records)) (sym are.left) left.runs_of)
-      (subst (λ (z : List Run). AllZip (IsRunOf ys) z (with_key k right.records)) (sym are.right) right.runs_of)
+      (subst (λ (z : List Run). AllZip (IsRunOf xs) z (with_key k left.records)) (sym (are.sides Left)) (zip-keyed xs k lefts left.records left.runs_of))
+      (subst (λ (z : List Run). AllZip (IsRunOf ys) z (with_key k right.records)) (sym (are.sides Right)) (zip-keyed ys k rights right.records right.runs_of))
 
   -- the records of one side
   own : (side : Side) → AreOnlyOfKey window (at_side xs ys side) (at_side ys xs side) k (at_side lefts rights side)
@@ -224,18 +191,20 @@ module _ {K B : Type 0} (cmp : K → K → Ordering) (total : IsTotalOrder cmp) 
   -- for the key itself
   told-here : AreTold window xs ys (a.found ++ zipped.found) k
   told-here = record {
+    clear = clears;
     says = λ side d b within.
         let bodies = bodies-own (of_side side a.found) k (own side).records
         (λ p is. absurd (not_less cmp total k k refl (old side k p is))) d b in
         let say = (own side).say d b within in
         subst (λ (z : List (K × Permanent B)). HasBody (of_key z k) d b ↔ OnlySays (at_side xs ys side) (at_side ys xs side) k d b)
-        (sym (all side)) (λ h. say.0 (bodies.0 h), λ h. bodies.1 (say.1 h));
+        (sym (all side)) (λ h. say.1 (bodies.0 h), λ h. bodies.1 (say.0 h));
     runs = says;
   }
 
   -- and for another
   told-there : (j : K) → (j ≡ k → ⊥) → AreTold window xs ys a.found j → AreTold window xs ys (a.found ++ zipped.found) j
   told-there j apart t = record {
+    clear = t.clear;
     says = λ side d b within.
         let bodies = bodies-other (of_side side a.found) k (own side).records j apart d b in
         let say = t.says side d b within in
@@ -269,6 +238,7 @@ module _ {K B : Type 0} (cmp : K → K → Ordering) (total : IsTotalOrder cmp) 
 told-idle : {K B : Type 0} (window : Window) (xs ys : List (K × Terms B)) (k : K) → ((t : Terms B) → of_key xs k t → ⊥) →
     ((t : Terms B) → of_key ys k t → ⊥) → AreTold window xs ys [] k
 told-idle {K} {B} window xs ys k no_x no_y = record {
+  clear = λ side. none-clear (of_key (at_side xs ys side) k) (nothing side) window.first window.last;
   says = λ side d b within. (
     λ h. absurd (Contains-none (k, h.it) h.listed),
     λ h. absurd (nothing side h.runs.winner h.runs.wins.listed),
@@ -403,10 +373,16 @@ module _ {K B : Type 0} (window : Window) (xs ys : List (K × Terms B)) (found :
     pub turn-all : TurnInto window xs ys found
     turn-all = record { runs = λ k d o within. turn-on k (told k) d within o }
 
-    same-all : found ≡ [] → EntriesSayTheSame xs ys window.first window.last
+    clear-all : (side : Side) → AreClear (at_side xs ys side) window.first window.last
+    clear-all side = record { key = λ k. (told k).clear side }
+
+    same-all : found ≡ [] → AreSame window xs ys
     same-all is = record {
-      same = λ k d o from upto.
-          silent-same k (told k) d (record { from = from; upto = upto }) (none-says Left k d) (none-says Right k d) o;
+      clear = clear-all;
+      same = record {
+        same = λ k d o from upto.
+            silent-same k (told k) d (record { from = from; upto = upto }) (none-says Left k d) (none-says Right k d) o;
+      };
     } where
       none-says : (side : Side) (k : K) (d : ℕ) → SaysNothing side found k d
       none-says side k d b h =
@@ -506,7 +482,7 @@ module _ {K B : Type 0} (cmp : K → K → Ordering) (total : IsTotalOrder cmp) 
   of-first : (found : List (Sided (K × Permanent B))) → AllPairs (ComesBefore cmp) found →
       ((side : Side) → AreCanonical cmp Two window (of_side side found)) →
       ((s : Sided (K × Permanent B)) (k : K) → Contains found s → (cmp s.it.0 k ≡ Less → ⊥) → AreTold window xs ys found k) →
-      (found ≡ [] → EntriesSayTheSame xs ys window.first window.last) →
+      (found ≡ [] → AreSame window xs ys) →
       IsFirstFound cmp window xs ys found × (EntriesSayTheSame xs ys window.first window.last → found ≡ [])
   of-first [] in_order canonical told none = (none refl, λ same. refl)
   of-first (s ∷ others) in_order canonical told none =
@@ -516,7 +492,7 @@ module _ {K B : Type 0} (cmp : K → K → Ordering) (total : IsTotalOrder cmp) 
       )
 
   module _ (l r : List ℕ) (runs : List (Sided Run)) (a : AreFound cmp window xs ys l r runs) (extent : Extent) where
-    different-runs : (a.found ≡ [] → EntriesSayTheSame xs ys window.first window.last) →
+    different-runs : (a.found ≡ [] → AreSame window xs ys) →
         (extent ≡ AllKeys → (k : K) → AreTold window xs ys a.found k) → AreDifferentRuns cmp window xs ys extent runs
     different-runs none told =
         let first = of-first a.found a.in_order a.canonical
@@ -525,9 +501,9 @@ module _ {K B : Type 0} (cmp : K → K → Ordering) (total : IsTotalOrder cmp) 
           runs_of = a.runs_of;
           first = first.0;
           none = first.1;
+          clear = λ all. clear-all window xs ys a.found (told all);
           different = λ all. record {
-            left = record { canonical = a.canonical Left; exact = λ k d b within. (told all k).says Left d b within };
-            right = record { canonical = a.canonical Right; exact = λ k d b within. (told all k).says Right d b within };
+            only = λ side. record { canonical = a.canonical side; exact = λ k d b within. (told all k).says side d b within };
             in_order = a.in_order;
           };
           turn = λ all. turn-all window xs ys a.found (told all);

@@ -3,16 +3,12 @@ use Rattle.std.proofs.Common.{◌≡◌, ◌≢◌, ◌≤◌, ℕ, List, [], Op
 use Rattle.std.specs.Prelude.{IfSome, IsErrAnd}
 use Rattle.cif_calendar.proofs.FirstClash.{first_clash-clear}
 use Rattle.cif_columns.specs.Sink.{HasFailed}
-use Rattle.cif_columns.specs.declared.sink.Sink.{Sink}
 use Rattle.cif_columns.proofs.GivenLinesLaws.{known_so}
 use Rattle.cif_columns.specs.Source.{Unread}
-use Rattle.cif_extract.specs.ExtractParts.{ExtractParts}
 use Rattle.cif_extract.specs.declared.fault.Clash.{Clash}
 use Rattle.cif_extract.specs.declared.fault.Clash.TheVariants.{Association, Train}
-use Rattle.cif_extract.specs.declared.fault.Fault.{Fault}
 use Rattle.cif_extract.specs.declared.fault.Fault.TheVariants as fault
 use Rattle.cif_extract.proofs.SpelledBytes.{one_spelled, spelled-refused}
-use Rattle.cif_weeks.specs.declared.form.Form.{Form}
 use Rattle.cif_canon.specs.Accepted.{IsAcceptedWithin, IsClearExtract, SpellsNarrowed}
 use Rattle.cif_canon.specs.Asked.{AskedDatesAreWithin, IsNarrowed, IsNarrowingFault, window_asked}
 use Rattle.cif_canon.specs.Canon.{CanonParts, IsCanonOf}
@@ -23,6 +19,7 @@ use Rattle.cif_canon.specs.declared.asked.Asked.{Asked}
 use Rattle.cif_canon.specs.declared.canonical_form.Counts.{Counts}
 use Rattle.cif_extract.specs.SpellsExtract.{BytesSpellWithin}
 use Rattle.cif_extract.proofs.FirstRefusals.{if_error}
+use Rattle.cif_canon.proofs.Words.{ExtractParts, Fault, Form, Sink}
 use Rattle.cif_canon.proofs.HandedFaults.{at-fault, known-fault}
 use Rattle.cif_canon.proofs.NormalForms.{one-narrowed}
 

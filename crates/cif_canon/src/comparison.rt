@@ -1,25 +1,29 @@
 //! How two extracts compare: the first difference, and the line that names it.
 ghost use Rattle.std.specs.Prelude.{◌≡◌, ◌<◌, IfErr, IfOk, length};
 ghost use Rattle.cif_calendar.specs.ByKey.{HasKey, IsFirstOrNone};
-ghost use Rattle.cif_calendar.specs.Keys.{AreClear, keyed};
-ghost use Rattle.cif_calendar.specs.Meaning.{EntriesSayTheSame};
+ghost use Rattle.cif_calendar.specs.Keys.{keyed};
 ghost use Rattle.cif_columns.specs.Sink.{Writes};
 ghost use Rattle.cif_extract.specs.ExtractParts.{extract_parts};
 ghost use Rattle.cif_canon.specs.Comparison.{AreCompared, IsCompareFault, IsComparison};
 ghost use Rattle.cif_canon.specs.Comparison.{IsFirstDifference, comparison_line};
-ghost use Rattle.cif_canon.specs.Steps.Differences.{AreComparable};
-ghost use Rattle.cif_canon.specs.Steps.Sides.{at_side};
+ghost use Rattle.cif_canon.specs.Asked.{header_window};
+ghost use Rattle.cif_canon.specs.Steps.Differences.{AreClearIfSame};
+ghost use Rattle.cif_canon.specs.Steps.OnlySides.{AreSame};
+ghost use Rattle.cif_weeks.specs.Window.{window_from};
+ghost use Rattle.cif_canon.specs.Differences.{at_side};
 
-use crate::differing::{Extent, check_comparable, different_records};
+use crate::differing::{
+    Extent, check_comparable, check_one_window, different_records, fault_of_both,
+};
 use crate::listed_differences::{Side, Sided};
 use crate::tiplocs::different_tiplocs;
 use arrayvec::ArrayString;
-use cif_calendar::{Entry, Window};
+use cif_calendar::{CalendarFault, Entry, Window};
 use cif_columns::{Day, Sink, Uid, WriteDevice, WriteFault, as_text};
 use cif_extract::{Clash, Extract, Fault};
 use cif_records::{AssocKey, Tiploc};
 use cif_weeks::Run;
-use std::alloc::{AllocError, Global};
+use std::alloc::Global;
 use std::fmt;
 
 /// The bytes of the longest line: that of a location.
@@ -96,21 +100,27 @@ pub fn compare(alloc: Global, left: &Extract, right: &Extract) -> Result<Compari
     ensures fault { IfErr result
         (IsCompareFault (extract_parts left.now) (extract_parts right.now)) }
 {
-    check_comparable(alloc, left, right)?;
+    check_one_window(left, right)?;
     match first_found(alloc, left, right) {
-        Ok(comparison) => Ok(comparison),
-        Err(_) => Err(Fault::Memory),
+        // All keys were compared, and so none has a clash.
+        Ok(Comparison::Same) => Ok(Comparison::Same),
+        Ok(comparison) => {
+            check_comparable(alloc, left, right)?;
+            Ok(comparison)
+        }
+        Err(_) => Err(fault_of_both(alloc, left, right)),
     }
 }
 
-/// How two clear extracts with one window compare.
+/// How two extracts with one window compare. Those that are the same have no clash.
 fn first_found<'x>(
     alloc: Global,
     left: &'x Extract,
     right: &'x Extract,
-) -> Result<Comparison, AllocError>
-    requires { AreComparable (extract_parts left.now) (extract_parts right.now) }
-    ensures { IfOk result (IsComparison (extract_parts left.now) (extract_parts right.now)) }
+) -> Result<Comparison, CalendarFault>
+    requires { header_window left.now.header ≡ header_window right.now.header }
+    ensures found { IfOk result (IsComparison (extract_parts left.now) (extract_parts right.now)) }
+    ensures clear { IfOk result (AreClearIfSame (extract_parts left.now) (extract_parts right.now)) }
 {
     {
         let tiplocs = different_tiplocs(alloc, left.tiplocs.as_slice(), right.tiplocs.as_slice())?;
@@ -144,18 +154,16 @@ fn first_found<'x>(
 }
 
 /// The first key, and its first date of the window, of which the two lists say different things: an
-/// entry with the key, and the date. Neither list has a clash in the window.
+/// entry with the key, and the date. Where there is none, neither list has a clash in the window.
 fn first_difference<'a, E: Entry>(
     alloc: Global,
     left: &'a [E],
     right: &'a [E],
     window: &Window,
-) -> Result<Option<(&'a E, Day)>, AllocError>
-    requires left { AreClear (keyed E.key E.terms left.now) window.now.first window.now.last }
-    requires right { AreClear (keyed E.key E.terms right.now) window.now.first window.now.last }
+) -> Result<Option<(&'a E, Day)>, CalendarFault>
     ensures { IfOk result (IsFirstOrNone
-        (EntriesSayTheSame (keyed E.key E.terms left.now) (keyed E.key E.terms right.now)
-        window.now.first window.now.last)
+        (AreSame (window_from window.now.first window.now.last)
+        (keyed E.key E.terms left.now) (keyed E.key E.terms right.now))
         (λ it. IsFirstDifference E.Key.cmp (keyed E.key E.terms left.now) (keyed E.key E.terms right.now)
         window.now.first window.now.last (E.key it.0.now) it.1)) }
 {

@@ -1,9 +1,6 @@
 //! What only one of two extracts says.
-ghost use Rattle.std.specs.Prelude.{◌≡◌, ◌↔◌, ◌+◌, ◌<◌, ◌≤◌, IfErr, IfOk, IsTrue, List, OnOk, All, length, map};
-ghost use Rattle.cif_calendar.specs.Calendar.{IsCalendar};
-ghost use Rattle.cif_calendar.specs.Clash.{IsClearFrom};
-ghost use Rattle.cif_calendar.specs.Keys.{AreClear, keyed};
-ghost use Rattle.cif_calendar.specs.Source.{IsChosen};
+ghost use Rattle.std.specs.Prelude.{◌≡◌, ◌↔◌, ◌+◌, ◌<◌, ◌≤◌, IfErr, IfOk, IsTrue, List, OnOk, length, map};
+ghost use Rattle.cif_calendar.specs.Keys.{keyed};
 ghost use Rattle.cif_extract.specs.ExtractParts.{extract_parts};
 ghost use Rattle.cif_weeks.specs.Runs.{AreSources};
 ghost use Rattle.cif_weeks.specs.declared.run.Run.{Run};
@@ -48,7 +45,7 @@ pub fn differences<'a>(
     ensures fault { IfErr result
         (IsCompareFault (extract_parts left.now) (extract_parts right.now)) }
 {
-    check_comparable(alloc, left, right)?;
+    check_one_window(left, right)?;
     let window = Window::of(&left.header);
     let Ok(tiplocs) = different_tiplocs(alloc, left.tiplocs.as_slice(), right.tiplocs.as_slice())
     else {
@@ -61,7 +58,7 @@ pub fn differences<'a>(
         &window,
         Extent::AllKeys,
     ) else {
-        return Err(Fault::Memory);
+        return Err(fault_of_both(alloc, left, right));
     };
     let Ok(schedules) = different_records(
         alloc,
@@ -70,9 +67,21 @@ pub fn differences<'a>(
         &window,
         Extent::AllKeys,
     ) else {
-        return Err(Fault::Memory);
+        return Err(fault_of_both(alloc, left, right));
     };
     Ok(Differences::of(left, right, tiplocs, associations, schedules))
+}
+
+/// Whether two extracts have one window. Otherwise the fault is that of `compare`.
+pub(crate) fn check_one_window(left: &Extract, right: &Extract) -> Result<(), Fault>
+    ensures ok { OnOk result (header_window left.now.header ≡ header_window right.now.header) }
+    ensures fault { IfErr result
+        (IsCompareFault (extract_parts left.now) (extract_parts right.now)) }
+{
+    if left.header.first != right.header.first || left.header.last != right.header.last {
+        return Err(Fault::WindowsDiffer);
+    }
+    Ok(())
 }
 
 /// Whether two extracts can be compared: they have one window, and neither has a clash in it.
@@ -82,13 +91,22 @@ pub(crate) fn check_comparable(alloc: Global, left: &Extract, right: &Extract) -
     ensures fault { IfErr result
         (IsCompareFault (extract_parts left.now) (extract_parts right.now)) }
 {
-    if left.header.first != right.header.first || left.header.last != right.header.last {
-        return Err(Fault::WindowsDiffer);
-    }
+    check_one_window(left, right)?;
     // A clash is found where the runs are made.
     extract_runs(alloc, left, Form::Two)?;
     extract_runs(alloc, right, Form::Two)?;
     Ok(())
+}
+
+/// Why two extracts with one window weren't compared to the end: their first clash, or memory ran out.
+pub(crate) fn fault_of_both(alloc: Global, left: &Extract, right: &Extract) -> Fault
+    requires { header_window left.now.header ≡ header_window right.now.header }
+    ensures { IsCompareFault (extract_parts left.now) (extract_parts right.now) result }
+{
+    match check_comparable(alloc, left, right) {
+        Ok(()) => Fault::Memory,
+        Err(fault) => fault,
+    }
 }
 
 /// The side of the run that comes first by its first date, and the left one where the dates are the
@@ -153,26 +171,6 @@ fn push_differences<E: Entry>(
     push_merged(found, lefts.as_slice(), rights.as_slice())
 }
 
-/// The calendar of the entries at `members`, which have no clash in the window.
-fn clear_calendar<E: Entry>(
-    alloc: Global,
-    entries: &[E],
-    members: &[usize],
-    window: &Window,
-) -> Result<Calendar, AllocError>
-    requires within { All (λ i. i < length entries.now) members.now }
-    requires clear { IsClearFrom (IsChosen (map E.terms entries.now) members.now)
-        window.now.first window.now.last }
-    ensures { IfOk result (IsCalendar (map E.terms entries.now) members.now
-        window.now.first window.now.last) }
-{
-    match calendar(alloc, entries, members, *window) {
-        Ok(calendar) => Ok(calendar),
-        Err(CalendarFault::Memory) => Err(AllocError),
-        Err(CalendarFault::Ambiguous(_)) => unreachable!(),
-    }
-}
-
 /// How far two lists are compared.
 #[derive(Clone, Copy)]
 pub(crate) enum Extent {
@@ -194,17 +192,15 @@ fn is_enough(extent: Extent, runs: &[Sided<Run>]) -> bool
 
 /// The runs of the canonical records, in form 2, of what only one of the two lists says, by key and
 /// then first date, left before right: those of all keys, or of the first that has any. The source of
-/// a run is the position of an entry of its side, with the record's key and body. Neither list has a
-/// clash in the window.
+/// a run is the position of an entry of its side, with the record's key and body. Ambiguous comes where
+/// a key of either list has a clash in the window.
 pub(crate) fn different_records<E: Entry>(
     alloc: Global,
     left: &[E],
     right: &[E],
     window: &Window,
     extent: Extent,
-) -> Result<Vec<Sided<Run>>, AllocError>
-    requires left { AreClear (keyed E.key E.terms left.now) window.now.first window.now.last }
-    requires right { AreClear (keyed E.key E.terms right.now) window.now.first window.now.last }
+) -> Result<Vec<Sided<Run>>, CalendarFault>
     ensures { IfOk result (λ runs. AreDifferentRuns E.Key.cmp
         (window_from window.now.first window.now.last)
         (keyed E.key E.terms left.now) (keyed E.key E.terms right.now) extent runs.items) }
@@ -215,8 +211,8 @@ pub(crate) fn different_records<E: Entry>(
     let mut right_rest = right_positions.as_slice();
     let mut found = Vec::new(alloc);
     while let Some(first) = first_key(left, left_rest, right, right_rest) {
-        let one = clear_calendar(alloc, left, first.left, window)?;
-        let other = clear_calendar(alloc, right, first.right, window)?;
+        let one = calendar(alloc, left, first.left, *window)?;
+        let other = calendar(alloc, right, first.right, *window)?;
         push_differences(alloc, &mut found, left, &one, right, &other)?;
         if is_enough(extent, found.as_slice()) {
             return Ok(found);

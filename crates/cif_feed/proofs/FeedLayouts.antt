@@ -1,5 +1,5 @@
 -- A line of a feed is refused as its layout says.
-use Rattle.std.proofs.Common.{◌≡◌, ℕ, ◌+◌, ◌-◌, ◌≤◌, ◌==◌, Bool, true, false, cond, nat_le, ◌||◌, List, [], ◌∷◌, ◌++◌, length, take}
+use Rattle.std.proofs.Common.{◌≡◌, ℕ, ◌+◌, ◌-◌, ◌≤◌, ◌==◌, Bool, true, false, cond, nat_le, ◌||◌, List, [], ◌∷◌, length, take}
 use Rattle.std.proofs.Common.{Option, Some, None}
 use Rattle.std.proofs.Common.{IfSome, refl, sym, ap, ◌∙◌, subst, codes, replicate, arith, lit<, lit≤, is_some, slice_index, ◌<◌}
 use Rattle.std.proofs.lemmas.Bool.{eqb-true}
@@ -9,7 +9,6 @@ use Rattle.std.specs.Cmp.Lexicographic.{bytes_decides}
 use Rattle.std.specs.Prelude.{find}
 use Rattle.cif_columns.specs.Day.{IsDay, ddmmyy_in, yymmdd_in}
 use Rattle.cif_columns.specs.DayDigits.{yymmdd_of}
-use Rattle.cif_columns.specs.DaysRun.{days_of}
 use Rattle.cif_columns.specs.Field.{columns}
 use Rattle.cif_columns.specs.Line.{IsLine}
 use Rattle.cif_columns.specs.Stp.{stp_in}

@@ -1,6 +1,6 @@
 -- What an update leaves fits the columns of lines, where what was there does.
-use Rattle.std.proofs.Common.{◌≡◌, ℕ, Bool, true, false, cond, not, List, [], ◌∷◌, ◌++◌, map, filter, Option, Some, None, IfSome, refl}
-use Rattle.std.proofs.Common.{sym, ap, ◌∙◌, subst}
+use Rattle.std.proofs.Common.{ℕ, Bool, true, false, cond, not, List, [], ◌∷◌, ◌++◌, map, filter, Option, Some, None, IfSome}
+use Rattle.std.proofs.Common.{sym, ◌∙◌, subst}
 use Rattle.std.specs.List.{flat_map}
 use Rattle.cif_columns.specs.Contents.{contents_of}
 use Rattle.cif_columns.specs.Field.{AllFit, Row}
@@ -47,7 +47,7 @@ module _ {A : Type 0} (P : A → Type 0) where
   each-append [] ys p q = q
   each-append (x ∷ xs) ys p q = (p.0, each-append xs ys p.1 q)
 
-  each-filter : (test : A → Bool) (xs : List A) → Each P xs → Each P (filter test xs)
+  pub each-filter : (test : A → Bool) (xs : List A) → Each P xs → Each P (filter test xs)
   each-filter test [] p = tt
   each-filter test (x ∷ xs) p = at (test x) (each-filter test xs p.1)
     where

@@ -38,3 +38,4 @@ pub mod UpdatesInTurn
 pub mod PreparedFits
 pub mod WrittenOver
 pub mod FeedLayouts
+pub mod WrittenPrepared

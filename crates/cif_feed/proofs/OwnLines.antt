@@ -1,9 +1,8 @@
 -- A line of this profile is its own profile line, and its mark says nothing: so an extract of this profile is a published one.
-use Rattle.std.proofs.Common.{◌≡◌, ℕ, ◌+◌, Bool, true, false, cond, List, [], ◌∷◌, ◌++◌, length, map, take, drop, get_or, Option, Some}
+use Rattle.std.proofs.Common.{◌≡◌, ℕ, ◌+◌, false, cond, List, [], ◌∷◌, ◌++◌, map, drop, get_or, Option, Some}
 use Rattle.std.proofs.Common.{None, refl, sym, ap, ◌∙◌}
 use Rattle.std.proofs.Common.{subst, codes, arith, get_or-take, get_or-drop, slice_index}
 use Rattle.std.proofs.lemmas.List.Elements.{All-head, All-tail}
-use Rattle.std.specs.List.{enumerate_from, flat_map}
 use Rattle.std.specs.Prelude.{All}
 use Rattle.cif_columns.specs.Contents.{contents_of}
 use Rattle.cif_columns.specs.DayDigits.{yymmdd_of}
@@ -12,13 +11,11 @@ use Rattle.cif_columns.specs.Line.{IsLine}
 use Rattle.cif_extract.specs.ExtractParts.{ExtractParts}
 use Rattle.cif_extract.specs.SpellsExtract.{BytesSpellWithin, SpellAll, SpellExtract}
 use Rattle.cif_extract.specs.declared.extract.Schedule.{Schedule}
-use Rattle.cif_records.specs.Kind.{kind_in}
 use Rattle.cif_records.specs.Record.{SpellsRecord}
 use Rattle.cif_records.specs.declared.association.Association.{Association}
 use Rattle.cif_records.specs.declared.record.Kind.{Kind}
 use Rattle.cif_records.specs.declared.record.Record.{Record}
 use Rattle.cif_records.specs.declared.record.Record.TheVariants as of
-use Rattle.cif_records.proofs.Associations as associations
 use Rattle.cif_records.proofs.Judging.{no_open_end}
 use Rattle.cif_records.proofs.Records.{kind_of, kind_there}
 use Rattle.cif_feed.specs.FromLines.{ArePairs, AreTriples}

@@ -1,11 +1,11 @@
 -- What a prepared extract says fits the columns of lines, where the published one does.
-use Rattle.std.proofs.Common.{◌≡◌, ℕ, ◌≤◌, Bool, true, false, cond, max, List, [], ◌∷◌, ◌++◌, map, length, Some, refl, sym, ap, ◌∙◌}
+use Rattle.std.proofs.Common.{ℕ, Bool, true, false, cond, max, List, [], ◌∷◌, map, refl, sym}
 use Rattle.std.proofs.Common.{subst, arith}
 use Rattle.std.proofs.lemmas.List.Elements.{All-head, All-tail}
 use Rattle.std.specs.Prelude.{All}
 use Rattle.cif_columns.specs.Day.{IsDay}
 use Rattle.cif_columns.specs.Field.{AllFit}
-use Rattle.cif_calendar.specs.Entries.{association_entries, association_entry, schedule_entries, schedule_entry}
+use Rattle.cif_calendar.specs.Entries.{association_entries, schedule_entries}
 use Rattle.cif_calendar.specs.Terms.{Terms}
 use Rattle.cif_extract.specs.BodyParts.{BodyParts}
 use Rattle.cif_extract.specs.ExtractParts.{ExtractParts}
@@ -28,7 +28,7 @@ use Rattle.cif_feed.specs.declared.holidays.Holidays.{Holidays}
 use Rattle.cif_feed.specs.declared.part.Part.{Part}
 use Rattle.cif_feed.specs.declared.published.PublishedAssociation.{PublishedAssociation}
 use Rattle.cif_feed.specs.declared.published.PublishedSchedule.{PublishedSchedule}
-use Rattle.cif_feed.proofs.FittingUpdates.{AssociationFits, Each, EachFits, ScheduleFits, TiplocFits, each-append, each_fits, fits_each}
+use Rattle.cif_feed.proofs.FittingUpdates.{AssociationFits, Each, ScheduleFits, TiplocFits, each-append, each_fits, fits_each}
 
 -- ---- records on the dates of their parts
 

@@ -20,7 +20,7 @@ use Rattle.cif_records.specs.declared.record.Kind.TheVariants.{Aa, Bs}
 use Rattle.cif_records.proofs.Judging.{no_open_end}
 use Rattle.cif_feed.specs.HolidayCode.{code_in, has_code, letter}
 use Rattle.cif_feed.specs.LastDay.{last_day}
-use Rattle.cif_feed.specs.ProfileLine.{association_line, basic_line, closed, code_of, if_allowed, is_open, with_columns, without_code}
+use Rattle.cif_feed.specs.ProfileLine.{closed, code_of, if_allowed, is_open, with_columns, without_code}
 use Rattle.cif_feed.specs.PublishedParts.{with_code, with_open_end}
 use Rattle.cif_feed.specs.declared.holiday_code.HolidayCode.{HolidayCode}
 use Rattle.cif_feed.specs.declared.holiday_code.HolidayCode.TheVariants.{X, E, G}

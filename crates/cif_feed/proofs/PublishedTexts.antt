@@ -2,10 +2,9 @@
 use Rattle.std.proofs.Common.{◌≡◌, ℕ, ◌+◌, ◌≤◌, List, [], ◌∷◌, ◌++◌, length, map, Option, Some, None, refl, sym, ap, ◌∙◌, subst, arith}
 use Rattle.std.proofs.Common.{IsTrue}
 use Rattle.std.proofs.Common.{append-nil, append_assoc}
-use Rattle.std.proofs.lemmas.Grind.{flat_map-append}
 use Rattle.std.proofs.lemmas.List.{map-append}
 use Rattle.std.proofs.lemmas.List.Elements.{All-cons, All-nil, All-head, All-tail}
-use Rattle.std.specs.List.{enumerate_from, flat_map}
+use Rattle.std.specs.List.{flat_map}
 use Rattle.std.specs.Prelude.{All, find}
 use Rattle.cif_columns.specs.Contents.{contents_of}
 use Rattle.cif_columns.specs.Field.{AllFit, AllStandIn, Row, plain_line}
@@ -39,7 +38,7 @@ use Rattle.cif_records.proofs.Records.{kind_of, kind_there}
 use Rattle.cif_feed.specs.FromLines.{AreTriples}
 use Rattle.cif_feed.specs.HolidayCode.{all_codes, has_code}
 use Rattle.cif_feed.specs.OfProfile.{of_profile}
-use Rattle.cif_feed.specs.ProfileLine.{association_mark, marks, profile_line, profile_line_by, schedule_mark}
+use Rattle.cif_feed.specs.ProfileLine.{association_mark, profile_line, profile_line_by, schedule_mark}
 use Rattle.cif_feed.specs.PublishedParts.{BytesSpellPublished, IsPublishedAssociation, IsPublishedSchedule, PublishedParts, SayPublished}
 use Rattle.cif_feed.specs.PublishedParts.{SpellPublished, published_association_line, published_basic_line, published_lines}
 use Rattle.cif_feed.specs.PublishedParts.{published_schedule_lines}

@@ -1,5 +1,5 @@
 -- The profile line of a line is a line. So what a feed says fits the columns of lines.
-use Rattle.std.proofs.Common.{◌≡◌, ℕ, ◌≤◌, Bool, true, false, cond, List, length, codes, replicate, Option, Some, None, is_some, arith}
+use Rattle.std.proofs.Common.{ℕ, ◌≤◌, Bool, true, false, cond, List, length, codes, replicate, Option, Some, None, is_some, arith}
 use Rattle.std.proofs.Common.{lit≤, slice_index, refl, ◌-◌, ◌+◌, ◌==◌}
 use Rattle.std.proofs.Common.{filter}
 use Rattle.std.proofs.lemmas.List.Elements.{All-map, All-replicate, All-weaker}
@@ -18,7 +18,7 @@ use Rattle.cif_records.specs.declared.record.Kind.{Kind}
 use Rattle.cif_records.specs.declared.record.Kind.TheVariants.{Hd, Ti, Ta, Td, Aa, Bs}
 use Rattle.cif_feed.specs.FeedRefusal.{IsFeedContent}
 use Rattle.cif_feed.specs.LastDay.{last_day}
-use Rattle.cif_feed.specs.ProfileLine.{cancelled, closed, code_of, header_line, is_open, is_record_line, profile_line, profile_line_by}
+use Rattle.cif_feed.specs.ProfileLine.{cancelled, closed, code_of, is_open, is_record_line, profile_line, profile_line_by}
 use Rattle.cif_feed.specs.ProfileLine.{profile_lines, ta_line, ti_line, update_association_by, update_basic_by, with_columns, without_code}
 use Rattle.cif_feed.specs.SpellsFeed.{FeedParts, SpellFeed}
 use Rattle.cif_feed.specs.Transaction.{transaction_in}

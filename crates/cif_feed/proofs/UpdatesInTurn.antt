@@ -1,5 +1,5 @@
 -- Updates that are done one after another, in one run or in two.
-use Rattle.std.proofs.Common.{◌≡◌, ◌↔◌, ℕ, ◌≤◌, Bool, true, false, List, [], ◌∷◌, ◌++◌, length, map, Some, refl, sym, ap, ◌∙◌, subst, inl}
+use Rattle.std.proofs.Common.{◌≡◌, ◌↔◌, ℕ, ◌≤◌, Bool, List, [], ◌∷◌, ◌++◌, length, Some, refl, sym, ap, ◌∙◌, subst}
 use Rattle.std.proofs.Common.{inr, ⊎_elim}
 use Rattle.std.proofs.Common.{append_assoc, slice_get}
 use Rattle.std.proofs.lemmas.List.{append_cancel_left}
@@ -12,7 +12,7 @@ use Rattle.cif_feed.specs.HolidayCode.{all_codes}
 use Rattle.cif_feed.specs.OfProfile.{of_profile}
 use Rattle.cif_feed.specs.PublishedParts.{BytesSpellPublished, PublishedParts, published_lines, published_text}
 use Rattle.cif_feed.specs.UpdateParts.{UpdateParts}
-use Rattle.cif_feed.specs.Updated.{AreRefusedLines, IsLineRefused, IsUpdated, IsUpdatedBy, refused_fault}
+use Rattle.cif_feed.specs.Updated.{AreRefusedLines, IsLineRefused, IsUpdated, IsUpdatedBy}
 use Rattle.cif_feed.specs.UpdatesInTurn.{AreUpdatesDone, IsOneRefused, IsRefused, IsRefusedFor, IsWritten}
 use Rattle.cif_feed.specs.declared.changes.Change.{Change}
 use Rattle.cif_feed.specs.declared.changes.RefusedLine.{RefusedLine}

@@ -20,7 +20,7 @@ use Rattle.cif_feed.specs.declared.feed.Feed.{Feed}
 use Rattle.cif_feed.specs.declared.feed.Feed.TheVariants.{Full, Update}
 use Rattle.cif_feed.specs.declared.holiday_code.HolidayCodes.{HolidayCodes}
 use Rattle.cif_feed.specs.declared.mark.Transaction.{Transaction}
-use Rattle.cif_feed.specs.declared.mark.Transaction.TheVariants.{New, Revised, Deleted}
+use Rattle.cif_feed.specs.declared.mark.Transaction.TheVariants.{Deleted}
 
 -- the reasons to refuse a first and a last date, where the last may be 999999: no first date is after that
 abbrev pub open_dates_refusal : List ℕ → List ℕ → Option Refusal

@@ -30,3 +30,4 @@ pub mod Updated
 pub mod UpdatesInTurn
 pub mod Words
 pub mod WrittenExtracts
+pub mod WrittenPrepared

@@ -1,5 +1,5 @@
 -- Extracts of this profile and published ones, as one another.
-use Rattle.std.specs.Prelude.{false, List, None, map}
+use Rattle.std.specs.Prelude.{false, None, map}
 use Rattle.std.proofs.lemmas.Bool.{false≢true}
 use Rattle.cif_extract.specs.ExtractParts.{ExtractParts}
 use Rattle.cif_extract.specs.declared.extract.Schedule.{Schedule}

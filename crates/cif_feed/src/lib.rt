@@ -24,6 +24,7 @@ mod record_keys;
 mod update;
 mod words;
 mod written;
+mod written_prepared;
 
 pub use changes::{Action, Change, Keyed, RefusedLine, apply};
 pub use feed::{Feed, FeedFault};
@@ -40,3 +41,4 @@ pub use published::{PublishedAssociation, PublishedSchedule};
 pub use published_extract::PublishedExtract;
 pub use reasons::Reasons;
 pub use update::{Outcome, Update, UpdateCounts};
+pub use written_prepared::write_prepared;

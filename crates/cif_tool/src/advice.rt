@@ -130,7 +130,7 @@ fn add_advice<'a, 'b, R: Files + Input>(
             add_refusal(last, *line, *why, Reader::Extracts, message);
         }
         Fault::Read => add_failure(alloc, last.side(), last.name(), last.failure, message),
-        Fault::Write => add_failure(alloc, "", "standard output", written.failure, message),
+        Fault::Write => add_write_failure(alloc, written, message),
         Fault::Ambiguous(clash) => {
             let _ = add_clash(alloc, clash, left, right, kept, message);
         }
@@ -138,11 +138,13 @@ fn add_advice<'a, 'b, R: Files + Input>(
     }
 }
 
-/// Adds what helps with a fault of a published extract or of an update, which this input gave.
+/// Adds what helps with a fault of a published extract or of an update, which this input gave, or the
+/// output.
 pub(crate) fn add_feed_fault<R: Files + Input>(
     alloc: Global,
     fault: &FeedFault,
     input: &ExtractInput<'_, R>,
+    written: &Written,
     message: &mut Message,
 ) {
     match fault {
@@ -152,6 +154,7 @@ pub(crate) fn add_feed_fault<R: Files + Input>(
         FeedFault::Extract(Fault::Read) => {
             add_failure(alloc, input.side(), input.name(), input.failure, message);
         }
+        FeedFault::Extract(Fault::Write) => add_write_failure(alloc, written, message),
         FeedFault::Extract(_) => {}
         FeedFault::NotUpdate { line } => {
             add_column_refusal(input, *line, 47, "must be U, of an update", message);
@@ -188,13 +191,7 @@ fn add_input<R: Files + Input>(input: &ExtractInput<'_, R>, message: &mut Messag
 }
 
 /// Adds what wasn't read or written, and why if the system told it, by the number of the error.
-pub(crate) fn add_failure(
-    alloc: Global,
-    side: &str,
-    name: &str,
-    failure: Option<i32>,
-    message: &mut Message,
-) {
+fn add_failure(alloc: Global, side: &str, name: &str, failure: Option<i32>, message: &mut Message) {
     let reason = match failure {
         Some(number) => io::Error::from_raw_os_error(number).to_string(alloc).ok(),
         None => None,
@@ -203,6 +200,11 @@ pub(crate) fn add_failure(
         Some(reason) => message.line(&["in ", side, name, ": ", reason.as_str()]),
         None => message.line(&["in ", side, name]),
     }
+}
+
+/// Adds that the output wasn't written, and why if the system told it.
+pub(crate) fn add_write_failure(alloc: Global, written: &Written, message: &mut Message) {
+    add_failure(alloc, "", "standard output", written.failure, message);
 }
 
 /// Adds the window of the input, if it begins with a header.

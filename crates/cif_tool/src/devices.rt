@@ -10,14 +10,6 @@ use std::io::{Read, Seek, SeekFrom, Write};
 use std::rt::Files;
 use std::{fs, io};
 
-/// What the user knows this file by, which is the standard input where it isn't named or is `-`.
-pub(crate) fn name_of(file: Option<&str>) -> &str {
-    match file {
-        Some(name) if !is_standard(name) => name,
-        _ => "standard input",
-    }
-}
-
 /// How many bytes are kept of what was read first: a line and its ending.
 pub(crate) const START: usize = LINE_WIDTH + 2;
 
@@ -48,7 +40,10 @@ impl<'a, R: Files + Input> ExtractInput<'a, R> {
     pub(crate) fn of(rt: &'a R, side: &'static str, file: Option<&'a str>) -> Self {
         ExtractInput {
             side,
-            name: name_of(file),
+            name: match file {
+                Some(name) if !is_standard(name) => name,
+                _ => "standard input",
+            },
             // Made where it stays: it is some kilobytes large, and stands in the frame of main.
             device: match file {
                 Some(name) if !is_standard(name) => Device::Named { files: rt, name },

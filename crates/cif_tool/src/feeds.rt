@@ -1,17 +1,18 @@
 //! From a call that reads published extracts to its status. No clause says what is done here: the rows of
-//! `tests/` show it on the built program. What is read, done and written is said by the clauses of `cif_feed`.
-use crate::advice::{add_failure, add_feed_fault, add_holiday_line, add_window};
-use crate::devices::{ExtractInput, Output, Written, name_of};
+//! `tests/` show it on the built program. What is read, done and written is said by the clauses of `cif_feed`:
+//! of `prepare` by one, and of `update` input by input.
+use crate::advice::{add_feed_fault, add_holiday_line, add_window, add_write_failure};
+use crate::devices::{ExtractInput, Output, Written};
 use crate::job::FeedJob;
 use crate::message::Message;
 use crate::program::OUTPUT_BUFFER;
 use crate::status::{DONE, REFUSED, status};
 use arrayvec::ArrayString;
-use cif_columns::{MAX_LINES, Sink, Source, WriteDevice, WriteFault};
+use cif_columns::{MAX_LINES, Sink, Source, WriteDevice};
 use cif_extract::{Clash, Fault};
 use cif_feed::{
-    FeedFault, HolidayCodes, HolidayFault, Holidays, Passed, Prepared, PublishedExtract,
-    RefusedLine,
+    FeedFault, HolidayCodes, HolidayFault, Holidays, Outcome, Passed, PublishedExtract,
+    RefusedLine, write_prepared,
 };
 use cif_records::Header;
 use itoa::Buffer;
@@ -30,7 +31,7 @@ pub(crate) fn feed_task<R: Files + Input + Print + AllocGlobal, W: WriteDevice>(
     verbose: bool,
     errors: &mut Sink<W>,
 ) -> u8 {
-    let mut told = Told::new(rt.alloc());
+    let mut told = Told::new(rt.alloc(), verbose);
     let done = match job {
         FeedJob::Prepare {
             holidays,
@@ -52,16 +53,12 @@ pub(crate) fn feed_task<R: Files + Input + Print + AllocGlobal, W: WriteDevice>(
     match &done {
         Ok(()) => {
             told.tell(errors);
-            if verbose {
-                told.counts.tell(errors);
-            }
+            told.counts.tell(errors);
             DONE
         }
         Err(fault) => {
             fault.tell(errors);
-            if verbose {
-                told.advice.tell(errors);
-            }
+            told.advice.tell(errors);
             fault.status()
         }
     }
@@ -74,6 +71,8 @@ struct Told {
     waived: Vec<RefusedLine>,
     /// The clashes whose records were left out.
     dropped: Vec<Clash>,
+    /// Whether more is said.
+    verbose: bool,
     /// What `--verbose` says where all was done.
     counts: Message,
     /// What `--verbose` says of a fault.
@@ -81,12 +80,26 @@ struct Told {
 }
 
 impl Told {
-    fn new(alloc: Global) -> Self {
+    fn new(alloc: Global, verbose: bool) -> Self {
         Told {
             waived: Vec::new(alloc),
             dropped: Vec::new(alloc),
+            verbose,
             counts: Message::new(alloc),
             advice: Message::new(alloc),
+        }
+    }
+
+    /// Adds what helps with a fault, which this input gave, or the output.
+    fn advise<R: Files + Input>(
+        &mut self,
+        alloc: Global,
+        fault: &FeedFault,
+        input: &ExtractInput<'_, R>,
+        written: &Written,
+    ) {
+        if self.verbose {
+            add_feed_fault(alloc, fault, input, written, &mut self.advice);
         }
     }
 
@@ -156,6 +169,7 @@ fn tell_line<W: WriteDevice>(parts: &[&str], errors: &mut Sink<W>) {
 // ---- prepare
 
 /// Writes the prepared extract of the file.
+#[inline(never)]
 fn prepare<R: Files + Input + Print + AllocGlobal>(
     rt: &R,
     holidays: Option<&str>,
@@ -163,32 +177,66 @@ fn prepare<R: Files + Input + Print + AllocGlobal>(
     file: Option<&str>,
     told: &mut Told,
 ) -> Result<(), TaskFault> {
+    let alloc = rt.alloc();
     let holidays = match holidays {
         Some(name) => read_holidays(rt, name, told)?,
-        None => Holidays::new(rt.alloc()),
+        None => Holidays::new(alloc),
     };
-    let extract = read_published(rt, "", file, holidays.codes(), told)?;
-    let Ok(mut prepared) = extract.prepare(rt.alloc(), &holidays) else {
+    let mut written = Written::new();
+    let output = Output {
+        writer: io::writer(rt),
+        written: &mut written,
+    };
+    let Ok(output) = BufWriter::with_capacity(alloc, OUTPUT_BUFFER, output) else {
         return Err(MEMORY);
     };
-    let mut text = counts_of(&extract.passed, open_ends_of(&extract));
-    let _ = write!(
-        text,
-        ", records cut by holidays: {}",
-        extract.count_cut(&holidays)
+    let mut output = Sink::new(output);
+    let mut source = Source::new(ExtractInput::of(rt, "", file));
+    let mut kept = None;
+    let answer = write_prepared(
+        alloc,
+        &mut source,
+        &mut output,
+        MAX_LINES,
+        &holidays,
+        drop_clashes,
+        &mut kept,
     );
-    add_counts("", name_of(file), &extract.header, &text, &mut told.counts);
-    if drop_clashes {
-        match prepared.drop_clashes(rt.alloc()) {
-            Ok(dropped) => told.dropped = dropped,
-            Err(_) => return Err(MEMORY),
+    let answer = flushed(answer, &mut output);
+    // A `BufWriter` that is dropped writes what it holds, also after a failure.
+    mem::forget(output);
+    let done = match answer {
+        Ok(dropped) => {
+            told.dropped = dropped;
+            if let Some(extract) = &kept
+                && told.verbose
+            {
+                add_prepared(source.reader(), extract, &holidays, &mut told.counts);
+            }
+            Ok(())
         }
-    }
-    let written = write(rt, &Answer::Prepared(&prepared), told);
+        Err(fault) => {
+            told.advise(alloc, &fault, source.reader(), &written);
+            Err(TaskFault::Feed(fault))
+        }
+    };
     // The process ends after this: the system takes back the memory of all bodies at once.
-    mem::forget(prepared);
-    mem::forget(extract);
-    written
+    mem::forget(kept);
+    done
+}
+
+/// The answer, once what was written is handed on.
+fn flushed<T: Drop, W: WriteDevice>(
+    answer: Result<T, FeedFault>,
+    output: &mut Sink<W>,
+) -> Result<T, FeedFault> {
+    match answer {
+        Ok(done) => match output.flush() {
+            Ok(()) => Ok(done),
+            Err(_) => Err(FeedFault::Extract(Fault::Write)),
+        },
+        Err(fault) => Err(fault),
+    }
 }
 
 /// The holidays of this file.
@@ -202,34 +250,17 @@ fn read_holidays<R: Files + Input + Print + AllocGlobal>(
     match Holidays::read(rt.alloc(), &mut source) {
         Ok(holidays) => Ok(holidays),
         Err(HolidayFault::BadHoliday { line }) => {
-            add_holiday_line(source.reader(), line, &mut told.advice);
+            if told.verbose {
+                add_holiday_line(source.reader(), line, &mut told.advice);
+            }
             Err(TaskFault::BadHoliday { line })
         }
         Err(HolidayFault::Read) => {
             let fault = FeedFault::Extract(Fault::Read);
-            add_feed_fault(rt.alloc(), &fault, source.reader(), &mut told.advice);
+            told.advise(rt.alloc(), &fault, source.reader(), &Written::new());
             Err(TaskFault::Feed(fault))
         }
         Err(HolidayFault::Memory) => Err(MEMORY),
-    }
-}
-
-/// The published extract of this file, in which these holiday codes may stand.
-#[inline(never)]
-fn read_published<R: Files + Input + Print + AllocGlobal>(
-    rt: &R,
-    side: &'static str,
-    file: Option<&str>,
-    allowed: HolidayCodes,
-    told: &mut Told,
-) -> Result<PublishedExtract, TaskFault> {
-    let mut source = Source::new(ExtractInput::of(rt, side, file));
-    match PublishedExtract::read(rt.alloc(), &mut source, MAX_LINES, allowed) {
-        Ok(extract) => Ok(extract),
-        Err(fault) => {
-            add_feed_fault(rt.alloc(), &fault, source.reader(), &mut told.advice);
-            Err(TaskFault::Feed(fault))
-        }
     }
 }
 
@@ -243,22 +274,44 @@ fn update<R: Files + Input + Print + AllocGlobal>(
     lenient: bool,
     told: &mut Told,
 ) -> Result<(), TaskFault> {
-    let mut extract = read_published(rt, "FULL, ", Some(full), HolidayCodes::all(), told)?;
-    let text = counts_of(&extract.passed, open_ends_of(&extract));
-    add_counts(
-        "FULL, ",
-        name_of(Some(full)),
-        &extract.header,
-        &text,
-        &mut told.counts,
-    );
+    let mut extract = read_full(rt, full, told)?;
     for name in updates {
         do_update(rt, name.as_str(), lenient, &mut extract, told)?;
     }
-    let written = write(rt, &Answer::Published(&extract), told);
+    let written = write(rt, &extract, told);
     // The process ends after this: the system takes back the memory of all bodies at once.
     mem::forget(extract);
     written
+}
+
+/// The full extract of this file.
+#[inline(never)]
+fn read_full<R: Files + Input + Print + AllocGlobal>(
+    rt: &R,
+    name: &str,
+    told: &mut Told,
+) -> Result<PublishedExtract, TaskFault> {
+    let mut source = Source::new(ExtractInput::of(rt, "FULL, ", Some(name)));
+    match PublishedExtract::read(rt.alloc(), &mut source, MAX_LINES, HolidayCodes::all()) {
+        Ok(extract) => {
+            if told.verbose {
+                let input = source.reader();
+                let text = counts_of(&extract.passed, open_ends_of(&extract));
+                add_counts(
+                    input.side(),
+                    input.name(),
+                    &extract.header,
+                    &text,
+                    &mut told.counts,
+                );
+            }
+            Ok(extract)
+        }
+        Err(fault) => {
+            told.advise(rt.alloc(), &fault, source.reader(), &Written::new());
+            Err(TaskFault::Feed(fault))
+        }
+    }
 }
 
 /// Does the update of this file.
@@ -273,56 +326,28 @@ fn do_update<R: Files + Input + Print + AllocGlobal>(
     let mut source = Source::new(ExtractInput::of(rt, "UPDATE, ", Some(name)));
     match extract.update_from(rt.alloc(), &mut source, MAX_LINES, lenient) {
         Ok(outcome) => {
-            let done = &outcome.counts;
-            let mut text = counts_of(&outcome.passed, done.open_ends);
-            let _ = write!(
-                text,
-                ", put: {}, revised: {}, taken out: {}",
-                done.put, done.revised, done.taken_out
-            );
-            let input = source.reader();
-            add_counts(
-                input.side(),
-                input.name(),
-                &extract.header,
-                &text,
-                &mut told.counts,
-            );
+            if told.verbose {
+                add_outcome(source.reader(), &extract.header, &outcome, &mut told.counts);
+            }
             match told.waived.extend_from_slice(outcome.waived.as_slice()) {
                 Ok(()) => Ok(()),
                 Err(_) => Err(MEMORY),
             }
         }
         Err(fault) => {
-            add_feed_fault(rt.alloc(), &fault, source.reader(), &mut told.advice);
+            told.advise(rt.alloc(), &fault, source.reader(), &Written::new());
             Err(TaskFault::Feed(fault))
         }
     }
 }
 
-// ---- the output
+// ---- the output of update
 
-/// What is written.
-#[derive(Drop)]
-enum Answer<'a, 'b> {
-    Prepared(&'a Prepared<'b>),
-    Published(&'a PublishedExtract),
-}
-
-impl Answer<'_, '_> {
-    fn write<W: WriteDevice>(&self, sink: &mut Sink<W>) -> Result<(), WriteFault> {
-        match self {
-            Answer::Prepared(extract) => extract.write(sink),
-            Answer::Published(extract) => extract.write(sink),
-        }
-    }
-}
-
-/// Writes the answer on the standard output.
+/// Writes the extract on the standard output.
 #[inline(never)]
 fn write<R: Files + Input + Print + AllocGlobal>(
     rt: &R,
-    answer: &Answer<'_, '_>,
+    extract: &PublishedExtract,
     told: &mut Told,
 ) -> Result<(), TaskFault> {
     let mut written = Written::new();
@@ -334,20 +359,16 @@ fn write<R: Files + Input + Print + AllocGlobal>(
         return Err(MEMORY);
     };
     let mut output = Sink::new(output);
-    let done = match answer.write(&mut output) {
+    let done = match extract.write(&mut output) {
         Ok(()) => output.flush(),
         Err(fault) => Err(fault),
     };
-    // A `BufWriter` that is dropped writes what it holds, also after a failure.
+    // As in `prepare`.
     mem::forget(output);
     if done.is_err() {
-        add_failure(
-            rt.alloc(),
-            "",
-            "standard output",
-            written.failure,
-            &mut told.advice,
-        );
+        if told.verbose {
+            add_write_failure(rt.alloc(), &written, &mut told.advice);
+        }
         return Err(TaskFault::Feed(FeedFault::Extract(Fault::Write)));
     }
     Ok(())
@@ -376,6 +397,39 @@ fn counts_of(passed: &Passed, open_ends: u64) -> Counts {
 fn add_counts(side: &str, name: &str, header: &Header, text: &Counts, counts: &mut Message) {
     add_window(side, name, header, counts);
     counts.line(&[side, name, ": ", text.as_str()]);
+}
+
+/// Adds the window and the counts of an extract that was prepared with these holidays.
+fn add_prepared<R: Files + Input>(
+    input: &ExtractInput<'_, R>,
+    extract: &PublishedExtract,
+    holidays: &Holidays,
+    counts: &mut Message,
+) {
+    let mut text = counts_of(&extract.passed, open_ends_of(extract));
+    let _ = write!(
+        text,
+        ", records cut by holidays: {}",
+        extract.count_cut(holidays)
+    );
+    add_counts(input.side(), input.name(), &extract.header, &text, counts);
+}
+
+/// Adds the header's window and the counts of an update that was done.
+fn add_outcome<R: Files + Input>(
+    input: &ExtractInput<'_, R>,
+    header: &Header,
+    outcome: &Outcome,
+    counts: &mut Message,
+) {
+    let done = &outcome.counts;
+    let mut text = counts_of(&outcome.passed, done.open_ends);
+    let _ = write!(
+        text,
+        ", put: {}, revised: {}, taken out: {}",
+        done.put, done.revised, done.taken_out
+    );
+    add_counts(input.side(), input.name(), header, &text, counts);
 }
 
 /// How many records have an open end.

@@ -1,5 +1,5 @@
 -- Extracts that are compared, and days on which two calendars have the same bodies. No public clause cites it.
-use Rattle.std.specs.Prelude.{◌≡◌, ℕ, ◌≤◌, List, Option, Some, IsSome}
+use Rattle.std.specs.Prelude.{◌≡◌, ℕ, ◌≤◌, List, Option, Some, IsSome, ⊤}
 use Rattle.cif_calendar.specs.Pieces.{winner_of}
 use Rattle.cif_calendar.specs.Source.{body_at}
 use Rattle.cif_calendar.specs.Terms.{Terms}
@@ -7,6 +7,8 @@ use Rattle.cif_calendar.specs.declared.key_calendar.Piece.{Piece}
 use Rattle.cif_extract.specs.ExtractParts.{ExtractParts}
 use Rattle.cif_canon.specs.Accepted.{IsClearExtract}
 use Rattle.cif_canon.specs.Asked.{header_window}
+use Rattle.cif_canon.specs.declared.comparison.Comparison.{Comparison}
+use Rattle.cif_canon.specs.declared.comparison.Comparison.TheVariants.{Same}
 
 -- it holds of the days from `first` to `last`
 abbrev pub HoldsFrom : (ℕ → Type 0) → ℕ → ℕ → Type 0
@@ -29,3 +31,8 @@ pub record AreComparable (x y : ExtractParts) : Type 0 where
   pub window : header_window x.header ≡ header_window y.header
   pub left : IsClearExtract x
   pub right : IsClearExtract y
+
+-- where two extracts compare as the same, they are clear
+abbrev pub AreClearIfSame : ExtractParts → ExtractParts → Comparison → Type 0
+AreClearIfSame x y Same = IsClearExtract x × IsClearExtract y
+AreClearIfSame x y _ = ⊤

@@ -4,16 +4,14 @@ use Rattle.std.specs.Prelude.{All}
 use Rattle.std.proofs.lemmas.List.{nil_from_length}
 use Rattle.std.proofs.lemmas.Result.{IfOk-from_err}
 use Rattle.std.proofs.lemmas.List.Elements.{All-drop, All-take}
-use Rattle.cif_calendar.specs.Keys.{ArePositionsOf, keyed}
 use Rattle.cif_calendar.proofs.FirstClash.{same_key-cmp}
-use Rattle.cif_weeks.specs.declared.run.Run.{Run}
-use Rattle.cif_weeks.specs.Window.{window_from}
 use Rattle.cif_weeks.proofs.CalendarSources.{calendar_sources}
 use Rattle.cif_calendar.specs.ByKey.{AreAllByKey}
 use Rattle.cif_canon.specs.declared.listed_differences.Sided.{Sided}
+use Rattle.cif_canon.proofs.Words.{ArePositionsOf, Run, keyed, window_from}
 use Rattle.cif_canon.proofs.ComparedKeys.{AreTurns, turns}
 use Rattle.cif_canon.proofs.FoundRecords.{AreFound, AreTold, found-all, found-enough, found-first, found-key}
-use Rattle.cif_canon.proofs.KeyDifferences.{clear-positions, key-only, key-told}
+use Rattle.cif_canon.proofs.KeyDifferences.{key-clears, key-only, key-told}
 use Rattle.cif_calendar.proofs.KeyPositions.{all-within}
 use Rattle.cif_canon.proofs.differing.different_records.Given.{Over}
 use Rattle.cif_canon.proofs.differing.different_records.Goals as goal
@@ -72,41 +70,29 @@ fronts g c =
     s.first _ _
     s.left_split.is_front s.right_split.is_front)
 
-pub clear_calendar-requires-clause-within : goal.clear_calendar-requires-clause-within
-clear_calendar-requires-clause-within g c =
-    subst (λ (is : List ℕ). All (λ i. i < length c.args.left.now) is) (sym c.in-Some.ensures.left_split.front_is)
-    (All-take (λ i. i < length c.args.left.now) _ _ c.loop-first.invariant.left_within)
+pub calendar-requires : goal.calendar-requires
+calendar-requires g c = record {
+  positions = subst (λ (is : List ℕ). All (λ i. i < length c.args.left.now) is) (sym c.in-Some.ensures.left_split.front_is)
+      (All-take (λ i. i < length c.args.left.now) _ _ c.loop-first.invariant.left_within);
+}
 
-pub clear_calendar-requires-in-Some-clause-within : goal.clear_calendar-requires-in-Some-clause-within
-clear_calendar-requires-in-Some-clause-within g c =
-    subst (λ (is : List ℕ). All (λ i. i < length c.args.right.now) is) (sym c.in-Some.ensures.right_split.front_is)
-    (All-take (λ i. i < length c.args.right.now) _ _ c.loop-first.invariant.right_within)
-
-pub clear_calendar-requires-clause-clear : goal.clear_calendar-requires-clause-clear
-clear_calendar-requires-clause-clear g c =
-    let here = (goal.at.clear_calendar-requires-clause-clear g c).In-Some in
-    let k = g.E.Entry.key c.in-Some.first.entry.now in
-    clear-positions g.E.Entry.key g.E.Entry.terms c.args.left.now k c.in-Some.first.left.now (fronts g here).left
-    c.args.window.now.first c.args.window.now.last (c.requires.left.key k)
-
-pub clear_calendar-requires-in-Some-clause-clear : goal.clear_calendar-requires-in-Some-clause-clear
-clear_calendar-requires-in-Some-clause-clear g c =
-    let here = (goal.at.clear_calendar-requires-in-Some-clause-clear g c).In-Some in
-    let k = g.E.Entry.key c.in-Some.first.entry.now in
-    clear-positions g.E.Entry.key g.E.Entry.terms c.args.right.now k c.in-Some.first.right.now (fronts g here).right
-    c.args.window.now.first c.args.window.now.last (c.requires.right.key k)
+pub calendar-requires-in-Some : goal.calendar-requires-in-Some
+calendar-requires-in-Some g c = record {
+  positions = subst (λ (is : List ℕ). All (λ i. i < length c.args.right.now) is) (sym c.in-Some.ensures.right_split.front_is)
+      (All-take (λ i. i < length c.args.right.now) _ _ c.loop-first.invariant.right_within);
+}
 
 pub push_differences-requires-clause-first : goal.push_differences-requires-clause-first
-push_differences-requires-clause-first g c = c.in_ok-other.ensures.first_is ∙ sym c.in_ok-one.ensures.first_is
+push_differences-requires-clause-first g c = c.in_ok-other.ensures.calendar.first_is ∙ sym c.in_ok-one.ensures.calendar.first_is
 
 pub push_differences-requires-clause-last : goal.push_differences-requires-clause-last
-push_differences-requires-clause-last g c = c.in_ok-other.ensures.last_is ∙ sym c.in_ok-one.ensures.last_is
+push_differences-requires-clause-last g c = c.in_ok-other.ensures.calendar.last_is ∙ sym c.in_ok-one.ensures.calendar.last_is
 
 pub push_differences-requires-clause-left : goal.push_differences-requires-clause-left
-push_differences-requires-clause-left g c = calendar_sources _ _ _ _ _ c.in_ok-one.ensures
+push_differences-requires-clause-left g c = calendar_sources _ _ _ _ _ c.in_ok-one.ensures.calendar
 
 pub push_differences-requires-clause-right : goal.push_differences-requires-clause-right
-push_differences-requires-clause-right g c = calendar_sources _ _ _ _ _ c.in_ok-other.ensures
+push_differences-requires-clause-right g c = calendar_sources _ _ _ _ _ c.in_ok-other.ensures.calendar
 
 pub loop-first-smaller : goal.loop-first-smaller
 loop-first-smaller g c = (fronts g (goal.at.loop-first-smaller g c).In-Some).smaller
@@ -130,8 +116,8 @@ more g c left right =
     let last = c.args.window.now.last in
     let k = key c.in-Some.first.entry.now in
     let same = same_key-cmp g.E.Key.PartialEq.eq g.E.Key.Ord.cmp g.met.E.Key.Ord.matches_eq g.met.E.Entry.same_key in
-    let one = c.in_ok-one.ensures in
-    let other = c.in_ok-other.ensures in
+    let one = c.in_ok-one.ensures.calendar in
+    let other = c.in_ok-other.ensures.calendar in
     let d = c.in_ok-push_differences.ensures in
     let f = c.in-Some.ensures in
     rw (f.left_split.later_is, f.right_split.later_is)
@@ -143,6 +129,8 @@ more g c left right =
     (key-only key terms cancelled fs es k c.in-Some.first.right.now c.in-Some.first.left.now right left first last
     c.in_ok-other.other c.in_ok-one.one other one d.rights d.right)
     d.appended.merged d.appended.are
+    (key-clears key terms cancelled es fs k c.in-Some.first.left.now c.in-Some.first.right.now left right first last
+    c.in_ok-one.one c.in_ok-other.other one other)
     (key-told key terms cancelled es fs k c.in-Some.first.left.now c.in-Some.first.right.now left right first last
     c.in_ok-one.one c.in_ok-other.other one other g.E.Body.PartialEq.eq g.met.E.Entry.same_body)
     same f.first _ _ f.left_split.is_front f.right_split.is_front c.push_differences.new.found.items d.appended.appended)

@@ -1,10 +1,10 @@
 -- Each calendar has pieces of its own: up to the earlier end `alike-by_pieces` tells of both calendars, date by date.
-use Rattle.std.proofs.Common.{◌≡◌, ℕ, ◌∙◌, arith, map, refl, sym, ⊎_elim}
+use Rattle.std.proofs.Common.{◌≡◌, ◌∙◌, arith, map, refl, sym, ⊎_elim}
 use Rattle.std.specs.Prelude.{IsTrue, ◌↔◌}
-use Rattle.std.proofs.lemmas.Bool.{false≢true}
+use Rattle.std.proofs.lemmas.Bool.{cases_lt, false≢true}
 use Rattle.cif_calendar.specs.Calendar.{body_on}
 use Rattle.cif_canon.specs.Steps.Differences.{HoldsFrom}
-use Rattle.cif_canon.proofs.DifferentDays.{alike-by_pieces, before-or-from, not-below, piece-bodies, piece-ends}
+use Rattle.cif_canon.proofs.DifferentDays.{alike-by_pieces, not-below, piece-bodies, piece-ends}
 use Rattle.cif_canon.proofs.only_days.are_alike.Given.{Over}
 use Rattle.cif_canon.proofs.only_days.are_alike.Goals as goal
 use Rattle.cif_canon.proofs.only_days.are_alike.Goals.{After-are_pieces_alike}
@@ -85,7 +85,7 @@ loop-window-preserved g c =
       alike = λ d a b. ⊎_elim
           (λ early. c.loop-window.invariant.alike d a early)
           (λ late. (by_pieces g (goal.at.loop-window-preserved g c).After-are_pieces_alike).0 c.if-not-are_pieces_alike.false d late (omega (arith, b, next)))
-          (before-or-from d c.loop-window.first);
+          (cases_lt d c.loop-window.first);
     }
 
 pub returns-in-None : goal.returns-in-None
@@ -96,6 +96,6 @@ returns-in-None g c = (
       (λ early. c.loop-window.invariant.alike d a early)
       (λ late. (by_pieces g (goal.at.returns-in-None g c).After-are_pieces_alike).0 c.if-not-are_pieces_alike.false d late
       (omega (arith, b, ends, c.window-window.ensures.last)))
-      (before-or-from d c.loop-window.first),
+      (cases_lt d c.loop-window.first),
   λ all. refl,
 )
