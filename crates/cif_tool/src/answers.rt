@@ -358,11 +358,7 @@ pub fn answer<R: ReadDevice, W: WriteDevice>(
             right: _,
             asked,
             common,
-            format,
-        } => match format {
-            Format::Text => answer_diff(alloc, source, right, sink, asked, *common, kept),
-            Format::Tsv => Err(Fault::Memory),
-        },
+        } => answer_diff(alloc, source, right, sink, asked, *common, kept),
         Job::Day {
             day,
             file: _,
