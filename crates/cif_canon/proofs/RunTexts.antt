@@ -12,7 +12,7 @@ use Rattle.cif_weeks.specs.declared.run.Run.{Run}
 use Rattle.cif_extract.specs.BodyParts.{BodyParts}
 use Rattle.cif_extract.specs.declared.extract.Schedule.{Schedule}
 use Rattle.cif_calendar.specs.Entries.{schedule_entries, schedule_entry}
-use Rattle.cif_canon.specs.Steps.Texts.{HasRecord, body_at, record_at, schedule_run_text, schedule_text, text_if}
+use Rattle.cif_canon.specs.Steps.Texts.{HasRecord, body_at, record_at, run_text, text_if}
 
 -- the record of a run whose source is an entry with a body
 pub record-of_entry : {K B : Type 0} (entries : List (K × Terms B)) (run : Run) (e : K × Terms B) (b : B) →
@@ -74,9 +74,9 @@ body-of schedules n s within is =
     ap (option_and_then (λ (s : Schedule). s.body)) (slice_get_read schedules (length schedules) n s refl within is)
 
 -- the text of a run, by the schedule at its source and its body
-pub schedule-text : (schedules : List Schedule) (run : Run) (s : Schedule) (b : BodyParts) → HasRecord (schedule_entries schedules) run →
-    s ≡ get_or schedules run.source s → body_at schedules run.source ≡ Some b →
-    schedule_run_text (schedule_entries schedules) run ≡ schedule_text (s.uid, record_of run b)
-schedule-text schedules run s b h is body =
-    run-text schedule_entry schedules run s b schedule_text h is
+pub schedule-text : (text : List ℕ × Permanent BodyParts → List ℕ) (schedules : List Schedule) (run : Run) (s : Schedule) (b : BodyParts) →
+    HasRecord (schedule_entries schedules) run → s ≡ get_or schedules run.source s → body_at schedules run.source ≡ Some b →
+    run_text text (schedule_entries schedules) run ≡ text (s.uid, record_of run b)
+schedule-text text schedules run s b h is body =
+    run-text schedule_entry schedules run s b text h is
     (sym (body-of schedules run.source s (record-within schedule_entry schedules run h) is) ∙ body)
