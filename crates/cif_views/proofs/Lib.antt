@@ -4,3 +4,4 @@ mod ExplainedMarks
 mod ExplainedTexts
 mod Explaining
 pub mod NamedClashes
+pub mod TableRows
