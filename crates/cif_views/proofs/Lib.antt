@@ -1,3 +1,4 @@
+mod AllFields
 pub mod CallTexts
 pub mod ClashLists
 mod ExplainedMarks

@@ -1,3 +1,4 @@
+pub mod AllFields
 pub mod Calls
 pub mod Clashes
 pub mod Explanation

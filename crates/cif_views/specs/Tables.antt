@@ -18,15 +18,22 @@ use Rattle.cif_views.specs.declared.tables.Table.TheVariants.{Associations, Call
 abbrev pub TableFields : Type 0 → Type 0
 TableFields Row = List (List ℕ × (Row → Field))
 
--- the line of the names, and that of a row: both have a field for each of the table's columns
+-- its names, and the fields of a row: as many
+abbrev pub names : {Row : Type 0} → TableFields Row → List (List ℕ)
+names fields = map (λ f. f.0) fields
+
+abbrev pub row_fields : {Row : Type 0} → TableFields Row → Row → List Field
+row_fields fields row = map (λ f. f.1 row) fields
+
+-- the line of some names, that of all names of a table, and that of a row
 abbrev pub names_line : List (List ℕ) → List ℕ
 names_line names = join_with_byte 9 names ++ codes "\n"
 
 abbrev pub heading : {Row : Type 0} → TableFields Row → List ℕ
-heading fields = names_line (map (λ f. f.0) fields)
+heading fields = names_line (names fields)
 
 abbrev pub row_line : {Row : Type 0} → TableFields Row → Row → List ℕ
-row_line fields row = line_of Tsv (map (λ f. f.1 row) fields)
+row_line fields row = line_of Tsv (row_fields fields row)
 
 -- What stands in columns of a line, counted from 1: without the spaces at their end; as they stand; as a date YYMMDD, and as one that the
 -- header writes as DDMMYY.
