@@ -1,5 +1,5 @@
 -- The rows of tables, as they are made field by field.
-use Rattle.std.proofs.Common.{◌≡◌, ℕ, ◌+◌, ◌-◌, ◌<◌, ◌≤◌, Bool, true, false, List, [], ◌∷◌, ◌++◌, Option, codes, cond, drop, get_or, length, map}
+use Rattle.std.proofs.Common.{◌≡◌, ℕ, ◌+◌, ◌<◌, ◌≤◌, Bool, true, false, List, [], ◌∷◌, ◌++◌, codes, cond, drop, get_or, length}
 use Rattle.std.proofs.Common.{◌∙◌, append-nil, append_assoc, ap, arith, inl, inr, length-append, refl, subst, sym, take}
 use borrow.Rule.Slice.PartMut.{put_mid}
 use Rattle.std.specs.Prelude.{◌⊎◌, IsTrue, slice_index_or, slice_set}
@@ -16,11 +16,11 @@ use Rattle.cif_canon.specs.Fields.{Field, after, in_table, line_of, nothing}
 use Rattle.cif_canon.specs.Lines.{ExtractLines, ScheduleLines}
 use Rattle.cif_canon.specs.declared.rows.Format.TheVariants.{Tsv}
 use Rattle.cif_canon.specs.declared.rows.Shape.{Shape}
-use Rattle.cif_canon.specs.declared.rows.Shape.TheVariants.{Date, Trimmed, Whole}
+use Rattle.cif_canon.specs.declared.rows.Shape.TheVariants.{Trimmed}
 use Rattle.cif_canon.proofs.ViewLines.{both-after, joined}
 use Rattle.cif_views.specs.Steps.TableRows.{Place, are_within, call_fields_of, call_rows, change_rows, field_at, fields_at, is_within, journey_rows, room_for}
 use Rattle.cif_views.specs.Steps.TableRows.{place_fields, room_of, schedule_rows}
-use Rattle.cif_views.specs.Tables.{Numbered, TableFields, call_fields, calls_of, change_fields, changes_of, is_call, is_change}
+use Rattle.cif_views.specs.Tables.{Numbered, call_fields, calls_of, change_fields, changes_of, is_call, is_change}
 use Rattle.cif_views.specs.Tables.{kind_of_line, number, numbered_from, numbered_schedule, row_line, schedule_fields, table_rows, text_at}
 use Rattle.cif_views.specs.declared.tables.TheConstants.{CHANGE}
 use Rattle.cif_views.specs.declared.tables.JourneyKind.{JourneyKind}
@@ -99,44 +99,12 @@ pub record IsGrowing (line whole : List ℕ) (most : ℕ) (row : List ℕ) (left
   pub within : are_within left ≡ true
 
 module _ (line whole : List ℕ) (most : ℕ) (xs : List Place) (i : ℕ) where
-  abbrev pub no_place : Place
-  no_place = (Trimmed, 1, 1)
-
-  module _ (below : i < length xs) (row : List ℕ) (is : IsGrowing line whole most row (drop i xs)) where
-    pub first-left : IsGrowing line whole most row (get_or xs i no_place ∷ drop (i + 1) xs)
-    first-left = subst (IsGrowing line whole most row) (at_drop_more (λ (ps : List Place). ps) xs i no_place below) is
-
-    pub first-within : IsTrue (is_within (get_or xs i no_place))
-    first-within = (and_parts (is_within (get_or xs i no_place)) (are_within (drop (i + 1) xs)) first-left.within).0
-
-    -- one place more
-    pub one-place : (new c : List ℕ) → new ≡ row ++ (9 ∷ in_table (get_or xs i no_place).0 c) →
-        c ≡ columns (get_or xs i no_place).1 (get_or xs i no_place).2 line →
-        length new ≤ length row + room_of (get_or xs i no_place).0 (get_or xs i no_place).1 (get_or xs i no_place).2 →
-        IsGrowing line whole most new (drop (i + 1) xs)
-    one-place new c e same upto =
-        let here = first-left in
-        let room = here.room in
-        let place = get_or xs i no_place in
-        record {
-          text = ap (λ (l : List ℕ). l ++ after Tsv (fields_at (drop (i + 1) xs) line))
-              (e ∙ ap (λ (l : List ℕ). row ++ (9 ∷ in_table place.0 l)) same)
-              ∙ append_assoc row (9 ∷ in_table place.0 (columns place.1 place.2 line)) (after Tsv (fields_at (drop (i + 1) xs) line))
-              ∙ here.text;
-          room = omega (arith, room, upto);
-          within = (and_parts (is_within place) (are_within (drop (i + 1) xs)) here.within).1;
-        }
-
   -- no place is left
   pub all-places : length xs ≤ i → (row : List ℕ) → IsGrowing line whole most row (drop i xs) → (row ≡ whole) × (length row ≤ most)
   all-places past row is =
       let end = subst (IsGrowing line whole most row) (at_drop_all (λ (ps : List Place). ps) xs i past) is in
       let room = end.room in
       (sym (append-nil row) ∙ end.text, omega (arith, room))
-
--- a place within a line
-pub from-one : (p : Place) → IsTrue (is_within p) → 1 ≤ p.1
-from-one p h = grind (arith, nat_tests, h)
 
 -- what is listed of items that pass a test
 passing : {A : Type 0} (test : Bool) (text : A → List ℕ) (x : A) (xs : List A) (rest : List ℕ) → flat_map text xs ≡ rest →

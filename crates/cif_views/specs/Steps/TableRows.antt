@@ -1,5 +1,5 @@
 -- The rows of tables as the code makes them. No public clause cites them.
-use Rattle.std.specs.Prelude.{◌≡◌, ⊤, ℕ, ◌+◌, ◌-◌, Bool, true, false, ◌&&◌, List, [], ◌∷◌, ◌++◌, cond, drop, length, map, nat_eq, nat_le}
+use Rattle.std.specs.Prelude.{◌≡◌, ⊤, ℕ, ◌+◌, ◌-◌, Bool, true, ◌&&◌, List, [], ◌∷◌, cond, drop, length, map, nat_eq, nat_le}
 use Rattle.std.specs.List.{flat_map}
 use Rattle.cif_columns.specs.Field.{columns}
 use Rattle.cif_canon.specs.Fields.{Field}

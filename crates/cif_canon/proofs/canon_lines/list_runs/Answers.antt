@@ -2,7 +2,7 @@
 -- of the schedule at its source (`schedule-text`).
 use Rattle.std.proofs.Common.{◌+◌, ◌∙◌, ap, arith, get_or, subst, sym}
 use Rattle.std.specs.List.{enumerate_from}
-use Rattle.std.proofs.lemmas.List.FromFn.{get_or-enumerate_from, length-enumerate_from}
+use Rattle.std.proofs.lemmas.List.FromFn.{length-enumerate_from}
 use Rattle.cif_calendar.specs.Entries.{schedule_entries}
 use Rattle.cif_extract.specs.declared.extract.Schedule.{Schedule}
 use Rattle.cif_weeks.specs.Runs.{record_of}
@@ -11,7 +11,7 @@ use Rattle.cif_canon.specs.Lines.{ScheduleLines}
 use Rattle.cif_canon.specs.Steps.Texts.{HasRecord, numbered_text, schedule_plain}
 use Rattle.cif_canon.proofs.AppendedTexts.{all-items, nothing, one-more, text-is}
 use Rattle.cif_canon.proofs.CanonLines.{at-number}
-use Rattle.cif_canon.proofs.RunTexts.{dates-in_order, schedule-text}
+use Rattle.cif_canon.proofs.RunTexts.{schedule-text}
 use Rattle.cif_canon.proofs.canon_lines.list_runs.Goals as goal
 
 pub loop-at-init : goal.loop-at-init

@@ -1,5 +1,5 @@
 -- One field goes behind another (`one-pushed`).
-use Rattle.std.proofs.Common.{[], ◌++◌, ◌∙◌, List, ap, refl, sym}
+use Rattle.std.proofs.Common.{◌++◌, ◌∙◌, List, ap, sym}
 use Rattle.cif_columns.specs.Field.{columns}
 use Rattle.cif_canon.specs.Fields.{Field, after}
 use Rattle.cif_canon.specs.declared.rows.Format.TheVariants.{Tsv}

@@ -1,5 +1,5 @@
 -- The number, the fields of the BS and those of the BX are the row of a schedule (`row-pushed`).
-use Rattle.std.proofs.Common.{[], ◌++◌, ◌∙◌, List, ℕ, ap, decimal, refl}
+use Rattle.std.proofs.Common.{◌++◌, ◌∙◌, List, ℕ, ap, decimal, refl}
 use Rattle.cif_canon.specs.Fields.{after}
 use Rattle.cif_canon.specs.declared.rows.Format.TheVariants.{Tsv}
 use Rattle.cif_canon.specs.declared.rows.Shape.TheVariants.{Whole}

@@ -1,5 +1,5 @@
 -- The line of the names goes first, and then the rows, by the table.
-use Rattle.std.proofs.Common.{ap, sym, ◌∙◌}
+use Rattle.std.proofs.Common.{ap}
 use Rattle.std.specs.List.{flat_map}
 use Rattle.cif_canon.specs.Appended.{IsAppended}
 use Rattle.cif_canon.proofs.AppendedTexts.{answered, both, text-is}

@@ -1,6 +1,6 @@
 -- One place more is appended (`one-place`), until none is left (`all-places`).
 use Rattle.std.proofs.Common.{arith, refl}
-use Rattle.cif_views.proofs.TableRows.{all-places, first-left, first-within, one-place}
+use Rattle.cif_views.proofs.TableRows.{all-places}
 use Rattle.cif_views.proofs.table_row.TableRow.push_each.Goals as goal
 
 pub loop-place-init : goal.loop-place-init

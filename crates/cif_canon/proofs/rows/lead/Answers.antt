@@ -1,2 +1,0 @@
--- ?
-use Rattle.cif_canon.proofs.rows.lead.Goals as goal

@@ -1,2 +1,0 @@
--- ?
-use Rattle.cif_canon.proofs.rows.push_in_table.Goals as goal
