@@ -1,19 +1,23 @@
 #!/usr/bin/env python3
 """Lists the definitions on which the clauses of a function rest, in the order in which they are cited.
 
-    list.py CRATE SRC_FILE FUNCTION CLAUSES..
+    list.py [CRATE SRC_FILE FUNCTION CLAUSES..]
+
+Without arguments it lists what the theorem rests on: the clause `normal` of `normalise`, and after the first sum what the
+other clauses add, which say what is refused, and why. To believe the theorem, read these definitions.
 
 CLAUSES are names of the function's clauses, separated by commas. What they cite is followed from definition to
-definition, through the specs/ of all crates, and to what the types of the code say of their fields. Each definition has a
-line with its crate and file, its name, and its number of lines without comments and blank lines. A type has its file in
-src/ and no number. What std and the other libraries define isn't listed. Each further CLAUSES lists only what those before
-it don't rest on.
+definition, through the specs/ of all crates, to the traits of the function's devices, and to what the types of the code
+say of their fields and of their values in the logic. Each definition has a line with its crate and file, its name, and its
+number of lines without comments and blank lines. A type or a trait has its file in src/ and no number. What std and the
+other libraries define isn't listed. Each further CLAUSES lists only what those before it don't rest on.
 """
 import re
 import sys
 from pathlib import Path
 
 ROOT = Path(__file__).resolve().parents[2]
+THEOREM = ("cif_canon", "normal_form.rt", "normalise", "normal", "fault,accepted,answers,source,end")
 OWN = re.compile(r"^Rattle\.(cif_\w+)\.specs\.(.+)$")
 HEAD = re.compile(r"^(?:abbrev |unfoldable )?(?:pub )?(?:record |data |abbrev )?([^\s({:]+)")
 
@@ -106,27 +110,54 @@ def cited(lines, imports, own, crate, inner):
     return found
 
 
+def sources():
+    """The files of src/ in all crates."""
+    return sorted(ROOT.glob("crates/cif_*/src/*.rt"))
+
+
+def declared(pattern):
+    """The types or traits that the sources declare so, by their names."""
+    found = {}
+    for file in sources():
+        for name in re.findall(pattern, file.read_text(), re.M):
+            found[name] = ("type", file.parts[-3], file.stem, name)
+    return found
+
+
+MODELS = declared(r"^impl(?:<[^\n]*?>)? Model for (\w+)")
+DEVICES = declared(r"^pub trait (\w+Device)")
+
+
+def ghost_imports(text):
+    """What the ghost imports of a text bring."""
+    names = {}
+    for line in re.findall(r"^\s*ghost use (.*?);", text, re.M | re.S):
+        names.update(imported(" ".join(line.split())))
+    return names
+
+
 def clauses(crate, source, function, names):
-    """The text of the clauses, and the imports of the file."""
+    """The text of the clauses, the imports of the file, and the traits of the function's devices."""
     text = (ROOT / "crates" / crate / "src" / source).read_text()
-    imports = {}
-    for line in re.findall(r"^ghost use (.*?);", text, re.M | re.S):
-        imports.update(imported(" ".join(line.split())))
+    imports = ghost_imports(text)
     contract = re.search(r"fn " + function + r"\b.*?\n\{", text, re.S).group(0)
     lines = []
     for name in names:
         lines.append(re.search(r"ensures " + name + r" \{(.*?)\}\s*(?=ensures|requires|//|\{\Z)", contract, re.S).group(1))
-    return lines, imports
+    return lines, imports, [DEVICES[name] for name in re.findall(r"\b\w+: (\w+)", contract) if name in DEVICES]
 
 
-def invariants(crate, source, name):
-    """What a type says of its fields, and the imports of its file."""
+def said_of(crate, source, name):
+    """What a type says of its fields and of its value in the logic, or a trait of its calls; and what its fields are."""
     text = (ROOT / "crates" / crate / "src" / f"{source}.rt").read_text()
-    imports = {}
-    for line in re.findall(r"^ghost use (.*?);", text, re.M | re.S):
-        imports.update(imported(" ".join(line.split())))
-    fields = re.search(r"(?:struct|enum) " + name + r"\b.*?\n\}", text, re.S)
-    return re.findall(r"ghost \w+: \{(.*?)\}", fields.group(0) if fields else "", re.S), imports
+    fields = re.search(r"(?:struct|enum|trait) " + name + r"\b(?:[^\n{]*;\n|.*?\n\})", text, re.S)
+    fields = fields.group(0) if fields else ""
+    model = re.search(r"^impl(?:<[^\n]*?>)? Model for " + name + r"\b.*?\n\}", text, re.M | re.S)
+    lines = re.findall(r"(?:ghost|ensures) \w+:? \{(.*?)\}\s*(?=\n|,|;)", fields, re.S)
+    lines += re.findall(r"ghost \w+ = \{(.*?)\};", model.group(0) if model else "", re.S)
+    found = cited(lines, ghost_imports(text), {}, crate, source)
+    members = re.sub(r"ghost .*", "", fields)
+    return found + [MODELS[word] for word in re.findall(r"\b[A-Z]\w+", members) if word in MODELS and word != name]
 
 
 def resting(waiting, seen):
@@ -141,7 +172,7 @@ def resting(waiting, seen):
         if kind == "type":
             print(f"{crate} src/{inner}.rt {name}")
             types += 1
-            waiting[:0] = cited(*invariants(crate, inner, name), {}, crate, inner)
+            waiting[:0] = said_of(crate, inner, name)
             continue
         own = module(crate, inner)
         if name not in own.definitions:
@@ -157,11 +188,11 @@ def resting(waiting, seen):
 
 
 def main():
-    crate, source, function, *groups = sys.argv[1:]
+    crate, source, function, *groups = sys.argv[1:] or THEOREM
     seen = set()
     for group in groups:
-        lines, imports = clauses(crate, source, function, group.split(","))
-        resting(cited(lines, imports, {}, crate, ""), seen)
+        lines, imports, devices = clauses(crate, source, function, group.split(","))
+        resting(cited(lines, imports, {}, crate, "") + devices, seen)
 
 
 main()

@@ -10,7 +10,7 @@ NO_END = Answer(b"", b"", f"none after {SECONDS} seconds")
 def words_of(job):
     """The words of a command: its options come first, and then its places."""
     words = [job.command]
-    for option, word in ("--from", job.first), ("--to", job.last), ("--form", job.form):
+    for option, word in ("--from", job.first), ("--to", job.last), ("--form", job.form), ("--format", job.format):
         words += [] if word is None else [option, word]
     words += ["--common"] if job.common else []
     words += ["--stops"] if job.stops else []
@@ -18,7 +18,7 @@ def words_of(job):
     words += [] if job.holidays is None else ["--holidays", job.holidays]
     words += ["--drop-clashes"] if job.drop_clashes else []
     words += ["--lenient"] if job.lenient else []
-    return words + [word for word in (job.uid, job.day) if word is not None] + list(job.files)
+    return words + [word for word in (job.table, job.uid, job.day) if word is not None] + list(job.files)
 
 
 def written(folder, job, inputs):

@@ -4,6 +4,7 @@ The first is the case itself. Beside it stand cases that have several faults, da
 with a line of each sort, where each damage in one place has its turn. Where the case is accepted there are further runs, whose
 answers have to agree with its own.
 """
+import re
 from collections import namedtuple
 from itertools import chain
 
@@ -127,7 +128,7 @@ def turned_into(left, differences, header):
 
 def of_differences(job, inputs, want):
     """Nothing differs exactly if the two compare as the same; and the differences turn the left one into the right one."""
-    compared = job._replace(command="compare")
+    compared = job._replace(command="compare", format=None)
     comparison = answer(compared, inputs)
     if (comparison == SAME) != (want == Answer(b"", b"", 0)):
         raise Inconsistent("two extracts compare as the same and differ, or don't")
@@ -143,8 +144,38 @@ def of_differences(job, inputs, want):
     yield Trial("the left one turned into the right one", Job("normalise"), [turned], Answer(right, b"", 0))
 
 
+def of_difference_table(job, inputs, want):
+    """There is a row exactly if there is a difference; and the table is that of the other order with its sides changed."""
+    listed = job._replace(format=None)
+    text = answer(listed, inputs)
+    if text.status != want.status:
+        raise Inconsistent("the table of differences has rows and their text has no line, or the other way round")
+    yield Trial("the same as text", listed, inputs, text)
+    other = answer(job, inputs[::-1])
+    if sides_changed(want.stdout) != sorted(other.stdout.splitlines()):
+        raise Inconsistent("the differences in the other order aren't these with their sides changed")
+    yield Trial("the other order", job, inputs[::-1], other)
+    yield from of_equal_jobs(job, inputs, want)
+
+
+def sides_changed(table):
+    """The rows of a table of differences with left in the place of right, sorted."""
+    heading, *rows = (line.split(b"\t") for line in table.splitlines())
+    other = {b"<": b">", b">": b"<", b"<>": b"<>"}
+    rows = [[other[change], *cells, right, left] for change, *cells, left, right in rows]
+    return sorted(b"\t".join(row) for row in [heading, *rows])
+
+
+def of_diff(job, inputs, want):
+    return (of_difference_table if job.format == "tsv" else of_differences)(job, inputs, want)
+
+
 def of_explanation(job, inputs, want):
     """What wins on a date is what day says, where there is no clash, and the only record of a canonical extract."""
+    if job.format == "tsv":
+        text = job._replace(format=None)
+        yield Trial("the same as text", text, inputs, answer(text, inputs))
+        return
     day = Job("day", day=job.day)
     listed = answer(day, inputs)
     yield Trial("the day of it", day, inputs, listed)
@@ -176,9 +207,27 @@ def of_clashes(job, inputs, want):
 
 
 def of_view(job, inputs, want):
-    """A view is that of the canonical extract."""
+    """A view, as a table of a whole extract, is that of the canonical extract."""
     output = answer(Job("normalise", first=job.first, last=job.last), inputs).stdout
     yield Trial("the same of the canonical extract", job._replace(files=()), [output], want)
+
+
+def of_table(job, inputs, want):
+    """The tables have as many records as check says."""
+    counted = answer(Job("check", first=job.first, last=job.last, form=job.form), inputs).stdout.decode()
+    numbers = dict(zip(("tiplocs", "associations", "schedules"), map(int, re.findall("[0-9]+", counted))))
+    heading, *rows = want.stdout.splitlines()
+    if len(rows) != numbers.get(job.table, len(rows)) or any(row.count(b"\t") != heading.count(b"\t") for row in rows):
+        raise Inconsistent("a table has another number of rows than check says, or of fields than its heading")
+    yield from of_view(job, inputs, want)
+
+
+def of_calendar(job, inputs, want):
+    """Where there is no clash, the canonical extract has a P exactly where something runs."""
+    output = answer(Job("normalise", first=job.first, last=job.last), inputs)
+    if output.status == 0:
+        runs = want._replace(stdout=want.stdout.translate(bytes.maketrans(b"NOC", b"PP.")))
+        yield Trial("the same of the canonical extract", job._replace(files=()), [output.stdout], runs)
 
 
 def of_prepared(job, inputs, want):
@@ -251,11 +300,13 @@ def further_trials(rng, case, want, options):
 FURTHER = {
     "check": lambda *_: (),
     "compare": of_comparison,
-    "diff": of_differences,
+    "diff": of_diff,
     "day": of_view,
     "train": of_view,
     "explain": of_explanation,
     "clashes": of_clashes,
+    "table": of_table,
+    "calendar": of_calendar,
     "prepare": of_prepared,
     "update": of_update,
 }

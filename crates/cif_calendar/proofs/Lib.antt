@@ -23,3 +23,4 @@ pub mod SortedPositions
 pub mod FirstEntries
 pub mod PassedKeys
 pub mod FoundClashes
+pub mod NamedClashes

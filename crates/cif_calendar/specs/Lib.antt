@@ -1,3 +1,4 @@
+pub mod AllClashes
 pub mod Applies
 pub mod ByKey
 pub mod Calendar

@@ -2,18 +2,11 @@
 use Rattle.std.proofs.Common.{◌≡◌, ℕ, List, length, sym, ap, ◌∙◌, subst}
 use Rattle.std.specs.Prelude.{All}
 use Rattle.std.specs.Cmp.Lexicographic.{slice_cmp}
+use Rattle.std.proofs.lemmas.Slice.Zip.{AllZip-long}
 use Rattle.std.specs.Ordering.{nat_cmp}
-use Rattle.cif_calendar.specs.Keys.{AreClear}
-use Rattle.cif_extract.specs.ExtractParts.{ExtractParts}
 use Rattle.cif_extract.specs.declared.fault.Clash.TheVariants as named
-use Rattle.cif_extract.specs.declared.fault.Fault.{Fault}
 use Rattle.cif_extract.specs.declared.fault.Fault.TheVariants as fault
-use Rattle.cif_records.specs.AssocKey.{key_cmp}
-use Rattle.cif_records.specs.declared.header.Header.{Header}
-use Rattle.cif_records.specs.declared.tiploc.Tiploc.{Tiploc}
 use Rattle.cif_records.proofs.Headers as headers
-use Rattle.cif_weeks.specs.declared.form.Form.{Form}
-use Rattle.cif_weeks.specs.declared.run.Run.{Run}
 use Rattle.cif_weeks.proofs.PermanentEntries.{canonical-dated}
 use Rattle.cif_canon.specs.Asked.{header_window}
 use Rattle.cif_canon.specs.Canon.{IsCanonOf}
@@ -21,17 +14,17 @@ use Rattle.cif_canon.specs.Canonical.{IsCanonicalOf}
 use Rattle.cif_canon.specs.Counts.{counts_of}
 use Rattle.cif_canon.specs.Lines.{lines_of}
 use Rattle.cif_canon.specs.declared.canonical_form.Counts.{Counts}
-use Rattle.cif_calendar.specs.Entries.{association_entries, schedule_entries}
 use Rattle.cif_canon.specs.Fault.{IsCanonFault, IsFirstClashIn}
-use Rattle.cif_canon.specs.Steps.Records.{AreCanonicalRecords, IsRecordsFault}
-use Rattle.cif_weeks.specs.Window.{Window, window_from}
+use Rattle.cif_canon.specs.Steps.Records.{AreCanonicalRecords, IsRecordsFault, IsRunOf}
 use Rattle.cif_canon.specs.Steps.Texts.{HasRecord, canon_lines, canon_text}
 use Rattle.cif_canon.specs.Steps.Tiplocs.{AreDistinct}
 use Rattle.cif_extract.specs.Texts.{FitsColumns, extract_text}
 use Rattle.cif_extract.specs.SpellsExtract.{BytesSpell}
 use Rattle.cif_extract.proofs.PlainTexts.{text-spells}
+use Rattle.cif_canon.proofs.Words.{AreClear, ExtractParts, Fault, Form, Header, Run, Tiploc, Window, association_entries, key_cmp}
+use Rattle.cif_canon.proofs.Words.{schedule_entries, window_from}
 use Rattle.cif_canon.proofs.CanonLines.{written-lines}
-use Rattle.cif_canon.proofs.CanonTexts.{have-records, number-of_associations, number-of_schedules, same-number, written-text}
+use Rattle.cif_canon.proofs.CanonTexts.{have-records, number-of_associations, number-of_schedules, written-text}
 use Rattle.cif_canon.proofs.KeptExtract.{canonical_of, is-canonical, same-meaning}
 use Rattle.cif_canon.proofs.MadeExtract.{IsDated, associations_of}
 use Rattle.cif_canon.proofs.MadeFits.{have-terms, made-fits}
@@ -49,23 +42,13 @@ pub associations-fault : (x : ExtractParts) (why : Fault) →
     IsRecordsFault key_cmp named.Association (association_entries x.associations) (header_window x.header) why → IsCanonFault x why
 associations-fault x (fault.Ambiguous clash) h = subst (IsFirstClashIn x) (sym h.is) h.first
 associations-fault x fault.Memory h = tt
-associations-fault x (fault.Refused line why) h = absurd h
-associations-fault x fault.WindowsDiffer h = absurd h
-associations-fault x fault.OutsideWindow h = absurd h
-associations-fault x fault.WindowReversed h = absurd h
-associations-fault x fault.Read h = absurd h
-associations-fault x fault.Write h = absurd h
+associations-fault x _ h = absurd h
 
 pub schedules-fault : (x : ExtractParts) → AreClear (association_entries x.associations) x.header.first x.header.last → (why : Fault) →
     IsRecordsFault (slice_cmp nat_cmp) named.Train (schedule_entries x.schedules) (header_window x.header) why → IsCanonFault x why
 schedules-fault x clear (fault.Ambiguous clash) h = subst (IsFirstClashIn x) (sym h.is) (clear, h.first)
 schedules-fault x clear fault.Memory h = tt
-schedules-fault x clear (fault.Refused line why) h = absurd h
-schedules-fault x clear fault.WindowsDiffer h = absurd h
-schedules-fault x clear fault.OutsideWindow h = absurd h
-schedules-fault x clear fault.WindowReversed h = absurd h
-schedules-fault x clear fault.Read h = absurd h
-schedules-fault x clear fault.Write h = absurd h
+schedules-fault x clear _ h = absurd h
 
 module _ (form : Form) (x : ExtractParts) (tiplocs : List Tiploc) (distinct : AreDistinct x.tiplocs tiplocs) (associations : List Run)
     (a : AreCanonicalRecords key_cmp form (header_window x.header) (association_entries x.associations) associations) (schedules : List Run)
@@ -107,14 +90,14 @@ module _ (form : Form) (x : ExtractParts) (tiplocs : List Tiploc) (distinct : Ar
   unfolding made
   made-counts =
       ap (λ n. record { tiplocs = length tiplocs; associations = n; schedules = length schedules })
-      (same-number (association_entries x.associations) associations a.records a.runs_of
+      (sym (AllZip-long (IsRunOf (association_entries x.associations)) associations a.records a.runs_of)
       ∙ number-of_associations a.records dated-associations)
       ∙ ap (λ n. record {
         tiplocs = length tiplocs;
         associations = length (associations_of a.records dated-associations);
         schedules = n;
       })
-      (same-number (schedule_entries x.schedules) schedules s.records s.runs_of ∙ number-of_schedules s.records dated-schedules)
+      (sym (AllZip-long (IsRunOf (schedule_entries x.schedules)) schedules s.records s.runs_of) ∙ number-of_schedules s.records dated-schedules)
 
   -- where what x says fits the columns of lines, so does what is made
   module _ (fits : FitsColumns x) where

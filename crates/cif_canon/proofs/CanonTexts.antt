@@ -5,25 +5,17 @@ use Rattle.std.specs.List.{AllZip, flat_map}
 use Rattle.std.proofs.lemmas.Grind.{flat_map-append}
 use Rattle.std.proofs.lemmas.List.{map-append}
 use Rattle.std.proofs.lemmas.List.Elements.{All-nil, All-cons, All-head, All-tail}
-use Rattle.cif_calendar.specs.Terms.{Terms}
 use Rattle.cif_columns.specs.Contents.{lines_text}
 use Rattle.cif_columns.specs.Field.{Row, plain_line}
-use Rattle.cif_extract.specs.BodyParts.{BodyParts}
-use Rattle.cif_extract.specs.ExtractParts.{ExtractParts}
 use Rattle.cif_extract.specs.Texts.{extract_text, schedule_lines, tables_of}
 use Rattle.cif_records.specs.Association.{association_table}
 use Rattle.cif_records.specs.Header.{header_table}
 use Rattle.cif_records.specs.Tiploc.{tiploc_table}
-use Rattle.cif_records.specs.Trailer.{trailer_table}
-use Rattle.cif_records.specs.declared.association.AssocBody.{AssocBody}
-use Rattle.cif_records.specs.declared.association.AssocKey.{AssocKey}
-use Rattle.cif_records.specs.declared.tiploc.Tiploc.{Tiploc}
-use Rattle.cif_weeks.specs.Permanent.{Permanent}
-use Rattle.cif_weeks.specs.declared.run.Run.{Run}
-use Rattle.cif_calendar.specs.Entries.{association_entries, schedule_entries}
 use Rattle.cif_canon.specs.Steps.Records.{IsRunOf}
 use Rattle.cif_canon.specs.Steps.Texts.{HasRecord, association_run_text, association_text, canon_text, record_at, schedule_run_text}
 use Rattle.cif_canon.specs.Steps.Texts.{schedule_text, text_if, tiploc_text}
+use Rattle.cif_canon.proofs.Words.{AssocBody, AssocKey, BodyParts, ExtractParts, Permanent, Run, Terms, Tiploc, association_entries}
+use Rattle.cif_canon.proofs.Words.{schedule_entries, trailer_table}
 use Rattle.cif_canon.proofs.MadeExtract.{IsDated, associations_of, schedule_of, schedules_of}
 use Rattle.cif_canon.proofs.RunTexts.{record-of_entry}
 
@@ -44,13 +36,6 @@ module _ {K B : Type 0} (entries : List (K × Terms B)) where
       All-cons (HasRecord entries) run runs
       (record { it = e; is = record-of_run run e zip.0; in_order = All-head IsDated e records dated })
       (have-records runs records zip.1 (All-tail IsDated e records dated))
-
-  pub same-number : (runs : List Run) (records : List (K × Permanent B)) → AllZip (IsRunOf entries) runs records →
-      length runs ≡ length records
-  same-number [] [] zip = refl
-  same-number [] (e ∷ records) zip = absurd zip
-  same-number (run ∷ runs) [] zip = absurd zip
-  same-number (run ∷ runs) (e ∷ records) zip = ap suc (same-number runs records zip.1)
 
   pub texts-of_runs : {C : Type 0} (text : K × Permanent B → List C) (runs : List Run) (records : List (K × Permanent B)) →
       AllZip (IsRunOf entries) runs records → flat_map (λ run. text_if text (record_at entries run)) runs ≡ flat_map text records

@@ -1,17 +1,14 @@
 -- Why two extracts aren't compared.
 use Rattle.std.proofs.Common.{◌≡◌, ◌⊎◌, Bool, false, not, eqb, sym, ap, ◌∙◌}
 use Rattle.std.proofs.lemmas.Bool.{eqb-true}
-use Rattle.cif_extract.specs.ExtractParts.{ExtractParts}
 use Rattle.cif_extract.specs.declared.fault.Clash.{Clash}
-use Rattle.cif_extract.specs.declared.fault.Fault.{Fault}
 use Rattle.cif_extract.specs.declared.fault.Fault.TheVariants as fault
-use Rattle.cif_records.specs.declared.header.Header.{Header}
-use Rattle.cif_weeks.specs.Window.{window_from}
 use Rattle.cif_canon.specs.Accepted.{IsClearExtract}
 use Rattle.cif_canon.specs.Asked.{header_window}
 use Rattle.cif_canon.specs.Comparison.{IsCompareFault}
 use Rattle.cif_canon.specs.Fault.{IsCanonFault, IsFirstClashIn}
 use Rattle.cif_calendar.proofs.KeyPositions.{true_from_not}
+use Rattle.cif_canon.proofs.Words.{ExtractParts, Fault, Header, window_from}
 
 -- headers whose dates aren't found to differ have one window
 pub one-window : (h k : Header) (firsts lasts : Bool) → firsts ≡ not (eqb h.first k.first) → firsts ≡ false →
@@ -24,11 +21,6 @@ one-window h k firsts lasts f first l last =
 pub compare-fault : (x y z : ExtractParts) → header_window x.header ≡ header_window y.header →
     ((clash : Clash) → IsFirstClashIn z clash → IsFirstClashIn x clash ⊎ (IsClearExtract x × IsFirstClashIn y clash)) →
     (why : Fault) → IsCanonFault z why → IsCompareFault x y why
-compare-fault x y z same either (fault.Refused line why) h = absurd h
 compare-fault x y z same either (fault.Ambiguous clash) h = (same, either clash h)
-compare-fault x y z same either fault.WindowsDiffer h = absurd h
-compare-fault x y z same either fault.OutsideWindow h = absurd h
-compare-fault x y z same either fault.WindowReversed h = absurd h
-compare-fault x y z same either fault.Read h = absurd h
-compare-fault x y z same either fault.Write h = absurd h
 compare-fault x y z same either fault.Memory h = same
+compare-fault x y z same either _ h = absurd h

@@ -11,11 +11,11 @@ use Rattle.cif_records.specs.declared.tiploc.Tiploc.{Tiploc}
 use Rattle.cif_records.proofs.Tiplocs.{same_tiploc}
 use Rattle.cif_calendar.proofs.RisingLists.{Contains-none, less_one_way, not_less}
 use Rattle.cif_canon.specs.Comparison.{IsFirstTiploc}
-use Rattle.cif_canon.specs.Differences.{AreDifferentTiplocs, of_side}
+use Rattle.cif_canon.specs.Differences.{AreDifferentTiplocs, IsOnlyIn}
 use Rattle.cif_canon.specs.declared.listed_differences.Side.{Side}
 use Rattle.cif_canon.specs.declared.listed_differences.Side.TheVariants.{Left, Right}
 use Rattle.cif_canon.specs.declared.listed_differences.Sided.{Sided}
-use Rattle.cif_canon.proofs.MergedSides.{from-side, pairs-head, side-member}
+use Rattle.cif_canon.proofs.MergedSides.{pairs-head}
 
 -- one location comes before another
 abbrev pub Before : Tiploc → Tiploc → Type 0
@@ -51,28 +51,29 @@ has-or-not (x ∷ xs) t = ⊎_elim
     (has-or-not xs t))
     (same-or-not x t (slice_cmp nat_cmp x.columns t.columns) refl)
 
+-- a location with a side
+abbrev pub with_side : Side → Tiploc → Sided Tiploc
+with_side side t = record { side = side; it = t }
+
 -- the first of the locations that only one of two lists has
 module _ (xs ys : List Tiploc) (s : Sided Tiploc) (found : List (Sided Tiploc)) (a : AreDifferentTiplocs xs ys (s ∷ found)) where
-  first-in : Contains (of_side s.side (s ∷ found)) s.it
-  first-in = side-member (s ∷ found) s (Contains-first s found)
-
-  in-one : (side : Side) → s.side ≡ side → (Contains xs s.it × ¬ Contains ys s.it) ⊎ (Contains ys s.it × ¬ Contains xs s.it)
-  in-one Left is = inl ((a.left s.it).0 (subst (λ d. Contains (of_side d (s ∷ found)) s.it) is first-in))
-  in-one Right is = inr ((a.right s.it).0 (subst (λ d. Contains (of_side d (s ∷ found)) s.it) is first-in))
+  in-one : (side : Side) (t : Tiploc) → IsOnlyIn xs ys (with_side side t) → (Contains xs t × ¬ Contains ys t) ⊎ (Contains ys t × ¬ Contains xs t)
+  in-one Left t only = inl only
+  in-one Right t only = inr only
 
   -- none of them is before it
-  not-before : (side : Side) (t : Tiploc) → Before t s.it → Contains (of_side side (s ∷ found)) t → ⊥
-  not-before side t less h = ⊎_elim
+  not-before : (side : Side) (t : Tiploc) → Before t s.it → IsOnlyIn xs ys (with_side side t) → ⊥
+  not-before side t less only = ⊎_elim
       (λ is. not-itself t (subst (λ (u : Sided Tiploc). Before t u.it) is less))
-      (λ later. one-way t s.it less (pairs-head (λ (u v : Sided Tiploc). Before u.it v.it) s _ found a.rising later))
-      (Contains-cases s found _ (from-side side (s ∷ found) t h))
+      (λ later. one-way t s.it less (pairs-head (λ (u v : Sided Tiploc). Before u.it v.it) s (with_side side t) found a.rising later))
+      (Contains-cases s found (with_side side t) ((a.only (with_side side t)).1 only))
 
   first-different : IsFirstTiploc xs ys s.it
   first-different = record {
-    in_one = in-one s.side refl;
+    in_one = in-one s.side s.it ((a.only s).0 (Contains-first s found));
     before = λ t less. (
-      λ h. ⊎_elim (λ has. has) (λ none. absurd (not-before Left t less ((a.left t).1 (h, none)))) (has-or-not ys t),
-      λ h. ⊎_elim (λ has. has) (λ none. absurd (not-before Right t less ((a.right t).1 (h, none)))) (has-or-not xs t),
+      λ h. ⊎_elim (λ has. has) (λ none. absurd (not-before Left t less (h, none))) (has-or-not ys t),
+      λ h. ⊎_elim (λ has. has) (λ none. absurd (not-before Right t less (h, none))) (has-or-not xs t),
     );
   }
 
@@ -86,7 +87,7 @@ first-tiploc xs ys (t ∷ found) a s first =
 pub no-tiploc : (xs ys : List Tiploc) (found : List (Sided Tiploc)) → AreDifferentTiplocs xs ys found → slice_get found 0 ≡ None →
     (t : Tiploc) → Contains xs t ↔ Contains ys t
 no-tiploc xs ys [] a none t = (
-  λ h. ⊎_elim (λ has. has) (λ no. absurd (Contains-none t ((a.left t).1 (h, no)))) (has-or-not ys t),
-  λ h. ⊎_elim (λ has. has) (λ no. absurd (Contains-none t ((a.right t).1 (h, no)))) (has-or-not xs t),
+  λ h. ⊎_elim (λ has. has) (λ no. absurd (Contains-none (with_side Left t) ((a.only (with_side Left t)).1 (h, no)))) (has-or-not ys t),
+  λ h. ⊎_elim (λ has. has) (λ no. absurd (Contains-none (with_side Right t) ((a.only (with_side Right t)).1 (h, no)))) (has-or-not xs t),
 )
 no-tiploc xs ys (s ∷ found) a none t = absurd (cc)

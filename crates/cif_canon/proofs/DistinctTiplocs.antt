@@ -4,11 +4,11 @@ use Rattle.std.specs.Prelude.{All, AllPairs}
 use Rattle.std.specs.List.{AllByRecursion, dedup}
 use Rattle.std.specs.List.Retain.{IsFiltered, DiffersFromLast}
 use Rattle.std.specs.List.Sorted.{IsSorted, IsStrictlySortedBy}
-use Rattle.std.specs.Cmp.{IsTotalOrder}
 use Rattle.std.specs.Cmp.Lexicographic.{pointwise, slice_cmp, on_texts_equal, texts_ties, nat_list_cmp_total, bytes_decides}
 use Rattle.std.specs.Ordering.{nat_cmp}
 use Rattle.std.specs.declared.cmp.Ordering.{Ordering}
 use Rattle.std.specs.declared.cmp.Ordering.TheVariants.{Less}
+use Rattle.std.proofs.lemmas.Cmp.{on_total}
 use Rattle.std.proofs.lemmas.List.Elements.{All-nil, All-cons}
 use Rattle.std.proofs.lemmas.List.Filters.{dedup_is}
 use Rattle.std.proofs.lemmas.List.Kept.{AllPairs-cons, Contains-dedup, Contains-from_dedup, IsStrictlySortedBy-dedup}
@@ -32,13 +32,6 @@ pairs-from cmp (x ∷ xs) h =
 abbrev by_columns : Tiploc → Tiploc → Ordering
 by_columns s t = slice_cmp nat_cmp s.columns t.columns
 
-total : IsTotalOrder by_columns
-total = record {
-  antisymm = λ s t. nat_list_cmp_total.antisymm s.columns t.columns;
-  trans = λ s t u. nat_list_cmp_total.trans s.columns t.columns u.columns;
-  congr = λ s t u. nat_list_cmp_total.congr s.columns t.columns u.columns;
-}
-
 pub distinct : (tiplocs sorted kept : List Tiploc) → IsPermutation tiplocs sorted → IsSorted by_columns sorted →
     IsFiltered (DiffersFromLast (λ (s t : Tiploc). pointwise nat_eq s.columns t.columns)) [] sorted kept → AreDistinct tiplocs kept
 distinct tiplocs sorted kept same rises filtered =
@@ -46,7 +39,7 @@ distinct tiplocs sorted kept same rises filtered =
     let is : kept ≡ dedup E sorted = dedup_is E sorted kept filtered in
     let ties = λ (s t : Tiploc). texts_ties s.columns t.columns in
     subst (AreDistinct tiplocs) (sym is) (record {
-      rising = pairs-from by_columns (dedup E sorted) (IsStrictlySortedBy-dedup total ties sorted rises);
+      rising = pairs-from by_columns (dedup E sorted) (IsStrictlySortedBy-dedup (on_total (λ (t : Tiploc). t.columns) nat_list_cmp_total) ties sorted rises);
       members = λ t. (
         λ h. Contains-dedup (on_texts_equal (λ (s : Tiploc). s.columns))
             (λ s u e. same_tiploc s u ((bytes_decides s.columns u.columns).0 e)) sorted t

@@ -1,23 +1,21 @@
 -- What only one of a key's two calendars says is what only one list says of the key.
 use Rattle.std.proofs.Common.{◌≡◌, ◌≢◌, ◌⊎◌, inl, inr, ℕ, Bool, true, false, List, Option, None, Some, map, refl, sym, ap, ◌∙◌, subst}
-use Rattle.std.specs.Prelude.{All, Contains, IsNone, IsTrue, ◌↔◌}
+use Rattle.std.specs.Prelude.{IsNone, IsTrue, ◌↔◌}
 use Rattle.std.proofs.lemmas.Bool.{false≢true}
-use Rattle.std.proofs.lemmas.List.Elements.{Contains-get_or}
 use Rattle.std.proofs.lemmas.Option.{same_Some}
 use Rattle.cif_columns.specs.declared.stp.Stp.TheVariants.{C}
 use Rattle.cif_calendar.specs.Calendar.{CalendarParts, IsCalendar, body_on}
-use Rattle.cif_calendar.specs.Keys.{ArePositionsOf, keyed}
-use Rattle.cif_calendar.specs.Terms.{Terms}
-use Rattle.cif_calendar.proofs.KeyCalendar.{key-runs}
-use Rattle.cif_weeks.specs.HaveForm.{HaveForm}
-use Rattle.cif_weeks.specs.Runs.{window_of}
-use Rattle.cif_weeks.specs.Window.{IsWithin}
-use Rattle.cif_weeks.specs.declared.form.Form.TheVariants.{Two}
-use Rattle.cif_weeks.specs.declared.run.Run.{Run}
+use Rattle.cif_calendar.specs.Clash.{IsClearFrom}
+use Rattle.cif_calendar.proofs.KeyCalendar.{key-clear, key-runs}
+use Rattle.cif_weeks.specs.Runs.{IsRunOf as IsCalendarRun, window_of}
+use Rattle.cif_canon.specs.Differences.{OnlySays, at_side}
 use Rattle.cif_canon.specs.Steps.OnlySides.{AreOnlyRuns}
-use Rattle.cif_weeks.specs.Window.{window_from}
+use Rattle.cif_canon.specs.Steps.Records.{IsRunOf}
+use Rattle.cif_canon.specs.declared.listed_differences.Side.{Side}
+use Rattle.cif_canon.specs.declared.listed_differences.Side.TheVariants.{Left, Right}
+use Rattle.cif_canon.proofs.Words.{ArePositionsOf, IsWithin, Run, Terms, Two, keyed, of_key, window_from}
 use Rattle.cif_canon.proofs.FoundRecords.{AreOnlyOfKey, AreRuns}
-use Rattle.cif_canon.proofs.KeyRecords.{key-runs_of, window-is}
+use Rattle.cif_canon.proofs.KeyRecords.{key-run, runs-as, window-is}
 
 -- two bodies, or none, are the same or they aren't
 module _ {B : Type 0} (eq : B → B → Bool) (law : (a b : B) → IsTrue (eq a b) ↔ (a ≡ b)) where
@@ -35,25 +33,24 @@ module _ {E K B : Type 0} (key : E → K) (terms : E → Terms B) (cancelled : (
     (es fs : List E) (k : K) (l r : List ℕ) (p : ArePositionsOf (keyed key terms es) k l) (q : ArePositionsOf (keyed key terms fs) k r)
     (first last : ℕ) (one other : CalendarParts) (cal : IsCalendar (map terms es) l first last one)
     (dar : IsCalendar (map terms fs) r first last other) where
+  pub key-clears : (side : Side) → IsClearFrom (of_key (at_side (keyed key terms es) (keyed key terms fs) side) k) first last
+  key-clears Left = key-clear key terms es k l p first last one cal
+  key-clears Right = key-clear key terms fs k r q first last other dar
+
   pub key-only : (runs : List Run) → AreOnlyRuns (map terms es) one (map terms fs) other runs →
       AreOnlyOfKey (window_from first last) (keyed key terms es) (keyed key terms fs) k runs
   key-only runs a =
-      let is = window-is key terms es k l p first last one cal in
-      let within : All (λ s. IsWithin (window_of one) s.first) a.records =
-      λ i d below. a.within _ (Contains-get_or a.records i d below) in
-      record {
-        records = a.records;
-        runs_of = key-runs_of key terms es k l p first last one cal runs a.records within a.runs_of;
-        rising = a.rising;
-        have_form = subst (λ w. HaveForm Two w (Contains a.records)) is a.have_form;
-        say = λ n b here.
-            let say = a.say n b (subst (λ w. IsWithin w n) (sym is) here) in
-            let own = key-runs key terms es k l p first last one cal cancelled n (Some b) here.from here.upto in
-            let theirs = key-runs key terms fs k r q first last other dar cancelled n (Some b) here.from here.upto in (
-              λ h. let both = say.0 h in record { runs = own.0 both.0; differs = λ o. both.1 (theirs.1 o) },
-              λ h. say.1 (own.1 h.runs, λ e. h.differs (theirs.0 e)),
-            );
-      }
+      runs-as Two (window_of one) (window_from first last) (window-is key terms es k l p first last one cal)
+      (IsCalendarRun (map terms es) one) (λ run r. IsRunOf (keyed key terms es) run (k, r)) (key-run key terms es k l p first last one cal)
+      (λ n b. (body_on (map terms es) one n ≡ Some b) × (body_on (map terms fs) other n ≢ Some b))
+      (OnlySays (keyed key terms es) (keyed key terms fs) k)
+      (λ n b within.
+      let here = subst (λ w. IsWithin w n) (window-is key terms es k l p first last one cal) within in
+      let own = key-runs key terms es k l p first last one cal cancelled n (Some b) here.from here.upto in
+      let theirs = key-runs key terms fs k r q first last other dar cancelled n (Some b) here.from here.upto in (
+        λ h. record { runs = own.0 h.0; differs = λ o. h.1 (theirs.1 o) },
+        λ h. (own.1 h.runs, λ e. h.differs (theirs.0 e)),
+      )) runs a
 
   pub key-told : (eq : B → B → Bool) → ((a b : B) → IsTrue (eq a b) ↔ (a ≡ b)) → (d : ℕ) → IsWithin (window_from first last) d →
       AreRuns (keyed key terms es) (keyed key terms fs) k d

@@ -1,32 +1,91 @@
 -- The runs of a key's calendar are those of the key's canonical records.
-use Rattle.std.proofs.Common.{◌≡◌, ℕ, ◌<◌, List, [], ◌∷◌, Some, map, length, get_or, sym, ◌∙◌, ap, subst}
-use Rattle.std.specs.Prelude.{All, Contains, IsNone, ◌↔◌}
+use Rattle.std.proofs.Common.{◌≡◌, inl, inr, ℕ, ◌<◌, List, [], ◌∷◌, ◌++◌, Some, map, length, get_or, refl, sym, ◌∙◌, ap, subst, ⊎_elim}
+use Rattle.std.specs.Prelude.{Contains, IsNone, ◌↔◌}
 use Rattle.std.specs.List.{AllZip}
 use Rattle.std.specs.Option.{option_and_then}
-use Rattle.std.proofs.lemmas.List.Elements.{All-head, All-tail}
 use Rattle.cif_columns.specs.declared.stp.Stp.TheVariants.{C}
 use Rattle.cif_calendar.specs.Terms.{SameRecords, Terms}
 use Rattle.cif_calendar.specs.Calendar.{CalendarParts, IsCalendar, IsFault, body_on}
 use Rattle.cif_calendar.specs.declared.key_calendar.CalendarFault.{CalendarFault}
 use Rattle.cif_calendar.specs.declared.key_calendar.CalendarFault.TheVariants.{Ambiguous, Memory}
-use Rattle.cif_calendar.specs.Keys.{keyed, of_key, ArePositionsOf}
+use Rattle.cif_calendar.specs.Runs.{BodyRuns}
 use Rattle.cif_calendar.specs.Source.{IsChosen}
+use Rattle.cif_calendar.proofs.Elements.{Contains-first, Contains-rest}
 use Rattle.cif_calendar.proofs.KeyCalendar.{key-clear, key-runs, key-source, key-fault}
 use Rattle.cif_calendar.proofs.Positions.{positions-records, terms_at-keyed}
 use Rattle.cif_calendar.proofs.Sets.{IsClearFrom-same, Runs-same}
 use Rattle.cif_extract.specs.declared.fault.Clash.{Clash}
 use Rattle.cif_weeks.specs.Canonical.{with_key}
-use Rattle.cif_weeks.specs.HaveForm.{HaveForm}
 use Rattle.cif_weeks.specs.MemberRuns.{AreRunsOfMembers, IsMembersRun}
-use Rattle.cif_weeks.specs.Permanent.{Permanent}
+use Rattle.cif_weeks.specs.Permanent.{Permanent, Permanents}
 use Rattle.cif_weeks.specs.Runs.{IsRunOf as IsCalendarRun, AreCanonicalRuns, window_of}
-use Rattle.cif_weeks.specs.Window.{Window, IsWithin, window_from}
-use Rattle.cif_weeks.specs.declared.form.Form.{Form}
-use Rattle.cif_weeks.specs.declared.run.Run.{Run}
-use Rattle.cif_weeks.proofs.CalendarSources.{firsts-within}
-use Rattle.cif_canon.specs.Steps.Records.{IsRunOf, AreRunsOfKey, IsKeyFault, extract_fault}
+use Rattle.cif_weeks.specs.WhatRuns.{HasBody}
+use Rattle.cif_weeks.proofs.AlignedDays.{tight}
+use Rattle.cif_weeks.proofs.JoinedLists.{zip-back, zip-map}
+use Rattle.cif_weeks.proofs.KeyByKey.{HasBody-more, of_key-more}
+use Rattle.cif_canon.specs.Steps.Records.{IsRunOf, AreRunsOf, AreRunsOfKey, IsKeyFault, extract_fault}
 use Rattle.cif_calendar.proofs.KeyPositions.{has-key}
 use Rattle.cif_calendar.proofs.KeyTurns.{one-key}
+use Rattle.cif_canon.proofs.Words.{ArePositionsOf, Form, IsWithin, Run, Window, keyed, of_key, window_from}
+
+-- sets with the same records say the same
+same-bodies : {B : Type 0} (us vs : Permanents B) → ((r : Permanent B) → us r ↔ vs r) → (d : ℕ) (b : B) → HasBody us d b ↔ HasBody vs d b
+same-bodies us vs same d b =
+    (λ h. HasBody-more us vs (λ r. (same r).0) d b h, λ h. HasBody-more vs us (λ r. (same r).1) d b h)
+
+module _ {K B : Type 0} (records : List (K × Permanent B)) (k : K) (own : List (Permanent B)) where
+  -- the key's own records say what is said of it, if it had none
+  pub bodies-own : ((r : Permanent B) → of_key records k r → ⊥) → (d : ℕ) (b : B) →
+      HasBody (of_key (records ++ with_key k own) k) d b ↔ HasBody (Contains own) d b
+  bodies-own none d b =
+      same-bodies (of_key (records ++ with_key k own) k) (Contains own)
+      (λ r. let more = of_key-more records k own k r in (
+        λ h. ⊎_elim (λ old. absurd (none r old)) (λ new. new.1) (more.0 h),
+        λ new. more.1 (inr (refl, new)),
+      )) d b
+
+  -- and of another key is said what was
+  pub bodies-other : (j : K) → (j ≡ k → ⊥) → (d : ℕ) (b : B) →
+      HasBody (of_key (records ++ with_key k own) j) d b ↔ HasBody (of_key records j) d b
+  bodies-other j apart d b =
+      same-bodies (of_key (records ++ with_key k own) j) (of_key records j)
+      (λ r. let more = of_key-more records k own j r in (
+        λ h. ⊎_elim (λ old. old) (λ new. absurd (apart new.0)) (more.0 h),
+        λ old. more.1 (inl old),
+      )) d b
+
+-- runs of records are those of the same records where more is said of the same
+pub runs-as : {B : Type 0} (form : Form) (window after : Window) → window ≡ after → (IsOf IsAs : Run → Permanent B → Type 0) →
+    ((run : Run) (r : Permanent B) → IsWithin window r.first → IsOf run r → IsAs run r) → (IsSaid IsTold : ℕ → B → Type 0) →
+    ((n : ℕ) (b : B) → IsWithin window n → IsSaid n b ↔ IsTold n b) → (runs : List Run) →
+    AreRunsOf form window IsOf IsSaid runs → AreRunsOf form after IsAs IsTold runs
+runs-as {B} form window after is IsOf IsAs ties IsSaid IsTold same runs a = subst (λ w. AreRunsOf form w IsAs IsTold runs) is (record {
+  records = a.records;
+  runs_of = each runs a.records (λ r in'. (tight r window form (a.have_form.aligned r in')).first_within) a.runs_of;
+  rising = a.rising;
+  have_form = a.have_form;
+  say = λ n b within.
+      let say = a.say n b within in
+      let words = same n b within in
+      (λ told. say.0 (words.1 told), λ has. words.0 (say.1 has));
+}) where
+  each : (runs : List Run) (records : List (Permanent B)) → ((r : Permanent B) → Contains records r → IsWithin window r.first) →
+      AllZip IsOf runs records → AllZip IsAs runs records
+  each [] [] within z = tt
+  each [] (r ∷ records) within z = absurd z
+  each (run ∷ runs) [] within z = absurd z
+  each (run ∷ runs) (r ∷ records) within z = (
+    ties run r (within r (Contains-first r records)) z.0,
+    each runs records (λ s in'. within s (Contains-rest r records s in')) z.1,
+  )
+
+-- each record with the key
+pub zip-keyed : {K B : Type 0} (es : List (K × Terms B)) (k : K) (runs : List Run) (records : List (Permanent B)) →
+    AllZip (λ run r. IsRunOf es run (k, r)) runs records → AllZip (IsRunOf es) runs (with_key k records)
+zip-keyed {K} {B} es k runs records z =
+    zip-back (λ (e : K × Permanent B) run. IsRunOf es run e) (with_key k records) runs
+    (zip-map (λ (r : Permanent B). (k, r)) (λ e run. IsRunOf es run e) records runs
+    (zip-back (λ run r. IsRunOf es run (k, r)) runs records z))
 
 module _ {E K B : Type 0} (key : E → K) (terms : E → Terms B) (es : List E) (k : K) (members : List ℕ)
     (p : ArePositionsOf (keyed key terms es) k members) where
@@ -44,16 +103,14 @@ module _ {E K B : Type 0} (key : E → K) (terms : E → Terms B) (es : List E) 
   key_fault name i member e below at first last (Ambiguous day) h =
       (day, ap (λ j. name j day) (key-is i member e below at), key-fault key terms es k members p first last (Ambiguous day) h)
 
-  members-runs : (runs : List Run) (records : List (Permanent B)) → AllZip (IsMembersRun (map terms es) members) runs records →
-      AllZip (IsRunOf (keyed key terms es)) runs (with_key k records)
-  members-runs [] [] z = tt
-  members-runs [] (r ∷ records) z = absurd z
-  members-runs (run ∷ runs) [] z = absurd z
-  members-runs (run ∷ runs) (r ∷ records) z =
-      let (t, at) = p.found run.source z.0.member in
-      let body : t.body ≡ Some r.body =
-      sym (ap (λ o. option_and_then (λ (u : Terms B). u.body) o) (terms_at-keyed key terms es run.source k t at)) ∙ z.0.body in
-      (record { dates = z.0.dates; terms = t; at = at; body = body }, members-runs runs records z.1)
+  member-run : (run : Run) (r : Permanent B) → IsMembersRun (map terms es) members run r → IsRunOf (keyed key terms es) run (k, r)
+  member-run run r is =
+      let (t, at) = p.found run.source is.member in record {
+        dates = is.dates;
+        terms = t;
+        at = at;
+        body = sym (ap (λ o. option_and_then (λ (u : Terms B). u.body) o) (terms_at-keyed key terms es run.source k t at)) ∙ is.body;
+      }
 
   -- the runs of the key's members are those of the key
   pub members-records : (form : Form) (window : Window) (runs : List Run) → AreRunsOfMembers form (map terms es) members window runs →
@@ -63,16 +120,12 @@ module _ {E K B : Type 0} (key : E → K) (terms : E → Terms B) (es : List E) 
       let back : SameRecords (of_key (keyed key terms es) k) (IsChosen (map terms es) members) =
       record { same = λ r. ((chosen.same r).1, (chosen.same r).0) } in
       record {
-        records = a.records;
-        runs_of = members-runs runs a.records a.runs_of;
-        rising = a.rising;
-        have_form = a.have_form;
-        said = record {
-          clear = IsClearFrom-same _ _ chosen window.first window.last a.clear;
-          say = λ n b within.
-              let says = a.say n b within in
-              (λ runs. says.0 (Runs-same _ _ back n (Some b) runs), λ has. Runs-same _ _ chosen n (Some b) (says.1 has));
-        };
+        clear = IsClearFrom-same _ _ chosen window.first window.last a.clear;
+        own = runs-as form window window refl (IsMembersRun (map terms es) members) (λ run r. IsRunOf (keyed key terms es) run (k, r))
+            (λ run r within. member-run run r) (λ n b. BodyRuns (IsChosen (map terms es) members) n b)
+            (λ n b. BodyRuns (of_key (keyed key terms es) k) n b)
+            (λ n b within. (Runs-same _ _ chosen n (Some b), Runs-same _ _ back n (Some b))) runs
+            (record { records = a.records; runs_of = a.runs_of; rising = a.rising; have_form = a.have_form; say = a.say });
       }
 
   module _ (first last : ℕ) (c : CalendarParts) (cal : IsCalendar (map terms es) members first last c) where
@@ -80,7 +133,7 @@ module _ {E K B : Type 0} (key : E → K) (terms : E → Terms B) (es : List E) 
     window-is = ap (λ n. window_from n c.last) cal.first_is ∙ ap (λ n. window_from first n) cal.last_is
 
     -- a run's source is the position of an entry of the key
-    key-run : (run : Run) (r : Permanent B) → IsWithin (window_of c) r.first → IsCalendarRun (map terms es) c run r →
+    pub key-run : (run : Run) (r : Permanent B) → IsWithin (window_of c) r.first → IsCalendarRun (map terms es) c run r →
         IsRunOf (keyed key terms es) run (k, r)
     key-run run r within is =
         let here : IsWithin (window_from first last) run.first =
@@ -95,28 +148,21 @@ module _ {E K B : Type 0} (key : E → K) (terms : E → Terms B) (es : List E) 
           body = sym (ap (λ o. option_and_then (λ (u : Terms B). u.body) o) (terms_at-keyed key terms es run.source k t at)) ∙ is.body;
         }
 
-    pub key-runs_of : (runs : List Run) (records : List (Permanent B)) → All (λ r. IsWithin (window_of c) r.first) records →
-        AllZip (IsCalendarRun (map terms es) c) runs records → AllZip (IsRunOf (keyed key terms es)) runs (with_key k records)
-    key-runs_of [] [] within z = tt
-    key-runs_of [] (r ∷ records) within z = absurd z
-    key-runs_of (run ∷ runs) [] within z = absurd z
-    key-runs_of (run ∷ runs) (r ∷ records) within z = (
-      key-run run r (All-head (λ s. IsWithin (window_of c) s.first) r records within) z.0,
-      key-runs_of runs records (All-tail (λ s. IsWithin (window_of c) s.first) r records within) z.1,
-    )
-
     pub key-records : ((e : E) → IsNone (terms e).body ↔ ((terms e).letter ≡ C)) → (form : Form) (runs : List Run) →
         AreCanonicalRuns form (map terms es) c runs → AreRunsOfKey form (window_from first last) (keyed key terms es) k runs
     key-records cancelled form runs a = record {
-      records = a.records;
-      runs_of = key-runs_of runs a.records (firsts-within form (window_of c) (body_on (map terms es) c) a.records a.meets) a.runs_of;
-      rising = a.meets.rising;
-      have_form = subst (λ w. HaveForm form w (Contains a.records)) window-is a.meets.have_form;
-      said = record {
-        clear = key-clear key terms es k members p first last c cal;
-        say = λ n b within.
-            let runs = key-runs key terms es k members p first last c cal cancelled n (Some b) within.from within.upto in
-            let says = a.meets.say.says n b (subst (λ w. IsWithin w n) (sym window-is) within) in
-            (λ h. says.0 (runs.1 h), λ h. runs.0 (says.1 h));
-      };
+      clear = key-clear key terms es k members p first last c cal;
+      own = runs-as form (window_of c) (window_from first last) window-is (IsCalendarRun (map terms es) c)
+          (λ run r. IsRunOf (keyed key terms es) run (k, r)) key-run (λ n b. body_on (map terms es) c n ≡ Some b)
+          (λ n b. BodyRuns (of_key (keyed key terms es) k) n b)
+          (λ n b within.
+          let here = subst (λ w. IsWithin w n) window-is within in
+          key-runs key terms es k members p first last c cal cancelled n (Some b) here.from here.upto) runs
+          (record {
+            records = a.records;
+            runs_of = a.runs_of;
+            rising = a.meets.rising;
+            have_form = a.meets.have_form;
+            say = a.meets.say.says;
+          });
     }

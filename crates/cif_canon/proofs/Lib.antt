@@ -4,7 +4,6 @@ pub mod CanonForm
 pub mod CanonLines
 pub mod CanonTexts
 pub mod ChosenRecords
-pub mod ComparedCalendars
 pub mod CompareFaults
 pub mod ComparedKeys
 pub mod DifferentDays
@@ -36,3 +35,4 @@ pub mod ViewLines
 pub mod ViewTexts
 pub mod WrittenCanon
 pub mod WrittenDifferences
+pub mod Words

@@ -1,101 +1,140 @@
 -- The differences of two extracts, from those of their locations, their associations and their schedules.
-use Rattle.std.proofs.Common.{◌≡◌, ◌⊎◌, inl, inr, ◌≤◌, List, [], refl, sym, ap, ◌∙◌, subst, ⊎_elim}
+use Rattle.std.proofs.Common.{◌≡◌, ◌⊎◌, inl, inr, ◌≤◌, ◌<◌, List, [], ◌∷◌, Option, None, Some, length, refl, sym, ap, ◌∙◌, subst, ⊎_elim}
 use Rattle.std.specs.Prelude.{All, Contains, ◌↔◌, slice_get}
+use Rattle.std.specs.List.{AllZip}
 use Rattle.std.specs.Cmp.Lexicographic.{slice_cmp}
 use Rattle.std.specs.Ordering.{nat_cmp}
 use Rattle.std.specs.declared.cmp.Ordering.{Ordering}
 use Rattle.std.proofs.lemmas.List.Elements.{Contains-get_or}
-use Rattle.cif_calendar.specs.Entries.{association_entries, schedule_entries}
-use Rattle.cif_calendar.specs.Meaning.{EntriesSayTheSame}
-use Rattle.cif_calendar.specs.Terms.{Terms}
-use Rattle.cif_extract.specs.ExtractParts.{ExtractParts}
-use Rattle.cif_records.specs.AssocKey.{key_cmp}
-use Rattle.cif_records.specs.declared.tiploc.Tiploc.{Tiploc}
-use Rattle.cif_weeks.specs.Canonical.{AreCanonical}
-use Rattle.cif_weeks.specs.Permanent.{Permanent}
-use Rattle.cif_weeks.specs.Window.{Window}
-use Rattle.cif_weeks.specs.declared.form.Form.TheVariants.{Two}
-use Rattle.cif_weeks.specs.declared.run.Run.{Run}
+use Rattle.std.proofs.lemmas.Option.{same_Some, slice_get_within}
+use Rattle.cif_calendar.specs.ByKey.{HasKey}
+use Rattle.cif_calendar.proofs.KeyPositions.{within-entries}
+use Rattle.cif_calendar.proofs.KeyTurns.{one-key}
 use Rattle.cif_weeks.proofs.AlignedDays.{tight}
 use Rattle.cif_canon.specs.Accepted.{IsClearExtract}
 use Rattle.cif_canon.specs.Asked.{header_window}
+use Rattle.cif_canon.specs.Comparison.{IsFirstDifference}
 use Rattle.cif_canon.specs.Differences.{AreDifferences, AreDifferentRecords, AreDifferentTiplocs, AreNone, DifferencesParts}
-use Rattle.cif_canon.specs.Differences.{TurnInto, TurnLeftIntoRight, of_side}
+use Rattle.cif_canon.specs.Differences.{IsOnlyIn, TurnInto, TurnLeftIntoRight, at_side, of_side}
 use Rattle.cif_canon.specs.Meaning.{Agree}
-use Rattle.cif_canon.specs.Steps.OnlySides.{AreDifferentRuns}
+use Rattle.cif_canon.specs.Steps.OnlySides.{AreDifferentRuns, AreSame, IsFirstFound, IsSidedRunOf}
 use Rattle.cif_canon.specs.Steps.Sides.{HasSidedRecord, sided_records}
+use Rattle.cif_canon.specs.declared.differing.Extent.TheVariants.{AllKeys}
 use Rattle.cif_canon.specs.declared.listed_differences.Side.{Side}
 use Rattle.cif_canon.specs.declared.listed_differences.Side.TheVariants.{Left, Right}
 use Rattle.cif_canon.specs.declared.listed_differences.Sided.{Sided}
-use Rattle.cif_canon.proofs.DifferentTiplocs.{has-or-not, no-tiploc}
+use Rattle.cif_canon.proofs.Words.{AreClear, EntriesSayTheSame, ExtractParts, Permanent, Run, Terms, Tiploc, Two, Window}
+use Rattle.cif_canon.proofs.Words.{association_entries, key_cmp, keyed, schedule_entries}
+use Rattle.cif_canon.proofs.DifferentTiplocs.{has-or-not, no-tiploc, with_side}
 use Rattle.cif_canon.proofs.FoundRecords.{no-member}
-use Rattle.cif_canon.proofs.MergedSides.{side-member}
+use Rattle.cif_canon.proofs.MergedSides.{from-side, side-member}
 use Rattle.cif_canon.proofs.SidedTexts.{have-sided_records, records-of_runs}
 
 -- ---- one kind of record
 
 module _ {K B : Type 0} (cmp : K → K → Ordering) (window : Window) (xs ys : List (K × Terms B)) (runs : List (Sided Run))
-    (a : AreDifferentRuns cmp window xs ys runs) where
+    (a : AreDifferentRuns cmp window xs ys AllKeys runs) where
   are : sided_records xs ys runs ≡ a.found
   are = records-of_runs xs ys runs a.found a.runs_of
 
   pub kind-different : AreDifferentRecords cmp window xs ys (sided_records xs ys runs)
-  kind-different = subst (AreDifferentRecords cmp window xs ys) (sym are) a.different
+  kind-different = subst (AreDifferentRecords cmp window xs ys) (sym are) (a.different refl)
 
   pub kind-turn : TurnInto window xs ys (sided_records xs ys runs)
-  kind-turn = subst (TurnInto window xs ys) (sym are) a.turn
+  kind-turn = subst (TurnInto window xs ys) (sym are) (a.turn refl)
 
   pub kind-none : (sided_records xs ys runs ≡ []) ↔ EntriesSayTheSame xs ys window.first window.last
-  kind-none = (λ h. a.none.0 (sym are ∙ h), λ h. are ∙ a.none.1 h)
-
-  canonical-of : (side : Side) → AreCanonical cmp Two window (of_side side a.found)
-  canonical-of Left = a.different.left.canonical
-  canonical-of Right = a.different.right.canonical
+  kind-none = (λ h. (subst (IsFirstFound cmp window xs ys) (sym are ∙ h) a.first).same, λ h. are ∙ a.none h)
 
   dated : (s : Sided (K × Permanent B)) → Contains a.found s → s.it.1.first ≤ s.it.1.last
   dated s in' =
       (tight s.it.1 window Two
-      (((canonical-of s.side).have_form s.it.0).aligned s.it.1 (side-member a.found s in'))).on_first.unfinished
+      ((((a.different refl).only s.side).canonical.have_form s.it.0).aligned s.it.1 (side-member a.found s in'))).on_first.unfinished
 
   pub kind-records : All (HasSidedRecord xs ys) runs
   kind-records = have-sided_records xs ys runs a.found a.runs_of (λ i d below. dated _ (Contains-get_or a.found i d below))
 
+-- the first run is at the first difference, and there is none where the lists are the same
+module _ {K B : Type 0} (cmp : K → K → Ordering) (window : Window) (xs ys : List (K × Terms B)) where
+  abbrev IsFirstRun : Option (Sided Run) → Type 0
+  IsFirstRun None = AreSame window xs ys
+  IsFirstRun (Some s) = (k : K) → HasKey (at_side xs ys s.side) s.it.source k →
+      IsFirstDifference cmp xs ys window.first window.last k s.it.first
+
+  pub first-run : (runs : List (Sided Run)) (found : List (Sided (K × Permanent B))) → AllZip (IsSidedRunOf xs ys) runs found →
+      IsFirstFound cmp window xs ys found → (o : Option (Sided Run)) → slice_get runs 0 ≡ o → IsFirstRun o
+  first-run [] [] z first None is = first
+  first-run [] [] z first (Some s) is = absurd (cc)
+  first-run [] (e ∷ found) z first o is = absurd z
+  first-run (s ∷ runs) [] z first o is = absurd z
+  first-run (s ∷ runs) (e ∷ found) z first o is = subst IsFirstRun is (λ k has.
+      let at : HasKey (at_side xs ys e.side) s.it.source k = subst (λ side. HasKey (at_side xs ys side) s.it.source k) z.0.side has in
+      let key : k ≡ e.it.0 = one-key (at_side xs ys e.side) s.it.source k e.it.0 at
+      (record { terms = z.0.run_of.terms; at = z.0.run_of.at }) in
+      let day : s.it.first ≡ e.it.1.first = sym (ap (λ (p : Permanent B). p.first) z.0.run_of.dates) in
+      rw (key, day) first)
+
+-- and its source is the position of an entry of its side
+pub first-within : {E K B : Type 0} (key : E → K) (terms : E → Terms B) (es fs : List E) (runs : List (Sided Run))
+    (found : List (Sided (K × Permanent B))) → AllZip (IsSidedRunOf (keyed key terms es) (keyed key terms fs)) runs found →
+    (s : Sided Run) → slice_get runs 0 ≡ Some s → s.it.source < length (at_side es fs s.side)
+first-within key terms es fs [] [] z s is = absurd (cc)
+first-within key terms es fs [] (e ∷ found) z s is = absurd z
+first-within key terms es fs (t ∷ runs) [] z s is = absurd z
+first-within {K = K} {B = B} key terms es fs (t ∷ runs) (e ∷ found) z s is =
+    subst (λ (s : Sided Run). s.it.source < length (at_side es fs s.side)) (same_Some t s is) (by e.side z.0.side z.0.run_of.at)
+  where
+    by : (side : Side) → t.side ≡ side → slice_get (at_side (keyed key terms es) (keyed key terms fs) side) t.it.source
+        ≡ Some (e.it.0, z.0.run_of.terms) → t.it.source < length (at_side es fs t.side)
+    by Left is at = rw is (within-entries key terms es t.it.source (slice_get_within (keyed key terms es) t.it.source _ at))
+    by Right is at = rw is (within-entries key terms fs t.it.source (slice_get_within (keyed key terms fs) t.it.source _ at))
+
 -- ---- locations
 
 module _ (xs ys : List Tiploc) (found : List (Sided Tiploc)) (a : AreDifferentTiplocs xs ys found) where
+  of-only : (side : Side) (t : Tiploc) → Contains (of_side side found) t ↔ IsOnlyIn xs ys (with_side side t)
+  of-only side t = (
+    λ h. (a.only (with_side side t)).0 (from-side side found t h),
+    λ h. side-member found (with_side side t) ((a.only (with_side side t)).1 h),
+  )
+
   pub tiplocs-turn : (t : Tiploc) → Contains ys t
       ↔ (Contains (of_side Right found) t ⊎ (Contains xs t × ¬ Contains (of_side Left found) t))
-  tiplocs-turn t = (
+  tiplocs-turn t = let left = of-only Left t in let right = of-only Right t in (
+    λ h. ⊎_elim (λ has. inr (has, λ only. (left.0 only).1 h)) (λ none. inl (right.1 (h, none))) (has-or-not xs t),
     λ h. ⊎_elim
-        (λ has. inr (has, λ only. ((a.left t).0 only).1 h))
-        (λ none. inl ((a.right t).1 (h, none)))
-        (has-or-not xs t),
-    λ h. ⊎_elim
-        (λ new. ((a.right t).0 new).0)
-        (λ kept. ⊎_elim (λ has. has) (λ none. absurd (kept.1 ((a.left t).1 (kept.0, none)))) (has-or-not ys t))
+        (λ new. (right.0 new).0)
+        (λ kept. ⊎_elim (λ has. has) (λ none. absurd (kept.1 (left.1 (kept.0, none)))) (has-or-not ys t))
         h,
   )
 
-  one-side : ((t : Tiploc) → Contains xs t ↔ Contains ys t) → (s : Sided Tiploc) (side : Side) → s.side ≡ side →
-      Contains (of_side side found) s.it → ⊥
-  one-side same s Left is h = let only = (a.left s.it).0 h in only.1 ((same s.it).0 only.0)
-  one-side same s Right is h = let only = (a.right s.it).0 h in only.1 ((same s.it).1 only.0)
+  one-side : ((t : Tiploc) → Contains xs t ↔ Contains ys t) → (side : Side) (t : Tiploc) → IsOnlyIn xs ys (with_side side t) → ⊥
+  one-side same Left t only = only.1 ((same t).0 only.0)
+  one-side same Right t only = only.1 ((same t).1 only.0)
 
   pub tiplocs-none : (found ≡ []) ↔ ((t : Tiploc) → Contains xs t ↔ Contains ys t)
   tiplocs-none = (
     λ is. no-tiploc xs ys found a (ap (λ z. slice_get z 0) is),
-    λ same. no-member found (λ s in'. one-side same s s.side refl (side-member found s in')),
+    λ same. no-member found (λ s in'. one-side same s.side s.it ((a.only s).0 in')),
   )
 
 -- ---- all kinds
 
-module _ (x y : ExtractParts) (window : header_window x.header ≡ header_window y.header) (left : IsClearExtract x)
-    (right : IsClearExtract y) (tiplocs : List (Sided Tiploc)) (at : AreDifferentTiplocs x.tiplocs y.tiplocs tiplocs)
+-- the right extract is clear in the left one's window
+pub clear-right : (x y : ExtractParts) → header_window x.header ≡ header_window y.header →
+    AreClear (association_entries y.associations) x.header.first x.header.last →
+    AreClear (schedule_entries y.schedules) x.header.first x.header.last → IsClearExtract y
+clear-right x y window associations schedules = record {
+  associations = subst (λ (w : Window). AreClear (association_entries y.associations) w.first w.last) window associations;
+  schedules = subst (λ (w : Window). AreClear (schedule_entries y.schedules) w.first w.last) window schedules;
+}
+
+module _ (x y : ExtractParts) (window : header_window x.header ≡ header_window y.header) (tiplocs : List (Sided Tiploc)) (at : AreDifferentTiplocs x.tiplocs y.tiplocs tiplocs)
     (associations : List (Sided Run))
     (aa : AreDifferentRuns key_cmp (header_window x.header) (association_entries x.associations) (association_entries y.associations)
-    associations) (schedules : List (Sided Run))
+    AllKeys associations) (schedules : List (Sided Run))
     (bs : AreDifferentRuns (slice_cmp nat_cmp) (header_window x.header) (schedule_entries x.schedules) (schedule_entries y.schedules)
-    schedules) where
+    AllKeys schedules) where
   pub are-differences : (d : DifferencesParts) → d ≡ record {
     tiplocs = tiplocs;
     associations = sided_records (association_entries x.associations) (association_entries y.associations) associations;
@@ -103,8 +142,8 @@ module _ (x y : ExtractParts) (window : header_window x.header ≡ header_window
   } → AreDifferences x y d
   are-differences d is = subst (AreDifferences x y) (sym is) (record {
     window = window;
-    left = left;
-    right = right;
+    left = record { associations = aa.clear refl Left; schedules = bs.clear refl Left };
+    right = clear-right x y window (aa.clear refl Right) (bs.clear refl Right);
     tiplocs = at;
     associations = kind-different key_cmp (header_window x.header) (association_entries x.associations)
         (association_entries y.associations) associations aa;

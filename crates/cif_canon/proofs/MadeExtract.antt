@@ -3,13 +3,8 @@ use Rattle.std.proofs.Common.{◌≡◌, ℕ, ◌≤◌, List, [], ◌∷◌, So
 use Rattle.std.specs.Prelude.{All}
 use Rattle.std.proofs.lemmas.List.Elements.{All-head, All-tail}
 use Rattle.cif_columns.specs.declared.stp.Stp.TheVariants.{P}
-use Rattle.cif_extract.specs.BodyParts.{BodyParts}
-use Rattle.cif_extract.specs.declared.extract.Schedule.{Schedule}
-use Rattle.cif_records.specs.declared.association.AssocBody.{AssocBody}
-use Rattle.cif_records.specs.declared.association.AssocKey.{AssocKey}
-use Rattle.cif_records.specs.declared.association.Association.{Association}
 use Rattle.cif_weeks.specs.Permanent.{Permanent, terms_of, permanent_entries}
-use Rattle.cif_calendar.specs.Entries.{association_entries, schedule_entries}
+use Rattle.cif_canon.proofs.Words.{AssocBody, AssocKey, Association, BodyParts, Schedule, association_entries, schedule_entries}
 
 -- a record that doesn't end before it begins
 abbrev pub IsDated : {K B : Type 0} → K × Permanent B → Type 0

@@ -5,35 +5,23 @@ use Rattle.std.specs.Prelude.{All, Contains, slice_get}
 use Rattle.std.specs.List.{AllZip, flat_map}
 use Rattle.std.proofs.lemmas.List.Elements.{All-head, All-tail, Contains-get_or}
 use Rattle.std.specs.declared.cmp.Ordering.{Ordering}
-use Rattle.cif_calendar.specs.Terms.{Terms}
 use Rattle.cif_columns.specs.Day.{IsDay}
 use Rattle.cif_columns.specs.Field.{AllFit, Row}
 use Rattle.cif_columns.specs.declared.stp.Stp.{Stp}
 use Rattle.cif_columns.specs.declared.stp.Stp.TheVariants.{P}
-use Rattle.cif_extract.specs.BodyParts.{BodyParts}
-use Rattle.cif_extract.specs.ExtractParts.{ExtractParts}
 use Rattle.cif_extract.specs.Texts.{AllTablesFit, FitsColumns, schedule_tables, tables_of}
-use Rattle.cif_extract.specs.declared.extract.Schedule.{Schedule}
 use Rattle.cif_extract.proofs.PlainTexts.{fit-append, fit-back, fit-front}
 use Rattle.cif_records.specs.Association.{association_rows, association_table}
 use Rattle.cif_records.specs.Basic.{basic_rows}
 use Rattle.cif_records.specs.Tiploc.{tiploc_table}
-use Rattle.cif_records.specs.Trailer.{trailer_table}
-use Rattle.cif_records.specs.declared.association.AssocBody.{AssocBody}
-use Rattle.cif_records.specs.declared.association.AssocKey.{AssocKey}
-use Rattle.cif_records.specs.declared.association.Association.{Association}
 use Rattle.cif_records.specs.declared.detail.Detail.{Detail}
-use Rattle.cif_records.specs.declared.tiploc.Tiploc.{Tiploc}
 use Rattle.cif_records.proofs.Headers as headers
 use Rattle.cif_weeks.specs.Aligned.{IsAligned}
-use Rattle.cif_weeks.specs.Canonical.{AreCanonical}
-use Rattle.cif_weeks.specs.Permanent.{Permanent}
-use Rattle.cif_weeks.specs.Window.{Window, IsWithin}
-use Rattle.cif_weeks.specs.declared.form.Form.{Form}
 use Rattle.cif_weeks.specs.declared.form.Form.TheVariants.{One, Two}
-use Rattle.cif_weeks.specs.declared.run.Run.{Run}
-use Rattle.cif_calendar.specs.Entries.{association_entry, association_entries, schedule_entry, schedule_entries}
 use Rattle.cif_canon.specs.Steps.Records.{IsRunOf}
+use Rattle.cif_canon.proofs.Words.{AreCanonical, AssocBody, AssocKey, Association, BodyParts, ExtractParts, Form, IsWithin, Permanent, Run}
+use Rattle.cif_canon.proofs.Words.{Schedule, Terms, Tiploc, Window, association_entries, association_entry, schedule_entries}
+use Rattle.cif_canon.proofs.Words.{schedule_entry, trailer_table}
 use Rattle.cif_canon.proofs.MadeExtract.{IsDated, associations_of, schedules_of}
 
 -- ---- a permanent record with dates and a mask of its own

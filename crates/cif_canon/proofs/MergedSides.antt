@@ -1,16 +1,16 @@
 -- Runs of both sides in one list.
-use Rattle.std.proofs.Common.{◌≡◌, ◌⊎◌, inl, inr, ℕ, zero, suc, ◌+◌, ◌<◌, ◌≤◌, Bool, true, false, List, [], ◌∷◌, ◌++◌, Some, None}
-use Rattle.std.proofs.Common.{refl, sym, ap, ◌∙◌, subst, arith, length, ⊎_elim, append_assoc, append-nil, true≢false}
+use Rattle.std.proofs.Common.{◌≡◌, ◌⊎◌, inl, inr, zero, suc, ◌+◌, ◌<◌, ◌≤◌, Bool, true, false, List, [], ◌∷◌, ◌++◌, Some, None}
+use Rattle.std.proofs.Common.{refl, sym, ap, ◌∙◌, subst, arith, get_or, length, ⊎_elim, append_assoc, append-nil, true≢false}
+use Rattle.std.proofs.Math.Nat.{eq-or-lt_of_le}
 use Rattle.std.specs.Prelude.{AllPairs, Contains, if◌then◌else◌}
-use Rattle.std.proofs.lemmas.List.Elements.{Contains-append_cases}
+use Rattle.std.proofs.lemmas.List.Elements.{Contains-get_or, Contains-push_cases}
+use Rattle.std.proofs.lemmas.List.Quantifiers.{all_pairs_push}
 use Rattle.cif_calendar.proofs.Elements.{Contains-first, Contains-rest, Contains-cases}
 use Rattle.cif_weeks.specs.declared.run.Run.{Run}
-use Rattle.cif_weeks.proofs.JoinedLists.{AllPairs-append}
 use Rattle.cif_calendar.proofs.RisingLists.{Contains-none}
-use Rattle.cif_canon.specs.Differences.{is_side, of_side}
-use Rattle.cif_canon.specs.Steps.OnlySides.{AreAppendedRuns, AreMergedRuns, AreMerging, AreRisingRuns, HasMoved, HasMovedOf}
+use Rattle.cif_canon.specs.Differences.{at_side, is_side, of_side}
+use Rattle.cif_canon.specs.Steps.OnlySides.{AreAppendedRuns, AreMerging, AreRisingRuns, HasMovedOf}
 use Rattle.cif_canon.specs.Steps.OnlySides.{IsFirstSide, RunComesBefore}
-use Rattle.cif_canon.specs.Steps.Sides.{at_side}
 use Rattle.cif_canon.specs.declared.listed_differences.Side.{Side}
 use Rattle.cif_canon.specs.declared.listed_differences.Side.TheVariants.{Left, Right}
 use Rattle.cif_canon.specs.declared.listed_differences.Sided.{Sided}
@@ -20,6 +20,11 @@ use Rattle.cif_canon.specs.declared.listed_differences.Sided.{Sided}
 side-itself : (side : Side) → is_side side side ≡ true
 side-itself Left = refl
 side-itself Right = refl
+
+-- the other side
+abbrev pub other : Side → Side
+other Left = Right
+other Right = Left
 
 module _ {A : Type 0} where
   cond-append : (b : Bool) (x : A) (u v w : List A) → u ≡ v ++ w → (if b then x ∷ u else u) ≡ (if b then x ∷ v else v) ++ w
@@ -48,13 +53,6 @@ module _ {A : Type 0} where
       (λ later. cond-rest (is_side s.side t.side) t.it s.it (of_side s.side xs) (side-member xs s later))
       (Contains-cases t xs s h)
 
-  -- an element of one list
-  pub only-one : (x y : A) → Contains (x ∷ []) y → x ≡ y
-  only-one x y h = ⊎_elim (λ is. is) (λ none. absurd (Contains-none y none)) (Contains-cases x [] y h)
-
-  pub pairs-one : (R : A → A → Type 0) (x : A) → AllPairs R (x ∷ [])
-  pairs-one R x = λ i j d less within. absurd (omega arith)
-
   pub pairs-head : (R : A → A → Type 0) (x y : A) (xs : List A) → AllPairs R (x ∷ xs) → Contains xs y → R x y
   pairs-head R x y xs all (k, below, is) = subst (λ z. R x z) is (all zero (suc k) y (omega arith) (omega arith))
 
@@ -78,28 +76,55 @@ from-side side (s ∷ found) e h = ⊎_elim
     (λ later. Contains-rest s found (record { side = side; it = e }) (from-side side found e later))
     (from-one side s.side s.it e (of_side side found) h)
 
+-- what is last is of its side
+pub of_side-own : {A : Type 0} (side : Side) (xs : List (Sided A)) (x : A) →
+    of_side side (xs ++ (record { side = side; it = x }) ∷ []) ≡ of_side side xs ++ x ∷ []
+of_side-own Left xs x = of_side-append Left xs ((record { side = Left; it = x }) ∷ [])
+of_side-own Right xs x = of_side-append Right xs ((record { side = Right; it = x }) ∷ [])
+
+pub of_side-other : {A : Type 0} (side : Side) (xs : List (Sided A)) (x : A) →
+    of_side (other side) (xs ++ (record { side = side; it = x }) ∷ []) ≡ of_side (other side) xs
+of_side-other Left xs x = of_side-append Right xs ((record { side = Left; it = x }) ∷ []) ∙ append-nil (of_side Right xs)
+of_side-other Right xs x = of_side-append Left xs ((record { side = Right; it = x }) ∷ []) ∙ append-nil (of_side Left xs)
+
+-- ---- a side's own, and that of the other
+
+pub both-sides : {A : Type 0} (a : A) (side : Side) → at_side a a side ≡ a
+both-sides a Left = refl
+both-sides a Right = refl
+
+module _ {A : Type 0} (P : Side → A → Type 0) (own theirs : A) where
+  pub to-sides : (side : Side) → P side own → P (other side) theirs → (e : Side) →
+      P e (at_side (at_side own theirs side) (at_side theirs own side) e)
+  to-sides Left one two Left = one
+  to-sides Left one two Right = two
+  to-sides Right one two Left = two
+  to-sides Right one two Right = one
+
+  pub from-sides : (side : Side) → ((e : Side) → P e (at_side (at_side own theirs side) (at_side theirs own side) e)) →
+      P side own × P (other side) theirs
+  from-sides Left h = (h Left, h Right)
+  from-sides Right h = (h Right, h Left)
+
 -- ---- which run is first
 
--- it doesn't begin after those of the other side
-first-left : (x : Run) (l r : List Run) → IsFirstSide (x ∷ l) r (Some Left) → AreRisingRuns r → (y : Run) → Contains r y → x.first ≤ y.first
-first-left x l [] h rising y in' = absurd (Contains-none y in')
-first-left x l (z ∷ r) h rising y in' = ⊎_elim
-    (λ (is : z ≡ y). subst (λ (w : Run). x.first ≤ w.first) is h)
-    (λ later. let less : z.first < y.first = pairs-head (λ (a b : Run). a.first < b.first) z y r rising later in
-    let from : x.first ≤ z.first = h in omega arith)
-    (Contains-cases z r y in')
-
-first-right : (y : Run) (l r : List Run) → IsFirstSide l (y ∷ r) (Some Right) → AreRisingRuns l → (x : Run) → Contains l x →
-    y.first < x.first
-first-right y [] r h rising x in' = absurd (Contains-none x in')
-first-right y (z ∷ l) r h rising x in' = ⊎_elim
-    (λ (is : z ≡ x). subst (λ (w : Run). y.first < w.first) is h)
-    (λ later. let less : z.first < x.first = pairs-head (λ (a b : Run). a.first < b.first) z x l rising later in
-    let from : y.first < z.first = h in omega arith)
-    (Contains-cases z l x in')
-
-le-cases : (m n : ℕ) → m ≤ n → (m < n) ⊎ (m ≡ n)
-le-cases m n h = grind (arith, h)
+-- it comes before those of the other side
+first-before : (side : Side) (x : Run) (own theirs : List Run) →
+    IsFirstSide (at_side (x ∷ own) theirs side) (at_side theirs (x ∷ own) side) (Some side) → AreRisingRuns theirs → (y : Run) →
+    Contains theirs y → RunComesBefore (record { side = side; it = x }) (record { side = other side; it = y })
+first-before side x own [] h rising y in' = absurd (Contains-none y in')
+first-before side x own (z ∷ theirs) h rising y in' = before side h (⊎_elim
+    (λ (is : z ≡ y). subst (λ (w : Run). z.first ≤ w.first) is (let itself : z.first ≤ z.first = omega arith in itself))
+    (λ later. let less : z.first < y.first = pairs-head (λ (a b : Run). a.first < b.first) z y theirs rising later in
+    let upto : z.first ≤ y.first = omega arith in upto)
+    (Contains-cases z theirs y in'))
+  where
+    before : (side : Side) → IsFirstSide (at_side (x ∷ own) (z ∷ theirs) side) (at_side (z ∷ theirs) (x ∷ own) side) (Some side) →
+        z.first ≤ y.first → RunComesBefore (record { side = side; it = x }) (record { side = other side; it = y })
+    before Left h from =
+        let upto : x.first ≤ z.first = h in
+        ⊎_elim (λ same. inr (same, refl, refl)) (λ less. inl less) (eq-or-lt_of_le (let far : x.first ≤ y.first = omega arith in far))
+    before Right h from = let less : x.first < z.first = h in inl (omega arith)
 
 -- ---- one more
 
@@ -108,101 +133,61 @@ module _ (lefts rights : List Run) (old : List (Sided Run)) where
   merging-nothing left right = record {
     merged = [];
     appended = sym (append-nil old);
-    left = refl;
-    right = refl;
+    sides = λ side. refl;
     in_order = λ i j d less within. absurd (omega arith);
-    left_after = λ s x in'. absurd (Contains-none s in');
-    right_after = λ s x in'. absurd (Contains-none s in');
-    left_rising = left;
-    right_rising = right;
-  }
-
-  pub merging-all : (new : List (Sided Run)) → (m : AreMerging lefts rights [] [] old new) → AreMergedRuns lefts rights m.merged
-  merging-all new m = record {
-    left = sym (append-nil (of_side Left m.merged)) ∙ m.left;
-    right = sym (append-nil (of_side Right m.merged)) ∙ m.right;
-    in_order = m.in_order;
+    after = λ s t in'. absurd (Contains-none s in');
+    rising = λ side. to-sides (λ e runs. AreRisingRuns runs) lefts rights Left left right side;
   }
 
   module _ (new next : List (Sided Run)) where
-    pub merging-left : (x : Run) (l r : List Run) → IsFirstSide (x ∷ l) r (Some Left) → AreMerging lefts rights (x ∷ l) r old new →
-        next ≡ new ++ (record { side = Left; it = x }) ∷ [] → AreMerging lefts rights l r old next
-    merging-left x l r first m is =
-        let s : Sided Run = record { side = Left; it = x } in record {
+    merging-more : (side : Side) (x : Run) (own theirs : List Run) →
+        IsFirstSide (at_side (x ∷ own) theirs side) (at_side theirs (x ∷ own) side) (Some side) →
+        AreMerging lefts rights (at_side (x ∷ own) theirs side) (at_side theirs (x ∷ own) side) old new →
+        next ≡ new ++ (record { side = side; it = x }) ∷ [] →
+        AreMerging lefts rights (at_side own theirs side) (at_side theirs own side) old next
+    merging-more side x own theirs first m is =
+        let s : Sided Run = record { side = side; it = x } in
+        let rising = from-sides (λ e runs. AreRisingRuns runs) (x ∷ own) theirs side m.rising in
+        let parts = from-sides (λ e runs. of_side e m.merged ++ runs ≡ at_side lefts rights e) (x ∷ own) theirs side m.sides in
+        let were = λ (t : Sided Run) (in' : Contains m.merged t).
+        from-sides (λ e runs. (y : Run) → Contains runs y → RunComesBefore t (record { side = e; it = y })) (x ∷ own) theirs side
+        (λ e y. m.after t (record { side = e; it = y }) in') in
+        record {
           merged = m.merged ++ s ∷ [];
           appended = is ∙ ap (λ (z : List (Sided Run)). z ++ s ∷ []) m.appended ∙ append_assoc old m.merged (s ∷ []);
-          left = ap (λ (z : List Run). z ++ l) (of_side-append Left m.merged (s ∷ []))
-              ∙ append_assoc (of_side Left m.merged) (x ∷ []) l
-              ∙ m.left;
-          right = ap (λ (z : List Run). z ++ r)
-              (of_side-append Right m.merged (s ∷ []) ∙ append-nil (of_side Right m.merged))
-              ∙ m.right;
-          in_order = AllPairs-append RunComesBefore m.merged (s ∷ []) m.in_order (pairs-one RunComesBefore s)
-              (λ t u in_t in_u. subst (λ v. RunComesBefore t v) (only-one s u in_u)
-              (m.left_after t x in_t (Contains-first x l)));
-          left_after = λ t y in_t in_y. ⊎_elim
-              (λ old. m.left_after t y old (Contains-rest x l y in_y))
-              (λ new. subst (λ (v : Sided Run). RunComesBefore v (record { side = Left; it = y })) (only-one s t new)
-              (inl (pairs-head (λ (a b : Run). a.first < b.first) x y l m.left_rising in_y)))
-              (Contains-append_cases m.merged (s ∷ []) t in_t);
-          right_after = λ t y in_t in_y. ⊎_elim
-              (λ old. m.right_after t y old in_y)
-              (λ new. subst (λ (v : Sided Run). RunComesBefore v (record { side = Right; it = y })) (only-one s t new)
-              (⊎_elim (λ less. inl less) (λ same. inr (same, refl, refl))
-              (le-cases x.first y.first (first-left x l r first m.right_rising y in_y))))
-              (Contains-append_cases m.merged (s ∷ []) t in_t);
-          left_rising = pairs-tail (λ (a b : Run). a.first < b.first) x l m.left_rising;
-          right_rising = m.right_rising;
-        }
-
-    pub merging-right : (y : Run) (l r : List Run) → IsFirstSide l (y ∷ r) (Some Right) → AreMerging lefts rights l (y ∷ r) old new →
-        next ≡ new ++ (record { side = Right; it = y }) ∷ [] → AreMerging lefts rights l r old next
-    merging-right y l r first m is =
-        let s : Sided Run = record { side = Right; it = y } in record {
-          merged = m.merged ++ s ∷ [];
-          appended = is ∙ ap (λ (z : List (Sided Run)). z ++ s ∷ []) m.appended ∙ append_assoc old m.merged (s ∷ []);
-          left = ap (λ (z : List Run). z ++ l)
-              (of_side-append Left m.merged (s ∷ []) ∙ append-nil (of_side Left m.merged))
-              ∙ m.left;
-          right = ap (λ (z : List Run). z ++ r) (of_side-append Right m.merged (s ∷ []))
-              ∙ append_assoc (of_side Right m.merged) (y ∷ []) r
-              ∙ m.right;
-          in_order = AllPairs-append RunComesBefore m.merged (s ∷ []) m.in_order (pairs-one RunComesBefore s)
-              (λ t u in_t in_u. subst (λ v. RunComesBefore t v) (only-one s u in_u)
-              (m.right_after t y in_t (Contains-first y r)));
-          left_after = λ t x in_t in_x. ⊎_elim
-              (λ old. m.left_after t x old in_x)
-              (λ new. subst (λ (v : Sided Run). RunComesBefore v (record { side = Left; it = x })) (only-one s t new)
-              (inl (first-right y l r first m.left_rising x in_x)))
-              (Contains-append_cases m.merged (s ∷ []) t in_t);
-          right_after = λ t z in_t in_z. ⊎_elim
-              (λ old. m.right_after t z old (Contains-rest y r z in_z))
-              (λ new. subst (λ (v : Sided Run). RunComesBefore v (record { side = Right; it = z })) (only-one s t new)
-              (inl (pairs-head (λ (a b : Run). a.first < b.first) y z r m.right_rising in_z)))
-              (Contains-append_cases m.merged (s ∷ []) t in_t);
-          left_rising = m.left_rising;
-          right_rising = pairs-tail (λ (a b : Run). a.first < b.first) y r m.right_rising;
+          sides = to-sides (λ e runs. of_side e (m.merged ++ s ∷ []) ++ runs ≡ at_side lefts rights e) own theirs side
+              (ap (λ (z : List Run). z ++ own) (of_side-own side m.merged x) ∙ append_assoc (of_side side m.merged) (x ∷ []) own ∙ parts.0)
+              (ap (λ (z : List Run). z ++ theirs) (of_side-other side m.merged x) ∙ parts.1);
+          in_order = all_pairs_push RunComesBefore m.merged s m.in_order
+              (λ k d below. (were (get_or m.merged k d) (Contains-get_or m.merged k d below)).0 x (Contains-first x own));
+          after = λ t u in_t. to-sides (λ e runs. (y : Run) → Contains runs y → RunComesBefore t (record { side = e; it = y })) own theirs
+              side
+              (λ y in_y. ⊎_elim
+              (λ was. (were t was).0 y (Contains-rest x own y in_y))
+              (λ now. subst (λ (v : Sided Run). RunComesBefore v (record { side = side; it = y })) now
+              (inl (pairs-head (λ (a b : Run). a.first < b.first) x y own rising.0 in_y)))
+              (Contains-push_cases m.merged s t in_t))
+              (λ y in_y. ⊎_elim
+              (λ was. (were t was).1 y in_y)
+              (λ now. subst (λ (v : Sided Run). RunComesBefore v (record { side = other side; it = y })) now
+              (first-before side x own theirs first rising.1 y in_y))
+              (Contains-push_cases m.merged s t in_t))
+              u.side u.it;
+          rising = to-sides (λ e runs. AreRisingRuns runs) own theirs side
+              (pairs-tail (λ (a b : Run). a.first < b.first) x own rising.0) rising.1;
         }
 
     -- the same, as the first of a list has moved
-    moved-left : (l r rest : List Run) → IsFirstSide l r (Some Left) → HasMoved Left l rest new next →
-        AreMerging lefts rights l r old new → AreMerging lefts rights rest r old next
-    moved-left l r rest first moved m =
-        merging-left moved.item rest r (subst (λ (z : List Run). IsFirstSide z r (Some Left)) moved.items_are first)
-        (subst (λ (z : List Run). AreMerging lefts rights z r old new) moved.items_are m) moved.new_is
-
-    moved-right : (l r rest : List Run) → IsFirstSide l r (Some Right) → HasMoved Right r rest new next →
-        AreMerging lefts rights l r old new → AreMerging lefts rights l rest old next
-    moved-right l r rest first moved m =
-        merging-right moved.item l rest (subst (λ (z : List Run). IsFirstSide l z (Some Right)) moved.items_are first)
-        (subst (λ (z : List Run). AreMerging lefts rights l z old new) moved.items_are m) moved.new_is
-
     pub moved-of : (side : Side) (l r l' r' : List Run) → IsFirstSide l r (Some side) → HasMovedOf side l r l' r' new next →
         AreMerging lefts rights l r old new → AreMerging lefts rights l' r' old next
     moved-of Left l r l' r' first (moved, same) m =
-        subst (λ (z : List Run). AreMerging lefts rights l' z old next) (sym same) (moved-left l r l' first moved m)
+        subst (λ (z : List Run). AreMerging lefts rights l' z old next) (sym same)
+        (merging-more Left moved.item l' r (subst (λ (z : List Run). IsFirstSide z r (Some Left)) moved.items_are first)
+        (subst (λ (z : List Run). AreMerging lefts rights z r old new) moved.items_are m) moved.new_is)
     moved-of Right l r l' r' first (moved, same) m =
-        subst (λ (z : List Run). AreMerging lefts rights z r' old next) (sym same) (moved-right l r r' first moved m)
+        subst (λ (z : List Run). AreMerging lefts rights z r' old next) (sym same)
+        (merging-more Right moved.item r' l (subst (λ (z : List Run). IsFirstSide l z (Some Right)) moved.items_are first)
+        (subst (λ (z : List Run). AreMerging lefts rights l z old new) moved.items_are m) moved.new_is)
 
 -- the side of the first run has one
 pub side-there : (side : Side) (l r : List Run) → IsFirstSide l r (Some side) → 0 < length (at_side l r side)
@@ -237,12 +222,20 @@ merging-end lefts rights l r old new h m =
     let end : AreMerging lefts rights [] [] old new =
     subst (λ (z : List Run). AreMerging lefts rights [] z old new) no_right
     (subst (λ (z : List Run). AreMerging lefts rights z r old new) no_left m) in
-    record { merged = end.merged; are = merging-all lefts rights old new end; appended = end.appended }
+    record {
+      merged = end.merged;
+      are = record {
+        sides = λ side. sym (append-nil (of_side side end.merged))
+            ∙ ap (λ (z : List Run). of_side side end.merged ++ z) (sym (both-sides [] side)) ∙ end.sides side;
+        in_order = end.in_order;
+      };
+      appended = end.appended;
+    }
 
 pub merged-none : (old : List (Sided Run)) → AreAppendedRuns [] [] old old
 merged-none old =
     record {
       merged = [];
-      are = record { left = refl; right = refl; in_order = λ i j d less within. absurd (omega arith) };
+      are = record { sides = λ side. sym (both-sides [] side); in_order = λ i j d less within. absurd (omega arith) };
       appended = sym (append-nil old);
     }

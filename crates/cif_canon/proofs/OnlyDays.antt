@@ -1,18 +1,17 @@
 -- What is left of a calendar where another one has the same bodies on some days.
-use Rattle.std.proofs.Common.{◌≡◌, ◌≢◌, ◌⊎◌, ℕ, ◌+◌, ◌-◌, ◌%◌, ◌<◌, ◌≤◌, List, [], ◌∷◌, ◌++◌, Option, None, length, sym, ap, ◌∙◌}
+use Rattle.std.proofs.Common.{◌≡◌, ◌≢◌, ◌⊎◌, ℕ, ◌+◌, ◌<◌, ◌≤◌, List, [], ◌∷◌, ◌++◌, Option, None, length, sym, ap, ◌∙◌}
 use Rattle.std.proofs.Common.{subst, arith, ⊎_elim, set, get_or}
 use Rattle.std.specs.Prelude.{Contains}
+use Rattle.std.proofs.lemmas.Bool.{cases_lt}
 use Rattle.std.proofs.lemmas.List.{get_or-set_same, get_or-set_other}
 use Rattle.std.proofs.lemmas.List.Elements.{Contains-append_left, Contains-append_right}
-use Rattle.cif_columns.specs.Day.{weekday_of}
-use Rattle.cif_calendar.specs.Calendar.{CalendarParts}
 use Rattle.cif_calendar.specs.Pieces.{Tiles, source_at, winner_of}
-use Rattle.cif_calendar.specs.Terms.{Terms}
 use Rattle.cif_calendar.specs.declared.key_calendar.Piece.{Piece}
 use Rattle.cif_calendar.proofs.Elements.{Contains-first}
 use Rattle.cif_calendar.proofs.PieceLists.{source_at-piece, tiles-find, tiles-push}
 use Rattle.cif_canon.specs.Steps.OnlySides.{AreOnlyWinners, IsOnlySource}
-use Rattle.cif_canon.proofs.DifferentDays.{before-or-from}
+use Rattle.cif_canon.proofs.Words.{CalendarParts, Terms, weekday_of}
+use Rattle.cif_canon.proofs.DifferentDays.{in-week}
 
 weekday-below : (d : ℕ) → weekday_of d < 7
 weekday-below d = omega arith
@@ -22,10 +21,6 @@ weekday-apart d e less near same = omega arith
 
 at-or-before : (d e : ℕ) → d < e + 1 → (d ≡ e) ⊎ (d < e)
 at-or-before d e h = grind arith
-
--- a day and the one of its weekday in the seven days from another
-in-week : (first d : ℕ) → first ≤ d → (e : ℕ) × (first ≤ e) × (e < first + 7) × (weekday_of e ≡ weekday_of d)
-in-week first d from = (first + (d - first) % 7, omega arith, omega arith, omega arith)
 
 module _ {B : Type 0} (xs ys : List (Terms B)) (p q : Piece) where
   -- what is left of the days from `first` and before `next`
@@ -60,7 +55,7 @@ module _ {B : Type 0} (xs ys : List (Terms B)) (p q : Piece) where
       AreOnlyWinners xs ys p q first last ws
   only-week first next last ws far before = record {
     each = λ d from upto.
-        let (e, after, near, same) = in-week first d from in
+        let (e, after, near, upto, same) = in-week first d from in
         subst (λ v. IsOnlySource xs ys (get_or p.winners v None) (get_or q.winners v None) (get_or ws v None)) same
         (before e after (omega (arith, near, far)));
   }
@@ -109,7 +104,7 @@ module _ {B : Type 0} (xs : List (Terms B)) (c : CalendarParts) (p : Piece) (til
       (subst (λ v. IsOnlySource xs ys (winner_of p d) v (winner_of r d))
       (sym (source_at-piece e.pieces e.first (e.last + 1) q d tiles_e listed_q (omega arith) (omega arith)))
       (only.each d late upto))))
-      (before-or-from d first))
+      (cases_lt d first))
     where
       refl_at : first ≡ first
       refl_at = omega arith

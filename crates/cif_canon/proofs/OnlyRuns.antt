@@ -1,23 +1,16 @@
 -- The runs of what is left of a calendar are those of what only it says.
 use Rattle.std.proofs.Common.{◌≡◌, ◌≢◌, ◌≤◌, ◌<◌, ℕ, zero, suc, List, [], ◌∷◌, None, Some, sym, ◌∙◌, ap, subst, arith, ⊎_elim}
-use Rattle.std.specs.Prelude.{All, AllPairs, Contains, ◌↔◌}
+use Rattle.std.specs.Prelude.{All, AllPairs, ◌↔◌}
 use Rattle.std.specs.List.{AllZip}
-use Rattle.std.proofs.lemmas.List.Elements.{All-nil, All-cons, All-head, All-tail, All-contains}
+use Rattle.std.proofs.lemmas.List.Elements.{All-nil, All-cons, All-head, All-tail}
 use Rattle.std.proofs.lemmas.List.Kept.{AllPairs-cons}
-use Rattle.cif_calendar.specs.Calendar.{CalendarParts, body_on}
 use Rattle.cif_calendar.specs.Pieces.{source_at}
 use Rattle.cif_calendar.specs.Source.{body_at}
-use Rattle.cif_calendar.specs.Terms.{Terms}
-use Rattle.cif_weeks.specs.HaveForm.{HaveForm}
-use Rattle.cif_weeks.specs.Permanent.{Permanent}
 use Rattle.cif_weeks.specs.Runs.{AreCanonicalRuns, AreSources, IsRunOf as IsCalendarRun, window_of}
-use Rattle.cif_weeks.specs.Window.{IsWithin}
-use Rattle.cif_weeks.specs.declared.form.Form.TheVariants.{Two}
-use Rattle.cif_weeks.specs.declared.run.Run.{Run}
-use Rattle.cif_weeks.proofs.CalendarSources.{firsts-within}
 use Rattle.cif_calendar.proofs.RisingLists.{Contains-none}
 use Rattle.cif_canon.specs.Steps.OnlySides.{AreOnlyRuns, AreRisingRuns, IsOnlyCalendar}
-use Rattle.cif_weeks.specs.Window.{window_from}
+use Rattle.cif_canon.proofs.Words.{CalendarParts, IsWithin, Permanent, Run, Terms, Two, body_on, window_from}
+use Rattle.cif_canon.proofs.KeyRecords.{runs-as}
 
 -- what holds of the pairs of one list holds of those of another that goes with it one by one
 module _ {X Y : Type 0} (R : X → Y → Type 0) (P : X → X → Type 0) (Q : Y → Y → Type 0)
@@ -68,21 +61,13 @@ module _ {B : Type 0} (xs : List (Terms B)) (c : CalendarParts) (ys : List (Term
         sources.bodied n i after before (source-left n i (record { from = after; upto = before }) at);
   }
 
-  own-runs : (runs : List Run) (records : List (Permanent B)) → All (λ r. IsWithin (window_of c) r.first) records →
-      AllZip (IsCalendarRun xs only) runs records → AllZip (IsCalendarRun xs c) runs records
-  own-runs [] [] within z = tt
-  own-runs [] (r ∷ records) within z = absurd z
-  own-runs (run ∷ runs) [] within z = absurd z
-  own-runs (run ∷ runs) (r ∷ records) within z = (
-    record {
-      dates = z.0.dates;
-      source = source-left run.first run.source
-          (subst (λ (s : Permanent B). IsWithin (window_of c) s.first) z.0.dates
-          (All-head (λ s. IsWithin (window_of c) s.first) r records within)) z.0.source;
-      body = z.0.body;
-    },
-    own-runs runs records (All-tail (λ s. IsWithin (window_of c) s.first) r records within) z.1,
-  )
+  own-run : (run : Run) (r : Permanent B) → IsWithin (window_of only) r.first → IsCalendarRun xs only run r → IsCalendarRun xs c run r
+  own-run run r within z = record {
+    dates = z.dates;
+    source = source-left run.first run.source (subst (λ (s : Permanent B). IsWithin (window_of c) s.first) z.dates
+        (subst (λ w. IsWithin w r.first) window-is within)) z.source;
+    body = z.body;
+  }
 
   -- its body is one that the other calendar hasn't
   left-says : (n : ℕ) (b : B) → IsWithin (window_of c) n →
@@ -102,20 +87,10 @@ module _ {B : Type 0} (xs : List (Terms B)) (c : CalendarParts) (ys : List (Term
 
   pub only-runs : (runs : List Run) → AreCanonicalRuns Two xs only runs → AreOnlyRuns xs c ys e runs
   only-runs runs a =
-      let within : All (λ r. IsWithin (window_of c) r.first) a.records =
-      subst (λ w. All (λ r. IsWithin w r.first) a.records) window-is
-      (firsts-within Two (window_of only) (body_on xs only) a.records a.meets) in
-      record {
-        records = a.records;
-        runs_of = own-runs runs a.records within a.runs_of;
-        within = λ r in'. All-contains (λ s. IsWithin (window_of c) s.first) a.records r within in';
-        rising = a.meets.rising;
-        have_form = subst (λ w. HaveForm Two w (Contains a.records)) window-is a.meets.have_form;
-        say = λ n b here.
-            let says = a.meets.say.says n b (subst (λ w. IsWithin w n) (sym window-is) here) in
-            let left = left-says n b here in
-            (λ h. left.0 (says.1 h), λ h. says.0 (left.1 h));
-      }
+      runs-as Two (window_of only) (window_of c) window-is (IsCalendarRun xs only) (IsCalendarRun xs c) own-run
+      (λ n b. body_on xs only n ≡ Some b) (λ n b. (body_on xs c n ≡ Some b) × (body_on ys e n ≢ Some b))
+      (λ n b within. left-says n b (subst (λ w. IsWithin w n) window-is within)) runs
+      (record { records = a.records; runs_of = a.runs_of; rising = a.meets.rising; have_form = a.meets.have_form; say = a.meets.say.says })
 
 -- where the calendars have the same bodies nothing is said by one alone
 module _ {B : Type 0} (xs : List (Terms B)) (c : CalendarParts) (ys : List (Terms B)) (e : CalendarParts)
@@ -124,7 +99,6 @@ module _ {B : Type 0} (xs : List (Terms B)) (c : CalendarParts) (ys : List (Term
   only-none = record {
     records = [];
     runs_of = tt;
-    within = λ r in'. absurd (Contains-none r in');
     rising = λ i j d less within. absurd (omega arith);
     have_form = record {
       single = λ n r s in_r. absurd (Contains-none r in_r);
@@ -132,7 +106,7 @@ module _ {B : Type 0} (xs : List (Terms B)) (c : CalendarParts) (ys : List (Term
       separate = λ r s in_r. absurd (Contains-none r in_r);
     };
     say = λ n b within. (
-      λ h. absurd (Contains-none h.it h.listed),
       λ h. absurd (h.1 (sym (alike n within.from within.upto) ∙ h.0)),
+      λ h. absurd (Contains-none h.it h.listed),
     );
   }

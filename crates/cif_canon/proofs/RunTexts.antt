@@ -4,15 +4,9 @@ use Rattle.std.specs.Prelude.{All, slice_get}
 use Rattle.std.specs.Option.{option_and_then, option_map}
 use Rattle.std.proofs.lemmas.List.{length-map}
 use Rattle.std.proofs.lemmas.Option.{same_Some, slice_get_read, slice_get_within}
-use Rattle.cif_calendar.specs.Terms.{Terms}
 use Rattle.cif_calendar.proofs.Winning.{terms_at}
-use Rattle.cif_weeks.specs.Permanent.{Permanent}
-use Rattle.cif_weeks.specs.Runs.{record_of}
-use Rattle.cif_weeks.specs.declared.run.Run.{Run}
-use Rattle.cif_extract.specs.BodyParts.{BodyParts}
-use Rattle.cif_extract.specs.declared.extract.Schedule.{Schedule}
-use Rattle.cif_calendar.specs.Entries.{schedule_entries, schedule_entry}
 use Rattle.cif_canon.specs.Steps.Texts.{HasRecord, body_at, record_at, run_text, text_if}
+use Rattle.cif_canon.proofs.Words.{BodyParts, Permanent, Run, Schedule, Terms, record_of, schedule_entries, schedule_entry}
 
 -- the record of a run whose source is an entry with a body
 pub record-of_entry : {K B : Type 0} (entries : List (K × Terms B)) (run : Run) (e : K × Terms B) (b : B) →

@@ -1,11 +1,9 @@
 -- Which canonical records apply on a day, and which are those of one key.
-use Rattle.std.proofs.Common.{◌≡◌, ◌<◌, ◌≤◌, ℕ, zero, suc, Bool, true, false, List, [], ◌∷◌, map, get_or, refl, sym, ap, ◌∙◌, subst}
-use Rattle.std.proofs.Common.{⊎_elim, arith, true≢false}
+use Rattle.std.proofs.Common.{◌≡◌, ◌<◌, ℕ, zero, suc, Bool, true, false, List, [], ◌∷◌, map, get_or, refl, sym, ap, ◌∙◌, subst}
+use Rattle.std.proofs.Common.{⊎_elim, arith}
 use Rattle.std.specs.Prelude.{◌↔◌, ◌&&◌, AllPairs, Contains, IsTrue, Some, nat_eq, nat_le, slice_index_or}
-use Rattle.std.proofs.lemmas.Bool.{false≢true}
-use Rattle.std.proofs.lemmas.Bool.Decides.{leb_tells}
+use Rattle.std.proofs.lemmas.Bool.{and_from, and_parts, false≢true, le-leb, leb-true}
 use Rattle.std.proofs.lemmas.Option.{same_Some}
-use Rattle.cif_columns.specs.Day.{weekday_of}
 use Rattle.cif_columns.specs.DaysRun.{RunsOn}
 use Rattle.std.specs.Cmp.{IsTotalOrder}
 use Rattle.std.specs.Cmp.Lexicographic.{pointwise, bytes_decides}
@@ -14,38 +12,18 @@ use Rattle.std.specs.declared.cmp.Ordering.{Ordering}
 use Rattle.std.specs.declared.cmp.Ordering.TheVariants.{Less}
 use Rattle.std.proofs.lemmas.List.Elements.{Contains-get_or}
 use Rattle.std.proofs.lemmas.List.Kept.{AllPairs-filter}
-use Rattle.cif_calendar.specs.Keys.{of_key}
-use Rattle.cif_calendar.specs.Terms.{Terms}
 use Rattle.cif_weeks.specs.Applies.{Applies}
 use Rattle.cif_weeks.specs.Canonical.{Precedes}
-use Rattle.cif_weeks.specs.Permanent.{Permanent}
-use Rattle.cif_weeks.specs.Runs.{record_of}
-use Rattle.cif_weeks.specs.Window.{Window, IsWithin}
-use Rattle.cif_weeks.specs.declared.form.Form.{Form}
-use Rattle.cif_weeks.specs.declared.run.Run.{Run}
 use Rattle.cif_weeks.proofs.JoinedLists.{AllPairs-map, Contains-map, Contains-from_map}
 use Rattle.cif_weeks.proofs.PermanentEntries.{runs-applies}
 use Rattle.cif_calendar.proofs.RisingLists.{not_less}
 use Rattle.cif_canon.specs.Steps.Records.{AreCanonicalRecords}
 use Rattle.cif_canon.specs.Steps.Views.{applies_on}
 use Rattle.cif_canon.specs.Views.{AreRunning}
+use Rattle.cif_canon.proofs.Words.{Form, IsWithin, Permanent, Run, Terms, Window, of_key, record_of, weekday_of}
 use Rattle.cif_canon.proofs.ChosenRecords.{chosen, chosen-from}
 
 -- ---- the test of a day
-
-both : (a b : Bool) → a && b ≡ true → (a ≡ true) × (b ≡ true)
-both true b e = (refl, e)
-both false b e = absurd (false≢true e)
-
-joined : (a b : Bool) → a ≡ true → b ≡ true → a && b ≡ true
-joined true b x y = y
-joined false b x y = absurd (false≢true x)
-
-told : (a b : ℕ) → nat_le a b ≡ true → a ≤ b
-told a b e = ⊎_elim (λ yes. yes.1) (λ no. absurd (true≢false (sym e ∙ no.0))) (leb_tells a b)
-
-tells : (a b : ℕ) → a ≤ b → nat_le a b ≡ true
-tells a b h = ⊎_elim (λ yes. yes.0) (λ no. let far = no.1 in absurd (omega (arith, far))) (leb_tells a b)
 
 runs : (days : List Bool) (w : ℕ) → slice_index_or days w false ≡ true → RunsOn days w
 runs [] w e = absurd (false≢true e)
@@ -60,17 +38,17 @@ runs-true (b ∷ days) (suc w) e = runs-true days w e
 -- a record passes the test exactly if it applies
 applies-test : {B : Type 0} (r : Permanent B) (d : ℕ) → applies_on r d ≡ true → Applies r d
 applies-test r d e =
-    let (begun, more) = both (nat_le r.first d) (nat_le d r.last && slice_index_or r.days (weekday_of d) false) e in
-    let (unfinished, on) = both (nat_le d r.last) (slice_index_or r.days (weekday_of d) false) more in record {
-      begun = told r.first d begun;
-      unfinished = told d r.last unfinished;
+    let (begun, more) = and_parts (nat_le r.first d) (nat_le d r.last && slice_index_or r.days (weekday_of d) false) e in
+    let (unfinished, on) = and_parts (nat_le d r.last) (slice_index_or r.days (weekday_of d) false) more in record {
+      begun = leb-true r.first d begun;
+      unfinished = leb-true d r.last unfinished;
       on_weekday = runs r.days (weekday_of d) on;
     }
 
 test-applies : {B : Type 0} (r : Permanent B) (d : ℕ) → Applies r d → applies_on r d ≡ true
 test-applies r d a =
-    joined (nat_le r.first d) (nat_le d r.last && slice_index_or r.days (weekday_of d) false) (tells r.first d a.begun)
-    (joined (nat_le d r.last) (slice_index_or r.days (weekday_of d) false) (tells d r.last a.unfinished)
+    and_from (nat_le r.first d) (nat_le d r.last && slice_index_or r.days (weekday_of d) false) (le-leb r.first d a.begun)
+    (and_from (nat_le d r.last) (slice_index_or r.days (weekday_of d) false) (le-leb d r.last a.unfinished)
     (runs-true r.days (weekday_of d) a.on_weekday))
 
 -- an answer whether a record applies is that of the test

@@ -1,22 +1,13 @@
 -- Extracts with equal parts, and that saying the same is an equivalence.
 use Rattle.std.proofs.Common.{◌≡◌, ℕ, List, [], ◌∷◌, map, refl, sym, ap, ◌∙◌, subst}
-use Rattle.cif_calendar.specs.Terms.{Terms}
 use Rattle.cif_calendar.proofs.SayTheSame.{EntriesSayTheSame-refl, EntriesSayTheSame-sym, EntriesSayTheSame-trans}
-use Rattle.cif_extract.specs.BodyParts.{BodyParts}
-use Rattle.cif_extract.specs.ExtractParts.{ExtractParts}
-use Rattle.cif_extract.specs.declared.extract.Schedule.{Schedule}
 use Rattle.cif_extract.proofs.Schedules.{same_schedule}
-use Rattle.cif_records.specs.declared.association.AssocBody.{AssocBody}
-use Rattle.cif_records.specs.declared.association.AssocKey.{AssocKey}
-use Rattle.cif_records.specs.declared.association.Association.{Association}
-use Rattle.cif_records.specs.declared.header.Header.{Header}
-use Rattle.cif_records.specs.declared.tiploc.Tiploc.{Tiploc}
 use Rattle.cif_records.proofs.Associations.{same_association}
 use Rattle.cif_records.proofs.Headers.{same_header}
-use Rattle.cif_weeks.specs.Window.{Window}
 use Rattle.cif_canon.specs.Asked.{header_window}
-use Rattle.cif_calendar.specs.Entries.{association_entry, association_entries, schedule_entry, schedule_entries}
 use Rattle.cif_canon.specs.Meaning.{Agree, SameMeaning}
+use Rattle.cif_canon.proofs.Words.{AssocBody, AssocKey, Association, BodyParts, ExtractParts, Header, Schedule, Terms, Tiploc, Window}
+use Rattle.cif_canon.proofs.Words.{association_entries, association_entry, schedule_entries, schedule_entry}
 
 -- ---- equal parts
 

@@ -4,20 +4,14 @@ use Rattle.std.specs.Prelude.{All, IsTrue, ◌↔◌}
 use Rattle.std.specs.List.{AllZip, flat_map}
 use Rattle.std.proofs.lemmas.List.Elements.{All-nil, All-cons, All-head, All-tail}
 use Rattle.std.proofs.lemmas.List.{nil_from_length}
-use Rattle.cif_calendar.specs.Terms.{Terms}
-use Rattle.cif_extract.specs.BodyParts.{BodyParts}
-use Rattle.cif_records.specs.declared.association.AssocBody.{AssocBody}
-use Rattle.cif_records.specs.declared.association.AssocKey.{AssocKey}
-use Rattle.cif_records.specs.declared.tiploc.Tiploc.{Tiploc}
-use Rattle.cif_weeks.specs.Permanent.{Permanent}
-use Rattle.cif_weeks.specs.declared.run.Run.{Run}
-use Rattle.cif_canon.specs.Differences.{AreNone}
+use Rattle.cif_canon.specs.Differences.{AreNone, at_side}
 use Rattle.cif_canon.specs.Steps.OnlySides.{IsSidedRunOf}
-use Rattle.cif_canon.specs.Steps.Sides.{HasSidedRecord, at_side, sided_records, sided_run_text, with_record}
+use Rattle.cif_canon.specs.Steps.Sides.{HasSidedRecord, sided_records, sided_run_text, with_record}
 use Rattle.cif_canon.specs.Steps.Texts.{HasRecord, record_at, text_if}
 use Rattle.cif_canon.specs.declared.listed_differences.Side.{Side}
 use Rattle.cif_canon.specs.declared.listed_differences.Side.TheVariants.{Left, Right}
 use Rattle.cif_canon.specs.declared.listed_differences.Sided.{Sided}
+use Rattle.cif_canon.proofs.Words.{AssocBody, AssocKey, BodyParts, Permanent, Run, Terms, Tiploc}
 use Rattle.cif_canon.proofs.RunTexts.{record-of_entry, record-within}
 
 module _ {K B : Type 0} (xs ys : List (K × Terms B)) where

@@ -1,32 +1,33 @@
 -- The locations that only one of two rising lists has are found one by one.
 use Rattle.std.proofs.Common.{◌≡◌, ◌⊎◌, inl, inr, ◌+◌, ◌<◌, List, [], ◌∷◌, ◌++◌, Some, None, length, drop}
-use Rattle.std.proofs.Common.{refl, sym, ap, ◌∙◌, subst, arith, ⊎_elim, append-nil, take, ◌-◌}
+use Rattle.std.proofs.Common.{refl, sym, ap, subst, arith, ⊎_elim, get_or, take, ◌-◌}
 use Rattle.std.proofs.lemmas.List.{length-drop, take_all}
 use Rattle.std.specs.Prelude.{AllPairs, Contains, ◌↔◌}
 use Rattle.std.specs.Cmp.Lexicographic.{nat_list_cmp_total}
 use Rattle.std.specs.declared.cmp.Ordering.TheVariants.{Less, Equal, Greater}
-use Rattle.std.proofs.lemmas.List.Elements.{Contains-append_cases, Contains-append_left, Contains-append_right}
+use Rattle.std.proofs.lemmas.List.Elements.{Contains-append_left, Contains-get_or, Contains-push, Contains-push_cases}
+use Rattle.std.proofs.lemmas.List.Quantifiers.{all_pairs_push}
 use Rattle.cif_calendar.proofs.Elements.{Contains-first, Contains-rest, Contains-cases}
 use Rattle.cif_records.specs.declared.tiploc.Tiploc.{Tiploc}
-use Rattle.cif_weeks.proofs.JoinedLists.{AllPairs-append}
 use Rattle.cif_calendar.proofs.RisingLists.{Contains-none}
-use Rattle.cif_canon.specs.Differences.{AreDifferentTiplocs, of_side}
-use Rattle.cif_canon.specs.Steps.OnlySides.{AreSifting, HasMoved, HasMovedOf, IsFirstOrder}
+use Rattle.cif_canon.specs.Differences.{AreDifferentTiplocs, IsOnlyIn, at_side}
+use Rattle.cif_canon.specs.Steps.OnlySides.{AreSifting, HasMovedOf, IsFirstOrder}
 use Rattle.cif_canon.specs.Steps.Tiplocs.{AreDistinct}
+use Rattle.cif_canon.specs.declared.listed_differences.Side.{Side}
 use Rattle.cif_canon.specs.declared.listed_differences.Side.TheVariants.{Left, Right}
 use Rattle.cif_canon.specs.declared.listed_differences.Sided.{Sided}
-use Rattle.cif_canon.proofs.DifferentTiplocs.{Before, before-greater, equal-tiplocs, not-itself}
-use Rattle.cif_canon.proofs.MergedSides.{of_side-append, only-one, pairs-head, pairs-one, pairs-tail}
+use Rattle.cif_canon.proofs.DifferentTiplocs.{Before, before-greater, equal-tiplocs, not-itself, with_side}
+use Rattle.cif_canon.proofs.MergedSides.{from-sides, pairs-head, pairs-tail, to-sides}
 
 onward : (s t u : Tiploc) → Before s t → Before t u → Before s u
 onward s t u h k = nat_list_cmp_total.trans s.columns t.columns u.columns h k
 
 -- it is in the one list and not in the other
-abbrev IsOnlyIn : List Tiploc → List Tiploc → Tiploc → Type 0
-IsOnlyIn l r t = Contains l t × ¬ Contains r t
+abbrev IsOnly : List Tiploc → List Tiploc → Tiploc → Type 0
+IsOnly l r t = Contains l t × ¬ Contains r t
 
 -- with an element that the other list hasn't
-more-left : (x : Tiploc) (l r : List Tiploc) → (Contains r x → ⊥) → (t : Tiploc) → IsOnlyIn (x ∷ l) r t ↔ ((x ≡ t) ⊎ IsOnlyIn l r t)
+more-left : (x : Tiploc) (l r : List Tiploc) → (Contains r x → ⊥) → (t : Tiploc) → IsOnly (x ∷ l) r t ↔ ((x ≡ t) ⊎ IsOnly l r t)
 more-left x l r none t = (
   λ h. ⊎_elim (λ is. inl is) (λ later. inr (later, h.1)) (Contains-cases x l t h.0),
   λ h. ⊎_elim
@@ -38,14 +39,14 @@ more-left x l r none t = (
       h,
 )
 
-more-right : (x : Tiploc) (l r : List Tiploc) → (Contains r x → ⊥) → (t : Tiploc) → IsOnlyIn r (x ∷ l) t ↔ IsOnlyIn r l t
+more-right : (x : Tiploc) (l r : List Tiploc) → (Contains r x → ⊥) → (t : Tiploc) → IsOnly r (x ∷ l) t ↔ IsOnly r l t
 more-right x l r none t = (
   λ h. (h.0, λ in'. h.1 (Contains-rest x l t in')),
   λ h. (h.0, λ in'. ⊎_elim (λ is. none (subst (λ u. Contains r u) (sym is) h.0)) (λ later. h.1 later) (Contains-cases x l t in')),
 )
 
 -- with an element that both have
-more-both : (x : Tiploc) (l r : List Tiploc) → (Contains l x → ⊥) → (t : Tiploc) → IsOnlyIn (x ∷ l) (x ∷ r) t ↔ IsOnlyIn l r t
+more-both : (x : Tiploc) (l r : List Tiploc) → (Contains l x → ⊥) → (t : Tiploc) → IsOnly (x ∷ l) (x ∷ r) t ↔ IsOnly l r t
 more-both x l r none t = (
   λ h. ⊎_elim
       (λ is. absurd (h.1 (subst (λ u. Contains (x ∷ r) u) is (Contains-first x r))))
@@ -59,21 +60,23 @@ more-both x l r none t = (
 
 -- ---- which is first
 
-first-less : (x : Tiploc) (l r : List Tiploc) → IsFirstOrder (x ∷ l) r (Some Less) → AllPairs Before r → (y : Tiploc) → Contains r y →
-    Before x y
-first-less x l [] h rising y in' = absurd (Contains-none y in')
-first-less x l (z ∷ r) h rising y in' = ⊎_elim
-    (λ is. subst (λ u. Before x u) is h)
-    (λ later. onward x z y h (pairs-head Before z y r rising later))
-    (Contains-cases z r y in')
+-- the location of this side is the lesser of the first ones
+abbrev pub IsLesser : Side → List Tiploc → List Tiploc → Type 0
+IsLesser Left l r = IsFirstOrder l r (Some Less)
+IsLesser Right l r = IsFirstOrder l r (Some Greater)
 
-first-greater : (y : Tiploc) (l r : List Tiploc) → IsFirstOrder l (y ∷ r) (Some Greater) → AllPairs Before l → (x : Tiploc) →
-    Contains l x → Before y x
-first-greater y [] r h rising x in' = absurd (Contains-none x in')
-first-greater y (z ∷ l) r h rising x in' = ⊎_elim
-    (λ is. subst (λ u. Before y u) is (before-greater z y h))
-    (λ later. onward y z x (before-greater z y h) (pairs-head Before z x l rising later))
-    (Contains-cases z l x in')
+lesser : (side : Side) (x : Tiploc) (own theirs : List Tiploc) →
+    IsLesser side (at_side (x ∷ own) theirs side) (at_side theirs (x ∷ own) side) → AllPairs Before theirs → (y : Tiploc) →
+    Contains theirs y → Before x y
+lesser side x own [] h rising y in' = absurd (Contains-none y in')
+lesser side x own (z ∷ theirs) h rising y in' = ⊎_elim
+    (λ is. subst (λ u. Before x u) is (heads side h))
+    (λ later. onward x z y (heads side h) (pairs-head Before z y theirs rising later))
+    (Contains-cases z theirs y in')
+  where
+    heads : (side : Side) → IsLesser side (at_side (x ∷ own) (z ∷ theirs) side) (at_side (z ∷ theirs) (x ∷ own) side) → Before x z
+    heads Left h = h
+    heads Right h = before-greater z x h
 
 pub nothing-first : (l r : List Tiploc) → IsFirstOrder l r None → (l ≡ []) × (r ≡ [])
 nothing-first [] [] h = (refl, refl)
@@ -83,231 +86,154 @@ nothing-first (x ∷ l) (y ∷ r) h = absurd h
 
 -- ---- one step
 
-abbrev IsBefore : Sided Tiploc → Sided Tiploc → Type 0
-IsBefore s t = Before s.it t.it
+module _ (x : Tiploc) (own theirs : List Tiploc) (none : Contains theirs x → ⊥) where
+  only-own : (side : Side) (t : Tiploc) → IsOnly (x ∷ own) theirs t ↔ ((with_side side x ≡ with_side side t) ⊎ IsOnly own theirs t)
+  only-own side t = let more = more-left x own theirs none t in (
+    λ h. ⊎_elim (λ is. inl (ap (with_side side) is)) (λ later. inr later) (more.0 h),
+    λ h. more.1 (⊎_elim (λ is. inl (ap (λ (s : Sided Tiploc). s.it) is)) (λ later. inr later) h),
+  )
+
+  only-theirs : (side e : Side) → (side ≡ e → ⊥) → (t : Tiploc) →
+      IsOnly theirs (x ∷ own) t ↔ ((with_side side x ≡ with_side e t) ⊎ IsOnly theirs own t)
+  only-theirs side e apart t = let more = more-right x own theirs none t in (
+    λ h. inr (more.0 h),
+    λ h. ⊎_elim (λ is. absurd (apart (ap (λ (s : Sided Tiploc). s.side) is))) (λ later. more.1 later) h,
+  )
+
+  -- a location that is left is that one, or it is left on
+  only-one : (side e : Side) (t : Tiploc) →
+      IsOnlyIn (at_side (x ∷ own) theirs side) (at_side theirs (x ∷ own) side) (with_side e t)
+      ↔ ((with_side side x ≡ with_side e t) ⊎ IsOnlyIn (at_side own theirs side) (at_side theirs own side) (with_side e t))
+  only-one Left Left t = only-own Left t
+  only-one Left Right t = only-theirs Left Right (λ is. cc) t
+  only-one Right Left t = only-theirs Right Left (λ is. cc) t
+  only-one Right Right t = only-own Right t
 
 module _ (lefts rights : List Tiploc) where
   pub sifting-nothing : AllPairs Before lefts → AllPairs Before rights → AreSifting lefts rights lefts rights []
   sifting-nothing left right = record {
-    left = λ t. (λ h. inr h, λ h. ⊎_elim (λ none. absurd (Contains-none t none)) (λ is. is) h);
-    right = λ t. (λ h. inr h, λ h. ⊎_elim (λ none. absurd (Contains-none t none)) (λ is. is) h);
+    only = λ t. (λ h. inr h, λ h. ⊎_elim (λ none. absurd (Contains-none t none)) (λ is. is) h);
     rising = λ i j d less within. absurd (omega arith);
-    left_after = λ s t in'. absurd (Contains-none s in');
-    right_after = λ s t in'. absurd (Contains-none s in');
-    left_rising = left;
-    right_rising = right;
+    after = λ s t in'. absurd (Contains-none s in');
+    rests = to-sides (λ e ts. AllPairs Before ts) lefts rights Left left right;
   }
 
-  -- in the end those that are found are all
-  pub sifting-all : (ls rs : List Tiploc) → AreDistinct ls lefts → AreDistinct rs rights → (found : List (Sided Tiploc)) →
-      AreSifting lefts rights [] [] found → AreDifferentTiplocs ls rs found
-  sifting-all ls rs p q found a = record {
-    left = λ t. (
-      λ h. let only = (a.left t).1 (inl h) in ((p.members t).1 only.0, λ in'. only.1 ((q.members t).0 in')),
-      λ h. ⊎_elim (λ is. is) (λ none. absurd (Contains-none t none.0))
-          ((a.left t).0 ((p.members t).0 h.0, λ in'. h.1 ((q.members t).1 in'))),
-    );
-    right = λ t. (
-      λ h. let only = (a.right t).1 (inl h) in ((q.members t).1 only.0, λ in'. only.1 ((p.members t).0 in')),
-      λ h. ⊎_elim (λ is. is) (λ none. absurd (Contains-none t none.0))
-          ((a.right t).0 ((q.members t).0 h.0, λ in'. h.1 ((p.members t).1 in'))),
-    );
-    rising = a.rising;
-  }
-
-  module _ (found next : List (Sided Tiploc)) where
-    found-left : (x t : Tiploc) → next ≡ found ++ (record { side = Left; it = x }) ∷ [] →
-        Contains (of_side Left next) t ↔ (Contains (of_side Left found) t ⊎ (x ≡ t))
-    found-left x t is =
-        let s : Sided Tiploc = record { side = Left; it = x } in
-        let parts : of_side Left next ≡ of_side Left found ++ x ∷ [] =
-        ap (of_side Left) is ∙ of_side-append Left found (s ∷ []) in (
-          λ h. ⊎_elim (λ old. inl old) (λ new. inr (only-one x t new))
-              (Contains-append_cases (of_side Left found) (x ∷ []) t (subst (λ (l : List Tiploc). Contains l t) parts h)),
-          λ h. subst (λ (l : List Tiploc). Contains l t) (sym parts) (⊎_elim
-              (λ old. Contains-append_left (of_side Left found) (x ∷ []) t old)
-              (λ new. Contains-append_right (of_side Left found) (x ∷ []) t
-              (subst (λ u. Contains (x ∷ []) u) new (Contains-first x [])))
-              h),
-        )
-
-    kept-left : (x t : Tiploc) → next ≡ found ++ (record { side = Right; it = x }) ∷ [] →
-        of_side Left next ≡ of_side Left found
-    kept-left x t is =
-        let s : Sided Tiploc = record { side = Right; it = x } in
-        ap (of_side Left) is ∙ of_side-append Left found (s ∷ []) ∙ append-nil (of_side Left found)
-
-    found-right : (x t : Tiploc) → next ≡ found ++ (record { side = Right; it = x }) ∷ [] →
-        Contains (of_side Right next) t ↔ (Contains (of_side Right found) t ⊎ (x ≡ t))
-    found-right x t is =
-        let s : Sided Tiploc = record { side = Right; it = x } in
-        let parts : of_side Right next ≡ of_side Right found ++ x ∷ [] =
-        ap (of_side Right) is ∙ of_side-append Right found (s ∷ []) in (
-          λ h. ⊎_elim (λ old. inl old) (λ new. inr (only-one x t new))
-              (Contains-append_cases (of_side Right found) (x ∷ []) t (subst (λ (l : List Tiploc). Contains l t) parts h)),
-          λ h. subst (λ (l : List Tiploc). Contains l t) (sym parts) (⊎_elim
-              (λ old. Contains-append_left (of_side Right found) (x ∷ []) t old)
-              (λ new. Contains-append_right (of_side Right found) (x ∷ []) t
-              (subst (λ u. Contains (x ∷ []) u) new (Contains-first x [])))
-              h),
-        )
-
-    kept-right : (x t : Tiploc) → next ≡ found ++ (record { side = Left; it = x }) ∷ [] →
-        of_side Right next ≡ of_side Right found
-    kept-right x t is =
-        let s : Sided Tiploc = record { side = Left; it = x } in
-        ap (of_side Right) is ∙ of_side-append Right found (s ∷ []) ∙ append-nil (of_side Right found)
-
-    -- what comes behind those that were found
-    in-order : (s : Sided Tiploc) → next ≡ found ++ s ∷ [] → AllPairs IsBefore found →
-        ((t : Sided Tiploc) → Contains found t → IsBefore t s) → AllPairs IsBefore next
-    in-order s is rising after =
-        subst (AllPairs IsBefore) (sym is)
-        (AllPairs-append IsBefore found (s ∷ []) rising (pairs-one IsBefore s)
-        (λ t u in_t in_u. subst (λ v. IsBefore t v) (only-one s u in_u) (after t in_t)))
-
-    after-all : (s : Sided Tiploc) → next ≡ found ++ s ∷ [] → (y : Tiploc) → ((t : Sided Tiploc) → Contains found t → Before t.it y) →
-        Before s.it y → (t : Sided Tiploc) → Contains next t → Before t.it y
-    after-all s is y old new t in' = ⊎_elim
-        (λ before. old t before)
-        (λ here. subst (λ (u : Sided Tiploc). Before u.it y) (only-one s t here) new)
-        (Contains-append_cases found (s ∷ []) t (subst (λ (l : List (Sided Tiploc)). Contains l t) is in'))
-
-    -- the left one is the lesser
-    pub sifting-left : (x : Tiploc) (l r : List Tiploc) → IsFirstOrder (x ∷ l) r (Some Less) → AreSifting lefts rights (x ∷ l) r found →
-        next ≡ found ++ (record { side = Left; it = x }) ∷ [] → AreSifting lefts rights l r next
-    sifting-left x l r first a is =
-        let less = first-less x l r first a.right_rising in
-        let none : Contains r x → ⊥ = λ in'. not-itself x (less x in') in
-        let s : Sided Tiploc = record { side = Left; it = x } in record {
-          left = λ t. (
+  module _ (found : List (Sided Tiploc)) where
+    -- one side's is the lesser
+    sifting-more : (side : Side) (x : Tiploc) (own theirs : List Tiploc) →
+        IsLesser side (at_side (x ∷ own) theirs side) (at_side theirs (x ∷ own) side) →
+        AreSifting lefts rights (at_side (x ∷ own) theirs side) (at_side theirs (x ∷ own) side) found →
+        AreSifting lefts rights (at_side own theirs side) (at_side theirs own side) (found ++ with_side side x ∷ [])
+    sifting-more side x own theirs first a =
+        let s = with_side side x in
+        let rests = from-sides (λ e ts. AllPairs Before ts) (x ∷ own) theirs side a.rests in
+        let less = lesser side x own theirs first rests.1 in
+        let none : Contains theirs x → ⊥ = λ in'. not-itself x (less x in') in
+        let were = λ (t : Sided Tiploc) (in' : Contains found t).
+        from-sides (λ e ts. (v : Tiploc) → Contains ts v → Before t.it v) (x ∷ own) theirs side (λ e v. a.after t (with_side e v) in') in
+        record {
+          only = λ t. let one = only-one x own theirs none side t.side t.it in (
             λ h. ⊎_elim
-                (λ old. inl ((found-left x t is).1 (inl old)))
-                (λ here. ⊎_elim (λ e. inl ((found-left x t is).1 (inr e))) (λ later. inr later) ((more-left x l r none t).0 here))
-                ((a.left t).0 h),
-            λ h. (a.left t).1 (⊎_elim
-                (λ new. ⊎_elim (λ old. inl old) (λ e. inr ((more-left x l r none t).1 (inl e))) ((found-left x t is).0 new))
-                (λ later. inr ((more-left x l r none t).1 (inr later)))
+                (λ old. inl (Contains-append_left found (s ∷ []) t old))
+                (λ here. ⊎_elim
+                (λ is. inl (subst (λ u. Contains (found ++ s ∷ []) u) is (Contains-push found s)))
+                (λ later. inr later)
+                (one.0 here))
+                ((a.only t).0 h),
+            λ h. (a.only t).1 (⊎_elim
+                (λ new. ⊎_elim (λ old. inl old) (λ is. inr (one.1 (inl is))) (Contains-push_cases found s t new))
+                (λ later. inr (one.1 (inr later)))
                 h),
           );
-          right = λ t. (
-            λ h. ⊎_elim
-                (λ old. inl (subst (λ (z : List Tiploc). Contains z t) (sym (kept-right x t is)) old))
-                (λ here. inr ((more-right x l r none t).0 here))
-                ((a.right t).0 h),
-            λ h. (a.right t).1 (⊎_elim
-                (λ old. inl (subst (λ (z : List Tiploc). Contains z t) (kept-right x t is) old))
-                (λ later. inr ((more-right x l r none t).1 later))
-                h),
-          );
-          rising = in-order s is a.rising (λ t in'. a.left_after t x in' (Contains-first x l));
-          left_after = λ t y in_t in_y. after-all s is y (λ u in_u. a.left_after u y in_u (Contains-rest x l y in_y))
-              (pairs-head Before x y l a.left_rising in_y) t in_t;
-          right_after = λ t y in_t in_y. after-all s is y (λ u in_u. a.right_after u y in_u in_y) (less y in_y) t in_t;
-          left_rising = pairs-tail Before x l a.left_rising;
-          right_rising = a.right_rising;
+          rising = all_pairs_push (λ (u v : Sided Tiploc). Before u.it v.it) found s a.rising
+              (λ k d below. (were (get_or found k d) (Contains-get_or found k d below)).0 x (Contains-first x own));
+          after = λ t u in_t. to-sides (λ e ts. (v : Tiploc) → Contains ts v → Before t.it v) own theirs side
+              (λ v in_v. ⊎_elim
+              (λ was. (were t was).0 v (Contains-rest x own v in_v))
+              (λ is. subst (λ (w : Sided Tiploc). Before w.it v) is (pairs-head Before x v own rests.0 in_v))
+              (Contains-push_cases found s t in_t))
+              (λ v in_v. ⊎_elim
+              (λ was. (were t was).1 v in_v)
+              (λ is. subst (λ (w : Sided Tiploc). Before w.it v) is (less v in_v))
+              (Contains-push_cases found s t in_t))
+              u.side u.it;
+          rests = to-sides (λ e ts. AllPairs Before ts) own theirs side (pairs-tail Before x own rests.0) rests.1;
         }
 
-    -- the right one is
-    pub sifting-right : (y : Tiploc) (l r : List Tiploc) → IsFirstOrder l (y ∷ r) (Some Greater) →
-        AreSifting lefts rights l (y ∷ r) found → next ≡ found ++ (record { side = Right; it = y }) ∷ [] → AreSifting lefts rights l r next
-    sifting-right y l r first a is =
-        let less = first-greater y l r first a.left_rising in
-        let none : Contains l y → ⊥ = λ in'. not-itself y (less y in') in
-        let s : Sided Tiploc = record { side = Right; it = y } in record {
-          left = λ t. (
-            λ h. ⊎_elim
-                (λ old. inl (subst (λ (z : List Tiploc). Contains z t) (sym (kept-left y t is)) old))
-                (λ here. inr ((more-right y r l none t).0 here))
-                ((a.left t).0 h),
-            λ h. (a.left t).1 (⊎_elim
-                (λ old. inl (subst (λ (z : List Tiploc). Contains z t) (kept-left y t is) old))
-                (λ later. inr ((more-right y r l none t).1 later))
-                h),
-          );
-          right = λ t. (
-            λ h. ⊎_elim
-                (λ old. inl ((found-right y t is).1 (inl old)))
-                (λ here. ⊎_elim (λ e. inl ((found-right y t is).1 (inr e))) (λ later. inr later) ((more-left y r l none t).0 here))
-                ((a.right t).0 h),
-            λ h. (a.right t).1 (⊎_elim
-                (λ new. ⊎_elim (λ old. inl old) (λ e. inr ((more-left y r l none t).1 (inl e))) ((found-right y t is).0 new))
-                (λ later. inr ((more-left y r l none t).1 (inr later)))
-                h),
-          );
-          rising = in-order s is a.rising (λ t in'. a.right_after t y in' (Contains-first y r));
-          left_after = λ t x in_t in_x. after-all s is x (λ u in_u. a.left_after u x in_u in_x) (less x in_x) t in_t;
-          right_after = λ t z in_t in_z. after-all s is z (λ u in_u. a.right_after u z in_u (Contains-rest y r z in_z))
-              (pairs-head Before y z r a.right_rising in_z) t in_t;
-          left_rising = a.left_rising;
-          right_rising = pairs-tail Before y r a.right_rising;
-        }
+    pub moved : (next : List (Sided Tiploc)) (side : Side) (l r l' r' : List Tiploc) → IsLesser side l r →
+        HasMovedOf side l r l' r' found next → AreSifting lefts rights l r found → AreSifting lefts rights l' r' next
+    moved next Left l r l' r' first (one, same) a =
+        rw (same, one.new_is) (sifting-more Left one.item l' r (rw one.items_are at first) (rw one.items_are at a))
+    moved next Right l r l' r' first (one, same) a =
+        rw (same, one.new_is) (sifting-more Right one.item r' l (rw one.items_are at first) (rw one.items_are at a))
 
-    moved-left : (l r rest : List Tiploc) → IsFirstOrder l r (Some Less) → HasMoved Left l rest found next →
-        AreSifting lefts rights l r found → AreSifting lefts rights rest r next
-    moved-left l r rest first moved a =
-        sifting-left moved.item rest r (subst (λ (z : List Tiploc). IsFirstOrder z r (Some Less)) moved.items_are first)
-        (subst (λ (z : List Tiploc). AreSifting lefts rights z r found) moved.items_are a) moved.new_is
+    -- both have it
+    sifting-both : (x : Tiploc) (l r : List Tiploc) → AreSifting lefts rights (x ∷ l) (x ∷ r) found → AreSifting lefts rights l r found
+    sifting-both x l r a = record {
+      only = λ t. let one = only-one t.side t.it in (
+        λ h. ⊎_elim (λ old. inl old) (λ here. inr (one.0 here)) ((a.only t).0 h),
+        λ h. (a.only t).1 (⊎_elim (λ old. inl old) (λ later. inr (one.1 later)) h),
+      );
+      rising = a.rising;
+      after = λ s t in_s. to-sides (λ e ts. (v : Tiploc) → Contains ts v → Before s.it v) l r Left
+          (λ v in_v. a.after s (with_side Left v) in_s (Contains-rest x l v in_v))
+          (λ v in_v. a.after s (with_side Right v) in_s (Contains-rest x r v in_v))
+          t.side t.it;
+      rests = to-sides (λ e ts. AllPairs Before ts) l r Left (pairs-tail Before x l (a.rests Left)) (pairs-tail Before x r (a.rests Right));
+    } where
+      none : (ts : List Tiploc) → AllPairs Before (x ∷ ts) → Contains ts x → ⊥
+      none ts rising in' = not-itself x (pairs-head Before x x ts rising in')
 
-    moved-right : (l r rest : List Tiploc) → IsFirstOrder l r (Some Greater) → HasMoved Right r rest found next →
-        AreSifting lefts rights l r found → AreSifting lefts rights l rest next
-    moved-right l r rest first moved a =
-        sifting-right moved.item l rest (subst (λ (z : List Tiploc). IsFirstOrder l z (Some Greater)) moved.items_are first)
-        (subst (λ (z : List Tiploc). AreSifting lefts rights l z found) moved.items_are a) moved.new_is
+      only-one : (side : Side) (t : Tiploc) → IsOnlyIn (x ∷ l) (x ∷ r) (with_side side t) ↔ IsOnlyIn l r (with_side side t)
+      only-one Left t = more-both x l r (none l (a.rests Left)) t
+      only-one Right t = more-both x r l (none r (a.rests Right)) t
 
-    pub left-moved : (l r l' r' : List Tiploc) → IsFirstOrder l r (Some Less) → HasMovedOf Left l r l' r' found next →
-        AreSifting lefts rights l r found → AreSifting lefts rights l' r' next
-    left-moved l r l' r' first (moved, same) a =
-        subst (λ (z : List Tiploc). AreSifting lefts rights l' z next) (sym same) (moved-left l r l' first moved a)
+    pub passed-both : (l r : List Tiploc) → IsFirstOrder l r (Some Equal) → AreSifting lefts rights l r found →
+        (l' r' : List Tiploc) → l' ≡ drop 1 l → r' ≡ drop 1 r →
+        AreSifting lefts rights l' r' found × (length l' + length r' < length l + length r)
+    passed-both [] [] h a l' r' e f = absurd h
+    passed-both [] (y ∷ r) h a l' r' e f = absurd h
+    passed-both (x ∷ l) [] h a l' r' e f = absurd h
+    passed-both (x ∷ l) (y ∷ r) h a l' r' e f =
+        let same : x ≡ y = equal-tiplocs x y h in (
+          subst (λ (z : List Tiploc). AreSifting lefts rights z r' found) (sym e)
+              (subst (λ (z : List Tiploc). AreSifting lefts rights l z found) (sym f)
+              (sifting-both x l r (subst (λ z. AreSifting lefts rights (x ∷ l) (z ∷ r) found) (sym same) a))),
+          let one : length l' ≡ length l = ap (λ (z : List Tiploc). length z) e in
+              let other : length r' ≡ length r = ap (λ (z : List Tiploc). length z) f in omega (arith, one, other),
+        )
 
-    pub right-moved : (l r l' r' : List Tiploc) → IsFirstOrder l r (Some Greater) → HasMovedOf Right l r l' r' found next →
-        AreSifting lefts rights l r found → AreSifting lefts rights l' r' next
-    right-moved l r l' r' first (moved, same) a =
-        subst (λ (z : List Tiploc). AreSifting lefts rights z r' next) (sym same) (moved-right l r r' first moved a)
+    -- in the end those that are found are all
+    sifting-all : (ls rs : List Tiploc) → AreDistinct ls lefts → AreDistinct rs rights → AreSifting lefts rights [] [] found →
+        AreDifferentTiplocs ls rs found
+    sifting-all ls rs p q a = record {
+      only = λ t. let own = members t.side t.it in (
+        λ h. own.0 ((a.only t).1 (inl h)),
+        λ h. ⊎_elim (λ is. is) (λ none. absurd (nothing t.side t.it none.0)) ((a.only t).0 (own.1 h)),
+      );
+      rising = a.rising;
+    } where
+      nothing : (side : Side) (t : Tiploc) → Contains (at_side [] [] side) t → ⊥
+      nothing Left = Contains-none
+      nothing Right = Contains-none
 
-  -- both have it
-  sifting-both : (x : Tiploc) (l r : List Tiploc) (found : List (Sided Tiploc)) → AreSifting lefts rights (x ∷ l) (x ∷ r) found →
-      AreSifting lefts rights l r found
-  sifting-both x l r found a =
-      let no_left : Contains l x → ⊥ = λ in'. not-itself x (pairs-head Before x x l a.left_rising in') in
-      let no_right : Contains r x → ⊥ = λ in'. not-itself x (pairs-head Before x x r a.right_rising in') in record {
-        left = λ t. (
-          λ h. ⊎_elim (λ old. inl old) (λ here. inr ((more-both x l r no_left t).0 here)) ((a.left t).0 h),
-          λ h. (a.left t).1 (⊎_elim (λ old. inl old) (λ later. inr ((more-both x l r no_left t).1 later)) h),
-        );
-        right = λ t. (
-          λ h. ⊎_elim (λ old. inl old) (λ here. inr ((more-both x r l no_right t).0 here)) ((a.right t).0 h),
-          λ h. (a.right t).1 (⊎_elim (λ old. inl old) (λ later. inr ((more-both x r l no_right t).1 later)) h),
-        );
-        rising = a.rising;
-        left_after = λ s t in_s in_t. a.left_after s t in_s (Contains-rest x l t in_t);
-        right_after = λ s t in_s in_t. a.right_after s t in_s (Contains-rest x r t in_t);
-        left_rising = pairs-tail Before x l a.left_rising;
-        right_rising = pairs-tail Before x r a.right_rising;
-      }
-
-  pub passed-both : (l r : List Tiploc) (found : List (Sided Tiploc)) → IsFirstOrder l r (Some Equal) → AreSifting lefts rights l r found →
-      (l' r' : List Tiploc) → l' ≡ drop 1 l → r' ≡ drop 1 r →
-      AreSifting lefts rights l' r' found × (length l' + length r' < length l + length r)
-  passed-both [] [] found h a l' r' e f = absurd h
-  passed-both [] (y ∷ r) found h a l' r' e f = absurd h
-  passed-both (x ∷ l) [] found h a l' r' e f = absurd h
-  passed-both (x ∷ l) (y ∷ r) found h a l' r' e f =
-      let same : x ≡ y = equal-tiplocs x y h in (
-        subst (λ (z : List Tiploc). AreSifting lefts rights z r' found) (sym e)
-            (subst (λ (z : List Tiploc). AreSifting lefts rights l z found) (sym f)
-            (sifting-both x l r found (subst (λ z. AreSifting lefts rights (x ∷ l) (z ∷ r) found) (sym same) a))),
-        let one : length l' ≡ length l = ap (λ (z : List Tiploc). length z) e in
-            let other : length r' ≡ length r = ap (λ (z : List Tiploc). length z) f in omega (arith, one, other),
+      same : (us us' vs vs' : List Tiploc) → AreDistinct us us' → AreDistinct vs vs' → (t : Tiploc) → IsOnly us' vs' t ↔ IsOnly us vs t
+      same us us' vs vs' d e t = (
+        λ h. ((d.members t).1 h.0, λ in'. h.1 ((e.members t).0 in')),
+        λ h. ((d.members t).0 h.0, λ in'. h.1 ((e.members t).1 in')),
       )
 
-  pub sifting-end : (l r ls rs : List Tiploc) → AreDistinct ls lefts → AreDistinct rs rights → (found : List (Sided Tiploc)) →
-      IsFirstOrder l r None → AreSifting lefts rights l r found → AreDifferentTiplocs ls rs found
-  sifting-end l r ls rs p q found h a =
-      let (no_left, no_right) = nothing-first l r h in
-      sifting-all ls rs p q found
-      (subst (λ (z : List Tiploc). AreSifting lefts rights [] z found) no_right
-      (subst (λ (z : List Tiploc). AreSifting lefts rights z r found) no_left a))
+      members : (side : Side) (t : Tiploc) → IsOnlyIn lefts rights (with_side side t) ↔ IsOnlyIn ls rs (with_side side t)
+      members Left = same ls lefts rs rights p q
+      members Right = same rs rights ls lefts q p
+
+    pub sifting-end : (l r ls rs : List Tiploc) → AreDistinct ls lefts → AreDistinct rs rights →
+        IsFirstOrder l r None → AreSifting lefts rights l r found → AreDifferentTiplocs ls rs found
+    sifting-end l r ls rs p q h a =
+        let (no_left, no_right) = nothing-first l r h in
+        sifting-all ls rs p q
+        (subst (λ (z : List Tiploc). AreSifting lefts rights [] z found) no_right
+        (subst (λ (z : List Tiploc). AreSifting lefts rights z r found) no_left a))
 
 -- the slice behind the first
 pub behind-first : (l : List Tiploc) → take (length l - 1) (drop 1 l) ≡ drop 1 l

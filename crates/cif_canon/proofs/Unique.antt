@@ -5,24 +5,17 @@ use Rattle.std.specs.declared.cmp.Ordering.TheVariants.{Less}
 use Rattle.std.specs.Cmp.{IsTotalOrder}
 use Rattle.std.specs.Cmp.Lexicographic.{slice_cmp, nat_list_cmp_total}
 use Rattle.std.specs.Ordering.{nat_cmp}
-use Rattle.std.proofs.lemmas.Cmp.{then_total}
-use Rattle.cif_calendar.specs.Terms.{Terms}
-use Rattle.cif_calendar.specs.Meaning.{EntriesSayTheSame}
-use Rattle.cif_extract.specs.ExtractParts.{ExtractParts}
-use Rattle.cif_records.specs.AssocKey.{key_cmp}
-use Rattle.cif_records.specs.declared.association.AssocKey.{AssocKey}
-use Rattle.cif_records.specs.declared.tiploc.Tiploc.{Tiploc}
+use Rattle.std.proofs.lemmas.Cmp.{on_total, then_total}
 use Rattle.cif_records.proofs.Headers.{same_header}
 use Rattle.cif_weeks.specs.Permanent.{permanent_entries}
-use Rattle.cif_weeks.specs.Window.{Window}
-use Rattle.cif_weeks.specs.declared.form.Form.{Form}
 use Rattle.cif_weeks.proofs.PermanentEntries.{same-meaning}
 use Rattle.cif_calendar.proofs.RisingLists.{IsOneWay, same_members, less_one_way}
 use Rattle.cif_weeks.proofs.UniqueByKey.{unique_same}
 use Rattle.cif_canon.specs.Asked.{header_window}
 use Rattle.cif_canon.specs.Canonical.{AreCanonicalEntries, IsCanonicalExtract}
-use Rattle.cif_calendar.specs.Entries.{association_entries, schedule_entries}
 use Rattle.cif_canon.specs.Meaning.{Agree, SameMeaning}
+use Rattle.cif_canon.proofs.Words.{AssocKey, EntriesSayTheSame, ExtractParts, Form, Terms, Tiploc, Window, association_entries, key_cmp}
+use Rattle.cif_canon.proofs.Words.{schedule_entries}
 use Rattle.cif_canon.proofs.SameExtracts.{one-window, same-associations, same-parts, same-schedules}
 
 module _ {K B : Type 0} (cmp : K → K → Ordering) (total : IsTotalOrder cmp) (form : Form) (window : Window) where
@@ -37,30 +30,19 @@ module _ {K B : Type 0} (cmp : K → K → Ordering) (total : IsTotalOrder cmp) 
       (subst (λ vs. EntriesSayTheSame xs vs window.first window.last) y.are same))))
       ∙ sym y.are
 
--- an order by what stands in a record
-order-of : {X K : Type 0} (cmp : K → K → Ordering) (total : IsTotalOrder cmp) (f : X → K) → IsTotalOrder (λ a b. cmp (f a) (f b))
-order-of cmp total f = record {
-  antisymm = λ a b. total.antisymm (f a) (f b);
-  trans = λ a b c. total.trans (f a) (f b) (f c);
-  congr = λ a b c. total.congr (f a) (f b) (f c);
-}
-
-bytes-total : IsTotalOrder (slice_cmp nat_cmp)
-bytes-total = nat_list_cmp_total
-
 pub keys-total : IsTotalOrder key_cmp
 keys-total =
-    then_total (order-of (slice_cmp nat_cmp) bytes-total (λ (a : AssocKey). a.base))
-    (then_total (order-of (slice_cmp nat_cmp) bytes-total (λ (a : AssocKey). a.associated))
-    (then_total (order-of (slice_cmp nat_cmp) bytes-total (λ (a : AssocKey). a.location))
-    (then_total (order-of (slice_cmp nat_cmp) bytes-total (λ (a : AssocKey). a.base_suffix))
-    (order-of (slice_cmp nat_cmp) bytes-total (λ (a : AssocKey). a.associated_suffix)))))
+    then_total (on_total (λ (a : AssocKey). a.base) nat_list_cmp_total)
+    (then_total (on_total (λ (a : AssocKey). a.associated) nat_list_cmp_total)
+    (then_total (on_total (λ (a : AssocKey). a.location) nat_list_cmp_total)
+    (then_total (on_total (λ (a : AssocKey). a.base_suffix) nat_list_cmp_total)
+    (on_total (λ (a : AssocKey). a.associated_suffix) nat_list_cmp_total))))
 
 -- no two locations come each before the other
 tiplocs-one_way : IsOneWay (λ (s t : Tiploc). slice_cmp nat_cmp s.columns t.columns ≡ Less)
 tiplocs-one_way s t up down =
     less_one_way (λ (a b : Tiploc). slice_cmp nat_cmp a.columns b.columns)
-    (order-of (slice_cmp nat_cmp) bytes-total (λ (a : Tiploc). a.columns)) s t up down
+    (on_total (λ (a : Tiploc). a.columns) nat_list_cmp_total) s t up down
 
 -- in one window, canonical extracts that agree have the same records
 module _ (form : Form) (x y : ExtractParts) (p : IsCanonicalExtract form x) (q : IsCanonicalExtract form y)
@@ -81,7 +63,7 @@ module _ (form : Form) (x y : ExtractParts) (p : IsCanonicalExtract form x) (q :
   pub one-schedules : x.schedules ≡ y.schedules
   one-schedules =
       same-schedules x.schedules y.schedules
-      (entries-unique (slice_cmp nat_cmp) bytes-total form
+      (entries-unique (slice_cmp nat_cmp) nat_list_cmp_total form
       (header_window x.header) (schedule_entries x.schedules) (schedule_entries y.schedules)
       p.schedules (subst (λ w. AreCanonicalEntries (slice_cmp nat_cmp) form w (schedule_entries y.schedules)) (sym window) q.schedules)
       agree.schedules)

@@ -1,21 +1,13 @@
 -- The parts of the text of differences, appended one after another.
 use Rattle.std.proofs.Common.{ℕ, List, ◌++◌, Option}
 use Rattle.std.specs.List.{flat_map}
-use Rattle.cif_calendar.specs.Entries.{association_entries, schedule_entries}
-use Rattle.cif_columns.specs.declared.sink.Sink.{Sink}
-use Rattle.cif_extract.specs.BodyParts.{BodyParts}
-use Rattle.cif_extract.specs.declared.extract.Schedule.{Schedule}
-use Rattle.cif_records.specs.declared.association.AssocBody.{AssocBody}
-use Rattle.cif_records.specs.declared.association.AssocKey.{AssocKey}
-use Rattle.cif_records.specs.declared.association.Association.{Association}
-use Rattle.cif_records.specs.declared.tiploc.Tiploc.{Tiploc}
-use Rattle.cif_weeks.specs.Permanent.{Permanent}
-use Rattle.cif_weeks.specs.declared.run.Run.{Run}
 use Rattle.cif_canon.specs.Differences.{marked_association, marked_schedule, marked_tiploc}
 use Rattle.cif_canon.specs.Steps.Sides.{sided_records, sided_run_text}
 use Rattle.cif_canon.specs.Appended.{IsAppended}
 use Rattle.cif_canon.specs.declared.listed_differences.Side.TheVariants.{Left, Right}
 use Rattle.cif_canon.specs.declared.listed_differences.Sided.{Sided}
+use Rattle.cif_canon.proofs.Words.{AssocBody, AssocKey, Association, BodyParts, Permanent, Run, Schedule, Sink, Tiploc, association_entries}
+use Rattle.cif_canon.proofs.Words.{schedule_entries}
 use Rattle.cif_canon.proofs.AppendedTexts.{both, text-is}
 use Rattle.cif_canon.proofs.SidedTexts.{sided-text}
 

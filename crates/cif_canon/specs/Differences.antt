@@ -52,6 +52,11 @@ abbrev pub of_side : {A : Type 0} → Side → List (Sided A) → List A
 of_side side [] = []
 of_side side (s ∷ rest) = if is_side side s.side then s.it ∷ of_side side rest else of_side side rest
 
+-- the one that is of a side, where the first is the left one's and the second the right one's
+abbrev pub at_side : {A : Type 0} → A → A → Side → A
+at_side left right Left = left
+at_side left right Right = right
+
 -- The records are the canonical records, in form 2, of what only the first list says: on each day of the window one with body b
 -- applies exactly where the first list alone says b.
 pub record AreOnlyRecords {K B : Type 0} (cmp : K → K → Ordering) (window : Window) (xs ys : List (K × Terms B))
@@ -68,14 +73,16 @@ ComesBefore cmp s t =
 -- the differences of two lists of entries: the records of what only the left one says and of what only the right one says, in order
 pub record AreDifferentRecords {K B : Type 0} (cmp : K → K → Ordering) (window : Window) (xs ys : List (K × Terms B))
     (found : List (Sided (K × Permanent B))) : Type 0 where
-  pub left : AreOnlyRecords cmp window xs ys (of_side Left found)
-  pub right : AreOnlyRecords cmp window ys xs (of_side Right found)
+  pub only : (side : Side) → AreOnlyRecords cmp window (at_side xs ys side) (at_side ys xs side) (of_side side found)
   pub in_order : AllPairs (ComesBefore cmp) found
+
+-- of two lists only that of the location's side has it
+abbrev pub IsOnlyIn : List Tiploc → List Tiploc → Sided Tiploc → Type 0
+IsOnlyIn xs ys s = Contains (at_side xs ys s.side) s.it × ¬ Contains (at_side ys xs s.side) s.it
 
 -- the locations that only one of two lists has, rising strictly by their columns
 pub record AreDifferentTiplocs (xs ys : List Tiploc) (found : List (Sided Tiploc)) : Type 0 where
-  pub left : (t : Tiploc) → Contains (of_side Left found) t ↔ (Contains xs t × ¬ Contains ys t)
-  pub right : (t : Tiploc) → Contains (of_side Right found) t ↔ (Contains ys t × ¬ Contains xs t)
+  pub only : (s : Sided Tiploc) → Contains found s ↔ IsOnlyIn xs ys s
   pub rising : AllPairs (λ s t. slice_cmp nat_cmp s.it.columns t.it.columns ≡ Less) found
 
 -- the differences of two extracts: locations, records of associations, records of schedules

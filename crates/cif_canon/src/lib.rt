@@ -10,6 +10,7 @@ mod differing;
 pub mod laws;
 mod listed_differences;
 mod normal_form;
+mod only_days;
 mod pair;
 mod records;
 pub mod rows;
@@ -27,6 +28,5 @@ pub use normal_form::{
     canon, check, check_keeping, normalise, normalise_keeping, read_narrowed, report,
 };
 pub use pair::read_pair;
-pub use records::NamedEntry;
 pub use rows::{Format, Shape};
 pub use views::{DayLines, TrainLines, day_view, train_view, write_day, write_train};

@@ -4,9 +4,9 @@ ghost use Rattle.std.specs.List.{flat_map};
 ghost use Rattle.cif_calendar.specs.Keys.{keyed};
 ghost use Rattle.cif_columns.specs.Sink.{Writes};
 ghost use Rattle.cif_extract.specs.declared.fault.Fault.TheVariants.{Write};
-ghost use Rattle.cif_canon.specs.Differences.{mark, marked_text, marked_tiploc};
+ghost use Rattle.cif_canon.specs.Differences.{at_side, mark, marked_text, marked_tiploc};
 ghost use Rattle.cif_canon.specs.Steps.OnlySides.{HasMovedOf};
-ghost use Rattle.cif_canon.specs.Steps.Sides.{HasSidedRecord, at_side, sided_run_text};
+ghost use Rattle.cif_canon.specs.Steps.Sides.{HasSidedRecord, sided_run_text};
 ghost use Rattle.cif_canon.specs.Appended.{IsAppended};
 
 use crate::canonical_form::{RecordLines, write_run};

@@ -13,10 +13,11 @@ ghost use Rattle.cif_canon.specs.Steps.Records.{AreRunsOfKey, IsKeyFault, extrac
 ghost use Rattle.cif_weeks.specs.Window.{window_from};
 ghost use Rattle.cif_weeks.specs.declared.form.Form.{Form as AForm};
 
-use cif_calendar::{CalendarFault, Entry, Window, calendar, count_of_first_key, positions_by_key};
+use cif_calendar::{
+    CalendarFault, Entry, NamedEntry, Window, calendar, count_of_first_key, positions_by_key,
+};
 use cif_columns::Day;
-use cif_extract::{Clash, Extract, Fault, Schedule};
-use cif_records::Association;
+use cif_extract::{Extract, Fault};
 use cif_weeks::{Form, Run, runs, runs_of_few};
 use std::alloc::Global;
 
@@ -49,39 +50,6 @@ pub(crate) fn extract_runs(
         associations,
         schedules,
     })
-}
-
-/// An entry whose clashes have names.
-pub trait NamedEntry: Entry {
-    ghost use Rattle.std.specs.Prelude.{ℕ};
-    ghost use Rattle.cif_extract.specs.declared.fault.Clash.{Clash};
-
-    // The clash of a key on a day.
-    ghost clash_of: { Self.Key → ℕ → Clash };
-
-    /// The clash of its key on a day.
-    fn clash_on(&self, day: Day) -> Clash
-        ensures { result ≡ clash_of (Self.key self.now) day };
-}
-
-impl NamedEntry for Association {
-    ghost use Rattle.cif_extract.specs.declared.fault.Clash.TheVariants as clash;
-
-    ghost clash_of = { clash.Association };
-
-    fn clash_on(&self, day: Day) -> Clash {
-        Clash::Association(self.key.copy(), day)
-    }
-}
-
-impl NamedEntry for Schedule {
-    ghost use Rattle.cif_extract.specs.declared.fault.Clash.TheVariants as clash;
-
-    ghost clash_of = { clash.Train };
-
-    fn clash_on(&self, day: Day) -> Clash {
-        Clash::Train(self.uid, day)
-    }
 }
 
 /// A fault of the calendar of the entry's key, as one of the extract.

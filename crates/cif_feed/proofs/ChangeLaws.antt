@@ -111,7 +111,7 @@ module _ {K I : Type 0} (same : K → K → Bool) where
 
 -- ---- tests of keys
 
-bools : (a b : Bool) → (IsTrue a → IsTrue b) → (IsTrue b → IsTrue a) → a ≡ b
+pub bools : (a b : Bool) → (IsTrue a → IsTrue b) → (IsTrue b → IsTrue a) → a ≡ b
 bools true true to back = refl
 bools false false to back = refl
 bools true false to back = sym (to refl)

@@ -2,7 +2,6 @@ pub mod ChangeLaws
 pub mod PartLists
 pub mod PreparedLists
 pub mod PreparedRuns
-pub mod PreparedWriting
 pub mod GrownHolidays
 pub mod DatesFrom
 pub mod WordLists
@@ -25,3 +24,18 @@ pub mod OwnReasons
 pub mod ToldReasons
 pub mod JudgedRuns
 pub mod WrittenItems
+pub mod ListSteps
+pub mod DroppedKeys
+pub mod CutCounts
+pub mod KnownLines
+pub mod OwnLines
+pub mod OwnParts
+pub mod PublishedLines
+pub mod PublishedTexts
+pub mod StillLines
+pub mod FittingUpdates
+pub mod UpdatesInTurn
+pub mod PreparedFits
+pub mod WrittenOver
+pub mod FeedLayouts
+pub mod WrittenPrepared

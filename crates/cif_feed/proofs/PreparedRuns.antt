@@ -21,6 +21,7 @@ use Rattle.cif_feed.specs.declared.holidays.Holidays.{Holidays}
 use Rattle.cif_feed.specs.declared.part.Part.{Part}
 use Rattle.cif_feed.specs.declared.published.PublishedAssociation.{PublishedAssociation}
 use Rattle.cif_feed.specs.declared.published.PublishedSchedule.{PublishedSchedule}
+use Rattle.cif_feed.proofs.ListSteps.{Contains-from_map, Contains-map}
 
 -- ---- two sets of records
 
@@ -96,21 +97,6 @@ module _ {B : Type 0} (h : Holidays) (code : Option HolidayCode) (r : Terms B) (
       }
 
 -- ---- the records of each key
-
-module _ {X Y : Type 0} (f : X → Y) where
-  Contains-map : (xs : List X) (x : X) → Contains xs x → Contains (map f xs) (f x)
-  Contains-map [] x (k, below, is) = absurd (omega arith)
-  Contains-map (y ∷ ys) x has = ⊎_elim
-      (λ first. subst (λ (z : X). Contains (map f (y ∷ ys)) (f z)) first (Contains-first (f y) (map f ys)))
-      (λ rest. Contains-rest (f y) (map f ys) (f x) (Contains-map ys x rest))
-      (Contains-cases y ys x has)
-
-  Contains-from_map : (xs : List X) (y : Y) → Contains (map f xs) y → (x : X) × Contains xs x × (f x ≡ y)
-  Contains-from_map [] y (k, below, is) = absurd (omega arith)
-  Contains-from_map (x ∷ xs) y has = ⊎_elim
-      (λ first. (x, Contains-first x xs, first))
-      (λ rest. let (z, listed, is) = Contains-from_map xs y rest in (z, Contains-rest x xs z listed, is))
-      (Contains-cases (f x) (map f xs) y has)
 
 module _ {K B : Type 0} (h : Holidays) (window_last : ℕ) where
   -- the parts of one entry

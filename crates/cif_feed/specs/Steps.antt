@@ -1,10 +1,10 @@
 -- What the contracts of the code's own steps speak of. No clause of a public function cites it, so nothing here has to be believed.
 pub mod Changes
+pub mod Dropping
 pub mod FeedReading
 pub mod HolidayReading
 pub mod Judging
 pub mod Marked
 pub mod PartsSoFar
 pub mod PreparedSoFar
-pub mod PreparedTexts
 pub mod Written

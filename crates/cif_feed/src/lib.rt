@@ -2,6 +2,8 @@
 #![tactic(auto)]
 
 mod changes;
+mod cut_count;
+mod drop_clashes;
 mod feed;
 mod feed_reading;
 mod from_lines;
@@ -14,7 +16,6 @@ mod mark;
 mod part;
 mod prepare;
 mod prepared_record;
-mod prepared_text;
 mod profile_line;
 mod published;
 mod published_extract;
@@ -23,6 +24,7 @@ mod record_keys;
 mod update;
 mod words;
 mod written;
+mod written_prepared;
 
 pub use changes::{Action, Change, Keyed, RefusedLine, apply};
 pub use feed::{Feed, FeedFault};
@@ -39,3 +41,4 @@ pub use published::{PublishedAssociation, PublishedSchedule};
 pub use published_extract::PublishedExtract;
 pub use reasons::Reasons;
 pub use update::{Outcome, Update, UpdateCounts};
+pub use written_prepared::write_prepared;

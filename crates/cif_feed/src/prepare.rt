@@ -1,6 +1,8 @@
 //! The prepared extract of a published one: the parts of its records.
 ghost use Rattle.std.specs.Prelude.{◌≡◌, ◌≤◌, ◌++◌, List, Option, All, IfOk, map};
 ghost use Rattle.cif_calendar.specs.Entries.{association_entries, schedule_entries, schedule_terms};
+ghost use Rattle.cif_columns.specs.Sink.{Writes};
+ghost use Rattle.cif_extract.specs.Texts.{extract_text};
 ghost use Rattle.cif_feed.specs.Prepared.{ArePartsOf, ArePrepared, part_entry, prepared_last};
 ghost use Rattle.cif_feed.specs.Prepared.{published_terms};
 ghost use Rattle.cif_feed.specs.PreparedParts.{IsPrepared, association_on, schedule_on};
@@ -10,11 +12,12 @@ ghost use Rattle.cif_feed.specs.Steps.PreparedSoFar.{IsPushed};
 ghost use Rattle.cif_feed.specs.declared.holiday_code.HolidayCode.{HolidayCode};
 ghost use Rattle.cif_feed.specs.declared.part.Part.{Part};
 
+use crate::written::write_records;
 use crate::{
     Holidays, Part, PreparedRecord, PublishedAssociation, PublishedExtract, PublishedSchedule,
 };
 use cif_calendar::Entry;
-use cif_columns::Day;
+use cif_columns::{Day, Sink, WriteDevice, WriteFault};
 use cif_extract::Schedule;
 use cif_records::Association;
 use std::alloc::{AllocError, Global};
@@ -39,7 +42,8 @@ impl<'a> Model for Prepared<'a> {
 }
 
 impl PublishedExtract {
-    /// Its prepared extract, with these holidays.
+    /// Its prepared extract, with these holidays. A code that they don't name cuts nothing; an extract
+    /// that is read with `Holidays::codes` has none.
     pub fn prepare<'a>(
         &'a self,
         alloc: Global,
@@ -55,6 +59,23 @@ impl PublishedExtract {
             associations,
             schedules,
         })
+    }
+}
+
+impl<'a> Prepared<'a> {
+    /// Appends its text: the plain lines of the header, the locations, the associations, the schedules
+    /// and the trailer, each with a line feed. It takes no memory.
+    pub fn write<W: WriteDevice>(&self, sink: &mut Sink<W>) -> Result<(), WriteFault>
+        ensures { Writes W.contents W.write_errors (extract_text self.now) sink.old sink.new result }
+    {
+        let published = self.published;
+        write_records(
+            &published.header,
+            published.tiplocs.as_slice(),
+            self.associations.as_slice(),
+            self.schedules.as_slice(),
+            sink,
+        )
     }
 }
 
@@ -145,7 +166,7 @@ fn push<'a, E, D: Drop>(
 }
 
 /// The last date of a record in the prepared extract, by that of the window.
-fn prepared_last<E: Entry>(entry: &E, open_end: bool, window_last: Day) -> Day
+pub(crate) fn prepared_last<E: Entry>(entry: &E, open_end: bool, window_last: Day) -> Day
     ensures last { (code : Option HolidayCode)
         → result ≡ prepared_last window_last (published_terms (E.terms entry.now) open_end code) }
     ensures in_order { (E.terms entry.now).first ≤ result }

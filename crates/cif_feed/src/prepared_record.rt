@@ -2,8 +2,11 @@
 ghost use Rattle.std.specs.Prelude.{◌≡◌, max};
 ghost use Rattle.cif_feed.specs.PreparedRecord.{terms_on};
 
-use cif_calendar::Entry;
-use cif_columns::{Day, DaysRun, Stp};
+use crate::written::{Written, write_schedule};
+use cif_calendar::{Entry, NamedEntry};
+use cif_columns::{Day, DaysRun, LineTexts, Sink, Stp, WriteDevice, WriteFault};
+use cif_extract::{Clash, Schedule};
+use cif_records::Association;
 
 /// A record of a published extract on other dates: on those of a part of it. A last date before the
 /// first counts as the first.
@@ -68,6 +71,43 @@ impl<'a, E: Entry> Entry for PreparedRecord<'a, E, Day> {
     ghost dates_ordered = { λ p. le-max_left p.first p.last };
 
     ghost cancelled = { λ p. E.cancelled p.entry.now };
+}
+
+impl<'a, E: NamedEntry> NamedEntry for PreparedRecord<'a, E, Day> {
+    ghost clash_of = { E.clash_of };
+
+    fn clash_on(&self, day: Day) -> Clash {
+        self.entry.clash_on(day)
+    }
+}
+
+impl<'a> Written for PreparedRecord<'a, Association, Day> {
+    ghost use Rattle.cif_feed.specs.Steps.Written.{prepared_association_text};
+
+    ghost text = { prepared_association_text };
+
+    fn write<W: WriteDevice>(
+        &self,
+        _texts: &mut LineTexts,
+        sink: &mut Sink<W>,
+    ) -> Result<(), WriteFault> {
+        sink.write_line(&self.entry.line_on(self.first, self.last()))
+    }
+}
+
+impl<'a> Written for PreparedRecord<'a, Schedule, Day> {
+    ghost use Rattle.cif_feed.specs.Steps.Written.{prepared_schedule_text};
+
+    ghost text = { prepared_schedule_text };
+
+    fn write<W: WriteDevice>(
+        &self,
+        texts: &mut LineTexts,
+        sink: &mut Sink<W>,
+    ) -> Result<(), WriteFault> {
+        let line = self.entry.line_on(self.first, self.last());
+        write_schedule(&line, self.entry.body.as_ref(), texts, sink)
+    }
 }
 
 /// The later of two dates.

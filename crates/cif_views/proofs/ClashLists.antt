@@ -22,8 +22,8 @@ use Rattle.cif_records.specs.declared.association.Association.{Association}
 use Rattle.cif_records.specs.declared.header.Header.{Header}
 use Rattle.cif_calendar.proofs.RisingLists.{Contains-none, less_one_way, not_less}
 use Rattle.cif_canon.specs.Accepted.{IsClearExtract}
+use Rattle.cif_calendar.specs.AllClashes.{AreAllClashes, association_clash, train_clash}
 use Rattle.cif_calendar.specs.Clashes.{AreClashes}
-use Rattle.cif_views.specs.Clashes.{AreAllClashes, association_clash, train_clash}
 use Rattle.cif_canon.specs.Fault.{IsFirstClashIn}
 use Rattle.cif_views.specs.Steps.Clashes.{AreAdded}
 use Rattle.cif_canon.proofs.Unique.{keys-total}

@@ -4,5 +4,4 @@ pub mod ClashLists
 mod ExplainedMarks
 mod ExplainedTexts
 mod Explaining
-pub mod NamedClashes
 pub mod TableRows

@@ -5,13 +5,12 @@ ghost use Rattle.cif_extract.specs.ExtractParts.{extract_parts};
 ghost use Rattle.cif_extract.specs.declared.fault.Clash.{Clash};
 ghost use Rattle.cif_extract.specs.declared.fault.Fault.TheVariants.{Memory};
 ghost use Rattle.cif_canon.specs.Accepted.{IsClearExtract};
-ghost use Rattle.cif_views.specs.Clashes.{AreAllClashes};
+ghost use Rattle.cif_calendar.specs.AllClashes.{AreAllClashes};
 ghost use Rattle.cif_canon.specs.Fault.{IsFirstClashIn};
 ghost use Rattle.cif_views.specs.Steps.Clashes.{AreAdded};
 
 use crate::Clashes;
-use cif_calendar::{Window, clashing_keys};
-use cif_canon::NamedEntry;
+use cif_calendar::{NamedEntry, Window, add_named, clashing_keys};
 use cif_extract::{Clash, Extract, Fault};
 use std::alloc::{AllocError, Global};
 
@@ -48,10 +47,7 @@ fn add_clashes<E: NamedEntry>(
         window.now.first window.now.last known.items all.items) }
 {
     let found = clashing_keys(alloc, entries, window)?;
-    let found = found.as_slice();
     let mut all = known;
-    for clash in found {
-        all.push(entries[clash.position].clash_on(clash.day))?;
-    }
+    add_named(entries, found.as_slice(), &mut all)?;
     Ok(all)
 }

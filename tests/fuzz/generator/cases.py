@@ -1,12 +1,12 @@
 """Cases: a job, its inputs, and the timetable from which the first of them was made."""
 from collections import namedtuple
 
-from reference import HAS_FEEDS
 from reference.answers import Job, OF_FEEDS, OF_TWO, OPTIONS
 from reference.dates import DAY, yymmdd
+from reference.tables import TABLES
 
 from .damage import damaged
-from .derived import changed_once, said_otherwise
+from .derived import changed_once, said_otherwise, with_other_bodies
 from .feeds import some_feed
 from .published import spelled_as_published
 from .spelling import some_habits, spelled
@@ -18,8 +18,14 @@ from .windows import bounded, some_day, some_window, with_one_end_moved
 Case = namedtuple("Case", "job inputs timetable")
 
 COMMANDS = {"normalise": 32, "check": 6, "compare": 14, "diff": 16, "day": 7, "train": 10, "explain": 9, "clashes": 6}
-COMMANDS |= {"prepare": 12, "update": 14} if HAS_FEEDS else {}
+COMMANDS |= {command: 13 for command in OF_FEEDS}
 
+# Whether the program has the tables of the reference: those of whole extracts, calendars, and those of the other commands.
+HAS_TABLES = False
+COMMANDS |= {"table": 14, "calendar": 7} if HAS_TABLES else {}
+
+FORMATS, NO_FORMATS = (None, None, "text", "tsv", "tsv", "tsv"), ("csv", "TSV", "", "tsv ")
+NO_TABLES = ("stops", "Calls", "call", "", "schedules ")
 FORMS = (None, None, "1", "1", "2")
 NO_FORMS = ("3", "0", "", "12", "1 ", "one")
 BAD_DATE_WORDS = ("260230", "2601141", "26014", "", "26 114", "999999", "abcdef", "260114 ", "26\u06611", "\u0662\u0666\u0661")
@@ -34,6 +40,7 @@ OFTEN = dict(zip(FAULTS, (0.8, 0.05, 0.2, 0.3, 0.4, 0.4, 0.1, 0.3, 0.4, 1, 0.3, 
 
 # The same of clashes, for the commands that accept them.
 CLASHES = (0, 0.2, 1, 1)
+OF_CLASHES = ("explain", "clashes", "calendar")
 
 
 def some_bytes(rng, timetable):
@@ -96,7 +103,9 @@ def beside_it(rng, window):
 def second_timetable(rng, job, timetable, odds):
     """What another extract is compared with: often it says the same, or differs in a few places."""
     chance = rng.random()
-    if chance < (0.2 if job.command == "diff" else 0.35):
+    if job.format == "tsv" and chance < 0.5:
+        other = with_other_bodies(rng, timetable)
+    elif chance < (0.2 if job.command == "diff" else 0.35):
         other = said_otherwise(rng, timetable)
     elif chance < 0.9:
         other = timetable
@@ -145,6 +154,10 @@ def some_job(rng, command, timetable, options, odds):
     if command == "explain":
         uid, day = uid_and_day(rng, timetable, odds)
         job = job._replace(uid=uid, day=day)
+    if command == "table":
+        job = job._replace(table=rng.choice(NO_TABLES if rng.random() < odds["mistake"] else list(TABLES)))
+    if command == "calendar":
+        job = job._replace(uid=uid_word(rng, timetable.schedules, odds))
     return with_options(rng, job, timetable, odds) if options else job
 
 
@@ -162,6 +175,8 @@ def with_options(rng, job, timetable, odds):
         job = job._replace(form=rng.choice(FORMS if rng.random() > odds["mistake"] else NO_FORMS))
     if "all" in taken:
         job = job._replace(all=rng.random() < 0.5)
+    if "format" in taken and HAS_TABLES:
+        job = job._replace(format=rng.choice(FORMATS if rng.random() > odds["mistake"] else NO_FORMATS))
     return job
 
 
@@ -170,7 +185,7 @@ def some_case(rng, commands, options, odds):
     command = rng.choices(commands, [COMMANDS[name] for name in commands])[0]
     if command in OF_FEEDS:
         return Case(*some_feed(rng, command, odds), None)
-    clashes = rng.choice(CLASHES) if command in ("explain", "clashes") else odds["clash"]
+    clashes = rng.choice(CLASHES) if command in OF_CLASHES else odds["clash"]
     timetable = some_timetable(rng, clashes)
     job = some_job(rng, command, timetable, options, odds)
     inputs, sound = some_inputs(rng, job, timetable, odds)

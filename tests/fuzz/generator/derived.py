@@ -3,7 +3,7 @@ from dataclasses import replace
 
 from reference.dates import DAY, FIRST_OF_ALL, LAST_OF_ALL
 
-from .fields import changed
+from .fields import changed, with_other_fields
 from .timetables import some_tiplocs, some_uid
 from .windows import bounded, some_day, some_part
 
@@ -105,3 +105,25 @@ def changed_once(rng, timetable):
     else:
         records[at] = rng.choice(CHANGES)(rng, records[at])
     return other
+
+
+def with_other_bodies(rng, timetable):
+    """A timetable with the same records, of which many have another body; equal bodies stay equal, so that nothing clashes."""
+    other, bodies = timetable.copy(), {}
+    for records in other.associations, other.schedules:
+        for at, record in enumerate(records):
+            if record.letter != "C":
+                if record.body not in bodies:
+                    bodies[record.body] = changed_often(rng, record)
+                records[at] = replace(record, body=bodies[record.body])
+    return other
+
+
+def changed_often(rng, record):
+    """The record's body with a few changes, or none."""
+    if record.kind == "BS" and rng.random() < 0.5:
+        return with_other_fields(rng, record.body)
+    body = record.body
+    for _ in range(rng.choice([0, 1, 1, 2, 5])):
+        body = changed(rng, record.kind, body)
+    return body

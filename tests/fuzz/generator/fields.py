@@ -129,6 +129,17 @@ def changed(rng, kind, body):
     return replace(body, lines=with_other_lines(rng, body.lines))
 
 
+def with_other_fields(rng, body):
+    """A train's body with other fields in some of its lines, whose locations and suffixes stay."""
+    lines = list(body.lines)
+    for _ in range(rng.choice([1, 2, 4, 8])):
+        at = rng.randrange(len(lines))
+        kind, fields = lines[at]
+        others = zip(fields, with_another_field(rng, kind, fields))
+        lines[at] = kind, tuple(field if field[0] in ("location", "suffix") else other for field, other in others)
+    return replace(body, lines=tuple(lines))
+
+
 def lines_behind(body):
     """The plain lines behind BS."""
     return [plain(kind, dict(fields)) for kind, fields in body.lines]

@@ -2,20 +2,21 @@
 import re
 from collections import namedtuple
 
-from . import published, texts
+from . import published, tables, texts
+from .calendars import calendar
 from .dates import from_yymmdd
-from .explanation import explained
+from .explanation import explanation
 from .extracts import common_of, narrowed, read_extract, window_of
 from .faults import Fault, REFUSED, WORDS
 from .holidays import read_holidays
 from .meaning import Meaning, all_clashes, first_difference
 from .reasons import all_reasons
 
-# What the words of a command ask for. Dates and a UID are words as they were given, or None where there is none; without
-# a form it is 2, and common, stops, all, drop_clashes and lenient say whether such an option is there. Files and holidays are
-# names; where there is no file, the command reads standard input, as it does where the name is `-`.
-NAMES = "command files day uid first last form common stops all holidays drop_clashes lenient"
-DEFAULTS = ((), None, None, None, None, None, False, False, False, None, False, False)
+# What the words of a command ask for. Dates, a UID and the name of a table are words as they were given, or None where there
+# is none; without a form it is 2, without a format text, and common, all and others say whether such an option is there. Files
+# and holidays are names; where there is no file, the command reads standard input, as it does where the name is `-`.
+NAMES = "command files day uid first last form common stops table format all holidays drop_clashes lenient"
+DEFAULTS = ((), None, None, None, None, None, False, False, None, None, False, None, False, False)
 Job = namedtuple("Job", NAMES, defaults=DEFAULTS)
 
 Answer = namedtuple("Answer", "stdout stderr status")
@@ -28,11 +29,13 @@ OPTIONS = {
     "normalise": {"first", "last", "form"},
     "check": {"first", "last", "form", "all"},
     "compare": {"first", "last", "common"},
-    "diff": {"first", "last", "common"},
-    "day": {"stops"},
-    "train": {"first", "last", "form", "stops"},
-    "explain": set(),
+    "diff": {"first", "last", "common", "format"},
+    "day": {"stops", "format"},
+    "train": {"first", "last", "form", "stops", "format"},
+    "explain": {"format"},
     "clashes": {"first", "last"},
+    "table": {"first", "last", "form"},
+    "calendar": {"first", "last"},
     "prepare": {"holidays", "drop_clashes"},
     "update": {"lenient"},
 }
@@ -113,20 +116,28 @@ def of_extracts(job, day, asked, inputs):
 
 def said(job, day, extracts):
     """The same of extracts that have the window asked for, in which the day lies if there is one."""
+    as_table = job.format == "tsv"
     if job.command == "explain":
-        return explained(extracts[0], job.uid, day), 0
+        return (tables.explanation_table if as_table else explanation)(extracts[0], job.uid, day), 0
     if job.command == "clashes":
         return some_or_none(list(all_clashes(extracts[0]).values()))
+    if job.command == "calendar":
+        return calendar(extracts[0], job.uid), 0
     meaning, *others = [Meaning(extract) for extract in extracts]
     form = job.form or "2"
     if job.command == "normalise":
         return texts.canonical(meaning, form)[0], 0
     if job.command == "check":
         return [texts.counted(texts.canonical(meaning, form)[1])], 0
+    if job.command == "table":
+        return tables.table(job.table, texts.canonical(meaning, form)[0]), 0
     if job.command == "day":
-        return texts.day_view(meaning, day, job.stops), 0
+        return (tables.day_table if as_table else texts.day_view)(meaning, day, job.stops), 0
     if job.command == "train":
-        return texts.train_view(meaning, job.uid, form, job.stops), 0
+        return (tables.train_table if as_table else texts.train_view)(meaning, job.uid, form, job.stops), 0
+    if job.command == "diff" and as_table:
+        heading, *rows = tables.difference_table(meaning, *others)
+        return [heading, *rows], SOME if rows else 0
     if job.command == "diff":
         return some_or_none(texts.differences(meaning, *others))
     difference = first_difference(meaning, *others)
@@ -145,12 +156,13 @@ def agrees(want, got):
 
 
 def is_mistake(job):
-    """Whether the command doesn't take such options, or not so many files."""
-    names = ("first", "last", "form", "common", "stops", "all", "holidays", "drop_clashes", "lenient")
+    """Whether the command doesn't take such options or such a table, or not so many files."""
+    names = ("first", "last", "form", "common", "stops", "format", "all", "holidays", "drop_clashes", "lenient")
     given = {name for name in names if getattr(job, name) not in (None, False)}
+    taken = job.form in (None, "1", "2") and job.format in (None, "text", "tsv") and job.table in (None, *tables.TABLES)
     count = len(job.files)
     fits = count >= 2 if job.command == "update" else count == 2 if job.command in OF_TWO else count <= 1
-    return not (given <= OPTIONS[job.command] and job.form in (None, "1", "2") and fits)
+    return not (given <= OPTIONS[job.command] and taken and fits)
 
 
 def answer(job, inputs):

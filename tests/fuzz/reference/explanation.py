@@ -6,27 +6,31 @@ from .texts import association_fields, train_fields
 WINS, CLASH, HIDDEN = "wins  ", "clash ", "hidden"
 
 
-def explained_key(kind, fields_of, key, entries, day):
-    """A line for each record of one key that applies on the date."""
+def marked(entries, day):
+    """The records of one key that apply on the date, each with its mark."""
     winning = winners(entries, day)
     mark = WINS if len({entry.body for entry in winning}) == 1 else CLASH
-    lines = []
-    for letter in "CNOP":
-        for entry in entries:
-            if entry.letter == letter and applies(entry, day):
-                record = [kind, letter, yymmdd(entry.first), yymmdd(entry.last), entry.days]
-                said = " ".join(key) if letter == "C" else fields_of(key, entry.body)
-                lines.append(" ".join([mark if entry in winning else HIDDEN, *record, said]))
-    return lines
+    applying = [entry for letter in "CNOP" for entry in entries if entry.letter == letter and applies(entry, day)]
+    return [(mark if entry in winning else HIDDEN, entry) for entry in applying]
 
 
 def explained(extract, uid, day):
-    """The lines of the associations that have the UID, and then those of the train."""
-    lines = []
+    """The mark and the kind of each record: those of the associations that have the UID, and then those of the train."""
+    found = []
     for key, entries in by_key(extract.associations):
         if uid in key[:2]:
-            lines += explained_key("AA", association_fields, key, entries, day)
+            found += [(mark, "AA", entry) for mark, entry in marked(entries, day)]
     for key, entries in by_key(extract.schedules):
         if key == (uid,):
-            lines += explained_key("BS", train_fields, key, entries, day)
+            found += [(mark, "BS", entry) for mark, entry in marked(entries, day)]
+    return found
+
+
+def explanation(extract, uid, day):
+    """A line for each of these records."""
+    lines = []
+    for mark, kind, entry in explained(extract, uid, day):
+        fields_of = association_fields if kind == "AA" else train_fields
+        said = " ".join(entry.key) if entry.letter == "C" else fields_of(entry.key, entry.body)
+        lines.append(" ".join([mark, kind, entry.letter, yymmdd(entry.first), yymmdd(entry.last), entry.days, said]))
     return lines

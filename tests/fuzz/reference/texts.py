@@ -39,15 +39,23 @@ def alone_said(ours, theirs):
     }
 
 
-def differing(kind, names, left, right, window):
-    """The records that only one of the two says: rising by key, then by first date, left before right."""
-    sides = ("< ", alone_said(left, right)), ("> ", alone_said(right, left))
+def of_one_side(left, right, window):
+    """The records that only one of the two says: each with its key and mark, rising by key, then by first date, left first."""
+    sides = ("<", alone_said(left, right)), (">", alone_said(right, left))
     found = []
     for key in sorted(left.keys() | right.keys()):
         records = [(record.first, mark, record) for mark, said in sides for record in joined(said.get(key, {}), window, "2")]
-        for _, mark, record in sorted(records, key=lambda place: place[:2]):
-            found += [mark + line for line in record_lines(kind, names, key, record)]
+        found += [(key, mark, record) for _, mark, record in sorted(records, key=lambda place: place[:2])]
     return found
+
+
+def differing(kind, names, left, right, window):
+    """The lines of these records."""
+    return [
+        f"{mark} {line}"
+        for key, mark, record in of_one_side(left, right, window)
+        for line in record_lines(kind, names, key, record)
+    ]
 
 
 def differences(left, right):

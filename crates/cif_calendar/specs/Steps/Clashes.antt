@@ -1,5 +1,5 @@
 -- The clashes of keys, as they are found one after another. No public clause cites it.
-use Rattle.std.specs.Prelude.{◌≡◌, ◌⊎◌, ℕ, List, Some, [], ◌∷◌, ◌++◌}
+use Rattle.std.specs.Prelude.{◌≡◌, ◌⊎◌, ℕ, List, Option, None, Some, [], ◌∷◌, ◌++◌}
 use Rattle.cif_calendar.specs.Clash.{IsClearFrom, IsFirstClash}
 use Rattle.cif_calendar.specs.Clashes.{told}
 use Rattle.cif_calendar.specs.Keys.{of_key}
@@ -7,6 +7,7 @@ use Rattle.cif_calendar.specs.Terms.{Terms}
 use Rattle.cif_calendar.specs.declared.key_calendar.CalendarFault.{CalendarFault}
 use Rattle.cif_calendar.specs.declared.key_calendar.CalendarFault.TheVariants.{Ambiguous, Memory}
 use Rattle.cif_calendar.specs.declared.key_clashes.KeyClash.{KeyClash}
+use Rattle.cif_extract.specs.declared.fault.Clash.{Clash}
 
 -- key k has its first clash on a day, and this is told behind what was found
 pub record IsClashAdded {K B : Type 0} (entries : List (K × Terms B)) (first last : ℕ) (k : K) (found more : List KeyClash) : Type 0 where
@@ -25,3 +26,11 @@ IsAddedOfKey entries first last k found more =
 abbrev pub IsFaultAdded : ℕ → CalendarFault → List KeyClash → List KeyClash → Type 0
 IsFaultAdded position (Ambiguous day) found more = more ≡ found ++ (record { position = position; day = day } ∷ [])
 IsFaultAdded position Memory found more = ⊥
+
+-- the clash that is told, by its name
+abbrev pub named_if : {K : Type 0} → (K → ℕ → Clash) → Option (K × ℕ) → List Clash
+named_if name None = []
+named_if name (Some clash) = name clash.0 clash.1 ∷ []
+
+abbrev pub named : {K B : Type 0} → (K → ℕ → Clash) → List (K × Terms B) → KeyClash → List Clash
+named name entries clash = named_if name (told entries clash)

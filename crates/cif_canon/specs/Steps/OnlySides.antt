@@ -7,6 +7,7 @@ use Rattle.std.specs.Cmp.Lexicographic.{slice_cmp}
 use Rattle.std.specs.declared.cmp.Ordering.{Ordering}
 use Rattle.std.specs.declared.cmp.Ordering.TheVariants.{Less, Greater}
 use Rattle.cif_calendar.specs.Calendar.{CalendarParts, body_on}
+use Rattle.cif_calendar.specs.Keys.{AreClear}
 use Rattle.cif_calendar.specs.Meaning.{EntriesSayTheSame}
 use Rattle.cif_calendar.specs.Pieces.{source_at, winner_of}
 use Rattle.cif_calendar.specs.Source.{body_at}
@@ -14,16 +15,16 @@ use Rattle.cif_calendar.specs.Terms.{Terms}
 use Rattle.cif_calendar.specs.declared.key_calendar.Piece.{Piece}
 use Rattle.cif_columns.specs.Day.{weekday_of}
 use Rattle.cif_records.specs.declared.tiploc.Tiploc.{Tiploc}
-use Rattle.cif_weeks.specs.HaveForm.{HaveForm}
 use Rattle.cif_weeks.specs.Permanent.{Permanent}
 use Rattle.cif_weeks.specs.Runs.{IsRunOf as IsCalendarRun, window_of}
-use Rattle.cif_weeks.specs.WhatRuns.{HasBody}
-use Rattle.cif_weeks.specs.Window.{Window, IsWithin}
+use Rattle.cif_weeks.specs.Window.{Window}
 use Rattle.cif_weeks.specs.declared.form.Form.TheVariants.{Two}
 use Rattle.cif_weeks.specs.declared.run.Run.{Run}
-use Rattle.cif_canon.specs.Differences.{AreDifferentRecords, TurnInto, of_side}
-use Rattle.cif_canon.specs.Steps.Records.{IsRunOf}
-use Rattle.cif_canon.specs.Steps.Sides.{at_side}
+use Rattle.cif_canon.specs.Comparison.{IsFirstDifference}
+use Rattle.cif_canon.specs.Differences.{AreDifferentRecords, IsOnlyIn, TurnInto, at_side, of_side}
+use Rattle.cif_canon.specs.Steps.Records.{AreRunsOf, IsRunOf}
+use Rattle.cif_canon.specs.declared.differing.Extent.{Extent}
+use Rattle.cif_canon.specs.declared.differing.Extent.TheVariants.{AllKeys}
 use Rattle.cif_canon.specs.declared.listed_differences.Side.{Side}
 use Rattle.cif_canon.specs.declared.listed_differences.Side.TheVariants.{Left, Right}
 use Rattle.cif_canon.specs.declared.listed_differences.Sided.{Sided}
@@ -48,15 +49,9 @@ pub record IsOnlyCalendar {B : Type 0} (xs : List (Terms B)) (c : CalendarParts)
 
 -- The runs are those of the canonical records, in form 2, of what only calendar c says: body b on a day on which by c it runs, and by
 -- e it doesn't.
-pub record AreOnlyRuns {B : Type 0} (xs : List (Terms B)) (c : CalendarParts) (ys : List (Terms B)) (e : CalendarParts) (runs : List Run)
-    : Type 0 where
-  pub records : List (Permanent B)
-  pub runs_of : AllZip (IsCalendarRun xs c) runs records
-  pub within : (r : Permanent B) → Contains records r → IsWithin (window_of c) r.first
-  pub rising : AllPairs (λ r s. r.first < s.first) records
-  pub have_form : HaveForm Two (window_of c) (Contains records)
-  pub say : (n : ℕ) (b : B) → IsWithin (window_of c) n →
-      HasBody (Contains records) n b ↔ ((body_on xs c n ≡ Some b) × (body_on ys e n ≢ Some b))
+abbrev pub AreOnlyRuns : {B : Type 0} → List (Terms B) → CalendarParts → List (Terms B) → CalendarParts → List Run → Type 0
+AreOnlyRuns {B} xs c ys e runs =
+    AreRunsOf Two (window_of c) (IsCalendarRun xs c) (λ n (b : B). (body_on xs c n ≡ Some b) × (body_on ys e n ≢ Some b)) runs
 
 -- ---- runs of both sides in one list
 
@@ -70,8 +65,7 @@ AreRisingRuns runs = AllPairs (λ r s. r.first < s.first) runs
 
 -- the runs of both sides in one list, in order
 pub record AreMergedRuns (lefts rights : List Run) (merged : List (Sided Run)) : Type 0 where
-  pub left : of_side Left merged ≡ lefts
-  pub right : of_side Right merged ≡ rights
+  pub sides : (side : Side) → of_side side merged ≡ at_side lefts rights side
   pub in_order : AllPairs RunComesBefore merged
 
 -- the runs of both sides are behind the others
@@ -84,13 +78,10 @@ pub record AreAppendedRuns (lefts rights : List Run) (old new : List (Sided Run)
 pub record AreMerging (lefts rights : List Run) (l r : List Run) (old new : List (Sided Run)) : Type 0 where
   pub merged : List (Sided Run)
   pub appended : new ≡ old ++ merged
-  pub left : of_side Left merged ++ l ≡ lefts
-  pub right : of_side Right merged ++ r ≡ rights
+  pub sides : (side : Side) → of_side side merged ++ at_side l r side ≡ at_side lefts rights side
   pub in_order : AllPairs RunComesBefore merged
-  pub left_after : (s : Sided Run) (x : Run) → Contains merged s → Contains l x → RunComesBefore s (record { side = Left; it = x })
-  pub right_after : (s : Sided Run) (x : Run) → Contains merged s → Contains r x → RunComesBefore s (record { side = Right; it = x })
-  pub left_rising : AreRisingRuns l
-  pub right_rising : AreRisingRuns r
+  pub after : (s t : Sided Run) → Contains merged s → Contains (at_side l r t.side) t.it → RunComesBefore s t
+  pub rising : (side : Side) → AreRisingRuns (at_side l r side)
 
 -- the side of the run that comes first of two lists; none where there is no run
 abbrev pub IsFirstSide : List Run → List Run → Option Side → Type 0
@@ -109,16 +100,13 @@ IsFirstOrder (x ∷ xs) [] (Some Less) = Unit {0}
 IsFirstOrder (x ∷ xs) (y ∷ ys) (Some order) = slice_cmp nat_cmp x.columns y.columns ≡ order
 IsFirstOrder _ _ _ = ⊥
 
--- Of the locations that only one of two lists has, those so far are found, and the others are left; both lists rise strictly.
+-- Of the locations that only one of two lists has, those so far are found, and the others are left, after them; both rests rise strictly.
 pub record AreSifting (lefts rights : List Tiploc) (l r : List Tiploc) (found : List (Sided Tiploc)) : Type 0 where
-  pub left : (t : Tiploc) → (Contains lefts t × ¬ Contains rights t) ↔ (Contains (of_side Left found) t ⊎ (Contains l t × ¬ Contains r t))
-  pub right : (t : Tiploc) → (Contains rights t × ¬ Contains lefts t)
-      ↔ (Contains (of_side Right found) t ⊎ (Contains r t × ¬ Contains l t))
+  pub only : (s : Sided Tiploc) → IsOnlyIn lefts rights s ↔ (Contains found s ⊎ IsOnlyIn l r s)
   pub rising : AllPairs (λ s t. slice_cmp nat_cmp s.it.columns t.it.columns ≡ Less) found
-  pub left_after : (s : Sided Tiploc) (t : Tiploc) → Contains found s → Contains l t → slice_cmp nat_cmp s.it.columns t.columns ≡ Less
-  pub right_after : (s : Sided Tiploc) (t : Tiploc) → Contains found s → Contains r t → slice_cmp nat_cmp s.it.columns t.columns ≡ Less
-  pub left_rising : AllPairs (λ s t. slice_cmp nat_cmp s.columns t.columns ≡ Less) l
-  pub right_rising : AllPairs (λ s t. slice_cmp nat_cmp s.columns t.columns ≡ Less) r
+  pub after : (s t : Sided Tiploc) → Contains found s → Contains (at_side l r t.side) t.it →
+      slice_cmp nat_cmp s.it.columns t.it.columns ≡ Less
+  pub rests : (side : Side) → AllPairs (λ s t. slice_cmp nat_cmp s.columns t.columns ≡ Less) (at_side l r side)
 
 -- the first item has moved behind the others, with its side
 pub record HasMoved {T : Type 0} (side : Side) (items rest : List T) (old new : List (Sided T)) : Type 0 where
@@ -128,8 +116,8 @@ pub record HasMoved {T : Type 0} (side : Side) (items rest : List T) (old new : 
 
 -- the first item of a side has moved, and those of the other side are left
 abbrev pub HasMovedOf : {T : Type 0} → Side → List T → List T → List T → List T → List (Sided T) → List (Sided T) → Type 0
-HasMovedOf Left lefts rights l r old new = HasMoved Left lefts l old new × (r ≡ rights)
-HasMovedOf Right lefts rights l r old new = HasMoved Right rights r old new × (l ≡ lefts)
+HasMovedOf side lefts rights l r old new =
+    HasMoved side (at_side lefts rights side) (at_side l r side) old new × (at_side r l side ≡ at_side rights lefts side)
 
 -- what a key's two calendars say by themselves is behind the runs that were found
 pub record AreKeyDifferences {B : Type 0} (xs : List (Terms B)) (c : CalendarParts) (ys : List (Terms B)) (e : CalendarParts)
@@ -147,12 +135,26 @@ pub record IsSidedRunOf {K B : Type 0} (xs ys : List (K × Terms B)) (run : Side
   pub side : run.side ≡ e.side
   pub run_of : IsRunOf (at_side xs ys e.side) run.it e.it
 
--- The runs are, one by one, those of the differences of two lists; these turn the one into the other, and there is none exactly where
--- the lists say the same.
-pub record AreDifferentRuns {K B : Type 0} (cmp : K → K → Ordering) (window : Window) (xs ys : List (K × Terms B)) (runs : List (Sided Run))
-    : Type 0 where
+-- both lists are clear, and they say the same
+pub record AreSame {K B : Type 0} (window : Window) (xs ys : List (K × Terms B)) : Type 0 where
+  pub clear : (side : Side) → AreClear (at_side xs ys side) window.first window.last
+  pub same : EntriesSayTheSame xs ys window.first window.last
+
+-- what is first of what is found: nothing where the lists are the same, and else a record with the key and the day of the first
+-- difference
+abbrev pub IsFirstFound : {K B : Type 0} → (K → K → Ordering) → Window → List (K × Terms B) → List (K × Terms B)
+    → List (Sided (K × Permanent B)) → Type 0
+IsFirstFound cmp window xs ys [] = AreSame window xs ys
+IsFirstFound cmp window xs ys (s ∷ found) = IsFirstDifference cmp xs ys window.first window.last s.it.0 s.it.1.first
+
+-- The runs are, one by one, those of records, of which the first is at the first difference of two lists, and there is none where the
+-- lists say the same. Of all keys, which are clear, they are the differences of the lists, and turn the one into the other.
+pub record AreDifferentRuns {K B : Type 0} (cmp : K → K → Ordering) (window : Window) (xs ys : List (K × Terms B)) (extent : Extent)
+    (runs : List (Sided Run)) : Type 0 where
   pub found : List (Sided (K × Permanent B))
   pub runs_of : AllZip (IsSidedRunOf xs ys) runs found
-  pub different : AreDifferentRecords cmp window xs ys found
-  pub turn : TurnInto window xs ys found
-  pub none : (found ≡ []) ↔ EntriesSayTheSame xs ys window.first window.last
+  pub first : IsFirstFound cmp window xs ys found
+  pub none : EntriesSayTheSame xs ys window.first window.last → found ≡ []
+  pub clear : extent ≡ AllKeys → (side : Side) → AreClear (at_side xs ys side) window.first window.last
+  pub different : extent ≡ AllKeys → AreDifferentRecords cmp window xs ys found
+  pub turn : extent ≡ AllKeys → TurnInto window xs ys found

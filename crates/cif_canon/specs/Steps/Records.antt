@@ -12,7 +12,7 @@ use Rattle.cif_calendar.specs.declared.key_calendar.CalendarFault.TheVariants as
 use Rattle.cif_extract.specs.declared.fault.Clash.{Clash}
 use Rattle.cif_extract.specs.declared.fault.Fault.{Fault}
 use Rattle.cif_extract.specs.declared.fault.Fault.TheVariants as fault
-use Rattle.cif_weeks.specs.Canonical.{AreCanonical, with_key}
+use Rattle.cif_weeks.specs.Canonical.{AreCanonical}
 use Rattle.cif_weeks.specs.HaveForm.{HaveForm}
 use Rattle.cif_weeks.specs.Permanent.{Permanent, Permanents, permanent_entries}
 use Rattle.cif_weeks.specs.Runs.{record_of}
@@ -43,14 +43,21 @@ pub record AreSaid {K B : Type 0} (window : Window) (entries : List (K × Terms 
   pub clear : IsClearFrom (of_key entries k) window.first window.last
   pub say : (n : ℕ) (b : B) → IsWithin window n → BodyRuns (of_key entries k) n b ↔ HasBody records n b
 
--- the runs are those of the canonical records of key k
-pub record AreRunsOfKey {K B : Type 0} (form : Form) (window : Window) (entries : List (K × Terms B)) (k : K) (runs : List Run)
-    : Type 0 where
+-- The runs are, one by one, those of records of the form, rising by first day, that say on each day of the window what is said of it.
+-- `IsOf` tells what a run has of its record.
+pub record AreRunsOf {B : Type 0} (form : Form) (window : Window) (IsOf : Run → Permanent B → Type 0) (IsSaid : ℕ → B → Type 0)
+    (runs : List Run) : Type 0 where
   pub records : List (Permanent B)
-  pub runs_of : AllZip (IsRunOf entries) runs (with_key k records)
+  pub runs_of : AllZip IsOf runs records
   pub rising : AllPairs (λ r s. r.first < s.first) records
   pub have_form : HaveForm form window (Contains records)
-  pub said : AreSaid window entries k (Contains records)
+  pub say : (n : ℕ) (b : B) → IsWithin window n → IsSaid n b ↔ HasBody (Contains records) n b
+
+-- key k is clear, and the runs are those of its canonical records
+pub record AreRunsOfKey {K B : Type 0} (form : Form) (window : Window) (entries : List (K × Terms B)) (k : K) (runs : List Run)
+    : Type 0 where
+  pub clear : IsClearFrom (of_key entries k) window.first window.last
+  pub own : AreRunsOf form window (λ run r. IsRunOf entries run (k, r)) (λ n b. BodyRuns (of_key entries k) n b) runs
 
 -- a fault of the calendar of a key as one of the extract, by the name of the key's clash on a day
 abbrev pub extract_fault : (ℕ → Clash) → CalendarFault → Fault

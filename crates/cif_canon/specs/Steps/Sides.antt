@@ -3,15 +3,10 @@ use Rattle.std.specs.Prelude.{ℕ, List, [], ◌∷◌, Option, None, Some}
 use Rattle.cif_calendar.specs.Terms.{Terms}
 use Rattle.cif_weeks.specs.Permanent.{Permanent}
 use Rattle.cif_weeks.specs.declared.run.Run.{Run}
+use Rattle.cif_canon.specs.Differences.{at_side}
 use Rattle.cif_canon.specs.Steps.Texts.{HasRecord, record_at, run_text}
 use Rattle.cif_canon.specs.declared.listed_differences.Side.{Side}
-use Rattle.cif_canon.specs.declared.listed_differences.Side.TheVariants.{Left, Right}
 use Rattle.cif_canon.specs.declared.listed_differences.Sided.{Sided}
-
--- the list of a side
-abbrev pub at_side : {A : Type 0} → A → A → Side → A
-at_side left right Left = left
-at_side left right Right = right
 
 -- a run that has a record among the entries of its side
 abbrev pub HasSidedRecord : {K B : Type 0} → List (K × Terms B) → List (K × Terms B) → Sided Run → Type 0

@@ -1,14 +1,20 @@
 -- The texts of records, one after another.
-use Rattle.std.specs.Prelude.{ℕ, List, [], ◌∷◌, ◌++◌}
+use Rattle.std.specs.Prelude.{ℕ, List, [], ◌∷◌, ◌++◌, map}
 use Rattle.std.specs.List.{flat_map}
 use Rattle.cif_columns.specs.Contents.{lines_text}
 use Rattle.cif_columns.specs.Field.{plain_line}
+use Rattle.cif_extract.specs.Texts.{tables_of}
+use Rattle.cif_extract.specs.declared.extract.Schedule.{Schedule}
+use Rattle.cif_records.specs.Association.{association_table}
 use Rattle.cif_records.specs.Header.{header_table}
 use Rattle.cif_records.specs.Tiploc.{tiploc_table}
 use Rattle.cif_records.specs.Trailer.{trailer_table}
+use Rattle.cif_records.specs.declared.association.Association.{Association}
 use Rattle.cif_records.specs.declared.header.Header.{Header}
 use Rattle.cif_records.specs.declared.tiploc.Tiploc.{Tiploc}
+use Rattle.cif_feed.specs.PreparedParts.{association_on, schedule_on}
 use Rattle.cif_feed.specs.PublishedParts.{published_association_line, published_schedule_lines}
+use Rattle.cif_feed.specs.declared.prepared_record.PreparedRecord.{PreparedRecord}
 use Rattle.cif_feed.specs.declared.published.PublishedAssociation.{PublishedAssociation}
 use Rattle.cif_feed.specs.declared.published.PublishedSchedule.{PublishedSchedule}
 
@@ -33,3 +39,10 @@ published_association_text a = published_association_line a ++ 10 ∷ []
 
 abbrev pub published_schedule_text : PublishedSchedule → List ℕ
 published_schedule_text s = lines_text (published_schedule_lines s)
+
+-- the texts of the records of a prepared extract
+abbrev pub prepared_association_text : PreparedRecord Association ℕ → List ℕ
+prepared_association_text p = plain_line (association_table (association_on p)) ++ 10 ∷ []
+
+abbrev pub prepared_schedule_text : PreparedRecord Schedule ℕ → List ℕ
+prepared_schedule_text p = lines_text (map plain_line (tables_of (schedule_on p)))

@@ -1,10 +1,8 @@
 -- The text is a fold over runs: one more goes behind it (`one-more`). Each run has a record, and its text is that of the writer's body
 -- (`schedule-text`).
 use Rattle.std.proofs.Common.{◌≡◌, Some, ap, subst, sym, ◌∙◌}
-use Rattle.cif_calendar.specs.Entries.{schedule_entries}
-use Rattle.cif_extract.specs.declared.extract.Schedule.{Schedule}
-use Rattle.cif_weeks.specs.Runs.{record_of}
 use Rattle.cif_canon.specs.Steps.Texts.{HasRecord, body_at, schedule_run_text, schedule_text}
+use Rattle.cif_canon.proofs.Words.{Schedule, record_of, schedule_entries}
 use Rattle.cif_canon.proofs.AppendedTexts.{all-items, appended, nothing, one-more, text-is}
 use Rattle.cif_canon.proofs.RunTexts.{dates-in_order, schedule-text}
 use Rattle.cif_canon.proofs.canonical_form.write_schedules.Given.{Over}

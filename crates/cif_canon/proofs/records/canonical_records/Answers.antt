@@ -5,12 +5,10 @@ use Rattle.std.proofs.lemmas.Result.{err_from_is_err_and}
 use Rattle.std.proofs.lemmas.List.{length-drop, length-take-le, nil_from_length}
 use Rattle.std.proofs.lemmas.Bool.{eqb-true}
 use Rattle.std.proofs.lemmas.List.Elements.{All-drop, All-take}
-use Rattle.cif_calendar.specs.Keys.{keyed}
 use Rattle.cif_calendar.proofs.FirstClash.{same_key-cmp}
 use Rattle.cif_calendar.proofs.Positions.{AreLawful-of_key}
-use Rattle.cif_weeks.specs.declared.run.Run.{Run}
-use Rattle.cif_weeks.specs.Window.{window_from}
 use Rattle.cif_calendar.proofs.KeyPositions.{all-within}
+use Rattle.cif_canon.proofs.Words.{Run, keyed, window_from}
 use Rattle.cif_canon.proofs.MadeRecords.{IsMade, made-nothing, made-key, made-fault, made-all}
 use Rattle.cif_canon.proofs.records.canonical_records.Goals as goal
 

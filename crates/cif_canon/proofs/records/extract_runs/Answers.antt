@@ -1,13 +1,11 @@
 -- What is said of slices, in the window of two dates, is said of the extract's entries and header (`of_slice`).
 use Rattle.std.specs.Cmp.Lexicographic.{slice_cmp}
 use Rattle.std.specs.Ordering.{nat_cmp}
-use Rattle.cif_calendar.specs.Entries.{association_entries, schedule_entries}
-use Rattle.cif_extract.specs.ExtractParts.{extract_parts}
 use Rattle.cif_extract.specs.declared.fault.Clash.TheVariants.{Association, Train}
-use Rattle.cif_records.specs.AssocKey.{key_cmp}
 use Rattle.cif_canon.specs.Asked.{header_window}
 use Rattle.cif_canon.specs.Fault.{IsCanonFault}
 use Rattle.cif_canon.specs.Steps.Records.{AreCanonicalRecords, IsRecordsFault}
+use Rattle.cif_canon.proofs.Words.{association_entries, extract_parts, key_cmp, schedule_entries}
 use Rattle.cif_canon.proofs.CanonForm.{associations-fault, of_slice, schedules-fault}
 use Rattle.cif_canon.proofs.HandedFaults.{hands}
 use Rattle.cif_canon.proofs.records.extract_runs.Goals as goal

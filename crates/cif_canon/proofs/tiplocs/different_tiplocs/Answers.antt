@@ -23,5 +23,5 @@ pub returns : goal.returns
 returns c =
     let left = subst (AreDistinct c.args.left.now) (sym c.as_slice-lefts.ensures.value) c.in_ok-left.ensures in
     let right = subst (AreDistinct c.args.right.now) (sym c.as_slice-rights.ensures.value) c.in_ok-right.ensures in
-    sifting-end c.as_slice-lefts.result.now c.as_slice-rights.result.now c.loop-order.lefts.now c.loop-order.rights.now c.args.left.now
-    c.args.right.now left right c.loop-order.found.items c.in_default.ensures c.loop-order.invariant
+    sifting-end c.as_slice-lefts.result.now c.as_slice-rights.result.now c.loop-order.found.items c.loop-order.lefts.now
+    c.loop-order.rights.now c.args.left.now c.args.right.now left right c.in_default.ensures c.loop-order.invariant

@@ -1,17 +1,17 @@
--- The lesser of the first locations has moved behind the others, or both are passed (`left-moved`, `right-moved`, `passed-both`).
+-- The lesser of the first locations has moved behind the others, or both are passed (`moved`, `passed-both`).
 use Rattle.std.proofs.Common.{Some, subst}
 use Rattle.std.proofs.lemmas.Result.{IfOk-weaker}
 use Rattle.cif_canon.specs.Steps.OnlySides.{IsFirstOrder}
 use Rattle.cif_canon.specs.declared.listed_differences.Side.TheVariants.{Left, Right}
 use Rattle.cif_canon.proofs.MergedSides.{moved-smaller}
-use Rattle.cif_canon.proofs.SiftedTiplocs.{behind-first, left-moved, passed-both, right-moved}
+use Rattle.cif_canon.proofs.SiftedTiplocs.{behind-first, moved, passed-both}
 use Rattle.cif_canon.proofs.tiplocs.pass_first.Goals as goal
 
 pub returns-in-Less-clause-sifting : goal.returns-in-Less-clause-sifting
 returns-in-Less-clause-sifting c =
-    IfOk-weaker c.push_next.result _ _ (λ rest moved left right a.
-    left-moved left right c.args.found.now.items c.push_next.new.found.items c.args.lefts.now c.args.rights.now _ _
-    (subst (λ o. IsFirstOrder c.args.lefts.now c.args.rights.now (Some o)) c.in-Less.is c.requires) moved a) c.push_next.ensures
+    IfOk-weaker c.push_next.result _ _ (λ rest has left right a.
+    moved left right c.args.found.now.items c.push_next.new.found.items Left c.args.lefts.now c.args.rights.now _ _
+    (subst (λ o. IsFirstOrder c.args.lefts.now c.args.rights.now (Some o)) c.in-Less.is c.requires) has a) c.push_next.ensures
 
 pub returns-in-Less-clause-smaller : goal.returns-in-Less-clause-smaller
 returns-in-Less-clause-smaller c =
@@ -19,9 +19,9 @@ returns-in-Less-clause-smaller c =
 
 pub returns-in-Greater-clause-sifting : goal.returns-in-Greater-clause-sifting
 returns-in-Greater-clause-sifting c =
-    IfOk-weaker c.push_next-in-Greater.result _ _ (λ rest moved left right a.
-    right-moved left right c.args.found.now.items c.push_next-in-Greater.new.found.items c.args.lefts.now c.args.rights.now _ _
-    (subst (λ o. IsFirstOrder c.args.lefts.now c.args.rights.now (Some o)) c.in-Greater.is c.requires) moved a)
+    IfOk-weaker c.push_next-in-Greater.result _ _ (λ rest has left right a.
+    moved left right c.args.found.now.items c.push_next-in-Greater.new.found.items Right c.args.lefts.now c.args.rights.now _ _
+    (subst (λ o. IsFirstOrder c.args.lefts.now c.args.rights.now (Some o)) c.in-Greater.is c.requires) has a)
     c.push_next-in-Greater.ensures
 
 pub returns-in-Greater-clause-smaller : goal.returns-in-Greater-clause-smaller
@@ -30,6 +30,6 @@ returns-in-Greater-clause-smaller c =
 
 pub returns-in-Equal-clause-sifting : goal.returns-in-Equal-clause-sifting
 returns-in-Equal-clause-sifting c left right a =
-    (passed-both left right c.args.lefts.now c.args.rights.now c.args.found.now.items
+    (passed-both left right c.args.found.now.items c.args.lefts.now c.args.rights.now
     (subst (λ o. IsFirstOrder c.args.lefts.now c.args.rights.now (Some o)) c.in-Equal.is c.requires) a _ _ (behind-first c.args.lefts.now)
     (behind-first c.args.rights.now)).0

@@ -2,13 +2,10 @@
 use Rattle.std.proofs.Common.{◌++◌}
 use Rattle.std.specs.Cmp.Lexicographic.{slice_cmp}
 use Rattle.std.specs.Ordering.{nat_cmp}
-use Rattle.cif_calendar.specs.Entries.{association_entry, schedule_entry}
-use Rattle.cif_extract.specs.ExtractParts.{extract_parts}
-use Rattle.cif_records.specs.AssocKey.{key_cmp}
-use Rattle.cif_weeks.specs.declared.form.Form.TheVariants.{Two}
 use Rattle.cif_canon.specs.Asked.{header_window}
 use Rattle.cif_canon.specs.Steps.Views.{listed_on}
 use Rattle.cif_canon.specs.Views.{DayTexts}
+use Rattle.cif_canon.proofs.Words.{Two, association_entry, extract_parts, key_cmp, schedule_entry}
 use Rattle.cif_canon.proofs.AppendedTexts.{both, fault-answered, text-is}
 use Rattle.cif_canon.proofs.RunTexts.{sources-within}
 use Rattle.cif_canon.proofs.ViewTexts.{associations-text, day-listed, have-lines, sliced, trains-text, written-so}

@@ -5,7 +5,7 @@ use Rattle.cif_extract.specs.ExtractParts.{extract_parts}
 use Rattle.cif_extract.specs.declared.fault.Clash.{Clash}
 use Rattle.cif_canon.specs.Accepted.{IsClearExtract}
 use Rattle.cif_canon.specs.Fault.{IsFirstClashIn}
-use Rattle.cif_views.specs.Clashes.{AreAllClashes}
+use Rattle.cif_calendar.specs.AllClashes.{AreAllClashes}
 use Rattle.cif_views.proofs.ClashLists.{all-found, clashes-clear, clashes-first}
 use Rattle.cif_views.proofs.find_clashes.clashes.Goals as goal
 use Rattle.cif_views.proofs.find_clashes.clashes.Goals.{In-Ok-add_clashes}

@@ -1,0 +1,11 @@
+-- Behind the known clashes are those of the first that were found.
+use Rattle.std.proofs.Common.{◌≡◌, ◌++◌, take}
+use Rattle.std.specs.List.{flat_map}
+use Rattle.cif_calendar.specs.Keys.{keyed}
+use Rattle.cif_calendar.specs.Steps.Clashes.{named}
+use Rattle.cif_calendar.proofs.named_clashes.add_named.Given as goal
+
+abbrev pub invariant-loop-clash : goal.invariant-loop-clash
+invariant-loop-clash g l =
+    l.clashes.items ≡ l.initial.clashes.items
+    ++ flat_map (named g.E.NamedEntry.clash_of (keyed g.E.Entry.key g.E.Entry.terms l.entries)) (take l.clash-index l.found)

@@ -1,0 +1,65 @@
+-- How many records have a cut, one record after another.
+use Rattle.std.proofs.Common.{◌≡◌, ◌↔◌, inl, inr, ⊎_elim, ℕ, ◌+◌, ◌<◌, ◌≤◌, List, [], ◌∷◌, ◌++◌, Option, None, Some, IsTrue, is_some, take}
+use Rattle.std.proofs.Common.{length, get_or, refl, sym, ap, ◌∙◌, subst}
+use Rattle.std.proofs.lemmas.Bool.{false≢true}
+use Rattle.std.proofs.lemmas.List.{take_more}
+use Rattle.cif_feed.specs.CutCount.{HasCut, IsCountOf}
+use Rattle.cif_feed.specs.HolidayDates.{IsFirstFrom}
+use Rattle.cif_feed.specs.Holidays.{IsHolidayOn}
+use Rattle.cif_feed.specs.Prepared.{prepared_last}
+use Rattle.cif_feed.specs.Published.{IsHolidayOf, PublishedTerms}
+use Rattle.cif_feed.specs.declared.holiday_code.HolidayCode.{HolidayCode}
+use Rattle.cif_feed.specs.declared.holidays.Holidays.{Holidays}
+
+module _ {A : Type 0} (P : A → Type 0) where
+  count-yes : (xs : List A) (x : A) (n : ℕ) → P x → IsCountOf P xs n → IsCountOf P (xs ++ x ∷ []) (n + 1)
+  count-yes [] x n has none = inl (has, (n, none, refl))
+  count-yes (y ∷ ys) x n has count = ⊎_elim
+      (λ yes. inl (yes.0, (yes.1.0 + 1, count-yes ys x yes.1.0 has yes.1.1, ap (λ m. m + 1) yes.1.2)))
+      (λ no. inr (no.0, count-yes ys x n has no.1))
+      count
+
+  count-no : (xs : List A) (x : A) (n : ℕ) → ¬ P x → IsCountOf P xs n → IsCountOf P (xs ++ x ∷ []) n
+  count-no [] x n lacks none = inr (lacks, none)
+  count-no (y ∷ ys) x n lacks count = ⊎_elim
+      (λ yes. inl (yes.0, (yes.1.0, count-no ys x yes.1.0 lacks yes.1.1, yes.1.2)))
+      (λ no. inr (no.0, count-no ys x n lacks no.1))
+      count
+
+  module _ (xs : List A) (i : ℕ) (x : A) (n : ℕ) (below : i < length xs) (is : x ≡ get_or xs i x) (count : IsCountOf P (take i xs) n) where
+    one_more : take (i + 1) xs ≡ take i xs ++ x ∷ []
+    one_more = take_more xs i x below ∙ ap (λ (y : A). take i xs ++ y ∷ []) (sym is)
+
+    pub count-more_yes : P x → IsCountOf P (take (i + 1) xs) (n + 1)
+    count-more_yes has = subst (λ l. IsCountOf P l (n + 1)) (sym one_more) (count-yes (take i xs) x n has count)
+
+    pub count-more_no : ¬ P x → IsCountOf P (take (i + 1) xs) n
+    count-more_no lacks = subst (λ l. IsCountOf P l n) (sym one_more) (count-no (take i xs) x n lacks count)
+
+-- without a code there is none
+pub no-cut : {B : Type 0} (h : Holidays) (window_last : ℕ) (r : PublishedTerms B) → r.code ≡ None → ¬ HasCut h window_last r
+no-cut h window_last r none cut = subst (λ (code : Option HolidayCode). IsHolidayOf h code cut.0) none cut.1.holiday
+
+-- with one, there is one exactly if a first one is found
+module _ {B : Type 0} (h : Holidays) (window_last : ℕ) (r : PublishedTerms B) (code : HolidayCode) (has : r.code ≡ Some code) (last : ℕ)
+    (ends : last ≡ prepared_last window_last r) where
+  cut-found : (d : ℕ) → IsFirstFrom (IsHolidayOn h code r.terms.days) r.terms.first last (Some d) → HasCut h window_last r
+  cut-found d (from, upto, on, first) = (
+    d,
+    record {
+      applies = record { begun = from; unfinished = subst (λ (n : ℕ). d ≤ n) ends upto; on_weekday = on.on_weekday };
+      holiday = subst (λ (c : Option HolidayCode). IsHolidayOf h c d) (sym has) on.listed;
+    },
+  )
+
+  cut-none : IsFirstFrom (IsHolidayOn h code r.terms.days) r.terms.first last None → ¬ HasCut h window_last r
+  cut-none none cut =
+      none cut.0 cut.1.applies.begun (subst (λ (n : ℕ). cut.0 ≤ n) (sym ends) cut.1.applies.unfinished) (record {
+        listed = subst (λ (c : Option HolidayCode). IsHolidayOf h c cut.0) has cut.1.holiday;
+        on_weekday = cut.1.applies.on_weekday;
+      })
+
+  pub cut-decided : (found : Option ℕ) → IsFirstFrom (IsHolidayOn h code r.terms.days) r.terms.first last found
+      → IsTrue (is_some found) ↔ HasCut h window_last r
+  cut-decided None none = (λ e. absurd (false≢true e), λ cut. absurd (cut-none none cut))
+  cut-decided (Some d) found = (λ e. cut-found d found, λ cut. refl)

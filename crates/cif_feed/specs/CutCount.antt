@@ -1,0 +1,15 @@
+-- How many records have a cut.
+use Rattle.std.specs.Prelude.{◌≡◌, ◌⊎◌, ◌+◌, ℕ, List, [], ◌∷◌}
+use Rattle.cif_feed.specs.Parts.{IsCut, ended}
+use Rattle.cif_feed.specs.Prepared.{prepared_last}
+use Rattle.cif_feed.specs.Published.{PublishedTerms}
+use Rattle.cif_feed.specs.declared.holidays.Holidays.{Holidays}
+
+-- a day is a cut of the published record, in a window that ends on this day
+abbrev pub HasCut : {B : Type 0} → Holidays → ℕ → PublishedTerms B → Type 0
+HasCut h window_last r = (d : ℕ) × IsCut h r.code (ended (prepared_last window_last r) r.terms) d
+
+-- so many of the items have the property
+abbrev pub IsCountOf : {A : Type 0} → (A → Type 0) → List A → ℕ → Type 0
+IsCountOf P [] n = n ≡ 0
+IsCountOf P (x ∷ xs) n = (P x × ((m : ℕ) × IsCountOf P xs m × (n ≡ m + 1))) ⊎ ((¬ P x) × IsCountOf P xs n)

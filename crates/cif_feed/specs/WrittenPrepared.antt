@@ -1,0 +1,90 @@
+-- What comes of preparing what a source gives, and writing it.
+use Rattle.std.specs.Prelude.{◌≡◌, ℕ, ⊤, Bool, true, false, List, [], Option, Result, Ok, Err}
+use Rattle.cif_columns.specs.Contents.{contents_of}
+use Rattle.cif_columns.specs.Sink.{HasFailed, HasWritten}
+use Rattle.cif_columns.specs.Source.{Unread}
+use Rattle.cif_columns.specs.declared.sink.Sink.{Sink}
+use Rattle.cif_extract.specs.ExtractParts.{ExtractParts}
+use Rattle.cif_extract.specs.SpellsExtract.{BytesSpell}
+use Rattle.cif_extract.specs.Texts.{extract_text}
+use Rattle.cif_extract.specs.declared.fault.Clash.{Clash}
+use Rattle.cif_extract.specs.declared.fault.Fault.TheVariants.{Write, Memory}
+use Rattle.cif_feed.specs.Dropped.{AreDropped}
+use Rattle.cif_feed.specs.FeedFault.{IsFailure, IsFeedFault, IsOfFeed}
+use Rattle.cif_feed.specs.PreparedParts.{IsPrepared}
+use Rattle.cif_feed.specs.PublishedParts.{BytesSpellPublished, PublishedParts, published_parts}
+use Rattle.cif_feed.specs.SpellsFeed.{passed_of}
+use Rattle.cif_feed.specs.declared.feed.Feed.TheVariants.{Full}
+use Rattle.cif_feed.specs.declared.feed.FeedFault.{FeedFault}
+use Rattle.cif_feed.specs.declared.feed.FeedFault.TheVariants.{Extract}
+use Rattle.cif_feed.specs.declared.holiday_code.HolidayCodes.{HolidayCodes}
+use Rattle.cif_feed.specs.declared.holidays.Holidays.{Holidays}
+use Rattle.cif_feed.specs.declared.published_extract.PublishedExtract.{PublishedExtract}
+
+-- the codes that the holidays name, which may stand in the published extract
+abbrev pub codes_named : Holidays → HolidayCodes
+codes_named h = record { bank = h.bank.is_named; edinburgh = h.edinburgh.is_named; glasgow = h.glasgow.is_named }
+
+-- the records of the keys that clash are dropped, and these clashes are told, if that is asked for; else all stay
+abbrev pub IsDroppedIf : Bool → ExtractParts → List Clash → ExtractParts → Type 0
+IsDroppedIf true old clashes new = AreDropped old clashes new
+IsDroppedIf false old clashes new = (new ≡ old) × (clashes ≡ [])
+
+-- the extract is the prepared one of a published extract, with these holidays, and these clashes are told
+pub record IsPreparedAs (h : Holidays) (drops : Bool) (p : PublishedParts) (x : ExtractParts) (clashes : List Clash) : Type 0 where
+  pub whole : ExtractParts
+  pub prepared : IsPrepared h p whole
+  pub dropped : IsDroppedIf drops whole clashes x
+
+-- what a call that prepares this published extract owes its sink: the text of the prepared one at Ok, a prefix of it at Write, and nothing
+-- where memory runs out
+abbrev pub WritesPrepared : {W A : Type 0} → (W → Option (List ℕ)) → (W → Option ℕ) → (A → List Clash) → Holidays → Bool → PublishedParts
+    → Sink W → Sink W → Result A FeedFault → Type 0
+WritesPrepared contents errors told h drops p old new (Ok done) =
+    (x : ExtractParts) × IsPreparedAs h drops p x (told done) × HasWritten contents errors (extract_text x) old new
+WritesPrepared contents errors told h drops p old new (Err (Extract Write)) =
+    (x : ExtractParts) × (clashes : List Clash) × IsPreparedAs h drops p x clashes × HasFailed contents errors (extract_text x) old new
+WritesPrepared contents errors told h drops p old new (Err (Extract Memory)) = new ≡ old
+WritesPrepared contents errors told h drops p old new (Err fault) = ⊥
+
+-- The bytes spell a published extract whose holiday codes the holidays name, in at most max contents. This is the text of its prepared
+-- extract, which spells that as an extract of this profile; and these clashes are told.
+pub record IsPreparedText (h : Holidays) (drops : Bool) (max : ℕ) (bytes text : List ℕ) (clashes : List Clash) : Type 0 where
+  pub published : PublishedParts
+  pub spelled : BytesSpellPublished (codes_named h) max bytes published
+  pub prepared : ExtractParts
+  pub is : IsPreparedAs h drops published prepared clashes
+  pub text_is : text ≡ extract_text prepared
+  pub spells : BytesSpell text prepared
+
+-- what was read of these bytes: the published extract that they spell, and how many comments and notes were passed over
+pub record IsReadOf (h : Holidays) (max : ℕ) (bytes : List ℕ) (x : PublishedExtract) : Type 0 where
+  pub spelled : BytesSpellPublished (codes_named h) max bytes (published_parts x)
+  pub passed : x.passed ≡ passed_of (contents_of bytes)
+
+-- what a text is to an input, where it was written, or a prefix of it was
+abbrev pub Prepares : {A : Type 0} → (A → List Clash) → Holidays → Bool → ℕ → List ℕ → List ℕ → Result A FeedFault → Type 0
+Prepares told h drops max bytes text (Ok done) = IsPreparedText h drops max bytes text (told done)
+Prepares told h drops max bytes text (Err (Extract Write)) = (clashes : List Clash) × IsPreparedText h drops max bytes text clashes
+Prepares told h drops max bytes text (Err fault) = ⊤
+
+-- what a call that may answer such a fault owes its sink: the whole text at Ok, a prefix of it at Write, and nothing at any other fault
+abbrev pub FeedWrites : {W A : Type 0} → (W → Option (List ℕ)) → (W → Option ℕ) → List ℕ → Sink W → Sink W → Result A FeedFault → Type 0
+FeedWrites contents errors text old new (Ok done) = HasWritten contents errors text old new
+FeedWrites contents errors text old new (Err (Extract Write)) = HasFailed contents errors text old new
+FeedWrites contents errors text old new (Err fault) = new ≡ old
+
+-- why nothing was written, or not all of it: what the bytes can't be read for, where `after` is left of them then; or it can't be written
+abbrev pub IsPrepareFault : Holidays → ℕ → List ℕ → Unread → FeedFault → Type 0
+IsPrepareFault h max bytes after (Extract Write) = Unit {0}
+IsPrepareFault h max bytes after fault = IsFeedFault Full (codes_named h) max bytes after fault
+
+-- a device fails, or memory runs out
+abbrev pub IsDeviceOrMemory : FeedFault → Type 0
+IsDeviceOrMemory (Extract Write) = Unit {0}
+IsDeviceOrMemory fault = IsFailure fault
+
+-- the faults of preparing at most max contents, for any devices
+abbrev pub IsOfPrepare : ℕ → FeedFault → Type 0
+IsOfPrepare max (Extract Write) = Unit {0}
+IsOfPrepare max fault = IsOfFeed max fault
