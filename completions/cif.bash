@@ -11,7 +11,7 @@ _cif_offer() {
 }
 
 _cif() {
-    local IFS=$' \t\n' commands='normalise check compare diff day train explain clashes prepare update help'
+    local IFS=$' \t\n' commands='normalise check compare diff day train explain clashes table calendar prepare update help'
     local command='' options='' places=0 given=' ' front='' written=${COMP_WORDS[COMP_CWORD]}
     # the option whose value comes next, and whether -- has ended the options
     local awaited='' ended='' word i
@@ -54,11 +54,12 @@ _cif() {
     if [[ -z $ended && $written == -* ]]; then
         case $command in
         '') options='-h --help -V --version' ;;
-        normalise) options='-v --verbose --from --to --form -h --help' ;;
+        normalise | table) options='-v --verbose --from --to --form -h --help' ;;
         check) options='-v --verbose --from --to --form --all -h --help' ;;
         train) options='-v --verbose --from --to --form --stops --format -h --help' ;;
-        compare | diff) options='-v --verbose --from --to --common -h --help' ;;
-        clashes) options='-v --verbose --from --to -h --help' ;;
+        compare) options='-v --verbose --from --to --common -h --help' ;;
+        diff) options='-v --verbose --from --to --common --format -h --help' ;;
+        clashes | calendar) options='-v --verbose --from --to -h --help' ;;
         day) options='-v --verbose --stops --format -h --help' ;;
         explain) options='-v --verbose --format -h --help' ;;
         prepare) options='-v --verbose --holidays --drop-clashes -h --help' ;;
@@ -71,7 +72,8 @@ _cif() {
     :0 | help:0) _cif_offer "$commands" ;;
     normalise:0 | check:0 | compare:[01] | diff:[01]) compopt -o default ;;
     day:1 | train:1 | explain:2 | clashes:0) compopt -o default ;;
-    prepare:0 | update:*) compopt -o default ;;
+    table:0) _cif_offer 'header tiplocs associations schedules calls changes' ;;
+    table:1 | calendar:1 | prepare:0 | update:*) compopt -o default ;;
     esac
 }
 

@@ -51,27 +51,30 @@ complete -c cif -n __cif_without_command -a day -d 'List the associations and th
 complete -c cif -n __cif_without_command -a train -d 'List the schedules of one train'
 complete -c cif -n __cif_without_command -a explain -d 'Say why a train runs on a date'
 complete -c cif -n __cif_without_command -a clashes -d 'List the clashes of an extract'
+complete -c cif -n __cif_without_command -a table -d 'Write a table of the canonical extract'
+complete -c cif -n __cif_without_command -a calendar -d 'Show on which dates a train runs'
 complete -c cif -n __cif_without_command -a prepare -d 'Make an extract of a published one'
 complete -c cif -n __cif_without_command -a update -d 'Apply update extracts to a full extract'
 complete -c cif -n __cif_without_command -a help -d 'Print the help of the program or of a command'
 complete -c cif -n __cif_without_command -s h -l help -d 'Print help'
 complete -c cif -n __cif_without_command -s V -l version -d 'Print the version'
 
-complete -c cif -n '__cif_in normalise check compare diff train clashes' -l from -x -d 'First date of the window, YYMMDD'
-complete -c cif -n '__cif_in normalise check compare diff train clashes' -l to -x -d 'Last date of the window, YYMMDD'
+complete -c cif -n '__cif_in normalise check compare diff train clashes table calendar' -l from -x -d 'First date of the window, YYMMDD'
+complete -c cif -n '__cif_in normalise check compare diff train clashes table calendar' -l to -x -d 'Last date of the window, YYMMDD'
 complete -c cif -n '__cif_in compare diff' -l common -d 'Use the common window'
 complete -c cif -n '__cif_in day train' -l stops -d 'List the calls of each train too'
-complete -c cif -n '__cif_in day train explain' -l format -x -a 'text tsv' -d 'Layout'
+complete -c cif -n '__cif_in diff day train explain' -l format -x -a 'text tsv' -d 'Layout'
 complete -c cif -n '__cif_in check' -l all -d 'Judge each line by itself, and count the reasons'
-complete -c cif -n '__cif_in normalise check train' -l form -x -a '1 2' -d 'How to join weeks'
+complete -c cif -n '__cif_in normalise check train table' -l form -x -a '1 2' -d 'How to join weeks'
 complete -c cif -n '__cif_in prepare' -l holidays -r -F -d 'Dates of the holiday codes'
 complete -c cif -n '__cif_in prepare' -l drop-clashes -d 'Leave out what has a clash'
 complete -c cif -n '__cif_in update' -l lenient -d 'Go on where a record is there already, or not'
-complete -c cif -n '__cif_in normalise check compare diff day train explain clashes prepare update' -s v -l verbose -d 'Say more on standard error'
-complete -c cif -n '__cif_in normalise check compare diff day train explain clashes prepare update' -s h -l help -d 'Print help'
+complete -c cif -n '__cif_in normalise check compare diff day train explain clashes table calendar prepare update' -s v -l verbose -d 'Say more on standard error'
+complete -c cif -n '__cif_in normalise check compare diff day train explain clashes table calendar prepare update' -s h -l help -d 'Print help'
 
 complete -c cif -n '__cif_at 0 normalise check compare diff clashes prepare' -F
-complete -c cif -n '__cif_at 1 compare diff day train' -F
+complete -c cif -n '__cif_at 0 table' -a 'header tiplocs associations schedules calls changes'
+complete -c cif -n '__cif_at 1 compare diff day train table calendar' -F
 complete -c cif -n '__cif_at 2 explain' -F
 complete -c cif -n '__cif_from 0 update' -F
-complete -c cif -n '__cif_at 0 help' -a 'normalise check compare diff day train explain clashes prepare update help'
+complete -c cif -n '__cif_at 0 help' -a 'normalise check compare diff day train explain clashes table calendar prepare update help'

@@ -1,9 +1,9 @@
 #!/usr/bin/env python3
 r"""row_files.py FOLDER FORM_1 FILE..
 
-Makes a folder in FOLDER for each row that the files have, where the runners of tests/ find it. A row of normalise, check or
-train without `--form` is one of both forms: it gets another folder in FORM_1, with `--form 1` among its words. Its answer
-is the same, unless it has a file `stdout-in-form-1`. The files have rows like this:
+Makes a folder in FOLDER for each row that the files have, where the runners of tests/ find it. A row of normalise, check,
+train or table without `--form` is one of both forms: it gets another folder in FORM_1, with `--form 1` among its words. Its
+answer is the same, unless it has a file `stdout-in-form-1`. The files have rows like this:
 
     # A comment. It may stand anywhere, and so may an empty line.
     == nothing-but-header-and-trailer: normalise
@@ -151,7 +151,7 @@ def make_folder(folder, words, status, files):
 def make_folders(rows, form_1, row):
     """Writes the row, and if it is one of both forms its copy in form 1."""
     make_folder(rows / row.name, row.words, row.status, row.whole)
-    if row.words and row.words[0] in ("normalise", "check", "train") and "--form" not in row.words:
+    if row.words and row.words[0] in ("normalise", "check", "train", "table") and "--form" not in row.words:
         files = dict(row.whole)
         files["stdout"] = files.pop("stdout-in-form-1", files["stdout"])
         words = [row.words[0], "--form", "1", *row.words[1:]]

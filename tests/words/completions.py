@@ -5,7 +5,7 @@ import subprocess
 from pathlib import Path
 
 from facts import COMMAND, OPTION, PLACES, TAKES_VALUE, VALUE, NotUnderstood, Option
-from facts import offer_fact, offer_facts, place_fact, value_offer_fact
+from facts import offer_fact, offer_facts, place_fact, value_offer_fact, values_facts
 
 ASK_BASH = Path(__file__).with_name("offered.bash")
 
@@ -62,7 +62,7 @@ ZSH_LISTED = re.compile(r"^ {8}'([a-z]+):[^']*'$", re.MULTILINE)
 ZSH_OPTION = re.compile(r"^(--[a-z-]+)=\[[^]]*\]:(\w+):(?:\(([^()]*)\)|(_files))?$")
 ZSH_SWITCH = re.compile(r"^(--[a-z-]+)\[[^]]*\]$")
 ZSH_FLAG = re.compile(r"^'\((?:- : \*|-\w --[a-z]+)\)'\{(-\w),(--[a-z]+)\}'\[[^]]*\]'$")
-ZSH_PLACE = re.compile(r"^(\*?):(:?)(\w+):(\w*)$")
+ZSH_PLACE = re.compile(r"^(\*?):(:?)(\w+):(?:(\w*)|\(([^()]*)\))$")
 ZSH_ACTIONS = {"_files": "files", "_cif_commands": "commands", "": None}
 
 
@@ -85,10 +85,11 @@ def zsh_facts_of(specs):
             found |= Option([option[1]], option[2], (option[3] or "").split()).facts()
         elif switch:
             found |= Option([switch[1]]).facts()
-        elif place and place[4] in ZSH_ACTIONS:
+        elif place and (place[5] or place[4] in ZSH_ACTIONS):
             number += 1
             found.add(place_fact(number, f"[{place[3]}]" if place[2] else f"<{place[3]}>"))
-            if ZSH_ACTIONS[place[4]]:
+            found |= values_facts(number, (place[5] or "").split())
+            if ZSH_ACTIONS.get(place[4]):
                 found |= offer_facts(number, ZSH_ACTIONS[place[4]], place[1] == "*")
         else:
             raise NotUnderstood(f"_cif has: {spec}")
@@ -159,7 +160,7 @@ def fish_facts(text):
                 facts.setdefault(name, set()).update(fish_option(flags).facts())
         elif condition in ("__cif_at", "__cif_from") and ("-F" in flags or "-a" in flags):
             offers = "files" if "-F" in flags else flags["-a"]
-            offers = "commands" if offers.split() == listed else offers
+            offers = "commands" if offers.split() == listed else " ".join(sorted(offers.split()))
             for name in words[1:]:
                 found = offer_facts(int(words[0]) + 1, offers, condition == "__cif_from")
                 facts.setdefault(name, set()).update(found)

@@ -5,7 +5,7 @@ A fact is a kind and a text. Not every text has all kinds: completions of bash h
 from dataclasses import dataclass, field
 
 COMMAND, OPTION, TAKES_VALUE, VALUE_NAME, VALUE = "command", "option", "option with a value", "name of a value", "value"
-PLACE, OFFER = "place", "offer"
+PLACE, PLACE_VALUE, OFFER = "place", "value of a place", "offer"
 
 # What a shell offers at a place, by the name that the help gives to the place.
 OFFERS = {
@@ -50,10 +50,12 @@ class Option:
 
 @dataclass
 class Command:
-    """A command, or the program itself: its options, and its places as usage has them, such as `[FILE]` or `<UID>`."""
+    """A command, or the program itself: its options, its places as usage has them, such as `[FILE]` or `<UID>`, and the values
+    of each place that takes only some."""
 
     options: list = field(default_factory=list)
     places: list = field(default_factory=list)
+    values: dict = field(default_factory=dict)
 
     def facts(self):
         found = set()
@@ -63,6 +65,7 @@ class Command:
             found.add(place_fact(number, place))
             if bare(place) in OFFERS:
                 found |= offer_facts(number, OFFERS[bare(place)], place.endswith("..."))
+            found |= values_facts(number, self.values.get(bare(place), []))
         return found
 
     def option(self, name):
@@ -84,6 +87,12 @@ def offer_facts(number, what, repeated):
     `help` takes more words, but the program has only one level of commands."""
     last = PLACES if repeated and what == "files" else number
     return {offer_fact(each, what) for each in range(number, last + 1)}
+
+
+def values_facts(number, values):
+    """The values of a place, each of which a shell offers there; nothing if the place takes any word."""
+    found = {(PLACE_VALUE, f"{number} {value}") for value in values}
+    return found | {offer_fact(number, " ".join(sorted(values)))} if values else found
 
 
 def value_offer_fact(option, what):
@@ -108,6 +117,9 @@ def mistake(program, words):
     while rest:
         word = rest.pop(0)
         if not word.startswith("-"):
+            place = bare(command.places[given]) if given < len(command.places) else ""
+            if word not in command.values.get(place, [word]):
+                return f"{place} can't be {word}"
             given += 1
             continue
         option = command.option(word)

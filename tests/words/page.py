@@ -106,9 +106,14 @@ def tags(lines):
 
 
 def commands(text):
-    """The commands of the section COMMANDS, each with its places."""
+    """The commands of the section COMMANDS, each with its places, and with the values of its first place that a list below it
+    has."""
     program = {"": Command()}
+    command = program[""]
     for depth, words in tags(section(text, "COMMANDS")):
+        parts = marked(words)
+        if depth == 2 and [kind for kind, _ in parts] == ["Cm"] and command.places:
+            command.values.setdefault(bare(command.places[0]), []).append(parts[0][1])
         if depth != 1:
             continue
         command, rest = Command(), words[2:]
@@ -154,6 +159,7 @@ def known(program):
     found = {("Cm", name) for name in program if name}
     for command in program.values():
         found |= {("Ar", bare(place)) for place in command.places}
+        found |= {("Cm", value) for values in command.values.values() for value in values}
         for option in command.options:
             found |= {("Fl", name) for name in option.names} | {("Cm", value) for value in option.values}
             found |= {("Ar", option.value_name)} if option.value_name else set()

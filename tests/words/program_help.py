@@ -5,6 +5,8 @@ import subprocess
 from facts import Command, NotUnderstood, Option
 
 OPTION_LINE = re.compile(r"^ {2,6}(?P<names>-\w(?:, --[\w-]+)?|--[\w-]+)(?: <(?P<value>[^<>]+)>)?(?:  |$)")
+PLACE_LINE = re.compile(r"^  [<[](\w+)[]>](?:\.\.\.)? +(.*)$")
+LISTED = re.compile(r"^One of (\w+(?:, \w+)+)$")
 CONTINUED = re.compile(r"^ {10}")
 POSSIBLE = re.compile(r"\[possible values: ([^]]*)\]")
 HEADING = re.compile(r"^([A-Z]\w*):$")
@@ -67,6 +69,19 @@ def places_of(text, called):
     return places
 
 
+def values_of(lines):
+    """The values of each place that takes only some, by its name: those that the help lists."""
+    found = {}
+    for item in items(lines):
+        place = PLACE_LINE.match(item)
+        if not place:
+            raise NotUnderstood(f"the help has the place: {item}")
+        listed = LISTED.match(place[2])
+        if listed:
+            found[place[1]] = listed[1].split(", ")
+    return found
+
+
 def program_of(cif):
     """The program's commands by their names, with the program itself under the empty one."""
     text = asked(cif, ["--help"])
@@ -74,11 +89,13 @@ def program_of(cif):
     program = {"": Command(options_of(parts.get("Options", [])))}
     if places_of(text, "cif") != ["<COMMAND>"]:
         raise NotUnderstood("the usage of cif isn't that of commands")
-    for name in (item.split()[0] for item in items(parts.get("Commands", []))):
+    listed = [item.split()[0] for item in items(parts.get("Commands", []))]
+    for name in listed:
         # The command `help` has no option.
         text = asked(cif, ["help", name] if name == "help" else [name, "--help"])
-        options = options_of(sections(text).get("Options", []))
-        program[name] = Command(options, places_of(text, f"cif {name}"))
+        parts = sections(text)
+        places = places_of(text, f"cif {name}")
+        program[name] = Command(options_of(parts.get("Options", [])), places, values_of(parts.get("Arguments", [])))
     return program
 
 

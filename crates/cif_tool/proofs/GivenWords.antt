@@ -27,7 +27,7 @@ use Rattle.clap.specs.declared.builder.ArgAction.{ArgAction}
 use Rattle.clap.specs.declared.builder.ArgAction.TheVariants.{Set, SetTrue, SetFalse, Append, Count, Help, HelpShort, HelpLong, Version}
 use Rattle.clap.specs.declared.parser.ValueSource.{ValueSource}
 use Rattle.clap.specs.declared.parser.ValueSource.TheVariants.{DefaultValue, CommandLine}
-use Rattle.cif_tool.proofs.Each.{Each, found_holds}
+use Rattle.cif_tool.proofs.Each.{Each, each_both, found_holds}
 use Rattle.cif_tool.proofs.FirstFault.{first_passes, later_passes}
 
 -- ---- rows with values
@@ -35,17 +35,13 @@ use Rattle.cif_tool.proofs.FirstFault.{first_passes, later_passes}
 abbrev pub IsFilled : Row → Type 0
 IsFilled r = is_some (slice_get r.values 0) ≡ true
 
-both_filled : (xs ys : List Row) → Each IsFilled xs → Each IsFilled ys → Each IsFilled (xs ++ ys)
-both_filled [] ys a b = b
-both_filled (x ∷ xs) ys a b = (a.0, both_filled xs ys a.1 b)
-
 changed_filled : (id : Text) (change : Row → List Row) (missing : List Row) → ((r : Row) → IsFilled r → Each IsFilled (change r))
     → Each IsFilled missing
     → (rows : List Row) → Each IsFilled rows → Each IsFilled (at_row id change missing rows)
 changed_filled id change missing h m [] f = m
 changed_filled id change missing h m (r ∷ rs) f =
     elim (bytes_eq r.id id) as (λ v. Each IsFilled (if v then change r ++ rs else r ∷ at_row id change missing rs)) [
-      | true ↦ both_filled (change r) rs (h r f.0) f.1
+      | true ↦ each_both IsFilled (change r) rs (h r f.0) f.1
       | false ↦ (f.0, changed_filled id change missing h m rs f.1)
     ]
 

@@ -1,6 +1,6 @@
 -- Where `clap` takes the words of `cif`, it enters a subcommand of the program's own.
-use Rattle.std.proofs.Common.{◌≡◌, ◌∙◌, Bool, true, false, inl, inr, refl, sym, List, [], ◌∷◌, ◌||◌, ◌&&◌, not, Option, Some, None, is_some}
-use Rattle.std.proofs.Common.{option_map, if◌then◌else◌, codes, true≢false}
+use Rattle.std.proofs.Common.{◌≡◌, ◌∙◌, ℕ, Bool, true, false, inl, inr, refl, sym, List, [], ◌∷◌, ◌++◌, ◌||◌, ◌&&◌, not, Option, Some, None}
+use Rattle.std.proofs.Common.{is_some, map, option_map, if◌then◌else◌, codes, true≢false}
 use Rattle.std.specs.Prelude.{IfSome, IsSomeAnd, find}
 use Rattle.std.specs.List.{list_any}
 use Rattle.std.specs.Option.{option_map_or}
@@ -8,17 +8,22 @@ use Rattle.std.specs.Str.{bytes_eq}
 use Rattle.std.proofs.lemmas.Slice.Eq.{bytes_eq-Decides}
 use Rattle.clap.specs.Facts.{explicit_source}
 use Rattle.clap.specs.Takes.{is_given}
-use Rattle.clap.specs.Words.{App, Row, Shape, Text, fault_of, subcommand_of}
+use Rattle.clap.specs.Words.{App, Row, Rule, Shape, Text, fault_of, first_of, subcommand_of}
 use Rattle.clap.specs.Kinds.{Kinds, check_kinds}
 use Rattle.clap.specs.Faults.{check_fault, defaults_fault, entered_fault, level_fault, settle_fault, walk_fault}
 use Rattle.clap.specs.Walk.{Held, Names, answers_to, finished, nothing_held, settled, stop_after, walk, walk_from}
-use Rattle.clap.specs.Simple.{argument_words, built, entered, label_of, names_of, rows_at}
-use Rattle.cif_tool.proofs.Each.{Each}
+use Rattle.clap.specs.Simple.{argument_words, built, built_leaf, entered, filled, filled_from, help_rule, help_shape, index_after, label_of}
+use Rattle.clap.specs.Simple.{names_of, new_shape, rows_at, with_index}
+use Rattle.cif_tool.proofs.Each.{Each, each_both}
 use Rattle.cif_tool.proofs.FirstFault.{first_passes, later_passes}
-use Rattle.cif_tool.proofs.GivenWords.{required_given}
+use Rattle.cif_tool.proofs.GivenWords.{IsPlainRule, required_given}
 use Rattle.cif_tool.proofs.HelpNotEntered.{IsNotHelp, IsOn, walk_on}
-use Rattle.cif_tool.specs.CommandLine.{Choice, chosen, cif, faults_of}
-use Rattle.cif_tool.specs.Job.{IsTaken}
+use Rattle.cif_tool.specs.CommandLine.{argument, chosen, cif, extract_subcommands, faults_of, feed_subcommands, given}
+use Rattle.cif_tool.specs.Job.{HasRequired, HasRequiredWord, IsAmongTaken, IsTaken}
+use Rattle.cif_tool.specs.declared.command_line.Argument.{Argument}
+use Rattle.cif_tool.specs.declared.command_line.Choices.{Choices}
+use Rattle.cif_tool.specs.declared.command_line.Kind.{Kind}
+use Rattle.cif_tool.specs.declared.command_line.Kind.TheVariants as kind
 
 -- where the subcommand is named, by another name than `help`, and takes its words, Q holds of its name and its matches
 abbrev TakenHas : (Text × List Row → Type 0) → Shape → Type 0
@@ -114,51 +119,78 @@ not_help name on is =
     let same : codes "help" ≡ name = (bytes_eq-Decides (codes "help") name).0 (or_true (bytes_eq (codes "help") name) is) in
     true≢false (sym ((bytes_eq-Decides name (codes "help")).1 (sym same)) ∙ on)
 
+-- ---- the program's own subcommands
+
+abbrev rules_of : Choices → List Argument → List Rule
+rules_of choices arguments = map (λ a. argument choices (given a)) arguments ++ help_rule ∷ []
+
+-- a subcommand that takes these arguments, as `clap` builds it
+abbrev own_shape : Choices → Text × List Argument → Shape
+own_shape choices s = record (new_shape s.0) {
+  rules = filled_from 1 (rules_of choices s.1);
+  disable_help_subcommand = true;
+  is_built = true;
+}
+
+plain_rule : (choices : Choices) (id : Text) (k : Kind) (i : ℕ) → IsPlainRule (with_index i (filled (argument choices (id, k))))
+plain_rule choices id kind.Word i = refl
+plain_rule choices id kind.Required i = refl
+plain_rule choices id kind.Several i = refl
+plain_rule choices id kind.Flag i = refl
+plain_rule choices id kind.Verbose i = refl
+plain_rule choices id kind.Name i = refl
+plain_rule choices id kind.Date i = refl
+plain_rule choices id kind.Form i = refl
+plain_rule choices id kind.Format i = refl
+plain_rule choices id kind.Table i = refl
+
+plain_rules : (choices : Choices) (arguments : List Argument) (i : ℕ) → Each IsPlainRule (filled_from i (rules_of choices arguments))
+plain_rules choices [] i = (tt, tt)
+plain_rules choices (a ∷ rest) i =
+    (plain_rule choices (given a).0 (given a).1 i, plain_rules choices rest (index_after i (argument choices (given a))))
+
+-- a rule's word is there, if it may not be left out
+abbrev HasOwn : List Row → Rule → Type 0
+HasOwn rows a = a.required ≡ true → is_some (first_of a.id rows) ≡ true
+
+required_word : (choices : Choices) (id : Text) (k : Kind) (i : ℕ) (rows : List Row) (Rest : Type 0)
+    → HasOwn rows (with_index i (filled (argument choices (id, k)))) → Rest → HasRequiredWord k id rows Rest
+required_word choices id kind.Word i rows Rest has rest = rest
+required_word choices id kind.Required i rows Rest has rest = (has refl, rest)
+required_word choices id kind.Several i rows Rest has rest = (has refl, rest)
+required_word choices id kind.Flag i rows Rest has rest = rest
+required_word choices id kind.Verbose i rows Rest has rest = rest
+required_word choices id kind.Name i rows Rest has rest = rest
+required_word choices id kind.Date i rows Rest has rest = rest
+required_word choices id kind.Form i rows Rest has rest = rest
+required_word choices id kind.Format i rows Rest has rest = rest
+required_word choices id kind.Table i rows Rest has rest = (has refl, rest)
+
+required_words : (choices : Choices) (arguments : List Argument) (i : ℕ) (rows : List Row)
+    → Each (HasOwn rows) (filled_from i (rules_of choices arguments)) → HasRequired arguments rows
+required_words choices [] i rows each = tt
+required_words choices (a ∷ rest) i rows each =
+    required_word choices (given a).0 (given a).1 i rows (HasRequired rest rows) each.0
+    (required_words choices rest (index_after i (argument choices (given a))) rows each.1)
+
+own_taken : (choices : Choices) (Q : Text × List Row → Type 0) (subs : List (Text × List Argument))
+    → ((met : Text × List Row) → IsAmongTaken subs met → Q met) → Each (TakenHas Q) (map (own_shape choices) subs)
+own_taken choices Q [] among = tt
+own_taken choices Q (s ∷ rest) among = (
+  λ name on is ws h.
+      let met = rows_at (own_shape choices s) ws in
+      among met (inl (refl, required_words choices s.1 1 met.1 (required_given (own_shape choices s) ws (plain_rules choices s.1 1) h))),
+  own_taken choices Q rest (λ met taken. among met (inr taken)),
+)
+
 -- where `clap` takes the words, it enters a subcommand of the program's own, with the words that it wants
-pub enters_own : (forms formats : Choice) (words : List Text) → faults_of forms formats words ≡ []
-    → IsSomeAnd (chosen forms formats words) IsTaken
+pub enters_own : (choices : Choices) (words : List Text) → faults_of choices words ≡ [] → IsSomeAnd (chosen choices words) IsTaken
 unfolding cif chosen faults_of
-enters_own forms formats words e =
-    takes_own IsTaken (cif (record { forms = forms; formats = formats })) words refl refl (
-      λ name on is ws h. inl (inl refl),
-      (
-        λ name on is ws h. inl (inr (inl refl)),
-        (
-          λ name on is ws h.
-              let given = required_given _ ws (refl, (refl, (refl, (refl, (refl, (refl, (tt, tt))))))) h in
-              inl (inr (inr (inl (refl, given.1.0 refl, given.1.1.0 refl)))),
-          (
-            λ name on is ws h.
-                let given = required_given _ ws (refl, (refl, (refl, (refl, (refl, (refl, (tt, tt))))))) h in
-                inl (inr (inr (inr (inl (refl, given.1.0 refl, given.1.1.0 refl))))),
-            (
-              λ name on is ws h.
-                  let given = required_given _ ws (refl, (refl, (refl, (refl, (refl, (tt, tt)))))) h in
-                  inl (inr (inr (inr (inr (inl (refl, given.1.0 refl)))))),
-              (
-                λ name on is ws h.
-                    let given = required_given _ ws (refl, (refl, (refl, (refl, (refl, (refl, (refl, (refl, (tt, tt))))))))) h in
-                    inl (inr (inr (inr (inr (inr (inl (refl, given.1.0 refl))))))),
-                (
-                  λ name on is ws h.
-                      let given = required_given _ ws (refl, (refl, (refl, (refl, (refl, (tt, tt)))))) h in
-                      inl (inr (inr (inr (inr (inr (inr (inl (refl, given.1.0 refl, given.1.1.0 refl)))))))),
-                  (
-                    λ name on is ws h. inl (inr (inr (inr (inr (inr (inr (inr refl))))))),
-                    (
-                      λ name on is ws h. inr (inl refl),
-                      (
-                        λ name on is ws h.
-                            let given = required_given _ ws (refl, (refl, (refl, (refl, (tt, tt))))) h in
-                            inr (inr (refl, given.1.0 refl, given.1.1.0 refl)),
-                        (λ name on is ws h. absurd (not_help name on is), tt),
-                      ),
-                    ),
-                  ),
-                ),
-              ),
-            ),
-          ),
-        ),
-      ),
-    ) e
+enters_own choices words e =
+    let own = λ (subs : List (Text × List Argument)). map (own_shape choices) subs in
+    let help : Each (TakenHas IsTaken) (built_leaf help_shape ∷ []) = (λ name on is ws h. absurd (not_help name on is), tt) in
+    takes_own IsTaken (cif choices) words refl refl
+    (each_both (TakenHas IsTaken) (own extract_subcommands) (own feed_subcommands ++ built_leaf help_shape ∷ [])
+    (own_taken choices IsTaken extract_subcommands (λ met taken. inl taken))
+    (each_both (TakenHas IsTaken) (own feed_subcommands) (built_leaf help_shape ∷ [])
+    (own_taken choices IsTaken feed_subcommands (λ met taken. inr taken)) help)) e

@@ -1,5 +1,5 @@
 -- The command line of `cif`, as `clap` reads it.
-use Rattle.std.specs.Prelude.{◌≡◌, List, [], ◌∷◌, Option, Some, codes, map, true, false}
+use Rattle.std.specs.Prelude.{◌≡◌, List, [], ◌∷◌, ◌++◌, Option, Some, codes, map, true, false}
 use Rattle.std.specs.Borrow.{Bor}
 use Rattle.clap.specs.Words.{App, Row, Rule, Text, app_of, fault_of, new_app, new_rule, subcommand_of, with_rule, with_subcommand}
 use Rattle.clap.specs.Kinds.{Kinds}
@@ -10,7 +10,7 @@ use Rattle.clap.specs.declared.builder.ArgAction.TheVariants.{SetTrue}
 use Rattle.clap.specs.declared.builder.ValueParser.TheVariants.{Names}
 use Rattle.cif_tool.specs.declared.command_line.Argument.{Argument}
 use Rattle.cif_tool.specs.declared.command_line.Argument.TheVariants.{Verbose, File, Left, Right, Uid, Date, From, To, All, Common, Stops}
-use Rattle.cif_tool.specs.declared.command_line.Argument.TheVariants.{Form, Format, Full, Updates, Holidays, DropClashes, Lenient}
+use Rattle.cif_tool.specs.declared.command_line.Argument.TheVariants.{Form, Format, Full, Updates, Holidays, DropClashes, Lenient, Table}
 use Rattle.cif_tool.specs.declared.command_line.Choices.{Choices}
 use Rattle.cif_tool.specs.declared.command_line.Kind.{Kind}
 use Rattle.cif_tool.specs.declared.command_line.Kind.TheVariants as kind
@@ -32,20 +32,27 @@ option id = record (new_rule id) { long = Some id; value_names = 1 }
 abbrev pub flag : Text → Rule
 flag id = record (new_rule id) { long = Some id; action = Some SetTrue }
 
--- where the program keeps the words that name a form, or a format: a command line borrows them
+-- where the program keeps words of which one is to be given: a command line borrows them
 abbrev pub Choice : Type 0
 Choice = Bor (List (Bor Text))
 
--- the words that name a form are `1` and `2`, and those that name a format `text` and `tsv`
-abbrev pub AreForms : Choice → Type 0
-AreForms forms = map (λ word. word.now) forms.now ≡ codes "1" ∷ codes "2" ∷ []
+abbrev pub words_in : Choice → List Text
+words_in choice = map (λ word. word.now) choice.now
 
-abbrev pub AreFormats : Choice → Type 0
-AreFormats formats = map (λ word. word.now) formats.now ≡ codes "text" ∷ codes "tsv" ∷ []
+-- the words that name a form, a format and a table
+pub record AreChoices (choices : Choices) : Type 0 where
+  pub forms : words_in choices.forms ≡ codes "1" ∷ codes "2" ∷ []
+  pub formats : words_in choices.formats ≡ codes "text" ∷ codes "tsv" ∷ []
+  pub tables : words_in choices.tables
+      ≡ codes "header" ∷ codes "tiplocs" ∷ codes "associations" ∷ codes "schedules" ∷ codes "calls" ∷ codes "changes" ∷ []
 
--- an option whose value is one of these words, and the default where it is left out
-abbrev pub one_of : Rule → Choice → Text → Rule
-one_of rule words default = record rule { parser = Some (Names words); defaults = default ∷ [] }
+-- an argument whose value is one of these words
+abbrev pub one_of : Choice → Rule → Rule
+one_of words rule = record rule { parser = Some (Names words) }
+
+-- the same of an option that has this value where it is left out
+abbrev pub one_of_or : Choice → Text → Rule → Rule
+one_of_or words default rule = record (one_of words rule) { defaults = default ∷ [] }
 
 -- what an argument is called, and how it is given
 abbrev pub given : Argument → Text × Kind
@@ -67,6 +74,7 @@ given DropClashes = (codes "drop-clashes", kind.Flag)
 given Lenient = (codes "lenient", kind.Flag)
 given Form = (codes "form", kind.Form)
 given Format = (codes "format", kind.Format)
+given Table = (codes "TABLE", kind.Table)
 
 -- what a subcommand can take
 abbrev pub argument : Choices → Text × Kind → Rule
@@ -77,8 +85,9 @@ argument choices (id, kind.Flag) = flag id
 argument choices (id, kind.Verbose) = record (flag id) { short = Some 118 }
 argument choices (id, kind.Name) = option id
 argument choices (id, kind.Date) = option id
-argument choices (id, kind.Form) = one_of (option id) choices.forms (codes "2")
-argument choices (id, kind.Format) = one_of (option id) choices.formats (codes "text")
+argument choices (id, kind.Form) = one_of_or choices.forms (codes "2") (option id)
+argument choices (id, kind.Format) = one_of_or choices.formats (codes "text") (option id)
+argument choices (id, kind.Table) = one_of choices.tables (required id)
 
 -- a subcommand that takes these arguments too
 abbrev pub taking : Choices → App → List Argument → App
@@ -93,9 +102,13 @@ normalise = Verbose ∷ File ∷ From ∷ To ∷ Form ∷ []
 abbrev pub check : List Argument
 check = Verbose ∷ File ∷ From ∷ To ∷ Form ∷ All ∷ []
 
--- `cif NAME [-v] [--from YYMMDD] [--to YYMMDD] [--common] LEFT RIGHT`
-abbrev pub two_files : List Argument
-two_files = Verbose ∷ Left ∷ Right ∷ From ∷ To ∷ Common ∷ []
+-- `cif compare [-v] [--from YYMMDD] [--to YYMMDD] [--common] LEFT RIGHT`
+abbrev pub compare : List Argument
+compare = Verbose ∷ Left ∷ Right ∷ From ∷ To ∷ Common ∷ []
+
+-- `cif diff [-v] [--from YYMMDD] [--to YYMMDD] [--common] [--format FORMAT] LEFT RIGHT`
+abbrev pub diff : List Argument
+diff = Verbose ∷ Left ∷ Right ∷ From ∷ To ∷ Common ∷ Format ∷ []
 
 -- `cif day [-v] [--stops] [--format FORMAT] YYMMDD [FILE]`
 abbrev pub day : List Argument
@@ -112,6 +125,14 @@ explain = Verbose ∷ Uid ∷ Date ∷ File ∷ Format ∷ []
 -- `cif clashes [-v] [--from YYMMDD] [--to YYMMDD] [FILE]`
 abbrev pub clashes : List Argument
 clashes = Verbose ∷ File ∷ From ∷ To ∷ []
+
+-- `cif table [-v] [--from YYMMDD] [--to YYMMDD] [--form FORM] TABLE [FILE]`
+abbrev pub table : List Argument
+table = Verbose ∷ Table ∷ File ∷ From ∷ To ∷ Form ∷ []
+
+-- `cif calendar [-v] [--from YYMMDD] [--to YYMMDD] UID [FILE]`
+abbrev pub calendar : List Argument
+calendar = Verbose ∷ Uid ∷ File ∷ From ∷ To ∷ []
 
 -- `cif prepare [-v] [--holidays FILE] [--drop-clashes] [FILE]`
 abbrev pub prepare : List Argument
@@ -134,13 +155,20 @@ with_subcommands choices a (s ∷ ss) = with_subcommands choices (with_subcomman
 abbrev pub program : Text → App
 program name = let made = new_app name in record made { top = record made.top { has_version = true; subcommand_required = true } }
 
--- the program `cif` with its ten subcommands
-abbrev pub subcommands : List (Text × List Argument)
-subcommands =
-    (codes "normalise", normalise) ∷ (codes "check", check) ∷ (codes "compare", two_files) ∷ (codes "diff", two_files)
+-- the subcommands that read extracts, those that read published extracts, and all, as the help has them
+abbrev pub extract_subcommands : List (Text × List Argument)
+extract_subcommands =
+    (codes "normalise", normalise) ∷ (codes "check", check) ∷ (codes "compare", compare) ∷ (codes "diff", diff)
     ∷ (codes "day", day) ∷ (codes "train", train) ∷ (codes "explain", explain) ∷ (codes "clashes", clashes)
-    ∷ (codes "prepare", prepare) ∷ (codes "update", update) ∷ []
+    ∷ (codes "table", table) ∷ (codes "calendar", calendar) ∷ []
 
+abbrev pub feed_subcommands : List (Text × List Argument)
+feed_subcommands = (codes "prepare", prepare) ∷ (codes "update", update) ∷ []
+
+abbrev pub subcommands : List (Text × List Argument)
+subcommands = extract_subcommands ++ feed_subcommands
+
+-- the program `cif`
 unfoldable pub cif : Choices → App
 cif choices = with_subcommands choices (program (codes "cif")) subcommands
 
@@ -150,9 +178,9 @@ pub record IsCommand (a : App) (c : Command) : Type 0 where
   pub local : (out-Command c).has_globals ≡ false
 
 -- the subcommand that `clap` enters at these words, with its matches
-unfoldable pub chosen : Choice → Choice → List Text → Option (Text × List Row)
-chosen forms formats words = subcommand_of (cif (record { forms = forms; formats = formats })) words
+unfoldable pub chosen : Choices → List Text → Option (Text × List Row)
+chosen choices words = subcommand_of (cif choices) words
 
 -- the kinds of error that `clap` may give at these words; none where it takes them
-unfoldable pub faults_of : Choice → Choice → List Text → Kinds
-faults_of forms formats words = fault_of (cif (record { forms = forms; formats = formats })) words
+unfoldable pub faults_of : Choices → List Text → Kinds
+faults_of choices words = fault_of (cif choices) words

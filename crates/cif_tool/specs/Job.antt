@@ -8,15 +8,23 @@ use Rattle.cif_canon.specs.declared.asked.Asked.{Asked}
 use Rattle.cif_canon.specs.declared.rows.Format.{Format}
 use Rattle.cif_canon.specs.declared.rows.Format.TheVariants as format
 use Rattle.cif_views.specs.declared.listing.Listing.{Listing}
+use Rattle.cif_views.specs.declared.tables.Table.{Table as TableOf}
+use Rattle.cif_views.specs.declared.tables.Table.TheVariants as table
 use Rattle.cif_columns.specs.Day.{StandsInYymmdd}
 use Rattle.cif_columns.specs.Uid.{IsUid}
 use Rattle.cif_weeks.specs.declared.form.Form.{Form}
 use Rattle.cif_weeks.specs.declared.form.Form.TheVariants.{One, Two}
-use Rattle.cif_tool.specs.CommandLine.{AreFormats, AreForms, Choice, chosen, faults_of}
+use Rattle.cif_tool.specs.CommandLine.{AreChoices, chosen, extract_subcommands, faults_of, feed_subcommands, given}
+use Rattle.cif_tool.specs.declared.command_line.Argument.{Argument}
+use Rattle.cif_tool.specs.declared.command_line.Choices.{Choices}
+use Rattle.cif_tool.specs.declared.command_line.Kind.{Kind}
+use Rattle.cif_tool.specs.declared.command_line.Kind.TheVariants as kind
+use Rattle.cif_tool.specs.declared.job.Call.{Call}
 use Rattle.cif_tool.specs.declared.job.FeedJob.{FeedJob}
 use Rattle.cif_tool.specs.declared.job.FeedJob.TheVariants.{Prepare, Update}
 use Rattle.cif_tool.specs.declared.job.Job.{Job}
-use Rattle.cif_tool.specs.declared.job.Job.TheVariants.{Check, CheckAll, Clashes, Compare, Day, Diff, Explain, Normalise, Train}
+use Rattle.cif_tool.specs.declared.job.Job.TheVariants.{Calendar, Check, CheckAll, Clashes, Compare, Day, Diff, Explain}
+use Rattle.cif_tool.specs.declared.job.Job.TheVariants.{Normalise, Table, Train}
 use Rattle.cif_tool.specs.declared.job.Task.{Task}
 use Rattle.cif_tool.specs.declared.job.Task.TheVariants.{Extract, Feed}
 
@@ -84,6 +92,14 @@ format_of None = format.Text
 abbrev pub listing_of : List Row → Listing
 listing_of rows = record { format = format_of (first_of (codes "format") rows); calls = is_set (first_of (codes "stops") rows) }
 
+-- the table of this name
+abbrev pub table_of : Text → TableOf
+table_of name = if bytes_eq name (codes "header") then table.Header
+    else (if bytes_eq name (codes "tiplocs") then table.Tiplocs
+    else (if bytes_eq name (codes "associations") then table.Associations
+    else (if bytes_eq name (codes "schedules") then table.Schedules
+    else (if bytes_eq name (codes "calls") then table.Calls else table.Changes))))
+
 -- the six columns of the word are a UID, and it is this one
 abbrev pub IsUidWord : Text → List ℕ → Type 0
 IsUidWord word uid = IsUid word × (uid ≡ word)
@@ -111,8 +127,9 @@ IsChosen (CheckAll file asked form) met = (met.0 ≡ codes "check") × (has_all 
     × AreCanonicalWords met.1 (option_map string_bytes file) asked form
 IsChosen (Compare left right asked common) met = (met.0 ≡ codes "compare")
     × AreTwoFilesWords met.1 (string_bytes left) (string_bytes right) asked common
-IsChosen (Diff left right asked common) met = (met.0 ≡ codes "diff")
+IsChosen (Diff left right asked common shape) met = (met.0 ≡ codes "diff")
     × AreTwoFilesWords met.1 (string_bytes left) (string_bytes right) asked common
+    × (shape ≡ format_of (first_of (codes "format") met.1))
 IsChosen (Day day file listing) met = (met.0 ≡ codes "day")
     × IsDateOf (first_of (codes "YYMMDD") met.1) (Some day)
     × HasFile met.1 (option_map string_bytes file)
@@ -127,6 +144,13 @@ IsChosen (Explain uid day file shape) met = (met.0 ≡ codes "explain")
     × HasFile met.1 (option_map string_bytes file)
     × (shape ≡ format_of (first_of (codes "format") met.1))
 IsChosen (Clashes file asked) met = (met.0 ≡ codes "clashes")
+    × IsAskedBy met.1 asked
+    × HasFile met.1 (option_map string_bytes file)
+IsChosen (Table which file asked form) met = (met.0 ≡ codes "table")
+    × IsSomeAnd (first_of (codes "TABLE") met.1) (λ word. which ≡ table_of word)
+    × AreCanonicalWords met.1 (option_map string_bytes file) asked form
+IsChosen (Calendar uid file asked) met = (met.0 ≡ codes "calendar")
+    × IsSomeAnd (first_of (codes "UID") met.1) (λ word. IsUidWord word uid)
     × IsAskedBy met.1 asked
     × HasFile met.1 (option_map string_bytes file)
 
@@ -157,33 +181,40 @@ abbrev pub IsTaskChosen : Task → Text × List Row → Type 0
 IsTaskChosen (Extract job) = IsChosen job
 IsTaskChosen (Feed job) = IsFeedChosen job
 
--- the subcommand is one of those that read extracts, with the words that it wants
+-- the same of the task of a call, and it is to say more if `--verbose` is among the words
+abbrev pub IsCallChosen : Call → Text × List Row → Type 0
+IsCallChosen call met = IsTaskChosen call.task met × (call.verbose ≡ is_set (first_of (codes "verbose") met.1))
+
+-- a word of this id is there, if one of its kind may not be left out, and so is the rest
+abbrev pub HasRequiredWord : Kind → Text → List Row → Type 0 → Type 0
+HasRequiredWord kind.Required id rows Rest = HasWord id rows × Rest
+HasRequiredWord kind.Several id rows Rest = HasWord id rows × Rest
+HasRequiredWord kind.Table id rows Rest = HasWord id rows × Rest
+HasRequiredWord _ id rows Rest = Rest
+
+-- of these arguments those are there that may not be left out
+abbrev pub HasRequired : List Argument → List Row → Type 0
+HasRequired [] rows = ⊤
+HasRequired (a ∷ rest) rows = HasRequiredWord (given a).1 (given a).0 rows (HasRequired rest rows)
+
+-- the subcommand is one of these, with the words that it wants
+abbrev pub IsAmongTaken : List (Text × List Argument) → Text × List Row → Type 0
+IsAmongTaken [] met = ⊥
+IsAmongTaken (s ∷ rest) met = ((met.0 ≡ s.0) × HasRequired s.1 met.1) ⊎ IsAmongTaken rest met
+
 abbrev pub IsExtractTaken : Text × List Row → Type 0
-IsExtractTaken met = (met.0 ≡ codes "normalise") ⊎ ((met.0 ≡ codes "check")
-    ⊎ (((met.0 ≡ codes "compare") × HasWord (codes "LEFT") met.1 × HasWord (codes "RIGHT") met.1)
-    ⊎ (((met.0 ≡ codes "diff") × HasWord (codes "LEFT") met.1 × HasWord (codes "RIGHT") met.1)
-    ⊎ (((met.0 ≡ codes "day") × HasWord (codes "YYMMDD") met.1)
-    ⊎ (((met.0 ≡ codes "train") × HasWord (codes "UID") met.1)
-    ⊎ (((met.0 ≡ codes "explain") × HasWord (codes "UID") met.1 × HasWord (codes "YYMMDD") met.1)
-    ⊎ (met.0 ≡ codes "clashes")))))))
+IsExtractTaken met = IsAmongTaken extract_subcommands met
 
--- the subcommand is one of those that read published extracts, with the words that it wants
-abbrev pub IsFeedTaken : Text × List Row → Type 0
-IsFeedTaken met = (met.0 ≡ codes "prepare")
-    ⊎ ((met.0 ≡ codes "update") × HasWord (codes "FULL") met.1 × HasWord (codes "UPDATE") met.1)
-
--- the subcommand is one of the program's own, with the words that it wants
+-- it is one of the program's own
 abbrev pub IsTaken : Text × List Row → Type 0
-IsTaken met = IsExtractTaken met ⊎ IsFeedTaken met
+IsTaken met = IsExtractTaken met ⊎ IsAmongTaken feed_subcommands met
 
--- `clap` takes the words, enters the task's subcommand and finds what the task holds
-pub record Asks (words : List Text) (task : Task) : Type 0 where
-  pub forms : Choice
-  pub are_forms : AreForms forms
-  pub formats : Choice
-  pub are_formats : AreFormats formats
-  pub taken : faults_of forms formats words ≡ []
-  pub is_chosen : IsSomeAnd (chosen forms formats words) (IsTaskChosen task)
+-- `clap` takes the words, enters the task's subcommand and finds what the call holds
+pub record Asks (words : List Text) (call : Call) : Type 0 where
+  pub choices : Choices
+  pub are_choices : AreChoices choices
+  pub taken : faults_of choices words ≡ []
+  pub is_chosen : IsSomeAnd (chosen choices words) (IsCallChosen call)
 
 -- The names of the inputs that a job reads: the first is standard input where it is absent, and each is where it is `-`. Only `compare`
 -- and `diff` have a second.
@@ -192,8 +223,10 @@ input_names (Normalise file asked form) = (option_map string_bytes file, None)
 input_names (Check file asked form) = (option_map string_bytes file, None)
 input_names (CheckAll file asked form) = (option_map string_bytes file, None)
 input_names (Compare left right asked common) = (Some (string_bytes left), Some (string_bytes right))
-input_names (Diff left right asked common) = (Some (string_bytes left), Some (string_bytes right))
+input_names (Diff left right asked common shape) = (Some (string_bytes left), Some (string_bytes right))
 input_names (Day day file listing) = (option_map string_bytes file, None)
 input_names (Train uid file asked form listing) = (option_map string_bytes file, None)
 input_names (Explain uid day file shape) = (option_map string_bytes file, None)
 input_names (Clashes file asked) = (option_map string_bytes file, None)
+input_names (Table which file asked form) = (option_map string_bytes file, None)
+input_names (Calendar uid file asked) = (option_map string_bytes file, None)

@@ -11,8 +11,9 @@ use Rattle.cif_columns.specs.declared.sink.Sink.{Sink}
 use Rattle.cif_columns.specs.declared.sink.WriteFault.{WriteFault}
 use Rattle.cif_extract.specs.declared.fault.Fault.{Fault}
 use Rattle.cif_extract.specs.declared.fault.Fault.TheVariants.{Write, Memory as OutOfMemory}
-use Rattle.cif_tool.specs.CommandLine.{AreFormats, AreForms, Choice, chosen, faults_of}
+use Rattle.cif_tool.specs.CommandLine.{AreChoices, chosen, faults_of}
 use Rattle.cif_tool.specs.Job.{IsChosen, IsFeedChosen, IsTaskChosen, is_standard, names_standard, reads_standard, standard_inputs}
+use Rattle.cif_tool.specs.declared.command_line.Choices.{Choices}
 use Rattle.cif_tool.specs.declared.job.FeedJob.{FeedJob}
 use Rattle.cif_tool.specs.declared.job.Job.{Job}
 use Rattle.cif_tool.specs.declared.job.JobFault.{JobFault}
@@ -31,9 +32,10 @@ IsNoUid word = ¬ IsUid word
 abbrev pub HasBadDate : Text → List Row → Type 0
 HasBadDate id rows = IsSomeAnd (first_of id rows) NamesNoDay
 
--- the subcommand is `train` or `explain`, and its UID is none
+-- the subcommand is `train`, `explain` or `calendar`, and its UID is none
 abbrev pub HasBadUid : Text × List Row → Type 0
-HasBadUid met = ((met.0 ≡ codes "train") ⊎ (met.0 ≡ codes "explain")) × IsSomeAnd (first_of (codes "UID") met.1) IsNoUid
+HasBadUid met = ((met.0 ≡ codes "train") ⊎ ((met.0 ≡ codes "explain") ⊎ (met.0 ≡ codes "calendar")))
+    × IsSomeAnd (first_of (codes "UID") met.1) IsNoUid
 
 -- the subcommand is `compare` or `diff`, and both of its inputs are standard input
 abbrev pub IsOneInput : Text × List Row → Type 0
@@ -82,19 +84,16 @@ pub record IsTaskOf (met : Text × List Row) (result : Result Task JobFault) : T
   pub err : IfErr result (λ fault. IsWordFault fault met)
 
 -- `clap` refuses the words, by the error's kind, or it takes them and one of them is no UID or no date, or two inputs are standard input
-abbrev pub IsFaultAt : Choice → Choice → List Text → JobFault → Type 0
-IsFaultAt forms formats words (Usage error) = IsAmong (kind_of error) (faults_of forms formats words)
-IsFaultAt forms formats words Memory = ⊤
-IsFaultAt forms formats words fault =
-    (faults_of forms formats words ≡ []) × IsSomeAnd (chosen forms formats words) (IsWordFault fault)
+abbrev pub IsFaultAt : Choices → List Text → JobFault → Type 0
+IsFaultAt choices words (Usage error) = IsAmong (kind_of error) (faults_of choices words)
+IsFaultAt choices words Memory = ⊤
+IsFaultAt choices words fault = (faults_of choices words ≡ []) × IsSomeAnd (chosen choices words) (IsWordFault fault)
 
 -- why these words ask for nothing
 pub record IsFaultOf (words : List Text) (fault : JobFault) : Type 0 where
-  pub forms : Choice
-  pub are_forms : AreForms forms
-  pub formats : Choice
-  pub are_formats : AreFormats formats
-  pub fault_is : IsFaultAt forms formats words fault
+  pub choices : Choices
+  pub are_choices : AreChoices choices
+  pub fault_is : IsFaultAt choices words fault
 
 -- help and the version, where they are asked for, are no mistake
 abbrev pub kind_status : ErrorKind → ℕ

@@ -295,25 +295,30 @@ fn add_clashing<R: Files + Input>(
 
 // ---- a mistaken word
 
-/// Says which of the words is mistaken, and what it must be.
-pub(crate) fn advise_on_word<W: WriteDevice>(
-    alloc: Global,
-    words: &[String],
-    fault: &JobFault,
-    errors: &mut Sink<W>,
-) {
-    let must = match fault {
-        JobFault::BadDate => "': must be a valid date as six digits, YYMMDD",
-        JobFault::BadUid => "': must be six printable ASCII characters",
+/// What a mistaken word must be.
+pub(crate) fn must_be(fault: &JobFault) -> Option<&'static str> {
+    match fault {
+        JobFault::BadDate => Some("must be a valid date as six digits, YYMMDD"),
+        JobFault::BadUid => Some("must be six printable ASCII characters"),
         JobFault::Usage(_)
         | JobFault::OneInput
         | JobFault::OneInputOfPrepare
         | JobFault::OneInputOfUpdate
-        | JobFault::Memory => return,
-    };
+        | JobFault::Memory => None,
+    }
+}
+
+/// Says which of the words is mistaken, and what it must be, where `--verbose` is among them.
+pub(crate) fn advise_on_word<W: WriteDevice>(
+    alloc: Global,
+    words: &[String],
+    fault: &JobFault,
+    must: &str,
+    errors: &mut Sink<W>,
+) {
     if let Some(word) = mistaken_word(alloc, words, fault) {
         let mut message = Message::new(alloc);
-        message.line(&["'", word, must]);
+        message.line(&["'", word, "': ", must]);
         message.tell(errors);
     }
 }

@@ -358,7 +358,11 @@ pub fn answer<R: ReadDevice, W: WriteDevice>(
             right: _,
             asked,
             common,
-        } => answer_diff(alloc, source, right, sink, asked, *common, kept),
+            format,
+        } => match format {
+            Format::Text => answer_diff(alloc, source, right, sink, asked, *common, kept),
+            Format::Tsv => Err(Fault::Memory),
+        },
         Job::Day {
             day,
             file: _,
@@ -387,5 +391,6 @@ pub fn answer<R: ReadDevice, W: WriteDevice>(
             format,
         } => answer_explain(alloc, source, sink, uid, *day, *format, &mut kept.left),
         Job::Clashes { file: _, asked } => answer_clashes(alloc, source, sink, asked),
+        Job::Table { .. } | Job::Calendar { .. } => Err(Fault::Memory),
     }
 }

@@ -3,8 +3,8 @@ ghost use Rattle.std.specs.Prelude.{◌≡◌, IfOk, codes, false, map, string_b
 ghost use Rattle.clap.specs.Words.{FailsBy, app_of, new_app, rule_of, subcommand_rows_of};
 ghost use Rattle.clap.specs.Words.{with_subcommand};
 ghost use Rattle.clap.specs.declared.Command.TheViews.{out-Command};
-ghost use Rattle.cif_tool.specs.CommandLine.{IsCommand, argument, chosen, cif, faults_of, given};
-ghost use Rattle.cif_tool.specs.CommandLine.{subcommands, taken, taking};
+ghost use Rattle.cif_tool.specs.CommandLine.{AreChoices, IsCommand, argument, chosen, cif, faults_of};
+ghost use Rattle.cif_tool.specs.CommandLine.{given, subcommands, taken, taking};
 
 use crate::help;
 use clap::{Arg, ArgAction, ArgMatches, Command};
@@ -31,6 +31,8 @@ enum Kind {
     Form,
     /// By `--ID FORMAT`.
     Format,
+    /// By a word that may not be left out, and names a table.
+    Table,
 }
 
 /// What an argument is called, how it is given, and what help says of it.
@@ -62,6 +64,7 @@ enum Argument {
     Lenient,
     Form,
     Format,
+    Table,
 }
 
 impl Argument {
@@ -160,19 +163,14 @@ impl Argument {
                 kind: Kind::Format,
                 help: help::FORMAT,
             },
+            Argument::Table => Given {
+                id: "TABLE",
+                kind: Kind::Table,
+                help: help::TABLES,
+            },
         }
     }
 }
-
-/// What `compare` and `diff` take.
-const TWO_FILES: [Argument; 6] = [
-    Argument::Verbose,
-    Argument::Left,
-    Argument::Right,
-    Argument::From,
-    Argument::To,
-    Argument::Common,
-];
 
 /// What a subcommand is called, what help says of it, and what it takes.
 #[derive(Clone, Copy)]
@@ -183,11 +181,30 @@ struct Parts<'a> {
     arguments: &'a [Argument],
 }
 
-/// The words that name a form, and those that name a format.
+/// The words that name a form, those that name a format, and those that name a table.
 #[derive(Clone, Copy)]
-struct Choices<'a> {
+pub(crate) struct Choices<'a> {
     forms: &'a [&'a str],
     formats: &'a [&'a str],
+    tables: &'a [&'a str],
+}
+
+/// All words that name one.
+pub(crate) fn all_choices() -> Choices<'static>
+    ensures { AreChoices result }
+{
+    Choices {
+        forms: &["1", "2"],
+        formats: &["text", "tsv"],
+        tables: &[
+            "header",
+            "tiplocs",
+            "associations",
+            "schedules",
+            "calls",
+            "changes",
+        ],
+    }
 }
 
 /// The argument that is given so.
@@ -215,6 +232,11 @@ fn arg_of<'a>(alloc: Global, given: Given<'a>, choices: &Choices<'a>) -> Arg<'a>
             .value_name("FORMAT")
             .value_parser(choices.formats)
             .default_value("text"),
+        // Help would have them in a line of more than 80 columns.
+        Kind::Table => arg
+            .required(true)
+            .value_parser(choices.tables)
+            .hide_possible_values(true),
     }
 }
 
@@ -277,13 +299,28 @@ fn subcommands() -> &'static [Parts<'static>]
             name: "compare",
             about: help::COMPARE,
             more: help::COMPARE_MORE,
-            arguments: &TWO_FILES,
+            arguments: &[
+                Argument::Verbose,
+                Argument::Left,
+                Argument::Right,
+                Argument::From,
+                Argument::To,
+                Argument::Common,
+            ],
         },
         Parts {
             name: "diff",
             about: help::DIFF,
             more: help::DIFF_MORE,
-            arguments: &TWO_FILES,
+            arguments: &[
+                Argument::Verbose,
+                Argument::Left,
+                Argument::Right,
+                Argument::From,
+                Argument::To,
+                Argument::Common,
+                Argument::Format,
+            ],
         },
         Parts {
             name: "day",
@@ -336,6 +373,31 @@ fn subcommands() -> &'static [Parts<'static>]
             ],
         },
         Parts {
+            name: "table",
+            about: help::TABLE,
+            more: help::TABLE_MORE,
+            arguments: &[
+                Argument::Verbose,
+                Argument::Table,
+                Argument::File,
+                Argument::From,
+                Argument::To,
+                Argument::Form,
+            ],
+        },
+        Parts {
+            name: "calendar",
+            about: help::CALENDAR,
+            more: help::CALENDAR_MORE,
+            arguments: &[
+                Argument::Verbose,
+                Argument::Uid,
+                Argument::File,
+                Argument::From,
+                Argument::To,
+            ],
+        },
+        Parts {
             name: "prepare",
             about: help::PREPARE,
             more: help::PREPARE_MORE,
@@ -376,14 +438,12 @@ fn program<'a>(alloc: Global, choices: &Choices<'a>) -> Result<Command<'a>, Allo
 /// The matches that `clap` gives for the words, of which the first is the program's name.
 pub(crate) fn matches_of<'a>(
     alloc: Global,
-    forms: &'a [&'a str],
-    formats: &'a [&'a str],
+    choices: &Choices<'a>,
     words: &'a [String],
 ) -> Result<ArgMatches<'a>, clap::Error>
     ensures ok { IfOk result (λ matches. subcommand_rows_of matches
-        ≡ chosen forms.entry formats.entry (map string_bytes words.entry.now)) }
-    ensures kinds { FailsBy
-        (faults_of forms.entry formats.entry (map string_bytes words.entry.now)) result }
+        ≡ chosen choices.now (map string_bytes words.entry.now)) }
+    ensures kinds { FailsBy (faults_of choices.now (map string_bytes words.entry.now)) result }
 {
-    program(alloc, &Choices { forms, formats })?.try_get_matches_from(words)
+    program(alloc, choices)?.try_get_matches_from(words)
 }

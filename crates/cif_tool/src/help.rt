@@ -86,11 +86,15 @@ pub(crate) const DIFF_MORE: &str = "\
 Prints the records of what only one of the two says: its lines begin with `< `
 if that is LEFT, and with `> ` if it is RIGHT. Locations come first, then
 associations, then schedules. If there is no difference, prints nothing.
+--format tsv prints a table instead: field names in the first line, tabs between
+fields. Two records of one train or association with the same dates and days
+have a row for each field that differs, and any other record has one row.
 With --common, the common window goes from the later of the two first dates
 to the earlier of the two last dates. Extracts of different days need it.
 
-Example:
+Examples:
   cif diff --common yesterday.cif today.cif
+  cif diff --format tsv old.cif new.cif > changes.tsv
 
 Statuses:
   0  no difference
@@ -179,6 +183,55 @@ Statuses:
   3  the input is refused, or the dates asked for don't fit its window
   4  reading or writing failed, or memory ran out";
 
+pub(crate) const TABLE: &str = "Writes a table of the canonical extract";
+
+pub(crate) const TABLE_MORE: &str = "\
+Prints field names in the first line, and then a row for each of these:
+  header        the header
+  tiplocs       a location (TI)
+  associations  an association (AA)
+  schedules     a schedule (BS and BX), with its number
+  calls         a call (LO, LI or LT), with the number of its schedule
+  changes       a change en route (CR), with the numbers of its schedule and of
+                the call that follows
+Tabs separate fields, and dates are YYYY-MM-DD. The six tables together say what
+the canonical extract says.
+Form 1 joins weeks that have the same days. Form 2 also joins a week that the
+window cuts, if the days that are left of it are alike.
+
+Examples:
+  cif table schedules extract.cif > schedules.tsv
+  cif table calls --from 260105 --to 260118 extract.cif > calls.tsv
+
+Statuses:
+  0  success
+  2  a usage error
+  3  the input is refused, or the dates asked for don't fit its window
+  4  reading or writing failed, or memory ran out";
+
+pub(crate) const CALENDAR: &str = "Shows week by week on which dates a train runs";
+
+pub(crate) const CALENDAR_MORE: &str = "\
+Prints a line for each week that has a date of the window: the date of its
+Monday, and a character for each day from Monday to Sunday.
+         MTWTFSS
+  260105 PPPPP..
+  260112 PPOPP..
+P, O and N are the letters of the records that win: the train runs. On the other
+dates of the window it doesn't:
+  C  it is cancelled
+  .  no record applies
+  !  records of the same rank contradict each other
+
+Example:
+  cif calendar C00123 extract.cif
+
+Statuses:
+  0  success, even if the train doesn't run
+  2  a usage error
+  3  the input is refused, or the dates asked for don't fit its window
+  4  reading or writing failed, or memory ran out";
+
 pub(crate) const PREPARE: &str = "Turns a published extract into one that all commands read";
 
 pub(crate) const PREPARE_MORE: &str = "\
@@ -234,6 +287,9 @@ pub(crate) const RIGHT: &str = "The extract that it is compared with; - is stand
 pub(crate) const FULL: &str = "The full extract; - is standard input";
 
 pub(crate) const UPDATES: &str = "The update extracts, in their order; - is standard input";
+
+pub(crate) const TABLES: &str =
+    "One of header, tiplocs, associations, schedules, calls, changes";
 
 pub(crate) const DATE: &str = "The date, such as 260114 for 14 January 2026";
 

@@ -8,10 +8,17 @@ use arrayvec::ArrayString;
 use cif_canon::{Asked, Format};
 use cif_columns::{Day, Sink, Uid, WriteDevice};
 use cif_extract::Fault;
-use cif_views::Listing;
+use cif_views::{Listing, Table};
 use cif_weeks::Form;
 use clap::error::ErrorKind;
 use std::alloc::{AllocError, Global};
+
+/// What a call of `cif` asks for, and whether it is to say more on standard error.
+#[derive(Drop)]
+pub struct Call {
+    pub task: Task,
+    pub verbose: bool,
+}
 
 /// What a call of `cif` asks for.
 #[derive(Drop)]
@@ -52,12 +59,13 @@ pub enum Job {
         asked: Asked,
         common: bool,
     },
-    /// To list everything in which two extracts differ. `common` is as of `Compare`.
+    /// To list everything in which two extracts differ, in this format. `common` is as of `Compare`.
     Diff {
         left: String,
         right: String,
         asked: Asked,
         common: bool,
+        format: Format,
     },
     /// To list what runs on a day, in this listing.
     Day {
@@ -85,6 +93,19 @@ pub enum Job {
         file: Option<String>,
         asked: Asked,
     },
+    /// To write this table of the canonical extract.
+    Table {
+        table: Table,
+        file: Option<String>,
+        asked: Asked,
+        form: Form,
+    },
+    /// To show, week by week, which records of a train win on each date.
+    Calendar {
+        uid: Uid,
+        file: Option<String>,
+        asked: Asked,
+    },
 }
 
 impl Job {
@@ -103,7 +124,9 @@ impl Job {
             | Job::Day { file, .. }
             | Job::Train { file, .. }
             | Job::Explain { file, .. }
-            | Job::Clashes { file, .. } => (file.as_deref(), None),
+            | Job::Clashes { file, .. }
+            | Job::Table { file, .. }
+            | Job::Calendar { file, .. } => (file.as_deref(), None),
             Job::Compare { left, right, .. } | Job::Diff { left, right, .. } => {
                 (Some(left.as_str()), Some(right.as_str()))
             }

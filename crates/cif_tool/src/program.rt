@@ -1,6 +1,6 @@
 //! From the words of the process to its status. No clause says what is done here: the rows of `tests/`
 //! show it on the built program.
-use crate::advice::{advise, advise_on_word};
+use crate::advice::{advise, advise_on_word, must_be};
 use crate::answers::{Kept, answer};
 use crate::devices::{ExtractInput, Output, Written};
 use crate::feeds::feed_task;
@@ -44,18 +44,17 @@ fn asked<R: Env + Files + Input + Print + AllocGlobal, W: WriteDevice>(
     words: Vec<String>,
     errors: &mut Sink<W>,
 ) -> u8 {
-    let verbose = is_verbose(words.as_slice());
     match task_of(rt.alloc(), words) {
-        Ok(task) => {
-            let status = match &task {
-                Task::Extract(job) => done(rt, job, verbose, errors),
-                Task::Feed(job) => feed_task(rt, job, verbose, errors),
+        Ok(call) => {
+            let status = match &call.task {
+                Task::Extract(job) => done(rt, job, call.verbose, errors),
+                Task::Feed(job) => feed_task(rt, job, call.verbose, errors),
             };
             // The process ends after this: nothing is gained by freeing it.
-            mem::forget(task);
+            mem::forget(call);
             status
         }
-        Err(fault) => refused(rt, fault, verbose, errors),
+        Err(fault) => refused(rt, fault, errors),
     }
 }
 
@@ -65,14 +64,13 @@ fn asked<R: Env + Files + Input + Print + AllocGlobal, W: WriteDevice>(
 fn refused<R: Env + Print + AllocGlobal, W: WriteDevice>(
     rt: &R,
     fault: JobFault,
-    verbose: bool,
     errors: &mut Sink<W>,
 ) -> u8 {
     let answer = explained(rt.alloc(), &fault, io::writer(rt), errors);
     let status = end(&answer, errors);
-    if verbose {
+    if let Some(must) = must_be(&fault) {
         if let Ok(words) = words_of(rt) {
-            advise_on_word(rt.alloc(), words.as_slice(), &fault, errors);
+            advise_on_word(rt.alloc(), words.as_slice(), &fault, must, errors);
         }
     }
     status
@@ -81,18 +79,6 @@ fn refused<R: Env + Print + AllocGlobal, W: WriteDevice>(
 /// The words of the process, the program's name first. One that is no text fails them all.
 fn words_of<R: Env + AllocGlobal>(rt: &R) -> io::Result<Vec<String>> {
     Ok(env::args(rt)?.collect(rt.alloc())?)
-}
-
-/// Whether `--verbose` is among the options.
-fn is_verbose(words: &[String]) -> bool {
-    for word in words {
-        match word.as_str() {
-            "-v" | "--verbose" => return true,
-            "--" => return false,
-            _ => {}
-        }
-    }
-    false
 }
 
 /// Answers the job on the standard output, and returns the status to exit with.

@@ -5,28 +5,22 @@ ghost use Rattle.std.specs.Prelude.{true};
 ghost use Rattle.clap.specs.Words.{all_of, first_of, found_of, kind_of, rows_of};
 ghost use Rattle.clap.specs.Words.{subcommand_rows_of};
 ghost use Rattle.cif_columns.specs.Day.{StandsInYymmdd};
-ghost use Rattle.cif_tool.specs.Job.{Asks, HasFile, HasWord, IsAskedBy, IsChosen, IsDateOf};
-ghost use Rattle.cif_tool.specs.Job.{IsExtractTaken, IsTaken, IsTaskChosen, IsUidWord, form_of, format_of};
+ghost use Rattle.cif_tool.specs.Job.{Asks, HasFile, HasWord, IsAskedBy, IsCallChosen, IsDateOf};
+ghost use Rattle.cif_tool.specs.Job.{IsExtractTaken, IsTaken, IsUidWord, form_of, format_of};
 ghost use Rattle.cif_tool.specs.Job.{is_set, is_standard, listing_of, names_standard, reads_standard};
-ghost use Rattle.cif_tool.specs.Job.{standard_inputs};
+ghost use Rattle.cif_tool.specs.Job.{standard_inputs, table_of};
 ghost use Rattle.cif_tool.specs.JobFault.{HasBadDate, IsFaultOf, IsFeedJobOf, IsJobOf, IsNoUid};
 ghost use Rattle.cif_tool.specs.JobFault.{IsTaskOf, IsWordFault, NamesNoDay};
 
-use crate::command_line::matches_of;
-use crate::job::{FeedJob, Job, JobFault, Task};
+use crate::command_line::{all_choices, matches_of};
+use crate::job::{Call, FeedJob, Job, JobFault, Task};
 use cif_canon::{Asked, Format};
 use cif_columns::{Day, Uid, are_printable};
-use cif_views::Listing;
+use cif_views::{Listing, Table};
 use cif_weeks::Form;
 use clap::ArgMatches;
 use clap::error::ErrorKind;
 use std::alloc::{AllocError, Global};
-
-/// The words that name a form.
-static FORMS: [&str; 2] = ["1", "2"];
-
-/// The words that name a format.
-static FORMATS: [&str; 2] = ["text", "tsv"];
 
 /// What the words of a call ask for, of which the first is the program's name.
 ///
@@ -36,33 +30,31 @@ static FORMATS: [&str; 2] = ["text", "tsv"];
 /// memory ran out, in `clap` or in this call itself.
 // Inlined, it would keep `clap`'s 25 KiB on the stack while the job is done.
 #[inline(never)]
-pub fn task_of(alloc: Global, words: Vec<String>) -> Result<Task, JobFault>
+pub fn task_of(alloc: Global, words: Vec<String>) -> Result<Call, JobFault>
     ensures asked { IfOk result (Asks (map string_bytes words.items)) }
     ensures refused { IfErr result (IsFaultOf (map string_bytes words.items)) }
 {
-    match matches_of(
-        alloc,
-        FORMS.as_slice(),
-        FORMATS.as_slice(),
-        words.as_slice(),
-    ) {
+    match matches_of(alloc, &all_choices(), words.as_slice()) {
         Ok(matches) => chosen_task(alloc, &matches),
         Err(error) => Err(fault_of_error(error)),
     }
 }
 
-/// The first word that should name a date, or the UID, and doesn't: which, `fault` says.
+/// The first word that should name a date, or the UID, and doesn't, as `fault` says; none where
+/// `--verbose` isn't among the words.
 #[inline(never)]
 pub(crate) fn mistaken_word<'a>(
     alloc: Global,
     words: &'a [String],
     fault: &JobFault,
 ) -> Option<&'a str> {
-    match matches_of(alloc, FORMS.as_slice(), FORMATS.as_slice(), words) {
-        Ok(matches) => match (matches.subcommand(), fault) {
-            (Some((_, inner)), JobFault::BadUid) => word_of(inner, "UID"),
-            (Some((_, inner)), _) => mistaken_date(inner),
-            (None, _) => None,
+    match matches_of(alloc, &all_choices(), words) {
+        Ok(matches) => match matches.subcommand() {
+            Some((_, inner)) if has_flag(inner, "verbose") => match fault {
+                JobFault::BadUid => word_of(inner, "UID"),
+                _ => mistaken_date(inner),
+            },
+            _ => None,
         },
         Err(_) => None,
     }
@@ -93,14 +85,17 @@ fn fault_of_error(error: clap::Error) -> JobFault
 // ---- the jobs
 
 /// What the subcommand that was entered asks for.
-fn chosen_task(alloc: Global, matches: &ArgMatches<'_>) -> Result<Task, JobFault>
+fn chosen_task(alloc: Global, matches: &ArgMatches<'_>) -> Result<Call, JobFault>
     requires { IsSomeAnd (subcommand_rows_of matches.now) IsTaken }
-    ensures ok { IfOk result (λ task. IsSomeAnd (subcommand_rows_of matches.now) (IsTaskChosen task)) }
+    ensures ok { IfOk result (λ call. IsSomeAnd (subcommand_rows_of matches.now) (IsCallChosen call)) }
     ensures err { IfErr result (λ fault.
         IsSomeAnd (subcommand_rows_of matches.now) (IsWordFault fault)) }
 {
     match matches.subcommand() {
-        Some((name, inner)) => named_task(alloc, name, inner),
+        Some((name, inner)) => Ok(Call {
+            task: named_task(alloc, name, inner)?,
+            verbose: has_flag(inner, "verbose"),
+        }),
         None => unreachable!(),
     }
 }
@@ -129,6 +124,8 @@ fn named_job(alloc: Global, name: &str, matches: &ArgMatches<'_>) -> Result<Job,
         "train" => train_job(alloc, matches),
         "explain" => explain_job(alloc, matches),
         "clashes" => clashes_job(alloc, matches),
+        "table" => table_job(alloc, matches),
+        "calendar" => calendar_job(alloc, matches),
         _ => unreachable!(),
     }
 }
@@ -176,6 +173,7 @@ fn two_files_job(alloc: Global, name: &str, matches: &ArgMatches<'_>) -> Result<
             common,
             left,
             right,
+            format: format_of(matches),
         }),
     }
 }
@@ -237,6 +235,34 @@ fn clashes_job(alloc: Global, matches: &ArgMatches<'_>) -> Result<Job, JobFault>
     ensures { IsJobOf (codes "clashes", rows_of (found_of matches.now)) result }
 {
     Ok(Job::Clashes {
+        asked: asked_of(matches)?,
+        file: file_of(alloc, matches)?,
+    })
+}
+
+/// What `table` asks for.
+fn table_job(alloc: Global, matches: &ArgMatches<'_>) -> Result<Job, JobFault>
+    requires { HasWord (codes "TABLE") (rows_of (found_of matches.now)) }
+    ensures { IsJobOf (codes "table", rows_of (found_of matches.now)) result }
+{
+    Ok(Job::Table {
+        table: table_of(required_word(matches, "TABLE")),
+        asked: asked_of(matches)?,
+        form: form_of(matches),
+        file: file_of(alloc, matches)?,
+    })
+}
+
+/// What `calendar` asks for.
+fn calendar_job(alloc: Global, matches: &ArgMatches<'_>) -> Result<Job, JobFault>
+    requires { HasWord (codes "UID") (rows_of (found_of matches.now)) }
+    ensures { IsJobOf (codes "calendar", rows_of (found_of matches.now)) result }
+{
+    let Some(uid) = uid_of_word(required_word(matches, "UID")) else {
+        return Err(JobFault::BadUid);
+    };
+    Ok(Job::Calendar {
+        uid,
         asked: asked_of(matches)?,
         file: file_of(alloc, matches)?,
     })
@@ -461,6 +487,20 @@ fn listing_of(matches: &ArgMatches<'_>) -> Listing
 }
 
 // ---- the values of words
+
+/// The table of this name.
+fn table_of(word: &str) -> Table
+    ensures { result ≡ table_of word.now }
+{
+    match word {
+        "header" => Table::Header,
+        "tiplocs" => Table::Tiplocs,
+        "associations" => Table::Associations,
+        "schedules" => Table::Schedules,
+        "calls" => Table::Calls,
+        _ => Table::Changes,
+    }
+}
 
 /// The day that six digits YYMMDD name.
 fn day_of_word(word: &str) -> Option<Day>
