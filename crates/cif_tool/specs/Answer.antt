@@ -24,10 +24,13 @@ use Rattle.cif_canon.specs.Counts.{counts_line}
 use Rattle.cif_canon.specs.Differences.{AreDifferences, AreNone, DifferencesParts, differences_text}
 use Rattle.cif_views.specs.Explanation.{IsExplanation, IsExplanationFault}
 use Rattle.cif_canon.specs.Fault.{IsNormaliseFault}
+use Rattle.cif_canon.specs.Lines.{lines_of}
 use Rattle.cif_canon.specs.Normalised.{FaultWrites, IsNormalised}
 use Rattle.cif_canon.specs.Pair.{FaultOfBoth, IsCompareRefusal, ReadsBoth, SpellPair}
 use Rattle.cif_canon.specs.Views.{IsDayFault}
 use Rattle.cif_views.specs.Listing.{IsDayListing, IsTrainListing}
+use Rattle.cif_views.specs.Tables.{table_text}
+use Rattle.cif_views.specs.declared.tables.Table.{Table as TableOf}
 use Rattle.cif_canon.specs.declared.asked.Asked.{Asked}
 use Rattle.cif_canon.specs.declared.comparison.Comparison.{Comparison}
 use Rattle.cif_canon.specs.declared.canonical_form.Counts.{Counts}
@@ -74,6 +77,14 @@ pub record IsCheckAnswer (form : Form) (asked : Asked) (bytes text : List ℕ) (
   pub counts : Counts
   pub normalised : IsNormalised form asked MAX_LINES bytes canonical counts
   pub text_is : text ≡ counts_line counts
+  pub status_is : status ≡ 0
+
+-- `table` answers these bytes by a table of the extract that is their canonical text.
+pub record IsTableAnswer (table : TableOf) (form : Form) (asked : Asked) (bytes text : List ℕ) (status : ℕ) : Type 0 where
+  pub canonical : List ℕ
+  pub counts : Counts
+  pub normalised : IsNormalised form asked MAX_LINES bytes canonical counts
+  pub text_is : text ≡ table_text table (lines_of normalised.canonical.made)
   pub status_is : status ≡ 0
 
 -- Some of the lines of these bytes have a reason to be refused, each judged by itself, and the text says which.
@@ -219,7 +230,7 @@ IsJobAnswer remaining (Train uid file asked form listing) source right =
     OfInput remaining (IsTrainAnswer listing form asked uid) source
 IsJobAnswer remaining (Explain uid day file format) source right = OfInput remaining (IsExplainAnswer format uid day) source
 IsJobAnswer remaining (Clashes file asked) source right = OfInput remaining (IsClashesAnswer asked) source
-IsJobAnswer remaining (Table which file asked form) source right = λ text status. ⊥
+IsJobAnswer remaining (Table which file asked form) source right = OfInput remaining (IsTableAnswer which form asked) source
 IsJobAnswer remaining (Calendar uid file asked) source right = λ text status. ⊥
 
 -- why it has no answer

@@ -12,8 +12,8 @@ ghost use Rattle.cif_tool.specs.Answer.{IsCountFault};
 ghost use Rattle.cif_tool.specs.Answer.{Answers, IsCheckAllAnswer, IsCheckAllFault, IsCheckAnswer, LeavesUnlessListed, IsClashesAnswer, IsClashesRefusal};
 ghost use Rattle.cif_tool.specs.Answer.{IsCompareAnswer, IsDayAnswer, IsDayRefusal, IsDiffAnswer};
 ghost use Rattle.cif_tool.specs.Answer.{IsExplainAnswer, IsExplainRefusal, IsHandedOn, IsJobAnswer};
-ghost use Rattle.cif_tool.specs.Answer.{IsJobFault, IsNormaliseAnswer, IsTrainAnswer, OfBoth, OfInput};
-ghost use Rattle.cif_tool.specs.Answer.{Finishes, ReadsInputs};
+ghost use Rattle.cif_tool.specs.Answer.{IsJobFault, IsNormaliseAnswer, IsTableAnswer, IsTrainAnswer, OfBoth};
+ghost use Rattle.cif_tool.specs.Answer.{Finishes, OfInput, ReadsInputs};
 
 use crate::job::Job;
 use crate::status::{DONE, REFUSED, listed, outcome};
@@ -24,7 +24,9 @@ use cif_canon::{
 use cif_columns::{Day, MAX_LINES, ReadDevice, Sink, Source, Uid, WriteDevice};
 use cif_extract::{Extract, Fault, read_extract};
 use cif_feed::{Judged, Reasons};
-use cif_views::{Listing, clashes, day_listing, explain_listing, train_listing};
+use cif_views::{
+    Listing, Table, clashes, day_listing, explain_listing, train_listing, write_table,
+};
 use cif_weeks::Form;
 use std::alloc::Global;
 
@@ -299,6 +301,31 @@ pub fn answer_clashes<R: ReadDevice, W: WriteDevice>(
     finish(found.write(sink), sink, listed(found.is_empty()))
 }
 
+/// Writes this table of the canonical extract of what the source gives, and answers status 0.
+pub fn answer_table<R: ReadDevice, W: WriteDevice>(
+    alloc: Global,
+    source: &mut Source<R>,
+    sink: &mut Sink<W>,
+    table: Table,
+    asked: &Asked,
+    form: Form,
+    kept: &mut Option<Extract>,
+) -> Result<u8, Fault>
+    ensures answer { Answers W.contents W.write_errors
+        (OfInput R.remaining (IsTableAnswer table form asked.now) source.old)
+        sink.old sink.new result }
+    ensures fault { FaultOf R.remaining (IsNormaliseFault MAX_LINES asked.now)
+        source.old source.new result }
+    ensures source { FaultReads R.read_errors source.old source.new result }
+    ensures end { LeavesNothing R.remaining source.old source.new result }
+    ensures handed_on { IsHandedOn W.holds_nothing sink.new result }
+{
+    let extract = read_narrowed(alloc, source, MAX_LINES, asked)?;
+    let extract = kept.insert(extract);
+    let canon = canon(alloc, extract, form)?;
+    finish(write_table(&canon, table, sink), sink, DONE)
+}
+
 /// Answers this status, if all was written, once it is handed on.
 fn finish<W: WriteDevice>(
     written: Result<(), Fault>,
@@ -387,6 +414,12 @@ pub fn answer<R: ReadDevice, W: WriteDevice>(
             format,
         } => answer_explain(alloc, source, sink, uid, *day, *format, &mut kept.left),
         Job::Clashes { file: _, asked } => answer_clashes(alloc, source, sink, asked),
-        Job::Table { .. } | Job::Calendar { .. } => Err(Fault::Memory),
+        Job::Table {
+            table,
+            file: _,
+            asked,
+            form,
+        } => answer_table(alloc, source, sink, *table, asked, *form, &mut kept.left),
+        Job::Calendar { .. } => Err(Fault::Memory),
     }
 }

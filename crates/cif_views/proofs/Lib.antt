@@ -1,5 +1,7 @@
+mod AllFields
 pub mod CallTexts
 pub mod ClashLists
 mod ExplainedMarks
 mod ExplainedTexts
 mod Explaining
+pub mod TableRows

@@ -1,5 +1,7 @@
+pub mod AllFields
 pub mod Calls
 pub mod Clashes
 pub mod Explanation
 pub mod Listing
 pub mod Steps
+pub mod Tables

@@ -1,9 +1,11 @@
-//! The law on what the marks of an explanation say.
+//! Laws: what the marks of an explanation say, and that rows have all fields.
 ghost use Rattle.std.specs.Prelude.{◌≡◌, ◌↔◌, ℕ, Contains, List};
 ghost use Rattle.cif_calendar.specs.Clash.{IsClear};
 ghost use Rattle.cif_calendar.specs.Keys.{of_key};
 ghost use Rattle.cif_calendar.specs.Runs.{Runs};
 ghost use Rattle.cif_calendar.specs.Terms.{AreLawful, Terms};
+ghost use Rattle.cif_views.specs.AllFields.{CallsHaveAll, DayRowsHaveAll, ExplainedRowsHaveAll};
+ghost use Rattle.cif_views.specs.AllFields.{TablesHaveAll, TrainRowsHaveAll};
 ghost use Rattle.cif_views.specs.Explanation.{AreExplained, Explained, HasWinningMark};
 ghost use Rattle.cif_views.specs.Explanation.{SomeApplies};
 ghost use Rattle.cif_views.specs.declared.marks.Mark.TheVariants.{Wins};
@@ -24,4 +26,13 @@ pub fn marks_say_what_runs<E: ExplainedEntry>()
         → AreExplained E.Key.cmp E.is_of entries uid day explained → E.is_of key uid
         → HasWinningMark explained key
         ↔ (SomeApplies (of_key entries key) day × IsClear (of_key entries key) day) }
+{}
+
+/// Each row of a table has a field for each name in its first line.
+pub fn rows_have_all_fields()
+    ensures tables { TablesHaveAll }
+    ensures calls { CallsHaveAll }
+    ensures day { DayRowsHaveAll }
+    ensures train { TrainRowsHaveAll }
+    ensures explanation { ExplainedRowsHaveAll }
 {}

@@ -49,3 +49,8 @@ pub returns-in-Clashes : goal.returns-in-Clashes
 returns-in-Clashes g c =
     let e = c.answer_clashes.ensures in
     rw c.in-Clashes.is record { answer = e.answer; fault = e.fault; sources = (e.source, e.end, refl); handed_on = e.handed_on }
+
+pub returns-in-Table : goal.returns-in-Table
+returns-in-Table g c =
+    let e = c.answer_table.ensures in
+    rw c.in-Table.is record { answer = e.answer; fault = e.fault; sources = (e.source, e.end, refl); handed_on = e.handed_on }
