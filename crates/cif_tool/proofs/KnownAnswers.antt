@@ -28,7 +28,8 @@ use Rattle.cif_canon.specs.declared.comparison.Comparison.{Comparison}
 use Rattle.cif_canon.specs.declared.canonical_form.Counts.{Counts}
 use Rattle.cif_canon.specs.declared.rows.Format.{Format}
 use Rattle.cif_views.specs.declared.listing.Listing.{Listing}
-use Rattle.cif_tool.specs.Answer.{IsCheckAnswer, IsClashesAnswer, IsCompareAnswer, IsDayAnswer, IsDiffAnswer}
+use Rattle.cif_views.specs.WeekCalendar.{IsWeekCalendar}
+use Rattle.cif_tool.specs.Answer.{IsCalendarAnswer, IsCheckAnswer, IsClashesAnswer, IsCompareAnswer, IsDayAnswer, IsDiffAnswer}
 use Rattle.cif_tool.specs.Answer.{IsExplainAnswer, IsListedStatus, IsNormaliseAnswer, IsTableAnswer, IsTrainAnswer}
 use Rattle.cif_tool.specs.Status.{listed_status, outcome_of}
 
@@ -80,6 +81,17 @@ module _ (start : Option (List ℕ)) where
     explain-answer format uid day text is =
         known_so start (λ bytes. BytesSpellWithin MAX_LINES bytes x) (λ bytes. IsExplainAnswer format uid day bytes text 0)
         (λ bytes s. record { extract = x; spelled = s; explanation = is; status_is = refl }) spelled
+
+    pub calendar-answer : (asked : Asked) (y : ExtractParts) (uid text : List ℕ) → IsNarrowed asked x y → IsWeekCalendar y uid text →
+        IfSome start (λ bytes. IsCalendarAnswer asked uid bytes text 0)
+    calendar-answer asked y uid text narrowed view =
+        known_so start (λ bytes. BytesSpellWithin MAX_LINES bytes x) (λ bytes. IsCalendarAnswer asked uid bytes text 0)
+        (λ bytes s. record {
+          extract = y;
+          spelled = record { whole = x; spelled = s; narrowed = narrowed };
+          view = view;
+          status_is = refl;
+        }) spelled
 
     pub clashes-answer : (asked : Asked) (y : ExtractParts) (clashes : List Clash) (none : Bool) → IsNarrowed asked x y →
         AreAllClashes y clashes → IsTrue none ↔ (clashes ≡ []) →

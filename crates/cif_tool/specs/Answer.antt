@@ -19,6 +19,7 @@ use Rattle.cif_canon.specs.Accepted.{SpellsNarrowed}
 use Rattle.cif_extract.specs.declared.fault.Clash.{Clash}
 use Rattle.cif_canon.specs.Asked.{IsNarrowingFault}
 use Rattle.cif_views.specs.Clashes.{AreAllClashes, clashes_text}
+use Rattle.cif_views.specs.WeekCalendar.{IsWeekCalendar}
 use Rattle.cif_canon.specs.Comparison.{AreCompared, comparison_line}
 use Rattle.cif_canon.specs.Counts.{counts_line}
 use Rattle.cif_canon.specs.Differences.{AreDifferences, AreNone, DifferencesParts, differences_text}
@@ -183,10 +184,17 @@ abbrev pub IsExplainRefusal : ℕ → List ℕ → Unread → Fault → Type 0
 IsExplainRefusal day bytes after fault = IsReadFault MAX_LINES bytes after fault
     ⊎ ((extract : ExtractParts) × BytesSpellWithin MAX_LINES bytes extract × IsExplanationFault extract day fault)
 
--- Why `clashes` has no answer: the input's first refusal, or the window that is asked for doesn't fit, or memory ran out, or the sink
+-- `calendar` answers these bytes by the calendar of the train in the window that is asked for.
+pub record IsCalendarAnswer (asked : Asked) (uid bytes text : List ℕ) (status : ℕ) : Type 0 where
+  pub extract : ExtractParts
+  pub spelled : SpellsNarrowed MAX_LINES asked extract bytes
+  pub view : IsWeekCalendar extract uid text
+  pub status_is : status ≡ 0
+
+-- Why `clashes` or `calendar`, which refuse no clash, have no answer: the input's first refusal, or the window that is asked for doesn't fit, or memory ran out, or the sink
 -- failed.
-abbrev pub IsClashesRefusal : Asked → List ℕ → Unread → Fault → Type 0
-IsClashesRefusal asked bytes after fault = IsReadFault MAX_LINES bytes after fault
+abbrev pub IsClashlessRefusal : Asked → List ℕ → Unread → Fault → Type 0
+IsClashlessRefusal asked bytes after fault = IsReadFault MAX_LINES bytes after fault
     ⊎ ((extract : ExtractParts) × BytesSpellWithin MAX_LINES bytes extract
     × (IsNarrowingFault asked extract.header fault ⊎ ((fault ≡ Memory) ⊎ (fault ≡ Write))))
 
@@ -231,7 +239,7 @@ IsJobAnswer remaining (Train uid file asked form listing) source right =
 IsJobAnswer remaining (Explain uid day file format) source right = OfInput remaining (IsExplainAnswer format uid day) source
 IsJobAnswer remaining (Clashes file asked) source right = OfInput remaining (IsClashesAnswer asked) source
 IsJobAnswer remaining (Table which file asked form) source right = OfInput remaining (IsTableAnswer which form asked) source
-IsJobAnswer remaining (Calendar uid file asked) source right = λ text status. ⊥
+IsJobAnswer remaining (Calendar uid file asked) source right = OfInput remaining (IsCalendarAnswer asked uid) source
 
 -- why it has no answer
 abbrev pub IsJobFault : {R A : Type 0} → (R → Option (List ℕ)) → Job → Source R → Source R → Source R → Source R →
@@ -253,11 +261,11 @@ IsJobFault remaining (Train uid file asked form listing) source source_new right
 IsJobFault remaining (Explain uid day file format) source source_new right right_new result =
     FaultOf remaining (IsExplainRefusal day) source source_new result
 IsJobFault remaining (Clashes file asked) source source_new right right_new result =
-    FaultOf remaining (IsClashesRefusal asked) source source_new result
+    FaultOf remaining (IsClashlessRefusal asked) source source_new result
 IsJobFault remaining (Table which file asked form) source source_new right right_new result =
     FaultOf remaining (IsNormaliseFault MAX_LINES asked) source source_new result
 IsJobFault remaining (Calendar uid file asked) source source_new right right_new result =
-    FaultOf remaining (IsClashesRefusal asked) source source_new result
+    FaultOf remaining (IsClashlessRefusal asked) source source_new result
 
 -- this status, once what was written is handed on; a fault of the writing is the answer
 abbrev pub Finishes : {W A : Type 0} → (W → Option (List ℕ)) → (W → Option ℕ) → ℕ → Result A Fault → Sink W → Sink W → Result ℕ Fault →

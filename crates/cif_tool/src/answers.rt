@@ -9,7 +9,9 @@ ghost use Rattle.cif_extract.specs.ExtractParts.{extract_parts};
 ghost use Rattle.cif_extract.specs.ReadFault.{FaultOf, FaultReads, LeavesNothing};
 ghost use Rattle.cif_extract.specs.SpellsExtract.{BytesSpellWithin};
 ghost use Rattle.cif_tool.specs.Answer.{IsCountFault};
-ghost use Rattle.cif_tool.specs.Answer.{Answers, IsCheckAllAnswer, IsCheckAllFault, IsCheckAnswer, LeavesUnlessListed, IsClashesAnswer, IsClashesRefusal};
+ghost use Rattle.cif_tool.specs.Answer.{Answers, IsCalendarAnswer, IsCheckAllAnswer, IsCheckAllFault};
+ghost use Rattle.cif_tool.specs.Answer.{IsCheckAnswer, IsClashesAnswer, IsClashlessRefusal};
+ghost use Rattle.cif_tool.specs.Answer.{LeavesUnlessListed};
 ghost use Rattle.cif_tool.specs.Answer.{IsCompareAnswer, IsDayAnswer, IsDayRefusal, IsDiffAnswer};
 ghost use Rattle.cif_tool.specs.Answer.{IsExplainAnswer, IsExplainRefusal, IsHandedOn, IsJobAnswer};
 ghost use Rattle.cif_tool.specs.Answer.{IsJobFault, IsNormaliseAnswer, IsTableAnswer, IsTrainAnswer, OfBoth};
@@ -25,7 +27,8 @@ use cif_columns::{Day, MAX_LINES, ReadDevice, Sink, Source, Uid, WriteDevice};
 use cif_extract::{Extract, Fault, read_extract};
 use cif_feed::{Judged, Reasons};
 use cif_views::{
-    Listing, Table, clashes, day_listing, explain_listing, train_listing, write_table,
+    Listing, Table, clashes, day_listing, explain_listing, train_listing, week_calendar,
+    write_table,
 };
 use cif_weeks::Form;
 use std::alloc::Global;
@@ -290,7 +293,7 @@ pub fn answer_clashes<R: ReadDevice, W: WriteDevice>(
     ensures answer { Answers W.contents W.write_errors
         (OfInput R.remaining (IsClashesAnswer asked.now) source.old)
         sink.old sink.new result }
-    ensures fault { FaultOf R.remaining (IsClashesRefusal asked.now) source.old source.new result }
+    ensures fault { FaultOf R.remaining (IsClashlessRefusal asked.now) source.old source.new result }
     ensures source { FaultReads R.read_errors source.old source.new result }
     ensures end { LeavesNothing R.remaining source.old source.new result }
     ensures handed_on { IsHandedOn W.holds_nothing sink.new result }
@@ -324,6 +327,29 @@ pub fn answer_table<R: ReadDevice, W: WriteDevice>(
     let extract = kept.insert(extract);
     let canon = canon(alloc, extract, form)?;
     finish(write_table(&canon, table, sink), sink, DONE)
+}
+
+/// Writes the calendar of the train, and answers status 0.
+pub fn answer_calendar<R: ReadDevice, W: WriteDevice>(
+    alloc: Global,
+    source: &mut Source<R>,
+    sink: &mut Sink<W>,
+    uid: &Uid,
+    asked: &Asked,
+    kept: &mut Option<Extract>,
+) -> Result<u8, Fault>
+    ensures answer { Answers W.contents W.write_errors
+        (OfInput R.remaining (IsCalendarAnswer asked.now uid.now) source.old)
+        sink.old sink.new result }
+    ensures fault { FaultOf R.remaining (IsClashlessRefusal asked.now) source.old source.new result }
+    ensures source { FaultReads R.read_errors source.old source.new result }
+    ensures end { LeavesNothing R.remaining source.old source.new result }
+    ensures handed_on { IsHandedOn W.holds_nothing sink.new result }
+{
+    let mut extract = read_extract(alloc, source, MAX_LINES)?;
+    narrow(&mut extract, asked)?;
+    let extract = kept.insert(extract);
+    finish(week_calendar(alloc, extract, uid, sink), sink, DONE)
 }
 
 /// Answers this status, if all was written, once it is handed on.
@@ -420,6 +446,10 @@ pub fn answer<R: ReadDevice, W: WriteDevice>(
             asked,
             form,
         } => answer_table(alloc, source, sink, *table, asked, *form, &mut kept.left),
-        Job::Calendar { .. } => Err(Fault::Memory),
+        Job::Calendar {
+            uid,
+            file: _,
+            asked,
+        } => answer_calendar(alloc, source, sink, uid, asked, &mut kept.left),
     }
 }

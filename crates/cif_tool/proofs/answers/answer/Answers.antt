@@ -45,6 +45,11 @@ returns-in-Explain g c =
     let e = c.answer_explain.ensures in
     rw c.in-Explain.is record { answer = e.answer; fault = e.fault; sources = (e.source, e.end, refl); handed_on = e.handed_on }
 
+pub returns-in-Calendar : goal.returns-in-Calendar
+returns-in-Calendar g c =
+    let e = c.answer_calendar.ensures in
+    rw c.in-Calendar.is record { answer = e.answer; fault = e.fault; sources = (e.source, e.end, refl); handed_on = e.handed_on }
+
 pub returns-in-Clashes : goal.returns-in-Clashes
 returns-in-Clashes g c =
     let e = c.answer_clashes.ensures in
