@@ -11,7 +11,7 @@ _cif_offer() {
 }
 
 _cif() {
-    local IFS=$' \t\n' commands='normalise check compare diff day train explain clashes help'
+    local IFS=$' \t\n' commands='normalise check compare diff day train explain clashes prepare update help'
     local command='' options='' places=0 given=' ' front='' written=${COMP_WORDS[COMP_CWORD]}
     # the option whose value comes next, and whether -- has ended the options
     local awaited='' ended='' word i
@@ -27,7 +27,7 @@ _cif() {
         elif [[ -z $ended && $word == -?* ]]; then
             given+="${word%%=*} "
             case $word in
-            --from | --to | --form | --format) awaited=$word ;;
+            --from | --to | --form | --format | --holidays) awaited=$word ;;
             esac
         elif [[ -z $command ]]; then
             command=$word
@@ -47,6 +47,7 @@ _cif() {
         case $awaited in
         --form) _cif_offer '1 2' ;;
         --format) _cif_offer 'text tsv' ;;
+        --holidays) compopt -o default ;;
         esac
         return
     fi
@@ -60,6 +61,8 @@ _cif() {
         clashes) options='-v --verbose --from --to -h --help' ;;
         day) options='-v --verbose --stops --format -h --help' ;;
         explain) options='-v --verbose --format -h --help' ;;
+        prepare) options='-v --verbose --holidays --drop-clashes -h --help' ;;
+        update) options='-v --verbose --lenient -h --help' ;;
         esac
         _cif_offer "$options"
         return
@@ -68,6 +71,7 @@ _cif() {
     :0 | help:0) _cif_offer "$commands" ;;
     normalise:0 | check:0 | compare:[01] | diff:[01]) compopt -o default ;;
     day:1 | train:1 | explain:2 | clashes:0) compopt -o default ;;
+    prepare:0 | update:*) compopt -o default ;;
     esac
 }
 

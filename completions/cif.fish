@@ -11,7 +11,7 @@ function __cif_places
             set awaited no
         else if test $ended = no; and test "$word" = --
             set ended yes
-        else if test $ended = no; and contains -- $word --from --to --form --format
+        else if test $ended = no; and contains -- $word --from --to --form --format --holidays
             set awaited yes
         else if test $ended = yes; or not string match -q -- '-?*' $word
             printf '%s\n' $word
@@ -23,6 +23,12 @@ end
 function __cif_at
     set -l places (__cif_places)
     test (count $places) -eq (math $argv[1] + 1); and contains -- $places[1] $argv[2..]
+end
+
+# __cif_from COUNT COMMANDS..: whether the command is one of these, and so many words stand after it or more.
+function __cif_from
+    set -l places (__cif_places)
+    test (count $places) -gt $argv[1]; and contains -- $places[1] $argv[2..]
 end
 
 # __cif_in COMMANDS..: whether the command is one of these.
@@ -45,6 +51,8 @@ complete -c cif -n __cif_without_command -a day -d 'List the associations and th
 complete -c cif -n __cif_without_command -a train -d 'List the schedules of one train'
 complete -c cif -n __cif_without_command -a explain -d 'Say why a train runs on a date'
 complete -c cif -n __cif_without_command -a clashes -d 'List the clashes of an extract'
+complete -c cif -n __cif_without_command -a prepare -d 'Make an extract of a published one'
+complete -c cif -n __cif_without_command -a update -d 'Apply update extracts to a full extract'
 complete -c cif -n __cif_without_command -a help -d 'Print the help of the program or of a command'
 complete -c cif -n __cif_without_command -s h -l help -d 'Print help'
 complete -c cif -n __cif_without_command -s V -l version -d 'Print the version'
@@ -56,10 +64,14 @@ complete -c cif -n '__cif_in day train' -l stops -d 'List the calls of each trai
 complete -c cif -n '__cif_in day train explain' -l format -x -a 'text tsv' -d 'Layout'
 complete -c cif -n '__cif_in check' -l all -d 'Judge each line by itself, and count the reasons'
 complete -c cif -n '__cif_in normalise check train' -l form -x -a '1 2' -d 'How to join weeks'
-complete -c cif -n '__cif_in normalise check compare diff day train explain clashes' -s v -l verbose -d 'Say more on standard error'
-complete -c cif -n '__cif_in normalise check compare diff day train explain clashes' -s h -l help -d 'Print help'
+complete -c cif -n '__cif_in prepare' -l holidays -r -F -d 'Dates of the holiday codes'
+complete -c cif -n '__cif_in prepare' -l drop-clashes -d 'Leave out what has a clash'
+complete -c cif -n '__cif_in update' -l lenient -d 'Go on where a record is there already, or not'
+complete -c cif -n '__cif_in normalise check compare diff day train explain clashes prepare update' -s v -l verbose -d 'Say more on standard error'
+complete -c cif -n '__cif_in normalise check compare diff day train explain clashes prepare update' -s h -l help -d 'Print help'
 
-complete -c cif -n '__cif_at 0 normalise check compare diff clashes' -F
+complete -c cif -n '__cif_at 0 normalise check compare diff clashes prepare' -F
 complete -c cif -n '__cif_at 1 compare diff day train' -F
 complete -c cif -n '__cif_at 2 explain' -F
-complete -c cif -n '__cif_at 0 help' -a 'normalise check compare diff day train explain clashes help'
+complete -c cif -n '__cif_from 0 update' -F
+complete -c cif -n '__cif_at 0 help' -a 'normalise check compare diff day train explain clashes prepare update help'

@@ -3,6 +3,9 @@
 READ_FAULT="cif: ReadFault"
 WRITE_FAULT="cif: WriteFault"
 
+# The names of the inputs that a row may have
+INPUTS="stdin extract left right holidays full update-1 update-2"
+
 # The errors that a call fails with, by their numbers
 EINTR=4
 EIO=5
@@ -30,14 +33,14 @@ calls() {
         count=$((($(bytes stdout) + $2 - 1) / $2))
         ;;
     read)
-        for name in stdin extract left right; do
+        for name in $INPUTS; do
             if [ -e "$row/$name" ]; then
                 count=$((count + ($(bytes "$name") + $2 - 1) / $2 + 1))
             fi
         done
         ;;
     open)
-        for name in extract left right; do
+        for name in ${INPUTS#stdin}; do
             if [ -e "$row/$name" ]; then
                 count=$((count + 1))
             fi
@@ -49,10 +52,8 @@ calls() {
 
 # by_file ROW NEW: makes a row like ROW whose FILE `extract` is the standard input of ROW
 by_file() {
-    mkdir "$2"
-    cp "$1/stdout" "$1/stderr" "$1/status" "$2"
-    cp "$1/stdin" "$2/extract"
-    cp "$1/args" "$2/args"
+    cp -R "$1" "$2"
+    mv "$2/stdin" "$2/extract"
     echo extract >> "$2/args"
 }
 
@@ -137,6 +138,11 @@ gives_cut_line() {
         is_front "$2" "$row/stderr" "$work/stderr"
 }
 
+# gives_output PATTERN: the row's answer, but nothing on the standard error
+gives_output() {
+    tells "$1" && [ "$status" = "$wanted" ] && alike stdout && [ ! -s "$work/stderr" ]
+}
+
 # gives_silence STATUS: the status, and nothing on the standard output
 gives_silence() {
     [ "$status" = "$1" ] && [ ! -s "$work/stdout" ]
@@ -191,13 +197,13 @@ each_call() {
     owes "there is no $1 $nth" no_failure
 }
 
-# each_split CALL ROW: the row's reads, or its writes, are cut after the first byte, after the second, and so on, and
-# then continue
+# each_split CALL ROW [PATTERN]: the row's reads of its standard input, or its writes, are cut after the first byte, after
+# the second, and so on, and then continue; the library says PATTERN, or `rz` of a row with one input
 each_split() {
     choose "$2"
     split=1
     last=$(bytes stdin)
-    pattern=rz
+    pattern=${3-rz}
     if [ "$1" = write ]; then
         last=$(bytes stdout)
         pattern=w
@@ -215,7 +221,7 @@ each_failing_read() {
     choose "$1"
     at=0
     last=0
-    for name in stdin left right; do
+    for name in $INPUTS; do
         if [ -e "$row/$name" ]; then
             last=$((last + $(bytes "$name")))
         fi
@@ -255,6 +261,15 @@ each_cut_line() {
     done
 }
 
+# unheard ROW: the lines that the row has for standard error, besides its answer, can't be written
+unheard() {
+    choose "$1"
+    for error in $ERRORS; do
+        hostile HOSTILE_CALL=write HOSTILE_ON=2 HOSTILE_NTH=1 HOSTILE_ERROR="$error"
+        owes "standard error fails with error $error" gives_output e
+    done
+}
+
 # each_undecided ROW DECIDED FROM TO: the first DECIDED bytes of the input decide the row's refusal; reading fails after
 # FROM bytes, after one more, and so on up to TO
 each_undecided() {
@@ -287,8 +302,8 @@ cut_fault() {
     fi
 }
 
-# each_end ROW NAME WIDTH: the row's first input, which is accepted, ends before its first byte, before its second, and
-# so on
+# each_end ROW NAME WIDTH [PATTERN]: the row's first input, which is accepted, ends before its first byte, before its second,
+# and so on; where it ends within a line, the library says PATTERN, or `rz`
 each_end() {
     choose "$1"
     at=0
@@ -303,19 +318,19 @@ each_end() {
         elif [ $rest -eq 80 ]; then
             owes "the input ends at byte $at" gives_fault 'rz*' 3 "$fault"
         else
-            owes "the input ends at byte $at" gives_fault rz 3 "$fault"
+            owes "the input ends at byte $at" gives_fault "${4-rz}" 3 "$fault"
         fi
         at=$((at + 1))
     done
 }
 
-# reads_stdin: whether the row reads its standard input: it names it, or names no file
+# reads_stdin: whether the row reads its standard input: it names it, or names no file but that of the holidays
 reads_stdin() {
     if grep -qx -e - "$row/args"; then
         return 0
     fi
     while IFS= read -r word; do
-        if [ -e "$row/$word" ]; then
+        if [ "$word" != holidays ] && [ -e "$row/$word" ]; then
             return 1
         fi
     done < "$row/args"

@@ -4,7 +4,8 @@ import shlex
 import subprocess
 from pathlib import Path
 
-from facts import COMMAND, OPTION, TAKES_VALUE, VALUE, NotUnderstood, Option, offer_fact, place_fact
+from facts import COMMAND, OPTION, PLACES, TAKES_VALUE, VALUE, NotUnderstood, Option
+from facts import offer_fact, offer_facts, place_fact, value_offer_fact
 
 ASK_BASH = Path(__file__).with_name("offered.bash")
 
@@ -21,25 +22,32 @@ def offered(completion, words):
     return sorted(done.stdout.splitlines())
 
 
-def bash_option_facts(completion, command, option, most):
-    """For an option that is offered: whether it takes the next word, so that no later place moves, and which words."""
+def bash_option_facts(completion, command, option):
+    """For an option that is offered: whether it takes the next word, so that this is no option and no later place moves, and
+    which words."""
     found = {(OPTION, option)}
-    behind = [["x"] * count + [""] for count in range(most + 1)]
+    if any(offer.startswith("-") for offer in offered(completion, [command, option, "-"])):
+        return found
+    behind = [["x"] * count + [""] for count in range(PLACES)]
     if all(offered(completion, [command, option, "x", *rest]) == offered(completion, [command, *rest]) for rest in behind):
         found.add((TAKES_VALUE, option))
-        found |= {(VALUE, f"{option} {value}") for value in offered(completion, [command, option, ""])}
+        values = offered(completion, [command, option, ""])
+        if values == ["files"]:
+            found.add(value_offer_fact(option, "files"))
+        else:
+            found |= {(VALUE, f"{option} {value}") for value in values}
     return found
 
 
-def bash_facts(completion, most):
-    """The facts of each command that bash offers, for one place more than the most that a command has."""
+def bash_facts(completion):
+    """The facts of each command that bash offers."""
     names = offered(completion, [""])
     facts = {"": {(COMMAND, name) for name in names} | {(OPTION, name) for name in offered(completion, ["-"])}}
     for name in names:
         facts[name] = set()
         for option in offered(completion, [name, "-"]):
-            facts[name] |= bash_option_facts(completion, name, option, most)
-        for number in range(1, most + 2):
+            facts[name] |= bash_option_facts(completion, name, option)
+        for number in range(1, PLACES + 1):
             offers = offered(completion, [name] + ["x"] * (number - 1) + [""])
             if offers:
                 what = "files" if offers == ["files"] else "commands" if offers == names else " ".join(offers)
@@ -51,10 +59,10 @@ def bash_facts(completion, most):
 
 ZSH_ARM = re.compile(r"^ {8}\(([a-z|]+)\)\n(.*?)^ {12};;\n", re.MULTILINE | re.DOTALL)
 ZSH_LISTED = re.compile(r"^ {8}'([a-z]+):[^']*'$", re.MULTILINE)
-ZSH_OPTION = re.compile(r"^(--[a-z]+)=\[[^]]*\]:(\w+):(?:\(([^()]*)\))?$")
-ZSH_SWITCH = re.compile(r"^(--[a-z]+)\[[^]]*\]$")
+ZSH_OPTION = re.compile(r"^(--[a-z-]+)=\[[^]]*\]:(\w+):(?:\(([^()]*)\)|(_files))?$")
+ZSH_SWITCH = re.compile(r"^(--[a-z-]+)\[[^]]*\]$")
 ZSH_FLAG = re.compile(r"^'\((?:- : \*|-\w --[a-z]+)\)'\{(-\w),(--[a-z]+)\}'\[[^]]*\]'$")
-ZSH_PLACE = re.compile(r"^:(:?)(\w+):(\w*)$")
+ZSH_PLACE = re.compile(r"^(\*?):(:?)(\w+):(\w*)$")
 ZSH_ACTIONS = {"_files": "files", "_cif_commands": "commands", "": None}
 
 
@@ -73,15 +81,15 @@ def zsh_facts_of(specs):
         place = ZSH_PLACE.match(spec.strip("'"))
         if flag:
             found |= Option(list(flag.groups())).facts()
-        elif option:
+        elif option and bool(option[4]) == (option[2] == "FILE"):
             found |= Option([option[1]], option[2], (option[3] or "").split()).facts()
         elif switch:
             found |= Option([switch[1]]).facts()
-        elif place and place[3] in ZSH_ACTIONS:
+        elif place and place[4] in ZSH_ACTIONS:
             number += 1
-            found.add(place_fact(number, f"[{place[2]}]" if place[1] else f"<{place[2]}>"))
-            if ZSH_ACTIONS[place[3]]:
-                found.add(offer_fact(number, ZSH_ACTIONS[place[3]]))
+            found.add(place_fact(number, f"[{place[3]}]" if place[2] else f"<{place[3]}>"))
+            if ZSH_ACTIONS[place[4]]:
+                found |= offer_facts(number, ZSH_ACTIONS[place[4]], place[1] == "*")
         else:
             raise NotUnderstood(f"_cif has: {spec}")
     return found
@@ -119,7 +127,7 @@ def fish_flags(line):
     found = {}
     while words:
         flag = words.pop(0)
-        if flag in ("-f", "-F", "-x"):
+        if flag in ("-f", "-F", "-r", "-x"):
             found[flag] = ""
         elif flag in ("-c", "-n", "-a", "-d", "-l", "-s") and words:
             found[flag] = words.pop(0)
@@ -130,7 +138,8 @@ def fish_flags(line):
 
 def fish_option(flags):
     names = [f"-{flags['-s']}"] if "-s" in flags else []
-    return Option([*names, f"--{flags['-l']}"], "VALUE" if "-x" in flags else "", flags.get("-a", "").split())
+    value_name = "VALUE" if "-x" in flags else "FILE" if "-r" in flags and "-F" in flags else ""
+    return Option([*names, f"--{flags['-l']}"], value_name, flags.get("-a", "").split())
 
 
 def fish_facts(text):
@@ -139,7 +148,7 @@ def fish_facts(text):
         raise NotUnderstood("cif.fish offers files everywhere")
     calls.remove({"-c": "cif", "-f": ""})
     swallowing = re.search(r"contains -- \$word (--.*)$", text, re.MULTILINE)
-    if not swallowing or set(swallowing[1].split()) != {f"--{flags['-l']}" for flags in calls if "-x" in flags}:
+    if not swallowing or set(swallowing[1].split()) != {f"--{flags['-l']}" for flags in calls if "-x" in flags or "-r" in flags}:
         raise NotUnderstood("cif.fish counts the words behind other options than those with a value")
     listed = [flags["-a"] for flags in calls if flags.get("-n", "").split() == FISH_WITHOUT and "-a" in flags]
     facts = {"": {(COMMAND, name) for name in listed}}
@@ -148,11 +157,12 @@ def fish_facts(text):
         if "-l" in flags and ([condition] == FISH_WITHOUT or (condition == "__cif_in" and words)):
             for name in words or [""]:
                 facts.setdefault(name, set()).update(fish_option(flags).facts())
-        elif condition == "__cif_at" and ("-F" in flags or "-a" in flags):
+        elif condition in ("__cif_at", "__cif_from") and ("-F" in flags or "-a" in flags):
             offers = "files" if "-F" in flags else flags["-a"]
             offers = "commands" if offers.split() == listed else offers
             for name in words[1:]:
-                facts.setdefault(name, set()).add(offer_fact(int(words[0]) + 1, offers))
+                found = offer_facts(int(words[0]) + 1, offers, condition == "__cif_from")
+                facts.setdefault(name, set()).update(found)
         elif [condition] != FISH_WITHOUT or "-a" not in flags:
             raise NotUnderstood(f"cif.fish has a call of complete for {condition or 'no condition'}")
     return facts

@@ -8,7 +8,17 @@ COMMAND, OPTION, TAKES_VALUE, VALUE_NAME, VALUE = "command", "option", "option w
 PLACE, OFFER = "place", "offer"
 
 # What a shell offers at a place, by the name that the help gives to the place.
-OFFERS = {"FILE": "files", "LEFT": "files", "RIGHT": "files", "COMMAND": "commands"}
+OFFERS = {
+    "FILE": "files",
+    "LEFT": "files",
+    "RIGHT": "files",
+    "FULL": "files",
+    "UPDATE": "files",
+    "COMMAND": "commands",
+}
+
+# The places that are looked at: one more than the most that a usage names. One that can be repeated is all from its own on.
+PLACES = 4
 
 
 def bare(place):
@@ -33,6 +43,8 @@ class Option:
         found = {(OPTION, name) for name in self.names}
         if self.value_name:
             found |= {(TAKES_VALUE, last), (VALUE_NAME, f"{last} {self.value_name}")}
+        if self.value_name in OFFERS:
+            found.add(value_offer_fact(last, OFFERS[self.value_name]))
         return found | {(VALUE, f"{last} {value}") for value in self.values}
 
 
@@ -50,7 +62,7 @@ class Command:
         for number, place in enumerate(self.places, 1):
             found.add(place_fact(number, place))
             if bare(place) in OFFERS:
-                found.add(offer_fact(number, OFFERS[bare(place)]))
+                found |= offer_facts(number, OFFERS[bare(place)], place.endswith("..."))
         return found
 
     def option(self, name):
@@ -65,6 +77,18 @@ def place_fact(number, place):
 def offer_fact(number, what):
     """That a shell offers something at a place."""
     return OFFER, f"{what} at place {number}"
+
+
+def offer_facts(number, what, repeated):
+    """That a shell offers something at a place, and at all places behind it if files can be repeated there. Commands can't:
+    `help` takes more words, but the program has only one level of commands."""
+    last = PLACES if repeated and what == "files" else number
+    return {offer_fact(each, what) for each in range(number, last + 1)}
+
+
+def value_offer_fact(option, what):
+    """That a shell offers something as the value of an option."""
+    return OFFER, f"{what} as the value of {option}"
 
 
 def facts_of(program):
@@ -96,6 +120,7 @@ def mistake(program, words):
             if option.values and value not in option.values:
                 return f"{word} doesn't take {value}"
     least = sum(place.startswith("<") for place in command.places)
-    if not least <= given <= len(command.places):
+    most = PLACES if any(place.endswith("...") for place in command.places) else len(command.places)
+    if not least <= given <= most:
         return f"{name} takes {' '.join(command.places)}"
     return ""

@@ -62,7 +62,7 @@ def places_of(text, called):
         raise NotUnderstood(f"the help of {called} has no line of usage")
     places = (usage.group(1) or "").replace(" [OPTIONS]", "").split()
     for place in places:
-        if not re.match(r"^(<\w+>|\[\w+\](\.\.\.)?)$", place):
+        if not re.match(r"^(<\w+>|\[\w+\])(\.\.\.)?$", place):
             raise NotUnderstood(f"the usage of {called} has {place}")
     return places
 

@@ -11,14 +11,8 @@ module _ {R B : Type 0} (errors : R → Option ℕ) where
   pub read-on : (old new : Source R) (result : Result B Fault) → IfErr result (λ f. f ≢ fault.Read) → HasReadOn errors old new →
       FaultReads errors old new result
   read-on old new (Ok answer) other h = h
-  read-on old new (Err (fault.Refused line why)) other h = h
-  read-on old new (Err (fault.Ambiguous clash)) other h = h
-  read-on old new (Err fault.WindowsDiffer) other h = h
-  read-on old new (Err fault.OutsideWindow) other h = h
-  read-on old new (Err fault.WindowReversed) other h = h
   read-on old new (Err fault.Read) other h = absurd (other refl)
-  read-on old new (Err fault.Write) other h = h
-  read-on old new (Err fault.Memory) other h = h
+  read-on old new (Err _) other h = h
 
   pub both-read : (left left_new right right_new : Source R) (result : Result B Fault) →
       (HasReadOn errors left left_new × (right_new ≡ right)) ⊎ (HasReadOn errors left left_new × HasReadOn errors right right_new) →

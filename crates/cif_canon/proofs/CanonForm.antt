@@ -47,23 +47,13 @@ pub associations-fault : (x : ExtractParts) (why : Fault) →
     IsRecordsFault key_cmp named.Association (association_entries x.associations) (header_window x.header) why → IsCanonFault x why
 associations-fault x (fault.Ambiguous clash) h = subst (IsFirstClashIn x) (sym h.is) h.first
 associations-fault x fault.Memory h = tt
-associations-fault x (fault.Refused line why) h = absurd h
-associations-fault x fault.WindowsDiffer h = absurd h
-associations-fault x fault.OutsideWindow h = absurd h
-associations-fault x fault.WindowReversed h = absurd h
-associations-fault x fault.Read h = absurd h
-associations-fault x fault.Write h = absurd h
+associations-fault x _ h = absurd h
 
 pub schedules-fault : (x : ExtractParts) → AreClear (association_entries x.associations) x.header.first x.header.last → (why : Fault) →
     IsRecordsFault (slice_cmp nat_cmp) named.Train (schedule_entries x.schedules) (header_window x.header) why → IsCanonFault x why
 schedules-fault x clear (fault.Ambiguous clash) h = subst (IsFirstClashIn x) (sym h.is) (clear, h.first)
 schedules-fault x clear fault.Memory h = tt
-schedules-fault x clear (fault.Refused line why) h = absurd h
-schedules-fault x clear fault.WindowsDiffer h = absurd h
-schedules-fault x clear fault.OutsideWindow h = absurd h
-schedules-fault x clear fault.WindowReversed h = absurd h
-schedules-fault x clear fault.Read h = absurd h
-schedules-fault x clear fault.Write h = absurd h
+schedules-fault x clear _ h = absurd h
 
 module _ (form : Form) (x : ExtractParts) (tiplocs : List Tiploc) (distinct : AreDistinct x.tiplocs tiplocs) (associations : List Run)
     (a : AreCanonicalRecords key_cmp form (header_window x.header) (association_entries x.associations) associations) (schedules : List Run)

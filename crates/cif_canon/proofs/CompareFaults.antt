@@ -24,11 +24,6 @@ one-window h k firsts lasts f first l last =
 pub compare-fault : (x y z : ExtractParts) → header_window x.header ≡ header_window y.header →
     ((clash : Clash) → IsFirstClashIn z clash → IsFirstClashIn x clash ⊎ (IsClearExtract x × IsFirstClashIn y clash)) →
     (why : Fault) → IsCanonFault z why → IsCompareFault x y why
-compare-fault x y z same either (fault.Refused line why) h = absurd h
 compare-fault x y z same either (fault.Ambiguous clash) h = (same, either clash h)
-compare-fault x y z same either fault.WindowsDiffer h = absurd h
-compare-fault x y z same either fault.OutsideWindow h = absurd h
-compare-fault x y z same either fault.WindowReversed h = absurd h
-compare-fault x y z same either fault.Read h = absurd h
-compare-fault x y z same either fault.Write h = absurd h
 compare-fault x y z same either fault.Memory h = same
+compare-fault x y z same either _ h = absurd h

@@ -1,4 +1,4 @@
--- The first day on which two calendars differ.
+-- The days on which two calendars have the same bodies.
 use Rattle.std.proofs.Common.{◌≡◌, ◌⊎◌, ℕ, ◌+◌, ◌-◌, ◌%◌, ◌<◌, ◌≤◌, List, Option, Some, None, map, refl, sym, ap, ◌∙◌, subst}
 use Rattle.std.proofs.Common.{arith, ⊎_elim, get_or, length}
 use Rattle.std.specs.Prelude.{◌↔◌, Bool, Contains, IsSome, IsTrue, slice_get}
@@ -15,7 +15,7 @@ use Rattle.cif_calendar.specs.Terms.{Terms}
 use Rattle.cif_calendar.specs.declared.key_calendar.Piece.{Piece}
 use Rattle.cif_calendar.proofs.PieceLists.{source_at-piece, tiles-ends}
 use Rattle.cif_weeks.specs.Runs.{AreSources}
-use Rattle.cif_canon.specs.Steps.Differences.{AreAlikeBy, FindsOther, HasBodies, IsFirstOther}
+use Rattle.cif_canon.specs.Steps.Differences.{AreAlikeBy, HasBodies, HoldsFrom}
 
 -- a day and the one of its weekday in the seven days from another
 in-week : (first d : ℕ) → first ≤ d → (e : ℕ) × (first ≤ e) × (e < first + 7) × (e ≤ d) × (weekday_of e ≡ weekday_of d)
@@ -46,19 +46,6 @@ day-more holds first day before here d from below = ⊎_elim
     (λ earlier. before d from earlier)
     (λ since. subst holds (let same : day ≡ d = omega (arith, below, since) in same) here)
     (before-or-from d day)
-
--- what is found after days of which it holds is found from the first of them on, and up to a later day
-pub found-on : (alike : ℕ → Type 0) (first mid last far day : ℕ) → first ≤ mid → last ≤ far → ((d : ℕ) → first ≤ d → d < mid → alike d) →
-    IsFirstOther alike mid last day → IsFirstOther alike first far day
-found-on alike first mid last far day from until before h = record {
-  from = (let a = h.from in omega (arith, a));
-  upto = (let b = h.upto in omega (arith, b));
-  other = h.other;
-  before = λ d after less. ⊎_elim
-      (λ (early : d < mid). before d after early)
-      (λ (late : mid ≤ d). h.before d late less)
-      (before-or-from d mid);
-}
 
 module _ {B : Type 0} (xs : List (Terms B)) (c : CalendarParts) (p : Piece) (tiles : Tiles c.pieces c.first (c.last + 1))
     (listed : Contains c.pieces p) where
@@ -91,16 +78,9 @@ module _ {B : Type 0} (xs : List (Terms B)) (c : CalendarParts) (p : Piece) (til
         λ h. one ∙ h ∙ sym other,
       )
 
-  -- what is found by pieces is found of the calendars
-  pub found-by_pieces : (o : Option ℕ) → FindsOther (AreAlikeBy xs p ys q) first last o →
-      FindsOther (λ d. body_on xs c d ≡ body_on ys e d) first last o
-  found-by_pieces None h = λ d a b. (same-bodies_on d a b).0 (h d a b)
-  found-by_pieces (Some day) h = record {
-    from = h.from;
-    upto = h.upto;
-    other = λ same. h.other ((same-bodies_on day h.from h.upto).1 same);
-    before = λ d a less. (same-bodies_on d a (let b = h.upto in omega (arith, b))).0 (h.before d a less);
-  }
+  -- pieces that are alike have the days on which the calendars are
+  pub alike-by_pieces : HoldsFrom (AreAlikeBy xs p ys q) first last ↔ HoldsFrom (λ d. body_on xs c d ≡ body_on ys e d) first last
+  alike-by_pieces = (λ h d a b. (same-bodies_on d a b).0 (h d a b), λ h d a b. (same-bodies_on d a b).1 (h d a b))
 
 -- ---- bodies at sources
 

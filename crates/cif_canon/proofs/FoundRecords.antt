@@ -1,5 +1,5 @@
 -- The differences of two lists are found key by key.
-use Rattle.std.proofs.Common.{◌≡◌, ◌≢◌, ◌⊎◌, inl, inr, ℕ, ◌<◌, List, [], ◌∷◌, ◌++◌, Option, None, Some, drop}
+use Rattle.std.proofs.Common.{◌≡◌, ◌≢◌, ◌⊎◌, inl, inr, ℕ, ◌<◌, ◌≤◌, List, [], ◌∷◌, ◌++◌, Option, None, Some, drop, length}
 use Rattle.std.proofs.Common.{refl, sym, ap, ◌∙◌, subst, arith, ⊎_elim, get_or}
 use Rattle.std.specs.Prelude.{AllPairs, Contains, ◌↔◌, if◌then◌else◌}
 use Rattle.std.specs.List.{AllZip}
@@ -12,7 +12,7 @@ use Rattle.cif_calendar.specs.Keys.{of_key}
 use Rattle.cif_calendar.specs.Meaning.{EntriesSayTheSame}
 use Rattle.cif_calendar.specs.Runs.{Runs}
 use Rattle.cif_calendar.specs.Terms.{Terms}
-use Rattle.cif_calendar.proofs.Elements.{Contains-first}
+use Rattle.cif_calendar.proofs.Elements.{Contains-first, Contains-cases}
 use Rattle.cif_weeks.specs.Canonical.{AreCanonical, with_key}
 use Rattle.cif_weeks.specs.HaveForm.{HaveForm}
 use Rattle.cif_weeks.specs.Permanent.{Permanent, Permanents}
@@ -23,16 +23,20 @@ use Rattle.cif_weeks.specs.declared.run.Run.{Run}
 use Rattle.cif_weeks.proofs.AlignedDays.{tight}
 use Rattle.cif_weeks.proofs.JoinedLists.{AllPairs-append, AllZip-append, Contains-from_map, zip-back}
 use Rattle.cif_weeks.proofs.KeyByKey.{HasBody-more, canonical-more, canonical-none, of_key-more}
-use Rattle.cif_calendar.proofs.RisingLists.{Contains-none, not_less}
+use Rattle.cif_calendar.proofs.RisingLists.{Contains-none, less_one_way, not_less}
 use Rattle.cif_canon.specs.Differences.{ComesBefore, OnlySays, RunsApplied, SaysNothing, TurnInto, is_side, of_side}
-use Rattle.cif_canon.specs.Steps.OnlySides.{AreDifferentRuns, AreMergedRuns, IsSidedRunOf, RunComesBefore}
+use Rattle.cif_canon.specs.Comparison.{IsFirstDifference}
+use Rattle.cif_canon.specs.Steps.OnlySides.{AreDifferentRuns, AreMergedRuns, IsFirstFound, IsSidedRunOf, RunComesBefore}
 use Rattle.cif_canon.specs.Steps.Records.{IsRunOf}
+use Rattle.cif_canon.specs.Steps.Sides.{at_side}
+use Rattle.cif_canon.specs.declared.differing.Extent.{Extent}
+use Rattle.cif_canon.specs.declared.differing.Extent.TheVariants.{AllKeys, FirstKey}
 use Rattle.cif_calendar.specs.ByKey.{AreAllByKey, IsFirstOfBoth, IsFront}
 use Rattle.cif_canon.specs.declared.listed_differences.Side.{Side}
 use Rattle.cif_canon.specs.declared.listed_differences.Side.TheVariants.{Left, Right}
 use Rattle.cif_canon.specs.declared.listed_differences.Sided.{Sided}
 use Rattle.cif_canon.proofs.ComparedKeys.{ArePassed, IsLeft, nobody, pass, passed-nothing, turns}
-use Rattle.cif_canon.proofs.MergedSides.{from-side, of_side-append, side-member}
+use Rattle.cif_canon.proofs.MergedSides.{from-side, of_side-append, pairs-head, side-member}
 use Rattle.cif_canon.proofs.OnlyRuns.{pairs-zip}
 
 -- the runs are those of the canonical records of what only the first list says of key k
@@ -92,11 +96,11 @@ module _ {K B : Type 0} (xs ys : List (K × Terms B)) where
 
 -- ---- what is found of one key more
 
--- of key k the records say what only one of the lists does, and what runs by each
+-- of key k the records of each side say what only its list does, and it is known what runs by each
 pub record AreTold {K B : Type 0} (window : Window) (xs ys : List (K × Terms B)) (found : List (Sided (K × Permanent B))) (k : K) : Type 0
   where
-    pub left : (d : ℕ) (b : B) → IsWithin window d → HasBody (of_key (of_side Left found) k) d b ↔ OnlySays xs ys k d b
-    pub right : (d : ℕ) (b : B) → IsWithin window d → HasBody (of_key (of_side Right found) k) d b ↔ OnlySays ys xs k d b
+    pub says : (side : Side) (d : ℕ) (b : B) → IsWithin window d →
+        HasBody (of_key (of_side side found) k) d b ↔ OnlySays (at_side xs ys side) (at_side ys xs side) k d b
     pub runs : (d : ℕ) → IsWithin window d → AreRuns xs ys k d
 
 module _ {K B : Type 0} (cmp : K → K → Ordering) (window : Window) (xs ys : List (K × Terms B)) where
@@ -104,8 +108,7 @@ module _ {K B : Type 0} (cmp : K → K → Ordering) (window : Window) (xs ys : 
   pub record AreFound (l r : List ℕ) (runs : List (Sided Run)) : Type 0 where
     pub found : List (Sided (K × Permanent B))
     pub runs_of : AllZip (IsSidedRunOf xs ys) runs found
-    pub left : AreCanonical cmp Two window (of_side Left found)
-    pub right : AreCanonical cmp Two window (of_side Right found)
+    pub canonical : (side : Side) → AreCanonical cmp Two window (of_side side found)
     pub in_order : AllPairs (ComesBefore cmp) found
     pub before : (s : Sided (K × Permanent B)) (k : K) → Contains found s → IsLeft cmp xs l ys r k → cmp s.it.0 k ≡ Less
     pub passed : ArePassed cmp xs ys l r (AreTold window xs ys found)
@@ -114,8 +117,7 @@ module _ {K B : Type 0} (cmp : K → K → Ordering) (window : Window) (xs ys : 
   found-nothing l r passed = record {
     found = [];
     runs_of = tt;
-    left = canonical-none cmp Two window;
-    right = canonical-none cmp Two window;
+    canonical = λ side. canonical-none cmp Two window;
     in_order = λ i j d less within. absurd (omega arith);
     before = λ s k in'. absurd (Contains-none s in');
     passed = passed;
@@ -166,34 +168,32 @@ module _ {K B : Type 0} (cmp : K → K → Ordering) (total : IsTotalOrder cmp) 
       (subst (λ (z : List Run). AllZip (IsRunOf xs) z (with_key k left.records)) (sym are.left) left.runs_of)
       (subst (λ (z : List Run). AllZip (IsRunOf ys) z (with_key k right.records)) (sym are.right) right.runs_of)
 
-  left-all : of_side Left (a.found ++ zipped.found) ≡ of_side Left a.found ++ with_key k left.records
-  left-all = of_side-append Left a.found zipped.found ∙ ap (λ (z : List (K × Permanent B)). of_side Left a.found ++ z) zipped.left
+  -- the records of one side
+  own : (side : Side) → AreOnlyOfKey window (at_side xs ys side) (at_side ys xs side) k (at_side lefts rights side)
+  own Left = left
+  own Right = right
 
-  right-all : of_side Right (a.found ++ zipped.found) ≡ of_side Right a.found ++ with_key k right.records
-  right-all = of_side-append Right a.found zipped.found ∙ ap (λ (z : List (K × Permanent B)). of_side Right a.found ++ z) zipped.right
+  new : (side : Side) → of_side side zipped.found ≡ with_key k (own side).records
+  unfolding own
+  new Left = zipped.left
+  new Right = zipped.right
+
+  all : (side : Side) → of_side side (a.found ++ zipped.found) ≡ of_side side a.found ++ with_key k (own side).records
+  all side = of_side-append side a.found zipped.found ∙ ap (λ (z : List (K × Permanent B)). of_side side a.found ++ z) (new side)
 
   -- the key of those that are new
-  own-side : (side : Side) (e : K × Permanent B) → Contains (of_side side zipped.found) e → e.0 ≡ k
-  own-side Left e in' = with-key k left.records e (subst (λ (z : List (K × Permanent B)). Contains z e) zipped.left in')
-  own-side Right e in' = with-key k right.records e (subst (λ (z : List (K × Permanent B)). Contains z e) zipped.right in')
-
   own-key : (s : Sided (K × Permanent B)) → Contains zipped.found s → s.it.0 ≡ k
-  own-key s in' = own-side s.side s.it (side-member zipped.found s in')
+  own-key s in' = with-key k (own s.side).records s.it
+      (subst (λ (z : List (K × Permanent B)). Contains z s.it) (new s.side) (side-member zipped.found s in'))
 
   -- the key of one that is old is before it
-  old-left : (j : K) (p : Permanent B) → of_key (of_side Left a.found) j p → cmp j k ≡ Less
-  old-left j p in' = a.before (record { side = Left; it = (j, p) }) k (from-side Left a.found (j, p) in') here
+  old : (side : Side) (j : K) (p : Permanent B) → of_key (of_side side a.found) j p → cmp j k ≡ Less
+  old side j p in' = a.before (record { side = side; it = (j, p) }) k (from-side side a.found (j, p) in') here
 
-  old-right : (j : K) (p : Permanent B) → of_key (of_side Right a.found) j p → cmp j k ≡ Less
-  old-right j p in' = a.before (record { side = Right; it = (j, p) }) k (from-side Right a.found (j, p) in') here
-
-  left-canonical : AreCanonical cmp Two window (of_side Left (a.found ++ zipped.found))
-  left-canonical = subst (AreCanonical cmp Two window) (sym left-all)
-      (canonical-more (of_side Left a.found) k left.records cmp total Two window a.left old-left left.rising left.have_form)
-
-  right-canonical : AreCanonical cmp Two window (of_side Right (a.found ++ zipped.found))
-  right-canonical = subst (AreCanonical cmp Two window) (sym right-all)
-      (canonical-more (of_side Right a.found) k right.records cmp total Two window a.right old-right right.rising right.have_form)
+  side-canonical : (side : Side) → AreCanonical cmp Two window (of_side side (a.found ++ zipped.found))
+  side-canonical side = subst (AreCanonical cmp Two window) (sym (all side))
+      (canonical-more (of_side side a.found) k (own side).records cmp total Two window (a.canonical side) (old side) (own side).rising
+      (own side).have_form)
 
   -- the dates of runs are those of their records
   dates-of : (s : Sided Run) (e : Sided (K × Permanent B)) → IsSidedRunOf xs ys s e → e.it.1.first ≡ s.it.first
@@ -224,55 +224,43 @@ module _ {K B : Type 0} (cmp : K → K → Ordering) (total : IsTotalOrder cmp) 
   -- for the key itself
   told-here : AreTold window xs ys (a.found ++ zipped.found) k
   told-here = record {
-    left = λ d b within.
-        let bodies = bodies-own (of_side Left a.found) k left.records
-        (λ p old. absurd (not_less cmp total k k refl (old-left k p old))) d b in
-        let say = left.say d b within in
-        subst (λ (z : List (K × Permanent B)). HasBody (of_key z k) d b ↔ OnlySays xs ys k d b) (sym left-all)
-        (λ h. say.0 (bodies.0 h), λ h. bodies.1 (say.1 h));
-    right = λ d b within.
-        let bodies = bodies-own (of_side Right a.found) k right.records
-        (λ p old. absurd (not_less cmp total k k refl (old-right k p old))) d b in
-        let say = right.say d b within in
-        subst (λ (z : List (K × Permanent B)). HasBody (of_key z k) d b ↔ OnlySays ys xs k d b) (sym right-all)
-        (λ h. say.0 (bodies.0 h), λ h. bodies.1 (say.1 h));
+    says = λ side d b within.
+        let bodies = bodies-own (of_side side a.found) k (own side).records
+        (λ p is. absurd (not_less cmp total k k refl (old side k p is))) d b in
+        let say = (own side).say d b within in
+        subst (λ (z : List (K × Permanent B)). HasBody (of_key z k) d b ↔ OnlySays (at_side xs ys side) (at_side ys xs side) k d b)
+        (sym (all side)) (λ h. say.0 (bodies.0 h), λ h. bodies.1 (say.1 h));
     runs = says;
   }
 
   -- and for another
   told-there : (j : K) → (j ≡ k → ⊥) → AreTold window xs ys a.found j → AreTold window xs ys (a.found ++ zipped.found) j
   told-there j apart t = record {
-    left = λ d b within.
-        let bodies = bodies-other (of_side Left a.found) k left.records j apart d b in
-        let say = t.left d b within in
-        subst (λ (z : List (K × Permanent B)). HasBody (of_key z j) d b ↔ OnlySays xs ys j d b) (sym left-all)
-        (λ h. say.0 (bodies.0 h), λ h. bodies.1 (say.1 h));
-    right = λ d b within.
-        let bodies = bodies-other (of_side Right a.found) k right.records j apart d b in
-        let say = t.right d b within in
-        subst (λ (z : List (K × Permanent B)). HasBody (of_key z j) d b ↔ OnlySays ys xs j d b) (sym right-all)
-        (λ h. say.0 (bodies.0 h), λ h. bodies.1 (say.1 h));
+    says = λ side d b within.
+        let bodies = bodies-other (of_side side a.found) k (own side).records j apart d b in
+        let say = t.says side d b within in
+        subst (λ (z : List (K × Permanent B)). HasBody (of_key z j) d b ↔ OnlySays (at_side xs ys side) (at_side ys xs side) j d b)
+        (sym (all side)) (λ h. say.0 (bodies.0 h), λ h. bodies.1 (say.1 h));
     runs = t.runs;
   }
 
   -- with the key's differences behind the others the key has passed
-  pub found-key : (same : (j k : K) → cmp j k ≡ Equal → j ≡ k) (first last : ℕ) (f : IsFirstOfBoth cmp xs l ys r k) (n m : ℕ) →
+  pub found-key : (same : (j k : K) → cmp j k ≡ Equal → j ≡ k) (f : IsFirstOfBoth cmp xs l ys r k) (n m : ℕ) →
       IsFront cmp xs l k n → IsFront cmp ys r k m → (next : List (Sided Run)) → next ≡ runs ++ merged →
       AreFound cmp window xs ys (drop n l) (drop m r) next
-  found-key same first last f n m left_front right_front next is =
-      let t = turns cmp total same xs ys first last l r (AreTold window xs ys a.found) a.passed k f n m left_front right_front in record {
+  found-key same f n m left_front right_front next is =
+      let t = turns cmp total same xs ys l r (AreTold window xs ys a.found) a.passed k f n m left_front right_front in record {
         found = a.found ++ zipped.found;
         runs_of = subst (λ (z : List (Sided Run)). AllZip (IsSidedRunOf xs ys) z (a.found ++ zipped.found)) (sym is)
             (AllZip-append (IsSidedRunOf xs ys) runs merged a.found zipped.found a.runs_of zipped.runs_of);
-        left = left-canonical;
-        right = right-canonical;
+        canonical = side-canonical;
         in_order = AllPairs-append (ComesBefore cmp) a.found zipped.found a.in_order own-order
             (λ s u in_s in_u. inl (inl (subst (λ j. cmp s.it.0 j ≡ Less) (sym (own-key u in_u)) (a.before s k in_s here))));
         before = λ s j in_s left. ⊎_elim
             (λ old. a.before s j old (t.still j left))
             (λ new. subst (λ i. cmp i j ≡ Less) (sym (own-key s new)) (t.later j left))
             (Contains-append_cases a.found zipped.found s in_s);
-        passed = pass cmp total same xs ys first last l r (AreTold window xs ys a.found) a.passed k f n m left_front right_front
+        passed = pass cmp total same xs ys l r (AreTold window xs ys a.found) a.passed k f n m left_front right_front
             (AreTold window xs ys (a.found ++ zipped.found)) told-here told-there;
       }
 
@@ -281,13 +269,9 @@ module _ {K B : Type 0} (cmp : K → K → Ordering) (total : IsTotalOrder cmp) 
 told-idle : {K B : Type 0} (window : Window) (xs ys : List (K × Terms B)) (k : K) → ((t : Terms B) → of_key xs k t → ⊥) →
     ((t : Terms B) → of_key ys k t → ⊥) → AreTold window xs ys [] k
 told-idle {K} {B} window xs ys k no_x no_y = record {
-  left = λ d b within. (
+  says = λ side d b within. (
     λ h. absurd (Contains-none (k, h.it) h.listed),
-    λ h. absurd (no_x h.runs.winner h.runs.wins.listed),
-  );
-  right = λ d b within. (
-    λ h. absurd (Contains-none (k, h.it) h.listed),
-    λ h. absurd (no_y h.runs.winner h.runs.wins.listed),
+    λ h. absurd (nothing side h.runs.winner h.runs.wins.listed),
   );
   runs = λ d within. record {
     one = None;
@@ -297,6 +281,10 @@ told-idle {K} {B} window xs ys k no_x no_y = record {
     decided = inl refl;
   };
 } where
+  nothing : (side : Side) (t : Terms B) → of_key (at_side xs ys side) k t → ⊥
+  nothing Left = no_x
+  nothing Right = no_y
+
   idle : (es : List (K × Terms B)) → ((t : Terms B) → of_key es k t → ⊥) → (d : ℕ) (o : Option B) → (None ≡ o) ↔ Runs (of_key es k) d o
   idle es none d None = (λ e. record { cancelled = λ t w. absurd (none t w.listed) }, λ h. refl)
   idle es none d (Some b) = (λ e. absurd (cc), λ h. absurd (none h.winner h.wins.listed))
@@ -306,10 +294,10 @@ pub found-first : {K B : Type 0} (cmp : K → K → Ordering) (total : IsTotalOr
     AreFound cmp window xs ys l r []
 found-first cmp total same window xs ys l r left right =
     found-nothing cmp window xs ys l r
-    (passed-nothing cmp total same xs ys window.first window.last l r left right (AreTold window xs ys [])
+    (passed-nothing cmp total same xs ys l r left right (AreTold window xs ys [])
     (λ k no_x no_y. told-idle window xs ys k no_x no_y))
 
--- ---- of all keys
+-- ---- what is told of all keys
 
 -- a list without members
 pub no-member : {A : Type 0} (zs : List A) → ((s : A) → Contains zs s → ⊥) → zs ≡ []
@@ -323,13 +311,13 @@ module _ {K B : Type 0} (window : Window) (xs ys : List (K × Terms B)) (found :
 
     -- the left one alone says what runs by it and not by the right one
     left-says : (b : B) → HasBody (of_key (of_side Left found) k) d b ↔ ((says.one ≡ Some b) × (says.other ≢ Some b))
-    left-says b = let only = t.left d b within in (
+    left-says b = let only = t.says Left d b within in (
       λ h. let o = only.0 h in ((says.one_runs (Some b)).1 o.runs, λ e. o.differs ((says.other_runs (Some b)).0 e)),
       λ h. only.1 (record { runs = (says.one_runs (Some b)).0 h.0; differs = λ o. h.1 ((says.other_runs (Some b)).1 o) }),
     )
 
     right-says : (b : B) → HasBody (of_key (of_side Right found) k) d b ↔ ((says.other ≡ Some b) × (says.one ≢ Some b))
-    right-says b = let only = t.right d b within in (
+    right-says b = let only = t.says Right d b within in (
       λ h. let o = only.0 h in ((says.other_runs (Some b)).1 o.runs, λ e. o.differs ((says.one_runs (Some b)).0 e)),
       λ h. only.1 (record { runs = (says.other_runs (Some b)).0 h.0; differs = λ o. h.1 ((says.one_runs (Some b)).1 o) }),
     )
@@ -415,57 +403,150 @@ module _ {K B : Type 0} (window : Window) (xs ys : List (K × Terms B)) (found :
     pub turn-all : TurnInto window xs ys found
     turn-all = record { runs = λ k d o within. turn-on k (told k) d within o }
 
-    none-says : (side : Side) (k : K) (d : ℕ) → found ≡ [] → SaysNothing side found k d
-    none-says side k d is b h =
-        Contains-none (k, h.it)
-        (subst (λ (z : List (Sided (K × Permanent B))). Contains (of_side side z) (k, h.it)) is h.listed)
+    same-all : found ≡ [] → EntriesSayTheSame xs ys window.first window.last
+    same-all is = record {
+      same = λ k d o from upto.
+          silent-same k (told k) d (record { from = from; upto = upto }) (none-says Left k d) (none-says Right k d) o;
+    } where
+      none-says : (side : Side) (k : K) (d : ℕ) → SaysNothing side found k d
+      none-says side k d b h =
+          Contains-none (k, h.it)
+          (subst (λ (z : List (Sided (K × Permanent B))). Contains (of_side side z) (k, h.it)) is h.listed)
 
-    -- no record is found where the lists say the same
-    no-record : (cmp : K → K → Ordering) → AreCanonical cmp Two window (of_side Left found) →
-        AreCanonical cmp Two window (of_side Right found) → EntriesSayTheSame xs ys window.first window.last →
-        (s : Sided (K × Permanent B)) → Contains found s → ⊥
-    no-record cmp left right same s in' = by s.side refl
+-- ---- the first record
+
+module _ {K B : Type 0} (cmp : K → K → Ordering) (total : IsTotalOrder cmp) (window : Window) (xs ys : List (K × Terms B))
+    (s : Sided (K × Permanent B)) (others : List (Sided (K × Permanent B))) (in_order : AllPairs (ComesBefore cmp) (s ∷ others))
+    (canonical : (side : Side) → AreCanonical cmp Two window (of_side side (s ∷ others)))
+    (told : (k : K) → (cmp s.it.0 k ≡ Less → ⊥) → AreTold window xs ys (s ∷ others) k) where
+  -- no record is before it
+  from-first : (side : Side) (k : K) (p : Permanent B) → of_key (of_side side (s ∷ others)) k p →
+      (cmp s.it.0 k ≡ Less) ⊎ ((s.it.0 ≡ k) × (s.it.1.first ≤ p.first))
+  from-first side k p in' =
+      let e : Sided (K × Permanent B) = record { side = side; it = (k, p) } in
+      ⊎_elim
+      (λ is.
+      let same : s.it.1.first ≡ p.first = ap (λ (t : Sided (K × Permanent B)). t.it.1.first) is in
+      inr (ap (λ (t : Sided (K × Permanent B)). t.it.0) is, omega (arith, same)))
+      (λ later. ⊎_elim
+      (λ precedes. ⊎_elim
+      (λ less. inl less)
+      (λ dates. let less : s.it.1.first < p.first = dates.1 in inr (dates.0, omega (arith, less)))
+      precedes)
+      (λ sides. let same : s.it.1.first ≡ p.first = sides.1 in inr (sides.0, omega (arith, same)))
+      (pairs-head (ComesBefore cmp) s e others in_order later))
+      (Contains-cases s others e (from-side side (s ∷ others) (k, p) in'))
+
+  silent-key : (side : Side) (k : K) (d : ℕ) → cmp k s.it.0 ≡ Less → SaysNothing side (s ∷ others) k d
+  silent-key side k d less b h = ⊎_elim
+      (λ after. less_one_way cmp total k s.it.0 less after)
+      (λ same. not_less cmp total k s.it.0 (sym same.0) less)
+      (from-first side k h.it h.listed)
+
+  silent-day : (side : Side) (d : ℕ) → d < s.it.1.first → SaysNothing side (s ∷ others) s.it.0 d
+  silent-day side d less b h = ⊎_elim
+      (λ after. not_less cmp total s.it.0 s.it.0 refl after)
+      (λ same. let begun : h.it.first ≤ d = h.applies.begun in let from = same.1 in omega (arith, begun, from, less))
+      (from-first side s.it.0 h.it h.listed)
+
+  here : AreTold window xs ys (s ∷ others) s.it.0
+  here = told s.it.0 (not_less cmp total s.it.0 s.it.0 refl)
+
+  -- on its first day it applies
+  first-day : (side : Side) → s.side ≡ side →
+      IsWithin window s.it.1.first × HasBody (of_key (of_side side (s ∷ others)) s.it.0) s.it.1.first s.it.1.body
+  first-day side is =
+      let listed : Contains (of_side side (s ∷ others)) s.it =
+      subst (λ t. Contains (of_side t (s ∷ others)) s.it) is (side-member (s ∷ others) s (Contains-first s others)) in
+      let t = tight s.it.1 window Two (((canonical side).have_form s.it.0).aligned s.it.1 listed) in
+      (t.first_within, record { it = s.it.1; listed = listed; applies = t.on_first; body = refl })
+
+  within : IsWithin window s.it.1.first
+  within = (first-day s.side refl).0
+
+  abbrev both : AreRuns xs ys s.it.0 s.it.1.first
+  both = says window xs ys (s ∷ others) s.it.0 here s.it.1.first within
+
+  -- so the lists have different bodies there
+  apart : (side : Side) → s.side ≡ side → both.one ≢ both.other
+  apart Left is e =
+      let only = (left-says window xs ys (s ∷ others) s.it.0 here s.it.1.first within s.it.1.body).0 (first-day Left is).1 in
+      only.1 (sym e ∙ only.0)
+  apart Right is e =
+      let only = (right-says window xs ys (s ∷ others) s.it.0 here s.it.1.first within s.it.1.body).0 (first-day Right is).1 in
+      only.1 (e ∙ only.0)
+
+  first-found : IsFirstDifference cmp xs ys window.first window.last s.it.0 s.it.1.first
+  first-found = record {
+    from = within.from;
+    upto = within.upto;
+    differ = record {
+      one = both.one;
+      other = both.other;
+      one_runs = (both.one_runs both.one).0 refl;
+      other_runs = (both.other_runs both.other).0 refl;
+      differ = apart s.side refl;
+    };
+    alike_before = λ e from less. let upto = within.upto in
+        silent-same window xs ys (s ∷ others) s.it.0 here e (record { from = from; upto = omega (arith, upto, less) })
+        (silent-day Left e less) (silent-day Right e less);
+    keys_before = λ j e less from upto.
+        silent-same window xs ys (s ∷ others) j (told j (less_one_way cmp total j s.it.0 less)) e (record { from = from; upto = upto })
+        (silent-key Left j e less) (silent-key Right j e less);
+  }
+
+  not-same : EntriesSayTheSame xs ys window.first window.last → ⊥
+  not-same same =
+      apart s.side refl (sym ((both.other_runs both.one).1
+      ((same.same s.it.0 s.it.1.first both.one within.from within.upto).0 ((both.one_runs both.one).0 refl))))
+
+-- ---- of all keys, or enough
+
+module _ {K B : Type 0} (cmp : K → K → Ordering) (total : IsTotalOrder cmp) (window : Window) (xs ys : List (K × Terms B)) where
+  of-first : (found : List (Sided (K × Permanent B))) → AllPairs (ComesBefore cmp) found →
+      ((side : Side) → AreCanonical cmp Two window (of_side side found)) →
+      ((s : Sided (K × Permanent B)) (k : K) → Contains found s → (cmp s.it.0 k ≡ Less → ⊥) → AreTold window xs ys found k) →
+      (found ≡ [] → EntriesSayTheSame xs ys window.first window.last) →
+      IsFirstFound cmp window xs ys found × (EntriesSayTheSame xs ys window.first window.last → found ≡ [])
+  of-first [] in_order canonical told none = (none refl, λ same. refl)
+  of-first (s ∷ others) in_order canonical told none =
+      let those = λ (k : K). told s k (Contains-first s others) in (
+        first-found cmp total window xs ys s others in_order canonical those,
+        λ same. absurd (not-same cmp total window xs ys s others in_order canonical those same),
+      )
+
+  module _ (l r : List ℕ) (runs : List (Sided Run)) (a : AreFound cmp window xs ys l r runs) (extent : Extent) where
+    different-runs : (a.found ≡ [] → EntriesSayTheSame xs ys window.first window.last) →
+        (extent ≡ AllKeys → (k : K) → AreTold window xs ys a.found k) → AreDifferentRuns cmp window xs ys extent runs
+    different-runs none told =
+        let first = of-first a.found a.in_order a.canonical
+        (λ s k in' apart. a.passed.told k (λ left. apart (a.before s k in' left))) none in record {
+          found = a.found;
+          runs_of = a.runs_of;
+          first = first.0;
+          none = first.1;
+          different = λ all. record {
+            left = record { canonical = a.canonical Left; exact = λ k d b within. (told all k).says Left d b within };
+            right = record { canonical = a.canonical Right; exact = λ k d b within. (told all k).says Right d b within };
+            in_order = a.in_order;
+          };
+          turn = λ all. turn-all window xs ys a.found (told all);
+        }
+
+    -- where something is found, that is enough for the first difference
+    pub found-enough : extent ≡ FirstKey → 0 < length runs → AreDifferentRuns cmp window xs ys extent runs
+    found-enough is some = different-runs
+        (λ none. absurd (let n : length runs ≡ 0 = zip-none runs a.found a.runs_of none in omega (arith, n, some)))
+        (λ all. absurd (let no : FirstKey ≡ AllKeys = sym is ∙ all in cc))
       where
-        first-day : (side : Side) → AreCanonical cmp Two window (of_side side found) → s.side ≡ side →
-            IsWithin window s.it.1.first × HasBody (of_key (of_side side found) s.it.0) s.it.1.first s.it.1.body
-        first-day side canonical is =
-            let listed : Contains (of_side side found) s.it =
-            subst (λ t. Contains (of_side t found) s.it) is (side-member found s in') in
-            let t = tight s.it.1 window Two ((canonical.have_form s.it.0).aligned s.it.1 listed) in
-            (t.first_within, record { it = s.it.1; listed = listed; applies = t.on_first; body = refl })
+        zip-none : (runs : List (Sided Run)) (found : List (Sided (K × Permanent B))) → AllZip (IsSidedRunOf xs ys) runs found →
+            found ≡ [] → length runs ≡ 0
+        zip-none [] found z is = refl
+        zip-none (run ∷ runs) [] z is = absurd z
+        zip-none (run ∷ runs) (s ∷ found) z is = absurd (cc)
 
-        by : (side : Side) → s.side ≡ side → ⊥
-        by Left is =
-            let (within, has) = first-day Left left is in
-            let only = ((told s.it.0).left s.it.1.first s.it.1.body within).0 has in
-            only.differs ((same.same s.it.0 s.it.1.first (Some s.it.1.body) within.from within.upto).0 only.runs)
-        by Right is =
-            let (within, has) = first-day Right right is in
-            let only = ((told s.it.0).right s.it.1.first s.it.1.body within).0 has in
-            only.differs ((same.same s.it.0 s.it.1.first (Some s.it.1.body) within.from within.upto).1 only.runs)
-
-    pub none-all : (cmp : K → K → Ordering) → AreCanonical cmp Two window (of_side Left found) →
-        AreCanonical cmp Two window (of_side Right found) → (found ≡ []) ↔ EntriesSayTheSame xs ys window.first window.last
-    none-all cmp left right = (
-      λ is. record {
-        same = λ k d o from upto.
-            silent-same k (told k) d (record { from = from; upto = upto }) (none-says Left k d is) (none-says Right k d is) o;
-      },
-      λ same. no-member found (no-record cmp left right same),
-    )
-
-pub found-all : {K B : Type 0} (cmp : K → K → Ordering) (total : IsTotalOrder cmp) (same : (j k : K) → cmp j k ≡ Equal → j ≡ k)
-    (window : Window) (xs ys : List (K × Terms B)) (runs : List (Sided Run)) → AreFound cmp window xs ys [] [] runs →
-    AreDifferentRuns cmp window xs ys runs
-found-all {K = K} cmp total same window xs ys runs a =
-    let told = λ (k : K). a.passed.told k (nobody cmp total same xs ys window.first window.last k) in record {
-      found = a.found;
-      runs_of = a.runs_of;
-      different = record {
-        left = record { canonical = a.left; exact = λ k d b within. (told k).left d b within };
-        right = record { canonical = a.right; exact = λ k d b within. (told k).right d b within };
-        in_order = a.in_order;
-      };
-      turn = turn-all window xs ys a.found told;
-      none = none-all window xs ys a.found told cmp a.left a.right;
-    }
+  pub found-all : (same : (j k : K) → cmp j k ≡ Equal → j ≡ k) (runs : List (Sided Run)) → AreFound cmp window xs ys [] [] runs →
+      (extent : Extent) → AreDifferentRuns cmp window xs ys extent runs
+  found-all same runs a extent =
+      let told = λ (k : K). a.passed.told k (nobody cmp total same xs ys k) in
+      different-runs [] [] runs a extent (same-all window xs ys a.found told) (λ all. told)

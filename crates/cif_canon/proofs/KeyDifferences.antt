@@ -6,9 +6,13 @@ use Rattle.std.proofs.lemmas.List.Elements.{Contains-get_or}
 use Rattle.std.proofs.lemmas.Option.{same_Some}
 use Rattle.cif_columns.specs.declared.stp.Stp.TheVariants.{C}
 use Rattle.cif_calendar.specs.Calendar.{CalendarParts, IsCalendar, body_on}
-use Rattle.cif_calendar.specs.Keys.{ArePositionsOf, keyed}
+use Rattle.cif_calendar.specs.Clash.{IsClearFrom}
+use Rattle.cif_calendar.specs.Keys.{ArePositionsOf, keyed, of_key}
+use Rattle.cif_calendar.specs.Source.{IsChosen}
 use Rattle.cif_calendar.specs.Terms.{Terms}
 use Rattle.cif_calendar.proofs.KeyCalendar.{key-runs}
+use Rattle.cif_calendar.proofs.Positions.{positions-records}
+use Rattle.cif_calendar.proofs.Sets.{IsClearFrom-same}
 use Rattle.cif_weeks.specs.HaveForm.{HaveForm}
 use Rattle.cif_weeks.specs.Runs.{window_of}
 use Rattle.cif_weeks.specs.Window.{IsWithin}
@@ -30,6 +34,14 @@ module _ {B : Type 0} (eq : B → B → Bool) (law : (a b : B) → IsTrue (eq a 
   decide-bodies None (Some b) = inr (λ e. cc)
   decide-bodies (Some a) None = inr (λ e. cc)
   decide-bodies (Some a) (Some b) = decide-body a b (eq a b) refl
+
+-- the positions of a clear key are clear
+pub clear-positions : {E K B : Type 0} (key : E → K) (terms : E → Terms B) (es : List E) (k : K) (members : List ℕ) →
+    ArePositionsOf (keyed key terms es) k members → (first last : ℕ) → IsClearFrom (of_key (keyed key terms es) k) first last →
+    IsClearFrom (IsChosen (map terms es) members) first last
+clear-positions key terms es k members p first last h =
+    let same = positions-records key terms es k members p in
+    IsClearFrom-same _ _ (record { same = λ r. ((same.same r).1, (same.same r).0) }) first last h
 
 module _ {E K B : Type 0} (key : E → K) (terms : E → Terms B) (cancelled : (e : E) → IsNone (terms e).body ↔ ((terms e).letter ≡ C))
     (es fs : List E) (k : K) (l r : List ℕ) (p : ArePositionsOf (keyed key terms es) k l) (q : ArePositionsOf (keyed key terms fs) k r)

@@ -3,7 +3,6 @@ pub mod BothRead
 pub mod CanonForm
 pub mod CanonTexts
 pub mod ChosenRecords
-pub mod ComparedCalendars
 pub mod CompareFaults
 pub mod ComparedKeys
 pub mod DifferentDays

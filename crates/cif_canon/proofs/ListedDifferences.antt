@@ -1,10 +1,16 @@
 -- The differences of two extracts, from those of their locations, their associations and their schedules.
-use Rattle.std.proofs.Common.{◌≡◌, ◌⊎◌, inl, inr, ◌≤◌, List, [], refl, sym, ap, ◌∙◌, subst, ⊎_elim}
+use Rattle.std.proofs.Common.{◌≡◌, ◌⊎◌, inl, inr, ◌≤◌, ◌<◌, List, [], ◌∷◌, Option, None, Some, length, refl, sym, ap, ◌∙◌, subst, ⊎_elim}
 use Rattle.std.specs.Prelude.{All, Contains, ◌↔◌, slice_get}
+use Rattle.std.specs.List.{AllZip}
 use Rattle.std.specs.Cmp.Lexicographic.{slice_cmp}
 use Rattle.std.specs.Ordering.{nat_cmp}
 use Rattle.std.specs.declared.cmp.Ordering.{Ordering}
 use Rattle.std.proofs.lemmas.List.Elements.{Contains-get_or}
+use Rattle.std.proofs.lemmas.Option.{same_Some, slice_get_within}
+use Rattle.cif_calendar.specs.ByKey.{HasKey}
+use Rattle.cif_calendar.specs.Keys.{keyed}
+use Rattle.cif_calendar.proofs.KeyPositions.{within-entries}
+use Rattle.cif_calendar.proofs.KeyTurns.{one-key}
 use Rattle.cif_calendar.specs.Entries.{association_entries, schedule_entries}
 use Rattle.cif_calendar.specs.Meaning.{EntriesSayTheSame}
 use Rattle.cif_calendar.specs.Terms.{Terms}
@@ -19,11 +25,13 @@ use Rattle.cif_weeks.specs.declared.run.Run.{Run}
 use Rattle.cif_weeks.proofs.AlignedDays.{tight}
 use Rattle.cif_canon.specs.Accepted.{IsClearExtract}
 use Rattle.cif_canon.specs.Asked.{header_window}
+use Rattle.cif_canon.specs.Comparison.{IsFirstDifference}
 use Rattle.cif_canon.specs.Differences.{AreDifferences, AreDifferentRecords, AreDifferentTiplocs, AreNone, DifferencesParts}
 use Rattle.cif_canon.specs.Differences.{TurnInto, TurnLeftIntoRight, of_side}
 use Rattle.cif_canon.specs.Meaning.{Agree}
-use Rattle.cif_canon.specs.Steps.OnlySides.{AreDifferentRuns}
-use Rattle.cif_canon.specs.Steps.Sides.{HasSidedRecord, sided_records}
+use Rattle.cif_canon.specs.Steps.OnlySides.{AreDifferentRuns, IsFirstFound, IsSidedRunOf}
+use Rattle.cif_canon.specs.Steps.Sides.{HasSidedRecord, at_side, sided_records}
+use Rattle.cif_canon.specs.declared.differing.Extent.TheVariants.{AllKeys}
 use Rattle.cif_canon.specs.declared.listed_differences.Side.{Side}
 use Rattle.cif_canon.specs.declared.listed_differences.Side.TheVariants.{Left, Right}
 use Rattle.cif_canon.specs.declared.listed_differences.Sided.{Sided}
@@ -35,22 +43,22 @@ use Rattle.cif_canon.proofs.SidedTexts.{have-sided_records, records-of_runs}
 -- ---- one kind of record
 
 module _ {K B : Type 0} (cmp : K → K → Ordering) (window : Window) (xs ys : List (K × Terms B)) (runs : List (Sided Run))
-    (a : AreDifferentRuns cmp window xs ys runs) where
+    (a : AreDifferentRuns cmp window xs ys AllKeys runs) where
   are : sided_records xs ys runs ≡ a.found
   are = records-of_runs xs ys runs a.found a.runs_of
 
   pub kind-different : AreDifferentRecords cmp window xs ys (sided_records xs ys runs)
-  kind-different = subst (AreDifferentRecords cmp window xs ys) (sym are) a.different
+  kind-different = subst (AreDifferentRecords cmp window xs ys) (sym are) (a.different refl)
 
   pub kind-turn : TurnInto window xs ys (sided_records xs ys runs)
-  kind-turn = subst (TurnInto window xs ys) (sym are) a.turn
+  kind-turn = subst (TurnInto window xs ys) (sym are) (a.turn refl)
 
   pub kind-none : (sided_records xs ys runs ≡ []) ↔ EntriesSayTheSame xs ys window.first window.last
-  kind-none = (λ h. a.none.0 (sym are ∙ h), λ h. are ∙ a.none.1 h)
+  kind-none = (λ h. subst (IsFirstFound cmp window xs ys) (sym are ∙ h) a.first, λ h. are ∙ a.none h)
 
   canonical-of : (side : Side) → AreCanonical cmp Two window (of_side side a.found)
-  canonical-of Left = a.different.left.canonical
-  canonical-of Right = a.different.right.canonical
+  canonical-of Left = (a.different refl).left.canonical
+  canonical-of Right = (a.different refl).right.canonical
 
   dated : (s : Sided (K × Permanent B)) → Contains a.found s → s.it.1.first ≤ s.it.1.last
   dated s in' =
@@ -59,6 +67,41 @@ module _ {K B : Type 0} (cmp : K → K → Ordering) (window : Window) (xs ys : 
 
   pub kind-records : All (HasSidedRecord xs ys) runs
   kind-records = have-sided_records xs ys runs a.found a.runs_of (λ i d below. dated _ (Contains-get_or a.found i d below))
+
+-- the first run is at the first difference, and there is none where the lists say the same
+module _ {K B : Type 0} (cmp : K → K → Ordering) (window : Window) (xs ys : List (K × Terms B)) where
+  abbrev IsFirstRun : Option (Sided Run) → Type 0
+  IsFirstRun None = EntriesSayTheSame xs ys window.first window.last
+  IsFirstRun (Some s) = (k : K) → HasKey (at_side xs ys s.side) s.it.source k →
+      IsFirstDifference cmp xs ys window.first window.last k s.it.first
+
+  pub first-run : (runs : List (Sided Run)) (found : List (Sided (K × Permanent B))) → AllZip (IsSidedRunOf xs ys) runs found →
+      IsFirstFound cmp window xs ys found → (o : Option (Sided Run)) → slice_get runs 0 ≡ o → IsFirstRun o
+  first-run [] [] z first None is = first
+  first-run [] [] z first (Some s) is = absurd (cc)
+  first-run [] (e ∷ found) z first o is = absurd z
+  first-run (s ∷ runs) [] z first o is = absurd z
+  first-run (s ∷ runs) (e ∷ found) z first o is = subst IsFirstRun is (λ k has.
+      let at : HasKey (at_side xs ys e.side) s.it.source k = subst (λ side. HasKey (at_side xs ys side) s.it.source k) z.0.side has in
+      let key : k ≡ e.it.0 = one-key (at_side xs ys e.side) s.it.source k e.it.0 at
+      (record { terms = z.0.run_of.terms; at = z.0.run_of.at }) in
+      let day : s.it.first ≡ e.it.1.first = sym (ap (λ (p : Permanent B). p.first) z.0.run_of.dates) in
+      rw (key, day) first)
+
+-- and its source is the position of an entry of its side
+pub first-within : {E K B : Type 0} (key : E → K) (terms : E → Terms B) (es fs : List E) (runs : List (Sided Run))
+    (found : List (Sided (K × Permanent B))) → AllZip (IsSidedRunOf (keyed key terms es) (keyed key terms fs)) runs found →
+    (s : Sided Run) → slice_get runs 0 ≡ Some s → s.it.source < length (at_side es fs s.side)
+first-within key terms es fs [] [] z s is = absurd (cc)
+first-within key terms es fs [] (e ∷ found) z s is = absurd z
+first-within key terms es fs (t ∷ runs) [] z s is = absurd z
+first-within {K = K} {B = B} key terms es fs (t ∷ runs) (e ∷ found) z s is =
+    subst (λ (s : Sided Run). s.it.source < length (at_side es fs s.side)) (same_Some t s is) (by e.side z.0.side z.0.run_of.at)
+  where
+    by : (side : Side) → t.side ≡ side → slice_get (at_side (keyed key terms es) (keyed key terms fs) side) t.it.source
+        ≡ Some (e.it.0, z.0.run_of.terms) → t.it.source < length (at_side es fs t.side)
+    by Left is at = rw is (within-entries key terms es t.it.source (slice_get_within (keyed key terms es) t.it.source _ at))
+    by Right is at = rw is (within-entries key terms fs t.it.source (slice_get_within (keyed key terms fs) t.it.source _ at))
 
 -- ---- locations
 
@@ -93,9 +136,9 @@ module _ (x y : ExtractParts) (window : header_window x.header ≡ header_window
     (right : IsClearExtract y) (tiplocs : List (Sided Tiploc)) (at : AreDifferentTiplocs x.tiplocs y.tiplocs tiplocs)
     (associations : List (Sided Run))
     (aa : AreDifferentRuns key_cmp (header_window x.header) (association_entries x.associations) (association_entries y.associations)
-    associations) (schedules : List (Sided Run))
+    AllKeys associations) (schedules : List (Sided Run))
     (bs : AreDifferentRuns (slice_cmp nat_cmp) (header_window x.header) (schedule_entries x.schedules) (schedule_entries y.schedules)
-    schedules) where
+    AllKeys schedules) where
   pub are-differences : (d : DifferencesParts) → d ≡ record {
     tiplocs = tiplocs;
     associations = sided_records (association_entries x.associations) (association_entries y.associations) associations;

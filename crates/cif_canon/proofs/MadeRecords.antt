@@ -131,12 +131,6 @@ module _ {K B : Type 0} (cmp : K → K → Ordering) (form : Form) (window : Win
     -- a fault of the run's key is the first, as the keys before are clear
     pub made-fault : (name : K → ℕ → named.Clash) (why : Fault) →
         ((k : K) → ArePositionsOf es k (take n rest) → IsKeyFault name window es k why) → IsRecordsFault cmp name es window why
-    made-fault name (fault.Refused line why) f = absurd (f run.key turn)
-    made-fault name fault.WindowsDiffer f = absurd (f run.key turn)
-    made-fault name fault.OutsideWindow f = absurd (f run.key turn)
-    made-fault name fault.WindowReversed f = absurd (f run.key turn)
-    made-fault name fault.Read f = absurd (f run.key turn)
-    made-fault name fault.Write f = absurd (f run.key turn)
     made-fault name fault.Memory f = tt
     made-fault name (fault.Ambiguous clash) f =
         let (day, is, first) = f run.key turn in record {
@@ -145,6 +139,7 @@ module _ {K B : Type 0} (cmp : K → K → Ordering) (form : Form) (window : Win
           is = is;
           first = record { clash = first; clear_before = λ j less. (made.said j (not-before j less)).clear };
         }
+    made-fault name _ f = absurd (f run.key turn)
 
     module _ (own : List Run) (owns : (k : K) → ArePositionsOf es k (take n rest) → AreRunsOfKey form window es k own) where
       a : AreRunsOfKey form window es run.key own

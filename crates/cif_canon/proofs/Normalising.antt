@@ -32,36 +32,21 @@ module _ (max : ℕ) (asked : Asked) (bytes : List ℕ) where
       IsNarrowingFault asked whole.header f → IsReadNarrowedFault max asked bytes after f
   narrowing-fault after whole s fault.OutsideWindow h = record { whole = whole; spelled = s; fault_is = h }
   narrowing-fault after whole s fault.WindowReversed h = record { whole = whole; spelled = s; fault_is = h }
-  narrowing-fault after whole s (fault.Refused line why) h = absurd h
-  narrowing-fault after whole s (fault.Ambiguous clash) h = absurd h
-  narrowing-fault after whole s fault.WindowsDiffer h = absurd h
-  narrowing-fault after whole s fault.Read h = absurd h
-  narrowing-fault after whole s fault.Write h = absurd h
-  narrowing-fault after whole s fault.Memory h = absurd h
+  narrowing-fault after whole s _ h = absurd h
 
   -- bytes that aren't read
   pub narrowed-fault : (after : Unread) (f : Fault) → IsReadNarrowedFault max asked bytes after f →
       IsNormaliseFault max asked bytes after f
-  narrowed-fault after (fault.Refused line why) h = h
   narrowed-fault after (fault.Ambiguous clash) h = absurd h
-  narrowed-fault after fault.WindowsDiffer h = h
-  narrowed-fault after fault.OutsideWindow h = h
-  narrowed-fault after fault.WindowReversed h = h
-  narrowed-fault after fault.Read h = h
   narrowed-fault after fault.Write h = absurd h
-  narrowed-fault after fault.Memory h = h
+  narrowed-fault after _ h = h
 
   -- an extract without a canonical form
   pub canon-fault : (after : Unread) (x : ExtractParts) → SpellsNarrowed max asked x bytes → (f : Fault) → IsCanonFault x f →
       IsNormaliseFault max asked bytes after f
   canon-fault after x s (fault.Ambiguous clash) h = record { narrowed = x; spelled = s; clash_is = h }
   canon-fault after x s fault.Memory h = tt
-  canon-fault after x s (fault.Refused line why) h = absurd h
-  canon-fault after x s fault.OutsideWindow h = absurd h
-  canon-fault after x s fault.WindowReversed h = absurd h
-  canon-fault after x s fault.WindowsDiffer h = absurd h
-  canon-fault after x s fault.Read h = absurd h
-  canon-fault after x s fault.Write h = absurd h
+  canon-fault after x s _ h = absurd h
 
   one-spelled_narrowed : (x y : ExtractParts) → SpellsNarrowed max asked x bytes → SpellsNarrowed max asked y bytes → x ≡ y
   one-spelled_narrowed x y p q =
@@ -90,9 +75,7 @@ module _ (max : ℕ) (asked : Asked) (bytes : List ℕ) where
       (one_spelled bytes a.spelled.whole h.whole a.spelled.spelled.spell h.spelled.spell) a.spelled.narrowed.in_order in
       let reversed = h.fault_is.1 in
       absurd (omega (arith, order, reversed))
-  blames-none after x a fault.Read h = tt
-  blames-none after x a fault.Write h = tt
-  blames-none after x a fault.Memory h = tt
+  blames-none after x a _ h = tt
 
   -- the canonical form of what is read and narrowed
   pub is-normalised : (form : Form) (x : ExtractParts) → SpellsNarrowed max asked x bytes → (c : CanonParts) → IsCanonOf form x c →
@@ -154,14 +137,8 @@ module _ {W : Type 0} (contents : W → Option (List ℕ)) (errors : W → Optio
       × IfSome start (λ bytes. Normalises form asked max bytes text result)
 
   silent : (f : Fault) → f ≢ fault.Write → IsSilent (Err f)
-  silent (fault.Refused line why) other = ([], refl, unsaid start)
-  silent (fault.Ambiguous clash) other = ([], refl, unsaid start)
-  silent fault.WindowsDiffer other = ([], refl, unsaid start)
-  silent fault.OutsideWindow other = ([], refl, unsaid start)
-  silent fault.WindowReversed other = ([], refl, unsaid start)
-  silent fault.Read other = ([], refl, unsaid start)
   silent fault.Write other = absurd (other refl)
-  silent fault.Memory other = ([], refl, unsaid start)
+  silent _ other = ([], refl, unsaid start)
 
   pub fails-silently : (result : Result Counts Fault) (f : Fault) → result ≡ Err f → f ≢ fault.Write → IsSilent result
   fails-silently result f is other = subst IsSilent (sym is) (silent f other)
@@ -199,14 +176,9 @@ module _ (max : ℕ) (asked : Asked) (start : Option (List ℕ)) (after : Unread
 -- ---- a fault of the canonical form says nothing of devices
 
 pub canon-of_check : (max : ℕ) (x : ExtractParts) (f : Fault) → IsCanonFault x f → IsOfCheck max f × IsOfNormalise max f
-canon-of_check max x (fault.Refused line why) h = absurd h
 canon-of_check max x (fault.Ambiguous clash) h = (tt, tt)
-canon-of_check max x fault.WindowsDiffer h = absurd h
-canon-of_check max x fault.OutsideWindow h = absurd h
-canon-of_check max x fault.WindowReversed h = absurd h
-canon-of_check max x fault.Read h = absurd h
-canon-of_check max x fault.Write h = absurd h
 canon-of_check max x fault.Memory h = (tt, tt)
+canon-of_check max x _ h = absurd h
 
 -- ---- nor does a failure to write
 
@@ -226,11 +198,7 @@ module _ (max : ℕ) (asked : Asked) (start : Option (List ℕ)) (after : Unread
 
 -- a fault of `read_narrowed` is one of `check` and of `normalise`
 pub narrowed-of_check : (max : ℕ) (f : Fault) → IsOfReadNarrowed max f → IsOfCheck max f × IsOfNormalise max f
-narrowed-of_check max (fault.Refused line why) h = (h, h)
 narrowed-of_check max (fault.Ambiguous clash) h = absurd h
 narrowed-of_check max fault.WindowsDiffer h = absurd h
-narrowed-of_check max fault.OutsideWindow h = (h, h)
-narrowed-of_check max fault.WindowReversed h = (h, h)
-narrowed-of_check max fault.Read h = (h, h)
 narrowed-of_check max fault.Write h = absurd h
-narrowed-of_check max fault.Memory h = (h, h)
+narrowed-of_check max _ h = (h, h)

@@ -1,30 +1,24 @@
 //! How two extracts compare: the first difference, and the line that names it.
-ghost use Rattle.std.specs.Prelude.{◌≡◌, ◌↔◌, ◌≤◌, ◌<◌, IfErr, IfOk, OnOk, ℕ, All};
-ghost use Rattle.std.specs.Prelude.{IsTrue, length, map};
-ghost use Rattle.cif_calendar.specs.ByKey.{IsFirstOrNone};
-ghost use Rattle.cif_calendar.specs.Calendar.{IsCalendar, body_on};
-ghost use Rattle.cif_calendar.specs.Clash.{IsClearFrom};
+ghost use Rattle.std.specs.Prelude.{◌≡◌, ◌<◌, IfErr, IfOk, length};
+ghost use Rattle.cif_calendar.specs.ByKey.{HasKey, IsFirstOrNone};
 ghost use Rattle.cif_calendar.specs.Keys.{AreClear, keyed};
 ghost use Rattle.cif_calendar.specs.Meaning.{EntriesSayTheSame};
-ghost use Rattle.cif_calendar.specs.Source.{IsChosen, body_at};
 ghost use Rattle.cif_columns.specs.Sink.{Writes};
 ghost use Rattle.cif_extract.specs.ExtractParts.{extract_parts};
-ghost use Rattle.cif_weeks.specs.Runs.{AreSources};
 ghost use Rattle.cif_canon.specs.Comparison.{AreCompared, IsCompareFault, IsComparison};
 ghost use Rattle.cif_canon.specs.Comparison.{IsFirstDifference, comparison_line};
-ghost use Rattle.cif_canon.specs.Steps.Differences.{AreAlikeBy, AreComparable, FindsOther};
-ghost use Rattle.cif_canon.specs.Steps.Differences.{HasBodies, IsBodied};
+ghost use Rattle.cif_canon.specs.Steps.Differences.{AreComparable};
+ghost use Rattle.cif_canon.specs.Steps.Sides.{at_side};
 
-use crate::records::extract_runs;
+use crate::differing::{Extent, check_comparable, different_records};
+use crate::listed_differences::{Side, Sided};
 use crate::tiplocs::different_tiplocs;
 use arrayvec::ArrayString;
-use cif_calendar::{
-    Calendar, CalendarFault, Entry, Piece, Window, calendar, first_key, positions_by_key, same_body,
-};
+use cif_calendar::{Entry, Window};
 use cif_columns::{Day, Sink, Uid, WriteDevice, WriteFault, as_text};
 use cif_extract::{Clash, Extract, Fault};
 use cif_records::{AssocKey, Tiploc};
-use cif_weeks::Form;
+use cif_weeks::Run;
 use std::alloc::{AllocError, Global};
 use std::fmt;
 
@@ -109,22 +103,6 @@ pub fn compare(alloc: Global, left: &Extract, right: &Extract) -> Result<Compari
     }
 }
 
-/// Whether two extracts can be compared: they have one window, and neither has a clash in it.
-/// Otherwise the fault is that of `compare`.
-pub(crate) fn check_comparable(alloc: Global, left: &Extract, right: &Extract) -> Result<(), Fault>
-    ensures ok { OnOk result (AreComparable (extract_parts left.now) (extract_parts right.now)) }
-    ensures fault { IfErr result
-        (IsCompareFault (extract_parts left.now) (extract_parts right.now)) }
-{
-    if left.header.first != right.header.first || left.header.last != right.header.last {
-        return Err(Fault::WindowsDiffer);
-    }
-    // A clash is found where the runs are made.
-    extract_runs(alloc, left, Form::Two)?;
-    extract_runs(alloc, right, Form::Two)?;
-    Ok(())
-}
-
 /// How two clear extracts with one window compare.
 fn first_found<'x>(
     alloc: Global,
@@ -167,7 +145,7 @@ fn first_found<'x>(
 
 /// The first key, and its first date of the window, of which the two lists say different things: an
 /// entry with the key, and the date. Neither list has a clash in the window.
-pub(crate) fn first_difference<'a, E: Entry>(
+fn first_difference<'a, E: Entry>(
     alloc: Global,
     left: &'a [E],
     right: &'a [E],
@@ -181,126 +159,21 @@ pub(crate) fn first_difference<'a, E: Entry>(
         (λ it. IsFirstDifference E.Key.cmp (keyed E.key E.terms left.now) (keyed E.key E.terms right.now)
         window.now.first window.now.last (E.key it.0.now) it.1)) }
 {
-    let left_positions = positions_by_key(alloc, left)?;
-    let right_positions = positions_by_key(alloc, right)?;
-    let mut left_rest = left_positions.as_slice();
-    let mut right_rest = right_positions.as_slice();
-    while let Some(first) = first_key(left, left_rest, right, right_rest) {
-        let one = clear_calendar(alloc, left, first.left, window)?;
-        let other = clear_calendar(alloc, right, first.right, window)?;
-        if let Some(day) = first_day(left, &one, right, &other) {
-            return Ok(Some((first.entry, day)));
-        }
-        left_rest = first.left_later;
-        right_rest = first.right_later;
-    }
-    Ok(None)
-}
-
-/// The calendar of the entries at `members`, which have no clash in the window.
-pub(crate) fn clear_calendar<E: Entry>(
-    alloc: Global,
-    entries: &[E],
-    members: &[usize],
-    window: &Window,
-) -> Result<Calendar, AllocError>
-    requires within { All (λ i. i < length entries.now) members.now }
-    requires clear { IsClearFrom (IsChosen (map E.terms entries.now) members.now)
-        window.now.first window.now.last }
-    ensures { IfOk result (IsCalendar (map E.terms entries.now) members.now
-        window.now.first window.now.last) }
-{
-    match calendar(alloc, entries, members, *window) {
-        Ok(calendar) => Ok(calendar),
-        Err(CalendarFault::Memory) => Err(AllocError),
-        Err(CalendarFault::Ambiguous(_)) => unreachable!(),
+    let runs = different_records(alloc, left, right, window, Extent::FirstKey)?;
+    match runs.as_slice().first() {
+        None => Ok(None),
+        Some(first) => Ok(Some((entry_of(left, right, first), first.it.first))),
     }
 }
 
-/// The first day of their window on which the calendars have different bodies.
-pub(crate) fn first_day<E: Entry>(
-    left: &[E],
-    one: &Calendar,
-    right: &[E],
-    other: &Calendar,
-) -> Option<Day>
-    requires first { other.now.first ≡ one.now.first }
-    requires last { other.now.last ≡ one.now.last }
-    requires left { AreSources (map E.terms left.now) one.now }
-    requires right { AreSources (map E.terms right.now) other.now }
-    ensures { FindsOther (λ d. body_on (map E.terms left.now) one.now d
-        ≡ body_on (map E.terms right.now) other.now d) one.now.first one.now.last result }
+/// The entry of a run, which is one of its side.
+fn entry_of<'a, E: Entry>(left: &'a [E], right: &'a [E], run: &Sided<Run>) -> &'a E
+    requires { run.now.it.source < length (at_side left.now right.now run.now.side) }
+    ensures { HasKey (at_side (keyed E.key E.terms left.now) (keyed E.key E.terms right.now) run.now.side)
+        run.now.it.source (E.key result.now) }
 {
-    let window = one.window();
-    let mut first = window.first;
-    loop {
-        let piece = one.piece_on(first);
-        let peer = other.piece_on(first);
-        let last = earlier(piece.last, peer.last);
-        if let Some(day) = first_in_pieces(left, piece, right, peer, first, last) {
-            return Some(day);
-        }
-        match last.next_up_to(window.last) {
-            Some(next) => first = next,
-            None => return None,
-        }
-    }
-}
-
-/// The earlier of two days.
-pub(crate) fn earlier(one: Day, other: Day) -> Day
-    ensures one { result ≤ one }
-    ensures other { result ≤ other }
-    ensures latest { (d : ℕ) → d ≤ one → d ≤ other → d ≤ result }
-{
-    if one <= other { one } else { other }
-}
-
-/// The first of these days on which the pieces have different bodies.
-fn first_in_pieces<E: Entry>(
-    left: &[E],
-    piece: &Piece,
-    right: &[E],
-    peer: &Piece,
-    first: Day,
-    last: Day,
-) -> Option<Day>
-    requires in_order { first ≤ last }
-    requires left { HasBodies (map E.terms left.now) piece.now first last }
-    requires right { HasBodies (map E.terms right.now) peer.now first last }
-    ensures { FindsOther (AreAlikeBy (map E.terms left.now) piece.now
-        (map E.terms right.now) peer.now) first last result }
-{
-    let mut day = first;
-    for _ in 0..7u8 {
-        let weekday = usize::from(day.weekday());
-        if !have_same_body(left, piece.winners[weekday], right, peer.winners[weekday]) {
-            return Some(day);
-        }
-        match day.next_up_to(last) {
-            Some(next) => day = next,
-            None => return None,
-        }
-    }
-    // After seven days each weekday was seen.
-    None
-}
-
-/// Whether the entries at two sources have the same body, or there is none at both.
-pub(crate) fn have_same_body<E: Entry>(
-    left: &[E],
-    one: Option<usize>,
-    right: &[E],
-    other: Option<usize>,
-) -> bool
-    requires left { IsBodied (map E.terms left.now) one }
-    requires right { IsBodied (map E.terms right.now) other }
-    ensures { IsTrue result ↔ (body_at (map E.terms left.now) one
-        ≡ body_at (map E.terms right.now) other) }
-{
-    match (one, other) {
-        (Some(i), Some(j)) => same_body(&left[i], &right[j]),
-        (None, None) => true,
-        _ => false,
+    match run.side {
+        Side::Left => &left[run.it.source],
+        Side::Right => &right[run.it.source],
     }
 }

@@ -1,6 +1,9 @@
 //! What only one of two extracts says.
-ghost use Rattle.std.specs.Prelude.{◌≡◌, ◌↔◌, ◌+◌, ◌<◌, ◌≤◌, IfErr, IfOk, List, OnOk, length, map};
+ghost use Rattle.std.specs.Prelude.{◌≡◌, ◌↔◌, ◌+◌, ◌<◌, ◌≤◌, IfErr, IfOk, IsTrue, List, OnOk, All, length, map};
+ghost use Rattle.cif_calendar.specs.Calendar.{IsCalendar};
+ghost use Rattle.cif_calendar.specs.Clash.{IsClearFrom};
 ghost use Rattle.cif_calendar.specs.Keys.{AreClear, keyed};
+ghost use Rattle.cif_calendar.specs.Source.{IsChosen};
 ghost use Rattle.cif_extract.specs.ExtractParts.{extract_parts};
 ghost use Rattle.cif_weeks.specs.Runs.{AreSources};
 ghost use Rattle.cif_weeks.specs.declared.run.Run.{Run};
@@ -8,22 +11,22 @@ ghost use Rattle.cif_canon.specs.Asked.{header_window};
 ghost use Rattle.cif_canon.specs.Comparison.{IsCompareFault};
 ghost use Rattle.cif_canon.specs.Differences.{AreDifferences, AreNone, TurnLeftIntoRight};
 ghost use Rattle.cif_canon.specs.Meaning.{Agree};
-ghost use Rattle.cif_canon.specs.Steps.Differences.{HasBodies, IsBodied};
+ghost use Rattle.cif_canon.specs.Steps.Differences.{AreComparable};
 ghost use Rattle.cif_canon.specs.Steps.OnlySides.{AreAppendedRuns, AreDifferentRuns};
 ghost use Rattle.cif_canon.specs.Steps.OnlySides.{AreKeyDifferences, AreMerging, AreRisingRuns};
-ghost use Rattle.cif_canon.specs.Steps.OnlySides.{IsFirstSide, AreOnlyRuns, AreOnlyWinners};
-ghost use Rattle.cif_canon.specs.Steps.OnlySides.{IsOnlyCalendar, IsOnlySource};
+ghost use Rattle.cif_canon.specs.Steps.OnlySides.{IsFirstSide};
 ghost use Rattle.cif_weeks.specs.Window.{window_from};
+ghost use Rattle.cif_canon.specs.declared.differing.Extent.TheVariants.{FirstKey};
 ghost use Rattle.cif_canon.specs.declared.listed_differences.Sided.{Sided};
 
 use crate::Differences;
-use crate::comparison::{check_comparable, clear_calendar, earlier, first_day, have_same_body};
 use crate::listed_differences::{Side, Sided, push_next};
+use crate::only_days::{are_alike, only_runs};
+use crate::records::extract_runs;
 use crate::tiplocs::different_tiplocs;
-use cif_calendar::{Calendar, Entry, Piece, Window, first_key, positions_by_key};
-use cif_columns::Day;
+use cif_calendar::{Calendar, CalendarFault, Entry, Window, calendar, first_key, positions_by_key};
 use cif_extract::{Extract, Fault};
-use cif_weeks::{Form, Run, runs};
+use cif_weeks::{Form, Run};
 use std::alloc::{AllocError, Global};
 
 /// What only one of two extracts with one window says: its locations, and the canonical records, in
@@ -56,6 +59,7 @@ pub fn differences<'a>(
         left.associations.as_slice(),
         right.associations.as_slice(),
         &window,
+        Extent::AllKeys,
     ) else {
         return Err(Fault::Memory);
     };
@@ -64,10 +68,27 @@ pub fn differences<'a>(
         left.schedules.as_slice(),
         right.schedules.as_slice(),
         &window,
+        Extent::AllKeys,
     ) else {
         return Err(Fault::Memory);
     };
     Ok(Differences::of(left, right, tiplocs, associations, schedules))
+}
+
+/// Whether two extracts can be compared: they have one window, and neither has a clash in it.
+/// Otherwise the fault is that of `compare`.
+pub(crate) fn check_comparable(alloc: Global, left: &Extract, right: &Extract) -> Result<(), Fault>
+    ensures ok { OnOk result (AreComparable (extract_parts left.now) (extract_parts right.now)) }
+    ensures fault { IfErr result
+        (IsCompareFault (extract_parts left.now) (extract_parts right.now)) }
+{
+    if left.header.first != right.header.first || left.header.last != right.header.last {
+        return Err(Fault::WindowsDiffer);
+    }
+    // A clash is found where the runs are made.
+    extract_runs(alloc, left, Form::Two)?;
+    extract_runs(alloc, right, Form::Two)?;
+    Ok(())
 }
 
 /// The side of the run that comes first by its first date, and the left one where the dates are the
@@ -123,31 +144,70 @@ fn push_differences<E: Entry>(
     ensures { OnOk result (AreKeyDifferences (map E.terms left.now) one.now
         (map E.terms right.now) other.now found.old.items found.new.items) }
 {
-    match first_day(left, one, right, other) {
-        // Most keys have no difference, and need no further lists.
-        None => Ok(()),
-        Some(_) => {
-            let lefts = only_runs(alloc, left, one, right, other)?;
-            let rights = only_runs(alloc, right, other, left, one)?;
-            push_merged(found, lefts.as_slice(), rights.as_slice())
-        }
+    // Most keys have no difference, and need no further lists.
+    if are_alike(left, one, right, other) {
+        return Ok(());
+    }
+    let lefts = only_runs(alloc, left, one, right, other)?;
+    let rights = only_runs(alloc, right, other, left, one)?;
+    push_merged(found, lefts.as_slice(), rights.as_slice())
+}
+
+/// The calendar of the entries at `members`, which have no clash in the window.
+fn clear_calendar<E: Entry>(
+    alloc: Global,
+    entries: &[E],
+    members: &[usize],
+    window: &Window,
+) -> Result<Calendar, AllocError>
+    requires within { All (λ i. i < length entries.now) members.now }
+    requires clear { IsClearFrom (IsChosen (map E.terms entries.now) members.now)
+        window.now.first window.now.last }
+    ensures { IfOk result (IsCalendar (map E.terms entries.now) members.now
+        window.now.first window.now.last) }
+{
+    match calendar(alloc, entries, members, *window) {
+        Ok(calendar) => Ok(calendar),
+        Err(CalendarFault::Memory) => Err(AllocError),
+        Err(CalendarFault::Ambiguous(_)) => unreachable!(),
+    }
+}
+
+/// How far two lists are compared.
+#[derive(Clone, Copy)]
+pub(crate) enum Extent {
+    /// Up to the first key of which they say different things.
+    FirstKey,
+    /// To the end.
+    AllKeys,
+}
+
+/// Whether the runs are those of enough keys.
+fn is_enough(extent: Extent, runs: &[Sided<Run>]) -> bool
+    ensures { IsTrue result ↔ ((extent ≡ FirstKey) × (0 < length runs.now)) }
+{
+    match extent {
+        Extent::FirstKey => !runs.is_empty(),
+        Extent::AllKeys => false,
     }
 }
 
 /// The runs of the canonical records, in form 2, of what only one of the two lists says, by key and
-/// then first date, left before right. The source of a run is the position of an entry of its side,
-/// with the record's key and body. Neither list has a clash in the window.
+/// then first date, left before right: those of all keys, or of the first that has any. The source of
+/// a run is the position of an entry of its side, with the record's key and body. Neither list has a
+/// clash in the window.
 pub(crate) fn different_records<E: Entry>(
     alloc: Global,
     left: &[E],
     right: &[E],
     window: &Window,
+    extent: Extent,
 ) -> Result<Vec<Sided<Run>>, AllocError>
     requires left { AreClear (keyed E.key E.terms left.now) window.now.first window.now.last }
     requires right { AreClear (keyed E.key E.terms right.now) window.now.first window.now.last }
     ensures { IfOk result (λ runs. AreDifferentRuns E.Key.cmp
         (window_from window.now.first window.now.last)
-        (keyed E.key E.terms left.now) (keyed E.key E.terms right.now) runs.items) }
+        (keyed E.key E.terms left.now) (keyed E.key E.terms right.now) extent runs.items) }
 {
     let left_positions = positions_by_key(alloc, left)?;
     let right_positions = positions_by_key(alloc, right)?;
@@ -158,115 +218,11 @@ pub(crate) fn different_records<E: Entry>(
         let one = clear_calendar(alloc, left, first.left, window)?;
         let other = clear_calendar(alloc, right, first.right, window)?;
         push_differences(alloc, &mut found, left, &one, right, &other)?;
+        if is_enough(extent, found.as_slice()) {
+            return Ok(found);
+        }
         left_rest = first.left_later;
         right_rest = first.right_later;
     }
     Ok(found)
-}
-
-/// The source `one`, or none where the other one has the same body.
-fn only_source<E: Entry>(
-    entries: &[E],
-    one: Option<usize>,
-    others: &[E],
-    other: Option<usize>,
-) -> Option<usize>
-    requires left { IsBodied (map E.terms entries.now) one }
-    requires right { IsBodied (map E.terms others.now) other }
-    ensures { IsOnlySource (map E.terms entries.now) (map E.terms others.now) one other result }
-{
-    if have_same_body(entries, one, others, other) {
-        None
-    } else {
-        one
-    }
-}
-
-/// The winners of the piece on these days, without those of whose body the other piece has too.
-fn only_winners<E: Entry>(
-    entries: &[E],
-    piece: &Piece,
-    others: &[E],
-    peer: &Piece,
-    first: Day,
-    last: Day,
-) -> [Option<usize>; 7]
-    requires in_order { first ≤ last }
-    requires left { HasBodies (map E.terms entries.now) piece.now first last }
-    requires right { HasBodies (map E.terms others.now) peer.now first last }
-    ensures { AreOnlyWinners (map E.terms entries.now) (map E.terms others.now)
-        piece.now peer.now first last result }
-{
-    let mut winners = [None; 7];
-    let mut day = first;
-    for _ in 0..7u8 {
-        let weekday = usize::from(day.weekday());
-        let winner = only_source(
-            entries,
-            piece.winners[weekday],
-            others,
-            peer.winners[weekday],
-        );
-        winners[weekday] = winner;
-        match day.next_up_to(last) {
-            Some(next) => day = next,
-            None => return winners,
-        }
-    }
-    winners
-}
-
-/// The calendar `one`, without the dates on which the other one has the same body.
-fn only_calendar<E: Entry>(
-    alloc: Global,
-    entries: &[E],
-    one: &Calendar,
-    others: &[E],
-    other: &Calendar,
-) -> Result<Calendar, AllocError>
-    requires first { other.now.first ≡ one.now.first }
-    requires last { other.now.last ≡ one.now.last }
-    requires left { AreSources (map E.terms entries.now) one.now }
-    requires right { AreSources (map E.terms others.now) other.now }
-    ensures { IfOk result (IsOnlyCalendar (map E.terms entries.now) one.now
-        (map E.terms others.now) other.now) }
-{
-    let window = one.window();
-    let mut pieces = Vec::new(alloc);
-    let mut first = window.first;
-    loop {
-        let piece = one.piece_on(first);
-        let peer = other.piece_on(first);
-        let last = earlier(piece.last, peer.last);
-        let winners = only_winners(entries, piece, others, peer, first, last);
-        pieces.push(Piece {
-            first,
-            last,
-            winners,
-        })?;
-        match last.next_up_to(window.last) {
-            Some(next) => first = next,
-            None => return Ok(Calendar::new(window, pieces)),
-        }
-    }
-}
-
-/// The runs of the canonical records, in form 2, of what only the calendar `one` says.
-pub(crate) fn only_runs<E: Entry>(
-    alloc: Global,
-    entries: &[E],
-    one: &Calendar,
-    others: &[E],
-    other: &Calendar,
-) -> Result<Vec<Run>, AllocError>
-    requires first { other.now.first ≡ one.now.first }
-    requires last { other.now.last ≡ one.now.last }
-    requires left { AreSources (map E.terms entries.now) one.now }
-    requires right { AreSources (map E.terms others.now) other.now }
-    ensures runs { IfOk result (λ runs. AreOnlyRuns (map E.terms entries.now) one.now
-        (map E.terms others.now) other.now runs.items) }
-    ensures rising { IfOk result (λ runs. AreRisingRuns runs.items) }
-{
-    let only = only_calendar(alloc, entries, one, others, other)?;
-    runs(alloc, entries, &only, Form::Two)
 }

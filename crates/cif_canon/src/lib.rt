@@ -9,6 +9,7 @@ mod differing;
 pub mod laws;
 mod listed_differences;
 mod normal_form;
+mod only_days;
 mod pair;
 mod records;
 pub mod rows;

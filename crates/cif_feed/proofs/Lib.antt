@@ -27,3 +27,14 @@ pub mod WrittenItems
 pub mod ListSteps
 pub mod DroppedKeys
 pub mod CutCounts
+pub mod KnownLines
+pub mod OwnLines
+pub mod OwnParts
+pub mod PublishedLines
+pub mod PublishedTexts
+pub mod StillLines
+pub mod FittingUpdates
+pub mod UpdatesInTurn
+pub mod PreparedFits
+pub mod WrittenOver
+pub mod FeedLayouts

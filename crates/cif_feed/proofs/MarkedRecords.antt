@@ -16,9 +16,9 @@ use Rattle.cif_columns.proofs.DayColumns.{yymmdd_in-stands}
 use Rattle.cif_columns.proofs.DayDigits.{stands-yymmdd_of}
 use Rattle.cif_extract.specs.BodyParts.{extra_records}
 use Rattle.cif_extract.specs.Call.{call_record}
-use Rattle.cif_extract.specs.ExtractParts.{ExtractParts, extract_parts}
+use Rattle.cif_extract.specs.ExtractParts.{ExtractParts}
 use Rattle.cif_extract.specs.Grammar.{AreExtract, AreJourney, AreSchedule, AreSchedules, HaveBody, records_before_trailer}
-use Rattle.cif_extract.specs.SpellsExtract.{SpellAll}
+use Rattle.cif_extract.specs.SpellsExtract.{SpellAll, SpellExtract}
 use Rattle.cif_extract.specs.declared.call.Call.{Call}
 use Rattle.cif_extract.specs.declared.call.Call.TheVariants.{At, Turn}
 use Rattle.cif_extract.specs.declared.extract.Schedule.{Schedule}
@@ -41,7 +41,7 @@ use Rattle.cif_feed.specs.LastDay.{last_day}
 use Rattle.cif_feed.specs.ProfileLine.{association_mark, closed, code_of, is_note, is_open, is_record_line, marks, profile_line}
 use Rattle.cif_feed.specs.ProfileLine.{profile_line_by, profile_lines, schedule_mark, ta_line, ti_line, tiploc_mark, update_association_by}
 use Rattle.cif_feed.specs.ProfileLine.{update_basic_by, with_columns, without_code}
-use Rattle.cif_feed.specs.SpellsFeed.{feed_parts}
+use Rattle.cif_feed.specs.SpellsFeed.{FeedParts, SpellFeed, feed_parts}
 use Rattle.cif_feed.specs.Steps.FeedReading.{IsFeedHeld}
 use Rattle.cif_feed.specs.FromLines.{ArePairs}
 use Rattle.cif_feed.specs.Steps.Marked.{HasMarks, IsClosed, last_of_association, last_of_schedule}
@@ -120,10 +120,10 @@ module _ {A : Type 0} (f : Record → List A) (quiet : IsQuiet f) where
 
 -- ---- an open end
 
-last_stands : StandsInYymmdd (yymmdd_of last_day) last_day
+pub last_stands : StandsInYymmdd (yymmdd_of last_day) last_day
 last_stands = stands-yymmdd_of last_day (lit< tt)
 
-last_wide : length (yymmdd_of last_day) ≡ 6
+pub last_wide : length (yymmdd_of last_day) ≡ 6
 last_wide = ap length last_stands.spelled
 
 -- columns that are those of the last day name it
@@ -163,7 +163,7 @@ code_leaves (Some code) l long =
     ∙ ap (take 6) (drop-take 15 13 l) ∙ take-take 6 13 (drop 15 l) (omega arith)
 
 -- the lines keep their widths
-wide_still : (first : ℕ) (d l : List ℕ) → 1 ≤ first → first - 1 + length d ≤ length l → length (with_columns first d l) ≡ length l
+pub wide_still : (first : ℕ) (d l : List ℕ) → 1 ≤ first → first - 1 + length d ≤ length l → length (with_columns first d l) ≡ length l
 unfolding with_columns
 wide_still first d l from within =
     omega (
@@ -175,7 +175,7 @@ wide_still first d l from within =
       within,
     )
 
-wide_closed : (first : ℕ) (l : List ℕ) → 1 ≤ first → first + 5 ≤ length l → length (closed first l) ≡ length l
+pub wide_closed : (first : ℕ) (l : List ℕ) → 1 ≤ first → first + 5 ≤ length l → length (closed first l) ≡ length l
 wide_closed first l from within = at (is_open first l)
   where
     at : (b : Bool) → length (cond b (with_columns first (yymmdd_of last_day) l) l) ≡ length l
@@ -360,7 +360,7 @@ module _ (feed : Feed) (allowed : HolidayCodes) where
         schedules = marked_both _ (of_one schedule_mark n) _ (basic_of r) _ one.schedules more.schedules;
       }
 
-record_lines : (cs : List (List ℕ)) → All IsFeedContent cs → All IsLine (filter is_record_line cs)
+pub record_lines : (cs : List (List ℕ)) → All IsFeedContent cs → All IsLine (filter is_record_line cs)
 record_lines [] are = All-nil IsLine
 record_lines (c ∷ cs) are =
     at (is_comment c) (is_note c) refl (All-head IsFeedContent c cs are) (record_lines cs (All-tail IsFeedContent c cs are))
@@ -450,12 +450,18 @@ module _ {B : Type 0} (f : Record → List B) (header : (x : Header) → f (of.H
 
 -- ---- what a published extract holds
 
-pub marks_fit : (feed : Feed) (allowed : HolidayCodes) (cs : List (List ℕ)) (x : FeedExtract) → All IsFeedContent cs
-    → IsFeedHeld feed allowed cs x → HasMarks (feed_parts x)
-marks_fit feed allowed cs x are_contents s =
+record IsMarkedAs (feed : Feed) (allowed : HolidayCodes) (cs : List (List ℕ)) (x : FeedParts) : Type 0 where
+  extract : SpellExtract (profile_lines feed allowed cs) x.extract
+  tiploc_marks : x.tiploc_marks ≡ marks tiploc_mark feed allowed cs
+  association_marks : x.association_marks ≡ marks association_mark feed allowed cs
+  schedule_marks : x.schedule_marks ≡ marks schedule_mark feed allowed cs
+
+have_marks : (feed : Feed) (allowed : HolidayCodes) (cs : List (List ℕ)) (x : FeedParts) → All IsFeedContent cs
+    → IsMarkedAs feed allowed cs x → HasMarks x
+have_marks feed allowed cs x are_contents s =
     let rs = s.extract.records in
     let are = s.extract.are in
-    let e = extract_parts x.extract in
+    let e = x.extract in
     let ns = filter (λ (n : ℕ × List ℕ). is_record_line n.1) (enumerate_from 1 cs) in
     let same = enumerate_filter is_record_line 1 cs in
     let all = fit_all feed allowed ns (subst (All IsLine) (sym same) (record_lines cs are_contents)) rs
@@ -488,6 +494,23 @@ marks_fit feed allowed cs x are_contents s =
           (groups_marked (marks schedule_mark feed allowed cs) are.schedules e.schedules are.are_schedules
           (subst (AreMarked (λ (b : Basic). b.last) (marks schedule_mark feed allowed cs)) basics all.schedules));
     }
+
+pub marks_spelled : (feed : Feed) (allowed : HolidayCodes) (cs : List (List ℕ)) (x : FeedParts) → SpellFeed feed allowed cs x → HasMarks x
+marks_spelled feed allowed cs x s = have_marks feed allowed cs x s.are_contents (record {
+  extract = s.extract;
+  tiploc_marks = s.tiploc_marks;
+  association_marks = s.association_marks;
+  schedule_marks = s.schedule_marks;
+})
+
+pub marks_fit : (feed : Feed) (allowed : HolidayCodes) (cs : List (List ℕ)) (x : FeedExtract) → All IsFeedContent cs
+    → IsFeedHeld feed allowed cs x → HasMarks (feed_parts x)
+marks_fit feed allowed cs x are_contents s = have_marks feed allowed cs (feed_parts x) are_contents (record {
+  extract = s.extract;
+  tiploc_marks = s.tiploc_marks;
+  association_marks = s.association_marks;
+  schedule_marks = s.schedule_marks;
+})
 
 pub marked_result : (feed : Feed) (allowed : HolidayCodes) (max : ℕ) (cs : List (List ℕ)) → NoneOfFeedRefused feed allowed max cs
     → (result : Result FeedExtract FeedFault) → IfOk result (IsFeedHeld feed allowed cs) → IfOk result (λ x. HasMarks (feed_parts x))

@@ -11,7 +11,7 @@ use Rattle.cif_feed.specs.FeedFault.{IsReadAs}
 use Rattle.cif_feed.specs.FromLines.{AreTriples}
 use Rattle.cif_feed.specs.LastDay.{last_day}
 use Rattle.cif_feed.specs.PublishedParts.{BytesSpellPublished, IsPublishedAssociation, IsPublishedSchedule, PublishedParts, SayPublished}
-use Rattle.cif_feed.specs.PublishedParts.{published_parts}
+use Rattle.cif_feed.specs.PublishedParts.{SpellPublished, published_parts}
 use Rattle.cif_feed.specs.SpellsFeed.{BytesSpellFeed, FeedParts, feed_parts}
 use Rattle.cif_feed.specs.declared.feed.Feed.TheVariants.{Full}
 use Rattle.cif_feed.specs.declared.feed.FeedFault.{FeedFault}
@@ -21,6 +21,7 @@ use Rattle.cif_feed.specs.declared.holiday_code.HolidayCodes.{HolidayCodes}
 use Rattle.cif_feed.specs.declared.published.PublishedAssociation.{PublishedAssociation}
 use Rattle.cif_feed.specs.declared.published.PublishedSchedule.{PublishedSchedule}
 use Rattle.cif_feed.specs.declared.published_extract.PublishedExtract.{PublishedExtract}
+use Rattle.cif_feed.proofs.SpelledFeeds.{one_feed}
 
 -- ---- one at most
 
@@ -70,6 +71,12 @@ one_said lines p q s t =
     (same_triples IsPublishedSchedule
     (λ x y z w a b. same_schedule z w (a.of_profile ∙ sym b.of_profile) (a.open_end ∙ sym b.open_end) (a.code ∙ sym b.code)) _ _
     p.schedules q.schedules s.schedules t.schedules)
+
+pub one_published : (allowed : HolidayCodes) (cs : List (List ℕ)) (p q : PublishedParts) → SpellPublished allowed cs p → SpellPublished allowed cs q
+    → p ≡ q
+one_published allowed cs p q s t =
+    let same = one_feed Full allowed 0 cs s.lines t.lines s.spelled t.spelled in
+    one_said s.lines p q s.says (subst (λ l. SayPublished l q) (sym same) t.says)
 
 -- ---- what is read
 

@@ -7,7 +7,7 @@ use Rattle.cif_feed.specs.FeedFault.{IsReadAs}
 use Rattle.cif_feed.specs.HolidayCode.{all_codes}
 use Rattle.cif_feed.specs.SpellsFeed.{BytesSpellFeed, FeedParts, SpellFeed, feed_parts}
 use Rattle.cif_feed.specs.UpdateParts.{AssociationKey, BytesSpellUpdate, IsAssociationChange, IsScheduleChange, SayUpdate, ScheduleKey}
-use Rattle.cif_feed.specs.UpdateParts.{UpdateParts, change_by, update_parts}
+use Rattle.cif_feed.specs.UpdateParts.{SpellUpdate, UpdateParts, change_by, update_parts}
 use Rattle.cif_feed.specs.declared.changes.Change.{Change}
 use Rattle.cif_feed.specs.declared.feed.Feed.TheVariants as feed
 use Rattle.cif_feed.specs.declared.feed.FeedFault.{FeedFault}
@@ -17,6 +17,7 @@ use Rattle.cif_feed.specs.declared.published.PublishedAssociation.{PublishedAsso
 use Rattle.cif_feed.specs.declared.published.PublishedSchedule.{PublishedSchedule}
 use Rattle.cif_feed.specs.declared.update.Update.{Update}
 use Rattle.cif_feed.proofs.SaidPublished.{same_association, same_schedule, same_triples}
+use Rattle.cif_feed.proofs.SpelledFeeds.{one_feed}
 
 one_said : (lines : FeedParts) (p q : UpdateParts) → SayUpdate lines p → SayUpdate lines q → p ≡ q
 one_said lines p q s t =
@@ -32,6 +33,11 @@ one_said lines p q s t =
     (λ x y z w a b. a.change ∙ ap (change_by y.mark.transaction y.number (x.uid, x.first, y.mark.letter))
     (same_schedule a.published b.published (a.is.of_profile ∙ sym b.is.of_profile) (a.is.open_end ∙ sym b.is.open_end)
     (a.is.code ∙ sym b.is.code)) ∙ sym b.change) _ _ p.schedules q.schedules s.schedules t.schedules)
+
+pub one_update : (cs : List (List ℕ)) (u v : UpdateParts) → SpellUpdate cs u → SpellUpdate cs v → u ≡ v
+one_update cs u v s t =
+    let same = one_feed feed.Update all_codes 0 cs s.lines t.lines s.spelled t.spelled in
+    one_said s.lines u v s.says (subst (λ l. SayUpdate l v) (sym same) t.says)
 
 -- ---- what is read
 

@@ -42,7 +42,7 @@ same_parts a b e t aa s c =
 
 module _ (feed : Feed) (allowed : HolidayCodes) (max : ℕ) where
   -- contents spell one at most
-  one_feed : (cs : List (List ℕ)) (x y : FeedParts) → SpellFeed feed allowed cs x → SpellFeed feed allowed cs y → x ≡ y
+  pub one_feed : (cs : List (List ℕ)) (x y : FeedParts) → SpellFeed feed allowed cs x → SpellFeed feed allowed cs y → x ≡ y
   one_feed cs x y p q =
       same_parts x y (one_extract (profile_lines feed allowed cs) x.extract y.extract p.extract q.extract) (p.tiploc_marks ∙ sym q.tiploc_marks)
       (p.association_marks ∙ sym q.association_marks) (p.schedule_marks ∙ sym q.schedule_marks) (p.passed ∙ sym q.passed)
@@ -123,7 +123,7 @@ module _ (feed : Feed) (allowed : HolidayCodes) (max : ℕ) where
     spelled_whole f s t =
         spelled_trailer (profile_lines feed allowed cs) x.extract s.extract (profile_no_trailers cs s.are_contents t.no_trailer)
 
-    spelled_first : (f : FeedFault) → SpellFeed feed allowed cs x → IsFirstOfFeed feed allowed max cs f → ⊥
+    pub spelled_first : (f : FeedFault) → SpellFeed feed allowed cs x → IsFirstOfFeed feed allowed max cs f → ⊥
     spelled_first f s = ⊎_elim (spelled_refused f s) (spelled_whole f s)
 
   -- what is answered, by what the answers say of the bytes

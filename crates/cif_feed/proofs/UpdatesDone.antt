@@ -22,7 +22,7 @@ one_refused : {K R : Type 0} (key : R → K) (old : List R) (changes : List (Cha
 one_refused key old changes p q a b =
     a.are ∙ refusals-alike a.same b.same (same_alike a.same b.same a.tells b.tells) (with_keys key old) (changes_of key changes) ∙ sym b.are
 
-one_list : (u : UpdateParts) (old : PublishedParts) (p q : List RefusedLine) → AreRefusedLines u old p → AreRefusedLines u old q → p ≡ q
+pub one_list : (u : UpdateParts) (old : PublishedParts) (p q : List RefusedLine) → AreRefusedLines u old p → AreRefusedLines u old q → p ≡ q
 one_list u old p q a b =
     a.are
     ∙ ap (λ l. told_once 0 (l ++ (a.associations ++ a.schedules))) (one_refused _ old.tiplocs u.tiplocs a.tiplocs b.tiplocs a.of_tiplocs b.of_tiplocs)

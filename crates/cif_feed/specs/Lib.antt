@@ -11,6 +11,8 @@ pub mod HolidayText
 pub mod Holidays
 pub mod Judged
 pub mod LastDay
+pub mod LayoutRefusals
+pub mod OfProfile
 pub mod PublishedParts
 pub mod Parts
 pub mod Prepared
@@ -25,4 +27,6 @@ pub mod ProfileLine
 pub mod Transaction
 pub mod UpdateParts
 pub mod Updated
+pub mod UpdatesInTurn
 pub mod Words
+pub mod WrittenExtracts

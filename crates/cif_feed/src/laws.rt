@@ -1,5 +1,5 @@
-//! Laws: what a prepared extract and an update say.
-ghost use Rattle.std.specs.Prelude.{◌≡◌, ◌↔◌, ◌≤◌, ◌++◌, ℕ, Bool, List, Option, None, Contains};
+//! Laws: which published extract and which update bytes spell, and what a prepared extract and an update say.
+ghost use Rattle.std.specs.Prelude.{◌≡◌, ◌↔◌, ◌≤◌, ◌++◌, ℕ, Bool, List, Option, None, Contains, false, length};
 ghost use Rattle.cif_calendar.specs.Applies.{Applies};
 ghost use Rattle.cif_calendar.specs.Clash.{IsClear};
 ghost use Rattle.cif_calendar.specs.Entries.{association_entries, schedule_entries};
@@ -18,6 +18,31 @@ ghost use Rattle.cif_feed.specs.PreparedParts.{IsPrepared};
 ghost use Rattle.cif_feed.specs.Published.{AppliesAsPublished, CountOn, PublishedTerms};
 ghost use Rattle.cif_feed.specs.PublishedParts.{PublishedParts, published_associations, published_schedules};
 ghost use Rattle.cif_feed.specs.LastDay.{last_day};
+ghost use Rattle.cif_extract.specs.SpellsExtract.{BytesSpellWithin};
+ghost use Rattle.cif_columns.specs.Contents.{contents_of};
+ghost use Rattle.cif_extract.specs.Texts.{FitsColumns};
+ghost use Rattle.cif_feed.specs.HolidayCode.{all_codes};
+ghost use Rattle.cif_feed.specs.OfProfile.{as_published, of_profile};
+ghost use Rattle.cif_feed.specs.PublishedParts.{BytesSpellPublished, SpellPublished};
+ghost use Rattle.cif_feed.specs.PublishedParts.{published_lines, published_text};
+ghost use Rattle.cif_feed.specs.UpdateParts.{BytesSpellUpdate};
+ghost use Rattle.cif_feed.specs.Updated.{IsUpdated};
+ghost use Rattle.cif_feed.specs.UpdatesInTurn.{IsRefused, IsWritten};
+ghost use Rattle.cif_columns.specs.Line.{IsLine};
+ghost use Rattle.cif_extract.specs.OrderOfRecords.{place_behind};
+ghost use Rattle.cif_records.specs.Kind.{kind_in};
+ghost use Rattle.cif_records.specs.Record.{record_refusal};
+ghost use Rattle.cif_feed.specs.FeedRefusal.{line_refusal};
+ghost use Rattle.cif_feed.specs.LayoutRefusals.{feed_refusal_as, refusal_at};
+ghost use Rattle.cif_feed.specs.ProfileLine.{is_note, profile_line, profile_lines};
+ghost use Rattle.cif_feed.specs.declared.feed.Feed.{Feed};
+ghost use Rattle.cif_feed.specs.WrittenExtracts.{CodesMayStand};
+ghost use Rattle.cif_feed.specs.declared.changes.RefusedLine.{RefusedLine};
+ghost use Rattle.cif_feed.specs.declared.feed.FeedFault.{FeedFault};
+ghost use Rattle.cif_extract.specs.SpellsExtract.{BytesSpell};
+ghost use Rattle.cif_extract.specs.Texts.{extract_text};
+ghost use Rattle.cif_feed.specs.UpdateParts.{SpellUpdate, UpdateParts};
+ghost use Rattle.cif_feed.specs.declared.holiday_code.HolidayCodes.{HolidayCodes};
 ghost use Rattle.cif_feed.specs.declared.holiday_code.HolidayCode.{HolidayCode};
 ghost use Rattle.cif_feed.specs.declared.holidays.Holidays.{Holidays};
 ghost use Rattle.cif_feed.specs.declared.part.Part.{Part};
@@ -101,4 +126,89 @@ pub fn dropped_extracts_are_clear()
     ensures trains { (old new : ExtractParts) (clashes : List Clash) → AreDropped old clashes new
         → AreClearWithout (IsToldTrain clashes) old.header.first old.header.last
         (schedule_entries old.schedules) (schedule_entries new.schedules) }
+{}
+
+/// Contents spell one published extract at most, and one update.
+pub fn contents_spell_one_feed()
+    ensures published { (allowed : HolidayCodes) (contents : List (List ℕ)) (p q : PublishedParts)
+        → SpellPublished allowed contents p → SpellPublished allowed contents q → p ≡ q }
+    ensures update { (contents : List (List ℕ)) (u v : UpdateParts)
+        → SpellUpdate contents u → SpellUpdate contents v → u ≡ v }
+{}
+
+/// An extract of this profile is a published extract too, and prepares to itself, whatever the holidays are.
+pub fn extracts_of_this_profile_prepare_to_themselves()
+    // Bytes that spell it spell it as a published extract, whatever holiday codes may stand: no end of it is
+    // open, and it has no holiday code.
+    ensures published { (allowed : HolidayCodes) (max : ℕ) (bytes : List ℕ) (x : ExtractParts)
+        → BytesSpellWithin max bytes x → BytesSpellPublished allowed max bytes (as_published x) }
+    // It is its prepared extract, and no other is: the same records in the same order.
+    ensures prepared { (h : Holidays) (x y : ExtractParts)
+        → IsPrepared h (as_published x) y ↔ (y ≡ x) }
+{}
+
+/// The text of a published extract spells it, with its open ends and holiday codes, where what it says
+/// fits the columns of lines: as what contents spell does.
+pub fn published_texts_spell_their_extracts()
+    ensures fits { (allowed : HolidayCodes) (contents : List (List ℕ)) (p : PublishedParts)
+        → SpellPublished allowed contents p → FitsColumns (of_profile p) }
+    // Its holiday codes have to be among those that may stand,
+    ensures spells { (allowed : HolidayCodes) (max : ℕ) (p : PublishedParts)
+        → FitsColumns (of_profile p) → CodesMayStand allowed p.schedules → length (published_lines p) ≤ max
+        → BytesSpellPublished allowed max (published_text p) p }
+    // which an update allows all.
+    ensures any_codes { (p : PublishedParts) → CodesMayStand all_codes p.schedules }
+    ensures lines { (p : PublishedParts) → FitsColumns (of_profile p)
+        → contents_of (published_text p) ≡ published_lines p }
+    // What an update leaves fits the columns of lines too.
+    ensures updated { (max : ℕ) (bytes : List ℕ) (u : UpdateParts) (old new : PublishedParts)
+        → BytesSpellUpdate max bytes u → IsUpdated u old new
+        → FitsColumns (of_profile old) → FitsColumns (of_profile new) }
+{}
+
+/// Updates that are done one after another are done in one run as in two: in the second, to what the first
+/// wrote. All runs are lenient, or none is.
+pub fn updates_in_turn()
+    // A run with the updates of both writes and waives what the second writes and waives, where what the first
+    // wrote isn't too long to be read.
+    ensures written { (lenient : Bool) (max : ℕ) (full : List ℕ) (first second : List (List ℕ))
+        (between : List ℕ) (waived : List RefusedLine)
+        → IsWritten lenient max full first between waived → length (contents_of between) ≤ max
+        → (written : List ℕ) (later : List RefusedLine)
+        → IsWritten lenient max full (first ++ second) written (waived ++ later)
+        ↔ IsWritten lenient max between second written later }
+    // It is refused for what the second is refused for.
+    ensures refused { (lenient : Bool) (max : ℕ) (full : List ℕ) (first second : List (List ℕ))
+        (between : List ℕ) (waived : List RefusedLine)
+        → IsWritten lenient max full first between waived → length (contents_of between) ≤ max
+        → (fault : FeedFault)
+        → IsRefused lenient max full (first ++ second) fault ↔ IsRefused lenient max between second fault }
+    // A run writes and waives one thing at most, and nothing, if it is refused.
+    ensures one { (lenient : Bool) (max : ℕ) (full : List ℕ) (updates : List (List ℕ))
+        (a b : List ℕ) (v w : List RefusedLine)
+        → IsWritten lenient max full updates a v → IsWritten lenient max full updates b w
+        → (a ≡ b) × (v ≡ w) }
+    ensures either { (lenient : Bool) (max : ℕ) (full : List ℕ) (updates : List (List ℕ))
+        (written : List ℕ) (waived : List RefusedLine) (fault : FeedFault)
+        → IsWritten lenient max full updates written waived → IsRefused lenient max full updates fault → ⊥ }
+{}
+
+/// The text of a prepared extract spells it, as an extract of this profile, where what the published one
+/// says fits the columns of lines.
+pub fn prepared_texts_spell_extracts()
+    ensures fits { (h : Holidays) (p : PublishedParts) (x : ExtractParts)
+        → FitsColumns (of_profile p) → IsPrepared h p x → FitsColumns x }
+    ensures spells { (h : Holidays) (p : PublishedParts) (x : ExtractParts)
+        → FitsColumns (of_profile p) → IsPrepared h p x → BytesSpell (extract_text x) x }
+{}
+
+/// A line of a feed is refused for the first of its fields that may not stand in its columns, as the layouts
+/// have them: that its profile line is judged in its place changes nothing.
+pub fn lines_are_refused_by_their_layouts()
+    ensures record { (feed : Feed) (allowed : HolidayCodes) (line : List ℕ) → IsLine line
+        → record_refusal (profile_line feed allowed line).line ≡ feed_refusal_as feed allowed (kind_in line) line }
+    // Before that it is refused where its kind may not stand. A note is refused for its place alone.
+    ensures place { (feed : Feed) (allowed : HolidayCodes) (before : List (List ℕ)) (line : List ℕ) → IsLine line
+        → is_note line ≡ false → line_refusal feed allowed before line
+        ≡ refusal_at feed allowed (place_behind (profile_lines feed allowed before)) line }
 {}

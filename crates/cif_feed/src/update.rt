@@ -224,6 +224,8 @@ pub struct UpdateCounts {
     pub revised: u64,
     /// The TD, and the AA and BS with D.
     pub taken_out: u64,
+    /// Those that have an open end.
+    pub open_ends: u64,
 }
 
 impl UpdateCounts {
@@ -237,17 +239,24 @@ impl UpdateCounts {
             put: 0,
             revised: 0,
             taken_out: 0,
+            open_ends: 0,
         };
         for tiploc in tiplocs {
             counts.add(tiploc.mark.transaction);
         }
         for association in associations {
-            counts.add(association.mark.transaction);
+            counts.add_record(&association.mark);
         }
         for schedule in schedules {
-            counts.add(schedule.mark.transaction);
+            counts.add_record(&schedule.mark);
         }
         counts
+    }
+
+    /// Counts an AA or a BS with this mark.
+    fn add_record(&mut self, mark: &RecordMark) {
+        self.add(mark.transaction);
+        self.open_ends = self.open_ends.saturating_add(u64::from(mark.open_end));
     }
 
     /// Counts a line with this transaction.

@@ -69,9 +69,10 @@ without_filled id rows f = changed_filled id (λ r. []) [] (λ r h. tt) tt rows 
 
 -- ---- one use of an argument
 
--- a use sets one value or more, or that of a flag, or it asks for help
+-- a use sets or adds one value or more, or sets that of a flag, or it asks for help
 abbrev pub IsPlainAction : ArgAction → Rule → Type 0
 IsPlainAction Set a = (unwrap_or_range a.range).start_inclusive ≡ 1
+IsPlainAction Append a = (unwrap_or_range a.range).start_inclusive ≡ 1
 IsPlainAction SetTrue a = is_some (slice_get a.missing 0) ≡ true
 IsPlainAction Help a = ⊤
 IsPlainAction _ a = ⊥
@@ -93,11 +94,13 @@ used_by : (x : ArgAction) (a : Rule) (values : List Text) (rows : List Row) → 
 used_by Set a [] rows one few f =
     absurd (no_values (most_values a) (subst (λ (n : ℕ). range_kinds n (most_values a) 0 ≡ []) one few))
 used_by Set a (v ∷ vs) rows one few f = values_filled a CommandLine v vs (without a.id rows) (without_filled a.id rows f)
+used_by Append a [] rows one few f =
+    absurd (no_values (most_values a) (subst (λ (n : ℕ). range_kinds n (most_values a) 0 ≡ []) one few))
+used_by Append a (v ∷ vs) rows one few f = values_filled a CommandLine v vs rows f
 used_by SetTrue a values rows has few f =
     some_filled a CommandLine (values_or_missing a values) (without a.id rows) (flag_value a values has) (without_filled a.id rows f)
 used_by Help a values rows ok few f = f
 used_by SetFalse a values rows bad few f = absurd bad
-used_by Append a values rows bad few f = absurd bad
 used_by Count a values rows bad few f = absurd bad
 used_by HelpShort a values rows bad few f = absurd bad
 used_by HelpLong a values rows bad few f = absurd bad

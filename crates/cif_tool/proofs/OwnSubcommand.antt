@@ -120,32 +120,40 @@ pub enters_own : (forms formats : Choice) (words : List Text) → faults_of form
 unfolding cif chosen faults_of
 enters_own forms formats words e =
     takes_own IsTaken (cif (record { forms = forms; formats = formats })) words refl refl (
-      λ name on is ws h. inl refl,
+      λ name on is ws h. inl (inl refl),
       (
-        λ name on is ws h. inr (inl refl),
+        λ name on is ws h. inl (inr (inl refl)),
         (
           λ name on is ws h.
               let given = required_given _ ws (refl, (refl, (refl, (refl, (refl, (refl, (tt, tt))))))) h in
-              inr (inr (inl (refl, given.1.0 refl, given.1.1.0 refl))),
+              inl (inr (inr (inl (refl, given.1.0 refl, given.1.1.0 refl)))),
           (
             λ name on is ws h.
                 let given = required_given _ ws (refl, (refl, (refl, (refl, (refl, (refl, (tt, tt))))))) h in
-                inr (inr (inr (inl (refl, given.1.0 refl, given.1.1.0 refl)))),
+                inl (inr (inr (inr (inl (refl, given.1.0 refl, given.1.1.0 refl))))),
             (
               λ name on is ws h.
                   let given = required_given _ ws (refl, (refl, (refl, (refl, (refl, (tt, tt)))))) h in
-                  inr (inr (inr (inr (inl (refl, given.1.0 refl))))),
+                  inl (inr (inr (inr (inr (inl (refl, given.1.0 refl)))))),
               (
                 λ name on is ws h.
                     let given = required_given _ ws (refl, (refl, (refl, (refl, (refl, (refl, (refl, (refl, (tt, tt))))))))) h in
-                    inr (inr (inr (inr (inr (inl (refl, given.1.0 refl)))))),
+                    inl (inr (inr (inr (inr (inr (inl (refl, given.1.0 refl))))))),
                 (
                   λ name on is ws h.
                       let given = required_given _ ws (refl, (refl, (refl, (refl, (refl, (tt, tt)))))) h in
-                      inr (inr (inr (inr (inr (inr (inl (refl, given.1.0 refl, given.1.1.0 refl))))))),
+                      inl (inr (inr (inr (inr (inr (inr (inl (refl, given.1.0 refl, given.1.1.0 refl)))))))),
                   (
-                    λ name on is ws h. inr (inr (inr (inr (inr (inr (inr refl)))))),
-                    (λ name on is ws h. absurd (not_help name on is), tt),
+                    λ name on is ws h. inl (inr (inr (inr (inr (inr (inr (inr refl))))))),
+                    (
+                      λ name on is ws h. inr (inl refl),
+                      (
+                        λ name on is ws h.
+                            let given = required_given _ ws (refl, (refl, (refl, (refl, (tt, tt))))) h in
+                            inr (inr (refl, given.1.0 refl, given.1.1.0 refl)),
+                        (λ name on is ws h. absurd (not_help name on is), tt),
+                      ),
+                    ),
                   ),
                 ),
               ),

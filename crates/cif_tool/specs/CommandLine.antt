@@ -3,13 +3,14 @@ use Rattle.std.specs.Prelude.{◌≡◌, List, [], ◌∷◌, Option, Some, code
 use Rattle.std.specs.Borrow.{Bor}
 use Rattle.clap.specs.Words.{App, Row, Rule, Text, app_of, fault_of, new_app, new_rule, subcommand_of, with_rule, with_subcommand}
 use Rattle.clap.specs.Kinds.{Kinds}
+use Rattle.clap.specs.Lexer.{usize_max}
 use Rattle.clap.specs.declared.Command.{Command}
 use Rattle.clap.specs.declared.Command.TheViews.{out-Command}
 use Rattle.clap.specs.declared.builder.ArgAction.TheVariants.{SetTrue}
 use Rattle.clap.specs.declared.builder.ValueParser.TheVariants.{Names}
 use Rattle.cif_tool.specs.declared.command_line.Argument.{Argument}
 use Rattle.cif_tool.specs.declared.command_line.Argument.TheVariants.{Verbose, File, Left, Right, Uid, Date, From, To, All, Common, Stops}
-use Rattle.cif_tool.specs.declared.command_line.Argument.TheVariants.{Form, Format}
+use Rattle.cif_tool.specs.declared.command_line.Argument.TheVariants.{Form, Format, Full, Updates, Holidays, DropClashes, Lenient}
 use Rattle.cif_tool.specs.declared.command_line.Choices.{Choices}
 use Rattle.cif_tool.specs.declared.command_line.Kind.{Kind}
 use Rattle.cif_tool.specs.declared.command_line.Kind.TheVariants as kind
@@ -18,6 +19,10 @@ use Rattle.cif_tool.specs.declared.command_line.Parts.{Parts}
 -- a word that may not be left out
 abbrev pub required : Text → Rule
 required id = record (new_rule id) { required = true }
+
+-- words of which there is at least one
+abbrev pub several : Text → Rule
+several id = record (required id) { range = Some (record { start_inclusive = 1; end_inclusive = usize_max }) }
 
 -- an option with a value: `--ID VALUE`
 abbrev pub option : Text → Rule
@@ -48,6 +53,8 @@ given Verbose = (codes "verbose", kind.Verbose)
 given File = (codes "FILE", kind.Word)
 given Left = (codes "LEFT", kind.Required)
 given Right = (codes "RIGHT", kind.Required)
+given Full = (codes "FULL", kind.Required)
+given Updates = (codes "UPDATE", kind.Several)
 given Uid = (codes "UID", kind.Required)
 given Date = (codes "YYMMDD", kind.Required)
 given From = (codes "from", kind.Date)
@@ -55,6 +62,9 @@ given To = (codes "to", kind.Date)
 given All = (codes "all", kind.Flag)
 given Common = (codes "common", kind.Flag)
 given Stops = (codes "stops", kind.Flag)
+given Holidays = (codes "holidays", kind.Name)
+given DropClashes = (codes "drop-clashes", kind.Flag)
+given Lenient = (codes "lenient", kind.Flag)
 given Form = (codes "form", kind.Form)
 given Format = (codes "format", kind.Format)
 
@@ -62,8 +72,10 @@ given Format = (codes "format", kind.Format)
 abbrev pub argument : Choices → Text × Kind → Rule
 argument choices (id, kind.Word) = new_rule id
 argument choices (id, kind.Required) = required id
+argument choices (id, kind.Several) = several id
 argument choices (id, kind.Flag) = flag id
 argument choices (id, kind.Verbose) = record (flag id) { short = Some 118 }
+argument choices (id, kind.Name) = option id
 argument choices (id, kind.Date) = option id
 argument choices (id, kind.Form) = one_of (option id) choices.forms (codes "2")
 argument choices (id, kind.Format) = one_of (option id) choices.formats (codes "text")
@@ -101,6 +113,14 @@ explain = Verbose ∷ Uid ∷ Date ∷ File ∷ Format ∷ []
 abbrev pub clashes : List Argument
 clashes = Verbose ∷ File ∷ From ∷ To ∷ []
 
+-- `cif prepare [-v] [--holidays FILE] [--drop-clashes] [FILE]`
+abbrev pub prepare : List Argument
+prepare = Verbose ∷ File ∷ Holidays ∷ DropClashes ∷ []
+
+-- `cif update [-v] [--lenient] FULL UPDATE...`
+abbrev pub update : List Argument
+update = Verbose ∷ Full ∷ Updates ∷ Lenient ∷ []
+
 -- a subcommand's name, and what it takes
 abbrev pub taken : Parts → Text × List Argument
 taken parts = (parts.name.now, parts.arguments.now)
@@ -114,11 +134,12 @@ with_subcommands choices a (s ∷ ss) = with_subcommands choices (with_subcomman
 abbrev pub program : Text → App
 program name = let made = new_app name in record made { top = record made.top { has_version = true; subcommand_required = true } }
 
--- the program `cif` with its eight subcommands
+-- the program `cif` with its ten subcommands
 abbrev pub subcommands : List (Text × List Argument)
 subcommands =
     (codes "normalise", normalise) ∷ (codes "check", check) ∷ (codes "compare", two_files) ∷ (codes "diff", two_files)
-    ∷ (codes "day", day) ∷ (codes "train", train) ∷ (codes "explain", explain) ∷ (codes "clashes", clashes) ∷ []
+    ∷ (codes "day", day) ∷ (codes "train", train) ∷ (codes "explain", explain) ∷ (codes "clashes", clashes)
+    ∷ (codes "prepare", prepare) ∷ (codes "update", update) ∷ []
 
 unfoldable pub cif : Choices → App
 cif choices = with_subcommands choices (program (codes "cif")) subcommands

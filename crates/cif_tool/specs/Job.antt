@@ -1,9 +1,9 @@
 -- What the words of a call ask for.
-use Rattle.std.specs.Prelude.{◌≡◌, ◌⊎◌, ◌&&◌, ⊤, ℕ, Bool, List, [], Option, Some, None, option_map, string_bytes, IsSomeAnd}
-use Rattle.std.specs.Prelude.{is_some, true, false, codes}
+use Rattle.std.specs.Prelude.{◌≡◌, ◌⊎◌, ◌&&◌, ◌≤◌, ⊤, ℕ, Bool, List, [], ◌∷◌, Option, Some, None, option_map, string_bytes, IsSomeAnd}
+use Rattle.std.specs.Prelude.{is_some, true, false, codes, count_by, map}
 use Rattle.std.specs.Prelude.{if◌then◌else◌}
 use Rattle.std.specs.Str.{bytes_eq}
-use Rattle.clap.specs.Words.{Row, Text, first_of}
+use Rattle.clap.specs.Words.{Row, Text, all_of, first_of}
 use Rattle.cif_canon.specs.declared.asked.Asked.{Asked}
 use Rattle.cif_canon.specs.declared.rows.Format.{Format}
 use Rattle.cif_canon.specs.declared.rows.Format.TheVariants as format
@@ -13,8 +13,12 @@ use Rattle.cif_columns.specs.Uid.{IsUid}
 use Rattle.cif_weeks.specs.declared.form.Form.{Form}
 use Rattle.cif_weeks.specs.declared.form.Form.TheVariants.{One, Two}
 use Rattle.cif_tool.specs.CommandLine.{AreFormats, AreForms, Choice, chosen, faults_of}
+use Rattle.cif_tool.specs.declared.job.FeedJob.{FeedJob}
+use Rattle.cif_tool.specs.declared.job.FeedJob.TheVariants.{Prepare, Update}
 use Rattle.cif_tool.specs.declared.job.Job.{Job}
 use Rattle.cif_tool.specs.declared.job.Job.TheVariants.{Check, CheckAll, Clashes, Compare, Day, Diff, Explain, Normalise, Train}
+use Rattle.cif_tool.specs.declared.job.Task.{Task}
+use Rattle.cif_tool.specs.declared.job.Task.TheVariants.{Extract, Feed}
 
 -- the matches have a word of this id
 abbrev pub HasWord : Text → List Row → Type 0
@@ -27,6 +31,20 @@ HasFile rows name = name ≡ first_of (codes "FILE") rows
 -- the word stands for standard input
 abbrev pub is_standard : Text → Bool
 is_standard word = bytes_eq word (codes "-")
+
+-- the word is there, and stands for standard input
+abbrev pub names_standard : Option Text → Bool
+names_standard (Some word) = is_standard word
+names_standard None = false
+
+-- the same of FILE, which stands for standard input where it is absent
+abbrev pub reads_standard : Option Text → Bool
+reads_standard (Some word) = is_standard word
+reads_standard None = true
+
+-- how many of the words stand for standard input
+abbrev pub standard_inputs : List Text → ℕ
+standard_inputs words = count_by is_standard words
 
 -- the word names the day, by six digits YYMMDD, or neither is there
 abbrev pub IsDateOf : Option Text → Option ℕ → Type 0
@@ -112,9 +130,36 @@ IsChosen (Clashes file asked) met = (met.0 ≡ codes "clashes")
     × IsAskedBy met.1 asked
     × HasFile met.1 (option_map string_bytes file)
 
--- the subcommand is one of the program's own, with the words that it wants
-abbrev pub IsTaken : Text × List Row → Type 0
-IsTaken met = (met.0 ≡ codes "normalise") ⊎ ((met.0 ≡ codes "check")
+-- the matches name these holidays and this extract, not both of them standard input, and whether clashes are left out
+pub record ArePrepareWords (rows : List Row) (holidays : Option Text) (drop_clashes : Bool) (file : Option Text) : Type 0 where
+  pub holidays_are : holidays ≡ first_of (codes "holidays") rows
+  pub drops : drop_clashes ≡ is_set (first_of (codes "drop-clashes") rows)
+  pub has_file : HasFile rows file
+  pub one_input : (names_standard holidays && reads_standard file) ≡ false
+
+-- The matches name this full extract and these updates, in their order, and whether lines are waived. At most one of the extracts is
+-- standard input.
+pub record AreUpdateWords (rows : List Row) (full : Text) (updates : List Text) (lenient : Bool) : Type 0 where
+  pub full_is : Some full ≡ first_of (codes "FULL") rows
+  pub updates_are : Some updates ≡ all_of (codes "UPDATE") rows
+  pub is_lenient : lenient ≡ is_set (first_of (codes "lenient") rows)
+  pub one_input : standard_inputs (full ∷ updates) ≤ 1
+
+-- the subcommand is the feed job's, and its matches hold what the job holds
+abbrev pub IsFeedChosen : FeedJob → Text × List Row → Type 0
+IsFeedChosen (Prepare holidays drop_clashes file) met = (met.0 ≡ codes "prepare")
+    × ArePrepareWords met.1 (option_map string_bytes holidays) drop_clashes (option_map string_bytes file)
+IsFeedChosen (Update full updates lenient) met = (met.0 ≡ codes "update")
+    × AreUpdateWords met.1 (string_bytes full) (map string_bytes updates.items) lenient
+
+-- the subcommand is the task's, and its matches hold what the task holds
+abbrev pub IsTaskChosen : Task → Text × List Row → Type 0
+IsTaskChosen (Extract job) = IsChosen job
+IsTaskChosen (Feed job) = IsFeedChosen job
+
+-- the subcommand is one of those that read extracts, with the words that it wants
+abbrev pub IsExtractTaken : Text × List Row → Type 0
+IsExtractTaken met = (met.0 ≡ codes "normalise") ⊎ ((met.0 ≡ codes "check")
     ⊎ (((met.0 ≡ codes "compare") × HasWord (codes "LEFT") met.1 × HasWord (codes "RIGHT") met.1)
     ⊎ (((met.0 ≡ codes "diff") × HasWord (codes "LEFT") met.1 × HasWord (codes "RIGHT") met.1)
     ⊎ (((met.0 ≡ codes "day") × HasWord (codes "YYMMDD") met.1)
@@ -122,14 +167,23 @@ IsTaken met = (met.0 ≡ codes "normalise") ⊎ ((met.0 ≡ codes "check")
     ⊎ (((met.0 ≡ codes "explain") × HasWord (codes "UID") met.1 × HasWord (codes "YYMMDD") met.1)
     ⊎ (met.0 ≡ codes "clashes")))))))
 
--- `clap` takes the words, enters the job's subcommand and finds what the job holds
-pub record Asks (words : List Text) (job : Job) : Type 0 where
+-- the subcommand is one of those that read published extracts, with the words that it wants
+abbrev pub IsFeedTaken : Text × List Row → Type 0
+IsFeedTaken met = (met.0 ≡ codes "prepare")
+    ⊎ ((met.0 ≡ codes "update") × HasWord (codes "FULL") met.1 × HasWord (codes "UPDATE") met.1)
+
+-- the subcommand is one of the program's own, with the words that it wants
+abbrev pub IsTaken : Text × List Row → Type 0
+IsTaken met = IsExtractTaken met ⊎ IsFeedTaken met
+
+-- `clap` takes the words, enters the task's subcommand and finds what the task holds
+pub record Asks (words : List Text) (task : Task) : Type 0 where
   pub forms : Choice
   pub are_forms : AreForms forms
   pub formats : Choice
   pub are_formats : AreFormats formats
   pub taken : faults_of forms formats words ≡ []
-  pub is_chosen : IsSomeAnd (chosen forms formats words) (IsChosen job)
+  pub is_chosen : IsSomeAnd (chosen forms formats words) (IsTaskChosen task)
 
 -- The names of the inputs that a job reads: the first is standard input where it is absent, and each is where it is `-`. Only `compare`
 -- and `diff` have a second.

@@ -1,7 +1,7 @@
 -- Why the words of a call ask for nothing.
-use Rattle.std.specs.Prelude.{◌≡◌, ◌≢◌, ◌⊎◌, ℕ, List, [], ◌∷◌, ◌++◌, Option, Some, None, ⊤, IfErr, IfOk, IfSome, IsSomeAnd, Result, Ok, Err}
-use Rattle.std.specs.Prelude.{true, codes}
-use Rattle.clap.specs.Words.{IsAmong, Row, Text, first_of, kind_of}
+use Rattle.std.specs.Prelude.{◌≡◌, ◌≢◌, ◌⊎◌, ◌<◌, ℕ, List, [], ◌∷◌, ◌++◌, Option, Some, None, ⊤, IfErr, IfOk, IfSome, IsSomeAnd}
+use Rattle.std.specs.Prelude.{Result, Ok, Err, true, codes}
+use Rattle.clap.specs.Words.{IsAmong, Row, Text, all_of, first_of, kind_of}
 use Rattle.clap.specs.declared.error.ErrorKind.{ErrorKind}
 use Rattle.clap.specs.declared.error.ErrorKind.TheVariants.{DisplayHelp, DisplayVersion}
 use Rattle.cif_columns.specs.Day.{StandsInYymmdd}
@@ -12,10 +12,12 @@ use Rattle.cif_columns.specs.declared.sink.WriteFault.{WriteFault}
 use Rattle.cif_extract.specs.declared.fault.Fault.{Fault}
 use Rattle.cif_extract.specs.declared.fault.Fault.TheVariants.{Write, Memory as OutOfMemory}
 use Rattle.cif_tool.specs.CommandLine.{AreFormats, AreForms, Choice, chosen, faults_of}
-use Rattle.cif_tool.specs.Job.{IsChosen, is_standard}
+use Rattle.cif_tool.specs.Job.{IsChosen, IsFeedChosen, IsTaskChosen, is_standard, names_standard, reads_standard, standard_inputs}
+use Rattle.cif_tool.specs.declared.job.FeedJob.{FeedJob}
 use Rattle.cif_tool.specs.declared.job.Job.{Job}
 use Rattle.cif_tool.specs.declared.job.JobFault.{JobFault}
-use Rattle.cif_tool.specs.declared.job.JobFault.TheVariants.{Usage, BadDate, BadUid, OneInput, Memory}
+use Rattle.cif_tool.specs.declared.job.JobFault.TheVariants.{Usage, BadDate, BadUid, OneInput, OneInputOfPrepare, OneInputOfUpdate, Memory}
+use Rattle.cif_tool.specs.declared.job.Task.{Task}
 
 -- six digits YYMMDD that name a day aren't the word
 abbrev pub NamesNoDay : Text → Type 0
@@ -39,7 +41,19 @@ IsOneInput met = ((met.0 ≡ codes "compare") ⊎ (met.0 ≡ codes "diff"))
     × IsSomeAnd (first_of (codes "LEFT") met.1) (λ word. is_standard word ≡ true)
     × IsSomeAnd (first_of (codes "RIGHT") met.1) (λ word. is_standard word ≡ true)
 
--- Why words that `clap` takes ask for nothing: a UID is none, or else a date is none, or else both inputs are standard input. Memory
+-- the subcommand is `prepare`, and both the holidays and the extract are standard input
+abbrev pub IsOneInputOfPrepare : Text × List Row → Type 0
+IsOneInputOfPrepare met = (met.0 ≡ codes "prepare")
+    × (names_standard (first_of (codes "holidays") met.1) ≡ true)
+    × (reads_standard (first_of (codes "FILE") met.1) ≡ true)
+
+-- the subcommand is `update`, and two of its inputs or more are standard input
+abbrev pub IsOneInputOfUpdate : Text × List Row → Type 0
+IsOneInputOfUpdate met = (met.0 ≡ codes "update")
+    × IsSomeAnd (first_of (codes "FULL") met.1) (λ full.
+    IsSomeAnd (all_of (codes "UPDATE") met.1) (λ updates. 1 < standard_inputs (full ∷ updates)))
+
+-- Why words that `clap` takes ask for nothing: a UID is none, or else a date is none, or else two inputs are standard input. Memory
 -- may run out at any words.
 abbrev pub IsWordFault : JobFault → Text × List Row → Type 0
 IsWordFault BadUid met = HasBadUid met
@@ -47,6 +61,8 @@ IsWordFault BadDate met = ¬ HasBadUid met
     × (HasBadDate (codes "YYMMDD") met.1 ⊎ (HasBadDate (codes "from") met.1 ⊎ HasBadDate (codes "to") met.1))
 IsWordFault OneInput met = IsOneInput met
     × ¬ (HasBadDate (codes "from") met.1 ⊎ HasBadDate (codes "to") met.1)
+IsWordFault OneInputOfPrepare met = IsOneInputOfPrepare met
+IsWordFault OneInputOfUpdate met = IsOneInputOfUpdate met
 IsWordFault Memory met = ⊤
 IsWordFault (Usage error) met = ⊥
 
@@ -55,7 +71,17 @@ pub record IsJobOf (met : Text × List Row) (result : Result Job JobFault) : Typ
   pub ok : IfOk result (λ job. IsChosen job met)
   pub err : IfErr result (λ fault. IsWordFault fault met)
 
--- `clap` refuses the words, by the error's kind, or it takes them and one of them is no UID or no date, or both inputs are standard input
+-- the same of a feed job
+pub record IsFeedJobOf (met : Text × List Row) (result : Result FeedJob JobFault) : Type 0 where
+  pub ok : IfOk result (λ job. IsFeedChosen job met)
+  pub err : IfErr result (λ fault. IsWordFault fault met)
+
+-- the matches of a subcommand ask for the task, or for nothing, as the fault says
+pub record IsTaskOf (met : Text × List Row) (result : Result Task JobFault) : Type 0 where
+  pub ok : IfOk result (λ task. IsTaskChosen task met)
+  pub err : IfErr result (λ fault. IsWordFault fault met)
+
+-- `clap` refuses the words, by the error's kind, or it takes them and one of them is no UID or no date, or two inputs are standard input
 abbrev pub IsFaultAt : Choice → Choice → List Text → JobFault → Type 0
 IsFaultAt forms formats words (Usage error) = IsAmong (kind_of error) (faults_of forms formats words)
 IsFaultAt forms formats words Memory = ⊤
@@ -82,6 +108,8 @@ status_of (Usage error) = kind_status (kind_of error)
 status_of BadDate = 2
 status_of BadUid = 2
 status_of OneInput = 2
+status_of OneInputOfPrepare = 2
+status_of OneInputOfUpdate = 2
 status_of Memory = 4
 
 -- the line that names the fault, without its line feed; none where `clap` has the text
@@ -90,6 +118,8 @@ text_of (Usage error) = None
 text_of BadDate = Some (codes "cif: bad date")
 text_of BadUid = Some (codes "cif: bad UID")
 text_of OneInput = Some (codes "cif: LEFT and RIGHT are both standard input")
+text_of OneInputOfPrepare = Some (codes "cif: --holidays and FILE are both standard input")
+text_of OneInputOfUpdate = Some (codes "cif: two inputs are standard input")
 text_of Memory = Some (codes "cif: Memory")
 
 -- A text was shown on the output: it was written whole, and nothing went to the errors.

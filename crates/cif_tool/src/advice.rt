@@ -1,68 +1,185 @@
 //! What `--verbose` says on standard error beyond the line that names a fault. It is said when the answer is decided
 //! and changes nothing of it.
 use crate::answers::Kept;
-use crate::devices::{ExtractInput, LONGEST, LineAgain, START, line_again};
-use crate::job::JobFault;
+use crate::devices::{ExtractInput, LONGEST, LineAgain, START, Written, line_again};
+use crate::job::{Job, JobFault};
 use crate::message::Message;
-use crate::refused_columns::{RefusedColumns, columns_refused};
-use crate::status::REFUSED;
+use crate::refused_columns::columns_refused;
 use crate::words::mistaken_word;
 use arrayvec::ArrayString;
-use cif_columns::{LINE_WIDTH, MAX_LINES, Refusal, Sink, WriteDevice, as_text};
+use cif_canon::Format;
+use cif_columns::{LINE_WIDTH, MAX_LINES, Refusal, Sink, Uid, WriteDevice, as_text};
 use cif_extract::{Clash, Extract, Fault};
+use cif_feed::{FeedFault, HolidayCode, Reasons};
+use cif_records::Header;
 use cif_views::explain_view;
 use itoa::Buffer;
 use std::alloc::Global;
 use std::rt::Files;
 use std::{io, str};
 
-/// Says more of the answer, or what helps with its fault: `failure` is the system's number of the error
-/// that a write ended with. A job with one input has read nothing of `right`.
+/// Says more of the answer to the job, or what helps with its fault: `written` says what became of the
+/// output. A job with one input has read nothing of `right`.
 pub(crate) fn advise<R: Files + Input, W: WriteDevice>(
     alloc: Global,
+    job: &Job,
     answer: &Result<u8, Fault>,
-    failure: Option<i32>,
+    written: &Written,
     left: &ExtractInput<'_, R>,
     right: &ExtractInput<'_, R>,
     kept: &mut Kept,
     errors: &mut Sink<W>,
 ) {
     let mut message = Message::new(alloc);
-    add_advice(alloc, answer, failure, left, right, kept, &mut message);
+    match answer {
+        Ok(_) => add_answer(job, written, left, right, kept, &mut message),
+        Err(fault) => add_advice(alloc, fault, written, left, right, kept, &mut message),
+    }
     message.tell(errors);
 }
 
 /// Adds what is said of the answer.
+fn add_answer<R: Files + Input>(
+    job: &Job,
+    written: &Written,
+    left: &ExtractInput<'_, R>,
+    right: &ExtractInput<'_, R>,
+    kept: &Kept,
+    message: &mut Message,
+) {
+    if let Some(reasons) = &kept.reasons {
+        add_input(left, message);
+        add_reasons(reasons, message);
+        return;
+    }
+    add_window_of(left, message);
+    add_window_of(right, message);
+    if let Some(extract) = &kept.left {
+        match job {
+            Job::Train { uid, listing, .. } if !has_row(listing.format, written) => {
+                add_records_of(extract, uid, message);
+            }
+            Job::Explain { uid, format, .. } if !has_row(*format, written) => {
+                add_records_of(extract, uid, message);
+            }
+            _ => {}
+        }
+    }
+}
+
+/// Adds the commands that read lines which have these reasons.
+fn add_reasons(reasons: &Reasons, message: &mut Message) {
+    for why in [Refusal::NotFull, Refusal::OpenEnd, Refusal::BankHoliday] {
+        if reasons.lines(why) > 0 {
+            if let Some(command) = command_for(why) {
+                message.line(&[command]);
+            }
+        }
+    }
+}
+
+/// Whether there is a line in the output that isn't the heading of a table.
+fn has_row(format: Format, written: &Written) -> bool {
+    match format {
+        Format::Text => written.lines > 0,
+        Format::Tsv => written.lines > 1,
+    }
+}
+
+/// Adds whether there are records with this UID.
+fn add_records_of(extract: &Extract, uid: &Uid, message: &mut Message) {
+    let associations = extract.associations.as_slice();
+    let has_association = associations
+        .iter()
+        .any(|one| one.key.base == *uid || one.key.associated == *uid);
+    let has_schedule = extract
+        .schedules
+        .as_slice()
+        .iter()
+        .any(|one| one.uid == *uid);
+    message.line(&[if has_association || has_schedule {
+        "there are records with this UID"
+    } else {
+        "no record has this UID"
+    }]);
+}
+
+/// Adds what helps with a fault.
 fn add_advice<'a, 'b, R: Files + Input>(
     alloc: Global,
-    answer: &Result<u8, Fault>,
-    failure: Option<i32>,
+    fault: &Fault,
+    written: &Written,
     left: &'a ExtractInput<'b, R>,
     right: &'a ExtractInput<'b, R>,
     kept: &mut Kept,
     message: &mut Message,
 ) {
     let last = if right.is_touched() { right } else { left };
-    match answer {
-        Ok(REFUSED) => add_input(left, message),
-        Ok(_) | Err(Fault::OutsideWindow | Fault::WindowsDiffer) => {
-            add_window(left, message);
-            add_window(right, message);
-            if let Err(Fault::WindowsDiffer) = answer {
+    match fault {
+        Fault::OutsideWindow | Fault::WindowsDiffer => {
+            add_window_of(left, message);
+            add_window_of(right, message);
+            if let Fault::WindowsDiffer = fault {
                 message.line(&["--common compares the dates that both have"]);
             }
         }
-        Err(Fault::WindowReversed) => {
+        Fault::WindowReversed => {
             message.line(&["the date of --from is after the date of --to"]);
         }
-        Err(Fault::Refused { line, why }) => add_refusal(last, *line, *why, message),
-        Err(Fault::Read) => add_failure(alloc, last.side(), last.name(), last.failure, message),
-        Err(Fault::Write) => add_failure(alloc, "", "standard output", failure, message),
-        Err(Fault::Ambiguous(clash)) => {
+        Fault::Refused { line, why } => {
+            add_refusal(last, *line, *why, Reader::Extracts, message);
+        }
+        Fault::Read => add_failure(alloc, last.side(), last.name(), last.failure, message),
+        Fault::Write => add_failure(alloc, "", "standard output", written.failure, message),
+        Fault::Ambiguous(clash) => {
             let _ = add_clash(alloc, clash, left, right, kept, message);
         }
-        Err(Fault::Memory) => {}
+        Fault::Memory => {}
     }
+}
+
+/// Adds what helps with a fault of a published extract or of an update, which this input gave.
+pub(crate) fn add_feed_fault<R: Files + Input>(
+    alloc: Global,
+    fault: &FeedFault,
+    input: &ExtractInput<'_, R>,
+    message: &mut Message,
+) {
+    match fault {
+        FeedFault::Extract(Fault::Refused { line, why }) => {
+            add_refusal(input, *line, *why, Reader::Feeds, message);
+        }
+        FeedFault::Extract(Fault::Read) => {
+            add_failure(alloc, input.side(), input.name(), input.failure, message);
+        }
+        FeedFault::Extract(_) => {}
+        FeedFault::NotUpdate { line } => {
+            add_column_refusal(input, *line, 47, "must be U, of an update", message);
+        }
+        FeedFault::BadTransaction { line } => {
+            add_column_refusal(input, *line, 3, "must be N, R or D", message);
+        }
+        FeedFault::NotThere { line } | FeedFault::AlreadyThere { line } => {
+            add_input(input, message);
+            if let Some(line) = refused_line(input, *line) {
+                message.line(&[shown(line.bytes.as_slice()).as_str()]);
+            }
+            message.line(&["--lenient goes on after such a line"]);
+        }
+    }
+}
+
+/// Adds what is wrong with this line of holidays.
+pub(crate) fn add_holiday_line<R: Files + Input>(
+    input: &ExtractInput<'_, R>,
+    line: u64,
+    message: &mut Message,
+) {
+    add_input(input, message);
+    if let Some(line) = refused_line(input, line) {
+        message.line(&[shown(line.bytes.as_slice()).as_str()]);
+    }
+    message.line(&["a line has a code, X, E or G, and dates YYMMDD; # begins a remark"]);
 }
 
 /// Adds which input it is about.
@@ -71,7 +188,13 @@ fn add_input<R: Files + Input>(input: &ExtractInput<'_, R>, message: &mut Messag
 }
 
 /// Adds what wasn't read or written, and why if the system told it, by the number of the error.
-fn add_failure(alloc: Global, side: &str, name: &str, failure: Option<i32>, message: &mut Message) {
+pub(crate) fn add_failure(
+    alloc: Global,
+    side: &str,
+    name: &str,
+    failure: Option<i32>,
+    message: &mut Message,
+) {
     let reason = match failure {
         Some(number) => io::Error::from_raw_os_error(number).to_string(alloc).ok(),
         None => None,
@@ -83,19 +206,24 @@ fn add_failure(alloc: Global, side: &str, name: &str, failure: Option<i32>, mess
 }
 
 /// Adds the window of the input, if it begins with a header.
-fn add_window<R: Files + Input>(input: &ExtractInput<'_, R>, message: &mut Message) {
+fn add_window_of<R: Files + Input>(input: &ExtractInput<'_, R>, message: &mut Message) {
     if let Some(header) = input.header() {
-        let first = header.first.to_yymmdd();
-        let last = header.last.to_yymmdd();
-        message.line(&[
-            input.side(),
-            input.name(),
-            " has the window ",
-            as_text(&first),
-            " to ",
-            as_text(&last),
-        ]);
+        add_window(input.side(), input.name(), &header, message);
     }
+}
+
+/// Adds the window of an input with this header.
+pub(crate) fn add_window(side: &str, name: &str, header: &Header, message: &mut Message) {
+    let first = header.first.to_yymmdd();
+    let last = header.last.to_yymmdd();
+    message.line(&[
+        side,
+        name,
+        " has the window ",
+        as_text(&first),
+        " to ",
+        as_text(&last),
+    ]);
 }
 
 // ---- a clash
@@ -175,7 +303,11 @@ pub(crate) fn advise_on_word<W: WriteDevice>(
     let must = match fault {
         JobFault::BadDate => "': must be a valid date as six digits, YYMMDD",
         JobFault::BadUid => "': must be six printable ASCII characters",
-        JobFault::Usage(_) | JobFault::OneInput | JobFault::Memory => return,
+        JobFault::Usage(_)
+        | JobFault::OneInput
+        | JobFault::OneInputOfPrepare
+        | JobFault::OneInputOfUpdate
+        | JobFault::Memory => return,
     };
     if let Some(word) = mistaken_word(alloc, words, fault) {
         let mut message = Message::new(alloc);
@@ -192,11 +324,21 @@ const BLANKS: &str =
 const CARETS: &str =
     "^^^^^^^^^^^^^^^^^^^^^^^^^^^^^^^^^^^^^^^^^^^^^^^^^^^^^^^^^^^^^^^^^^^^^^^^^^^^^^^^";
 
+/// Which commands read an input.
+#[derive(Clone, Copy, PartialEq, Eq)]
+enum Reader {
+    /// Those of extracts.
+    Extracts,
+    /// Those of published extracts and updates.
+    Feeds,
+}
+
 /// Adds what is wrong with the line of this number.
 fn add_refusal<R: Files + Input>(
     input: &ExtractInput<'_, R>,
     number: u64,
     why: Refusal,
+    reader: Reader,
     message: &mut Message,
 ) {
     add_input(input, message);
@@ -213,15 +355,68 @@ fn add_refusal<R: Files + Input>(
             message.line(&["an extract has at most ", limit.format(MAX_LINES), " lines"]);
         }
         (None, _) => {
-            if let Some(line) = refused_line(input, number) {
-                add_line(&line, why, message);
+            let line = refused_line(input, number);
+            if let Some(line) = &line {
+                add_line(line, why, reader, message);
+            }
+            let bytes = line.as_ref().map_or(&[][..], |line| line.bytes.as_slice());
+            if let Some(hint) = hint_for(bytes, why, reader) {
+                message.line(&[hint]);
             }
         }
     }
 }
 
+/// What to do about such a line.
+fn hint_for(line: &[u8], why: Refusal, reader: Reader) -> Option<&'static str> {
+    match (why, reader) {
+        (Refusal::NotFull, _) => {
+            if is_of_update(line) {
+                command_for(why)
+            } else {
+                None
+            }
+        }
+        (Refusal::BankHoliday, Reader::Feeds) => {
+            let code = line.get(28).and_then(|column| HolidayCode::read(*column));
+            code.map(|_| "--holidays doesn't name this code")
+        }
+        (_, Reader::Feeds) => None,
+        (Refusal::UnknownRecord, _) if line.starts_with(b"TN") || line.starts_with(b"LN") => {
+            Some(PREPARE)
+        }
+        _ if line.starts_with(b"/!!") => Some(PREPARE),
+        _ => command_for(why),
+    }
+}
+
+const PREPARE: &str = "cif prepare makes an extract of a published one";
+
+/// The command that reads lines which are refused for this reason.
+fn command_for(why: Refusal) -> Option<&'static str> {
+    match why {
+        Refusal::BankHoliday => {
+            Some("cif prepare --holidays FILE makes an extract of a published one")
+        }
+        Refusal::OpenEnd => Some(PREPARE),
+        Refusal::NotFull => Some("cif update applies an update to a full extract"),
+        _ => None,
+    }
+}
+
+/// Whether the line, which isn't one of a full extract, is one of an update.
+fn is_of_update(line: &[u8]) -> bool {
+    let column = if line.starts_with(b"HD") { 46 } else { 2 };
+    match (line.get(..2), line.get(column)) {
+        (Some(b"HD"), Some(letter)) => *letter == b'U',
+        (Some(b"AA" | b"BS"), Some(letter)) => *letter == b'R' || *letter == b'D',
+        (Some(b"TA" | b"TD"), _) => true,
+        _ => false,
+    }
+}
+
 /// How files begin that are no extracts, and what each is.
-static BEGINNINGS: [(&[u8], &str); 8] = [
+static BEGINNINGS: [(&[u8], &str); 7] = [
     (b"\x1F\x8B", "gzip: decompress it first"),
     (b"PK\x03\x04", "a zip archive: extract it first"),
     (
@@ -232,10 +427,6 @@ static BEGINNINGS: [(&[u8], &str); 8] = [
     (b"\xFE\xFF", "UTF-16: convert it to ASCII first"),
     (b"{", "JSON: take the feed in the CIF format"),
     (b"[", "JSON: take the feed in the CIF format"),
-    (
-        b"/!!",
-        "a derived file: remove its comment lines, which begin with /!!",
-    ),
 ];
 
 /// What an input that begins so looks like, where that is no extract.
@@ -257,30 +448,51 @@ fn refused_line<R: Files + Input>(input: &ExtractInput<'_, R>, number: u64) -> O
     }
 }
 
+/// Adds the line of this number, of which this column is refused, and what must stand there.
+fn add_column_refusal<R: Files + Input>(
+    input: &ExtractInput<'_, R>,
+    number: u64,
+    column: usize,
+    what: &str,
+    message: &mut Message,
+) {
+    add_input(input, message);
+    if let Some(line) = refused_line(input, number) {
+        message.line(&[shown(line.bytes.as_slice()).as_str()]);
+        add_columns(column, column, what, message);
+    }
+}
+
 /// Adds the line, which of its columns are refused, and what must stand there.
-fn add_line(line: &LineAgain, why: Refusal, message: &mut Message) {
+fn add_line(line: &LineAgain, why: Refusal, reader: Reader, message: &mut Message) {
     message.line(&[shown(line.bytes.as_slice()).as_str()]);
-    if why == Refusal::BadLength {
-        add_length(line.length, line.known, message);
-    } else if let Some(refused) = columns_refused(line.bytes.as_slice(), why) {
-        add_columns(&refused, message);
+    match (why, reader) {
+        (Refusal::BadLength, _) => add_length(line.length, line.known, message),
+        (Refusal::BankHoliday, Reader::Feeds) => {
+            add_columns(29, 29, "a holiday code is a space, X, E or G", message);
+        }
+        _ => {
+            if let Some(refused) = columns_refused(line.bytes.as_slice(), why) {
+                add_columns(refused.first, refused.last, refused.what, message);
+            }
+        }
     }
 }
 
 /// Adds which columns are refused, under the line, and what must stand there.
-fn add_columns(refused: &RefusedColumns, message: &mut Message) {
-    let before = refused.first.saturating_sub(1);
+fn add_columns(first: usize, last: usize, what: &str, message: &mut Message) {
+    let before = first.saturating_sub(1);
     let blanks = BLANKS.get(..before).unwrap_or("");
-    let carets = CARETS.get(before..refused.last).unwrap_or("");
+    let carets = CARETS.get(before..last).unwrap_or("");
     message.line(&[blanks, carets]);
-    let mut first = Buffer::new();
-    let mut last = Buffer::new();
-    let first = first.format(refused.first);
-    let last = last.format(refused.last);
-    if refused.first == refused.last {
-        message.line(&["column ", first, ": ", refused.what]);
+    let mut from = Buffer::new();
+    let mut to = Buffer::new();
+    let from = from.format(first);
+    let to = to.format(last);
+    if first == last {
+        message.line(&["column ", from, ": ", what]);
     } else {
-        message.line(&["columns ", first, "-", last, ": ", refused.what]);
+        message.line(&["columns ", from, "-", to, ": ", what]);
     }
 }
 

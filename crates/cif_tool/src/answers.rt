@@ -23,17 +23,20 @@ use cif_canon::{
 };
 use cif_columns::{Day, MAX_LINES, ReadDevice, Sink, Source, Uid, WriteDevice};
 use cif_extract::{Extract, Fault, read_extract};
-use cif_feed::Judged;
+use cif_feed::{Judged, Reasons};
 use cif_views::{Listing, clashes, day_listing, explain_listing, train_listing};
 use cif_weeks::Form;
 use std::alloc::Global;
 
-/// The extracts that a command has read, which it leaves to its caller: that of one input in `left`.
-/// `explain` and `clashes`, which report no clash, leave none.
+/// What a command leaves to its caller.
 #[derive(Drop)]
 pub struct Kept {
+    /// The extract that it has read: of two inputs the left one. `clashes` leaves none.
     pub left: Option<Extract>,
+    /// The right one of two inputs.
     pub right: Option<Extract>,
+    /// The reasons that `check --all` has listed.
+    pub reasons: Option<Reasons>,
 }
 
 /// Writes the canonical extract of what the source gives, and answers status 0.
@@ -90,7 +93,7 @@ pub fn answer_check_all<R: ReadDevice, W: WriteDevice>(
     sink: &mut Sink<W>,
     asked: &Asked,
     form: Form,
-    kept: &mut Option<Extract>,
+    kept: &mut Kept,
 ) -> Result<u8, Fault>
     ensures answer { Answers W.contents W.write_errors
         (OfInput R.remaining (IsCheckAllAnswer form asked.now) source.old)
@@ -102,11 +105,12 @@ pub fn answer_check_all<R: ReadDevice, W: WriteDevice>(
 {
     match Judged::read(alloc, source, MAX_LINES)? {
         Judged::Reasons(reasons) => {
+            kept.reasons = Some(reasons);
             let written = reasons.write(sink).map_err(Fault::from);
             finish(written, sink, REFUSED)
         }
         Judged::Extract(extract) => {
-            let counts = counted(alloc, extract, asked, form, kept)?;
+            let counts = counted(alloc, extract, asked, form, &mut kept.left)?;
             let written = write_counts(&counts, sink).map_err(Fault::from);
             finish(written, sink, DONE)
         }
@@ -255,6 +259,7 @@ pub fn answer_explain<R: ReadDevice, W: WriteDevice>(
     uid: &Uid,
     day: Day,
     format: Format,
+    kept: &mut Option<Extract>,
 ) -> Result<u8, Fault>
     ensures answer { Answers W.contents W.write_errors
         (OfInput R.remaining (IsExplainAnswer format uid.now day) source.old)
@@ -265,8 +270,9 @@ pub fn answer_explain<R: ReadDevice, W: WriteDevice>(
     ensures handed_on { IsHandedOn W.holds_nothing sink.new result }
 {
     let extract = read_extract(alloc, source, MAX_LINES)?;
+    let extract = kept.insert(extract);
     finish(
-        explain_listing(alloc, &extract, uid, day, sink, format),
+        explain_listing(alloc, extract, uid, day, sink, format),
         sink,
         DONE,
     )
@@ -340,7 +346,7 @@ pub fn answer<R: ReadDevice, W: WriteDevice>(
             file: _,
             asked,
             form,
-        } => answer_check_all(alloc, source, sink, asked, *form, &mut kept.left),
+        } => answer_check_all(alloc, source, sink, asked, *form, kept),
         Job::Compare {
             left: _,
             right: _,
@@ -379,7 +385,7 @@ pub fn answer<R: ReadDevice, W: WriteDevice>(
             day,
             file: _,
             format,
-        } => answer_explain(alloc, source, sink, uid, *day, *format),
+        } => answer_explain(alloc, source, sink, uid, *day, *format, &mut kept.left),
         Job::Clashes { file: _, asked } => answer_clashes(alloc, source, sink, asked),
     }
 }

@@ -17,10 +17,14 @@ enum Kind {
     Word,
     /// By a word that may not be left out.
     Required,
+    /// By one word or more.
+    Several,
     /// By `--ID`.
     Flag,
     /// By `-v` or `--ID`.
     Verbose,
+    /// By `--ID FILE`.
+    Name,
     /// By `--ID YYMMDD`.
     Date,
     /// By `--ID FORM`.
@@ -44,6 +48,8 @@ enum Argument {
     File,
     Left,
     Right,
+    Full,
+    Updates,
     Uid,
     Date,
     From,
@@ -51,6 +57,9 @@ enum Argument {
     All,
     Common,
     Stops,
+    Holidays,
+    DropClashes,
+    Lenient,
     Form,
     Format,
 }
@@ -80,6 +89,16 @@ impl Argument {
                 id: "RIGHT",
                 kind: Kind::Required,
                 help: help::RIGHT,
+            },
+            Argument::Full => Given {
+                id: "FULL",
+                kind: Kind::Required,
+                help: help::FULL,
+            },
+            Argument::Updates => Given {
+                id: "UPDATE",
+                kind: Kind::Several,
+                help: help::UPDATES,
             },
             Argument::Uid => Given {
                 id: "UID",
@@ -115,6 +134,21 @@ impl Argument {
                 id: "stops",
                 kind: Kind::Flag,
                 help: help::STOPS,
+            },
+            Argument::Holidays => Given {
+                id: "holidays",
+                kind: Kind::Name,
+                help: help::HOLIDAYS,
+            },
+            Argument::DropClashes => Given {
+                id: "drop-clashes",
+                kind: Kind::Flag,
+                help: help::DROP_CLASHES,
+            },
+            Argument::Lenient => Given {
+                id: "lenient",
+                kind: Kind::Flag,
+                help: help::LENIENT,
             },
             Argument::Form => Given {
                 id: "form",
@@ -166,8 +200,10 @@ fn arg_of<'a>(alloc: Global, given: Given<'a>, choices: &Choices<'a>) -> Arg<'a>
     match given.kind {
         Kind::Word => arg,
         Kind::Required => arg.required(true),
+        Kind::Several => arg.required(true).num_args(1..),
         Kind::Flag => arg.long(id).action(ArgAction::SetTrue),
         Kind::Verbose => arg.long(id).short('v').action(ArgAction::SetTrue),
+        Kind::Name => arg.long(id).value_name("FILE"),
         Kind::Date => arg.long(id).value_name("YYMMDD"),
         Kind::Form => arg
             .long(id)
@@ -297,6 +333,28 @@ fn subcommands() -> &'static [Parts<'static>]
                 Argument::File,
                 Argument::From,
                 Argument::To,
+            ],
+        },
+        Parts {
+            name: "prepare",
+            about: help::PREPARE,
+            more: help::PREPARE_MORE,
+            arguments: &[
+                Argument::Verbose,
+                Argument::File,
+                Argument::Holidays,
+                Argument::DropClashes,
+            ],
+        },
+        Parts {
+            name: "update",
+            about: help::UPDATE,
+            more: help::UPDATE_MORE,
+            arguments: &[
+                Argument::Verbose,
+                Argument::Full,
+                Argument::Updates,
+                Argument::Lenient,
             ],
         },
     ]

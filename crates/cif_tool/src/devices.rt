@@ -10,6 +10,14 @@ use std::io::{Read, Seek, SeekFrom, Write};
 use std::rt::Files;
 use std::{fs, io};
 
+/// What the user knows this file by, which is the standard input where it isn't named or is `-`.
+pub(crate) fn name_of(file: Option<&str>) -> &str {
+    match file {
+        Some(name) if !is_standard(name) => name,
+        _ => "standard input",
+    }
+}
+
 /// How many bytes are kept of what was read first: a line and its ending.
 pub(crate) const START: usize = LINE_WIDTH + 2;
 
@@ -40,10 +48,7 @@ impl<'a, R: Files + Input> ExtractInput<'a, R> {
     pub(crate) fn of(rt: &'a R, side: &'static str, file: Option<&'a str>) -> Self {
         ExtractInput {
             side,
-            name: match file {
-                Some(name) if !is_standard(name) => name,
-                _ => "standard input",
-            },
+            name: name_of(file),
             // Made where it stays: it is some kilobytes large, and stands in the frame of main.
             device: match file {
                 Some(name) if !is_standard(name) => Device::Named { files: rt, name },
@@ -139,19 +144,53 @@ impl<R: Files + Input> ReadDevice for ExtractInput<'_, R> {
     }
 }
 
-/// A writer, and where the system's number of the error goes that a write ended with.
+/// What became of an output.
+#[derive(Clone, Copy)]
+pub(crate) struct Written {
+    /// How many lines were written, of which no more than two are counted.
+    pub(crate) lines: u8,
+    /// The system's number of the error that a write ended with.
+    pub(crate) failure: Option<i32>,
+}
+
+impl Written {
+    /// Nothing was written yet.
+    pub(crate) fn new() -> Self {
+        Written {
+            lines: 0,
+            failure: None,
+        }
+    }
+
+    /// Counts the lines in these bytes.
+    fn count(&mut self, bytes: &[u8]) {
+        for byte in bytes {
+            if self.lines == 2 {
+                return;
+            }
+            if *byte == b'\n' {
+                self.lines = self.lines.saturating_add(1);
+            }
+        }
+    }
+}
+
+/// A writer, and what became of it.
 #[derive(Drop)]
 pub(crate) struct Output<'a, W> {
     pub(crate) writer: W,
-    pub(crate) failure: &'a mut Option<i32>,
+    pub(crate) written: &'a mut Written,
 }
 
 impl<W: Write> Write for Output<'_, W> {
     fn write(&mut self, bytes: &[u8]) -> io::Result<usize> {
         match self.writer.write(bytes) {
-            Ok(count) => Ok(count),
+            Ok(count) => {
+                self.written.count(bytes.get(..count).unwrap_or(bytes));
+                Ok(count)
+            }
             Err(error) => {
-                *self.failure = error.raw_os_error();
+                self.written.failure = error.raw_os_error();
                 Err(error)
             }
         }

@@ -3,9 +3,11 @@
 pub(crate) const CIF: &str = "Works out what runs on each date of a CIF timetable extract";
 
 pub(crate) const CIF_MORE: &str = "\
-Each command reads full extracts: lines of 80 columns, from HD to ZZ. A date
-is six digits, YYMMDD. Faults go to standard error; --verbose says more about
-them. `cif help COMMAND` says what a command prints.
+Each command reads full extracts: lines of 80 columns, from HD to ZZ. Those
+with holiday codes, open end dates, notes or comments go through `cif prepare`
+first, and update extracts through `cif update`. A date is six digits, YYMMDD.
+Faults go to standard error; --verbose says more about them. `cif help COMMAND`
+says what a command prints.
 
 Example:
   cif normalise extract.cif > canonical.cif
@@ -14,7 +16,7 @@ Statuses:
   0  success; for compare and diff: no difference; for clashes: no clash
   1  for compare and diff: a difference; for clashes: a clash
   2  a usage error
-  3  an extract is refused, or its window doesn't fit what was asked for
+  3  an input is refused, or its window doesn't fit what was asked for
   4  reading or writing failed, or memory ran out";
 
 pub(crate) const NORMALISE: &str = "Writes the canonical extract of what the input says";
@@ -177,11 +179,61 @@ Statuses:
   3  the input is refused, or the dates asked for don't fit its window
   4  reading or writing failed, or memory ran out";
 
+pub(crate) const PREPARE: &str = "Turns a published extract into one that all commands read";
+
+pub(crate) const PREPARE_MORE: &str = "\
+Prints an extract in which the same runs on each date of the window, without
+comments, notes, open end dates and holiday codes. An open end becomes the last
+date of the window, or the record's first date if that is later. A record with
+a holiday code is split at its holidays, on which it doesn't run.
+A line of --holidays is a code, X, E or G, and dates; # begins a remark:
+  X 260406 260504   # bank holiday Mondays
+  E 260420          # Edinburgh; G is Glasgow
+With --drop-clashes standard error says what was left out, in lines that begin
+with `cif: dropped: ` and go on as those of `cif clashes`.
+
+Examples:
+  cif prepare --holidays holidays.txt published.cif > extract.cif
+  cif prepare --drop-clashes published.cif > extract.cif
+
+Statuses:
+  0  success
+  2  a usage error
+  3  the extract or the holidays are refused
+  4  reading or writing failed, or memory ran out";
+
+pub(crate) const UPDATE: &str = "Applies update extracts to a full extract";
+
+pub(crate) const UPDATE_MORE: &str = "\
+Prints the full extract that the updates, one after the other, make of FULL,
+which may be a published one, with holiday codes, open end dates, notes and
+comments. The output can be the FULL of the next update. `cif prepare` makes an
+extract of it that all commands read.
+An update is refused where it puts a record that is there already, or changes
+or deletes one that isn't there. With --lenient it replaces the one that is
+there, puts the one that isn't, or deletes nothing, and standard error says so:
+  cif: line N: AlreadyThere (waived)
+  cif: line N: NotThere (waived)
+
+Examples:
+  cif update full.cif update.cif > new.cif
+  cif update --lenient full.cif monday.cif tuesday.cif > new.cif
+
+Statuses:
+  0  success
+  2  a usage error
+  3  an extract is refused, or an update doesn't fit what it applies to
+  4  reading or writing failed, or memory ran out";
+
 pub(crate) const FILE: &str = "The extract to read; - is standard input [default: -]";
 
 pub(crate) const LEFT: &str = "One extract; - is standard input";
 
 pub(crate) const RIGHT: &str = "The extract that it is compared with; - is standard input";
+
+pub(crate) const FULL: &str = "The full extract; - is standard input";
+
+pub(crate) const UPDATES: &str = "The update extracts, in their order; - is standard input";
 
 pub(crate) const DATE: &str = "The date, such as 260114 for 14 January 2026";
 
@@ -198,6 +250,12 @@ pub(crate) const ALL: &str = "Judge each line by itself, and count the reasons";
 pub(crate) const COMMON: &str = "Use the common window for dates that aren't given";
 
 pub(crate) const STOPS: &str = "List the calls of each train too";
+
+pub(crate) const HOLIDAYS: &str = "The dates of the holiday codes; - is standard input";
+
+pub(crate) const DROP_CLASHES: &str = "Leave out associations and trains that have a clash";
+
+pub(crate) const LENIENT: &str = "Go on where a record is there already, or isn't there";
 
 pub(crate) const FORM: &str = "How to join weeks";
 

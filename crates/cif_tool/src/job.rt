@@ -13,7 +13,17 @@ use cif_weeks::Form;
 use clap::error::ErrorKind;
 use std::alloc::{AllocError, Global};
 
-/// What a call of `cif` asks for. A file that isn't named is the standard input, and so is `-`.
+/// What a call of `cif` asks for.
+#[derive(Drop)]
+pub enum Task {
+    /// Something of extracts.
+    Extract(Job),
+    /// Something of published extracts.
+    Feed(FeedJob),
+}
+
+/// What a call of `cif` asks for that reads extracts. A file that isn't named is the standard
+/// input, and so is `-`.
 #[derive(Drop)]
 pub enum Job {
     /// To write the canonical extract.
@@ -101,8 +111,28 @@ impl Job {
     }
 }
 
+/// What a call of `cif` asks for that reads published extracts. A file that isn't named is the
+/// standard input, and so is `-`; holidays that aren't named are none.
+#[derive(Drop)]
+pub enum FeedJob {
+    /// To write the prepared extract of a published one. With `drop_clashes`, what clashes in it is
+    /// left out.
+    Prepare {
+        holidays: Option<String>,
+        drop_clashes: bool,
+        file: Option<String>,
+    },
+    /// To write what updates, one after the other, make of a full published extract. With `lenient`,
+    /// a line whose key is there already, or isn't there, is waived.
+    Update {
+        full: String,
+        updates: Vec<String>,
+        lenient: bool,
+    },
+}
+
 /// The bytes of the longest line that names a fault, with its line feed.
-const LONGEST_LINE: usize = 44;
+const LONGEST_LINE: usize = 49;
 
 /// Why a call of `cif` asks for nothing.
 #[derive(Drop)]
@@ -115,6 +145,10 @@ pub enum JobFault {
     BadUid,
     /// Both inputs of `compare` or `diff` are the standard input.
     OneInput,
+    /// The holidays and the extract of `prepare` are both the standard input.
+    OneInputOfPrepare,
+    /// Two or more of the extracts of `update` are the standard input.
+    OneInputOfUpdate,
     /// Memory ran out.
     Memory,
 }
@@ -178,7 +212,11 @@ impl JobFault {
                 ErrorKind::DisplayHelp | ErrorKind::DisplayVersion => DONE,
                 _ => MISTAKEN,
             },
-            JobFault::BadDate | JobFault::BadUid | JobFault::OneInput => MISTAKEN,
+            JobFault::BadDate
+            | JobFault::BadUid
+            | JobFault::OneInput
+            | JobFault::OneInputOfPrepare
+            | JobFault::OneInputOfUpdate => MISTAKEN,
             JobFault::Memory => FAILED,
         }
     }
@@ -193,6 +231,8 @@ impl JobFault {
             JobFault::BadDate => Some("cif: bad date"),
             JobFault::BadUid => Some("cif: bad UID"),
             JobFault::OneInput => Some("cif: LEFT and RIGHT are both standard input"),
+            JobFault::OneInputOfPrepare => Some("cif: --holidays and FILE are both standard input"),
+            JobFault::OneInputOfUpdate => Some("cif: two inputs are standard input"),
             JobFault::Memory => Some("cif: Memory"),
         }
     }

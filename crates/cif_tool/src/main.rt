@@ -5,6 +5,7 @@ mod advice;
 mod answers;
 mod command_line;
 mod devices;
+mod feeds;
 mod help;
 mod job;
 mod message;

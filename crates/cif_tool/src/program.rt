@@ -2,10 +2,11 @@
 //! show it on the built program.
 use crate::advice::{advise, advise_on_word};
 use crate::answers::{Kept, answer};
-use crate::devices::{ExtractInput, Output};
-use crate::job::{Job, JobFault};
+use crate::devices::{ExtractInput, Output, Written};
+use crate::feeds::feed_task;
+use crate::job::{Job, JobFault, Task};
 use crate::status::{MISTAKEN, end};
-use crate::words::job_of;
+use crate::words::task_of;
 use cif_columns::{ReadDevice, Sink, Source, WriteDevice};
 use cif_extract::Fault;
 use std::alloc::Global;
@@ -15,7 +16,7 @@ use std::rt::Files;
 use std::{env, io, mem};
 
 /// The bytes of output that are gathered before they are written.
-const OUTPUT_BUFFER: usize = 65_536;
+pub(crate) const OUTPUT_BUFFER: usize = 65_536;
 
 const NOT_TEXT: &str =
     "error: an argument is no text in UTF-8\n\nFor more information, try '--help'.\n";
@@ -44,11 +45,14 @@ fn asked<R: Env + Files + Input + Print + AllocGlobal, W: WriteDevice>(
     errors: &mut Sink<W>,
 ) -> u8 {
     let verbose = is_verbose(words.as_slice());
-    match job_of(rt.alloc(), words) {
-        Ok(job) => {
-            let status = done(rt, &job, verbose, errors);
+    match task_of(rt.alloc(), words) {
+        Ok(task) => {
+            let status = match &task {
+                Task::Extract(job) => done(rt, job, verbose, errors),
+                Task::Feed(job) => feed_task(rt, job, verbose, errors),
+            };
             // The process ends after this: nothing is gained by freeing it.
-            mem::forget(job);
+            mem::forget(task);
             status
         }
         Err(fault) => refused(rt, fault, verbose, errors),
@@ -56,7 +60,7 @@ fn asked<R: Env + Files + Input + Print + AllocGlobal, W: WriteDevice>(
 }
 
 /// Says why the words ask for nothing, and returns the status to exit with.
-// Inlined, it would keep its faults on the stack while the job is done.
+// Inlined, it would keep its faults on the stack while the task is done.
 #[inline(never)]
 fn refused<R: Env + Print + AllocGlobal, W: WriteDevice>(
     rt: &R,
@@ -92,6 +96,8 @@ fn is_verbose(words: &[String]) -> bool {
 }
 
 /// Answers the job on the standard output, and returns the status to exit with.
+// Inlined, it would keep its inputs on the stack while a feed is read.
+#[inline(never)]
 fn done<R: Files + Input + Print + AllocGlobal, W: WriteDevice>(
     rt: &R,
     job: &Job,
@@ -107,22 +113,24 @@ fn done<R: Files + Input + Print + AllocGlobal, W: WriteDevice>(
     let alloc = rt.alloc();
     let mut left = Source::new(ExtractInput::of(rt, side, file));
     let mut right = Source::new(ExtractInput::of(rt, right_side, right_file));
-    let mut failure = None;
+    let mut written = Written::new();
     let output = Output {
         writer: io::writer(rt),
-        failure: &mut failure,
+        written: &mut written,
     };
     let mut kept = Kept {
         left: None,
         right: None,
+        reasons: None,
     };
     let answer = answered(alloc, job, &mut left, &mut right, output, &mut kept);
     let status = end(&answer, errors);
     if verbose {
         advise(
             alloc,
+            job,
             &answer,
-            failure,
+            &written,
             left.reader(),
             right.reader(),
             &mut kept,

@@ -1,17 +1,19 @@
 //! What the words of a call ask for.
-ghost use Rattle.std.specs.Prelude.{◌≡◌, ◌≢◌, ◌⊎◌, IfOk, IfErr, IsSomeAnd, MatchOption, Some};
-ghost use Rattle.std.specs.Prelude.{codes, map, option_map, string_bytes};
-ghost use Rattle.clap.specs.Words.{first_of, found_of, kind_of, rows_of};
+ghost use Rattle.std.specs.Prelude.{◌≡◌, ◌≢◌, ◌⊎◌, ◌<◌, ◌≤◌, ◌∷◌, IfOk, IfErr, IsSomeAnd};
+ghost use Rattle.std.specs.Prelude.{MatchOption, Some, codes, false, map, option_map, string_bytes};
+ghost use Rattle.std.specs.Prelude.{true};
+ghost use Rattle.clap.specs.Words.{all_of, first_of, found_of, kind_of, rows_of};
 ghost use Rattle.clap.specs.Words.{subcommand_rows_of};
 ghost use Rattle.cif_columns.specs.Day.{StandsInYymmdd};
-ghost use Rattle.cif_tool.specs.Job.{Asks, HasFile, HasWord, IsAskedBy};
-ghost use Rattle.cif_tool.specs.Job.{IsChosen, IsDateOf, IsTaken, IsUidWord, form_of, format_of, is_set};
-ghost use Rattle.cif_tool.specs.Job.{is_standard, listing_of};
-ghost use Rattle.cif_tool.specs.JobFault.{HasBadDate, IsFaultOf, IsJobOf, IsWordFault, NamesNoDay};
-ghost use Rattle.cif_tool.specs.JobFault.{IsNoUid};
+ghost use Rattle.cif_tool.specs.Job.{Asks, HasFile, HasWord, IsAskedBy, IsChosen, IsDateOf};
+ghost use Rattle.cif_tool.specs.Job.{IsExtractTaken, IsTaken, IsTaskChosen, IsUidWord, form_of, format_of};
+ghost use Rattle.cif_tool.specs.Job.{is_set, is_standard, listing_of, names_standard, reads_standard};
+ghost use Rattle.cif_tool.specs.Job.{standard_inputs};
+ghost use Rattle.cif_tool.specs.JobFault.{HasBadDate, IsFaultOf, IsFeedJobOf, IsJobOf, IsNoUid};
+ghost use Rattle.cif_tool.specs.JobFault.{IsTaskOf, IsWordFault, NamesNoDay};
 
 use crate::command_line::matches_of;
-use crate::job::{Job, JobFault};
+use crate::job::{FeedJob, Job, JobFault, Task};
 use cif_canon::{Asked, Format};
 use cif_columns::{Day, Uid, are_printable};
 use cif_views::Listing;
@@ -29,12 +31,12 @@ static FORMATS: [&str; 2] = ["text", "tsv"];
 /// What the words of a call ask for, of which the first is the program's name.
 ///
 /// `Usage` comes where `clap` refuses the words, or where they ask for help or for the version;
-/// else `BadUid` where a UID is no UID, else `BadDate` where a date is no date, and else `OneInput`
-/// where both inputs are the standard input; `Memory` where memory ran out, in `clap` or in this
-/// call itself.
+/// else `BadUid` where a UID is no UID, else `BadDate` where a date is no date, and else `OneInput`,
+/// `OneInputOfPrepare` or `OneInputOfUpdate` where two inputs are the standard input; `Memory` where
+/// memory ran out, in `clap` or in this call itself.
 // Inlined, it would keep `clap`'s 25 KiB on the stack while the job is done.
 #[inline(never)]
-pub fn job_of(alloc: Global, words: Vec<String>) -> Result<Job, JobFault>
+pub fn task_of(alloc: Global, words: Vec<String>) -> Result<Task, JobFault>
     ensures asked { IfOk result (Asks (map string_bytes words.items)) }
     ensures refused { IfErr result (IsFaultOf (map string_bytes words.items)) }
 {
@@ -44,7 +46,7 @@ pub fn job_of(alloc: Global, words: Vec<String>) -> Result<Job, JobFault>
         FORMATS.as_slice(),
         words.as_slice(),
     ) {
-        Ok(matches) => chosen_job(alloc, &matches),
+        Ok(matches) => chosen_task(alloc, &matches),
         Err(error) => Err(fault_of_error(error)),
     }
 }
@@ -91,21 +93,33 @@ fn fault_of_error(error: clap::Error) -> JobFault
 // ---- the jobs
 
 /// What the subcommand that was entered asks for.
-fn chosen_job(alloc: Global, matches: &ArgMatches<'_>) -> Result<Job, JobFault>
+fn chosen_task(alloc: Global, matches: &ArgMatches<'_>) -> Result<Task, JobFault>
     requires { IsSomeAnd (subcommand_rows_of matches.now) IsTaken }
-    ensures ok { IfOk result (λ job. IsSomeAnd (subcommand_rows_of matches.now) (IsChosen job)) }
+    ensures ok { IfOk result (λ task. IsSomeAnd (subcommand_rows_of matches.now) (IsTaskChosen task)) }
     ensures err { IfErr result (λ fault.
         IsSomeAnd (subcommand_rows_of matches.now) (IsWordFault fault)) }
 {
     match matches.subcommand() {
-        Some((name, inner)) => named_job(alloc, name, inner),
+        Some((name, inner)) => named_task(alloc, name, inner),
         None => unreachable!(),
     }
 }
 
 /// What the subcommand of this name asks for.
-fn named_job(alloc: Global, name: &str, matches: &ArgMatches<'_>) -> Result<Job, JobFault>
+fn named_task(alloc: Global, name: &str, matches: &ArgMatches<'_>) -> Result<Task, JobFault>
     requires { IsTaken (name.now, rows_of (found_of matches.now)) }
+    ensures { IsTaskOf (name.now, rows_of (found_of matches.now)) result }
+{
+    match name {
+        "prepare" => Ok(Task::Feed(prepare_job(alloc, matches)?)),
+        "update" => Ok(Task::Feed(update_job(alloc, matches)?)),
+        _ => Ok(Task::Extract(named_job(alloc, name, matches)?)),
+    }
+}
+
+/// What the subcommand of this name, which reads extracts, asks for.
+fn named_job(alloc: Global, name: &str, matches: &ArgMatches<'_>) -> Result<Job, JobFault>
+    requires { IsExtractTaken (name.now, rows_of (found_of matches.now)) }
     ensures { IsJobOf (name.now, rows_of (found_of matches.now)) result }
 {
     match name {
@@ -228,6 +242,39 @@ fn clashes_job(alloc: Global, matches: &ArgMatches<'_>) -> Result<Job, JobFault>
     })
 }
 
+/// What `prepare` asks for.
+fn prepare_job(alloc: Global, matches: &ArgMatches<'_>) -> Result<FeedJob, JobFault>
+    ensures { IsFeedJobOf (codes "prepare", rows_of (found_of matches.now)) result }
+{
+    let holidays = word_of(matches, "holidays");
+    if names_standard(holidays) && reads_standard(word_of(matches, "FILE")) {
+        return Err(JobFault::OneInputOfPrepare);
+    }
+    Ok(FeedJob::Prepare {
+        holidays: name_of(alloc, matches, "holidays")?,
+        drop_clashes: has_flag(matches, "drop-clashes"),
+        file: file_of(alloc, matches)?,
+    })
+}
+
+/// What `update` asks for.
+fn update_job(alloc: Global, matches: &ArgMatches<'_>) -> Result<FeedJob, JobFault>
+    requires full { HasWord (codes "FULL") (rows_of (found_of matches.now)) }
+    requires updates { HasWord (codes "UPDATE") (rows_of (found_of matches.now)) }
+    ensures { IsFeedJobOf (codes "update", rows_of (found_of matches.now)) result }
+{
+    let full = required_word(matches, "FULL");
+    let updates = required_words(matches, "UPDATE");
+    if share_standard(full, updates) {
+        return Err(JobFault::OneInputOfUpdate);
+    }
+    Ok(FeedJob::Update {
+        full: String::from_str(alloc, full)?,
+        updates: copied(alloc, updates)?,
+        lenient: has_flag(matches, "lenient"),
+    })
+}
+
 // ---- what the matches hold
 
 /// The word under this id, if there is one.
@@ -246,6 +293,23 @@ fn required_word<'a>(matches: &ArgMatches<'a>, id: &str) -> &'a str
     word_of(matches, id).unwrap()
 }
 
+/// The words under this id, in their order, if there are any.
+fn words_of<'m, 'a>(matches: &'m ArgMatches<'a>, id: &str) -> Option<&'m [&'a str]>
+    ensures { option_map (λ words. map (λ word. word.now) words.now) result
+        ≡ all_of id.now (rows_of (found_of matches.now)) }
+{
+    matches.get_strs(id)
+}
+
+/// The words under this id, in their order, of which there is at least one.
+fn required_words<'m, 'a>(matches: &'m ArgMatches<'a>, id: &str) -> &'m [&'a str]
+    requires { HasWord id.now (rows_of (found_of matches.now)) }
+    ensures { all_of id.now (rows_of (found_of matches.now))
+        ≡ Some (map (λ word. word.now) result.now) }
+{
+    words_of(matches, id).unwrap()
+}
+
 /// Whether the word stands for the standard input.
 pub(crate) fn is_standard(word: &str) -> bool
     ensures { result ≡ is_standard word.now }
@@ -253,15 +317,83 @@ pub(crate) fn is_standard(word: &str) -> bool
     word == "-"
 }
 
+/// Whether there is such a word, and it stands for the standard input.
+fn names_standard(word: Option<&str>) -> bool
+    ensures { result ≡ names_standard (option_map (λ word. word.now) word.entry) }
+{
+    match word {
+        Some(word) => is_standard(word),
+        None => false,
+    }
+}
+
+/// Whether this FILE, which may be absent, stands for the standard input.
+fn reads_standard(file: Option<&str>) -> bool
+    ensures { result ≡ reads_standard (option_map (λ word. word.now) file.entry) }
+{
+    match file {
+        Some(word) => is_standard(word),
+        None => true,
+    }
+}
+
+/// Whether two or more of the words stand for the standard input.
+fn share_standard(full: &str, updates: &[&str]) -> bool
+    ensures shared { (result ≡ true)
+        → 1 < standard_inputs (full.now ∷ map (λ word. word.now) updates.now) }
+    ensures alone { (result ≡ false)
+        → standard_inputs (full.now ∷ map (λ word. word.now) updates.now) ≤ 1 }
+{
+    let count = standard_inputs(updates);
+    if is_standard(full) {
+        0 < count
+    } else {
+        1 < count
+    }
+}
+
+/// How many of the words stand for the standard input.
+fn standard_inputs(words: &[&str]) -> usize
+    ensures { result ≡ standard_inputs (map (λ word. word.now) words.now) }
+{
+    let mut count = 0;
+    for word in words {
+        if is_standard(word) {
+            count += 1;
+        }
+    }
+    count
+}
+
+/// The words, in memory of their own.
+fn copied(alloc: Global, words: &[&str]) -> Result<Vec<String>, AllocError>
+    ensures { IfOk result (λ made. map string_bytes made.items
+        ≡ map (λ word. word.now) words.now) }
+{
+    let mut made = Vec::with_capacity(alloc, words.len())?;
+    for word in words {
+        made.push(String::from_str(alloc, word)?)?;
+    }
+    Ok(made)
+}
+
+/// The name under this id, if there is one.
+fn name_of(alloc: Global, matches: &ArgMatches<'_>, id: &str) -> Result<Option<String>, AllocError>
+    ensures { IfOk result (λ name. option_map string_bytes name
+        ≡ first_of id.now (rows_of (found_of matches.now))) }
+{
+    match word_of(matches, id) {
+        Some(name) => Ok(Some(String::from_str(alloc, name)?)),
+        None => Ok(None),
+    }
+}
+
 /// The file that the words name, if they name one.
 fn file_of(alloc: Global, matches: &ArgMatches<'_>) -> Result<Option<String>, AllocError>
     ensures { IfOk result (λ file. HasFile (rows_of (found_of matches.now))
         (option_map string_bytes file)) }
 {
-    match word_of(matches, "FILE") {
-        Some(name) => Ok(Some(String::from_str(alloc, name)?)),
-        None => Ok(None),
-    }
+    name_of(alloc, matches, "FILE")
 }
 
 /// The window that the words ask for.

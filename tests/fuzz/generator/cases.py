@@ -1,7 +1,6 @@
 """Cases: a job, its inputs, and the timetable from which the first of them was made."""
 from collections import namedtuple
 
-from reference import HAS_FEEDS
 from reference.answers import Job, OF_FEEDS, OF_TWO, OPTIONS
 from reference.dates import DAY, yymmdd
 
@@ -18,7 +17,7 @@ from .windows import bounded, some_day, some_window, with_one_end_moved
 Case = namedtuple("Case", "job inputs timetable")
 
 COMMANDS = {"normalise": 32, "check": 6, "compare": 14, "diff": 16, "day": 7, "train": 10, "explain": 9, "clashes": 6}
-COMMANDS |= {"prepare": 12, "update": 14} if HAS_FEEDS else {}
+COMMANDS |= {command: 13 for command in OF_FEEDS}
 
 FORMS = (None, None, "1", "1", "2")
 NO_FORMS = ("3", "0", "", "12", "1 ", "one")

@@ -2,6 +2,3 @@
 
 It shares nothing with the program. Where a rule speaks of each date, each date is looked at, and each record for it.
 """
-
-# Whether the program has the commands `prepare` and `update`.
-HAS_FEEDS = False

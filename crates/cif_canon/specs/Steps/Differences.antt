@@ -1,5 +1,5 @@
--- Extracts that are compared, and the first day on which two calendars differ. No public clause cites it.
-use Rattle.std.specs.Prelude.{◌≡◌, ℕ, ◌≤◌, ◌<◌, List, Option, Some, None, IsSome}
+-- Extracts that are compared, and days on which two calendars have the same bodies. No public clause cites it.
+use Rattle.std.specs.Prelude.{◌≡◌, ℕ, ◌≤◌, List, Option, Some, IsSome}
 use Rattle.cif_calendar.specs.Pieces.{winner_of}
 use Rattle.cif_calendar.specs.Source.{body_at}
 use Rattle.cif_calendar.specs.Terms.{Terms}
@@ -8,17 +8,9 @@ use Rattle.cif_extract.specs.ExtractParts.{ExtractParts}
 use Rattle.cif_canon.specs.Accepted.{IsClearExtract}
 use Rattle.cif_canon.specs.Asked.{header_window}
 
--- it holds of the days from `first` to `last` before this one, and not of this one
-pub record IsFirstOther (alike : ℕ → Type 0) (first last day : ℕ) : Type 0 where
-  pub from : first ≤ day
-  pub upto : day ≤ last
-  pub other : ¬ alike day
-  pub before : (d : ℕ) → first ≤ d → d < day → alike d
-
--- the first of the days from `first` to `last` of which it doesn't hold; none where it holds of all
-abbrev pub FindsOther : (ℕ → Type 0) → ℕ → ℕ → Option ℕ → Type 0
-FindsOther alike first last None = (d : ℕ) → first ≤ d → d ≤ last → alike d
-FindsOther alike first last (Some day) = IsFirstOther alike first last day
+-- it holds of the days from `first` to `last`
+abbrev pub HoldsFrom : (ℕ → Type 0) → ℕ → ℕ → Type 0
+HoldsFrom holds first last = (d : ℕ) → first ≤ d → d ≤ last → holds d
 
 -- a source is none, or the position of an entry with a body
 abbrev pub IsBodied : {B : Type 0} → List (Terms B) → Option ℕ → Type 0

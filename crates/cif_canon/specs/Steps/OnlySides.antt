@@ -21,9 +21,12 @@ use Rattle.cif_weeks.specs.WhatRuns.{HasBody}
 use Rattle.cif_weeks.specs.Window.{Window, IsWithin}
 use Rattle.cif_weeks.specs.declared.form.Form.TheVariants.{Two}
 use Rattle.cif_weeks.specs.declared.run.Run.{Run}
+use Rattle.cif_canon.specs.Comparison.{IsFirstDifference}
 use Rattle.cif_canon.specs.Differences.{AreDifferentRecords, TurnInto, of_side}
 use Rattle.cif_canon.specs.Steps.Records.{IsRunOf}
 use Rattle.cif_canon.specs.Steps.Sides.{at_side}
+use Rattle.cif_canon.specs.declared.differing.Extent.{Extent}
+use Rattle.cif_canon.specs.declared.differing.Extent.TheVariants.{AllKeys}
 use Rattle.cif_canon.specs.declared.listed_differences.Side.{Side}
 use Rattle.cif_canon.specs.declared.listed_differences.Side.TheVariants.{Left, Right}
 use Rattle.cif_canon.specs.declared.listed_differences.Sided.{Sided}
@@ -147,12 +150,20 @@ pub record IsSidedRunOf {K B : Type 0} (xs ys : List (K × Terms B)) (run : Side
   pub side : run.side ≡ e.side
   pub run_of : IsRunOf (at_side xs ys e.side) run.it e.it
 
--- The runs are, one by one, those of the differences of two lists; these turn the one into the other, and there is none exactly where
--- the lists say the same.
-pub record AreDifferentRuns {K B : Type 0} (cmp : K → K → Ordering) (window : Window) (xs ys : List (K × Terms B)) (runs : List (Sided Run))
-    : Type 0 where
+-- what is first of what is found: nothing where the lists say the same, and else a record with the key and the day of the first
+-- difference
+abbrev pub IsFirstFound : {K B : Type 0} → (K → K → Ordering) → Window → List (K × Terms B) → List (K × Terms B)
+    → List (Sided (K × Permanent B)) → Type 0
+IsFirstFound cmp window xs ys [] = EntriesSayTheSame xs ys window.first window.last
+IsFirstFound cmp window xs ys (s ∷ found) = IsFirstDifference cmp xs ys window.first window.last s.it.0 s.it.1.first
+
+-- The runs are, one by one, those of records, of which the first is at the first difference of two lists, and there is none where the
+-- lists say the same. Of all keys they are the differences of the lists, and turn the one into the other.
+pub record AreDifferentRuns {K B : Type 0} (cmp : K → K → Ordering) (window : Window) (xs ys : List (K × Terms B)) (extent : Extent)
+    (runs : List (Sided Run)) : Type 0 where
   pub found : List (Sided (K × Permanent B))
   pub runs_of : AllZip (IsSidedRunOf xs ys) runs found
-  pub different : AreDifferentRecords cmp window xs ys found
-  pub turn : TurnInto window xs ys found
-  pub none : (found ≡ []) ↔ EntriesSayTheSame xs ys window.first window.last
+  pub first : IsFirstFound cmp window xs ys found
+  pub none : EntriesSayTheSame xs ys window.first window.last → found ≡ []
+  pub different : extent ≡ AllKeys → AreDifferentRecords cmp window xs ys found
+  pub turn : extent ≡ AllKeys → TurnInto window xs ys found

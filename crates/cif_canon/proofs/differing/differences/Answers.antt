@@ -9,6 +9,7 @@ use Rattle.cif_weeks.specs.Window.{Window}
 use Rattle.cif_canon.specs.Asked.{header_window}
 use Rattle.cif_canon.specs.Differences.{AreDifferentTiplocs}
 use Rattle.cif_canon.specs.Steps.OnlySides.{AreDifferentRuns}
+use Rattle.cif_canon.specs.declared.differing.Extent.TheVariants.{AllKeys}
 use Rattle.cif_canon.proofs.ListedDifferences.{are-differences, kind-records, none-agree, turn-left}
 use Rattle.cif_canon.proofs.differing.differences.Goals as goal
 use Rattle.cif_canon.proofs.differing.differences.Goals.{After-of-window, In-Ok-different_records, In-Ok-different_records-2, In-Ok}
@@ -26,14 +27,14 @@ tiplocs c = rw (c.as_slice.ensures.value, c.as_slice-2.ensures.value) at c.in-Ok
 
 associations : (c : In-Ok-different_records) → AreDifferentRuns key_cmp (header_window c.args.left.now.header)
     (association_entries c.args.left.now.associations.items) (association_entries c.args.right.now.associations.items)
-    c.in-Ok-different_records.associations.items
+    AllKeys c.in-Ok-different_records.associations.items
 associations c =
     rw (c.as_slice-3.ensures.value, c.as_slice-4.ensures.value, c.of-window.ensures.first, c.of-window.ensures.last) at
     c.in-Ok-different_records.ensures
 
 schedules : (c : In-Ok-different_records-2) → AreDifferentRuns (slice_cmp nat_cmp) (header_window c.args.left.now.header)
     (schedule_entries c.args.left.now.schedules.items) (schedule_entries c.args.right.now.schedules.items)
-    c.in-Ok-different_records-2.schedules.items
+    AllKeys c.in-Ok-different_records-2.schedules.items
 schedules c =
     rw (c.as_slice-5.ensures.value, c.as_slice-6.ensures.value, c.of-window.ensures.first, c.of-window.ensures.last) at
     c.in-Ok-different_records-2.ensures

@@ -1,24 +1,23 @@
 -- The fronts of both rests are the positions of one key (`ComparedKeys`), whose differences go behind the others (`found-key`).
-use Rattle.std.proofs.Common.{◌<◌, ◌∙◌, ℕ, List, [], length, sym, subst}
+use Rattle.std.proofs.Common.{◌<◌, ◌∙◌, ℕ, List, [], length, refl, sym, subst}
 use Rattle.std.specs.Prelude.{All}
 use Rattle.std.proofs.lemmas.List.{nil_from_length}
 use Rattle.std.proofs.lemmas.Result.{IfOk-from_err}
 use Rattle.std.proofs.lemmas.List.Elements.{All-drop, All-take}
-use Rattle.cif_calendar.specs.Keys.{keyed}
+use Rattle.cif_calendar.specs.Keys.{ArePositionsOf, keyed}
 use Rattle.cif_calendar.proofs.FirstClash.{same_key-cmp}
 use Rattle.cif_weeks.specs.declared.run.Run.{Run}
 use Rattle.cif_weeks.specs.Window.{window_from}
 use Rattle.cif_weeks.proofs.CalendarSources.{calendar_sources}
 use Rattle.cif_calendar.specs.ByKey.{AreAllByKey}
 use Rattle.cif_canon.specs.declared.listed_differences.Sided.{Sided}
-use Rattle.cif_canon.proofs.ComparedCalendars.{clear-positions}
 use Rattle.cif_canon.proofs.ComparedKeys.{AreTurns, turns}
-use Rattle.cif_canon.proofs.FoundRecords.{AreFound, AreTold, found-all, found-first, found-key}
-use Rattle.cif_canon.proofs.KeyDifferences.{key-only, key-told}
+use Rattle.cif_canon.proofs.FoundRecords.{AreFound, AreTold, found-all, found-enough, found-first, found-key}
+use Rattle.cif_canon.proofs.KeyDifferences.{clear-positions, key-only, key-told}
 use Rattle.cif_calendar.proofs.KeyPositions.{all-within}
 use Rattle.cif_canon.proofs.differing.different_records.Given.{Over}
 use Rattle.cif_canon.proofs.differing.different_records.Goals as goal
-use Rattle.cif_canon.proofs.differing.different_records.Goals.{In-Some}
+use Rattle.cif_canon.proofs.differing.different_records.Goals.{In-Some, In_ok-push_differences}
 
 pub loop-first-init : goal.loop-first-init
 loop-first-init g c =
@@ -69,8 +68,7 @@ fronts g c =
     let s = c.in-Some.ensures in
     rw (s.left_split.front_is, s.left_split.later_is, s.right_split.front_is, s.right_split.later_is)
     (turns cmp g.met.E.Key.Ord.total
-    (same_key-cmp g.E.Key.PartialEq.eq cmp g.met.E.Key.Ord.matches_eq g.met.E.Entry.same_key) xs ys c.args.window.now.first
-    c.args.window.now.last l r (AreTold window xs ys found.found) found.passed (g.E.Entry.key c.in-Some.first.entry.now)
+    (same_key-cmp g.E.Key.PartialEq.eq cmp g.met.E.Key.Ord.matches_eq g.met.E.Entry.same_key) xs ys l r (AreTold window xs ys found.found) found.passed (g.E.Entry.key c.in-Some.first.entry.now)
     s.first _ _
     s.left_split.is_front s.right_split.is_front)
 
@@ -113,10 +111,16 @@ push_differences-requires-clause-right g c = calendar_sources _ _ _ _ _ c.in_ok-
 pub loop-first-smaller : goal.loop-first-smaller
 loop-first-smaller g c = (fronts g (goal.at.loop-first-smaller g c).In-Some).smaller
 
-pub loop-first-preserved : goal.loop-first-preserved
-loop-first-preserved g c =
-    let both = fronts g (goal.at.loop-first-preserved g c).In-Some in
-    let cmp = g.E.Key.Ord.cmp in
+-- with the key's differences behind the others
+more : (g : Over) (c : In_ok-push_differences g) →
+    ArePositionsOf (keyed g.E.Entry.key g.E.Entry.terms c.args.left.now) (g.E.Entry.key c.in-Some.first.entry.now)
+    c.in-Some.first.left.now →
+    ArePositionsOf (keyed g.E.Entry.key g.E.Entry.terms c.args.right.now) (g.E.Entry.key c.in-Some.first.entry.now)
+    c.in-Some.first.right.now →
+    AreFound g.E.Key.Ord.cmp (window_from c.args.window.now.first c.args.window.now.last)
+    (keyed g.E.Entry.key g.E.Entry.terms c.args.left.now) (keyed g.E.Entry.key g.E.Entry.terms c.args.right.now)
+    c.in-Some.first.left_later.now c.in-Some.first.right_later.now c.push_differences.new.found.items
+more g c left right =
     let key = g.E.Entry.key in
     let terms = g.E.Entry.terms in
     let cancelled = g.met.E.Entry.cancelled in
@@ -124,30 +128,45 @@ loop-first-preserved g c =
     let fs = c.args.right.now in
     let first = c.args.window.now.first in
     let last = c.args.window.now.last in
-    let k = g.E.Entry.key c.in-Some.first.entry.now in
-    let same = same_key-cmp g.E.Key.PartialEq.eq cmp g.met.E.Key.Ord.matches_eq g.met.E.Entry.same_key in
+    let k = key c.in-Some.first.entry.now in
+    let same = same_key-cmp g.E.Key.PartialEq.eq g.E.Key.Ord.cmp g.met.E.Key.Ord.matches_eq g.met.E.Entry.same_key in
     let one = c.in_ok-one.ensures in
     let other = c.in_ok-other.ensures in
     let d = c.in_ok-push_differences.ensures in
     let f = c.in-Some.ensures in
-    record {
-      left_within = subst (λ (rest : List ℕ). All (λ i. i < length es) rest) (sym c.in-Some.ensures.left_split.later_is)
-          (All-drop (λ i. i < length es) _ _ c.loop-first.invariant.left_within);
-      right_within = subst (λ (rest : List ℕ). All (λ i. i < length fs) rest) (sym c.in-Some.ensures.right_split.later_is)
-          (All-drop (λ i. i < length fs) _ _ c.loop-first.invariant.right_within);
-      found =
-          rw (c.in-Some.ensures.left_split.later_is, c.in-Some.ensures.right_split.later_is)
-          (found-key cmp g.met.E.Key.Ord.total (window_from first last) (keyed key terms es) (keyed key terms fs)
-          c.loop-first.left_rest.now c.loop-first.right_rest.now c.loop-first.found.items c.loop-first.invariant.found k f.first.has d.lefts
-          d.rights
-          (key-only key terms cancelled es fs k c.in-Some.first.left.now c.in-Some.first.right.now both.left both.right first last
-          c.in_ok-one.one c.in_ok-other.other one other d.lefts d.left)
-          (key-only key terms cancelled fs es k c.in-Some.first.right.now c.in-Some.first.left.now both.right both.left first last
-          c.in_ok-other.other c.in_ok-one.one other one d.rights d.right)
-          d.appended.merged d.appended.are
-          (key-told key terms cancelled es fs k c.in-Some.first.left.now c.in-Some.first.right.now both.left both.right first last
-          c.in_ok-one.one c.in_ok-other.other one other g.E.Body.PartialEq.eq g.met.E.Entry.same_body)
-          same first last f.first _ _ f.left_split.is_front f.right_split.is_front c.push_differences.new.found.items d.appended.appended);
+    rw (f.left_split.later_is, f.right_split.later_is)
+    (found-key g.E.Key.Ord.cmp g.met.E.Key.Ord.total (window_from first last) (keyed key terms es) (keyed key terms fs)
+    c.loop-first.left_rest.now c.loop-first.right_rest.now c.loop-first.found.items c.loop-first.invariant.found k f.first.has d.lefts
+    d.rights
+    (key-only key terms cancelled es fs k c.in-Some.first.left.now c.in-Some.first.right.now left right first last
+    c.in_ok-one.one c.in_ok-other.other one other d.lefts d.left)
+    (key-only key terms cancelled fs es k c.in-Some.first.right.now c.in-Some.first.left.now right left first last
+    c.in_ok-other.other c.in_ok-one.one other one d.rights d.right)
+    d.appended.merged d.appended.are
+    (key-told key terms cancelled es fs k c.in-Some.first.left.now c.in-Some.first.right.now left right first last
+    c.in_ok-one.one c.in_ok-other.other one other g.E.Body.PartialEq.eq g.met.E.Entry.same_body)
+    same f.first _ _ f.left_split.is_front f.right_split.is_front c.push_differences.new.found.items d.appended.appended)
+
+pub returns-then-is_enough : goal.returns-then-is_enough
+returns-then-is_enough g c =
+    let enough = c.if-is_enough.ensures.0 refl in
+    let at = goal.at.returns-then-is_enough g c in
+    let both = fronts g at.In-Some in
+    found-enough g.E.Key.Ord.cmp g.met.E.Key.Ord.total (window_from c.args.window.now.first c.args.window.now.last) _ _ _ _
+    c.push_differences.new.found.items (more g at.In_ok-push_differences both.left both.right) c.args.extent enough.0
+    (rw c.as_slice.ensures.value at enough.1)
+
+pub loop-first-preserved : goal.loop-first-preserved
+loop-first-preserved g c =
+    let left = c.args.left.now in
+    let right = c.args.right.now in
+    let at = goal.at.loop-first-preserved g c in
+    let both = fronts g at.In-Some in record {
+      left_within = subst (λ (rest : List ℕ). All (λ i. i < length left) rest) (sym c.in-Some.ensures.left_split.later_is)
+          (All-drop (λ i. i < length left) _ _ c.loop-first.invariant.left_within);
+      right_within = subst (λ (rest : List ℕ). All (λ i. i < length right) rest) (sym c.in-Some.ensures.right_split.later_is)
+          (All-drop (λ i. i < length right) _ _ c.loop-first.invariant.right_within);
+      found = more g at.In_ok-push_differences both.left both.right;
     }
 
 pub returns : goal.returns
@@ -158,11 +177,11 @@ returns g c =
     let window = window_from c.args.window.now.first c.args.window.now.last in
     let same = same_key-cmp g.E.Key.PartialEq.eq cmp g.met.E.Key.Ord.matches_eq g.met.E.Entry.same_key in
     let none = c.in_default.ensures in
-    found-all cmp g.met.E.Key.Ord.total same window xs ys c.loop-first.found.items
+    found-all cmp g.met.E.Key.Ord.total window xs ys same c.loop-first.found.items
     (subst (λ (l : List ℕ). AreFound cmp window xs ys l [] c.loop-first.found.items)
     (nil_from_length c.loop-first.left_rest.now none.0)
     (subst (λ (r : List ℕ). AreFound cmp window xs ys c.loop-first.left_rest.now r c.loop-first.found.items)
-    (nil_from_length c.loop-first.right_rest.now none.1) c.loop-first.invariant.found))
+    (nil_from_length c.loop-first.right_rest.now none.1) c.loop-first.invariant.found)) c.args.extent
 
 pub returns-in_err-left_positions : goal.returns-in_err-left_positions
 returns-in_err-left_positions g c = IfOk-from_err c.from_residual.result _ c.from_residual.ensures.0

@@ -1,0 +1,184 @@
+-- A line of this profile is its own profile line, and its mark says nothing: so an extract of this profile is a published one.
+use Rattle.std.proofs.Common.{◌≡◌, ℕ, ◌+◌, Bool, true, false, cond, List, [], ◌∷◌, ◌++◌, length, map, take, drop, get_or, Option, Some}
+use Rattle.std.proofs.Common.{None, refl, sym, ap, ◌∙◌}
+use Rattle.std.proofs.Common.{subst, codes, arith, get_or-take, get_or-drop, slice_index}
+use Rattle.std.proofs.lemmas.List.Elements.{All-head, All-tail}
+use Rattle.std.specs.List.{enumerate_from, flat_map}
+use Rattle.std.specs.Prelude.{All}
+use Rattle.cif_columns.specs.Contents.{contents_of}
+use Rattle.cif_columns.specs.DayDigits.{yymmdd_of}
+use Rattle.cif_columns.specs.Field.{columns}
+use Rattle.cif_columns.specs.Line.{IsLine}
+use Rattle.cif_extract.specs.ExtractParts.{ExtractParts}
+use Rattle.cif_extract.specs.SpellsExtract.{BytesSpellWithin, SpellAll, SpellExtract}
+use Rattle.cif_extract.specs.declared.extract.Schedule.{Schedule}
+use Rattle.cif_records.specs.Kind.{kind_in}
+use Rattle.cif_records.specs.Record.{SpellsRecord}
+use Rattle.cif_records.specs.declared.association.Association.{Association}
+use Rattle.cif_records.specs.declared.record.Kind.{Kind}
+use Rattle.cif_records.specs.declared.record.Record.{Record}
+use Rattle.cif_records.specs.declared.record.Record.TheVariants as of
+use Rattle.cif_records.proofs.Associations as associations
+use Rattle.cif_records.proofs.Judging.{no_open_end}
+use Rattle.cif_records.proofs.Records.{kind_of, kind_there}
+use Rattle.cif_feed.specs.FromLines.{ArePairs, AreTriples}
+use Rattle.cif_feed.specs.LastDay.{last_day}
+use Rattle.cif_feed.specs.OfProfile.{as_published, association_as_published, schedule_as_published}
+use Rattle.cif_feed.specs.ProfileLine.{association_mark, closed, code_of, is_open, marks, profile_line, profile_line_by, schedule_mark}
+use Rattle.cif_feed.specs.ProfileLine.{with_columns, without_code, if_allowed}
+use Rattle.cif_feed.specs.HolidayCode.{code_in}
+use Rattle.cif_feed.specs.PublishedParts.{BytesSpellPublished, IsPublishedAssociation, IsPublishedSchedule, SayPublished}
+use Rattle.cif_feed.specs.Steps.Marked.{IsClosed, last_of_association, last_of_schedule}
+use Rattle.cif_feed.specs.declared.feed.Feed.TheVariants.{Full}
+use Rattle.cif_feed.specs.declared.holiday_code.HolidayCode.{HolidayCode}
+use Rattle.cif_feed.specs.declared.holiday_code.HolidayCodes.{HolidayCodes}
+use Rattle.cif_feed.specs.declared.mark.LineMark.{LineMark}
+use Rattle.cif_feed.specs.declared.mark.LineMark.TheVariants as mark
+use Rattle.cif_feed.specs.declared.mark.Numbered.{Numbered}
+use Rattle.cif_feed.specs.declared.mark.RecordMark.{RecordMark}
+use Rattle.cif_feed.specs.declared.profile_line.ProfileLine.{ProfileLine}
+use Rattle.cif_feed.proofs.KnownLines.{AreReadAs, all_marks, marks_from, parts_read, spell_read}
+use Rattle.cif_feed.proofs.MarkedRecords.{marks_spelled}
+
+-- the mark says nothing of an end and of a code
+record IsBare (m : RecordMark) : Type 0 where
+  open_end : m.open_end ≡ false
+  code : m.code ≡ None
+
+abbrev SaysNothing : LineMark → Type 0
+SaysNothing (mark.Association m) = IsBare m
+SaysNothing (mark.Schedule m) = IsBare m
+SaysNothing m = Unit {0}
+
+module _ (allowed : HolidayCodes) where
+  -- the line is its own profile line
+  record IsOwn (c : List ℕ) (p : ProfileLine) : Type 0 where
+    line : p.line ≡ c
+    says : SaysNothing p.mark
+
+  -- column 29 is a space
+  no_code : (c : List ℕ) → columns 29 29 c ≡ codes " " → code_of allowed c ≡ None
+  no_code c space =
+      let there : slice_index c 28 ≡ 32 =
+      sym (get_or-drop 28 c 0 0) ∙ sym (get_or-take 1 (drop 28 c) 0 0 (omega arith)) ∙ ap (λ (l : List ℕ). get_or l 0 0) space in
+      ap (λ (n : ℕ). if_allowed allowed (code_in n)) there
+
+  own : (c : List ℕ) (r : Record) → SpellsRecord c r → IsOwn c (profile_line_by Full allowed (Some (kind_of r)) c)
+  own c (of.Association a) s =
+      let ends : is_open 22 c ≡ false = no_open_end (columns 22 27 c) a.last s.1.1.1.1.1.0 in
+      record {
+        line = ap (λ b. cond b (with_columns 22 (yymmdd_of last_day) c) c) ends;
+        says = record { open_end = ends; code = refl };
+      }
+  own c (of.Basic b) s =
+      let ends : is_open 16 c ≡ false = no_open_end (columns 16 21 c) b.last s.1.1.1.1.0 in
+      let none = no_code c s.1.1.1.1.1.1.0 in
+      record {
+        line = ap (λ (code : Option HolidayCode). without_code code (closed 16 c)) none
+            ∙ ap (λ b. cond b (with_columns 16 (yymmdd_of last_day) c) c) ends;
+        says = record { open_end = ends; code = none };
+      }
+  own c (of.Header h) s = record { line = refl; says = tt }
+  own c (of.Tiploc t) s = record { line = refl; says = tt }
+  own c (of.Extra x) s = record { line = refl; says = tt }
+  own c (of.Origin o) s = record { line = refl; says = tt }
+  own c (of.Stop t) s = record { line = refl; says = tt }
+  own c (of.Change t) s = record { line = refl; says = tt }
+  own c (of.Terminus t) s = record { line = refl; says = tt }
+  own c of.Trailer s = record { line = refl; says = tt }
+
+  own_line : (c : List ℕ) (r : Record) → SpellsRecord c r → IsOwn c (profile_line Full allowed c)
+  own_line c r s = subst (λ (k : Option Kind). IsOwn c (profile_line_by Full allowed k c)) (sym (kind_there c r s)) (own c r s)
+
+  pub line_itself : (c : List ℕ) (r : Record) → SpellsRecord c r → (profile_line Full allowed c).line ≡ c
+  line_itself c r s = (own_line c r s).line
+
+  own_lines : (cs : List (List ℕ)) (rs : List Record) → All IsLine cs → SpellAll cs rs → AreReadAs allowed cs cs
+  own_lines [] rs are spell = tt
+  own_lines (c ∷ cs) [] are spell = absurd spell
+  own_lines (c ∷ cs) (r ∷ rs) are spell = (
+    record {
+      is_line = All-head IsLine c cs are;
+      kind = kind_of r;
+      named = kind_there c r spell.0;
+      line = line_itself c r spell.0;
+    },
+    own_lines cs rs (All-tail IsLine c cs are) spell.1,
+  )
+
+  -- ---- the marks say nothing
+
+  abbrev AreBare : List (Numbered RecordMark) → Type 0
+  AreBare [] = Unit {0}
+  AreBare (m ∷ ms) = IsBare m.mark × AreBare ms
+
+  association_bare : (number : ℕ) (m : LineMark) (more : List (Numbered RecordMark)) → SaysNothing m → AreBare more
+      → AreBare (association_mark number m ++ more)
+  association_bare number (mark.Association m) more says rest = (says, rest)
+  association_bare number (mark.Schedule m) more says rest = rest
+  association_bare number (mark.Tiploc m) more says rest = rest
+  association_bare number mark.Nothing more says rest = rest
+
+  schedule_bare : (number : ℕ) (m : LineMark) (more : List (Numbered RecordMark)) → SaysNothing m → AreBare more
+      → AreBare (schedule_mark number m ++ more)
+  schedule_bare number (mark.Schedule m) more says rest = (says, rest)
+  schedule_bare number (mark.Association m) more says rest = rest
+  schedule_bare number (mark.Tiploc m) more says rest = rest
+  schedule_bare number mark.Nothing more says rest = rest
+
+  all_bare : (of_mark : ℕ → LineMark → List (Numbered RecordMark))
+      → ((number : ℕ) (m : LineMark) (more : List (Numbered RecordMark)) → SaysNothing m → AreBare more
+      → AreBare (of_mark number m ++ more))
+      → (n : ℕ) (cs : List (List ℕ)) (rs : List Record) → SpellAll cs rs → AreBare (marks_from allowed of_mark n cs)
+  all_bare of_mark bare n [] rs spell = tt
+  all_bare of_mark bare n (c ∷ cs) [] spell = absurd spell
+  all_bare of_mark bare n (c ∷ cs) (r ∷ rs) spell =
+      bare n (profile_line Full allowed c).mark _ (own_line c r spell.0).says (all_bare of_mark bare (n + 1) cs rs spell.1)
+
+  -- ---- what they say
+
+  bare_associations : (xs : List Association) (ms : List (Numbered RecordMark)) → ArePairs (IsClosed last_of_association) xs ms → AreBare ms
+      → AreTriples IsPublishedAssociation xs ms (map association_as_published xs)
+  bare_associations [] [] p bare = tt
+  bare_associations [] (m ∷ ms) p bare = absurd p
+  bare_associations (x ∷ xs) [] p bare = absurd p
+  bare_associations (x ∷ xs) (m ∷ ms) p bare =
+      (record { of_profile = refl; open_end = sym bare.0.open_end }, bare_associations xs ms p.1 bare.1)
+
+  bare_schedules : (xs : List Schedule) (ms : List (Numbered RecordMark)) → ArePairs (IsClosed last_of_schedule) xs ms → AreBare ms
+      → AreTriples IsPublishedSchedule xs ms (map schedule_as_published xs)
+  bare_schedules [] [] p bare = tt
+  bare_schedules [] (m ∷ ms) p bare = absurd p
+  bare_schedules (x ∷ xs) [] p bare = absurd p
+  bare_schedules (x ∷ xs) (m ∷ ms) p bare =
+      (record { of_profile = refl; open_end = sym bare.0.open_end; code = sym bare.0.code }, bare_schedules xs ms p.1 bare.1)
+
+  own_says : (cs : List (List ℕ)) (x : ExtractParts) → All IsLine cs → SpellExtract cs x
+      → SayPublished (parts_read allowed cs x) (as_published x)
+  own_says cs x are s =
+      let reads = own_lines cs s.records are s.spelled in
+      let marked = marks_spelled Full allowed cs (parts_read allowed cs x) (spell_read allowed cs cs x reads s) in
+      record {
+        header = refl;
+        tiplocs = refl;
+        associations = bare_associations x.associations (marks association_mark Full allowed cs) marked.associations
+            (subst AreBare (sym (all_marks allowed association_mark cs cs reads))
+            (all_bare association_mark association_bare 1 cs s.records s.spelled));
+        schedules = bare_schedules x.schedules (marks schedule_mark Full allowed cs) marked.schedules
+            (subst AreBare (sym (all_marks allowed schedule_mark cs cs reads))
+            (all_bare schedule_mark schedule_bare 1 cs s.records s.spelled));
+      }
+
+  pub own_published : (max : ℕ) (bytes : List ℕ) (x : ExtractParts) → BytesSpellWithin max bytes x
+      → BytesSpellPublished allowed max bytes (as_published x)
+  own_published max bytes x s =
+      let cs = contents_of bytes in
+      let reads = own_lines cs s.spell.spelled.records s.spell.are_lines s.spell.spelled.spelled in
+      record {
+        spell = record {
+          lines = parts_read allowed cs x;
+          spelled = spell_read allowed cs cs x reads s.spell.spelled;
+          says = own_says cs x s.spell.are_lines s.spell.spelled;
+        };
+        within = s.within;
+      }

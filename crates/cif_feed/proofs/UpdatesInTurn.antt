@@ -1,0 +1,269 @@
+-- Updates that are done one after another, in one run or in two.
+use Rattle.std.proofs.Common.{◌≡◌, ◌↔◌, ℕ, ◌≤◌, Bool, true, false, List, [], ◌∷◌, ◌++◌, length, map, Some, refl, sym, ap, ◌∙◌, subst, inl}
+use Rattle.std.proofs.Common.{inr, ⊎_elim}
+use Rattle.std.proofs.Common.{append_assoc, slice_get}
+use Rattle.std.proofs.lemmas.List.{append_cancel_left}
+use Rattle.cif_columns.specs.Contents.{contents_of}
+use Rattle.cif_extract.specs.Texts.{FitsColumns}
+use Rattle.cif_records.specs.declared.header.Header.{Header}
+use Rattle.cif_records.specs.declared.tiploc.Tiploc.{Tiploc}
+use Rattle.cif_feed.specs.Changes.{AreAfter, changes_of, with_keys}
+use Rattle.cif_feed.specs.HolidayCode.{all_codes}
+use Rattle.cif_feed.specs.OfProfile.{of_profile}
+use Rattle.cif_feed.specs.PublishedParts.{BytesSpellPublished, PublishedParts, published_lines, published_text}
+use Rattle.cif_feed.specs.UpdateParts.{UpdateParts}
+use Rattle.cif_feed.specs.Updated.{AreRefusedLines, IsLineRefused, IsUpdated, IsUpdatedBy, refused_fault}
+use Rattle.cif_feed.specs.UpdatesInTurn.{AreUpdatesDone, IsOneRefused, IsRefused, IsRefusedFor, IsWritten}
+use Rattle.cif_feed.specs.declared.changes.Change.{Change}
+use Rattle.cif_feed.specs.declared.changes.RefusedLine.{RefusedLine}
+use Rattle.cif_feed.specs.declared.feed.Feed.TheVariants.{Update}
+use Rattle.cif_feed.specs.declared.feed.FeedFault.{FeedFault}
+use Rattle.cif_feed.specs.declared.published.PublishedAssociation.{PublishedAssociation}
+use Rattle.cif_feed.specs.declared.published.PublishedSchedule.{PublishedSchedule}
+use Rattle.cif_feed.proofs.ChangeLaws.{after_all-alike, same_alike}
+use Rattle.cif_feed.proofs.FittingUpdates.{updated_fits}
+use Rattle.cif_feed.proofs.PublishedTexts.{may_any, published-lines, published-spells, said_fits}
+use Rattle.cif_feed.proofs.SaidPublished.{one_published}
+use Rattle.cif_feed.proofs.SaidUpdate.{one_update}
+use Rattle.cif_feed.proofs.SpelledFeeds.{spelled_first}
+use Rattle.cif_feed.proofs.UpdatesDone.{one_list}
+
+-- ---- what is done
+
+same_with_keys : {K R : Type 0} (key : R → K) (xs ys : List R) → with_keys key xs ≡ with_keys key ys → xs ≡ ys
+same_with_keys key [] [] e = refl
+same_with_keys key [] (y ∷ ys) e = cc
+same_with_keys key (x ∷ xs) [] e = cc
+same_with_keys {K} {R} key (x ∷ xs) (y ∷ ys) e =
+    let heads : ◌≡◌ {A = K × R} (key x, x) (key y, y) = cc in
+    let tails : with_keys key xs ≡ with_keys key ys = cc in
+    ap (λ (z : R). z ∷ xs) (ap (λ (v : K × R). v.1) heads) ∙ ap (λ zs. y ∷ zs) (same_with_keys key xs ys tails)
+
+-- changes leave one list
+one_after : {K R : Type 0} (key : R → K) (old : List R) (cs : List (Change K R)) (p q : List R) → AreAfter key old cs p
+    → AreAfter key old cs q
+    → p ≡ q
+one_after key old cs p q a b =
+    same_with_keys key p q
+    (a.after ∙ after_all-alike a.same b.same (same_alike a.same b.same a.tells b.tells) (with_keys key old) (changes_of key cs)
+    ∙ sym b.after)
+
+one_updated : (u : UpdateParts) (old p q : PublishedParts) → IsUpdated u old p → IsUpdated u old q → p ≡ q
+one_updated u old p q a b =
+    ap (λ (v : Header). record p { header = v }) (a.header ∙ sym b.header)
+    ∙ ap (λ (v : List Tiploc). record p { header = q.header; tiplocs = v })
+    (one_after _ old.tiplocs u.tiplocs p.tiplocs q.tiplocs a.tiplocs b.tiplocs)
+    ∙ ap (λ (v : List PublishedAssociation). record q { associations = v; schedules = p.schedules })
+    (one_after _ old.associations u.associations p.associations q.associations a.associations b.associations)
+    ∙ ap (λ (v : List PublishedSchedule). record q { schedules = v })
+    (one_after _ old.schedules u.schedules p.schedules q.schedules a.schedules b.schedules)
+
+module _ (lenient : Bool) (max : ℕ) where
+  record AreSame (p q : PublishedParts) (v w : List RefusedLine) : Type 0 where
+    parts : p ≡ q
+    lines : v ≡ w
+
+  -- an update is done in one way
+  one_by : (old : PublishedParts) (bytes : List ℕ) (p q : PublishedParts) (v w : List RefusedLine) → IsUpdatedBy lenient old max bytes p v
+      → IsUpdatedBy lenient old max bytes q w → AreSame p q v w
+  one_by old bytes p q v w a b =
+      let same = one_update (contents_of bytes) b.update a.update b.spelled.spell a.spelled.spell in
+      record {
+        parts = one_updated a.update old p q a.updated (subst (λ u. IsUpdated u old q) same b.updated);
+        lines = one_list a.update old v w a.refused (subst (λ u. AreRefusedLines u old w) same b.refused);
+      }
+
+  -- and so are several
+  one_done : (old : PublishedParts) (us : List (List ℕ)) (p q : PublishedParts) (v w : List RefusedLine)
+      → AreUpdatesDone lenient max old us p v
+      → AreUpdatesDone lenient max old us q w → AreSame p q v w
+  one_done old [] p q v w a b = record { parts = a.0 ∙ sym b.0; lines = a.1 ∙ sym b.1 }
+  one_done old (u ∷ us) p q v w a b =
+      let (mid, first, others, one, more, all) = a in
+      let (mid₂, first₂, others₂, one₂, more₂, all₂) = b in
+      let same = one_by old u mid mid₂ first first₂ one one₂ in
+      let rest = one_done mid us p q others others₂ more
+      (subst (λ m. AreUpdatesDone lenient max m us q others₂) (sym same.parts) more₂) in
+      record {
+        parts = rest.parts;
+        lines = all ∙ ap (λ l. l ++ others) same.lines ∙ ap (λ l. first₂ ++ l) rest.lines ∙ sym all₂;
+      }
+
+  -- what fits stays such
+  done_fits : (old : PublishedParts) (us : List (List ℕ)) (new : PublishedParts) (w : List RefusedLine)
+      → AreUpdatesDone lenient max old us new w
+      → FitsColumns (of_profile old) → FitsColumns (of_profile new)
+  done_fits old [] new w done fits = subst (λ p. FitsColumns (of_profile p)) (sym done.0) fits
+  done_fits old (u ∷ us) new w done fits =
+      let (mid, first, others, one, more, all) = done in
+      done_fits mid us new others more (updated_fits max u one.update old mid one.spelled one.updated fits)
+
+  -- ---- one list of updates after another
+
+  record AreDoneInTurn (old : PublishedParts) (us vs : List (List ℕ)) (new : PublishedParts) (w : List RefusedLine) : Type 0 where
+    mid : PublishedParts
+    first : List RefusedLine
+    later : List RefusedLine
+    one : AreUpdatesDone lenient max old us mid first
+    other : AreUpdatesDone lenient max mid vs new later
+    all : w ≡ first ++ later
+
+  parted : (old : PublishedParts) (us vs : List (List ℕ)) (new : PublishedParts) (w : List RefusedLine)
+      → AreUpdatesDone lenient max old (us ++ vs) new w → AreDoneInTurn old us vs new w
+  parted old [] vs new w done = record { mid = old; first = []; later = w; one = (refl, refl); other = done; all = refl }
+  parted old (u ∷ us) vs new w done =
+      let (next, first, others, one, more, all) = done in
+      let rest = parted next us vs new others more in
+      record {
+        mid = rest.mid;
+        first = first ++ rest.first;
+        later = rest.later;
+        one = (next, first, rest.first, one, rest.one, refl);
+        other = rest.other;
+        all = all ∙ ap (λ l. first ++ l) rest.all ∙ sym (append_assoc first rest.first rest.later);
+      }
+
+  joined : (old : PublishedParts) (us vs : List (List ℕ)) (mid new : PublishedParts) (v w : List RefusedLine)
+      → AreUpdatesDone lenient max old us mid v → AreUpdatesDone lenient max mid vs new w
+      → AreUpdatesDone lenient max old (us ++ vs) new (v ++ w)
+  joined old [] vs mid new v w one other =
+      subst (λ l. AreUpdatesDone lenient max old vs new (l ++ w)) (sym one.1) (subst
+      (λ p. AreUpdatesDone lenient max p vs new w) one.0 other)
+  joined old (u ∷ us) vs mid new v w one other =
+      let (next, first, others, done, more, all) = one in (
+        next,
+        first,
+        others ++ w,
+        done,
+        joined next us vs mid new others w more other,
+        ap (λ l. l ++ w) all ∙ append_assoc first others w,
+      )
+
+  -- ---- refusals
+
+  -- an update that is done isn't refused
+  not_both : (old : PublishedParts) (u : List ℕ) (new : PublishedParts) (w : List RefusedLine) (fault : FeedFault)
+      → IsUpdatedBy lenient old max u new w → IsRefusedFor lenient max old u fault → ⊥
+  not_both old u new w fault done refused = ⊎_elim
+      (λ first. let s = done.spelled in
+      spelled_first Update all_codes max (contents_of u) s.spell.lines s.within fault s.spell.spelled first)
+      (λ some. by some.0 some.1)
+      refused
+    where
+      by : (line : RefusedLine) → IsLineRefused lenient old max u line → ⊥
+      by line r =
+          let same = one_update (contents_of u) r.update done.update r.spelled.spell done.spelled.spell in
+          let none : r.lines ≡ [] =
+          one_list done.update old r.lines w (subst (λ x. AreRefusedLines x old r.lines) same r.refused) done.refused
+          ∙ done.strict r.strict in
+          let no : slice_get [] 0 ≡ Some line = sym (ap (λ l. slice_get l 0) none) ∙ r.first in cc
+
+  -- behind updates that are done it is one of the others
+  refused_later : (old : PublishedParts) (us vs : List (List ℕ)) (mid : PublishedParts) (w : List RefusedLine) (fault : FeedFault)
+      → AreUpdatesDone lenient max old us mid w → IsOneRefused lenient max old (us ++ vs) fault ↔ IsOneRefused lenient max mid vs fault
+  refused_later old [] vs mid w fault done = (
+    subst (λ p. IsOneRefused lenient max p vs fault) (sym done.0),
+    subst (λ p. IsOneRefused lenient max p vs fault) done.0,
+  )
+  refused_later old (u ∷ us) vs mid w fault done =
+      let (next, first, others, one, more, all) = done in
+      let later = refused_later next us vs mid others fault more in (
+        λ refused. ⊎_elim
+            (λ here. absurd (not_both old u next first fault one here))
+            (λ some. later.0 (subst (λ p. IsOneRefused lenient max p (us ++ vs) fault)
+            (one_by old u some.0 next some.1 first some.2 one).parts some.3))
+            refused,
+        λ refused. inr (next, first, one, later.1 refused),
+      )
+
+  -- ---- as bytes
+
+  module _ (full : List ℕ) (us : List (List ℕ)) (between : List ℕ) (waived : List RefusedLine)
+      (written : IsWritten lenient max full us between waived) (within : length (contents_of between) ≤ max) where
+    fits : FitsColumns (of_profile written.new)
+    fits =
+        done_fits written.old us written.new waived written.done
+        (said_fits all_codes (contents_of full) written.old written.spelled.spell)
+
+    -- what the first run leaves is what the second reads
+    pub read_again : BytesSpellPublished all_codes max between written.new
+    read_again =
+        let p = written.new in
+        let lines : contents_of between ≡ published_lines p =
+        ap contents_of written.text ∙ published-lines all_codes p fits (may_any p.schedules) in
+        subst (λ b. BytesSpellPublished all_codes max b p) (sym written.text)
+        (published-spells all_codes p fits (may_any p.schedules) max (subst (λ (l : List (List ℕ)). length l ≤ max) lines within))
+
+    same_read : (p : PublishedParts) → BytesSpellPublished all_codes max between p → p ≡ written.new
+    same_read p s = one_published all_codes (contents_of between) p written.new s.spell read_again.spell
+
+    same_start : (p : PublishedParts) → BytesSpellPublished all_codes max full p → p ≡ written.old
+    same_start p s = one_published all_codes (contents_of full) p written.old s.spell written.spelled.spell
+
+    pub in_turn : (vs : List (List ℕ)) (out : List ℕ) (later : List RefusedLine)
+        → IsWritten lenient max full (us ++ vs) out (waived ++ later) ↔ IsWritten lenient max between vs out later
+    in_turn vs out later = (
+      λ all.
+          let two = parted all.old us vs all.new (waived ++ later) all.done in
+          let one = one_done written.old us two.mid written.new two.first waived
+          (subst (λ p. AreUpdatesDone lenient max p us two.mid two.first) (same_start all.old all.spelled) two.one) written.done in
+          let rest : two.later ≡ later = append_cancel_left waived two.later later (ap (λ l. l ++ two.later) (sym one.lines)
+          ∙ sym two.all) in
+          record {
+            old = written.new;
+            spelled = read_again;
+            new = all.new;
+            done = subst (λ l. AreUpdatesDone lenient max written.new vs all.new l) rest
+                (subst (λ p. AreUpdatesDone lenient max p vs all.new two.later) one.parts two.other);
+            text = all.text;
+          },
+      λ second. record {
+        old = written.old;
+        spelled = written.spelled;
+        new = second.new;
+        done = joined written.old us vs written.new second.new waived later written.done
+            (subst (λ p. AreUpdatesDone lenient max p vs second.new later) (same_read second.old second.spelled) second.done);
+        text = second.text;
+      },
+    )
+
+    pub refused_in_turn : (vs : List (List ℕ)) (fault : FeedFault)
+        → IsRefused lenient max full (us ++ vs) fault ↔ IsRefused lenient max between vs fault
+    refused_in_turn vs fault =
+        let later = refused_later written.old us vs written.new waived fault written.done in (
+          λ all. record {
+            old = written.new;
+            spelled = read_again;
+            refused = later.0 (subst (λ p. IsOneRefused lenient max p (us ++ vs) fault) (same_start all.old all.spelled) all.refused);
+          },
+          λ second. record {
+            old = written.old;
+            spelled = written.spelled;
+            refused = later.1 (subst (λ p. IsOneRefused lenient max p vs fault) (same_read second.old second.spelled) second.refused);
+          },
+        )
+
+  -- one text is written at most
+  pub one_written : (full : List ℕ) (us : List (List ℕ)) (b c : List ℕ) (v w : List RefusedLine) → IsWritten lenient max full us b v
+      → IsWritten lenient max full us c w → (b ≡ c) × (v ≡ w)
+  one_written full us b c v w p q =
+      let start = one_published all_codes (contents_of full) q.old p.old q.spelled.spell p.spelled.spell in
+      let same = one_done p.old us p.new q.new v w p.done (subst (λ x. AreUpdatesDone lenient max x us q.new w) start q.done) in
+      (p.text ∙ ap published_text same.parts ∙ sym q.text, same.lines)
+
+  -- and none, if one is refused
+  none_written : (old : PublishedParts) (us : List (List ℕ)) (new : PublishedParts) (w : List RefusedLine) (fault : FeedFault)
+      → AreUpdatesDone lenient max old us new w → IsOneRefused lenient max old us fault → ⊥
+  none_written old [] new w fault done refused = refused
+  none_written old (u ∷ us) new w fault done refused =
+      let (next, first, others, one, more, all) = done in ⊎_elim
+      (λ here. not_both old u next first fault one here)
+      (λ some. none_written next us new others fault more (subst (λ p. IsOneRefused lenient max p us fault)
+      (one_by old u some.0 next some.1 first some.2 one).parts some.3))
+      refused
+
+  pub not_refused : (full : List ℕ) (us : List (List ℕ)) (b : List ℕ) (w : List RefusedLine) (fault : FeedFault)
+      → IsWritten lenient max full us b w → IsRefused lenient max full us fault → ⊥
+  not_refused full us b w fault p q =
+      let start = one_published all_codes (contents_of full) q.old p.old q.spelled.spell p.spelled.spell in
+      none_written p.old us p.new w fault p.done (subst (λ x. IsOneRefused lenient max x us fault) start q.refused)

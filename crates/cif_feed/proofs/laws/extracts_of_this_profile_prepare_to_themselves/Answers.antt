@@ -1,0 +1,10 @@
+-- Each line is its own profile line, and each record its own part.
+use Rattle.cif_feed.proofs.OwnLines.{own_published}
+use Rattle.cif_feed.proofs.OwnParts.{only_itself}
+use Rattle.cif_feed.proofs.laws.extracts_of_this_profile_prepare_to_themselves.Goals as goal
+
+pub returns-clause-published : goal.returns-clause-published
+returns-clause-published c = own_published
+
+pub returns-clause-prepared : goal.returns-clause-prepared
+returns-clause-prepared c = only_itself

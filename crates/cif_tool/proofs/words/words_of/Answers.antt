@@ -1,0 +1,8 @@
+-- What `get_strs` gives of an argument are the values in its row: `raw_values-rows` of `clap`.
+use Rattle.std.proofs.Common.{◌∙◌}
+use Rattle.clap.specs.Words.{found_of}
+use Rattle.clap.proofs.WalkLemmas.{raw_values-rows}
+use Rattle.cif_tool.proofs.words.words_of.Goals as goal
+
+pub returns : goal.returns
+returns c = c.get_strs.ensures ∙ raw_values-rows (found_of c.args.matches.now) c.args.id.now
