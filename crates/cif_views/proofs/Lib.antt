@@ -5,3 +5,4 @@ mod ExplainedMarks
 mod ExplainedTexts
 mod Explaining
 pub mod TableRows
+pub mod WeekLines

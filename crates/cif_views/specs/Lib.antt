@@ -5,3 +5,4 @@ pub mod Explanation
 pub mod Listing
 pub mod Steps
 pub mod Tables
+pub mod WeekCalendar

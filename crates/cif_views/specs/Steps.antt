@@ -3,3 +3,4 @@ pub mod Clashes
 pub mod Explanation
 pub mod Rows
 pub mod TableRows
+pub mod WeekCalendar
