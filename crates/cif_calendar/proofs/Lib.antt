@@ -24,3 +24,5 @@ pub mod FirstEntries
 pub mod PassedKeys
 pub mod FoundClashes
 pub mod NamedClashes
+pub mod DayStates
+pub mod KeyMembers

@@ -5,6 +5,7 @@ pub mod Calendar
 pub mod CalendarFault
 pub mod Clash
 pub mod Clashes
+pub mod DayState
 pub mod Entries
 pub mod Keys
 pub mod Laws

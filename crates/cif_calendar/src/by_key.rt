@@ -1,6 +1,6 @@
 //! The positions of entries in the order of their keys.
 ghost use Rattle.std.specs.Prelude.{◌≡◌, ◌<◌, All, IfOk, length};
-ghost use Rattle.cif_calendar.specs.Keys.{keyed};
+ghost use Rattle.cif_calendar.specs.Keys.{ArePositionsOf, keyed};
 ghost use Rattle.cif_calendar.specs.ByKey.{AreAllByKey, AreFrom, AreOfFirstKey, IsFirstKey};
 ghost use Rattle.cif_calendar.specs.Ranks.{AreRanked};
 ghost use Rattle.cif_calendar.specs.ByKey.{IsFirstOfBoth, IsFirstOrNone, IsFront, IsRising};
@@ -43,6 +43,25 @@ fn ranked_positions<E: Entry>(
         ranked.push((entries[position].rank(), position))?;
     }
     Ok(ranked)
+}
+
+/// The positions of the entries with this key, rising.
+pub fn positions_of_key<E: Entry>(
+    alloc: Global,
+    entries: &[E],
+    key: &E::Key,
+) -> Result<Vec<usize>, AllocError>
+    ensures of_key { IfOk result (λ positions.
+        ArePositionsOf (keyed E.key E.terms entries.now) key.now positions.items) }
+    ensures within { IfOk result (λ positions. All (λ i. i < length entries.now) positions.items) }
+{
+    let mut positions = Vec::new(alloc);
+    for position in 0..entries.len() {
+        if entries[position].key() == key {
+            positions.push(position)?;
+        }
+    }
+    Ok(positions)
 }
 
 /// How many of the positions, from the first on, are of entries with one key. The positions are in

@@ -2,6 +2,7 @@
 #![tactic(auto)]
 
 mod by_key;
+mod day_state;
 mod entry;
 mod key_calendar;
 mod key_clashes;
@@ -11,7 +12,8 @@ mod pieces;
 mod standing;
 mod stretch;
 
-pub use by_key::{FirstKey, count_of_first_key, first_key, positions_by_key};
+pub use by_key::{FirstKey, count_of_first_key, first_key, positions_by_key, positions_of_key};
+pub use day_state::{DayState, day_states};
 pub use entry::{Entry, same_body};
 pub use key_calendar::{Calendar, CalendarFault, Piece, Window};
 pub use key_clashes::{KeyClash, clashing_keys};

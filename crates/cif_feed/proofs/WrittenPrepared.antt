@@ -1,41 +1,37 @@
 -- A prepared extract that was written, or why it wasn't.
-use Rattle.std.proofs.Common.{◌≡◌, ◌≢◌, ◌↔◌, ℕ, Bool, true, false, cond, List, [], ◌∷◌, Option, Some, None, Result, Ok, Err, IfErr, IfOk}
+use Rattle.std.proofs.Common.{◌≡◌, ◌↔◌, ℕ, Bool, true, false, List, [], Option, Some, None, Result, Ok, Err, IfErr, IfOk}
 use Rattle.std.proofs.Common.{IfSome}
-use Rattle.std.proofs.Common.{IsTrue, filter, refl, sym, ap, ◌∙◌, subst}
+use Rattle.std.proofs.Common.{IsTrue, refl, sym, ap, ◌∙◌, subst}
 use Rattle.cif_columns.specs.Contents.{contents_of}
 use Rattle.cif_columns.specs.Field.{AllFit}
 use Rattle.cif_columns.specs.Source.{Unread}
 use Rattle.cif_columns.specs.declared.sink.Sink.{Sink}
-use Rattle.cif_columns.specs.declared.source.Source.{Source}
 use Rattle.cif_extract.specs.ExtractParts.{ExtractParts}
-use Rattle.cif_extract.specs.ReadFault.{FaultOf, LeavesNothing}
 use Rattle.cif_extract.specs.Texts.{FitsColumns, extract_text}
-use Rattle.cif_extract.specs.declared.extract.Schedule.{Schedule}
 use Rattle.cif_extract.specs.declared.fault.Clash.{Clash}
 use Rattle.cif_extract.specs.declared.fault.Fault.TheVariants as fault
 use Rattle.cif_extract.proofs.PlainTexts.{text-spells}
 use Rattle.cif_records.specs.Header.{header_table}
-use Rattle.cif_records.specs.declared.association.Association.{Association}
 use Rattle.cif_records.specs.declared.header.Header.{Header}
 use Rattle.cif_feed.specs.Dropped.{AreDropped, AreThose}
-use Rattle.cif_feed.specs.FeedFault.{FeedReads, IsFailure, IsFeedFault, IsOfFeed, IsReadAs}
+use Rattle.cif_feed.specs.FeedFault.{IsFailure, IsFeedFault, IsReadAs}
 use Rattle.cif_feed.specs.HolidayCode.{has_code}
 use Rattle.cif_feed.specs.Holidays.{Names}
 use Rattle.cif_feed.specs.PublishedParts.{BytesSpellPublished, PublishedParts, published_parts}
 use Rattle.cif_feed.specs.SpellsFeed.{passed_of}
-use Rattle.cif_feed.specs.WrittenPrepared.{FeedWrites, IsDeviceOrMemory, IsDroppedIf, IsOfPrepare, IsPrepareFault, IsPreparedAs}
+use Rattle.cif_feed.specs.WrittenPrepared.{FeedWrites, IsDeviceOrMemory, IsDroppedIf, IsPrepareFault, IsPreparedAs}
 use Rattle.cif_feed.specs.WrittenPrepared.{IsPreparedText}
 use Rattle.cif_feed.specs.WrittenPrepared.{IsReadOf, Prepares, WritesPrepared, codes_named}
 use Rattle.cif_feed.specs.declared.feed.Feed.TheVariants.{Full}
 use Rattle.cif_feed.specs.declared.feed.FeedFault.{FeedFault}
-use Rattle.cif_feed.specs.declared.feed.FeedFault.TheVariants.{Extract, NotUpdate, BadTransaction, NotThere, AlreadyThere}
+use Rattle.cif_feed.specs.declared.feed.FeedFault.TheVariants.{Extract}
 use Rattle.cif_feed.specs.declared.holiday_code.HolidayCode.TheVariants.{X, E, G}
 use Rattle.cif_feed.specs.declared.holiday_code.HolidayCode.{HolidayCode}
 use Rattle.cif_feed.specs.declared.holiday_code.HolidayCodes.{HolidayCodes}
 use Rattle.cif_feed.specs.declared.holidays.Holidays.{Holidays}
 use Rattle.cif_feed.specs.declared.published_extract.PublishedExtract.{PublishedExtract}
 use Rattle.cif_feed.proofs.ChangeLaws.{bools}
-use Rattle.cif_feed.proofs.FittingUpdates.{AssociationFits, Each, EachFits, ScheduleFits, TiplocFits, each-filter, each_fits, fits_each}
+use Rattle.cif_feed.proofs.FittingUpdates.{AssociationFits, Each, ScheduleFits, TiplocFits, each-filter, each_fits, fits_each}
 use Rattle.cif_feed.proofs.PreparedFits.{prepared_fits}
 use Rattle.cif_feed.proofs.PublishedTexts.{said_fits}
 

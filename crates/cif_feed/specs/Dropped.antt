@@ -11,7 +11,7 @@ use Rattle.cif_records.specs.declared.association.AssocKey.{AssocKey}
 use Rattle.cif_records.specs.declared.association.Association.{Association}
 use Rattle.cif_feed.specs.Prepared.{SayTheSame}
 
--- a clash of this key of associations is told, and so of this train
+-- a clash of this key of associations is told; and one of this train
 abbrev pub IsToldAssociation : List Clash → AssocKey → Type 0
 IsToldAssociation clashes key = (d : ℕ) × Contains clashes (clash.Association key d)
 

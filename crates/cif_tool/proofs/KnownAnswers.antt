@@ -1,6 +1,6 @@
 -- What the commands answer, by what their calls answer: of bytes that are known.
 use Rattle.std.proofs.Common.{◌≡◌, ◌↔◌, ◌⊎◌, ℕ, Bool, true, false, List, [], Option, IfSome, Result, Err, IfErr, IsTrue, inl, inr}
-use Rattle.std.proofs.Common.{refl, sym, true≢false}
+use Rattle.std.proofs.Common.{ap, refl, sym, true≢false}
 use Rattle.cif_columns.specs.declared.line_reader.TheConstants.{MAX_LINES}
 use Rattle.cif_columns.proofs.GivenLinesLaws.{known_so}
 use Rattle.cif_columns.specs.Source.{Unread}
@@ -12,6 +12,7 @@ use Rattle.cif_extract.specs.declared.fault.Fault.TheVariants as fault
 use Rattle.cif_weeks.specs.declared.form.Form.{Form}
 use Rattle.cif_canon.specs.Accepted.{SpellsNarrowed}
 use Rattle.cif_canon.specs.Asked.{IsNarrowed}
+use Rattle.cif_canon.specs.Canon.{CanonParts, IsCanonOf}
 use Rattle.cif_canon.specs.Comparison.{AreCompared, IsCompareFault, comparison_line}
 use Rattle.cif_views.specs.Clashes.{AreAllClashes, clashes_text}
 use Rattle.cif_canon.specs.Counts.{counts_line}
@@ -20,13 +21,16 @@ use Rattle.cif_views.specs.Explanation.{IsExplanation}
 use Rattle.cif_canon.specs.Normalised.{IfWritten, IsNormalised, Normalises}
 use Rattle.cif_canon.specs.Pair.{IsCompareRefusal, ReadAsPair, SpellPair}
 use Rattle.cif_views.specs.Listing.{IsDayListing, IsTrainListing}
+use Rattle.cif_views.specs.Tables.{table_text}
+use Rattle.cif_views.specs.declared.tables.Table.{Table as TableOf}
 use Rattle.cif_canon.specs.declared.asked.Asked.{Asked}
 use Rattle.cif_canon.specs.declared.comparison.Comparison.{Comparison}
 use Rattle.cif_canon.specs.declared.canonical_form.Counts.{Counts}
 use Rattle.cif_canon.specs.declared.rows.Format.{Format}
 use Rattle.cif_views.specs.declared.listing.Listing.{Listing}
-use Rattle.cif_tool.specs.Answer.{IsCheckAnswer, IsClashesAnswer, IsCompareAnswer, IsDayAnswer, IsDiffAnswer}
-use Rattle.cif_tool.specs.Answer.{IsExplainAnswer, IsListedStatus, IsNormaliseAnswer, IsTrainAnswer}
+use Rattle.cif_views.specs.WeekCalendar.{IsWeekCalendar}
+use Rattle.cif_tool.specs.Answer.{IsCalendarAnswer, IsCheckAnswer, IsClashesAnswer, IsCompareAnswer, IsDayAnswer, IsDiffAnswer}
+use Rattle.cif_tool.specs.Answer.{IsExplainAnswer, IsListedStatus, IsNormaliseAnswer, IsTableAnswer, IsTrainAnswer}
 use Rattle.cif_tool.specs.Status.{listed_status, outcome_of}
 
 -- the status of a list, of which it is told whether there is none
@@ -78,6 +82,17 @@ module _ (start : Option (List ℕ)) where
         known_so start (λ bytes. BytesSpellWithin MAX_LINES bytes x) (λ bytes. IsExplainAnswer format uid day bytes text 0)
         (λ bytes s. record { extract = x; spelled = s; explanation = is; status_is = refl }) spelled
 
+    pub calendar-answer : (asked : Asked) (y : ExtractParts) (uid text : List ℕ) → IsNarrowed asked x y → IsWeekCalendar y uid text →
+        IfSome start (λ bytes. IsCalendarAnswer asked uid bytes text 0)
+    calendar-answer asked y uid text narrowed view =
+        known_so start (λ bytes. BytesSpellWithin MAX_LINES bytes x) (λ bytes. IsCalendarAnswer asked uid bytes text 0)
+        (λ bytes s. record {
+          extract = y;
+          spelled = record { whole = x; spelled = s; narrowed = narrowed };
+          view = view;
+          status_is = refl;
+        }) spelled
+
     pub clashes-answer : (asked : Asked) (y : ExtractParts) (clashes : List Clash) (none : Bool) → IsNarrowed asked x y →
         AreAllClashes y clashes → IsTrue none ↔ (clashes ≡ []) →
         IfSome start (λ bytes. IsClashesAnswer asked bytes (clashes_text clashes) (listed_status none))
@@ -98,6 +113,26 @@ module _ (start : Option (List ℕ)) where
   train-answer asked x spelled listing form uid text view =
       known_so start (SpellsNarrowed MAX_LINES asked x) (λ bytes. IsTrainAnswer listing form asked uid bytes text 0)
       (λ bytes s. record { extract = x; spelled = s; view = view; status_is = refl }) spelled
+
+  pub table-answer : (table : TableOf) (form : Form) (asked : Asked) (x : ExtractParts) → IfSome start (SpellsNarrowed MAX_LINES asked x) →
+      (c : CanonParts) → IsCanonOf form x c → IfSome start (λ bytes. IsTableAnswer table form asked bytes (table_text table c.lines) 0)
+  table-answer table form asked x spelled c is =
+      known_so start (SpellsNarrowed MAX_LINES asked x) (λ bytes. IsTableAnswer table form asked bytes (table_text table c.lines) 0)
+      (λ bytes s. record {
+        canonical = c.text;
+        counts = c.counts;
+        normalised = record {
+          meant = x;
+          accepted = record { spelled = s; clear = is.clear };
+          canonical = is.canonical;
+          unique = is.unique;
+          again = is.again asked s.whole s.narrowed;
+          reached = is.reached asked s.whole s.narrowed;
+          counted = is.counted;
+        };
+        text_is = ap (table_text table) is.lines_are;
+        status_is = refl;
+      }) spelled
 
 -- two readers, of which what they give is read as these extracts
 module _ (asked : Asked) (common : Bool) (left right : Option (List ℕ)) (x y : ExtractParts)

@@ -1,4 +1,5 @@
 pub mod Answered
+pub mod CalendarFaults
 pub mod CheckedLines
 pub mod CommandBuilt
 pub mod Each

@@ -19,20 +19,23 @@ use Rattle.cif_canon.specs.Accepted.{SpellsNarrowed}
 use Rattle.cif_extract.specs.declared.fault.Clash.{Clash}
 use Rattle.cif_canon.specs.Asked.{IsNarrowingFault}
 use Rattle.cif_views.specs.Clashes.{AreAllClashes, clashes_text}
+use Rattle.cif_views.specs.WeekCalendar.{IsWeekCalendar}
 use Rattle.cif_canon.specs.Comparison.{AreCompared, comparison_line}
 use Rattle.cif_canon.specs.Counts.{counts_line}
 use Rattle.cif_canon.specs.Differences.{AreDifferences, AreNone, DifferencesParts, differences_text}
 use Rattle.cif_views.specs.Explanation.{IsExplanation, IsExplanationFault}
 use Rattle.cif_canon.specs.Fault.{IsNormaliseFault}
+use Rattle.cif_canon.specs.Lines.{lines_of}
 use Rattle.cif_canon.specs.Normalised.{FaultWrites, IsNormalised}
 use Rattle.cif_canon.specs.Pair.{FaultOfBoth, IsCompareRefusal, ReadsBoth, SpellPair}
 use Rattle.cif_canon.specs.Views.{IsDayFault}
 use Rattle.cif_views.specs.Listing.{IsDayListing, IsTrainListing}
+use Rattle.cif_views.specs.Tables.{table_text}
+use Rattle.cif_views.specs.declared.tables.Table.{Table as TableOf}
 use Rattle.cif_canon.specs.declared.asked.Asked.{Asked}
 use Rattle.cif_canon.specs.declared.comparison.Comparison.{Comparison}
 use Rattle.cif_canon.specs.declared.canonical_form.Counts.{Counts}
 use Rattle.cif_canon.specs.declared.rows.Format.{Format}
-use Rattle.cif_canon.specs.declared.rows.Format.TheVariants.{Text, Tsv}
 use Rattle.cif_views.specs.declared.listing.Listing.{Listing}
 use Rattle.cif_tool.specs.Status.{outcome_of}
 use Rattle.cif_tool.specs.declared.job.Job.{Job}
@@ -75,6 +78,14 @@ pub record IsCheckAnswer (form : Form) (asked : Asked) (bytes text : List ℕ) (
   pub counts : Counts
   pub normalised : IsNormalised form asked MAX_LINES bytes canonical counts
   pub text_is : text ≡ counts_line counts
+  pub status_is : status ≡ 0
+
+-- `table` answers these bytes by a table of the extract that is their canonical text.
+pub record IsTableAnswer (table : TableOf) (form : Form) (asked : Asked) (bytes text : List ℕ) (status : ℕ) : Type 0 where
+  pub canonical : List ℕ
+  pub counts : Counts
+  pub normalised : IsNormalised form asked MAX_LINES bytes canonical counts
+  pub text_is : text ≡ table_text table (lines_of normalised.canonical.made)
   pub status_is : status ≡ 0
 
 -- Some of the lines of these bytes have a reason to be refused, each judged by itself, and the text says which.
@@ -173,10 +184,17 @@ abbrev pub IsExplainRefusal : ℕ → List ℕ → Unread → Fault → Type 0
 IsExplainRefusal day bytes after fault = IsReadFault MAX_LINES bytes after fault
     ⊎ ((extract : ExtractParts) × BytesSpellWithin MAX_LINES bytes extract × IsExplanationFault extract day fault)
 
--- Why `clashes` has no answer: the input's first refusal, or the window that is asked for doesn't fit, or memory ran out, or the sink
+-- `calendar` answers these bytes by the calendar of the train in the window that is asked for.
+pub record IsCalendarAnswer (asked : Asked) (uid bytes text : List ℕ) (status : ℕ) : Type 0 where
+  pub extract : ExtractParts
+  pub spelled : SpellsNarrowed MAX_LINES asked extract bytes
+  pub view : IsWeekCalendar extract uid text
+  pub status_is : status ≡ 0
+
+-- Why `clashes` or `calendar`, which refuse no clash, have no answer: the input's first refusal, or the window that is asked for doesn't fit, or memory ran out, or the sink
 -- failed.
-abbrev pub IsClashesRefusal : Asked → List ℕ → Unread → Fault → Type 0
-IsClashesRefusal asked bytes after fault = IsReadFault MAX_LINES bytes after fault
+abbrev pub IsClashlessRefusal : Asked → List ℕ → Unread → Fault → Type 0
+IsClashlessRefusal asked bytes after fault = IsReadFault MAX_LINES bytes after fault
     ⊎ ((extract : ExtractParts) × BytesSpellWithin MAX_LINES bytes extract
     × (IsNarrowingFault asked extract.header fault ⊎ ((fault ≡ Memory) ⊎ (fault ≡ Write))))
 
@@ -193,7 +211,7 @@ abbrev pub ReadsInputs : {R A : Type 0} → (R → Option (List ℕ)) → (R →
 ReadsInputs remaining errors (Compare left_file right_file asked common) left left_new right right_new result =
     ReadsBoth errors left left_new right right_new result × LeavesNothing remaining left left_new result
     × LeavesNothing remaining right right_new result
-ReadsInputs remaining errors (Diff left_file right_file asked common format) left left_new right right_new result =
+ReadsInputs remaining errors (Diff left_file right_file asked common) left left_new right right_new result =
     ReadsBoth errors left left_new right right_new result × LeavesNothing remaining left left_new result
     × LeavesNothing remaining right right_new result
 ReadsInputs remaining errors (CheckAll file asked form) source source_new right right_new result =
@@ -213,16 +231,15 @@ IsJobAnswer remaining (Check file asked form) source right = OfInput remaining (
 IsJobAnswer remaining (CheckAll file asked form) source right = OfInput remaining (IsCheckAllAnswer form asked) source
 IsJobAnswer remaining (Compare left_file right_file asked common) source right =
     OfBoth remaining (IsCompareAnswer asked common) source right
-IsJobAnswer remaining (Diff left_file right_file asked common Text) source right =
+IsJobAnswer remaining (Diff left_file right_file asked common) source right =
     OfBoth remaining (IsDiffAnswer asked common) source right
-IsJobAnswer remaining (Diff left_file right_file asked common Tsv) source right = λ text status. ⊥
 IsJobAnswer remaining (Day day file listing) source right = OfInput remaining (IsDayAnswer listing day) source
 IsJobAnswer remaining (Train uid file asked form listing) source right =
     OfInput remaining (IsTrainAnswer listing form asked uid) source
 IsJobAnswer remaining (Explain uid day file format) source right = OfInput remaining (IsExplainAnswer format uid day) source
 IsJobAnswer remaining (Clashes file asked) source right = OfInput remaining (IsClashesAnswer asked) source
-IsJobAnswer remaining (Table which file asked form) source right = λ text status. ⊥
-IsJobAnswer remaining (Calendar uid file asked) source right = λ text status. ⊥
+IsJobAnswer remaining (Table which file asked form) source right = OfInput remaining (IsTableAnswer which form asked) source
+IsJobAnswer remaining (Calendar uid file asked) source right = OfInput remaining (IsCalendarAnswer asked uid) source
 
 -- why it has no answer
 abbrev pub IsJobFault : {R A : Type 0} → (R → Option (List ℕ)) → Job → Source R → Source R → Source R → Source R →
@@ -235,7 +252,7 @@ IsJobFault remaining (CheckAll file asked form) source source_new right right_ne
     FaultOf remaining (IsCheckAllFault asked) source source_new result
 IsJobFault remaining (Compare left_file right_file asked common) source source_new right right_new result =
     FaultOfBoth remaining (IsCompareRefusal asked common) source source_new right right_new result
-IsJobFault remaining (Diff left_file right_file asked common format) source source_new right right_new result =
+IsJobFault remaining (Diff left_file right_file asked common) source source_new right right_new result =
     FaultOfBoth remaining (IsCompareRefusal asked common) source source_new right right_new result
 IsJobFault remaining (Day day file listing) source source_new right right_new result =
     FaultOf remaining (IsDayRefusal day) source source_new result
@@ -244,11 +261,11 @@ IsJobFault remaining (Train uid file asked form listing) source source_new right
 IsJobFault remaining (Explain uid day file format) source source_new right right_new result =
     FaultOf remaining (IsExplainRefusal day) source source_new result
 IsJobFault remaining (Clashes file asked) source source_new right right_new result =
-    FaultOf remaining (IsClashesRefusal asked) source source_new result
+    FaultOf remaining (IsClashlessRefusal asked) source source_new result
 IsJobFault remaining (Table which file asked form) source source_new right right_new result =
     FaultOf remaining (IsNormaliseFault MAX_LINES asked) source source_new result
 IsJobFault remaining (Calendar uid file asked) source source_new right right_new result =
-    FaultOf remaining (IsClashesRefusal asked) source source_new result
+    FaultOf remaining (IsClashlessRefusal asked) source source_new result
 
 -- this status, once what was written is handed on; a fault of the writing is the answer
 abbrev pub Finishes : {W A : Type 0} → (W → Option (List ℕ)) → (W → Option ℕ) → ℕ → Result A Fault → Sink W → Sink W → Result ℕ Fault →

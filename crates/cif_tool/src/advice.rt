@@ -62,6 +62,9 @@ fn add_answer<R: Files + Input>(
             Job::Explain { uid, format, .. } if !has_row(*format, written) => {
                 add_records_of(extract, uid, message);
             }
+            Job::Calendar { uid, .. } if !has_schedule(extract, uid) => {
+                add_records_of(extract, uid, message);
+            }
             _ => {}
         }
     }
@@ -86,18 +89,22 @@ fn has_row(format: Format, written: &Written) -> bool {
     }
 }
 
+/// Whether there is a schedule with this UID.
+fn has_schedule(extract: &Extract, uid: &Uid) -> bool {
+    extract
+        .schedules
+        .as_slice()
+        .iter()
+        .any(|one| one.uid == *uid)
+}
+
 /// Adds whether there are records with this UID.
 fn add_records_of(extract: &Extract, uid: &Uid, message: &mut Message) {
     let associations = extract.associations.as_slice();
     let has_association = associations
         .iter()
         .any(|one| one.key.base == *uid || one.key.associated == *uid);
-    let has_schedule = extract
-        .schedules
-        .as_slice()
-        .iter()
-        .any(|one| one.uid == *uid);
-    message.line(&[if has_association || has_schedule {
+    message.line(&[if has_association || has_schedule(extract, uid) {
         "there are records with this UID"
     } else {
         "no record has this UID"

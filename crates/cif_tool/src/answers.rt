@@ -9,11 +9,13 @@ ghost use Rattle.cif_extract.specs.ExtractParts.{extract_parts};
 ghost use Rattle.cif_extract.specs.ReadFault.{FaultOf, FaultReads, LeavesNothing};
 ghost use Rattle.cif_extract.specs.SpellsExtract.{BytesSpellWithin};
 ghost use Rattle.cif_tool.specs.Answer.{IsCountFault};
-ghost use Rattle.cif_tool.specs.Answer.{Answers, IsCheckAllAnswer, IsCheckAllFault, IsCheckAnswer, LeavesUnlessListed, IsClashesAnswer, IsClashesRefusal};
+ghost use Rattle.cif_tool.specs.Answer.{Answers, IsCalendarAnswer, IsCheckAllAnswer, IsCheckAllFault};
+ghost use Rattle.cif_tool.specs.Answer.{IsCheckAnswer, IsClashesAnswer, IsClashlessRefusal};
+ghost use Rattle.cif_tool.specs.Answer.{LeavesUnlessListed};
 ghost use Rattle.cif_tool.specs.Answer.{IsCompareAnswer, IsDayAnswer, IsDayRefusal, IsDiffAnswer};
 ghost use Rattle.cif_tool.specs.Answer.{IsExplainAnswer, IsExplainRefusal, IsHandedOn, IsJobAnswer};
-ghost use Rattle.cif_tool.specs.Answer.{IsJobFault, IsNormaliseAnswer, IsTrainAnswer, OfBoth, OfInput};
-ghost use Rattle.cif_tool.specs.Answer.{Finishes, ReadsInputs};
+ghost use Rattle.cif_tool.specs.Answer.{IsJobFault, IsNormaliseAnswer, IsTableAnswer, IsTrainAnswer, OfBoth};
+ghost use Rattle.cif_tool.specs.Answer.{Finishes, OfInput, ReadsInputs};
 
 use crate::job::Job;
 use crate::status::{DONE, REFUSED, listed, outcome};
@@ -24,7 +26,10 @@ use cif_canon::{
 use cif_columns::{Day, MAX_LINES, ReadDevice, Sink, Source, Uid, WriteDevice};
 use cif_extract::{Extract, Fault, read_extract};
 use cif_feed::{Judged, Reasons};
-use cif_views::{Listing, clashes, day_listing, explain_listing, train_listing};
+use cif_views::{
+    Listing, Table, clashes, day_listing, explain_listing, train_listing, week_calendar,
+    write_table,
+};
 use cif_weeks::Form;
 use std::alloc::Global;
 
@@ -288,7 +293,7 @@ pub fn answer_clashes<R: ReadDevice, W: WriteDevice>(
     ensures answer { Answers W.contents W.write_errors
         (OfInput R.remaining (IsClashesAnswer asked.now) source.old)
         sink.old sink.new result }
-    ensures fault { FaultOf R.remaining (IsClashesRefusal asked.now) source.old source.new result }
+    ensures fault { FaultOf R.remaining (IsClashlessRefusal asked.now) source.old source.new result }
     ensures source { FaultReads R.read_errors source.old source.new result }
     ensures end { LeavesNothing R.remaining source.old source.new result }
     ensures handed_on { IsHandedOn W.holds_nothing sink.new result }
@@ -297,6 +302,54 @@ pub fn answer_clashes<R: ReadDevice, W: WriteDevice>(
     narrow(&mut extract, asked)?;
     let found = clashes(alloc, &extract)?;
     finish(found.write(sink), sink, listed(found.is_empty()))
+}
+
+/// Writes this table of the canonical extract of what the source gives, and answers status 0.
+pub fn answer_table<R: ReadDevice, W: WriteDevice>(
+    alloc: Global,
+    source: &mut Source<R>,
+    sink: &mut Sink<W>,
+    table: Table,
+    asked: &Asked,
+    form: Form,
+    kept: &mut Option<Extract>,
+) -> Result<u8, Fault>
+    ensures answer { Answers W.contents W.write_errors
+        (OfInput R.remaining (IsTableAnswer table form asked.now) source.old)
+        sink.old sink.new result }
+    ensures fault { FaultOf R.remaining (IsNormaliseFault MAX_LINES asked.now)
+        source.old source.new result }
+    ensures source { FaultReads R.read_errors source.old source.new result }
+    ensures end { LeavesNothing R.remaining source.old source.new result }
+    ensures handed_on { IsHandedOn W.holds_nothing sink.new result }
+{
+    let extract = read_narrowed(alloc, source, MAX_LINES, asked)?;
+    let extract = kept.insert(extract);
+    let canon = canon(alloc, extract, form)?;
+    finish(write_table(&canon, table, sink), sink, DONE)
+}
+
+/// Writes the calendar of the train, and answers status 0.
+pub fn answer_calendar<R: ReadDevice, W: WriteDevice>(
+    alloc: Global,
+    source: &mut Source<R>,
+    sink: &mut Sink<W>,
+    uid: &Uid,
+    asked: &Asked,
+    kept: &mut Option<Extract>,
+) -> Result<u8, Fault>
+    ensures answer { Answers W.contents W.write_errors
+        (OfInput R.remaining (IsCalendarAnswer asked.now uid.now) source.old)
+        sink.old sink.new result }
+    ensures fault { FaultOf R.remaining (IsClashlessRefusal asked.now) source.old source.new result }
+    ensures source { FaultReads R.read_errors source.old source.new result }
+    ensures end { LeavesNothing R.remaining source.old source.new result }
+    ensures handed_on { IsHandedOn W.holds_nothing sink.new result }
+{
+    let mut extract = read_extract(alloc, source, MAX_LINES)?;
+    narrow(&mut extract, asked)?;
+    let extract = kept.insert(extract);
+    finish(week_calendar(alloc, extract, uid, sink), sink, DONE)
 }
 
 /// Answers this status, if all was written, once it is handed on.
@@ -358,11 +411,7 @@ pub fn answer<R: ReadDevice, W: WriteDevice>(
             right: _,
             asked,
             common,
-            format,
-        } => match format {
-            Format::Text => answer_diff(alloc, source, right, sink, asked, *common, kept),
-            Format::Tsv => Err(Fault::Memory),
-        },
+        } => answer_diff(alloc, source, right, sink, asked, *common, kept),
         Job::Day {
             day,
             file: _,
@@ -391,6 +440,16 @@ pub fn answer<R: ReadDevice, W: WriteDevice>(
             format,
         } => answer_explain(alloc, source, sink, uid, *day, *format, &mut kept.left),
         Job::Clashes { file: _, asked } => answer_clashes(alloc, source, sink, asked),
-        Job::Table { .. } | Job::Calendar { .. } => Err(Fault::Memory),
+        Job::Table {
+            table,
+            file: _,
+            asked,
+            form,
+        } => answer_table(alloc, source, sink, *table, asked, *form, &mut kept.left),
+        Job::Calendar {
+            uid,
+            file: _,
+            asked,
+        } => answer_calendar(alloc, source, sink, uid, asked, &mut kept.left),
     }
 }

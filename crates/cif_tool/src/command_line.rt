@@ -319,7 +319,6 @@ fn subcommands() -> &'static [Parts<'static>]
                 Argument::From,
                 Argument::To,
                 Argument::Common,
-                Argument::Format,
             ],
         },
         Parts {

@@ -1,5 +1,8 @@
+mod AllFields
 pub mod CallTexts
 pub mod ClashLists
 mod ExplainedMarks
 mod ExplainedTexts
 mod Explaining
+pub mod TableRows
+pub mod WeekLines

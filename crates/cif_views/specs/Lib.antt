@@ -1,5 +1,8 @@
+pub mod AllFields
 pub mod Calls
 pub mod Clashes
 pub mod Explanation
 pub mod Listing
 pub mod Steps
+pub mod Tables
+pub mod WeekCalendar

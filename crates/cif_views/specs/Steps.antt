@@ -2,3 +2,5 @@
 pub mod Clashes
 pub mod Explanation
 pub mod Rows
+pub mod TableRows
+pub mod WeekCalendar

@@ -1,14 +1,20 @@
-//! The law on what the marks of an explanation say.
-ghost use Rattle.std.specs.Prelude.{◌≡◌, ◌↔◌, ℕ, Contains, List};
+//! Laws: what the marks of an explanation and the letters of a calendar say, and that rows have all fields.
+ghost use Rattle.std.specs.Prelude.{◌≡◌, ◌↔◌, ℕ, Contains, List, Some};
 ghost use Rattle.cif_calendar.specs.Clash.{IsClear};
+ghost use Rattle.cif_calendar.specs.DayState.{IsDayState};
 ghost use Rattle.cif_calendar.specs.Keys.{of_key};
 ghost use Rattle.cif_calendar.specs.Runs.{Runs};
 ghost use Rattle.cif_calendar.specs.Terms.{AreLawful, Terms};
+ghost use Rattle.cif_calendar.specs.declared.day_state.DayState.{DayState};
+ghost use Rattle.cif_views.specs.AllFields.{CallsHaveAll, DayRowsHaveAll, ExplainedRowsHaveAll};
+ghost use Rattle.cif_views.specs.AllFields.{TablesHaveAll, TrainRowsHaveAll};
 ghost use Rattle.cif_views.specs.Explanation.{AreExplained, Explained, HasWinningMark};
 ghost use Rattle.cif_views.specs.Explanation.{SomeApplies};
+ghost use Rattle.cif_views.specs.WeekCalendar.{IsRunningLetter};
 ghost use Rattle.cif_views.specs.declared.marks.Mark.TheVariants.{Wins};
 
 use crate::marks::ExplainedEntry;
+use cif_calendar::Entry;
 
 /// What the marks of explained records say.
 pub fn marks_say_what_runs<E: ExplainedEntry>()
@@ -24,4 +30,21 @@ pub fn marks_say_what_runs<E: ExplainedEntry>()
         → AreExplained E.Key.cmp E.is_of entries uid day explained → E.is_of key uid
         → HasWinningMark explained key
         ↔ (SomeApplies (of_key entries key) day × IsClear (of_key entries key) day) }
+{}
+
+/// Each row of a table has a field for each name in its first line.
+pub fn rows_have_all_fields()
+    ensures tables { TablesHaveAll }
+    ensures calls { CallsHaveAll }
+    ensures day { DayRowsHaveAll }
+    ensures train { TrainRowsHaveAll }
+    ensures explanation { ExplainedRowsHaveAll }
+{}
+
+/// A letter other than C stands exactly where a train runs and its winners don't differ.
+pub fn letters_say_what_runs<E: Entry>()
+    ensures { (entries : List (E.Key × Terms E.Body)) (key : E.Key) (day : ℕ) (state : DayState)
+        → AreLawful (of_key entries key) → IsDayState (of_key entries key) day state
+        → IsRunningLetter state ↔ (IsClear (of_key entries key) day
+        × ((body : E.Body) × Runs (of_key entries key) day (Some body))) }
 {}

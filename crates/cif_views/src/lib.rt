@@ -2,6 +2,7 @@
 //! clash, and what runs, as text or as tables.
 #![tactic(auto)]
 
+mod calendar_weeks;
 mod calls;
 mod clash_list;
 mod explanation;
@@ -9,10 +10,12 @@ mod find_clashes;
 pub mod laws;
 mod listing;
 mod marks;
+mod table_row;
 mod tables;
 
+pub use calendar_weeks::week_calendar;
 pub use clash_list::Clashes;
 pub use explanation::{explain_listing, explain_view};
 pub use find_clashes::clashes;
 pub use listing::{Listing, day_listing, train_listing};
-pub use tables::Table;
+pub use tables::{Table, write_table};

@@ -24,12 +24,11 @@ returns-in-Compare g c =
     rw c.in-Compare.is
     record { answer = e.answer; fault = e.fault; sources = (e.sources, e.left_end, e.right_end); handed_on = e.handed_on }
 
-pub returns-in-Text : goal.returns-in-Text
-returns-in-Text g c =
+pub returns-in-Diff : goal.returns-in-Diff
+returns-in-Diff g c =
     let e = c.answer_diff.ensures in
     rw c.in-Diff.is
-    (rw c.in-Text.is
-    record { answer = e.answer; fault = e.fault; sources = (e.sources, e.left_end, e.right_end); handed_on = e.handed_on })
+    record { answer = e.answer; fault = e.fault; sources = (e.sources, e.left_end, e.right_end); handed_on = e.handed_on }
 
 pub returns-in-Day : goal.returns-in-Day
 returns-in-Day g c =
@@ -46,7 +45,17 @@ returns-in-Explain g c =
     let e = c.answer_explain.ensures in
     rw c.in-Explain.is record { answer = e.answer; fault = e.fault; sources = (e.source, e.end, refl); handed_on = e.handed_on }
 
+pub returns-in-Calendar : goal.returns-in-Calendar
+returns-in-Calendar g c =
+    let e = c.answer_calendar.ensures in
+    rw c.in-Calendar.is record { answer = e.answer; fault = e.fault; sources = (e.source, e.end, refl); handed_on = e.handed_on }
+
 pub returns-in-Clashes : goal.returns-in-Clashes
 returns-in-Clashes g c =
     let e = c.answer_clashes.ensures in
     rw c.in-Clashes.is record { answer = e.answer; fault = e.fault; sources = (e.source, e.end, refl); handed_on = e.handed_on }
+
+pub returns-in-Table : goal.returns-in-Table
+returns-in-Table g c =
+    let e = c.answer_table.ensures in
+    rw c.in-Table.is record { answer = e.answer; fault = e.fault; sources = (e.source, e.end, refl); handed_on = e.handed_on }

@@ -6,7 +6,7 @@ use Rattle.cif_extract.specs.ExtractParts.{extract_parts}
 use Rattle.cif_extract.specs.declared.fault.Fault.TheVariants.{Read, Write}
 use Rattle.cif_views.specs.Clashes.{clashes_text}
 use Rattle.cif_canon.proofs.HandedFaults.{at-fault, hands, known-fault}
-use Rattle.cif_tool.specs.Answer.{IsClashesRefusal}
+use Rattle.cif_tool.specs.Answer.{IsClashlessRefusal}
 use Rattle.cif_tool.specs.Status.{listed_status}
 use Rattle.cif_tool.proofs.Answered.{fails-silently, handed-text, only-fails}
 use Rattle.cif_canon.proofs.BothRead.{read-on}
@@ -17,7 +17,7 @@ pub returns-in_err-narrow-clause-fault : goal.returns-in_err-narrow-clause-fault
 returns-in_err-narrow-clause-fault g c =
     let after = unread_of g.R.Read.remaining c.read_extract.new.source in
     known-fault c.from_residual-in_err-narrow.result c.in_err-narrow.field-0.0 c.from_residual-in_err-narrow.ensures.1 _ _
-    (λ bytes. IsClashesRefusal c.args.asked.now bytes after)
+    (λ bytes. IsClashlessRefusal c.args.asked.now bytes after)
     (λ bytes spelled. inr (extract_parts c.in_ok-extract.extract, spelled, inl c.in_err-narrow.ensures.fault))
     c.in_ok-extract.ensures.ok
 
@@ -32,7 +32,7 @@ pub returns-in_err-found-clause-fault : goal.returns-in_err-found-clause-fault
 returns-in_err-found-clause-fault g c =
     let after = unread_of g.R.Read.remaining c.read_extract.new.source in
     known-fault c.from_residual-in_err-found.result c.in_err-found.field-0.0 c.from_residual-in_err-found.ensures.1 _ _
-    (λ bytes. IsClashesRefusal c.args.asked.now bytes after)
+    (λ bytes. IsClashlessRefusal c.args.asked.now bytes after)
     (λ bytes spelled. inr (extract_parts c.in_ok-extract.extract, spelled, inr (inl c.in_err-found.ensures.fault)))
     c.in_ok-extract.ensures.ok
 
@@ -50,7 +50,7 @@ pub returns-clause-fault : goal.returns-clause-fault
 returns-clause-fault g c =
     let after = unread_of g.R.Read.remaining c.read_extract.new.source in
     known_so _ _ _ (λ bytes spelled.
-    only-fails _ _ _ (IsClashesRefusal c.args.asked.now bytes after) c.listed.result c.write.result c.write.new.sink
+    only-fails _ _ _ (IsClashlessRefusal c.args.asked.now bytes after) c.listed.result c.write.result c.write.new.sink
     c.finish.new.sink c.finish.result c.write.ensures.fault
     (inr (extract_parts c.in_ok-extract.extract, spelled, inr (inr refl))) c.finish.ensures.finishes) c.in_ok-extract.ensures.ok
 

@@ -1,0 +1,98 @@
+-- What stands on the days of one stretch after another.
+use Rattle.std.proofs.Common.{◌≡◌, ⊎_elim, ℕ, ◌+◌, ◌<◌, ◌≤◌, List, [], ◌∷◌, ◌++◌, drop, length, get_or, arith, refl, sym, subst}
+use Rattle.std.proofs.lemmas.Bool.{cases_lt}
+use Rattle.std.proofs.Math.Seq.{get_or-append_seam}
+use Rattle.std.proofs.lemmas.List.{drop_more, get_or_append_left, length-append}
+use Rattle.cif_calendar.specs.DayState.{AreDayStates, IsDayState}
+use Rattle.cif_calendar.specs.Steps.Stretches.{AreStretches, IsStretch}
+use Rattle.cif_calendar.specs.declared.day_state.DayState.{DayState}
+use Rattle.cif_calendar.specs.declared.day_state.DayState.TheVariants as state
+use Rattle.cif_calendar.specs.declared.stretch.Stretch.{Stretch}
+use Rattle.cif_calendar.proofs.Sets.{IsClash-same, IsClear-same, Wins-same}
+use Rattle.cif_calendar.proofs.Words.{IsChosen, Records, SameRecords, Terms}
+
+-- ---- one state
+
+-- sets with the same records have the same states
+pub IsDayState-same : {B : Type 0} (xs ys : Records B) → SameRecords xs ys → (d : ℕ) (s : DayState) → IsDayState xs d s → IsDayState ys d s
+IsDayState-same xs ys e d state.NoneApplies h = λ r has on. h r ((e.same r).1 has) on
+IsDayState-same xs ys e d state.Clash h = IsClash-same xs ys e d h
+IsDayState-same xs ys e d (state.Letter letter) (won, clear) = (
+  record { winner = won.winner; wins = Wins-same xs ys e d won.winner won.wins; letter_is = won.letter_is },
+  IsClear-same xs ys e d clear,
+)
+
+pub AreDayStates-same : {B : Type 0} (xs ys : Records B) → SameRecords xs ys → (first to : ℕ) (states : List DayState)
+    → AreDayStates xs first to states → AreDayStates ys first to states
+AreDayStates-same xs ys e first to states a = record {
+  many = a.many;
+  each = λ i below. IsDayState-same xs ys e (first + i) (get_or states i state.NoneApplies) (a.each i below);
+}
+
+-- ---- one after another
+
+module _ {B : Type 0} (records : Records B) (first to : ℕ) (states more : List DayState) (s : DayState) (is : more ≡ states ++ s ∷ [])
+    (so_far : AreDayStates records first to states) (state_is : IsDayState records to s) where
+  each-more : (i : ℕ) → i < length (states ++ s ∷ []) → IsDayState records (first + i) (get_or (states ++ s ∷ []) i state.NoneApplies)
+  each-more i below = ⊎_elim
+      (λ old. subst (IsDayState records (first + i)) (sym (get_or_append_left states (s ∷ []) state.NoneApplies i old)) (so_far.each i old))
+      (λ last.
+      let at : i ≡ length states = omega (arith, length-append states (s ∷ [])) in
+      let day : to ≡ first + i = omega (arith, so_far.many) in
+      subst (λ n. IsDayState records n (get_or (states ++ s ∷ []) i state.NoneApplies)) day
+      (subst (λ j. IsDayState records to (get_or (states ++ s ∷ []) j state.NoneApplies)) (sym at)
+      (subst (IsDayState records to) (sym (get_or-append_seam states s [] state.NoneApplies)) state_is)))
+      (cases_lt i (length states))
+
+  pub states-more : (next : ℕ) → to + 1 ≡ next → AreDayStates records first next more
+  states-more next end = rw is (record {
+    many = omega (arith, so_far.many, length-append states (s ∷ []));
+    each = each-more;
+  })
+
+-- The states of the days before `to` stand, and the stretches that are left follow, from day `first` on.
+pub record AreStatesOf {B : Type 0} (xs : List (Terms B)) (members : List ℕ) (from last first : ℕ) (ss : List Stretch)
+    (states : List DayState) : Type 0 where
+  pub to : ℕ
+  pub so_far : AreDayStates (IsChosen xs members) from to states
+  pub next : to ≤ last → first ≡ to
+  pub ahead : AreStretches xs members members (last + 1) to (last + 1) ss
+
+module _ {B : Type 0} (xs : List (Terms B)) (members : List ℕ) (from last : ℕ) where
+  pub states-none : (ss : List Stretch) → AreStretches xs members members (last + 1) from (last + 1) ss
+      → AreStatesOf xs members from last from ss []
+  states-none ss ahead = record {
+    to = from;
+    so_far = record { many = omega arith; each = λ i below. absurd (omega arith) };
+    next = λ _. refl;
+    ahead = ahead;
+  }
+
+  pub states-all : (first : ℕ) (ss : List Stretch) (states : List DayState) → AreStatesOf xs members from last first ss states → ss ≡ []
+      → AreDayStates (IsChosen xs members) from (last + 1) states
+  states-all first ss states a none =
+      let end : a.to ≡ last + 1 = rw none at a.ahead in
+      subst (λ n. AreDayStates (IsChosen xs members) from n states) end a.so_far
+
+  -- s is the stretch at place k
+  module _ (first k : ℕ) (ss : List Stretch) (s : Stretch) (states : List DayState) (below : k < length ss) (at : s ≡ get_or ss k s)
+      (a : AreStatesOf xs members from last first (drop k ss) states) where
+    both : IsStretch xs members members (last + 1) a.to s
+        × AreStretches xs members members (last + 1) (s.last + 1) (last + 1) (drop (k + 1) ss)
+    both = rw (drop_more ss k s below, sym at) at a.ahead
+
+    inside : a.to ≤ last
+    inside = omega (arith, both.0.in_order, both.0.upto)
+
+    pub stretch-here : (end : ℕ) × IsStretch xs members members end first s
+    stretch-here = (last + 1, rw (a.next inside) both.0)
+
+    pub states-next : (next : ℕ) (more : List DayState) → (s.last < last → next ≡ s.last + 1)
+        → ((n : ℕ) → AreDayStates (IsChosen xs members) n first states → AreDayStates (IsChosen xs members) n (s.last + 1) more)
+        → AreStatesOf xs members from last next (drop (k + 1) ss) more
+    states-next next more is added = record {
+      to = s.last + 1;
+      so_far = added from (subst (λ n. AreDayStates (IsChosen xs members) from n states) (sym (a.next inside)) a.so_far);
+      next = λ upto. is (omega arith);
+      ahead = both.1;
+    }

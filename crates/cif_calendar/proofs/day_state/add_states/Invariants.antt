@@ -1,0 +1,16 @@
+-- The states of the days before `day` stand, and what is left of the stretch gets shorter.
+use Rattle.std.proofs.Common.{ℕ, ◌≤◌, ◌-◌, map}
+use Rattle.cif_calendar.specs.DayState.{AreDayStates}
+use Rattle.cif_calendar.specs.Source.{IsChosen}
+use Rattle.cif_calendar.proofs.day_state.add_states.Given as goal
+
+abbrev pub invariant-loop-next : goal.invariant-loop-next
+invariant-loop-next g l = record {
+  from : l.fn.first ≤ l.day;
+  upto : l.day ≤ l.stretch.last;
+  so_far : (from : ℕ) → AreDayStates (IsChosen (map g.E.Entry.terms l.entries) l.members) from l.fn.first l.initial.states.items
+      → AreDayStates (IsChosen (map g.E.Entry.terms l.entries) l.members) from l.day l.states.items;
+}
+
+abbrev pub decreases-loop-next : goal.decreases-loop-next
+decreases-loop-next g l = l.stretch.last - l.day

@@ -1,0 +1,8 @@
+-- At first no bodies are known to be alike.
+use Rattle.std.proofs.Common.{map, rules}
+use Rattle.cif_calendar.proofs.Bodies.{alike-none}
+use Rattle.cif_calendar.proofs.day_state.day_states.Goals as goal
+
+pub stretches_of-requires-clause-alike : goal.stretches_of-requires-clause-alike
+stretches_of-requires-clause-alike g c = rw (c.as_mut_slice.ensures.value, c.in_ok-alike.ensures.items_if_clones_equal (λ y h. search rules))
+    (alike-none (map g.E.Entry.terms c.args.entries.now) c.args.members.now)

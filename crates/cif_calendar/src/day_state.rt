@@ -1,0 +1,116 @@
+//! What stands on each date of a window.
+ghost use Rattle.std.specs.Prelude.{◌≡◌, ◌+◌, ◌<◌, ℕ, All, IfOk, length, map};
+ghost use Rattle.cif_calendar.specs.DayState.{AreDayStates, IsDayState};
+ghost use Rattle.cif_calendar.specs.Source.{IsChosen};
+ghost use Rattle.cif_calendar.specs.Steps.Standing.{IsBelow, Stands};
+ghost use Rattle.cif_calendar.specs.Steps.Stretches.{AreStretchesOf, IsStretch};
+
+use crate::entry::Entry;
+use crate::key_calendar::Window;
+use crate::standing::{Standing, member};
+use crate::stretch::{Stretch, stretches_of};
+use cif_columns::{Day, Stp};
+use std::alloc::{AllocError, Global};
+
+/// What stands on a date, by the records of a key.
+#[derive(Clone, Copy)]
+pub enum DayState {
+    /// No record applies.
+    NoneApplies,
+    /// Two winners have different bodies.
+    Clash,
+    /// The letter of the winners, which agree.
+    Letter(Stp),
+}
+
+/// What stands on each date of the window, by the entries at `members`, in order.
+///
+/// `members` are positions in `entries`. Hand in those of one key's records: all members are judged
+/// together, whatever their keys. The time is that of `calendar`, and of the dates.
+pub fn day_states<E: Entry>(
+    alloc: Global,
+    entries: &[E],
+    members: &[usize],
+    window: &Window,
+) -> Result<Vec<DayState>, AllocError>
+    requires { All (λ i. i < length entries.now) members.now }
+    ensures { IfOk result (λ states. AreDayStates (IsChosen (map E.terms entries.now) members.now)
+        window.now.first (window.now.last + 1) states.items) }
+{
+    let mut alike = vec![in alloc; None; members.len()]?;
+    let stretches = stretches_of(
+        alloc,
+        entries,
+        members,
+        alike.as_mut_slice(),
+        0,
+        members,
+        window,
+    )?;
+    states_of(alloc, entries, members, stretches.as_slice(), window)
+}
+
+/// What stands on each date of the window, by the stretches of the entries at `members`.
+fn states_of<E: Entry>(
+    alloc: Global,
+    entries: &[E],
+    members: &[usize],
+    stretches: &[Stretch],
+    window: &Window,
+) -> Result<Vec<DayState>, AllocError>
+    requires positions { All (λ i. i < length entries.now) members.now }
+    requires stretches { AreStretchesOf (map E.terms entries.now) members.now members.now window.now
+        stretches.now }
+    ensures { IfOk result (λ states. AreDayStates (IsChosen (map E.terms entries.now) members.now)
+        window.now.first (window.now.last + 1) states.items) }
+{
+    let mut states = Vec::new(alloc);
+    let mut first = window.first;
+    for stretch in stretches {
+        add_states(entries, members, first, stretch, &mut states)?;
+        first = stretch.last.next_up_to(window.last).unwrap_or(first);
+    }
+    Ok(states)
+}
+
+/// Appends what stands on each date of a stretch, which begins on `first`.
+fn add_states<E: Entry>(
+    entries: &[E],
+    members: &[usize],
+    first: Day,
+    stretch: &Stretch,
+    states: &mut Vec<DayState>,
+) -> Result<(), AllocError>
+    requires positions { All (λ i. i < length entries.now) members.now }
+    requires stretch { (end : ℕ) × IsStretch (map E.terms entries.now) members.now members.now end
+        first stretch.now }
+    ensures { IfOk result (λ _. (from : ℕ)
+        → AreDayStates (IsChosen (map E.terms entries.now) members.now) from first states.old.items
+        → AreDayStates (IsChosen (map E.terms entries.now) members.now) from (stretch.now.last + 1)
+        states.new.items) }
+{
+    let mut day = first;
+    loop {
+        let weekday = usize::from(day.weekday());
+        states.push(state_by(entries, members, stretch.standings[weekday]))?;
+        match day.next_up_to(stretch.last) {
+            Some(next) => day = next,
+            None => return Ok(()),
+        }
+    }
+}
+
+/// What stands on a date on which this standing is that of all members.
+fn state_by<E: Entry>(entries: &[E], members: &[usize], standing: Standing) -> DayState
+    requires positions { All (λ i. i < length entries.now) members.now }
+    requires leader { IsBelow (length members.now) standing }
+    ensures { (day : ℕ) → Stands (map E.terms entries.now) members.now
+        (IsChosen (map E.terms entries.now) members.now) day standing
+        → IsDayState (IsChosen (map E.terms entries.now) members.now) day result }
+{
+    match standing {
+        Standing::Nobody => DayState::NoneApplies,
+        Standing::Leader(number) => DayState::Letter(member(entries, members, number).letter()),
+        Standing::Disputed(_) => DayState::Clash,
+    }
+}

@@ -1,0 +1,31 @@
+-- The records at the positions of the train are its records.
+use Rattle.std.proofs.Common.{◌+◌, ◌<◌, length, subst, sym}
+use Rattle.std.specs.Prelude.{All}
+use Rattle.std.proofs.lemmas.Result.{IfOk-weaker}
+use Rattle.cif_calendar.specs.DayState.{AreDayStates}
+use Rattle.cif_calendar.specs.Entries.{schedule_entries, schedule_terms}
+use Rattle.cif_calendar.specs.Keys.{ArePositionsOf, of_key}
+use Rattle.cif_calendar.proofs.DayStates.{AreDayStates-same}
+use Rattle.cif_calendar.proofs.Positions.{positions-records}
+use Rattle.cif_extract.specs.declared.extract.Schedule.{Schedule}
+use Rattle.cif_views.proofs.calendar_weeks.states_of_train.Goals as goal
+
+pub day_states-requires : goal.day_states-requires
+day_states-requires c =
+    subst (All (λ i. i < length c.args.schedules.now)) (sym c.as_slice.ensures.value) c.in_ok-positions.ensures.within
+
+pub returns : goal.returns
+returns c =
+    let es = c.args.schedules.now in
+    let u = c.args.uid.now in
+    let members = c.as_slice.result.now in
+    let first = c.args.window.now.first in
+    let to = c.args.window.now.last + 1 in
+    IfOk-weaker c.day_states.result _ _
+    (λ states h.
+    let all : AreDayStates (of_key (schedule_entries es) u) first to states.items =
+    AreDayStates-same _ _ (positions-records (λ (s : Schedule). s.uid) schedule_terms es u members
+    (subst (ArePositionsOf (schedule_entries es) u) (sym c.as_slice.ensures.value) c.in_ok-positions.ensures.of_key))
+    first to states.items h in
+    all)
+    c.day_states.ensures

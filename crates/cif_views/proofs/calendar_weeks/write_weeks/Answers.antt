@@ -1,0 +1,31 @@
+-- One week more goes behind the others (`range-push`).
+use Rattle.std.proofs.Common.{◌≡◌, ◌+◌, ◌-◌, ◌∙◌, ℕ, List, [], ap, arith, subst, sym}
+use Rattle.std.specs.List.{flat_map, range_with_len}
+use Rattle.cif_columns.specs.Day.{week_of}
+use Rattle.cif_canon.specs.Appended.{IsAppended}
+use Rattle.cif_canon.proofs.AppendedTexts.{behind, nothing, text-is}
+use Rattle.cif_views.specs.Steps.WeekCalendar.{state_in}
+use Rattle.cif_views.specs.WeekCalendar.{week_line}
+use Rattle.cif_views.proofs.WeekLines.{range-push}
+use Rattle.cif_views.proofs.calendar_weeks.write_weeks.Goals as goal
+
+pub loop-week-init : goal.loop-week-init
+loop-week-init g c =
+    let w = c.args.window.now in
+    let line = week_line w.first w.last (state_in w.first c.args.states.now) in
+    let a = week_of w.first in
+    let none : 0 ≡ c.week-week.result - a = omega arith in
+    text-is _ _ [] (flat_map line (range_with_len a (c.week-week.result - a))) _ _ (ap (λ n. flat_map line (range_with_len a n)) none)
+    (nothing _ _ c.args.sink.now)
+
+pub loop-week-preserved : goal.loop-week-preserved
+loop-week-preserved g c =
+    let w = c.args.window.now in
+    let line = week_line w.first w.last (state_in w.first c.args.states.now) in
+    let a = week_of w.first in
+    let n = c.loop-week.week - a in
+    let here : a + n ≡ c.loop-week.week = omega arith in
+    let next : n + 1 ≡ c.loop-week.week + 1 - a = omega arith in
+    subst (λ (l : List ℕ). IsAppended g.W.Write.contents g.W.WriteDevice.write_errors (flat_map line l) c.args.sink.now c.write_week.new.sink)
+    (sym (range-push a n c.loop-week.week here) ∙ ap (range_with_len a) next)
+    (behind _ _ line (range_with_len a n) c.loop-week.week _ _ _ c.loop-week.invariant c.write_week.ensures)

@@ -1,0 +1,64 @@
+-- Each row of a table has a field for each of its names.
+use Rattle.std.specs.Prelude.{◌≡◌, ℕ, Bool, true, false, List, ◌++◌, length}
+use Rattle.cif_extract.specs.BodyParts.{BodyParts}
+use Rattle.cif_records.specs.declared.association.AssocBody.{AssocBody}
+use Rattle.cif_records.specs.declared.association.AssocKey.{AssocKey}
+use Rattle.cif_records.specs.declared.origin.Origin.{Origin}
+use Rattle.cif_records.specs.declared.stop.Stop.{Stop}
+use Rattle.cif_records.specs.declared.terminus.Terminus.{Terminus}
+use Rattle.cif_weeks.specs.Permanent.{Permanent}
+use Rattle.cif_canon.specs.Fields.{Field, led}
+use Rattle.cif_canon.specs.Rows.{schedule_row, train_row}
+use Rattle.cif_canon.specs.declared.rows.Format.TheVariants.{Tsv}
+use Rattle.cif_views.specs.Calls.{call_names, origin_fields, stop_fields, terminus_fields}
+use Rattle.cif_views.specs.Explanation.{Explained, explained_association_fields, explained_train_fields, explanation_names}
+use Rattle.cif_views.specs.Listing.{association_fields_of, date_field, day_names, train_names, uid_field}
+use Rattle.cif_views.specs.Tables.{TableFields, association_fields, call_fields, change_fields, header_fields, names, row_fields}
+use Rattle.cif_views.specs.Tables.{schedule_fields, tiploc_fields}
+use Rattle.cif_views.specs.declared.listing.Listing.{Listing}
+
+-- as many fields as names
+abbrev pub HasAll : List (List ℕ) → List Field → Type 0
+HasAll names row = length row ≡ length names
+
+-- the rows of a table of a whole extract
+abbrev pub HaveAll : {Row : Type 0} → TableFields Row → Type 0
+HaveAll {Row} fields = (row : Row) → HasAll (names fields) (row_fields fields row)
+
+pub record TablesHaveAll : Type 0 where
+  pub header : HaveAll header_fields
+  pub tiplocs : HaveAll tiploc_fields
+  pub associations : HaveAll association_fields
+  pub schedules : HaveAll schedule_fields
+  pub calls : HaveAll call_fields
+  pub changes : HaveAll change_fields
+
+-- a table of a day or of a train, with or without calls
+abbrev pub table_with : Bool → Listing
+table_with calls = record { format = Tsv; calls = calls }
+
+-- the fields of calls
+pub record CallsHaveAll : Type 0 where
+  pub origin : (o : Origin) → HasAll call_names (origin_fields o)
+  pub stop : (s : Stop) → HasAll call_names (stop_fields s)
+  pub terminus : (t : Terminus) → HasAll call_names (terminus_fields t)
+
+-- the rows of a day: of an association, of a train, and of a train with a call
+pub record DayRowsHaveAll : Type 0 where
+  pub association : (calls : Bool) (d : ℕ) (e : AssocKey × AssocBody) →
+      HasAll (day_names (table_with calls)) (association_fields_of (table_with calls) (date_field d) e)
+  pub train : (d : ℕ) (e : List ℕ × BodyParts) → HasAll (day_names (table_with false)) (led Tsv (date_field d) (train_row Tsv e))
+  pub call : (d : ℕ) (e : List ℕ × BodyParts) (call : List Field) → HasAll call_names call →
+      HasAll (day_names (table_with true)) (led Tsv (date_field d) (train_row Tsv e) ++ call)
+
+-- the rows of a train: of a schedule, and of a schedule with a call
+pub record TrainRowsHaveAll : Type 0 where
+  pub schedule : (uid : List ℕ) (r : Permanent BodyParts) →
+      HasAll (train_names (table_with false)) (led Tsv (uid_field uid) (schedule_row Tsv r))
+  pub call : (uid : List ℕ) (r : Permanent BodyParts) (call : List Field) → HasAll call_names call →
+      HasAll (train_names (table_with true)) (led Tsv (uid_field uid) (schedule_row Tsv r) ++ call)
+
+-- the rows of an explanation
+pub record ExplainedRowsHaveAll : Type 0 where
+  pub association : (d : ℕ) (e : Explained AssocKey AssocBody) → HasAll explanation_names (explained_association_fields Tsv d e)
+  pub train : (d : ℕ) (e : Explained (List ℕ) BodyParts) → HasAll explanation_names (explained_train_fields Tsv d e)
