@@ -1,11 +1,10 @@
 -- What `check --all` answers, by what its calls answer: of bytes that are known.
-use Rattle.std.proofs.Common.{◌≡◌, ◌≢◌, ℕ, List, Option, IfSome, Result, Ok, Err, IfErr, inl, inr, refl, sym}
+use Rattle.std.proofs.Common.{◌≢◌, ℕ, List, Option, IfSome, inl, inr, refl}
 use Rattle.cif_columns.specs.declared.line_reader.TheConstants.{MAX_LINES}
 use Rattle.cif_columns.proofs.GivenLinesLaws.{known_so}
-use Rattle.cif_columns.specs.Source.{Unread, reader_of}
-use Rattle.cif_columns.specs.declared.source.Source.{Source}
+use Rattle.cif_columns.specs.Source.{Unread}
 use Rattle.cif_extract.specs.ExtractParts.{ExtractParts}
-use Rattle.cif_extract.specs.ReadFault.{IsOfReading, LeavesNothing}
+use Rattle.cif_extract.specs.ReadFault.{IsOfReading}
 use Rattle.cif_extract.specs.SpellsExtract.{BytesSpellWithin}
 use Rattle.cif_extract.specs.declared.fault.Fault.{Fault}
 use Rattle.cif_extract.specs.declared.fault.Fault.TheVariants as fault

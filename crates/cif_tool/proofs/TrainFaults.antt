@@ -1,5 +1,5 @@
 -- Why there is no view of a train, as a fault of bytes that are read and narrowed.
-use Rattle.std.proofs.Common.{ℕ, List, Option}
+use Rattle.std.proofs.Common.{ℕ, List}
 use Rattle.cif_columns.specs.Source.{Unread}
 use Rattle.cif_extract.specs.ExtractParts.{ExtractParts}
 use Rattle.cif_extract.specs.declared.fault.Fault.{Fault}

@@ -1,13 +1,11 @@
 -- The rows of tables, as they are made field by field.
-use Rattle.std.proofs.Common.{◌≡◌, ℕ, ◌+◌, ◌<◌, ◌≤◌, Bool, true, false, List, [], ◌∷◌, ◌++◌, codes, cond, drop, get_or, length}
+use Rattle.std.proofs.Common.{◌≡◌, ℕ, ◌+◌, ◌<◌, ◌≤◌, Bool, true, false, List, [], ◌∷◌, ◌++◌, codes, cond, drop, length}
 use Rattle.std.proofs.Common.{◌∙◌, append-nil, append_assoc, ap, arith, inl, inr, length-append, refl, subst, sym, take}
 use borrow.Rule.Slice.PartMut.{put_mid}
-use Rattle.std.specs.Prelude.{◌⊎◌, IsTrue, slice_index_or, slice_set}
+use Rattle.std.specs.Prelude.{◌⊎◌, slice_index_or, slice_set}
 use Rattle.std.specs.List.{enumerate_from, filter, flat_map}
 use Rattle.std.proofs.lemmas.Grind.{flat_map-append}
-use Rattle.std.proofs.lemmas.Bool.{and_parts}
-use Rattle.std.proofs.lemmas.Bool.Decides.{nat_tests}
-use Rattle.std.proofs.lemmas.List.{at_drop_all, at_drop_more, length-set, length-take-le, take-take, take_more_set}
+use Rattle.std.proofs.lemmas.List.{at_drop_all, length-set, length-take-le, take-take, take_more_set}
 use Rattle.std.proofs.lemmas.List.Folds.{flat_map-map}
 use Rattle.std.proofs.lemmas.Slice.{take-put_mid}
 use Rattle.std.proofs.Math.Seq.{take-append-add}
@@ -16,10 +14,9 @@ use Rattle.cif_canon.specs.Fields.{Field, after, in_table, line_of, nothing}
 use Rattle.cif_canon.specs.Lines.{ExtractLines, ScheduleLines}
 use Rattle.cif_canon.specs.declared.rows.Format.TheVariants.{Tsv}
 use Rattle.cif_canon.specs.declared.rows.Shape.{Shape}
-use Rattle.cif_canon.specs.declared.rows.Shape.TheVariants.{Trimmed}
 use Rattle.cif_canon.proofs.ViewLines.{both-after, joined}
-use Rattle.cif_views.specs.Steps.TableRows.{Place, are_within, call_fields_of, call_rows, change_rows, field_at, fields_at, is_within, journey_rows, room_for}
-use Rattle.cif_views.specs.Steps.TableRows.{place_fields, room_of, schedule_rows}
+use Rattle.cif_views.specs.Steps.TableRows.{Place, are_within, call_fields_of, call_rows, change_rows, field_at, fields_at, journey_rows, room_for}
+use Rattle.cif_views.specs.Steps.TableRows.{place_fields, schedule_rows}
 use Rattle.cif_views.specs.Tables.{Numbered, call_fields, calls_of, change_fields, changes_of, is_call, is_change}
 use Rattle.cif_views.specs.Tables.{kind_of_line, number, numbered_from, numbered_schedule, row_line, schedule_fields, table_rows, text_at}
 use Rattle.cif_views.specs.declared.tables.TheConstants.{CHANGE}

@@ -1,5 +1,5 @@
 -- The text is that of the table of the canonical form (`table-answer`); a fault is that of reading, of the form, or Write.
-use Rattle.std.proofs.Common.{◌≢◌, refl, subst, sym}
+use Rattle.std.proofs.Common.{◌≢◌, refl, subst}
 use Rattle.cif_columns.proofs.GivenLinesLaws.{known_so}
 use Rattle.cif_columns.specs.declared.line_reader.TheConstants.{MAX_LINES}
 use Rattle.cif_columns.specs.Source.{unread_of}
