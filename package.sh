@@ -88,7 +88,8 @@ dependencies() {
 put 644 "$root/usr/share/zsh/vendor-completions" "$root/usr/share/zsh/site-functions/_cif"
 rm -r "$root/usr/share/zsh/site-functions"
 gzip -9n "$root/usr/share/man/man1/cif.1"
-put 644 "$root/usr/share/doc/cif/examples" "$top"/examples/*.cif "$top/examples/holidays.txt"
+put 644 "$root/usr/share/doc/cif/examples" "$top"/examples/*.cif "$top"/examples/*.csv \
+    "$top/examples/holidays.txt" "$top/examples/gtfs.sql" "$top/examples/gtfs.py"
 put 644 "$root/usr/share/doc/cif" "$top/README.md"
 put 644 "$root/usr/share/doc/cif/docs" "$top/docs/FORMAT.md"
 install -m 644 "$top/LICENSE" "$root/usr/share/doc/cif/copyright"

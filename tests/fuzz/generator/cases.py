@@ -21,7 +21,7 @@ COMMANDS = {"normalise": 32, "check": 6, "compare": 14, "diff": 16, "day": 7, "t
 COMMANDS |= {command: 13 for command in OF_FEEDS}
 
 # Whether the program has the tables of the reference: those of whole extracts, calendars, and those of the other commands.
-HAS_TABLES = False
+HAS_TABLES = True
 COMMANDS |= {"table": 14, "calendar": 7} if HAS_TABLES else {}
 
 FORMATS, NO_FORMATS = (None, None, "text", "tsv", "tsv", "tsv"), ("csv", "TSV", "", "tsv ")
