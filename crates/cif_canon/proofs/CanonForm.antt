@@ -12,16 +12,18 @@ use Rattle.cif_canon.specs.Asked.{header_window}
 use Rattle.cif_canon.specs.Canon.{IsCanonOf}
 use Rattle.cif_canon.specs.Canonical.{IsCanonicalOf}
 use Rattle.cif_canon.specs.Counts.{counts_of}
+use Rattle.cif_canon.specs.Lines.{lines_of}
 use Rattle.cif_canon.specs.declared.canonical_form.Counts.{Counts}
 use Rattle.cif_canon.specs.Fault.{IsCanonFault, IsFirstClashIn}
 use Rattle.cif_canon.specs.Steps.Records.{AreCanonicalRecords, IsRecordsFault, IsRunOf}
-use Rattle.cif_canon.specs.Steps.Texts.{HasRecord, canon_text}
+use Rattle.cif_canon.specs.Steps.Texts.{HasRecord, canon_lines, canon_text}
 use Rattle.cif_canon.specs.Steps.Tiplocs.{AreDistinct}
 use Rattle.cif_extract.specs.Texts.{FitsColumns, extract_text}
 use Rattle.cif_extract.specs.SpellsExtract.{BytesSpell}
 use Rattle.cif_extract.proofs.PlainTexts.{text-spells}
 use Rattle.cif_canon.proofs.Words.{AreClear, ExtractParts, Fault, Form, Header, Run, Tiploc, Window, association_entries, key_cmp}
 use Rattle.cif_canon.proofs.Words.{schedule_entries, window_from}
+use Rattle.cif_canon.proofs.CanonLines.{written-lines}
 use Rattle.cif_canon.proofs.CanonTexts.{have-records, number-of_associations, number-of_schedules, written-text}
 use Rattle.cif_canon.proofs.KeptExtract.{canonical_of, is-canonical, same-meaning}
 use Rattle.cif_canon.proofs.MadeExtract.{IsDated, associations_of}
@@ -80,6 +82,10 @@ module _ (form : Form) (x : ExtractParts) (tiplocs : List Tiploc) (distinct : Ar
   unfolding text made
   made-text = written-text x tiplocs associations a.records dated-associations a.runs_of schedules s.records dated-schedules s.runs_of
 
+  made-lines : canon_lines x tiplocs associations schedules ≡ lines_of made
+  unfolding made
+  made-lines = written-lines x tiplocs associations a.records dated-associations a.runs_of schedules s.records dated-schedules s.runs_of
+
   made-counts : counts ≡ counts_of made
   unfolding made
   made-counts =
@@ -117,7 +123,11 @@ module _ (form : Form) (x : ExtractParts) (tiplocs : List Tiploc) (distinct : Ar
           s.records s.canonical dated-schedules s.same_meaning;
     }
 
-    pub is-canon : IsCanonOf form x (record { text = canon_text x tiplocs associations schedules; counts = counts })
+    pub is-canon : IsCanonOf form x (record {
+      text = canon_text x tiplocs associations schedules;
+      lines = canon_lines x tiplocs associations schedules;
+      counts = counts;
+    })
     unfolding text canonical made
     is-canon = record {
       clear = record { associations = a.clear; schedules = s.clear };
@@ -125,5 +135,6 @@ module _ (form : Form) (x : ExtractParts) (tiplocs : List Tiploc) (distinct : Ar
       unique = normal-unique form x text canonical;
       again = its-own form x text canonical;
       reached = reached form x text canonical;
+      lines_are = made-lines;
       counted = made-counts;
     }

@@ -37,14 +37,14 @@ module _ {K B : Type 0} (entries : List (K × Terms B)) where
       (record { it = e; is = record-of_run run e zip.0; in_order = All-head IsDated e records dated })
       (have-records runs records zip.1 (All-tail IsDated e records dated))
 
-  pub texts-of_runs : (text : K × Permanent B → List ℕ) (runs : List Run) (records : List (K × Permanent B)) →
+  pub texts-of_runs : {C : Type 0} (text : K × Permanent B → List C) (runs : List Run) (records : List (K × Permanent B)) →
       AllZip (IsRunOf entries) runs records → flat_map (λ run. text_if text (record_at entries run)) runs ≡ flat_map text records
   texts-of_runs text [] [] zip = refl
   texts-of_runs text [] (e ∷ records) zip = absurd zip
   texts-of_runs text (run ∷ runs) [] zip = absurd zip
-  texts-of_runs text (run ∷ runs) (e ∷ records) zip =
-      ap (λ (l : List ℕ). l ++ flat_map (λ run. text_if text (record_at entries run)) runs) (ap (text_if text) (record-of_run run e zip.0))
-      ∙ ap (λ (l : List ℕ). text e ++ l) (texts-of_runs text runs records zip.1)
+  texts-of_runs {C} text (run ∷ runs) (e ∷ records) zip =
+      ap (λ (l : List C). l ++ flat_map (λ run. text_if text (record_at entries run)) runs) (ap (text_if text) (record-of_run run e zip.0))
+      ∙ ap (λ (l : List C). text e ++ l) (texts-of_runs text runs records zip.1)
 
 -- ---- the text of tables
 

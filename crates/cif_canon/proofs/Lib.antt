@@ -1,6 +1,7 @@
 pub mod AppendedTexts
 pub mod BothRead
 pub mod CanonForm
+pub mod CanonLines
 pub mod CanonTexts
 pub mod ChosenRecords
 pub mod CompareFaults

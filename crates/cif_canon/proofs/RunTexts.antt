@@ -5,7 +5,7 @@ use Rattle.std.specs.Option.{option_and_then, option_map}
 use Rattle.std.proofs.lemmas.List.{length-map}
 use Rattle.std.proofs.lemmas.Option.{same_Some, slice_get_read, slice_get_within}
 use Rattle.cif_calendar.proofs.Winning.{terms_at}
-use Rattle.cif_canon.specs.Steps.Texts.{HasRecord, body_at, record_at, schedule_run_text, schedule_text, text_if}
+use Rattle.cif_canon.specs.Steps.Texts.{HasRecord, body_at, record_at, run_text, text_if}
 use Rattle.cif_canon.proofs.Words.{BodyParts, Permanent, Run, Schedule, Terms, record_of, schedule_entries, schedule_entry}
 
 -- the record of a run whose source is an entry with a body
@@ -68,9 +68,9 @@ body-of schedules n s within is =
     ap (option_and_then (λ (s : Schedule). s.body)) (slice_get_read schedules (length schedules) n s refl within is)
 
 -- the text of a run, by the schedule at its source and its body
-pub schedule-text : (schedules : List Schedule) (run : Run) (s : Schedule) (b : BodyParts) → HasRecord (schedule_entries schedules) run →
-    s ≡ get_or schedules run.source s → body_at schedules run.source ≡ Some b →
-    schedule_run_text (schedule_entries schedules) run ≡ schedule_text (s.uid, record_of run b)
-schedule-text schedules run s b h is body =
-    run-text schedule_entry schedules run s b schedule_text h is
+pub schedule-text : (text : List ℕ × Permanent BodyParts → List ℕ) (schedules : List Schedule) (run : Run) (s : Schedule) (b : BodyParts) →
+    HasRecord (schedule_entries schedules) run → s ≡ get_or schedules run.source s → body_at schedules run.source ≡ Some b →
+    run_text text (schedule_entries schedules) run ≡ text (s.uid, record_of run b)
+schedule-text text schedules run s b h is body =
+    run-text schedule_entry schedules run s b text h is
     (sym (body-of schedules run.source s (record-within schedule_entry schedules run h) is) ∙ body)

@@ -1,36 +1,37 @@
 -- Fields that are appended one by one, or group by group, make a line.
 use Rattle.std.proofs.Common.{◌≡◌, ℕ, zero, suc, ◌+◌, ◌<◌, ◌≤◌, List, [], ◌∷◌, ◌++◌, Bor, codes, drop, get_or, length, map, refl, sym, ap}
-use Rattle.std.proofs.Common.{◌∙◌, append-nil, append_assoc, arith, subst}
+use Rattle.std.proofs.Common.{◌∙◌, append-nil, append_assoc, arith, subst, Bool, true, false, nat_lt, if◌then◌else◌}
 use Rattle.std.specs.Prelude.{replicate}
 use Rattle.std.proofs.lemmas.Grind.{flat_map-append}
 use Rattle.std.proofs.lemmas.List.{at_drop_all, at_drop_more}
-use Rattle.std.proofs.lemmas.List.Elements.{All-replicate}
+use Rattle.std.proofs.lemmas.List.Elements.{All-cons, All-nil, All-replicate}
 use Rattle.cif_columns.specs.Line.{ArePrintable, IsPrintable}
-use Rattle.cif_columns.specs.Text.{text_of}
-use Rattle.cif_canon.specs.Fields.{fields_text, line_of, separator, shown}
-use Rattle.cif_canon.specs.Fields.{AreFields, after, width}
+use Rattle.cif_canon.specs.Fields.{AreFields, CanBeShown, Field, after, century, fields_text, lead, led, line_of, long_date, nothing, separator, shown}
+use Rattle.cif_canon.specs.Fields.{width, width_of}
 use Rattle.cif_canon.specs.declared.rows.Format.{Format}
-use Rattle.cif_canon.specs.declared.rows.Format.TheVariants.{Tsv}
+use Rattle.cif_canon.specs.declared.rows.Format.TheVariants.{Text, Tsv}
+use Rattle.cif_canon.specs.declared.rows.Shape.{Shape}
+use Rattle.cif_canon.specs.declared.rows.Shape.TheVariants.{Date, Trimmed, Whole}
 
 module _ (format : Format) where
   -- fields behind fields
-  pub both-after : (start : List ℕ) (some more : List (List ℕ)) →
+  pub both-after : (start : List ℕ) (some more : List Field) →
       (start ++ after format some) ++ after format more ≡ start ++ after format (some ++ more)
   both-after start some more =
       append_assoc start (after format some) (after format more)
       ∙ ap (λ (l : List ℕ). start ++ l) (sym (flat_map-append (λ field. separator format ∷ shown format field) some more))
 
   -- three groups, and four
-  pub three-after : (start : List ℕ) (a b c : List (List ℕ)) →
+  pub three-after : (start : List ℕ) (a b c : List Field) →
       ((start ++ after format a) ++ after format b) ++ after format c ≡ start ++ after format (a ++ (b ++ c))
   three-after start a b c = both-after (start ++ after format a) b c ∙ both-after start a (b ++ c)
 
-  pub four-after : (start : List ℕ) (a b c d : List (List ℕ)) →
+  pub four-after : (start : List ℕ) (a b c d : List Field) →
       (((start ++ after format a) ++ after format b) ++ after format c) ++ after format d ≡ start ++ after format (a ++ (b ++ (c ++ d)))
   four-after start a b c d = three-after (start ++ after format a) b c d ∙ both-after start a (b ++ (c ++ d))
 
   -- a field, and two groups
-  pub field-after : (start field : List ℕ) (a b : List (List ℕ)) →
+  pub field-after : (start : List ℕ) (field : Field) (a b : List Field) →
       ((start ++ (separator format ∷ shown format field)) ++ after format a) ++ after format b
       ≡ start ++ after format (field ∷ (a ++ b))
   field-after start field a b =
@@ -38,36 +39,50 @@ module _ (format : Format) where
       ∙ append_assoc start (separator format ∷ shown format field) (after format (a ++ b))
 
   -- the first field of a line, and those behind it
-  pub joined : (first : List ℕ) (fields : List (List ℕ)) → shown format first ++ after format fields ≡ fields_text format (first ∷ fields)
+  pub joined : (first : Field) (fields : List Field) → shown format first ++ after format fields ≡ fields_text format (first ∷ fields)
   joined first [] = append-nil (shown format first)
   joined first (field ∷ fields) = ap (λ (l : List ℕ). shown format first ++ (separator format ∷ l)) (joined field fields)
 
-  -- two groups of fields behind a first one, and three
-  pub two-groups : (first : List ℕ) (a b : List (List ℕ)) →
-      (shown format first ++ after format a) ++ after format b ≡ fields_text format (first ∷ (a ++ b))
-  two-groups first a b = both-after (shown format first) a b ∙ joined first (a ++ b)
+  -- behind what a line begins with
+  module _ (before : List ℕ) where
+    -- a field, and those behind it
+    pub joined-behind : (first : Field) (fields : List Field) →
+        (before ++ shown format first) ++ after format fields ≡ before ++ fields_text format (first ∷ fields)
+    joined-behind first fields =
+        append_assoc before (shown format first) (after format fields) ∙ ap (λ (l : List ℕ). before ++ l) (joined first fields)
 
-  pub three-groups : (first : List ℕ) (a b c : List (List ℕ)) →
-      (((shown format first ++ after format a) ++ after format b) ++ after format c) ++ codes "\n"
-      ≡ line_of format (first ∷ (a ++ (b ++ c)))
-  three-groups first a b c =
-      ap (λ (l : List ℕ). l ++ codes "\n") (both-after (shown format first ++ after format a) b c ∙ two-groups first a (b ++ c))
+    -- two groups of fields behind a first one
+    pub two-groups : (first : Field) (a b : List Field) →
+        ((before ++ shown format first) ++ after format a) ++ after format b ≡ before ++ fields_text format (first ∷ (a ++ b))
+    two-groups first a b = both-after (before ++ shown format first) a b ∙ joined-behind first (a ++ b)
 
-  -- two fields, and three groups
-  pub explained-groups : (first second : List ℕ) (a b c : List (List ℕ)) →
-      ((((shown format first ++ (separator format ∷ shown format second)) ++ after format a) ++ after format b) ++ after format c)
-      ++ codes "\n"
-      ≡ line_of format (first ∷ second ∷ (a ++ (b ++ c)))
-  explained-groups first second a b c =
-      let two = shown format first ++ (separator format ∷ shown format second) in
-      ap (λ (l : List ℕ). l ++ codes "\n")
-      (both-after (two ++ after format a) b c
-      ∙ both-after two a (b ++ c)
-      ∙ append_assoc (shown format first) (separator format ∷ shown format second) (after format (a ++ (b ++ c)))
-      ∙ joined first (second ∷ (a ++ (b ++ c))))
+    -- two fields, and three groups
+    pub explained-groups : (first second : Field) (a b c : List Field) →
+        (((((before ++ shown format first) ++ (separator format ∷ shown format second)) ++ after format a) ++ after format b)
+        ++ after format c) ++ codes "\n"
+        ≡ before ++ line_of format (first ∷ second ∷ (a ++ (b ++ c)))
+    explained-groups first second a b c =
+        let start = before ++ shown format first in
+        let two = start ++ (separator format ∷ shown format second) in
+        ap (λ (l : List ℕ). l ++ codes "\n")
+        (both-after (two ++ after format a) b c
+        ∙ both-after two a (b ++ c)
+        ∙ append_assoc start (separator format ∷ shown format second) (after format (a ++ (b ++ c)))
+        ∙ joined-behind first (second ∷ (a ++ (b ++ c))))
+        ∙ append_assoc before (fields_text format (first ∷ second ∷ (a ++ (b ++ c)))) (codes "\n")
+
+    -- one group more behind a row
+    pub row-behind : (first : Field) (a b c : List Field) →
+        ((before ++ fields_text format (first ∷ (a ++ b))) ++ after format c) ++ codes "\n"
+        ≡ before ++ line_of format (first ∷ (a ++ (b ++ c)))
+    row-behind first a b c =
+        ap (λ (l : List ℕ). (l ++ after format c) ++ codes "\n") (sym (two-groups first a b))
+        ∙ ap (λ (l : List ℕ). l ++ codes "\n")
+        (both-after ((before ++ shown format first) ++ after format a) b c ∙ two-groups first a (b ++ c))
+        ∙ append_assoc before (fields_text format (first ∷ (a ++ (b ++ c)))) (codes "\n")
 
   -- a row behind a row
-  pub joined-rows : (first : List ℕ) (fields : List (List ℕ)) (next : List ℕ) (more : List (List ℕ)) →
+  pub joined-rows : (first : Field) (fields : List Field) (next : Field) (more : List Field) →
       fields_text format (first ∷ fields) ++ (separator format ∷ fields_text format (next ∷ more))
       ≡ fields_text format ((first ∷ fields) ++ (next ∷ more))
   joined-rows first [] next more = refl
@@ -76,42 +91,69 @@ module _ (format : Format) where
       (separator format ∷ fields_text format (next ∷ more))
       ∙ ap (λ (l : List ℕ). shown format first ++ (separator format ∷ l)) (joined-rows field fields next more)
 
--- so many empty fields are so many tabs
-nothing-shown : text_of [] ≡ []
-unfolding text_of
-nothing-shown = refl
+-- a line that begins with a field that only a table has
+pub led-line : (format : Format) (first field : Field) (fields : List Field) →
+    lead format first ++ line_of format (field ∷ fields) ≡ line_of format (led format first (field ∷ fields))
+led-line Text first field fields = refl
+led-line Tsv first field fields =
+    append_assoc (shown Tsv first) (codes "\t") (line_of Tsv (field ∷ fields))
+    ∙ sym (append_assoc (shown Tsv first) (9 ∷ fields_text Tsv (field ∷ fields)) (codes "\n"))
 
-pub tabs-after : (count : ℕ) → after Tsv (replicate count []) ≡ replicate count 9
+-- so many empty fields are so many tabs
+pub tabs-after : (count : ℕ) → after Tsv (replicate count nothing) ≡ replicate count 9
 tabs-after zero = refl
-tabs-after (suc count) =
-    ap (λ (l : List ℕ). 9 ∷ (l ++ after Tsv (replicate count []))) nothing-shown ∙ ap (λ (l : List ℕ). 9 ∷ l) (tabs-after count)
+tabs-after (suc count) = ap (λ (l : List ℕ). 9 ∷ l) (tabs-after count)
+
+-- a field that can be shown has printable columns, no more than it takes
+pub printable-field : (shape : Shape) (columns : List ℕ) → CanBeShown shape columns → ArePrintable columns
+printable-field Trimmed columns h = h
+printable-field Whole columns h = h
+printable-field Date columns h = h.0
+
+pub fits-shape : (shape : Shape) (columns : List ℕ) → CanBeShown shape columns → length columns ≤ width_of shape columns
+fits-shape Trimmed columns h = omega arith
+fits-shape Whole columns h = omega arith
+fits-shape Date columns h = let six = h.1 in omega (arith, six)
+
+pub ten-at-most : (shape : Shape) (columns : List ℕ) → length columns ≡ 6 → width_of shape columns ≤ 10
+ten-at-most Trimmed columns six = omega (arith, six)
+ten-at-most Whole columns six = omega (arith, six)
+ten-at-most Date columns six = omega arith
 
 -- with the fields that are left, the line is whole, and no longer than it may be
-pub record IsGrowing (format : Format) (whole : List ℕ) (most : ℕ) (line : List ℕ) (size : ℕ) (left : List (List ℕ)) : Type 0 where
+pub record IsGrowing (format : Format) (whole : List ℕ) (most : ℕ) (line : List ℕ) (size : ℕ) (left : List Field) : Type 0 where
   pub text : line ++ after format left ≡ whole
   pub room : size + width left ≤ most
   pub fields : AreFields left
 
-module _ (format : Format) (whole : List ℕ) (most : ℕ) (xs : List (Bor (List ℕ))) (i : ℕ) where
-  abbrev pub nothing : Bor (List ℕ)
-  nothing = record { ref_ptr = (0, 0); now = [] }
+-- a field as the code has it
+abbrev pub GivenField : Type 0
+GivenField = Shape × Bor (List ℕ)
 
-  abbrev pub fields-from : ℕ → List (List ℕ)
-  fields-from n = map (λ field. field.now) (drop n xs)
+abbrev pub field_of : GivenField → Field
+field_of given = (given.0, given.1.now)
+
+module _ (format : Format) (whole : List ℕ) (most : ℕ) (xs : List GivenField) (i : ℕ) where
+  abbrev pub none : GivenField
+  none = (Trimmed, record { ref_ptr = (0, 0); now = [] })
+
+  abbrev pub fields-from : ℕ → List Field
+  fields-from n = map field_of (drop n xs)
 
   module _ (below : i < length xs) (line : List ℕ) (size : ℕ) (is : IsGrowing format whole most line size (fields-from i)) where
-    pub first-left : IsGrowing format whole most line size ((get_or xs i nothing).now ∷ fields-from (i + 1))
-    first-left = subst (IsGrowing format whole most line size) (at_drop_more (map (λ field. field.now)) xs i nothing below) is
+    pub first-left : IsGrowing format whole most line size (field_of (get_or xs i none) ∷ fields-from (i + 1))
+    first-left = subst (IsGrowing format whole most line size) (at_drop_more (map field_of) xs i none below) is
 
     -- one field more
-    pub one-pushed : (new : List ℕ) (more : ℕ) → new ≡ line ++ (separator format ∷ shown format (get_or xs i nothing).now) →
-        more ≤ size + length (get_or xs i nothing).now + 1 → IsGrowing format whole most new more (fields-from (i + 1))
+    pub one-pushed : (new : List ℕ) (more : ℕ) → new ≡ line ++ (separator format ∷ shown format (field_of (get_or xs i none))) →
+        more ≤ size + width_of (get_or xs i none).0 (get_or xs i none).1.now + 1 →
+        IsGrowing format whole most new more (fields-from (i + 1))
     one-pushed new more e upto =
         let here = first-left in
         let room = here.room in
         record {
           text = ap (λ (l : List ℕ). l ++ after format (fields-from (i + 1))) e
-              ∙ append_assoc line (separator format ∷ shown format (get_or xs i nothing).now) (after format (fields-from (i + 1)))
+              ∙ append_assoc line (separator format ∷ shown format (field_of (get_or xs i none))) (after format (fields-from (i + 1)))
               ∙ here.text;
           room = omega (arith, room, upto);
           fields = here.fields.1;
@@ -121,7 +163,7 @@ module _ (format : Format) (whole : List ℕ) (most : ℕ) (xs : List (Bor (List
   pub all-pushed : length xs ≤ i → (line : List ℕ) (size : ℕ) → IsGrowing format whole most line size (fields-from i) →
       (line ≡ whole) × (size ≤ most)
   all-pushed past line size is =
-      let end = subst (IsGrowing format whole most line size) (at_drop_all (map (λ field. field.now)) xs i past) is in
+      let end = subst (IsGrowing format whole most line size) (at_drop_all (map field_of) xs i past) is in
       let room = end.room in
       (sym (append-nil line) ∙ end.text, omega (arith, room))
 
@@ -132,3 +174,53 @@ one-more a b = (a, b)
 -- so many spaces can be shown
 pub spaces : (n : ℕ) → ArePrintable (replicate n 32)
 spaces n = All-replicate IsPrintable n 32 (omega arith, omega arith)
+
+-- the first two digits of a year, before what stands behind them
+two-first : (earlier : Bool) (rest : List ℕ) →
+    get_or (if earlier then codes "20" else codes "19") 0 0 ∷ get_or (if earlier then codes "20" else codes "19") 1 0 ∷ rest
+    ≡ (if earlier then codes "20" else codes "19") ++ rest
+two-first true rest = refl
+two-first false rest = refl
+
+-- the digits of a date, with dashes between them
+abbrev dashed : (a b c d e f : ℕ) → List ℕ
+dashed a b c d e f = a ∷ b ∷ 45 ∷ c ∷ d ∷ 45 ∷ e ∷ f ∷ []
+
+dashed-printable : (a b c d e f : ℕ) → IsPrintable a → IsPrintable b → IsPrintable c → IsPrintable d → IsPrintable e → IsPrintable f →
+    ArePrintable (dashed a b c d e f)
+dashed-printable a b c d e f p q r s t u =
+    let dash : IsPrintable 45 = (omega arith, omega arith) in
+    let of-day : ArePrintable (45 ∷ e ∷ f ∷ []) = All-cons IsPrintable 45 (e ∷ f ∷ []) dash
+    (All-cons IsPrintable e (f ∷ []) t (All-cons IsPrintable f [] u (All-nil IsPrintable))) in
+    let of-month : ArePrintable (45 ∷ c ∷ d ∷ 45 ∷ e ∷ f ∷ []) = All-cons IsPrintable 45 (c ∷ d ∷ 45 ∷ e ∷ f ∷ []) dash
+    (All-cons IsPrintable c (d ∷ 45 ∷ e ∷ f ∷ []) r (All-cons IsPrintable d (45 ∷ e ∷ f ∷ []) s of-day)) in
+    All-cons IsPrintable a (b ∷ 45 ∷ c ∷ d ∷ 45 ∷ e ∷ f ∷ []) p (All-cons IsPrintable b (45 ∷ c ∷ d ∷ 45 ∷ e ∷ f ∷ []) q of-month)
+
+behind-century : (earlier : Bool) (rest : List ℕ) → ArePrintable rest →
+    ArePrintable ((if earlier then codes "20" else codes "19") ++ rest)
+behind-century true rest p =
+    All-cons IsPrintable 50 (48 ∷ rest) (omega arith, omega arith) (All-cons IsPrintable 48 rest (omega arith, omega arith) p)
+behind-century false rest p =
+    All-cons IsPrintable 49 (57 ∷ rest) (omega arith, omega arith) (All-cons IsPrintable 57 rest (omega arith, omega arith) p)
+
+module _ (yymmdd : List ℕ) where
+  abbrev digit : ℕ → ℕ
+  digit n = get_or yymmdd n 0
+
+  abbrev rest-of : List ℕ
+  rest-of = dashed (digit 0) (digit 1) (digit 2) (digit 3) (digit 4) (digit 5)
+
+  -- a date as the code makes it
+  pub date-is : (first : List ℕ) → first ≡ century (digit 0) → get_or first 0 0 ∷ get_or first 1 0 ∷ rest-of ≡ long_date yymmdd
+  unfolding long_date
+  date-is first is =
+      ap (λ (cs : List ℕ). get_or cs 0 0 ∷ get_or cs 1 0 ∷ rest-of) is ∙ two-first (nat_lt (digit 0) 54) rest-of
+
+  -- its bytes can be shown
+  pub printable-date : length yymmdd ≡ 6 → ArePrintable yymmdd → ArePrintable (long_date yymmdd)
+  unfolding long_date
+  printable-date six printable =
+      let one : (n : ℕ) → n < 6 → IsPrintable (digit n) = λ n below. printable n 0 (omega (arith, below, six)) in
+      behind-century (nat_lt (digit 0) 54) rest-of
+      (dashed-printable (digit 0) (digit 1) (digit 2) (digit 3) (digit 4) (digit 5) (one 0 (omega arith)) (one 1 (omega arith))
+      (one 2 (omega arith)) (one 3 (omega arith)) (one 4 (omega arith)) (one 5 (omega arith)))

@@ -6,13 +6,15 @@ use Rattle.cif_canon.specs.Accepted.{IsClearExtract}
 use Rattle.cif_canon.specs.Asked.{IsNarrowed}
 use Rattle.cif_canon.specs.Canonical.{IsCanonicalOf}
 use Rattle.cif_canon.specs.Counts.{counts_of}
+use Rattle.cif_canon.specs.Lines.{ExtractLines, lines_of}
 use Rattle.cif_canon.specs.NormalForm.{IsNormalFormAgain, IsReachedFromForms, IsUnique}
 use Rattle.cif_canon.specs.declared.asked.Asked.{Asked}
 use Rattle.cif_canon.specs.declared.canonical_form.Counts.{Counts}
 
--- what a contract sees of it: its text, and how many records it has
+-- what a contract sees of it: its text, its lines by kind, and how many records it has
 pub record CanonParts : Type 0 where
   pub text : List ℕ
+  pub lines : ExtractLines
   pub counts : Counts
 
 -- The extract x is clear, and this is its canonical form: the text of a canonical extract that says the same, and its counts.
@@ -25,5 +27,7 @@ pub record IsCanonOf (form : Form) (x : ExtractParts) (c : CanonParts) : Type 0 
   -- whatever x was narrowed from: the text is its own canonical text, and that of each canonical text of either form that says the same
   pub again : (asked : Asked) (whole : ExtractParts) → IsNarrowed asked whole x → IsNormalFormAgain form asked c.text c.text
   pub reached : (asked : Asked) (whole : ExtractParts) → IsNarrowed asked whole x → IsReachedFromForms form asked x c.text
+  -- its lines are the plain lines of the extract that its text spells
+  pub lines_are : c.lines ≡ lines_of canonical.made
   -- the counts are those of its records
   pub counted : c.counts ≡ counts_of canonical.made

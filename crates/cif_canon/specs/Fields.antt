@@ -1,42 +1,92 @@
 -- Fields, and the lines that they make: of text, or of a table whose fields have tabs between them.
-use Rattle.std.specs.Prelude.{⊤, ℕ, ◌+◌, List, [], ◌∷◌, ◌++◌, length, map, codes, replicate}
+use Rattle.std.specs.Prelude.{◌≡◌, ⊤, ℕ, ◌+◌, List, [], ◌∷◌, ◌++◌, length, map, codes, nat_lt, replicate, slice_index_or, take, if◌then◌else◌}
 use Rattle.std.specs.List.{flat_map, join_with_byte}
 use Rattle.cif_columns.specs.Line.{ArePrintable}
-use Rattle.cif_columns.specs.Text.{text_of}
+use Rattle.cif_columns.specs.Lines.{used}
 use Rattle.cif_canon.specs.declared.rows.Format.{Format}
 use Rattle.cif_canon.specs.declared.rows.Format.TheVariants.{Text, Tsv}
+use Rattle.cif_canon.specs.declared.rows.Shape.{Shape}
+use Rattle.cif_canon.specs.declared.rows.Shape.TheVariants.{Date, Trimmed, Whole}
+
+-- a field: its columns, and how a table shows them
+abbrev pub Field : Type 0
+Field = Shape × List ℕ
 
 -- what stands between fields: a space, or a tab
 abbrev pub separator : Format → ℕ
 separator Text = 32
 separator Tsv = 9
 
--- a field as it is shown: with all its columns, or in a table without the spaces at either end
-abbrev pub shown : Format → List ℕ → List ℕ
-shown Text columns = columns
-shown Tsv columns = text_of columns
+-- columns without the spaces at their end
+abbrev pub trimmed : List ℕ → List ℕ
+trimmed columns = take (used columns) columns
+
+-- the first two digits of the year whose last two begin with this digit: years 60 to 99 are 1960 to 1999, and years 00 to 59 are 2000
+-- to 2059
+abbrev pub century : ℕ → List ℕ
+century digit = if nat_lt digit 54 then codes "20" else codes "19"
+
+-- the date YYYY-MM-DD of six digits YYMMDD
+unfoldable pub long_date : List ℕ → List ℕ
+long_date yymmdd =
+    let digit : ℕ → ℕ = λ n. slice_index_or yymmdd n 0 in
+    century (digit 0) ++ (digit 0 ∷ digit 1 ∷ 45 ∷ digit 2 ∷ digit 3 ∷ 45 ∷ digit 4 ∷ digit 5 ∷ [])
+
+-- what a table shows of columns
+abbrev pub in_table : Shape → List ℕ → List ℕ
+in_table Trimmed columns = trimmed columns
+in_table Whole columns = columns
+in_table Date columns = long_date columns
+
+-- a field as it is shown: with all its columns, or as a table shows them
+abbrev pub shown : Format → Field → List ℕ
+shown Text field = field.1
+shown Tsv field = in_table field.0 field.1
 
 -- fields, and a line of them
-abbrev pub fields_text : Format → List (List ℕ) → List ℕ
+abbrev pub fields_text : Format → List Field → List ℕ
 fields_text format fields = join_with_byte (separator format) (map (shown format) fields)
 
-abbrev pub line_of : Format → List (List ℕ) → List ℕ
+abbrev pub line_of : Format → List Field → List ℕ
 line_of format fields = fields_text format fields ++ codes "\n"
 
+-- an empty field
+abbrev pub nothing : Field
+nothing = (Trimmed, [])
+
 -- the fields of a table's other rows: so many empty ones, which a line of text doesn't have
-abbrev pub left_out : Format → ℕ → List (List ℕ)
+abbrev pub left_out : Format → ℕ → List Field
 left_out Text count = []
-left_out Tsv count = replicate count []
+left_out Tsv count = replicate count nothing
+
+-- fields that begin with one that only a table has
+abbrev pub led : Format → Field → List Field → List Field
+led Text first fields = fields
+led Tsv first fields = first ∷ fields
+
+-- its text, with the tab behind it
+abbrev pub lead : Format → Field → List ℕ
+lead Text first = []
+lead Tsv first = shown Tsv first ++ codes "\t"
 
 -- fields behind a first one
-abbrev pub after : Format → List (List ℕ) → List ℕ
+abbrev pub after : Format → List Field → List ℕ
 after format fields = flat_map (λ field. separator format ∷ shown format field) fields
 
--- fields that can be shown, and their columns with what stands before each
-abbrev pub AreFields : List (List ℕ) → Type 0
-AreFields [] = ⊤
-AreFields (field ∷ fields) = ArePrintable field × AreFields fields
+-- a field that can be shown, and fields
+abbrev pub CanBeShown : Shape → List ℕ → Type 0
+CanBeShown Date columns = ArePrintable columns × (length columns ≡ 6)
+CanBeShown _ columns = ArePrintable columns
 
-abbrev pub width : List (List ℕ) → ℕ
+abbrev pub AreFields : List Field → Type 0
+AreFields [] = ⊤
+AreFields (field ∷ fields) = CanBeShown field.0 field.1 × AreFields fields
+
+-- how many bytes a field takes at most, and fields with what stands before each
+abbrev pub width_of : Shape → List ℕ → ℕ
+width_of Date columns = 10
+width_of _ columns = length columns
+
+abbrev pub width : List Field → ℕ
 width [] = 0
-width (field ∷ fields) = length field + 1 + width fields
+width (field ∷ fields) = width_of field.0 field.1 + 1 + width fields

@@ -8,6 +8,7 @@ pub mod Counts
 pub mod Differences
 pub mod Fault
 pub mod Fields
+pub mod Lines
 pub mod Meaning
 pub mod NormalForm
 pub mod Normalised

@@ -7,60 +7,62 @@ use Rattle.cif_extract.specs.BodyParts.{BodyParts}
 use Rattle.cif_records.specs.declared.association.AssocBody.{AssocBody}
 use Rattle.cif_records.specs.declared.association.AssocKey.{AssocKey}
 use Rattle.cif_weeks.specs.Permanent.{Permanent}
-use Rattle.cif_canon.specs.Fields.{left_out}
+use Rattle.cif_canon.specs.Fields.{Field, left_out}
 use Rattle.cif_canon.specs.declared.rows.Format.{Format}
 use Rattle.cif_canon.specs.declared.rows.Format.TheVariants.{Text, Tsv}
+use Rattle.cif_canon.specs.declared.rows.Shape.TheVariants.{Date, Trimmed, Whole}
 
 -- a location with its suffix: one field of a line, and two of a table
-abbrev pub location_fields : Format → List ℕ → List ℕ → List (List ℕ)
-location_fields Text location suffix = (left_justified 7 location ++ left_justified 1 suffix) ∷ []
-location_fields Tsv location suffix = left_justified 7 location ∷ left_justified 1 suffix ∷ []
+abbrev pub location_fields : Format → List ℕ → List ℕ → List Field
+location_fields Text location suffix = (Trimmed, left_justified 7 location ++ left_justified 1 suffix) ∷ []
+location_fields Tsv location suffix = (Trimmed, left_justified 7 location) ∷ (Trimmed, left_justified 1 suffix) ∷ []
 
 -- a place of a journey: its location with its suffix, a time, and the platform
-abbrev pub place_fields : Format → List ℕ → List ℕ → List ℕ → List ℕ → List (List ℕ)
+abbrev pub place_fields : Format → List ℕ → List ℕ → List ℕ → List ℕ → List Field
 place_fields format location suffix time platform =
-    location_fields format location suffix ++ (time ∷ left_justified 3 platform ∷ [])
+    location_fields format location suffix ++ ((Trimmed, time) ∷ (Trimmed, left_justified 3 platform) ∷ [])
 
 -- the journey of a body: its train identity, its origin with the departure, its terminus with the arrival
-abbrev pub journey_fields : Format → BodyParts → List (List ℕ)
+abbrev pub journey_fields : Format → BodyParts → List Field
 journey_fields format b =
-    left_justified 4 b.detail.identity
+    (Trimmed, left_justified 4 b.detail.identity)
     ∷ (place_fields format b.origin.location b.origin.suffix b.origin.departure b.origin.platform
     ++ place_fields format b.terminus.location b.terminus.suffix b.terminus.arrival b.terminus.platform)
 
 -- the fields of an association that holds
-abbrev pub association_fields : AssocKey × AssocBody → List (List ℕ)
+abbrev pub association_fields : AssocKey × AssocBody → List Field
 association_fields e =
-    e.0.base
-    ∷ e.0.associated
-    ∷ left_justified 2 e.1.category
-    ∷ left_justified 1 e.1.date_indicator
-    ∷ left_justified 7 e.0.location
-    ∷ left_justified 1 e.0.base_suffix
-    ∷ left_justified 1 e.0.associated_suffix
-    ∷ left_justified 1 e.1.diagram
-    ∷ left_justified 1 e.1.kind
+    (Whole, e.0.base)
+    ∷ (Whole, e.0.associated)
+    ∷ (Trimmed, left_justified 2 e.1.category)
+    ∷ (Trimmed, left_justified 1 e.1.date_indicator)
+    ∷ (Trimmed, left_justified 7 e.0.location)
+    ∷ (Trimmed, left_justified 1 e.0.base_suffix)
+    ∷ (Trimmed, left_justified 1 e.0.associated_suffix)
+    ∷ (Trimmed, left_justified 1 e.1.diagram)
+    ∷ (Trimmed, left_justified 1 e.1.kind)
     ∷ []
 
 -- the fields of a train that runs
-abbrev pub train_fields : Format → List ℕ × BodyParts → List (List ℕ)
-train_fields format e = e.0 ∷ journey_fields format e.1
+abbrev pub train_fields : Format → List ℕ × BodyParts → List Field
+train_fields format e = (Whole, e.0) ∷ journey_fields format e.1
 
 -- A table has the fields of each of its rows: ten of a train and nine of an association. Those that aren't the row's own are empty.
-abbrev pub no_train : Format → List (List ℕ)
+abbrev pub no_train : Format → List Field
 no_train format = left_out format 10
 
-abbrev pub no_association : Format → List (List ℕ)
+abbrev pub no_association : Format → List Field
 no_association format = left_out format 9
 
 -- the row of an association that holds
-abbrev pub association_row : Format → AssocKey × AssocBody → List (List ℕ)
-association_row format e = codes "AA" ∷ (no_train format ++ association_fields e)
+abbrev pub association_row : Format → AssocKey × AssocBody → List Field
+association_row format e = (Trimmed, codes "AA") ∷ (no_train format ++ association_fields e)
 
 -- the row of a train that runs
-abbrev pub train_row : Format → List ℕ × BodyParts → List (List ℕ)
-train_row format e = codes "BS" ∷ (train_fields format e ++ no_association format)
+abbrev pub train_row : Format → List ℕ × BodyParts → List Field
+train_row format e = (Trimmed, codes "BS") ∷ (train_fields format e ++ no_association format)
 
 -- the row of a canonical schedule: from its first to its last date it runs on these days of the week
-abbrev pub schedule_row : Format → Permanent BodyParts → List (List ℕ)
-schedule_row format r = yymmdd_of r.first ∷ yymmdd_of r.last ∷ days_columns r.days ∷ journey_fields format r.body
+abbrev pub schedule_row : Format → Permanent BodyParts → List Field
+schedule_row format r =
+    (Date, yymmdd_of r.first) ∷ (Date, yymmdd_of r.last) ∷ (Trimmed, days_columns r.days) ∷ journey_fields format r.body

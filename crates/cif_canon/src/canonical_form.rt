@@ -24,8 +24,8 @@ use cif_weeks::Run;
 use itoa::Buffer;
 use std::marker::Model;
 
-/// The canonical form of an extract, from which its bodies are borrowed: a clause sees its text and
-/// its counts.
+/// The canonical form of an extract, from which its bodies are borrowed: a clause sees its text, its
+/// lines and its counts.
 #[derive(Debug, Drop)]
 pub struct Canon<'a> {
     pub(crate) extract: &'a Extract,
@@ -43,12 +43,13 @@ impl<'a> Model for Canon<'a> {
     ghost use Rattle.cif_extract.specs.ExtractParts.{extract_parts};
     ghost use Rattle.cif_canon.specs.Canon.{CanonParts};
     ghost use Rattle.cif_calendar.specs.Entries.{association_entries, schedule_entries};
-    ghost use Rattle.cif_canon.specs.Steps.Texts.{HasRecord, canon_text};
+    ghost use Rattle.cif_canon.specs.Steps.Texts.{HasRecord, canon_lines, canon_text};
 
     ghost Value = { CanonParts };
 
     ghost view = { λ c. record {
       text = canon_text (extract_parts c.extract.now) c.tiplocs.items c.associations.items c.schedules.items;
+      lines = canon_lines (extract_parts c.extract.now) c.tiplocs.items c.associations.items c.schedules.items;
       counts = record {
         tiplocs = length c.tiplocs.items;
         associations = length c.associations.items;
@@ -209,7 +210,7 @@ fn write_schedules<W: WriteDevice>(schedules: &[Schedule], runs: &[Run], sink: &
 }
 
 /// The body of the run's schedule.
-fn body_of<'a>(schedules: &'a [Schedule], run: &Run) -> &'a Body
+pub(crate) fn body_of<'a>(schedules: &'a [Schedule], run: &Run) -> &'a Body
     requires within { run.now.source < length schedules.now }
     requires record { HasRecord (schedule_entries schedules.now) run.now }
     ensures { body_at schedules.now run.now.source ≡ Some result.now }
@@ -222,7 +223,7 @@ fn body_of<'a>(schedules: &'a [Schedule], run: &Run) -> &'a Body
 
 /// Looks at the bodies of the runs' schedules. Where a body lies is known once its schedule has come from memory:
 /// so all schedules come first.
-fn look_ahead(schedules: &[Schedule], runs: &[Run])
+pub(crate) fn look_ahead(schedules: &[Schedule], runs: &[Run])
     requires within { All (λ run. run.source < length schedules.now) runs.now }
     requires records { All (HasRecord (schedule_entries schedules.now)) runs.now }
 {

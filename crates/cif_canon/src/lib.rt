@@ -3,6 +3,7 @@
 #![tactic(auto)]
 
 mod asked;
+mod canon_lines;
 mod canonical_form;
 mod comparison;
 mod differing;
@@ -18,6 +19,7 @@ mod views;
 pub mod writing;
 
 pub use asked::{Asked, check_within, narrow};
+pub use canon_lines::{CanonListing, CanonSchedule};
 pub use canonical_form::{Canon, Counts, write_counts};
 pub use comparison::{Comparison, compare, write_comparison};
 pub use differing::differences;
@@ -26,5 +28,5 @@ pub use normal_form::{
     canon, check, check_keeping, normalise, normalise_keeping, read_narrowed, report,
 };
 pub use pair::read_pair;
-pub use rows::Format;
+pub use rows::{Format, Shape};
 pub use views::{DayLines, TrainLines, day_view, train_view, write_day, write_train};

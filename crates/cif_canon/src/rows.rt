@@ -1,10 +1,11 @@
 //! How views lay out what runs: its fields, as text or as the row of a table.
-ghost use Rattle.std.specs.Prelude.{◌≡◌, ◌≤◌, ◌+◌, ◌++◌, ◌∷◌, [], length, map, replicate};
+ghost use Rattle.std.specs.Prelude.{◌≡◌, ◌<◌, ◌≤◌, ◌+◌, ◌++◌, ◌∷◌, [], cond, length, map, replicate, slice_index};
 ghost use Rattle.arrayvec.specs.ArrayString.{array_string_len};
 ghost use Rattle.cif_columns.specs.Line.{ArePrintable};
+ghost use Rattle.cif_columns.specs.Lines.{is_space, used};
 ghost use Rattle.cif_weeks.specs.Runs.{record_of};
-ghost use Rattle.cif_canon.specs.Fields.{AreFields, after, fields_text, left_out, separator, shown};
-ghost use Rattle.cif_canon.specs.Fields.{width};
+ghost use Rattle.cif_canon.specs.Fields.{AreFields, CanBeShown, after, century, fields_text, in_table, lead};
+ghost use Rattle.cif_canon.specs.Fields.{left_out, long_date, separator, shown, width, width_of};
 ghost use Rattle.cif_canon.specs.Rows.{association_fields, association_row, journey_fields};
 ghost use Rattle.cif_canon.specs.Rows.{location_fields, place_fields, schedule_row, train_fields};
 ghost use Rattle.cif_canon.specs.Rows.{train_row};
@@ -20,9 +21,19 @@ use cif_weeks::Run;
 pub enum Format {
     /// With all their columns, and a space between them.
     Text,
-    /// As the rows of a table: without the spaces at either end, and a tab between them. The first
-    /// line has their names.
+    /// As the rows of a table, each in its shape, and a tab between them. The first line has their names.
     Tsv,
+}
+
+/// How a table shows the columns of a field.
+#[derive(Clone, Copy, Debug, PartialEq, Eq)]
+pub enum Shape {
+    /// Without the spaces at their end.
+    Trimmed,
+    /// As they stand: those of a UID.
+    Whole,
+    /// As a date YYYY-MM-DD: six digits YYMMDD.
+    Date,
 }
 
 /// The fields of a train, where a row has none.
@@ -32,40 +43,54 @@ pub const NO_TRAIN: &str = "\t\t\t\t\t\t\t\t\t\t";
 pub const NO_ASSOCIATION: &str = "\t\t\t\t\t\t\t\t\t";
 
 /// The bytes of the longest line: that of a schedule in the table of an explanation.
-pub const LONGEST: usize = 95;
+pub const LONGEST: usize = 116;
 
-/// The row of an association that holds.
-pub fn association_row(format: Format, key: &AssocKey, body: &AssocBody) -> ArrayString<LONGEST>
-    ensures text { result.bytes ≡ fields_text format (association_row format (key.now, body.now)) }
+/// The bytes of a date and a tab, with which the lines of some tables begin.
+pub const LEAD: usize = 11;
+
+/// The row of an association that holds, behind what its line begins with.
+pub fn association_row(
+    before: &str,
+    format: Format,
+    key: &AssocKey,
+    body: &AssocBody,
+) -> ArrayString<LONGEST>
+    requires { length before.now ≤ LEAD }
+    ensures text { result.bytes ≡ before.now ++ fields_text format (association_row format (key.now, body.now)) }
     ensures len { array_string_len result + 13 ≤ LONGEST }
 {
-    let mut row = started(format, b"AA");
+    let mut row = started(before, format, Shape::Trimmed, b"AA");
     push_left_out(&mut row, format, NO_TRAIN);
     push_association(&mut row, format, key, body);
     row
 }
 
-/// The row of a train that runs.
-pub fn train_row(format: Format, uid: &Uid, body: &Body) -> ArrayString<LONGEST>
-    ensures text { result.bytes ≡ fields_text format (train_row format (uid.now, body.now)) }
+/// The row of a train that runs, behind what its line begins with.
+pub fn train_row(before: &str, format: Format, uid: &Uid, body: &Body) -> ArrayString<LONGEST>
+    requires { length before.now ≤ LEAD }
+    ensures text { result.bytes ≡ before.now ++ fields_text format (train_row format (uid.now, body.now)) }
     ensures len { array_string_len result + 1 ≤ LONGEST }
 {
-    let mut row = started(format, b"BS");
+    let mut row = started(before, format, Shape::Trimmed, b"BS");
     push_train(&mut row, format, uid, body);
     push_left_out(&mut row, format, NO_ASSOCIATION);
     row
 }
 
-/// The row of a schedule with the dates and the mask of the run.
-pub fn schedule_row(format: Format, run: &Run, body: &Body) -> ArrayString<LONGEST>
-    ensures text { result.bytes ≡ fields_text format (schedule_row format (record_of run.now body.now)) }
+/// The row of a schedule with the dates and the mask of the run, behind what its line begins with.
+pub fn schedule_row(before: &str, format: Format, run: &Run, body: &Body) -> ArrayString<LONGEST>
+    requires { length before.now ≤ LEAD }
+    ensures text { result.bytes ≡ before.now ++ fields_text format (schedule_row format (record_of run.now body.now)) }
     ensures len { array_string_len result + 1 ≤ LONGEST }
 {
-    let mut row = started(format, &run.first.to_yymmdd());
+    let mut row = started(before, format, Shape::Date, &run.first.to_yymmdd());
     push_fields(
         &mut row,
         format,
-        &[&run.last.to_yymmdd(), &run.days.write()],
+        &[
+            (Shape::Date, &run.last.to_yymmdd()),
+            (Shape::Trimmed, &run.days.write()),
+        ],
     );
     push_journey(&mut row, format, body);
     row
@@ -86,15 +111,15 @@ pub fn push_association(
         line,
         format,
         &[
-            &key.base.write(),
-            &key.associated.write(),
-            &body.category.write(),
-            &body.date_indicator.write(),
-            &key.location.write(),
-            &key.base_suffix.write(),
-            &key.associated_suffix.write(),
-            &body.diagram.write(),
-            &body.kind.write(),
+            (Shape::Whole, &key.base.write()),
+            (Shape::Whole, &key.associated.write()),
+            (Shape::Trimmed, &body.category.write()),
+            (Shape::Trimmed, &body.date_indicator.write()),
+            (Shape::Trimmed, &key.location.write()),
+            (Shape::Trimmed, &key.base_suffix.write()),
+            (Shape::Trimmed, &key.associated_suffix.write()),
+            (Shape::Trimmed, &body.diagram.write()),
+            (Shape::Trimmed, &body.kind.write()),
         ],
     );
 }
@@ -105,7 +130,7 @@ pub fn push_train(line: &mut ArrayString<LONGEST>, format: Format, uid: &Uid, bo
     ensures text { line.new.bytes ≡ line.old.bytes ++ after format (train_fields format (uid.now, body.now)) }
     ensures len { array_string_len line.new ≤ array_string_len line.old + 52 }
 {
-    push_field(line, format, &uid.write());
+    push_field(line, format, Shape::Whole, &uid.write());
     push_journey(line, format, body);
 }
 
@@ -116,7 +141,12 @@ fn push_journey(line: &mut ArrayString<LONGEST>, format: Format, body: &Body)
     ensures len { array_string_len line.new ≤ array_string_len line.old + 45 }
 {
     let (origin, terminus) = (body.origin(), body.terminus());
-    push_field(line, format, &body.detail().identity.write());
+    push_field(
+        line,
+        format,
+        Shape::Trimmed,
+        &body.detail().identity.write(),
+    );
     push_place(
         line,
         format,
@@ -150,8 +180,8 @@ fn push_place(
     ensures len { array_string_len line.new ≤ array_string_len line.old + 20 }
 {
     push_location(line, format, location, suffix);
-    push_field(line, format, &time.write());
-    push_field(line, format, &platform.write());
+    push_field(line, format, Shape::Trimmed, &time.write());
+    push_field(line, format, Shape::Trimmed, &platform.write());
 }
 
 /// Appends a location with its suffix: one field of text, two of a table.
@@ -166,10 +196,10 @@ fn push_location(
         ++ after format (location_fields format location.now suffix.now) }
     ensures len { array_string_len line.new ≤ array_string_len line.old + 10 }
 {
-    push_field(line, format, &location.write());
+    push_field(line, format, Shape::Trimmed, &location.write());
     match format {
         Format::Text => line.push_str(as_text(&suffix.write())),
-        Format::Tsv => push_field(line, format, &suffix.write()),
+        Format::Tsv => push_field(line, format, Shape::Trimmed, &suffix.write()),
     }
 }
 
@@ -186,40 +216,57 @@ pub fn push_left_out(line: &mut ArrayString<LONGEST>, format: Format, tabs: &str
     }
 }
 
-/// A line that begins with this field.
-pub fn started(format: Format, columns: &[u8]) -> ArrayString<LONGEST>
-    requires room { length columns.now ≤ LONGEST }
-    requires printable { ArePrintable columns.now }
-    ensures text { result.bytes ≡ shown format columns.now }
-    ensures len { array_string_len result ≤ length columns.now }
+/// A line that begins with this field, behind what stands before it.
+pub fn started(before: &str, format: Format, shape: Shape, columns: &[u8]) -> ArrayString<LONGEST>
+    requires room { length before.now + width_of shape columns.now ≤ LONGEST }
+    requires field { CanBeShown shape columns.now }
+    ensures text { result.bytes ≡ before.now ++ shown format (shape, columns.now) }
+    ensures len { array_string_len result ≤ length before.now + width_of shape columns.now }
 {
     let mut line = ArrayString::new();
-    line.push_str(shown(format, columns));
+    line.push_str(before);
+    push_shown(&mut line, format, shape, columns);
+    line
+}
+
+/// What the lines of a table begin with: this field and a tab. Lines of text begin with nothing.
+pub fn lead(format: Format, shape: Shape, columns: &[u8; 6]) -> ArrayString<LEAD>
+    requires field { CanBeShown shape columns.now }
+    ensures text { result.bytes ≡ lead format (shape, columns.now) }
+{
+    let mut line = ArrayString::new();
+    match format {
+        Format::Text => {}
+        Format::Tsv => {
+            push_in_table(&mut line, shape, columns);
+            line.push_str("\t");
+        }
+    }
     line
 }
 
 /// Appends fields, a space or a tab before each.
-pub fn push_fields(line: &mut ArrayString<LONGEST>, format: Format, fields: &[&[u8]])
-    requires fields { AreFields (map (λ field. field.now) fields.now) }
-    requires room { array_string_len line.old + width (map (λ field. field.now) fields.now) ≤ LONGEST }
-    ensures text { line.new.bytes ≡ line.old.bytes ++ after format (map (λ field. field.now) fields.now) }
+pub fn push_fields(line: &mut ArrayString<LONGEST>, format: Format, fields: &[(Shape, &[u8])])
+    requires fields { AreFields (map (λ field. (field.0, field.1.now)) fields.now) }
+    requires room { array_string_len line.old + width (map (λ field. (field.0, field.1.now)) fields.now) ≤ LONGEST }
+    ensures text { line.new.bytes ≡ line.old.bytes ++ after format (map (λ field. (field.0, field.1.now)) fields.now) }
     ensures len { array_string_len line.new
-        ≤ array_string_len line.old + width (map (λ field. field.now) fields.now) }
+        ≤ array_string_len line.old + width (map (λ field. (field.0, field.1.now)) fields.now) }
 {
     for field in fields {
-        push_field(line, format, field);
+        push_field(line, format, field.0, field.1);
     }
 }
 
 /// Appends a space or a tab, and a field.
-pub fn push_field(line: &mut ArrayString<LONGEST>, format: Format, columns: &[u8])
-    requires room { array_string_len line.old + length columns.now + 1 ≤ LONGEST }
-    requires printable { ArePrintable columns.now }
-    ensures text { line.new.bytes ≡ line.old.bytes ++ (separator format ∷ shown format columns.now) }
-    ensures len { array_string_len line.new ≤ array_string_len line.old + length columns.now + 1 }
+pub fn push_field(line: &mut ArrayString<LONGEST>, format: Format, shape: Shape, columns: &[u8])
+    requires room { array_string_len line.old + width_of shape columns.now + 1 ≤ LONGEST }
+    requires field { CanBeShown shape columns.now }
+    ensures text { line.new.bytes ≡ line.old.bytes ++ (separator format ∷ shown format (shape, columns.now)) }
+    ensures len { array_string_len line.new ≤ array_string_len line.old + width_of shape columns.now + 1 }
 {
     line.push_str(separator(format));
-    line.push_str(shown(format, columns));
+    push_shown(line, format, shape, columns);
 }
 
 /// What stands between fields.
@@ -232,14 +279,70 @@ fn separator(format: Format) -> &'static str
     }
 }
 
-/// The field as it is shown.
-fn shown<'a>(format: Format, columns: &'a [u8]) -> &'a str
-    requires { ArePrintable columns.now }
-    ensures text { result.now ≡ shown format columns.now }
-    ensures len { length result.now ≤ length columns.now }
+/// Appends the field as it is shown.
+fn push_shown(line: &mut ArrayString<LONGEST>, format: Format, shape: Shape, columns: &[u8])
+    requires room { array_string_len line.old + width_of shape columns.now ≤ LONGEST }
+    requires field { CanBeShown shape columns.now }
+    ensures text { line.new.bytes ≡ line.old.bytes ++ shown format (shape, columns.now) }
+    ensures len { array_string_len line.new ≤ array_string_len line.old + width_of shape columns.now }
 {
     match format {
-        Format::Text => as_text(columns),
-        Format::Tsv => as_text(columns.trim_ascii()),
+        Format::Text => line.push_str(as_text(columns)),
+        Format::Tsv => push_in_table(line, shape, columns),
     }
+}
+
+/// Appends the field as a table shows it.
+fn push_in_table<const N: usize>(line: &mut ArrayString<N>, shape: Shape, columns: &[u8])
+    requires room { array_string_len line.old + width_of shape columns.now ≤ N }
+    requires field { CanBeShown shape columns.now }
+    ensures text { line.new.bytes ≡ line.old.bytes ++ in_table shape columns.now }
+    ensures len { array_string_len line.new ≤ array_string_len line.old + width_of shape columns.now }
+{
+    match shape {
+        Shape::Trimmed => line.push_str(as_text(&columns[..used_columns(columns)])),
+        Shape::Whole => line.push_str(as_text(columns)),
+        Shape::Date => line.push_str(as_text(&long_date(columns))),
+    }
+}
+
+/// How many columns there are up to the last that is no space.
+#[inline(always)]
+pub fn used_columns(columns: &[u8]) -> usize
+    ensures value { result ≡ used columns.now }
+    ensures bound { result ≤ length columns.now }
+{
+    let mut count = 0;
+    for i in 0..columns.len() {
+        count = used_up_to(columns, i, count);
+    }
+    count
+}
+
+/// How many columns there are up to this one, or `count` if it is a space.
+#[inline(always)]
+fn used_up_to(columns: &[u8], i: usize, count: usize) -> usize
+    requires { i < length columns.now }
+    ensures { result ≡ cond (is_space (slice_index columns.now i)) count (i + 1) }
+{
+    if columns[i] == b' ' { count } else { i + 1 }
+}
+
+/// The date YYYY-MM-DD of six digits YYMMDD.
+pub fn long_date(yymmdd: &[u8]) -> [u8; 10]
+    requires { length yymmdd.now ≡ 6 }
+    ensures text { result ≡ long_date yymmdd.now }
+    ensures printable { ArePrintable yymmdd.now → ArePrintable result }
+{
+    let [a, b] = century(yymmdd[0]);
+    [
+        a, b, yymmdd[0], yymmdd[1], b'-', yymmdd[2], yymmdd[3], b'-', yymmdd[4], yymmdd[5],
+    ]
+}
+
+/// The first two digits of a year, by the first one of its last two.
+fn century(digit: u8) -> [u8; 2]
+    ensures { result ≡ century digit }
+{
+    if digit < b'6' { *b"20" } else { *b"19" }
 }

@@ -82,11 +82,11 @@ impl DayLines for TextLines {
         body: &AssocBody,
         sink: &mut Sink<W>,
     ) {
-        write_line(association_row(Format::Text, key, body), sink);
+        write_line(association_row("", Format::Text, key, body), sink);
     }
 
     fn write_train<W: WriteDevice>(&self, uid: &Uid, body: &Body, sink: &mut Sink<W>) {
-        write_line(train_row(Format::Text, uid, body), sink);
+        write_line(train_row("", Format::Text, uid, body), sink);
     }
 }
 
@@ -96,7 +96,7 @@ impl TrainLines for TextLines {
     ghost schedule = { λ lines. schedule_line };
 
     fn write_schedule<W: WriteDevice>(&self, run: &Run, body: &Body, sink: &mut Sink<W>) {
-        write_line(schedule_row(Format::Text, run, body), sink);
+        write_line(schedule_row("", Format::Text, run, body), sink);
     }
 }
 

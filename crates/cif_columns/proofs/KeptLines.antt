@@ -22,7 +22,7 @@ used_push (c ∷ columns) b true e = ap (used_with (is_space c)) (used_push colu
 used_push (c ∷ columns) b false e =
     ap (used_with (is_space c)) (used_push columns b false e) ∙ some_used (is_space c) (length columns)
 
-used_few : (columns : List ℕ) → used columns ≤ length columns
+pub used_few : (columns : List ℕ) → used columns ≤ length columns
 used_few [] = omega arith
 used_few (b ∷ columns) = at (is_space b) (used columns) (used_few columns)
   where
@@ -199,3 +199,23 @@ small (line ∷ lines) h =
     (All-append (λ b. b < 128) (take (used line) line) (kept_text lines)
     (All-take (λ b. b < 128) (used line) line (All-weaker IsPrintable (λ b. b < 128) (λ b p. omega (arith, p.1)) line first.printable))
     (small lines (All-tail IsLine line lines h)))
+
+-- bytes keep no more lines than they are
+few_first_lines : (more bytes : List ℕ) → length (first_lines_in more bytes) ≤ length more
+few_first_lines [] bytes = omega arith
+few_first_lines (m ∷ more) [] = omega arith
+few_first_lines (m ∷ more) (count ∷ bytes) =
+    let rest = few_first_lines more (drop count bytes) in
+    omega (arith, rest)
+
+pub few_lines : (bytes : List ℕ) → length (lines_in bytes) ≤ length bytes
+few_lines bytes = few_first_lines bytes bytes
+
+-- how many columns are used of one more
+pub used_next : (columns : List ℕ) (i : ℕ) → i < length columns →
+    used (take (i + 1) columns) ≡ cond (is_space (get_or columns i 0)) (used (take i columns)) (i + 1)
+used_next columns i below =
+    let width = length-take-le i columns (omega (arith, below)) in
+    ap used (take_more columns i 0 below)
+    ∙ used_push (take i columns) (get_or columns i 0) (is_space (get_or columns i 0)) refl
+    ∙ ap (λ n. cond (is_space (get_or columns i 0)) (used (take i columns)) n) (omega (arith, width))

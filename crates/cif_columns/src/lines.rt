@@ -1,6 +1,6 @@
 //! Lines that are kept without the spaces at their ends, and lines as they are written.
 ghost use Rattle.std.specs.Prelude.{◌≡◌, ◌++◌, ◌∷◌, [], ◌+◌, ◌-◌, ◌<◌, ◌≤◌, ◌↔◌, ◌==◌, OnOk, IfOk, IsTrue, All};
-ghost use Rattle.std.specs.Prelude.{cond, drop, length, slice_index, slice_index_or, take};
+ghost use Rattle.std.specs.Prelude.{◌^◌, cond, drop, length, slice_index, slice_index_or, take};
 ghost use Rattle.cif_columns.specs.Contents.{lines_text};
 ghost use Rattle.cif_columns.specs.Line.{ArePrintable, IsLine};
 ghost use Rattle.cif_columns.specs.Lines.{is_space, used, wide};
@@ -248,6 +248,14 @@ impl<'a> LineSlice<'a> {
         ensures { All IsLine self.now }
     {
         let _ = &self.kept;
+    }
+
+    /// A law for proofs: there are fewer of them than 64 bits can count.
+    #[inline]
+    pub fn are_few(&self)
+        ensures { length self.now < 2 ^ 63 }
+    {
+        let _ = self.kept.len();
     }
 
     /// Whether these are the same lines.

@@ -1,24 +1,20 @@
 -- The text of calls that are written one after another, and of the rows of a table that has them.
-use Rattle.std.proofs.Common.{◌≡◌, ℕ, List, [], ◌∷◌, ◌++◌, codes, refl, sym, ap, ap₂, ◌∙◌, append-nil, append_assoc}
-use Rattle.std.proofs.Common.{if◌then◌else◌}
+use Rattle.std.proofs.Common.{◌≡◌, ℕ, ◌<◌, Bool, true, false, List, [], ◌∷◌, ◌++◌, codes, length, refl, sym, ap, ap₂, ◌∙◌, append-nil}
+use Rattle.std.proofs.Common.{append_assoc, arith, if◌then◌else◌}
 use Rattle.std.specs.List.{flat_map}
 use Rattle.cif_extract.specs.BodyParts.{BodyParts}
 use Rattle.cif_extract.specs.declared.call.Call.{Call}
 use Rattle.cif_extract.specs.declared.call.Call.TheVariants.{At, Turn}
 use Rattle.cif_views.specs.Calls.{call_text, calls_text}
-use Rattle.cif_canon.specs.Fields.{after, fields_text, line_of}
-use Rattle.cif_views.specs.Steps.Rows.{row_and_calls, row_lines}
-use Rattle.cif_views.specs.Listing.{lines_of_row, with_calls}
+use Rattle.cif_canon.specs.Fields.{Field, fields_text, lead, led, line_of, shown}
+use Rattle.cif_views.specs.Explanation.{explanation_heading}
+use Rattle.cif_views.specs.Steps.Rows.{heading_text, names_behind, row_and_calls, row_lines}
+use Rattle.cif_views.specs.Listing.{association_names, day_names, if_table, lines_of_row, train_names, with_calls}
+use Rattle.cif_views.specs.Tables.{names_line}
 use Rattle.cif_canon.specs.declared.rows.Format.{Format}
 use Rattle.cif_canon.specs.declared.rows.Format.TheVariants.{Text, Tsv}
 use Rattle.cif_views.specs.declared.listing.Listing.{Listing}
-use Rattle.cif_canon.proofs.ViewLines.{joined-rows, three-groups, two-groups}
-
--- a group of fields behind the row of two
-pub row-behind : (format : Format) (first : List ℕ) (a b c : List (List ℕ)) →
-    (fields_text format (first ∷ (a ++ b)) ++ after format c) ++ codes "\n" ≡ line_of format (first ∷ (a ++ (b ++ c)))
-row-behind format first a b c =
-    ap (λ (l : List ℕ). (l ++ after format c) ++ codes "\n") (sym (two-groups format first a b)) ∙ three-groups format first a b c
+use Rattle.cif_canon.proofs.ViewLines.{joined-rows}
 
 -- one more of all is done, or none is left
 module _ {X : Type 0} (all done left : List X) (split : done ++ left ≡ all) where
@@ -29,7 +25,7 @@ module _ {X : Type 0} (all done left : List X) (split : done ++ left ≡ all) wh
   all-done none = sym (append-nil done) ∙ ap (λ (xs : List X). done ++ xs) (sym none) ∙ split
 
 -- a call's line behind the row of its train
-line-behind : (first : List ℕ) (row : List (List ℕ)) (field : List ℕ) (fields : List (List ℕ)) →
+line-behind : (first : Field) (row : List Field) (field : Field) (fields : List Field) →
     (fields_text Tsv (first ∷ row) ++ codes "\t") ++ line_of Tsv (field ∷ fields) ≡ line_of Tsv ((first ∷ row) ++ (field ∷ fields))
 line-behind first row field fields =
     append_assoc (fields_text Tsv (first ∷ row)) (codes "\t") (line_of Tsv (field ∷ fields))
@@ -37,7 +33,7 @@ line-behind first row field fields =
     ∙ ap (λ (l : List ℕ). l ++ codes "\n") (joined-rows Tsv first row field fields)
 
 -- what is written of calls is the same where it is of each call's fields
-module _ (one other : List (List ℕ) → List ℕ) (same : (f : List ℕ) (fs : List (List ℕ)) → one (f ∷ fs) ≡ other (f ∷ fs)) where
+module _ (one other : List Field → List ℕ) (same : (f : Field) (fs : List Field) → one (f ∷ fs) ≡ other (f ∷ fs)) where
   same-call : (call : Call) → call_text one call ≡ call_text other call
   same-call (At stop) = same _ _
   same-call (Turn change) = refl
@@ -50,7 +46,7 @@ module _ (one other : List (List ℕ) → List ℕ) (same : (f : List ℕ) (fs :
   same-calls b =
       ap₂ (λ (a b : List ℕ). a ++ b) (same _ _) (ap₂ (λ (a b : List ℕ). a ++ b) (same-between b.calls) (same _ _))
 
-row-calls : (format : Format) (first : List ℕ) (row : List (List ℕ)) (b : BodyParts) →
+row-calls : (format : Format) (first : Field) (row : List Field) (b : BodyParts) →
     row_and_calls format (fields_text format (first ∷ row)) b ≡ with_calls format (first ∷ row) b
 row-calls Text first row b = refl
 row-calls Tsv first row b =
@@ -58,7 +54,56 @@ row-calls Tsv first row b =
     (line-behind first row) b
 
 -- the lines of a train, by the text of its row
-pub row-lines : (listing : Listing) (first : List ℕ) (row : List (List ℕ)) (b : BodyParts) →
-    row_lines listing (fields_text listing.format (first ∷ row)) b ≡ lines_of_row listing (first ∷ row) b
-row-lines listing first row b =
+row-lines : (listing : Listing) (row : List Field) (b : BodyParts) → 0 < length row →
+    row_lines listing (fields_text listing.format row) b ≡ lines_of_row listing row b
+row-lines listing [] b some = absurd (omega (arith, some))
+row-lines listing (first ∷ row) b some =
     ap (λ (l : List ℕ). if listing.calls then l else line_of listing.format (first ∷ row)) (row-calls listing.format first row b)
+
+-- a row that begins with a field that only a table has
+led-text : (format : Format) (first field : Field) (fields : List Field) →
+    lead format first ++ fields_text format (field ∷ fields) ≡ fields_text format (led format first (field ∷ fields))
+led-text Text first field fields = refl
+led-text Tsv first field fields = append_assoc (shown Tsv first) (codes "\t") (fields_text Tsv (field ∷ fields))
+
+led-some : (format : Format) (first field : Field) (fields : List Field) → 0 < length (led format first (field ∷ fields))
+led-some Text first field fields = omega arith
+led-some Tsv first field fields = omega arith
+
+pub led-lines : (listing : Listing) (first field : Field) (fields : List Field) (b : BodyParts) →
+    row_lines listing (lead listing.format first ++ fields_text listing.format (field ∷ fields)) b
+    ≡ lines_of_row listing (led listing.format first (field ∷ fields)) b
+led-lines listing first field fields b =
+    ap (λ (l : List ℕ). row_lines listing l b) (led-text listing.format first field fields)
+    ∙ row-lines listing (led listing.format first (field ∷ fields)) b (led-some listing.format first field fields)
+
+-- the first lines of tables, by the names of their fields
+day-names : (format : Format) (calls : Bool) → let listing : Listing = record { format = format; calls = calls } in
+    heading_text listing (codes "date\tkind\tuid") (names_behind association_names)
+    ≡ if_table format (names_line (day_names listing))
+day-names Text calls = refl
+day-names Tsv true = refl
+day-names Tsv false = refl
+
+pub day-heading : (listing : Listing) →
+    heading_text listing (codes "date\tkind\tuid") (names_behind association_names)
+    ≡ if_table listing.format (names_line (day_names listing))
+day-heading listing = day-names listing.format listing.calls
+
+train-row-names : (format : Format) (calls : Bool) → let listing : Listing = record { format = format; calls = calls } in
+    heading_text listing (codes "uid\tfirst_date\tlast_date\tdays_run") [] ≡ if_table format (names_line (train_names listing))
+train-row-names Text calls = refl
+train-row-names Tsv true = refl
+train-row-names Tsv false = refl
+
+pub train-heading : (listing : Listing) →
+    heading_text listing (codes "uid\tfirst_date\tlast_date\tdays_run") []
+    ≡ if_table listing.format (names_line (train_names listing))
+train-heading listing = train-row-names listing.format listing.calls
+
+pub explained-heading : (format : Format) →
+    heading_text (record { format = format; calls = false })
+    (codes "date\tmark\tkind\tstp_indicator\tfirst_date\tlast_date\tdays_run\tuid") (names_behind association_names)
+    ≡ explanation_heading format
+explained-heading Text = refl
+explained-heading Tsv = refl

@@ -27,7 +27,7 @@ pub explanation : (format : Format) (x : ExtractParts) (u : List ℕ) (d : ℕ) 
     → trains ≡ x.schedules → ArePlacedInOrder (slice_cmp nat_cmp) IsTrain (schedule_entries trains) u d applying
     → AreMarked applying applying shown
     → IsExplanation format x u d (explanation_heading format
-    ++ (flat_map (explained_association_line format) marked ++ flat_map (explained_train_line format) shown))
+    ++ (flat_map (explained_association_line format d) marked ++ flat_map (explained_train_line format d) shown))
 explanation format x u d within entries placed marked same are marks trains applying shown alike be signs = record {
   within = within;
   associations = marked;

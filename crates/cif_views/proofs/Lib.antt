@@ -3,3 +3,4 @@ pub mod ClashLists
 mod ExplainedMarks
 mod ExplainedTexts
 mod Explaining
+pub mod TableRows

@@ -9,6 +9,8 @@ use Rattle.cif_extract.specs.declared.call.Call.TheVariants.{At, Turn}
 use Rattle.cif_records.specs.declared.origin.Origin.{Origin}
 use Rattle.cif_records.specs.declared.stop.Stop.{Stop}
 use Rattle.cif_records.specs.declared.terminus.Terminus.{Terminus}
+use Rattle.cif_canon.specs.Fields.{Field}
+use Rattle.cif_canon.specs.declared.rows.Shape.TheVariants.{Trimmed}
 
 -- the columns of a time, a platform, a path or a line that a record doesn't have
 abbrev pub no_work_time : List ℕ
@@ -22,48 +24,49 @@ no_track = codes "   "
 
 -- Each call has these fields: its kind; location and suffix; arrival, departure and pass; public arrival and public departure;
 -- platform, path and line; activities.
-abbrev pub origin_fields : Origin → List (List ℕ)
+abbrev pub origin_fields : Origin → List Field
 origin_fields o =
-    codes "LO"
-    ∷ left_justified 7 o.location ∷ left_justified 1 o.suffix
-    ∷ no_work_time ∷ o.departure ∷ no_work_time
-    ∷ no_public_time ∷ o.public_departure
-    ∷ left_justified 3 o.platform ∷ no_track ∷ left_justified 3 o.line
-    ∷ codes_columns o.activities
+    (Trimmed, codes "LO")
+    ∷ (Trimmed, left_justified 7 o.location) ∷ (Trimmed, left_justified 1 o.suffix)
+    ∷ (Trimmed, no_work_time) ∷ (Trimmed, o.departure) ∷ (Trimmed, no_work_time)
+    ∷ (Trimmed, no_public_time) ∷ (Trimmed, o.public_departure)
+    ∷ (Trimmed, left_justified 3 o.platform) ∷ (Trimmed, no_track) ∷ (Trimmed, left_justified 3 o.line)
+    ∷ (Trimmed, codes_columns o.activities)
     ∷ []
 
-abbrev pub stop_fields : Stop → List (List ℕ)
+abbrev pub stop_fields : Stop → List Field
 stop_fields s =
-    codes "LI"
-    ∷ left_justified 7 s.location ∷ left_justified 1 s.suffix
-    ∷ s.arrival ∷ s.departure ∷ s.pass
-    ∷ s.public_arrival ∷ s.public_departure
-    ∷ left_justified 3 s.platform ∷ left_justified 3 s.path ∷ left_justified 3 s.line
-    ∷ codes_columns s.activities
+    (Trimmed, codes "LI")
+    ∷ (Trimmed, left_justified 7 s.location) ∷ (Trimmed, left_justified 1 s.suffix)
+    ∷ (Trimmed, s.arrival) ∷ (Trimmed, s.departure) ∷ (Trimmed, s.pass)
+    ∷ (Trimmed, s.public_arrival) ∷ (Trimmed, s.public_departure)
+    ∷ (Trimmed, left_justified 3 s.platform) ∷ (Trimmed, left_justified 3 s.path) ∷ (Trimmed, left_justified 3 s.line)
+    ∷ (Trimmed, codes_columns s.activities)
     ∷ []
 
-abbrev pub terminus_fields : Terminus → List (List ℕ)
+abbrev pub terminus_fields : Terminus → List Field
 terminus_fields t =
-    codes "LT"
-    ∷ left_justified 7 t.location ∷ left_justified 1 t.suffix
-    ∷ t.arrival ∷ no_work_time ∷ no_work_time
-    ∷ t.public_arrival ∷ no_public_time
-    ∷ left_justified 3 t.platform ∷ left_justified 3 t.path ∷ no_track
-    ∷ codes_columns t.activities
+    (Trimmed, codes "LT")
+    ∷ (Trimmed, left_justified 7 t.location) ∷ (Trimmed, left_justified 1 t.suffix)
+    ∷ (Trimmed, t.arrival) ∷ (Trimmed, no_work_time) ∷ (Trimmed, no_work_time)
+    ∷ (Trimmed, t.public_arrival) ∷ (Trimmed, no_public_time)
+    ∷ (Trimmed, left_justified 3 t.platform) ∷ (Trimmed, left_justified 3 t.path) ∷ (Trimmed, no_track)
+    ∷ (Trimmed, codes_columns t.activities)
     ∷ []
 
 -- what is written of a call on the way, where `text` is what is written of its fields: a change of the train's particulars is no call
-abbrev pub call_text : (List (List ℕ) → List ℕ) → Call → List ℕ
+abbrev pub call_text : (List Field → List ℕ) → Call → List ℕ
 call_text text (At stop) = text (stop_fields stop)
 call_text text (Turn change) = []
 
 -- what is written of all calls of a train
-abbrev pub calls_text : (List (List ℕ) → List ℕ) → BodyParts → List ℕ
+abbrev pub calls_text : (List Field → List ℕ) → BodyParts → List ℕ
 calls_text text b =
     text (origin_fields b.origin) ++ (flat_map (call_text text) b.calls ++ text (terminus_fields b.terminus))
 
 -- the names of a call's fields
-abbrev pub call_names : List ℕ
+abbrev pub call_names : List (List ℕ)
 call_names =
-    codes "\tcall\tcall_location\tcall_suffix\tcall_arrival\tcall_departure\tcall_pass\tcall_public_arrival\tcall_public_departure"
-    ++ codes "\tcall_platform\tcall_path\tcall_line\tcall_activities"
+    codes "call" ∷ codes "call_location" ∷ codes "call_suffix" ∷ codes "call_arrival" ∷ codes "call_departure" ∷ codes "call_pass"
+    ∷ codes "call_public_arrival" ∷ codes "call_public_departure" ∷ codes "call_platform" ∷ codes "call_path" ∷ codes "call_line"
+    ∷ codes "call_activities" ∷ []

@@ -24,10 +24,12 @@ use Rattle.cif_records.specs.declared.association.AssocBody.{AssocBody}
 use Rattle.cif_records.specs.declared.association.AssocKey.{AssocKey}
 use Rattle.cif_weeks.specs.Window.{IsWithin}
 use Rattle.cif_canon.specs.Asked.{header_window}
-use Rattle.cif_canon.specs.Fields.{left_out, line_of}
+use Rattle.cif_canon.specs.Fields.{Field, left_out, led, line_of}
 use Rattle.cif_canon.specs.Rows.{association_fields, no_association, no_train, train_fields}
-use Rattle.cif_views.specs.Listing.{association_names, heading}
+use Rattle.cif_views.specs.Listing.{association_names, date_field, if_table, journey_names}
+use Rattle.cif_views.specs.Tables.{names_line}
 use Rattle.cif_canon.specs.declared.rows.Format.{Format}
+use Rattle.cif_canon.specs.declared.rows.Shape.TheVariants.{Date, Trimmed, Whole}
 use Rattle.cif_views.specs.declared.marks.Mark.{Mark}
 use Rattle.cif_views.specs.declared.marks.Mark.TheVariants as mark
 
@@ -88,43 +90,53 @@ mark_columns mark.Clash = codes "clash "
 mark_columns mark.Hidden = codes "hidden"
 
 -- a record's letter, its dates and its mask
-abbrev pub terms_fields : {B : Type 0} → Terms B → List (List ℕ)
-terms_fields r = (letter r.letter ∷ []) ∷ yymmdd_of r.first ∷ yymmdd_of r.last ∷ days_columns r.days ∷ []
+abbrev pub terms_fields : {B : Type 0} → Terms B → List Field
+terms_fields r =
+    (Trimmed, letter r.letter ∷ []) ∷ (Date, yymmdd_of r.first) ∷ (Date, yymmdd_of r.last) ∷ (Trimmed, days_columns r.days) ∷ []
 
 -- what an association says: the fields of the day view, and of a cancellation those of its key alone
-abbrev pub said_of_association : Format → AssocKey → Option AssocBody → List (List ℕ)
+abbrev pub said_of_association : Format → AssocKey → Option AssocBody → List Field
 said_of_association format key (Some body) = association_fields (key, body)
 said_of_association format key None =
-    key.base
-    ∷ key.associated
+    (Whole, key.base)
+    ∷ (Whole, key.associated)
     ∷ (left_out format 2
-    ++ (left_justified 7 key.location
-    ∷ left_justified 1 key.base_suffix
-    ∷ left_justified 1 key.associated_suffix
+    ++ ((Trimmed, left_justified 7 key.location)
+    ∷ (Trimmed, left_justified 1 key.base_suffix)
+    ∷ (Trimmed, left_justified 1 key.associated_suffix)
     ∷ left_out format 2))
 
 -- what a schedule says: the fields of the day view, and of a cancellation its train alone
-abbrev pub said_of_train : Format → List ℕ → Option BodyParts → List (List ℕ)
+abbrev pub said_of_train : Format → List ℕ → Option BodyParts → List Field
 said_of_train format uid (Some body) = train_fields format (uid, body)
-said_of_train format uid None = uid ∷ left_out format 9
+said_of_train format uid None = (Whole, uid) ∷ left_out format 9
 
--- the line of an association
-unfoldable pub explained_association_line : Format → Explained AssocKey AssocBody → List ℕ
-explained_association_line format e =
-    line_of format (mark_columns e.mark ∷ codes "AA"
+-- the row of an association on day d, and that of a schedule; each begins with the date, if it is the row of a table
+abbrev pub explained_association_fields : Format → ℕ → Explained AssocKey AssocBody → List Field
+explained_association_fields format d e =
+    led format (date_field d) ((Trimmed, mark_columns e.mark) ∷ (Trimmed, codes "AA")
     ∷ (terms_fields e.terms ++ (no_train format ++ said_of_association format e.key e.terms.body)))
 
--- the line of a schedule
-unfoldable pub explained_train_line : Format → Explained (List ℕ) BodyParts → List ℕ
-explained_train_line format e =
-    line_of format (mark_columns e.mark ∷ codes "BS"
+abbrev pub explained_train_fields : Format → ℕ → Explained (List ℕ) BodyParts → List Field
+explained_train_fields format d e =
+    led format (date_field d) ((Trimmed, mark_columns e.mark) ∷ (Trimmed, codes "BS")
     ∷ (terms_fields e.terms ++ (said_of_train format e.key e.terms.body ++ no_association format)))
 
--- the first line of a table
+-- their lines
+unfoldable pub explained_association_line : Format → ℕ → Explained AssocKey AssocBody → List ℕ
+explained_association_line format d e = line_of format (explained_association_fields format d e)
+
+unfoldable pub explained_train_line : Format → ℕ → Explained (List ℕ) BodyParts → List ℕ
+explained_train_line format d e = line_of format (explained_train_fields format d e)
+
+-- the names of their fields, and the first line of a table
+abbrev pub explanation_names : List (List ℕ)
+explanation_names =
+    codes "date" ∷ codes "mark" ∷ codes "kind" ∷ codes "stp_indicator" ∷ codes "first_date" ∷ codes "last_date" ∷ codes "days_run"
+    ∷ codes "uid" ∷ (journey_names ++ association_names)
+
 abbrev pub explanation_heading : Format → List ℕ
-explanation_heading format =
-    heading (record { format = format; calls = false }) (codes "mark\tkind\tstp_indicator\tfirst_date\tlast_date\tdays_run\tuid")
-    association_names
+explanation_heading format = if_table format (names_line explanation_names)
 
 -- an association is of both its trains, the base and the associated one
 abbrev pub IsAssociationOf : AssocKey → List ℕ → Type 0
@@ -144,7 +156,7 @@ pub record IsExplanation (format : Format) (x : ExtractParts) (u : List ℕ) (d 
   pub of_trains : AreExplained (slice_cmp nat_cmp) IsTrain (schedule_entries x.schedules) u d trains
   pub text_is :
       text ≡ explanation_heading format
-      ++ (flat_map (explained_association_line format) associations ++ flat_map (explained_train_line format) trains)
+      ++ (flat_map (explained_association_line format d) associations ++ flat_map (explained_train_line format d) trains)
 
 -- why there is no explanation: the day is outside the window; or else memory ran out, or the sink failed
 abbrev pub IsExplanationFault : ExtractParts → ℕ → Fault → Type 0

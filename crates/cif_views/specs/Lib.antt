@@ -3,3 +3,4 @@ pub mod Clashes
 pub mod Explanation
 pub mod Listing
 pub mod Steps
+pub mod Tables

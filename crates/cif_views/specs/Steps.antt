@@ -2,3 +2,4 @@
 pub mod Clashes
 pub mod Explanation
 pub mod Rows
+pub mod TableRows

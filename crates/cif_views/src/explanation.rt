@@ -1,5 +1,5 @@
 //! Why a train runs on a day or doesn't: a line for each record, with its mark.
-ghost use Rattle.std.specs.Prelude.{◌≡◌, ◌+◌, ◌≤◌, ◌++◌, ℕ, List, IfErr, map};
+ghost use Rattle.std.specs.Prelude.{◌≡◌, ◌+◌, ◌≤◌, ◌++◌, ◌∷◌, ℕ, List, IfErr, map};
 ghost use Rattle.arrayvec.specs.ArrayString.{array_string_len};
 ghost use Rattle.cif_extract.specs.ExtractParts.{extract_parts};
 ghost use Rattle.cif_views.specs.Explanation.{IsExplanation, IsExplanationFault};
@@ -7,19 +7,22 @@ ghost use Rattle.cif_views.specs.Explanation.{mark_columns, said_of_association,
 ghost use Rattle.cif_views.specs.Explanation.{terms_fields};
 ghost use Rattle.cif_canon.specs.Normalised.{FaultWrites, IfWritten};
 ghost use Rattle.cif_views.specs.Steps.Explanation.{AreMarkedOn, IsRisingBy, placed_of};
-ghost use Rattle.cif_canon.specs.Fields.{after};
+ghost use Rattle.cif_columns.specs.Line.{ArePrintable};
+ghost use Rattle.cif_canon.specs.Fields.{after, lead, separator, shown};
 ghost use Rattle.cif_canon.specs.declared.rows.Format.TheVariants.{Text};
+ghost use Rattle.cif_canon.specs.declared.rows.Shape.TheVariants.{Trimmed};
+ghost use Rattle.cif_views.specs.Listing.{date_field};
 
 use crate::listing::{ASSOCIATION, Listing, heading};
 use crate::marks::{Applying, ExplainedEntry, Mark, mark_at, records_on};
 use arrayvec::ArrayString;
 use cif_calendar::Entry;
 use cif_canon::rows::{
-    LONGEST, NO_ASSOCIATION, NO_TRAIN, push_association, push_field, push_fields, push_left_out,
-    push_train, started,
+    LONGEST, NO_ASSOCIATION, NO_TRAIN, lead, push_association, push_field, push_fields,
+    push_left_out, push_train, started,
 };
 use cif_canon::writing::{answer, append};
-use cif_canon::{Format, check_within};
+use cif_canon::{Format, Shape, check_within};
 use cif_columns::{Day, Sink, Uid, WriteDevice};
 use cif_extract::{Extract, Fault, Schedule};
 use cif_records::Association;
@@ -75,30 +78,31 @@ pub fn explain_listing<W: WriteDevice>(
     };
     let names = heading(
         listing,
-        "mark\tkind\tstp_indicator\tfirst_date\tlast_date\tdays_run\tuid",
+        "date\tmark\tkind\tstp_indicator\tfirst_date\tlast_date\tdays_run\tuid",
         ASSOCIATION,
     );
     append(names.as_str(), sink);
-    write_marked(format, associations.as_slice(), sink);
-    write_marked(format, trains.as_slice(), sink);
+    write_marked(format, day, associations.as_slice(), sink);
+    write_marked(format, day, trains.as_slice(), sink);
     answer(sink)
 }
 
 /// Appends the lines of the records that apply, with their marks.
 fn write_marked<E: ExplainedEntry, W: WriteDevice>(
     format: Format,
+    day: Day,
     applying: &[Applying<'_, E>],
     sink: &mut Sink<W>,
 )
     requires rising { IsRisingBy E.Key.cmp (map (placed_of E.key E.terms) applying.now) }
-    ensures { AreMarkedOn W.contents W.write_errors (E.line format)
+    ensures { AreMarkedOn W.contents W.write_errors (E.line format day)
         (map (placed_of E.key E.terms) applying.now) (map (placed_of E.key E.terms) applying.now)
         sink.old sink.new }
 {
     let mut mark = Mark::Wins;
     for (i, one) in applying.iter().enumerate() {
         mark = mark_at(applying, i, mark);
-        append(one.entry.line(format, mark).as_str(), sink);
+        append(one.entry.line(format, day, mark).as_str(), sink);
     }
 }
 
@@ -113,20 +117,33 @@ fn columns_of(mark: Mark) -> [u8; 6]
     }
 }
 
+/// The beginning of a line: in a table the date, then the mark and the kind.
+fn begun(format: Format, day: Day, mark: Mark, kind: &[u8; 2]) -> ArrayString<LONGEST>
+    requires { ArePrintable kind.now }
+    ensures text { result.bytes ≡ (lead format (date_field day) ++ shown format (Trimmed, mark_columns mark))
+        ++ (separator format ∷ shown format (Trimmed, kind.now)) }
+    ensures len { array_string_len result ≤ 20 }
+{
+    let date = lead(format, Shape::Date, &day.to_yymmdd());
+    let mut line = started(date.as_str(), format, Shape::Trimmed, &columns_of(mark));
+    push_field(&mut line, format, Shape::Trimmed, kind);
+    line
+}
+
 /// Appends the letter, the dates and the mask of a record.
 fn push_terms<E: Entry>(line: &mut ArrayString<LONGEST>, format: Format, entry: &E)
-    requires { array_string_len line.old + 24 ≤ LONGEST }
+    requires { array_string_len line.old + 32 ≤ LONGEST }
     ensures text { line.new.bytes ≡ line.old.bytes ++ after format (terms_fields (E.terms entry.now)) }
-    ensures len { array_string_len line.new ≤ array_string_len line.old + 24 }
+    ensures len { array_string_len line.new ≤ array_string_len line.old + 32 }
 {
     push_fields(
         line,
         format,
         &[
-            &[entry.letter().write()],
-            &entry.first().to_yymmdd(),
-            &entry.last().to_yymmdd(),
-            &entry.days().write(),
+            (Shape::Trimmed, &[entry.letter().write()]),
+            (Shape::Date, &entry.first().to_yymmdd()),
+            (Shape::Date, &entry.last().to_yymmdd()),
+            (Shape::Trimmed, &entry.days().write()),
         ],
     );
 }
@@ -146,15 +163,22 @@ fn push_said_of_association(
         Some(body) => push_association(line, format, &association.key, body),
         None => {
             let key = &association.key;
-            push_fields(line, format, &[&key.base.write(), &key.associated.write()]);
+            push_fields(
+                line,
+                format,
+                &[
+                    (Shape::Whole, &key.base.write()),
+                    (Shape::Whole, &key.associated.write()),
+                ],
+            );
             push_left_out(line, format, "\t\t");
             push_fields(
                 line,
                 format,
                 &[
-                    &key.location.write(),
-                    &key.base_suffix.write(),
-                    &key.associated_suffix.write(),
+                    (Shape::Trimmed, &key.location.write()),
+                    (Shape::Trimmed, &key.base_suffix.write()),
+                    (Shape::Trimmed, &key.associated_suffix.write()),
                 ],
             );
             push_left_out(line, format, "\t\t");
@@ -172,7 +196,7 @@ fn push_said_of_train(line: &mut ArrayString<LONGEST>, format: Format, schedule:
     match &schedule.body {
         Some(body) => push_train(line, format, &schedule.uid, body),
         None => {
-            push_field(line, format, &schedule.uid.write());
+            push_field(line, format, Shape::Whole, &schedule.uid.write());
             push_left_out(line, format, "\t\t\t\t\t\t\t\t\t");
         }
     }
@@ -189,9 +213,8 @@ impl ExplainedEntry for Association {
         self.key.base == *uid || self.key.associated == *uid
     }
 
-    fn line(&self, format: Format, mark: Mark) -> ArrayString<LONGEST> {
-        let mut line = started(format, &columns_of(mark));
-        push_field(&mut line, format, b"AA");
+    fn line(&self, format: Format, day: Day, mark: Mark) -> ArrayString<LONGEST> {
+        let mut line = begun(format, day, mark, b"AA");
         push_terms(&mut line, format, self);
         push_left_out(&mut line, format, NO_TRAIN);
         push_said_of_association(&mut line, format, self);
@@ -211,9 +234,8 @@ impl ExplainedEntry for Schedule {
         self.uid == *uid
     }
 
-    fn line(&self, format: Format, mark: Mark) -> ArrayString<LONGEST> {
-        let mut line = started(format, &columns_of(mark));
-        push_field(&mut line, format, b"BS");
+    fn line(&self, format: Format, day: Day, mark: Mark) -> ArrayString<LONGEST> {
+        let mut line = begun(format, day, mark, b"BS");
         push_terms(&mut line, format, self);
         push_said_of_train(&mut line, format, self);
         push_left_out(&mut line, format, NO_ASSOCIATION);

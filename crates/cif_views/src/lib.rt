@@ -9,8 +9,11 @@ mod find_clashes;
 pub mod laws;
 mod listing;
 mod marks;
+mod table_row;
+mod tables;
 
 pub use clash_list::Clashes;
 pub use explanation::{explain_listing, explain_view};
 pub use find_clashes::clashes;
 pub use listing::{Listing, day_listing, train_listing};
+pub use tables::{Table, write_table};

@@ -1,18 +1,21 @@
 //! What runs on a day, and when a train runs, as text or as a table, with or without calls.
 ghost use Rattle.std.specs.Prelude.{◌≡◌, ◌+◌, ◌++◌, ◌≤◌, ℕ, List, IfErr, length};
 ghost use Rattle.arrayvec.specs.ArrayString.{array_string_len};
-ghost use Rattle.cif_canon.specs.Fields.{after};
+ghost use Rattle.cif_canon.specs.Fields.{after, lead};
 ghost use Rattle.cif_canon.specs.Normalised.{FaultWrites, IfWritten};
 ghost use Rattle.cif_canon.specs.Views.{IsDayFault, IsTrainFault};
 ghost use Rattle.cif_extract.specs.ExtractParts.{extract_parts};
 ghost use Rattle.cif_views.specs.Listing.{IsDayListing, IsTrainListing, association_line};
-ghost use Rattle.cif_views.specs.Listing.{call_names_if, heading, no_call};
+ghost use Rattle.cif_views.specs.Listing.{call_names_if, no_call};
+ghost use Rattle.cif_views.specs.Steps.Rows.{first_field, heading_text, names_behind};
 
 use crate::calls::write_row;
 use arrayvec::ArrayString;
-use cif_canon::rows::{LONGEST, association_row, push_left_out, schedule_row, train_row};
+use cif_canon::rows::{
+    LEAD, LONGEST, association_row, lead, push_left_out, schedule_row, train_row,
+};
 use cif_canon::writing::append;
-use cif_canon::{DayLines, Format, TrainLines, write_day, write_train};
+use cif_canon::{DayLines, Format, Shape, TrainLines, write_day, write_train};
 use cif_columns::{Day, Sink, Uid, WriteDevice};
 use cif_extract::{Body, Extract, Fault};
 use cif_records::{AssocBody, AssocKey};
@@ -48,7 +51,7 @@ const CALL: &str = "\tcall\tcall_location\tcall_suffix\tcall_arrival\tcall_depar
 pub(crate) fn heading(listing: Listing, first: &str, others: &str) -> ArrayString<512>
     requires first { length first.now ≤ 80 }
     requires others { length others.now ≤ 150 }
-    ensures { result.bytes ≡ heading listing first.now others.now }
+    ensures { result.bytes ≡ heading_text listing first.now others.now }
 {
     let mut line = ArrayString::new();
     match listing.format {
@@ -66,7 +69,7 @@ pub(crate) fn heading(listing: Listing, first: &str, others: &str) -> ArrayStrin
 
 /// The names of the fields of a call, if calls are listed.
 fn call_names(listing: Listing) -> &'static str
-    ensures names { result.now ≡ call_names_if listing }
+    ensures names { result.now ≡ names_behind (call_names_if listing) }
     ensures len { length result.now ≤ 161 }
 {
     if listing.calls { CALL } else { "" }
@@ -86,8 +89,12 @@ pub fn day_listing<W: WriteDevice>(
         × IfWritten result (IsDayListing listing (extract_parts extract.now) day text) }
     ensures fault { IfErr result (IsDayFault (extract_parts extract.now) day) }
 {
-    let names = heading(listing, "kind\tuid", ASSOCIATION);
-    write_day(alloc, extract, day, sink, names.as_str(), &listing)
+    let names = heading(listing, "date\tkind\tuid", ASSOCIATION);
+    let rows = Led {
+        listing,
+        first: First::Date(day),
+    };
+    write_day(alloc, extract, day, sink, names.as_str(), &rows)
 }
 
 /// Appends when the train runs, as `train_view` does, in this listing. A table begins with the names of
@@ -105,16 +112,49 @@ pub fn train_listing<W: WriteDevice>(
         × IfWritten result (IsTrainListing listing form (extract_parts extract.now) uid.now text) }
     ensures fault { IfErr result (IsTrainFault (extract_parts extract.now)) }
 {
-    let names = heading(listing, "first_date\tlast_date\tdays_run", "");
-    write_train(alloc, extract, uid, sink, form, names.as_str(), &listing)
+    let names = heading(listing, "uid\tfirst_date\tlast_date\tdays_run", "");
+    let rows = Led {
+        listing,
+        first: First::Train(*uid),
+    };
+    write_train(alloc, extract, uid, sink, form, names.as_str(), &rows)
 }
 
-impl DayLines for Listing {
+/// What the rows of a table begin with.
+#[derive(Clone, Copy)]
+enum First {
+    /// The date on which they run.
+    Date(Day),
+    /// The UID of the train.
+    Train(Uid),
+}
+
+/// A listing, and what the rows of its tables begin with.
+#[derive(Clone, Copy)]
+struct Led {
+    listing: Listing,
+    first: First,
+}
+
+impl Led {
+    /// What each line begins with.
+    fn beginning(&self) -> ArrayString<LEAD>
+        ensures { result.bytes ≡ lead self.now.listing.format (first_field self.now.first) }
+    {
+        match self.first {
+            First::Date(day) => lead(self.listing.format, Shape::Date, &day.to_yymmdd()),
+            First::Train(uid) => lead(self.listing.format, Shape::Whole, &uid.write()),
+        }
+    }
+}
+
+impl DayLines for Led {
     ghost use Rattle.cif_views.specs.Listing.{association_line, train_text};
+    ghost use Rattle.cif_views.specs.Steps.Rows.{first_field};
 
-    ghost association = { association_line };
+    ghost association = { λ led. association_line led.listing (first_field led.first) };
 
-    ghost train = { train_text };
+    ghost train = { λ led. train_text led.listing (first_field led.first) };
 
     fn write_association<W: WriteDevice>(
         &self,
@@ -122,31 +162,34 @@ impl DayLines for Listing {
         body: &AssocBody,
         sink: &mut Sink<W>,
     ) {
-        append(association_line(*self, key, body).as_str(), sink);
+        append(association_line(self, key, body).as_str(), sink);
     }
 
     fn write_train<W: WriteDevice>(&self, uid: &Uid, body: &Body, sink: &mut Sink<W>) {
-        write_row(*self, train_row(self.format, uid, body), body, sink);
+        let row = train_row(self.beginning().as_str(), self.listing.format, uid, body);
+        write_row(self.listing, row, body, sink);
     }
 }
 
-impl TrainLines for Listing {
+impl TrainLines for Led {
     ghost use Rattle.cif_views.specs.Listing.{schedule_text};
+    ghost use Rattle.cif_views.specs.Steps.Rows.{first_field};
 
-    ghost schedule = { schedule_text };
+    ghost schedule = { λ led. schedule_text led.listing (first_field led.first) };
 
     fn write_schedule<W: WriteDevice>(&self, run: &Run, body: &Body, sink: &mut Sink<W>) {
-        write_row(*self, schedule_row(self.format, run, body), body, sink);
+        let row = schedule_row(self.beginning().as_str(), self.listing.format, run, body);
+        write_row(self.listing, row, body, sink);
     }
 }
 
 /// The line of an association that holds.
 #[tactic(auto, unfolding(crate::specs::Listing::association_line))]
-fn association_line(listing: Listing, key: &AssocKey, body: &AssocBody) -> ArrayString<LONGEST>
-    ensures { result.bytes ≡ association_line listing (key.now, body.now) }
+fn association_line(led: &Led, key: &AssocKey, body: &AssocBody) -> ArrayString<LONGEST>
+    ensures { result.bytes ≡ association_line led.now.listing (first_field led.now.first) (key.now, body.now) }
 {
-    let mut line = association_row(listing.format, key, body);
-    push_no_call(&mut line, listing);
+    let mut line = association_row(led.beginning().as_str(), led.listing.format, key, body);
+    push_no_call(&mut line, led.listing);
     line.push_str("\n");
     line
 }

@@ -33,16 +33,16 @@ pub trait ExplainedEntry: Entry {
     // A record with this key is of this train.
     ghost is_of: { Self.Key → List ℕ → Type 0 };
 
-    // The line of a record with its mark.
-    ghost line: { Format → Explained Self.Key Self.Body → List ℕ };
+    // The line of a record on a day, with its mark.
+    ghost line: { Format → ℕ → Explained Self.Key Self.Body → List ℕ };
 
     /// Whether it is of this train.
     fn is_of(&self, uid: &Uid) -> bool
         ensures { IsTrue result ↔ is_of (Self.key self.now) uid.now };
 
-    /// Its line with a mark.
-    fn line(&self, format: Format, mark: Mark) -> ArrayString<LONGEST>
-        ensures { (place : ℕ) → result.bytes ≡ line format (record {
+    /// Its line on the day, with a mark.
+    fn line(&self, format: Format, day: Day, mark: Mark) -> ArrayString<LONGEST>
+        ensures { (place : ℕ) → result.bytes ≡ line format day (record {
           place = place;
           key = Self.key self.now;
           terms = Self.terms self.now;

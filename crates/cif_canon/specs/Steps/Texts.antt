@@ -1,5 +1,5 @@
 -- The text of runs, as it is written from an extract. No public clause cites it.
-use Rattle.std.specs.Prelude.{◌≡◌, ℕ, ◌≤◌, List, [], ◌∷◌, ◌++◌, Option, None, Some, slice_get}
+use Rattle.std.specs.Prelude.{◌≡◌, ℕ, ◌≤◌, List, [], ◌∷◌, ◌++◌, Option, None, Some, map, slice_get}
 use Rattle.std.specs.List.{flat_map}
 use Rattle.std.specs.Option.{option_and_then, option_map}
 use Rattle.cif_calendar.specs.Terms.{Terms}
@@ -9,8 +9,9 @@ use Rattle.cif_columns.specs.declared.stp.Stp.TheVariants.{P}
 use Rattle.cif_extract.specs.BodyParts.{BodyParts}
 use Rattle.cif_extract.specs.ExtractParts.{ExtractParts}
 use Rattle.cif_extract.specs.declared.extract.Schedule.{Schedule}
-use Rattle.cif_extract.specs.Texts.{schedule_lines}
+use Rattle.cif_extract.specs.Texts.{body_tables, schedule_lines}
 use Rattle.cif_records.specs.Association.{association_rows}
+use Rattle.cif_records.specs.Basic.{basic_rows}
 use Rattle.cif_records.specs.Header.{header_table}
 use Rattle.cif_records.specs.Tiploc.{tiploc_table}
 use Rattle.cif_records.specs.Trailer.{trailer_table}
@@ -21,6 +22,7 @@ use Rattle.cif_weeks.specs.Permanent.{Permanent}
 use Rattle.cif_weeks.specs.Runs.{record_of}
 use Rattle.cif_weeks.specs.declared.run.Run.{Run}
 use Rattle.cif_calendar.specs.Entries.{association_entries, schedule_entries}
+use Rattle.cif_canon.specs.Lines.{ExtractLines, ScheduleLines, line_of_tiploc}
 
 -- the record of a run, with the key and the body of the entry at its source
 abbrev pub record_at : {K B : Type 0} → List (K × Terms B) → Run → Option (K × Permanent B)
@@ -33,14 +35,41 @@ pub record HasRecord {K B : Type 0} (entries : List (K × Terms B)) (run : Run) 
   pub is : record_at entries run ≡ Some it
   pub in_order : it.1.first ≤ it.1.last
 
--- the text of what is there
-abbrev pub text_if : {A : Type 0} → (A → List ℕ) → Option A → List ℕ
+-- the text of what is there, or what else a list has of it
+abbrev pub text_if : {A C : Type 0} → (A → List C) → Option A → List C
 text_if text None = []
 text_if text (Some a) = text a
 
 -- the text of a run: that of its record
 abbrev pub run_text : {K B : Type 0} → (K × Permanent B → List ℕ) → List (K × Terms B) → Run → List ℕ
 run_text text entries run = text_if text (record_at entries run)
+
+-- the plain line of a permanent association, and the lines of a permanent schedule
+abbrev pub association_plain : AssocKey × Permanent AssocBody → List ℕ
+association_plain e = plain_line (association_rows e.0 e.1.first e.1.last e.1.days P (Some e.1.body))
+
+abbrev pub schedule_plain : List ℕ × Permanent BodyParts → ScheduleLines
+schedule_plain e = record {
+  basic = plain_line (basic_rows e.0 e.1.first e.1.last e.1.days P (Some e.1.body.detail));
+  further = map plain_line (body_tables (Some e.1.body));
+}
+
+-- what the record of a run has, in a list of its own
+abbrev pub of_run : {K B C : Type 0} → (K × Permanent B → C) → List (K × Terms B) → Run → List C
+of_run part entries run = text_if (λ e. part e ∷ []) (record_at entries run)
+
+-- what is listed of the schedule of a run, with a number
+abbrev pub numbered_text : (ℕ → ScheduleLines → List ℕ) → List (List ℕ × Terms BodyParts) → ℕ × Run → List ℕ
+numbered_text text entries n = run_text (λ e. text n.0 (schedule_plain e)) entries n.1
+
+-- the lines of an extract's locations and runs
+unfoldable pub canon_lines : ExtractParts → List Tiploc → List Run → List Run → ExtractLines
+canon_lines x tiplocs associations schedules = record {
+  header = plain_line (header_table x.header);
+  tiplocs = map line_of_tiploc tiplocs;
+  associations = flat_map (of_run association_plain (association_entries x.associations)) associations;
+  schedules = flat_map (of_run schedule_plain (schedule_entries x.schedules)) schedules;
+}
 
 -- the lines of a location, a permanent association, a permanent schedule
 abbrev pub tiploc_text : Tiploc → List ℕ

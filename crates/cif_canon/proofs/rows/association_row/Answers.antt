@@ -1,9 +1,10 @@
 -- Two groups of fields go behind the first field (`two-groups`): they are rewritten from the last on.
 use Rattle.std.proofs.Common.{codes}
 use Rattle.cif_canon.specs.Rows.{association_fields, no_train}
+use Rattle.cif_canon.specs.declared.rows.Shape.TheVariants.{Trimmed}
 use Rattle.cif_canon.proofs.ViewLines.{two-groups}
 use Rattle.cif_canon.proofs.rows.association_row.Goals as goal
 
 pub returns-clause-text : goal.returns-clause-text
 returns-clause-text c = rw (c.push_association.ensures.text, c.push_left_out.ensures.text, c.started-row.ensures.text)
-    (two-groups c.args.format (codes "AA") (no_train c.args.format) (association_fields (c.args.key.now, c.args.body.now)))
+    (two-groups c.args.format c.args.before.now (Trimmed, codes "AA") (no_train c.args.format) (association_fields (c.args.key.now, c.args.body.now)))

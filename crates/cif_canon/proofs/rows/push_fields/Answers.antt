@@ -10,7 +10,7 @@ pub push_field-requires : goal.push_field-requires
 push_field-requires c =
     let here = first-left _ _ _ c.args.fields.now _ c.loop-field-test.true _ _ c.loop-field.invariant in
     let room = here.room in
-    record { room = omega (arith, room, c.requires.room); printable = here.fields.0 }
+    record { room = omega (arith, room, c.requires.room); field = here.fields.0 }
 
 pub loop-field-preserved : goal.loop-field-preserved
 loop-field-preserved c =

@@ -13,4 +13,4 @@ returns-clause-text c = rw (
   c.to_yymmdd-2.ensures.columns,
   c.write.ensures.columns,
 )
-    (two-groups c.args.format _ (_ ∷ _ ∷ []) (journey_fields c.args.format c.args.body.now))
+    (two-groups c.args.format c.args.before.now _ (_ ∷ _ ∷ []) (journey_fields c.args.format c.args.body.now))

@@ -2,14 +2,14 @@
 use Rattle.std.proofs.Common.{ℕ, List, ap, ◌∙◌, ◌++◌}
 use Rattle.std.specs.List.{flat_map}
 use Rattle.cif_views.specs.Calls.{call_text, origin_fields, terminus_fields}
-use Rattle.cif_canon.specs.Fields.{line_of}
+use Rattle.cif_canon.specs.Fields.{Field, line_of}
 use Rattle.cif_canon.proofs.AppendedTexts.{both, text-is}
 use Rattle.cif_views.proofs.calls.write_calls.Goals as goal
 
 pub returns : goal.returns
 returns g c =
     let b = c.args.body.now in
-    let text : List (List ℕ) → List ℕ = λ fields. c.args.before.now ++ line_of c.args.format fields in
+    let text : List Field → List ℕ = λ fields. c.args.before.now ++ line_of c.args.format fields in
     let between = flat_map (call_text text) b.calls in
     both _ _ (text (origin_fields b.origin)) (between ++ text (terminus_fields b.terminus)) _ _ _
     (text-is _ _ _ _ _ _ (ap (λ (l : List ℕ). c.args.before.now ++ l)

@@ -11,6 +11,7 @@ use Rattle.cif_records.specs.declared.association.Association.{Association}
 use Rattle.cif_views.specs.Explanation.{IsAssociationOf, explained_association_line, explained_train_line, explanation_heading, IsTrain}
 use Rattle.cif_views.specs.Steps.Explanation.{ArePlacedInOrder, placed_of}
 use Rattle.cif_canon.proofs.AppendedTexts.{both, fault-answered, text-is}
+use Rattle.cif_views.proofs.CallTexts.{explained-heading}
 use Rattle.cif_views.proofs.ExplainedTexts.{explanation}
 use Rattle.cif_canon.proofs.ViewTexts.{written-so}
 use Rattle.cif_views.proofs.explanation.explain_listing.Goals as goal
@@ -20,11 +21,12 @@ returns-clause-view g c =
     let ones = c.write_marked.ensures in
     let others = c.write_marked-2.ensures in
     let head = explanation_heading c.args.format in
-    let one = flat_map (explained_association_line c.args.format) ones.0 in
-    let other = flat_map (explained_train_line c.args.format) others.0 in (
+    let one = flat_map (explained_association_line c.args.format c.args.day) ones.0 in
+    let other = flat_map (explained_train_line c.args.format c.args.day) others.0 in (
       head ++ (one ++ other),
       fault-answered _ _ _ _ _ c.answer.result c.answer.ensures.ok c.answer.ensures.failed c.answer.ensures.fault
-          (both _ _ head (one ++ other) _ _ _ (text-is _ _ _ _ _ _ (c.as_str.ensures.value ∙ c.heading-names.ensures) c.append.ensures)
+          (both _ _ head (one ++ other) _ _ _ (text-is _ _ _ _ _ _ (c.as_str.ensures.value ∙ c.heading-names.ensures
+          ∙ explained-heading c.args.format) c.append.ensures)
           (both _ _ one other _ _ _ ones.2 others.2)),
       written-so c.answer.result _ (explanation c.args.format (extract_parts c.args.extract.now) c.args.uid.now c.args.day
           c.in_ok-check_within.ensures.ok c.as_slice.result.now _ ones.0 c.as_slice.ensures.value

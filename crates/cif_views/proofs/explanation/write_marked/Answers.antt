@@ -28,7 +28,7 @@ loop-i-preserved g c =
             (subst (λ p. IsMarkOf (map of c.args.applying.now) p mark)
             (get_or-map of c.args.applying.now c.loop-i.i one (of one) c.loop-i-test.true ∙ ap of (sym c.index-applying-i.is))
             (marks (of one))) marked,
-        behind _ _ (g.E.ExplainedEntry.line c.args.format) done e _ _ _ appended
+        behind _ _ (g.E.ExplainedEntry.line c.args.format c.args.day) done e _ _ _ appended
             (text-is _ _ _ _ _ _ (c.as_str.ensures.value ∙ c.line.ensures one.place) c.append.ensures),
       );
       last = λ j is. subst (λ n. IsMarkAt (map of c.args.applying.now) n mark) (omega (arith, is)) marks;

@@ -1,12 +1,26 @@
--- The fields of a call go behind the row (`row-line`): they are rewritten from the last on.
-use Rattle.std.proofs.Common.{codes}
+-- The fields of a call go behind the row (`row-behind`), and the line begins with its first field (`led-line`): they are rewritten from the
+-- last on.
+use Rattle.std.proofs.Common.{codes, ◌++◌, ◌∙◌}
+use Rattle.cif_canon.specs.Fields.{lead}
 use Rattle.cif_canon.specs.Rows.{association_fields, no_train}
+use Rattle.cif_canon.specs.declared.rows.Shape.TheVariants.{Trimmed}
+use Rattle.cif_canon.proofs.ViewLines.{led-line, row-behind}
 use Rattle.cif_views.specs.Listing.{association_line, no_call}
-use Rattle.cif_views.proofs.CallTexts.{row-behind}
+use Rattle.cif_views.specs.Steps.Rows.{first_field}
 use Rattle.cif_views.proofs.listing.association_line.Goals as goal
 
 pub returns : goal.returns
 unfolding association_line
-returns c = rw (c.push_str.ensures.bytes, c.push_no_call.ensures.text, c.association_row-line.ensures.text)
-    (row-behind c.args.listing.format (codes "AA") (no_train c.args.listing.format)
-    (association_fields (c.args.key.now, c.args.body.now)) (no_call c.args.listing))
+returns c =
+    let listing = c.args.led.now.listing in
+    let first = first_field c.args.led.now.first in
+    let fields = association_fields (c.args.key.now, c.args.body.now) in
+    rw (
+      c.push_str.ensures.bytes,
+      c.push_no_call.ensures.text,
+      c.association_row-line.ensures.text,
+      c.as_str.ensures.value,
+      c.beginning.ensures,
+    )
+    (row-behind listing.format (lead listing.format first) (Trimmed, codes "AA") (no_train listing.format) fields (no_call listing)
+    ∙ led-line listing.format first (Trimmed, codes "AA") (no_train listing.format ++ (fields ++ no_call listing)))

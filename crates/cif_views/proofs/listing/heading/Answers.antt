@@ -1,6 +1,7 @@
 -- The names are appended one by one: they are rewritten from the last on, and brought to the right.
 use Rattle.std.proofs.Common.{◌≡◌, ◌∙◌, ◌++◌, List, ℕ, codes, append_assoc}
 use Rattle.cif_views.specs.Listing.{call_names_if, journey_names}
+use Rattle.cif_views.specs.Steps.Rows.{names_behind}
 use Rattle.cif_views.proofs.listing.heading.Goals as goal
 
 five : (a b c d e : List ℕ) → (((a ++ b) ++ c) ++ d) ++ e ≡ a ++ (b ++ (c ++ (d ++ e)))
@@ -17,4 +18,4 @@ returns-in-Tsv c = rw (
   c.new-line.ensures,
   c.call_names.ensures.names,
 )
-    (five c.args.first.now journey_names c.args.others.now (call_names_if c.args.listing) (codes "\n"))
+    (five c.args.first.now (names_behind journey_names) c.args.others.now (names_behind (call_names_if c.args.listing)) (codes "\n"))

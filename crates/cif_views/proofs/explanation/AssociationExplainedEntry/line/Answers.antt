@@ -1,9 +1,12 @@
 -- Fields are appended group by group, and the line joins them (`explained-groups`): they are rewritten from the last on.
-use Rattle.std.proofs.Common.{codes}
+use Rattle.std.proofs.Common.{codes, ◌∙◌}
 use Rattle.cif_calendar.specs.Entries.{association_terms}
 use Rattle.cif_views.specs.Explanation.{explained_association_line, mark_columns, said_of_association, terms_fields}
 use Rattle.cif_canon.specs.Rows.{no_train}
-use Rattle.cif_canon.proofs.ViewLines.{explained-groups}
+use Rattle.cif_canon.specs.Fields.{lead}
+use Rattle.cif_canon.specs.declared.rows.Shape.TheVariants.{Trimmed}
+use Rattle.cif_canon.proofs.ViewLines.{explained-groups, led-line}
+use Rattle.cif_views.specs.Listing.{date_field}
 use Rattle.cif_views.proofs.explanation.AssociationExplainedEntry.line.Goals as goal
 
 pub returns : goal.returns
@@ -13,10 +16,9 @@ returns c place = rw (
   c.push_said_of_association.ensures.text,
   c.push_left_out.ensures.text,
   c.push_terms.ensures.text,
-  c.push_field.ensures.text,
-  c.started-line.ensures.text,
-  c.columns_of.ensures,
+  c.begun-line.ensures.text,
 )
-    (explained-groups c.args.format (mark_columns c.args.mark) (codes "AA") (terms_fields (association_terms c.args.self.now))
+    (explained-groups c.args.format (lead c.args.format (date_field c.args.day)) (Trimmed, mark_columns c.args.mark) (Trimmed, codes "AA") (terms_fields (association_terms c.args.self.now))
     (no_train c.args.format)
-    (said_of_association c.args.format c.args.self.now.key c.args.self.now.body))
+    (said_of_association c.args.format c.args.self.now.key c.args.self.now.body)
+    ∙ led-line c.args.format (date_field c.args.day) (Trimmed, mark_columns c.args.mark) _)

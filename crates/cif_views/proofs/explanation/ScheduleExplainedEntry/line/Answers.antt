@@ -1,9 +1,12 @@
 -- Fields are appended group by group, and the line joins them (`explained-groups`): they are rewritten from the last on.
-use Rattle.std.proofs.Common.{codes}
+use Rattle.std.proofs.Common.{codes, ◌∙◌}
 use Rattle.cif_calendar.specs.Entries.{schedule_terms}
 use Rattle.cif_views.specs.Explanation.{explained_train_line, mark_columns, said_of_train, terms_fields}
 use Rattle.cif_canon.specs.Rows.{no_association}
-use Rattle.cif_canon.proofs.ViewLines.{explained-groups}
+use Rattle.cif_canon.specs.Fields.{lead}
+use Rattle.cif_canon.specs.declared.rows.Shape.TheVariants.{Trimmed}
+use Rattle.cif_canon.proofs.ViewLines.{explained-groups, led-line}
+use Rattle.cif_views.specs.Listing.{date_field}
 use Rattle.cif_views.proofs.explanation.ScheduleExplainedEntry.line.Goals as goal
 
 pub returns : goal.returns
@@ -13,10 +16,9 @@ returns c place = rw (
   c.push_left_out.ensures.text,
   c.push_said_of_train.ensures.text,
   c.push_terms.ensures.text,
-  c.push_field.ensures.text,
-  c.started-line.ensures.text,
-  c.columns_of.ensures,
+  c.begun-line.ensures.text,
 )
-    (explained-groups c.args.format (mark_columns c.args.mark) (codes "BS") (terms_fields (schedule_terms c.args.self.now))
+    (explained-groups c.args.format (lead c.args.format (date_field c.args.day)) (Trimmed, mark_columns c.args.mark) (Trimmed, codes "BS") (terms_fields (schedule_terms c.args.self.now))
     (said_of_train c.args.format c.args.self.now.uid c.args.self.now.body)
-    (no_association c.args.format))
+    (no_association c.args.format)
+    ∙ led-line c.args.format (date_field c.args.day) (Trimmed, mark_columns c.args.mark) _)

@@ -1,0 +1,113 @@
+-- The lines of a canonical form's runs are those of the canonical extract, and what is listed of them.
+use Rattle.std.proofs.Common.{◌≡◌, ℕ, ◌+◌, ◌<◌, List, [], ◌∷◌, ◌++◌, Option, None, Some, map, refl, sym, ap, ◌∙◌, append-nil, arith, get_or}
+use Rattle.std.proofs.Common.{length}
+use Rattle.std.specs.Prelude.{All}
+use Rattle.std.specs.List.{AllZip, enumerate_from, flat_map}
+use Rattle.std.proofs.lemmas.Grind.{flat_map-append}
+use Rattle.std.proofs.lemmas.List.Concat.{flat_map_single}
+use Rattle.std.proofs.lemmas.List.Elements.{All-head, All-tail}
+use Rattle.std.proofs.lemmas.List.FromFn.{get_or-enumerate_from}
+use Rattle.cif_calendar.specs.Entries.{association_entries, schedule_entries}
+use Rattle.cif_calendar.specs.Terms.{Terms}
+use Rattle.cif_columns.specs.Field.{plain_line}
+use Rattle.cif_extract.specs.BodyParts.{BodyParts}
+use Rattle.cif_extract.specs.ExtractParts.{ExtractParts}
+use Rattle.cif_records.specs.Header.{header_table}
+use Rattle.cif_records.specs.declared.association.AssocBody.{AssocBody}
+use Rattle.cif_records.specs.declared.association.AssocKey.{AssocKey}
+use Rattle.cif_records.specs.declared.tiploc.Tiploc.{Tiploc}
+use Rattle.cif_weeks.specs.Permanent.{Permanent}
+use Rattle.cif_weeks.specs.declared.run.Run.{Run}
+use Rattle.cif_canon.specs.Lines.{ScheduleLines, line_of_association, line_of_tiploc, lines_of, lines_of_schedule}
+use Rattle.cif_canon.specs.Steps.Records.{IsRunOf}
+use Rattle.cif_canon.specs.Steps.Texts.{HasRecord, association_plain, canon_lines, numbered_text, of_run, record_at, run_text}
+use Rattle.cif_canon.specs.Steps.Texts.{schedule_plain, text_if}
+use Rattle.cif_canon.proofs.CanonTexts.{texts-of_runs}
+use Rattle.cif_canon.proofs.MadeExtract.{IsDated, associations_of, schedules_of}
+
+-- the lines of associations, and of schedules
+lines-of_associations : (es : List (AssocKey × Permanent AssocBody)) (h : All IsDated es) →
+    map association_plain es ≡ map line_of_association (associations_of es h)
+lines-of_associations [] h = refl
+lines-of_associations ((k, r) ∷ es) h =
+    ap (λ (ls : List (List ℕ)). association_plain (k, r) ∷ ls) (lines-of_associations es (All-tail IsDated (k, r) es h))
+
+lines-of_schedules : (es : List (List ℕ × Permanent BodyParts)) (h : All IsDated es) →
+    map schedule_plain es ≡ map lines_of_schedule (schedules_of es h)
+lines-of_schedules [] h = refl
+lines-of_schedules ((uid, r) ∷ es) h =
+    ap (λ (ls : List ScheduleLines). schedule_plain (uid, r) ∷ ls) (lines-of_schedules es (All-tail IsDated (uid, r) es h))
+
+module _ (x : ExtractParts) (tiplocs : List Tiploc) (associations : List Run) (associated : List (AssocKey × Permanent AssocBody))
+    (dated_associations : All IsDated associated)
+    (zip_associations : AllZip (IsRunOf (association_entries x.associations)) associations associated)
+    (schedules : List Run) (scheduled : List (List ℕ × Permanent BodyParts)) (dated_schedules : All IsDated scheduled)
+    (zip_schedules : AllZip (IsRunOf (schedule_entries x.schedules)) schedules scheduled) where
+  pub written-lines : canon_lines x tiplocs associations schedules ≡ lines_of (record {
+    header = x.header;
+    tiplocs = tiplocs;
+    associations = associations_of associated dated_associations;
+    schedules = schedules_of scheduled dated_schedules;
+  })
+  unfolding canon_lines
+  written-lines =
+      let first = flat_map (of_run association_plain (association_entries x.associations)) associations in
+      let second = flat_map (of_run schedule_plain (schedule_entries x.schedules)) schedules in
+      let associations_are : first ≡ map line_of_association (associations_of associated dated_associations) =
+      texts-of_runs (association_entries x.associations) (λ e. association_plain e ∷ []) associations associated zip_associations
+      ∙ flat_map_single association_plain associated
+      ∙ lines-of_associations associated dated_associations in
+      let schedules_are : second ≡ map lines_of_schedule (schedules_of scheduled dated_schedules) =
+      texts-of_runs (schedule_entries x.schedules) (λ e. schedule_plain e ∷ []) schedules scheduled zip_schedules
+      ∙ flat_map_single schedule_plain scheduled
+      ∙ lines-of_schedules scheduled dated_schedules in
+      ap (λ (ls : List (List ℕ)). record {
+        header = plain_line (header_table x.header);
+        tiplocs = map line_of_tiploc tiplocs;
+        associations = ls;
+        schedules = second;
+      }) associations_are
+      ∙ ap (λ (ls : List ScheduleLines). record {
+        header = plain_line (header_table x.header);
+        tiplocs = map line_of_tiploc tiplocs;
+        associations = map line_of_association (associations_of associated dated_associations);
+        schedules = ls;
+      }) schedules_are
+
+-- what is listed of runs, by what their records have
+module _ {K B C : Type 0} (text : C → List ℕ) (part : K × Permanent B → C) (entries : List (K × Terms B)) where
+  part-text : (o : Option (K × Permanent B)) → text_if (λ e. text (part e)) o ≡ flat_map text (text_if (λ e. part e ∷ []) o)
+  part-text None = refl
+  part-text (Some e) = sym (append-nil (text (part e)))
+
+  pub parts-text : (runs : List Run) →
+      flat_map (run_text (λ e. text (part e)) entries) runs ≡ flat_map text (flat_map (of_run part entries) runs)
+  parts-text [] = refl
+  parts-text (run ∷ runs) =
+      ap (λ (l : List ℕ). l ++ flat_map (run_text (λ e. text (part e)) entries) runs) (part-text (record_at entries run))
+      ∙ ap (λ (l : List ℕ). flat_map text (of_run part entries run) ++ l) (parts-text runs)
+      ∙ sym (flat_map-append text (of_run part entries run) (flat_map (of_run part entries) runs))
+
+-- what is listed of the schedules of runs, with their numbers
+module _ (text : ℕ → ScheduleLines → List ℕ) (entries : List (List ℕ × Terms BodyParts)) where
+  abbrev listed : ℕ × ScheduleLines → List ℕ
+  listed s = text s.0 s.1
+
+  pub numbered-texts : (n : ℕ) (runs : List Run) → All (HasRecord entries) runs →
+      flat_map (numbered_text text entries) (enumerate_from n runs)
+      ≡ flat_map listed (enumerate_from n (flat_map (of_run schedule_plain entries) runs))
+  numbered-texts n [] have = refl
+  numbered-texts n (run ∷ runs) have =
+      let here = All-head (HasRecord entries) run runs have in
+      let rest = flat_map (of_run schedule_plain entries) runs in
+      ap (λ o. text_if (λ e. text n (schedule_plain e)) o ++ flat_map (numbered_text text entries) (enumerate_from (n + 1) runs)) here.is
+      ∙ ap (λ (l : List ℕ). text n (schedule_plain here.it) ++ l)
+      (numbered-texts (n + 1) runs (All-tail (HasRecord entries) run runs have))
+      ∙ ap (λ o. flat_map listed (enumerate_from n (text_if (λ e. schedule_plain e ∷ []) o ++ rest))) (sym here.is)
+
+-- a run with its number, among all
+pub at-number : {A : Type 0} (xs : List A) (n : ℕ) (x : A) → n < length xs → x ≡ get_or xs n x →
+    (n + 1, x) ≡ get_or (enumerate_from 1 xs) n (n + 1, x)
+at-number {A} xs n x within is =
+    let e : n + 1 ≡ 1 + n = omega arith in
+    ap (λ m. (m, x)) e ∙ ap (λ y. (1 + n, y)) is ∙ sym (get_or-enumerate_from 1 xs n (n + 1, x) within)

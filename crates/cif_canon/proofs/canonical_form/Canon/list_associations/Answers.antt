@@ -1,0 +1,19 @@
+-- What is listed of the runs is what is listed of their lines (`parts-text`).
+use Rattle.std.proofs.Common.{ap, ◌∙◌}
+use Rattle.std.specs.List.{flat_map}
+use Rattle.cif_calendar.specs.Entries.{association_entries}
+use Rattle.cif_canon.specs.Canon.{CanonParts}
+use Rattle.cif_canon.specs.Steps.Texts.{association_plain, canon_lines}
+use Rattle.cif_canon.proofs.AppendedTexts.{text-is}
+use Rattle.cif_canon.proofs.CanonLines.{parts-text}
+use Rattle.cif_canon.proofs.canonical_form.Canon.list_associations.Goals as goal
+
+pub returns : goal.returns
+unfolding canon_lines
+returns g c =
+    let e = c.self.inside in
+    let text = g.L.CanonListing.association_text c.args.listing.now in
+    text-is _ _ _ _ _ _
+    (parts-text text association_plain (association_entries e.extract.now.associations.items) e.associations.items
+    ∙ ap (λ (v : CanonParts). flat_map text v.lines.associations) c.self.view_is)
+    (rw (c.as_slice.ensures.value, c.as_slice-2.ensures.value) at c.write_runs.ensures)

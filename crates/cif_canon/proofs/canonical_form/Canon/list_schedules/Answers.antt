@@ -1,0 +1,20 @@
+-- What is listed of the runs is what is listed of their lines, with their numbers (`numbered-texts`).
+use Rattle.std.proofs.Common.{ap, ◌∙◌, ℕ}
+use Rattle.std.specs.List.{enumerate_from, flat_map}
+use Rattle.cif_calendar.specs.Entries.{schedule_entries}
+use Rattle.cif_canon.specs.Canon.{CanonParts}
+use Rattle.cif_canon.specs.Lines.{ScheduleLines}
+use Rattle.cif_canon.specs.Steps.Texts.{canon_lines}
+use Rattle.cif_canon.proofs.AppendedTexts.{text-is}
+use Rattle.cif_canon.proofs.CanonLines.{numbered-texts}
+use Rattle.cif_canon.proofs.canonical_form.Canon.list_schedules.Goals as goal
+
+pub returns : goal.returns
+unfolding canon_lines
+returns g c =
+    let e = c.self.inside in
+    let text = g.L.CanonListing.schedule_text c.args.listing.now in
+    text-is _ _ _ _ _ _
+    (numbered-texts text (schedule_entries e.extract.now.schedules.items) 1 e.schedules.items c.self.invariant.1
+    ∙ ap (λ (v : CanonParts). flat_map (λ (s : ℕ × ScheduleLines). text s.0 s.1) (enumerate_from 1 v.lines.schedules)) c.self.view_is)
+    (rw (c.as_slice.ensures.value, c.as_slice-2.ensures.value) at c.list_runs.ensures)

@@ -1,0 +1,2 @@
+-- ?
+use Rattle.cif_canon.proofs.rows.lead.Goals as goal

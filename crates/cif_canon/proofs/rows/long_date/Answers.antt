@@ -1,0 +1,13 @@
+-- The digits are those of the columns (`date-is`), and can be shown if they can (`printable-date`).
+use Rattle.std.proofs.Common.{subst, sym}
+use Rattle.cif_columns.specs.Line.{ArePrintable}
+use Rattle.cif_canon.proofs.ViewLines.{date-is, printable-date}
+use Rattle.cif_canon.proofs.rows.long_date.Goals as goal
+
+pub returns-clause-text : goal.returns-clause-text
+returns-clause-text c = date-is c.args.yymmdd.now c.century.result c.century.ensures
+
+pub returns-clause-printable : goal.returns-clause-printable
+returns-clause-printable c printable =
+    subst ArePrintable (sym (date-is c.args.yymmdd.now c.century.result c.century.ensures))
+    (printable-date c.args.yymmdd.now c.requires printable)

@@ -1,0 +1,45 @@
+-- The plain lines of an extract, by the kinds of its records.
+use Rattle.std.specs.Prelude.{ℕ, List, map}
+use Rattle.cif_columns.specs.Field.{plain_line}
+use Rattle.cif_extract.specs.ExtractParts.{ExtractParts}
+use Rattle.cif_extract.specs.Texts.{body_tables, rows_on}
+use Rattle.cif_extract.specs.declared.extract.Schedule.{Schedule}
+use Rattle.cif_records.specs.Association.{association_table}
+use Rattle.cif_records.specs.Header.{header_table}
+use Rattle.cif_records.specs.Tiploc.{tiploc_table}
+use Rattle.cif_records.specs.declared.association.Association.{Association}
+use Rattle.cif_records.specs.declared.tiploc.Tiploc.{Tiploc}
+
+-- the lines of a schedule: its BS, and those that follow it, which are its BX if there is one and its journey
+pub record ScheduleLines : Type 0 where
+  pub basic : List ℕ
+  pub further : List (List ℕ)
+
+-- the lines of an extract but for its trailer
+pub record ExtractLines : Type 0 where
+  pub header : List ℕ
+  pub tiplocs : List (List ℕ)
+  pub associations : List (List ℕ)
+  pub schedules : List ScheduleLines
+
+-- the plain line of a location, of an association, and those of a schedule
+abbrev pub line_of_tiploc : Tiploc → List ℕ
+line_of_tiploc t = plain_line (tiploc_table t)
+
+abbrev pub line_of_association : Association → List ℕ
+line_of_association a = plain_line (association_table a)
+
+abbrev pub lines_of_schedule : Schedule → ScheduleLines
+lines_of_schedule s = record {
+  basic = plain_line (rows_on s.first s.last s);
+  further = map plain_line (body_tables s.body);
+}
+
+-- the plain lines of an extract
+abbrev pub lines_of : ExtractParts → ExtractLines
+lines_of x = record {
+  header = plain_line (header_table x.header);
+  tiplocs = map line_of_tiploc x.tiplocs;
+  associations = map line_of_association x.associations;
+  schedules = map lines_of_schedule x.schedules;
+}

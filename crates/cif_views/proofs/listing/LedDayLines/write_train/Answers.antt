@@ -1,0 +1,22 @@
+-- The row's fields and the calls are what is listed of the train (`led-lines`).
+use Rattle.std.proofs.Common.{◌∙◌, ◌++◌, List, ℕ, ap, codes}
+use Rattle.cif_extract.specs.BodyParts.{BodyParts}
+use Rattle.cif_canon.specs.Fields.{fields_text}
+use Rattle.cif_canon.specs.Rows.{no_association, train_fields, train_row}
+use Rattle.cif_canon.specs.declared.rows.Shape.TheVariants.{Trimmed}
+use Rattle.cif_canon.proofs.AppendedTexts.{text-is}
+use Rattle.cif_views.specs.Steps.Rows.{first_field, row_lines}
+use Rattle.cif_views.proofs.CallTexts.{led-lines}
+use Rattle.cif_views.proofs.listing.LedDayLines.write_train.Goals as goal
+
+pub returns : goal.returns
+returns g c =
+    let led = c.args.self.now in
+    let listing = led.listing in
+    let e : List ℕ × BodyParts = (c.args.uid.now, c.args.body.now) in
+    text-is _ _ _ _ _ _
+    (ap (λ row. row_lines listing row c.args.body.now) (c.train_row-row.ensures.text
+    ∙ ap (λ (l : List ℕ). l ++ fields_text listing.format (train_row listing.format e)) (c.as_str.ensures.value ∙ c.beginning.ensures))
+    ∙ led-lines listing (first_field led.first) (Trimmed, codes "BS") (train_fields listing.format e ++ no_association listing.format)
+    c.args.body.now)
+    c.write_row.ensures

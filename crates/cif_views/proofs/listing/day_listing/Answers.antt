@@ -1,0 +1,21 @@
+-- The first line is that of the names (`day-heading`).
+use Rattle.std.proofs.Common.{ℕ, List, subst, ◌∙◌}
+use Rattle.cif_extract.specs.ExtractParts.{extract_parts}
+use Rattle.cif_canon.specs.Normalised.{IfWritten}
+use Rattle.cif_canon.specs.Views.{IsDayListed}
+use Rattle.cif_views.specs.Listing.{association_line, date_field, train_text}
+use Rattle.cif_views.proofs.CallTexts.{day-heading}
+use Rattle.cif_views.proofs.listing.day_listing.Goals as goal
+
+pub returns-clause-view : goal.returns-clause-view
+returns-clause-view g c =
+    let (text, written, listed) = c.write_day.ensures.view in (
+      text,
+      written,
+      subst (λ (heading : List ℕ). IfWritten c.write_day.result (IsDayListed (record {
+        heading = heading;
+        association = association_line c.args.listing (date_field c.args.day);
+        train = train_text c.args.listing (date_field c.args.day);
+      }) (extract_parts c.args.extract.now) c.args.day text))
+          (c.as_str.ensures.value ∙ c.heading-names.ensures ∙ day-heading c.args.listing) listed,
+    )

@@ -1,0 +1,16 @@
+-- The tab and the columns go behind the bytes (`row-more`).
+use Rattle.std.proofs.Common.{◌++◌, ◌∷◌, ◌∙◌, ℕ, List, ap, arith, length, take}
+use Rattle.std.proofs.lemmas.List.{length-take-le}
+use Rattle.cif_views.proofs.TableRows.{row-more}
+use Rattle.cif_views.proofs.table_row.TableRow.push_columns.Goals as goal
+
+pub returns : goal.returns
+returns c =
+    let row = c.self.inside in
+    let room = c.requires.room in
+    let told = c.self.told in
+    let size = ap length c.self.view_is in
+    let kept = length-take-le row.len row.bytes (omega (arith, c.self.invariant, told)) in
+    row-more row.bytes c.args.columns.now c.copy_from_slice.new.self row.len c.args.count _ (omega (arith, room, told, size, kept))
+    c.copy_from_slice.ensures.after c.requires.count
+    ∙ ap (λ (l : List ℕ). l ++ (9 ∷ take c.args.count c.args.columns.now)) c.self.view_is

@@ -1,0 +1,26 @@
+-- One field goes behind another (`one-pushed`).
+use Rattle.std.proofs.Common.{[], ◌++◌, ◌∙◌, List, ap, refl, sym}
+use Rattle.cif_columns.specs.Field.{columns}
+use Rattle.cif_canon.specs.Fields.{Field, after}
+use Rattle.cif_canon.specs.declared.rows.Format.TheVariants.{Tsv}
+use Rattle.cif_canon.specs.declared.rows.Shape.TheVariants.{Trimmed}
+use Rattle.cif_views.proofs.TableRows.{none-pushed, one-pushed, origin-fields}
+use Rattle.cif_views.proofs.tables.push_origin.Goals as goal
+
+pub returns-clause-text : goal.returns-clause-text
+returns-clause-text c =
+    let line = c.args.line.now in
+    let h0 = none-pushed c.args.row.now in
+    let h1 = one-pushed _ _ _ _ Trimmed [] [] h0 c.push_nothing.ensures.text refl in
+    let h2 = one-pushed _ _ _ _ Trimmed _ (columns 11 15 line) h1 c.push.ensures.text c.columns_at.ensures.value in
+    let h3 = one-pushed _ _ _ _ Trimmed [] [] h2 c.push_nothing-2.ensures.text refl in
+    let h4 = one-pushed _ _ _ _ Trimmed [] [] h3 c.push_nothing-3.ensures.text refl in
+    let h5 = one-pushed _ _ _ _ Trimmed _ (columns 16 19 line) h4 c.push-2.ensures.text c.columns_at-2.ensures.value in
+    let h6 = one-pushed _ _ _ _ Trimmed _ (columns 20 22 line) h5 c.push-3.ensures.text c.columns_at-3.ensures.value in
+    let h7 = one-pushed _ _ _ _ Trimmed _ (columns 23 25 line) h6 c.push-4.ensures.text c.columns_at-4.ensures.value in
+    let h8 = one-pushed _ _ _ _ Trimmed [] [] h7 c.push_nothing-4.ensures.text refl in
+    let h9 = one-pushed _ _ _ _ Trimmed _ (columns 30 41 line) h8 c.push-5.ensures.text c.columns_at-5.ensures.value in
+    let h10 = one-pushed _ _ _ _ Trimmed _ (columns 26 27 line) h9 c.push-6.ensures.text c.columns_at-6.ensures.value in
+    let h11 = one-pushed _ _ _ _ Trimmed _ (columns 28 29 line) h10 c.push-7.ensures.text c.columns_at-7.ensures.value in
+    let h12 = one-pushed _ _ _ _ Trimmed _ (columns 42 43 line) h11 c.push-8.ensures.text c.columns_at-8.ensures.value in
+    h12.text ∙ ap (λ (fields : List Field). c.args.row.now ++ after Tsv fields) (sym (origin-fields line c.requires.kind))

@@ -1,0 +1,26 @@
+-- The line of the names goes first, and then the rows, by the table.
+use Rattle.std.proofs.Common.{ap, sym, ◌∙◌}
+use Rattle.std.specs.List.{flat_map}
+use Rattle.cif_canon.specs.Appended.{IsAppended}
+use Rattle.cif_canon.proofs.AppendedTexts.{answered, both, text-is}
+use Rattle.cif_views.specs.Tables.{header_fields, row_line, table_heading, table_rows, table_text, tiploc_fields}
+use Rattle.cif_views.proofs.TableRows.{listed-rows}
+use Rattle.cif_views.proofs.tables.write_table.Goals as goal
+use Rattle.cif_views.proofs.tables.write_table.Goals.{in-Header, in-Tiplocs, in-Associations, in-Schedules}
+
+pub returns-clause-writes : goal.returns-clause-writes
+unfolding table_text
+returns-clause-writes g c =
+    let table = c.args.table in
+    let x = c.args.canon.now.lines in
+    let rows : IsAppended g.W.Write.contents g.W.WriteDevice.write_errors (table_rows table x) c.append.new.sink c.match-table.sink =
+    elim c.match-table.branch [
+      | in-Header w ↦ rw (w.in-Header.is, w.sink-is)
+          (text-is _ _ _ _ _ _ (ap (row_line header_fields) w.header_line.ensures) w.write_header.ensures)
+      | in-Tiplocs w ↦ rw (w.in-Tiplocs.is, w.sink-is)
+          (text-is _ _ _ _ _ _ (ap (flat_map (row_line tiploc_fields)) w.tiplocs.ensures) w.write_tiplocs.ensures)
+      | in-Associations w ↦ rw (w.in-Associations.is, w.sink-is) w.list_associations.ensures
+      | in-Schedules w ↦ rw w.sink-is (text-is _ _ _ _ _ _ (listed-rows table x w.in-Schedules.is) w.list_schedules.ensures)
+    ] in
+    answered _ _ _ _ _ c.answer.result c.answer.ensures.ok c.answer.ensures.failed
+    (both _ _ (table_heading table) (table_rows table x) _ _ _ (text-is _ _ _ _ _ _ c.heading.ensures c.append.ensures) rows)

@@ -1,0 +1,12 @@
+-- What is written is the rows of the locations so far.
+use Rattle.std.proofs.Common.{take}
+use Rattle.std.specs.List.{flat_map}
+use Rattle.cif_canon.specs.Appended.{IsAppended}
+use Rattle.cif_canon.specs.Lines.{line_of_tiploc}
+use Rattle.cif_views.specs.Tables.{row_line, tiploc_fields}
+use Rattle.cif_views.proofs.tables.write_tiplocs.Given as goal
+
+abbrev pub invariant-loop-tiploc : goal.invariant-loop-tiploc
+invariant-loop-tiploc g l =
+    IsAppended g.W.Write.contents g.W.WriteDevice.write_errors
+    (flat_map (λ t. row_line tiploc_fields (line_of_tiploc t)) (take l.tiploc-index l.tiplocs)) l.initial.sink l.sink
