@@ -36,6 +36,14 @@ impl<'a> Model for CanonSchedule<'a> {
 }
 
 impl<'a> CanonSchedule<'a> {
+    /// The schedule of a run, with this UID and body.
+    pub(crate) fn of(uid: &'a Uid, body: &'a Body, run: &'a Run) -> CanonSchedule<'a>
+        requires { run.now.first ≤ run.now.last }
+        ensures { result ≡ schedule_plain (uid.now, record_of run.now body.now) }
+    {
+        CanonSchedule { uid, body, run }
+    }
+
     /// The line of its BS.
     pub fn basic(&self) -> Line
         ensures { result ≡ self.now.basic }

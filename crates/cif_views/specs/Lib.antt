@@ -1,5 +1,6 @@
 pub mod Calls
 pub mod Clashes
+pub mod DifferenceTable
 pub mod Explanation
 pub mod Listing
 pub mod Steps

@@ -4,6 +4,7 @@
 
 mod calls;
 mod clash_list;
+mod difference_table;
 mod explanation;
 mod find_clashes;
 pub mod laws;
@@ -13,6 +14,7 @@ mod table_row;
 mod tables;
 
 pub use clash_list::Clashes;
+pub use difference_table::write_difference_table;
 pub use explanation::{explain_listing, explain_view};
 pub use find_clashes::clashes;
 pub use listing::{Listing, day_listing, train_listing};
