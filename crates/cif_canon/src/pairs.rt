@@ -1,11 +1,16 @@
 //! Differences by pairs, line by line.
-ghost use Rattle.std.specs.Prelude.{◌≡◌, ◌<◌, ◌++◌, All, IsTrue, length, map, slice_index};
+ghost use Rattle.std.specs.Prelude.{◌≡◌, ◌<◌, ◌≤◌, ◌++◌, All, None, Some, length};
 ghost use Rattle.std.specs.List.{flat_map};
+ghost use Rattle.cif_calendar.specs.Keys.{keyed};
+ghost use Rattle.cif_weeks.specs.Permanent.{Permanent};
+ghost use Rattle.cif_weeks.specs.Runs.{record_of};
 ghost use Rattle.cif_canon.specs.Appended.{IsAppended};
-ghost use Rattle.cif_canon.specs.Pairs.{association_lines, schedule_lines, tiploc_lines};
+ghost use Rattle.cif_canon.specs.Differences.{at_side};
+ghost use Rattle.cif_canon.specs.Pairs.{are_pair, association_lines, by_pairs, schedule_lines, tiploc_lines};
+ghost use Rattle.cif_canon.specs.Steps.Sides.{HasSidedRecord, sided_records};
+ghost use Rattle.cif_canon.specs.Steps.Texts.{HasRecord, record_at};
 
 use crate::canon_lines::CanonSchedule;
-use crate::canonical_form::body_of;
 use crate::listed_differences::{Differences, Side, Sided};
 use cif_calendar::Entry;
 use cif_columns::{Line, Sink, WriteDevice};
@@ -82,15 +87,15 @@ pub fn list_differences<L: DifferenceListing, W: WriteDevice>(
         listing.write_tiploc(tiploc.side, &tiploc.it.write(), sink);
     }
     let (left, right) = (found.left, found.right);
-    list_associations(
-        listing,
+    write_pairs(
+        &ListedPairs { listing },
         left.associations.as_slice(),
         right.associations.as_slice(),
         found.associations.as_slice(),
         sink,
     );
-    list_schedules(
-        listing,
+    write_pairs(
+        &ListedPairs { listing },
         left.schedules.as_slice(),
         right.schedules.as_slice(),
         found.schedules.as_slice(),
@@ -98,88 +103,189 @@ pub fn list_differences<L: DifferenceListing, W: WriteDevice>(
     );
 }
 
-/// Whether the two runs are the left and the right one of a pair.
-fn are_pair<E: Entry>(left: &[E], right: &[E], one: &Sided<Run>, other: &Sided<Run>) -> bool {
-    one.side == Side::Left
-        && other.side == Side::Right
-        && one.it.first == other.it.first
-        && one.it.last == other.it.last
-        && one.it.days == other.it.days
-        && left[one.it.source].key() == right[other.it.source].key()
+/// A record of an entry with this key and body, with the dates and the mask of the run.
+#[derive(Clone, Copy)]
+struct RecordOf<'a, E: Entry> {
+    key: &'a E::Key,
+    body: &'a E::Body,
+    run: &'a Run,
 }
 
-/// Appends what is listed of the runs' associations.
-fn list_associations<L: DifferenceListing, W: WriteDevice>(
-    listing: &L,
-    left: &[Association],
-    right: &[Association],
+/// What is written of records and of pairs of them.
+trait PairLines<E: Entry> {
+    ghost use Rattle.std.specs.Prelude.{ℕ, List};
+    ghost use Rattle.cif_weeks.specs.Permanent.{Permanent};
+    ghost use Rattle.cif_canon.specs.Pairs.{Listed};
+    ghost use Rattle.cif_canon.specs.declared.listed_differences.Side.TheVariants.{Left};
+
+    // The text of what is listed.
+    ghost text: { Self → Listed (E.Key × Permanent E.Body) → List ℕ };
+
+    /// Appends the text of a record without a partner.
+    fn write_one<W: WriteDevice>(&self, side: Side, one: RecordOf<'_, E>, sink: &mut Sink<W>)
+        requires in_order { one.run.now.first ≤ one.run.now.last }
+        ensures { IsAppended W.contents W.write_errors
+            (text self.now (record { side = side; it = (one.key.now, record_of one.run.now one.body.now) }, None))
+            sink.old sink.new };
+
+    /// Appends the text of a pair.
+    fn write_pair<W: WriteDevice>(
+        &self,
+        left: RecordOf<'_, E>,
+        right: RecordOf<'_, E>,
+        sink: &mut Sink<W>,
+    )
+        requires left_in_order { left.run.now.first ≤ left.run.now.last }
+        requires right_in_order { right.run.now.first ≤ right.run.now.last }
+        ensures { IsAppended W.contents W.write_errors
+            (text self.now (
+              record { side = Left; it = (left.key.now, record_of left.run.now left.body.now) },
+              Some (right.key.now, record_of right.run.now right.body.now),
+            )) sink.old sink.new };
+}
+
+/// Appends what is written of the runs' records, by pairs.
+fn write_pairs<E: Entry, L: PairLines<E>, W: WriteDevice>(
+    lines: &L,
+    left: &[E],
+    right: &[E],
     runs: &[Sided<Run>],
     sink: &mut Sink<W>,
-) {
+)
+    requires within { All (λ run. run.it.source < length (at_side left.now right.now run.side)) runs.now }
+    requires records { All (HasSidedRecord (keyed E.key E.terms left.now) (keyed E.key E.terms right.now)) runs.now }
+    ensures { IsAppended W.contents W.write_errors
+        (flat_map (L.text lines.now) (by_pairs E.Key.cmp
+        (sided_records (keyed E.key E.terms left.now) (keyed E.key E.terms right.now) runs.now)))
+        sink.old sink.new }
+{
     let mut rest = runs;
     while let [run, others @ ..] = rest {
+        let one = record_of(entries_of(left, right, run.side), &run.it);
         rest = others;
-        if let [other, later @ ..] = others {
-            if are_pair(left, right, run, other) {
-                let (one, two) = (line_of(left, &run.it), line_of(right, &other.it));
-                listing.write_associations(&one, &two, sink);
+        if let [next, later @ ..] = others {
+            let other = record_of(entries_of(left, right, next.side), &next.it);
+            if are_pair(run.side, one, next.side, other) {
+                lines.write_pair(one, other, sink);
                 rest = later;
                 continue;
             }
         }
-        let line = line_of(entries_of(left, right, run.side), &run.it);
-        listing.write_association(run.side, &line, sink);
-    }
-}
-
-/// Appends what is listed of the runs' schedules.
-fn list_schedules<L: DifferenceListing, W: WriteDevice>(
-    listing: &L,
-    left: &[Schedule],
-    right: &[Schedule],
-    runs: &[Sided<Run>],
-    sink: &mut Sink<W>,
-) {
-    let mut rest = runs;
-    while let [run, others @ ..] = rest {
-        rest = others;
-        if let [other, later @ ..] = others {
-            if are_pair(left, right, run, other) {
-                let (one, two) = (lines_of(left, &run.it), lines_of(right, &other.it));
-                listing.write_schedules(&one, &two, sink);
-                rest = later;
-                continue;
-            }
-        }
-        let lines = lines_of(entries_of(left, right, run.side), &run.it);
-        listing.write_schedule(run.side, &lines, sink);
+        lines.write_one(run.side, one, sink);
     }
 }
 
 /// The entries of a side.
-fn entries_of<'a, E>(left: &'a [E], right: &'a [E], side: Side) -> &'a [E] {
+fn entries_of<'a, E>(left: &'a [E], right: &'a [E], side: Side) -> &'a [E]
+    ensures { result.now ≡ at_side left.now right.now side }
+{
     match side {
         Side::Left => left,
         Side::Right => right,
     }
 }
 
-/// The line of the run's association.
-fn line_of(associations: &[Association], run: &Run) -> Line {
-    let association = &associations[run.source];
-    match &association.body {
-        Some(body) => Association::permanent_line(
-            &association.key,
+/// The record of a run.
+fn record_of<'a, E: Entry>(entries: &'a [E], run: &'a Run) -> RecordOf<'a, E>
+    requires within { run.now.source < length entries.now }
+    requires record { HasRecord (keyed E.key E.terms entries.now) run.now }
+    ensures run { result.run.now ≡ run.now }
+    ensures record { record_at (keyed E.key E.terms entries.now) run.now
+        ≡ Some (result.key.now, record_of run.now result.body.now) }
+{
+    let entry = &entries[run.source];
+    match entry.body() {
+        Some(body) => RecordOf {
+            key: entry.key(),
             body,
-            run.first,
-            run.last,
-            run.days,
-        ),
+            run,
+        },
         None => unreachable!(),
     }
 }
 
-/// The run's schedule.
-fn lines_of<'a>(schedules: &'a [Schedule], run: &'a Run) -> CanonSchedule<'a> {
-    CanonSchedule::of(&schedules[run.source].uid, body_of(schedules, run), run)
+/// Whether two records, of which the other is the next, are a pair.
+fn are_pair<E: Entry>(
+    side: Side,
+    one: RecordOf<'_, E>,
+    other_side: Side,
+    other: RecordOf<'_, E>,
+) -> bool
+    ensures { result ≡ are_pair E.Key.cmp
+        (record { side = side; it = (one.key.now, record_of one.run.now one.body.now) })
+        (record { side = other_side; it = (other.key.now, record_of other.run.now other.body.now) }) }
+{
+    side == Side::Left
+        && other_side == Side::Right
+        && one.key == other.key
+        && one.run.first == other.run.first
+        && one.run.last == other.run.last
+        && one.run.days == other.run.days
+}
+
+/// What is listed of records, by their lines.
+#[derive(Drop)]
+struct ListedPairs<'a, L> {
+    listing: &'a L,
+}
+
+impl<'a, L: DifferenceListing> PairLines<Association> for ListedPairs<'a, L> {
+    ghost use Rattle.cif_canon.specs.Pairs.{listed_as};
+    ghost use Rattle.cif_canon.specs.Steps.Texts.{association_plain};
+
+    ghost text = { λ lines e. L.association_text lines.listing.now (listed_as association_plain e) };
+
+    fn write_one<W: WriteDevice>(
+        &self,
+        side: Side,
+        one: RecordOf<'_, Association>,
+        sink: &mut Sink<W>,
+    ) {
+        self.listing
+            .write_association(side, &association_line(one), sink);
+    }
+
+    fn write_pair<W: WriteDevice>(
+        &self,
+        left: RecordOf<'_, Association>,
+        right: RecordOf<'_, Association>,
+        sink: &mut Sink<W>,
+    ) {
+        let (one, other) = (association_line(left), association_line(right));
+        self.listing.write_associations(&one, &other, sink);
+    }
+}
+
+impl<'a, L: DifferenceListing> PairLines<Schedule> for ListedPairs<'a, L> {
+    ghost use Rattle.cif_canon.specs.Pairs.{listed_as};
+    ghost use Rattle.cif_canon.specs.Steps.Texts.{schedule_plain};
+
+    ghost text = { λ lines e. L.schedule_text lines.listing.now (listed_as schedule_plain e) };
+
+    fn write_one<W: WriteDevice>(
+        &self,
+        side: Side,
+        one: RecordOf<'_, Schedule>,
+        sink: &mut Sink<W>,
+    ) {
+        let schedule = CanonSchedule::of(one.key, one.body, one.run);
+        self.listing.write_schedule(side, &schedule, sink);
+    }
+
+    fn write_pair<W: WriteDevice>(
+        &self,
+        left: RecordOf<'_, Schedule>,
+        right: RecordOf<'_, Schedule>,
+        sink: &mut Sink<W>,
+    ) {
+        let one = CanonSchedule::of(left.key, left.body, left.run);
+        let other = CanonSchedule::of(right.key, right.body, right.run);
+        self.listing.write_schedules(&one, &other, sink);
+    }
+}
+
+/// The line of an association.
+fn association_line(one: RecordOf<'_, Association>) -> Line {
+    let run = one.run;
+    Association::permanent_line(one.key, one.body, run.first, run.last, run.days)
 }

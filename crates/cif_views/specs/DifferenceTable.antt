@@ -1,5 +1,5 @@
 -- The table of the differences of two extracts: a line of names, and then its rows.
-use Rattle.std.specs.Prelude.{ℕ, List, [], ◌∷◌, ◌++◌, Bool, ◌||◌, None, Some, codes, drop, length, map, nat_eq, replicate, take, if◌then◌else◌}
+use Rattle.std.specs.Prelude.{ℕ, List, [], ◌∷◌, ◌++◌, Bool, None, Some, codes, drop, length, map, nat_eq, replicate, take, if◌then◌else◌}
 use Rattle.std.specs.List.{filter, flat_map}
 use Rattle.std.specs.Cmp.Lexicographic.{pointwise}
 use Rattle.cif_columns.specs.Field.{columns}
@@ -12,7 +12,7 @@ use Rattle.cif_canon.specs.declared.listed_differences.Side.TheVariants.{Left, R
 use Rattle.cif_canon.specs.declared.listed_differences.Sided.{Sided}
 use Rattle.cif_canon.specs.declared.rows.Format.TheVariants.{Tsv}
 use Rattle.cif_canon.specs.declared.rows.Shape.TheVariants.{Trimmed}
-use Rattle.cif_views.specs.Tables.{Numbered, TableFields, association_fields, call_fields, change_fields, date_at, is_call, is_change}
+use Rattle.cif_views.specs.Tables.{Numbered, TableFields, association_fields, call_fields, change_fields, date_at, is_call, is_change, is_extra}
 use Rattle.cif_views.specs.Tables.{kind_of_line, names_line, number, numbered_from, numbered_schedule, schedule_fields, text_at, whole_at}
 
 abbrev pub text : List ℕ → Field
@@ -108,9 +108,13 @@ association_rows (s, Some right) =
     differing_rows (association_head changed s.it) (in_record (codes "AA")) (take 2 (drop 5 association_fields) ++ drop 10 association_fields)
     s.it right
 
--- the calls and changes of a schedule, in their order, with the numbers of the calls
+-- the lines of a journey: those of a schedule behind its BX, if it has one; with the numbers of the calls
+abbrev pub without_extra : List (List ℕ) → List (List ℕ)
+without_extra [] = []
+without_extra (line ∷ lines) = if is_extra line then lines else line ∷ lines
+
 abbrev pub journey_of : ScheduleLines → List Numbered
-journey_of s = filter (λ p. is_call (kind_of_line p.line) || is_change (kind_of_line p.line)) (numbered_from 0 1 s.further)
+journey_of s = numbered_from 0 1 (without_extra s.further)
 
 -- a call's or a change's identity, location and suffix
 abbrev pub place_columns : Numbered → List ℕ

@@ -1,12 +1,18 @@
 //! The table of the differences of two extracts.
-ghost use Rattle.std.specs.Prelude.{◌≡◌, IfErr};
+ghost use Rattle.std.specs.Prelude.{◌≡◌, ◌<◌, ◌≤◌, ◌+◌, ◌++◌, [], ◌∷◌, IfErr, IsTrue, codes, cond, length, map, nat_eq, replicate};
+ghost use Rattle.std.specs.Cmp.Lexicographic.{pointwise};
+ghost use Rattle.cif_columns.specs.Field.{columns};
 ghost use Rattle.cif_columns.specs.Sink.{Writes};
 ghost use Rattle.cif_extract.specs.declared.fault.Fault.TheVariants.{Write};
 ghost use Rattle.cif_canon.specs.Appended.{IsAppended};
-ghost use Rattle.cif_views.specs.DifferenceTable.{difference_table};
+ghost use Rattle.cif_canon.specs.Fields.{after, nothing};
+ghost use Rattle.cif_canon.specs.declared.rows.Format.TheVariants.{Tsv};
+ghost use Rattle.cif_views.specs.DifferenceTable.{changed, change_of, difference_table, differing_rows, single_row, without_extra};
+ghost use Rattle.cif_views.specs.Steps.DifferenceRows.{are_named, count_of_calls, head_fields, journeys_of, lines_rows};
+ghost use Rattle.cif_views.specs.Steps.DifferenceRows.{named_fields, place_of, same_places, stands_of};
 
 use crate::table_row::TableRow;
-use crate::tables::{JourneyKind, extra_among, kind_of_line};
+use crate::tables::{JourneyKind, call_after, extra_among, kind_of_line};
 use cif_canon::writing::{answer, append};
 use cif_canon::{CanonSchedule, DifferenceListing, Differences, Shape, Side, list_differences};
 use cif_columns::{Line, LineSlice, Sink, WriteDevice, columns_at};
@@ -45,7 +51,7 @@ const BASIC: [Named; 17] = [
     ("branding", 75, 78),
 ];
 
-/// Whether there is a BX, which a BS tells.
+/// What stands for a BX: its identity.
 const WITH_EXTRA: [Named; 1] = [("extra", 1, 2)];
 
 /// Those of BX.
@@ -150,16 +156,17 @@ impl DifferenceListing for DifferenceTable {
     ghost schedule_text = { λ table. schedule_rows };
 
     fn write_tiploc<W: WriteDevice>(&self, side: Side, line: &Line, sink: &mut Sink<W>) {
-        write_single(Head::Tiploc(change_of(side), line), sink);
+        write_single(RowKind::Tiploc, change_of(side), line, sink);
     }
 
     fn write_association<W: WriteDevice>(&self, side: Side, line: &Line, sink: &mut Sink<W>) {
-        write_single(Head::Association(change_of(side), line), sink);
+        write_single(RowKind::Association, change_of(side), line, sink);
     }
 
     fn write_associations<W: WriteDevice>(&self, left: &Line, right: &Line, sink: &mut Sink<W>) {
-        let head = Head::Association("<>", left);
-        write_differing(head, Stands::In("AA"), &ASSOCIATION, left, right, sink);
+        let stands = Stands::of(None, b"AA", b"");
+        let kind = RowKind::Association;
+        write_differing(kind, left, &stands, &ASSOCIATION, left, right, sink);
     }
 
     fn write_schedule<W: WriteDevice>(
@@ -168,7 +175,7 @@ impl DifferenceListing for DifferenceTable {
         schedule: &CanonSchedule<'_>,
         sink: &mut Sink<W>,
     ) {
-        write_single(Head::Schedule(change_of(side), &schedule.basic()), sink);
+        write_single(RowKind::Schedule, change_of(side), &schedule.basic(), sink);
     }
 
     fn write_schedules<W: WriteDevice>(
@@ -178,63 +185,89 @@ impl DifferenceListing for DifferenceTable {
         sink: &mut Sink<W>,
     ) {
         let (one, other) = (left.basic(), right.basic());
-        let head = Head::Schedule("<>", &one);
-        write_differing(head, Stands::In("BS"), &BASIC, &one, &other, sink);
         let (lefts, rights) = (left.further(), right.further());
         let (extra, other_extra) = (extra_among(&lefts), extra_among(&rights));
+        let (of_basic, of_extra) = (Stands::of(None, b"BS", b""), Stands::of(None, b"BX", b""));
+        let kind = RowKind::Schedule;
+        write_differing(kind, &one, &of_basic, &BASIC, &one, &other, sink);
         write_differing(
-            head,
-            Stands::In("BS"),
+            kind,
+            &one,
+            &of_basic,
             &WITH_EXTRA,
             &extra,
             &other_extra,
             sink,
         );
-        write_differing(head, Stands::In("BX"), &EXTRA, &extra, &other_extra, sink);
-        write_journeys(head, &journey_among(lefts), &journey_among(rights), sink);
+        write_differing(kind, &one, &of_extra, &EXTRA, &extra, &other_extra, sink);
+        write_journeys(&one, &journey_among(lefts), &journey_among(rights), sink);
     }
 }
 
 /// What says which side has it.
-fn change_of(side: Side) -> &'static str {
+fn change_of(side: Side) -> &'static str
+    ensures text { result.now ≡ (change_of side).1 }
+    ensures len { length result.now ≡ 1 }
+{
     match side {
         Side::Left => "<",
         Side::Right => ">",
     }
 }
 
-/// What the rows of a record begin with: the change, and its line.
+/// The kinds of row.
 #[derive(Clone, Copy)]
-enum Head<'a> {
-    /// A location.
-    Tiploc(&'static str, &'a Line),
-    /// An association.
-    Association(&'static str, &'a Line),
-    /// A schedule, by its BS.
-    Schedule(&'static str, &'a Line),
+pub(crate) enum RowKind {
+    /// Of a location.
+    Tiploc,
+    /// Of an association.
+    Association,
+    /// Of a schedule.
+    Schedule,
 }
 
-/// Where a field of a pair stands.
+/// Where a field of a pair stands: the number of its call, if it is in one, the identity of its
+/// record, and its location.
 #[derive(Clone, Copy)]
-enum Stands<'a> {
-    /// In a record with this identity.
-    In(&'static str),
-    /// In the line of a call or of a change, with the number of the call.
-    At(usize, &'a Line),
-    /// In no record.
-    Nowhere,
+pub(crate) struct Stands<'a> {
+    call: Option<usize>,
+    identity: &'a [u8],
+    place: &'a [u8],
 }
 
-/// Appends the fields up to the days run.
-fn push_head(row: &mut TableRow, head: Head<'_>) {
-    match head {
-        Head::Tiploc(change, line) => {
-            push_kind(row, change, b"TI");
+impl<'a> Stands<'a> {
+    /// There.
+    fn of(call: Option<usize>, identity: &'a [u8], place: &'a [u8]) -> Stands<'a>
+        ensures { stands_of result ≡ record {
+          call = place_of call;
+          identity = (Shape.Trimmed, identity.now);
+          place = (Shape.Trimmed, place.now);
+        } }
+    {
+        Stands {
+            call,
+            identity,
+            place,
+        }
+    }
+}
+
+/// Appends the fields up to the days run. The line is that of the record, or its BS.
+fn push_head(row: &mut TableRow, kind: RowKind, change: &str, line: &Line)
+    requires empty { row.old ≡ [] }
+    requires change { length change.now ≤ 2 }
+    ensures text { row.new ≡ after Tsv (head_fields kind (Shape.Trimmed, change.now) line.now) }
+    ensures len { length row.new ≤ 75 }
+{
+    row.push(Shape::Trimmed, change.as_bytes());
+    match kind {
+        RowKind::Tiploc => {
+            row.push(Shape::Trimmed, b"TI");
             row.push(Shape::Trimmed, &columns_at::<7>(line, 3));
             push_nothing(row, 8);
         }
-        Head::Association(change, line) => {
-            push_kind(row, change, b"AA");
+        RowKind::Association => {
+            row.push(Shape::Trimmed, b"AA");
             row.push_nothing();
             row.push(Shape::Whole, &columns_at::<6>(line, 4));
             row.push(Shape::Whole, &columns_at::<6>(line, 10));
@@ -245,8 +278,8 @@ fn push_head(row: &mut TableRow, head: Head<'_>) {
             row.push(Shape::Date, &columns_at::<6>(line, 22));
             row.push(Shape::Trimmed, &columns_at::<7>(line, 28));
         }
-        Head::Schedule(change, line) => {
-            push_kind(row, change, b"BS");
+        RowKind::Schedule => {
+            row.push(Shape::Trimmed, b"BS");
             row.push_nothing();
             row.push(Shape::Whole, &columns_at::<6>(line, 4));
             push_nothing(row, 4);
@@ -257,58 +290,69 @@ fn push_head(row: &mut TableRow, head: Head<'_>) {
     }
 }
 
-/// Appends the change and the kind of record.
-fn push_kind(row: &mut TableRow, change: &str, kind: &[u8; 2]) {
-    row.push(Shape::Trimmed, change.as_bytes());
-    row.push(Shape::Trimmed, kind);
-}
-
 /// Appends so many empty fields.
-fn push_nothing(row: &mut TableRow, count: usize) {
+fn push_nothing(row: &mut TableRow, count: usize)
+    requires { length row.old + count ≤ 200 }
+    ensures text { row.new ≡ row.old ++ after Tsv (replicate count nothing) }
+    ensures len { length row.new ≡ length row.old + count }
+{
     for _ in 0..count {
         row.push_nothing();
     }
 }
 
 /// Appends the row of what only one side has.
-fn write_single<W: WriteDevice>(head: Head<'_>, sink: &mut Sink<W>) {
+fn write_single<W: WriteDevice>(kind: RowKind, change: &str, line: &Line, sink: &mut Sink<W>)
+    requires { length change.now ≤ 2 }
+    ensures { IsAppended W.contents W.write_errors
+        (single_row (head_fields kind (Shape.Trimmed, change.now) line.now)) sink.old sink.new }
+{
     let mut row = TableRow::new();
-    push_head(&mut row, head);
+    push_head(&mut row, kind, change, line);
     push_nothing(&mut row, 6);
     row.write(sink);
 }
 
 /// Appends the call, the record and the place of a field.
-fn push_stands(row: &mut TableRow, stands: Stands<'_>) {
-    match stands {
-        Stands::In(identity) => {
-            row.push_nothing();
-            row.push(Shape::Trimmed, identity.as_bytes());
-            row.push_nothing();
-        }
-        Stands::At(call, line) => {
-            row.push_number(call);
-            row.push(Shape::Trimmed, &columns_at::<2>(line, 1));
-            row.push(Shape::Trimmed, &columns_at::<7>(line, 3));
-        }
-        Stands::Nowhere => push_nothing(row, 3),
+fn push_stands(row: &mut TableRow, stands: &Stands<'_>)
+    requires room { length row.old ≤ 75 }
+    requires identity { length stands.now.identity.now ≤ 2 }
+    requires place { length stands.now.place.now ≤ 7 }
+    ensures text { row.new ≡ row.old ++ after Tsv
+        ((stands_of stands.now).call ∷ (stands_of stands.now).identity ∷ (stands_of stands.now).place ∷ []) }
+    ensures len { length row.new ≤ 130 }
+{
+    match stands.call {
+        Some(call) => row.push_number(call),
+        None => row.push_nothing(),
     }
+    row.push(Shape::Trimmed, stands.identity);
+    row.push(Shape::Trimmed, stands.place);
 }
 
-/// Appends a row for each of the fields whose columns differ.
+/// Appends a row for each of the fields whose columns differ. The first line is that of the pair's
+/// left record, or its BS.
 fn write_differing<W: WriteDevice>(
-    head: Head<'_>,
-    stands: Stands<'_>,
+    kind: RowKind,
+    record: &Line,
+    stands: &Stands<'_>,
     fields: &[Named],
     left: &Line,
     right: &Line,
     sink: &mut Sink<W>,
-) {
+)
+    requires fields { IsTrue (are_named fields.now) }
+    requires identity { length stands.now.identity.now ≤ 2 }
+    requires place { length stands.now.place.now ≤ 7 }
+    ensures { IsAppended W.contents W.write_errors
+        (differing_rows (head_fields kind changed record.now) (stands_of stands.now) (named_fields fields.now)
+        left.now right.now) sink.old sink.new }
+{
     let mut row = TableRow::new();
     for field in fields {
         let (one, other) = (columns_of(left, field), columns_of(right, field));
         if one != other {
-            push_head(&mut row, head);
+            push_head(&mut row, kind, "<>", record);
             push_stands(&mut row, stands);
             row.push(Shape::Trimmed, field.0.as_bytes());
             row.push(Shape::Trimmed, one);
@@ -319,12 +363,19 @@ fn write_differing<W: WriteDevice>(
 }
 
 /// The columns of the field.
-fn columns_of<'a>(line: &'a Line, field: &Named) -> &'a [u8] {
+fn columns_of<'a>(line: &'a Line, field: &Named) -> &'a [u8]
+    requires from_one { 1 ≤ field.now.1 }
+    requires in_order { field.now.1 ≤ field.now.2 }
+    requires within { field.now.2 ≤ 80 }
+    ensures { result.now ≡ columns field.now.1 field.now.2 line.now }
+{
     &line.bytes()[field.1 - 1..field.2]
 }
 
 /// The lines of the calls and the changes: all but a BX, which stands first.
-fn journey_among(lines: LineSlice<'_>) -> LineSlice<'_> {
+fn journey_among(lines: LineSlice<'_>) -> LineSlice<'_>
+    ensures { result.entry ≡ without_extra lines.entry }
+{
     if !lines.is_empty() {
         if let Some(Kind::Bx) = kind_of(&lines.first()) {
             return lines.rest();
@@ -335,26 +386,31 @@ fn journey_among(lines: LineSlice<'_>) -> LineSlice<'_> {
 
 /// Appends the rows of two journeys: place by place if these are the same, else one row.
 fn write_journeys<W: WriteDevice>(
-    head: Head<'_>,
+    record: &Line,
     left: &LineSlice<'_>,
     right: &LineSlice<'_>,
     sink: &mut Sink<W>,
-) {
+)
+    ensures { IsAppended W.contents W.write_errors
+        (journeys_of (head_fields RowKind.Schedule changed record.now) left.now right.now) sink.old sink.new }
+{
     if have_same_places(left, right) {
-        write_places(head, left.copy(), right.copy(), sink);
-    } else {
-        let mut row = TableRow::new();
-        push_head(&mut row, head);
-        push_stands(&mut row, Stands::Nowhere);
-        row.push(Shape::Trimmed, b"journey");
-        row.push_number(count_of_calls(left));
-        row.push_number(count_of_calls(right));
-        row.write(sink);
+        write_places(record, left.copy(), right.copy(), sink);
+        return;
     }
+    let mut row = TableRow::new();
+    push_head(&mut row, RowKind::Schedule, "<>", record);
+    push_stands(&mut row, &Stands::of(None, b"", b""));
+    row.push(Shape::Trimmed, b"journey");
+    row.push_number(count_of_calls(left));
+    row.push_number(count_of_calls(right));
+    row.write(sink);
 }
 
 /// Whether the two journeys have the same identities, locations and suffixes, in one order.
-fn have_same_places(left: &LineSlice<'_>, right: &LineSlice<'_>) -> bool {
+fn have_same_places(left: &LineSlice<'_>, right: &LineSlice<'_>) -> bool
+    ensures { result ≡ same_places left.now right.now }
+{
     let mut lefts = left.copy();
     let mut rights = right.copy();
     while !lefts.is_empty() && !rights.is_empty() {
@@ -368,15 +424,14 @@ fn have_same_places(left: &LineSlice<'_>, right: &LineSlice<'_>) -> bool {
 }
 
 /// How many lines are calls.
-fn count_of_calls(lines: &LineSlice<'_>) -> usize {
+fn count_of_calls(lines: &LineSlice<'_>) -> usize
+    ensures { result ≡ count_of_calls lines.now }
+{
     let mut rest = lines.copy();
     rest.are_few();
     let mut count = 0;
     while !rest.is_empty() {
-        match kind_of_line(&rest.first()) {
-            JourneyKind::Origin | JourneyKind::Stop | JourneyKind::Terminus => count += 1,
-            JourneyKind::Change | JourneyKind::Other => {}
-        }
+        count = call_after(count, kind_of_line(&rest.first()));
         rest = rest.rest();
     }
     count
@@ -384,34 +439,48 @@ fn count_of_calls(lines: &LineSlice<'_>) -> usize {
 
 /// Appends the rows of two journeys with the same places.
 fn write_places<W: WriteDevice>(
-    head: Head<'_>,
+    record: &Line,
     left: LineSlice<'_>,
     right: LineSlice<'_>,
     sink: &mut Sink<W>,
-) {
+)
+    requires { IsTrue (same_places left.entry right.entry) }
+    ensures { IsAppended W.contents W.write_errors
+        (lines_rows (head_fields RowKind.Schedule changed record.now) 1 left.entry right.entry) sink.old sink.new }
+{
     let mut lefts = left;
     let mut rights = right;
+    lefts.are_few();
     let mut call = 1;
     while !lefts.is_empty() && !rights.is_empty() {
         let (one, other) = (lefts.first(), rights.first());
-        let stands = Stands::At(call, &one);
-        match kind_of_line(&one) {
-            JourneyKind::Origin => {
-                write_differing(head, stands, &ORIGIN, &one, &other, sink);
-                call += 1;
-            }
-            JourneyKind::Stop => {
-                write_differing(head, stands, &STOP, &one, &other, sink);
-                call += 1;
-            }
-            JourneyKind::Terminus => {
-                write_differing(head, stands, &TERMINUS, &one, &other, sink);
-                call += 1;
-            }
-            JourneyKind::Change => write_differing(head, stands, &CHANGE, &one, &other, sink),
-            JourneyKind::Other => {}
-        }
+        let kind = kind_of_line(&one);
+        write_place(record, call, kind, &one, &other, sink);
+        call = call_after(call, kind);
         lefts = lefts.rest();
         rights = rights.rest();
+    }
+}
+
+/// Appends the rows of one place of both journeys.
+fn write_place<W: WriteDevice>(
+    record: &Line,
+    call: usize,
+    kind: JourneyKind,
+    left: &Line,
+    right: &Line,
+    sink: &mut Sink<W>,
+) {
+    let (identity, location) = (columns_at::<2>(left, 1), columns_at::<7>(left, 3));
+    let stands = Stands::of(Some(call), &identity, &location);
+    let rows = RowKind::Schedule;
+    match kind {
+        JourneyKind::Origin => write_differing(rows, record, &stands, &ORIGIN, left, right, sink),
+        JourneyKind::Stop => write_differing(rows, record, &stands, &STOP, left, right, sink),
+        JourneyKind::Terminus => write_differing(
+            rows, record, &stands, &TERMINUS, left, right, sink,
+        ),
+        JourneyKind::Change => write_differing(rows, record, &stands, &CHANGE, left, right, sink),
+        JourneyKind::Other => {}
     }
 }
