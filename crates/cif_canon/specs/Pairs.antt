@@ -4,8 +4,8 @@ use Rattle.std.specs.List.{flat_map}
 use Rattle.std.specs.Option.{option_map}
 use Rattle.std.specs.Cmp.Lexicographic.{pointwise, slice_cmp}
 use Rattle.std.specs.Ordering.{is_eq, nat_cmp}
+use Rattle.std.proofs.Math.Bool.{beq}
 use Rattle.std.specs.declared.cmp.Ordering.{Ordering}
-use Rattle.cif_columns.specs.DaysRun.{days_columns}
 use Rattle.cif_extract.specs.BodyParts.{BodyParts}
 use Rattle.cif_records.specs.AssocKey.{key_cmp}
 use Rattle.cif_records.specs.declared.association.AssocBody.{AssocBody}
@@ -53,7 +53,7 @@ are_pair cmp s t =
     && (is_side Right t.side
     && (is_eq (cmp s.it.0 t.it.0)
     && (nat_eq s.it.1.first t.it.1.first
-    && (nat_eq s.it.1.last t.it.1.last && pointwise nat_eq (days_columns s.it.1.days) (days_columns t.it.1.days)))))
+    && (nat_eq s.it.1.last t.it.1.last && pointwise beq s.it.1.days t.it.1.days))))
 
 abbrev pub by_pairs : {K B : Type 0} → (K → K → Ordering) → List (Sided (K × Permanent B)) → List (Listed (K × Permanent B))
 by_pairs cmp [] = []

@@ -36,6 +36,9 @@ impl<'a> Model for CanonSchedule<'a> {
 }
 
 impl<'a> CanonSchedule<'a> {
+    ghost use Rattle.cif_canon.specs.Steps.Texts.{schedule_plain};
+    ghost use Rattle.cif_weeks.specs.Runs.{record_of};
+
     /// The schedule of a run, with this UID and body.
     pub(crate) fn of(uid: &'a Uid, body: &'a Body, run: &'a Run) -> CanonSchedule<'a>
         requires { run.now.first ≤ run.now.last }

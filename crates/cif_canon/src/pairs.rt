@@ -1,14 +1,14 @@
 //! Differences by pairs, line by line.
-ghost use Rattle.std.specs.Prelude.{◌≡◌, ◌<◌, ◌≤◌, ◌++◌, All, None, Some, length};
+ghost use Rattle.std.specs.Prelude.{◌≡◌, ◌↔◌, ◌<◌, ◌≤◌, ◌++◌, All, IsTrue, None, Some, length};
 ghost use Rattle.std.specs.List.{flat_map};
 ghost use Rattle.cif_calendar.specs.Keys.{keyed};
 ghost use Rattle.cif_weeks.specs.Permanent.{Permanent};
 ghost use Rattle.cif_weeks.specs.Runs.{record_of};
 ghost use Rattle.cif_canon.specs.Appended.{IsAppended};
 ghost use Rattle.cif_canon.specs.Differences.{at_side};
-ghost use Rattle.cif_canon.specs.Pairs.{are_pair, association_lines, by_pairs, schedule_lines, tiploc_lines};
+ghost use Rattle.cif_canon.specs.Pairs.{ArePair, association_lines, by_pairs, schedule_lines, tiploc_lines};
 ghost use Rattle.cif_canon.specs.Steps.Sides.{HasSidedRecord, sided_records};
-ghost use Rattle.cif_canon.specs.Steps.Texts.{HasRecord, record_at};
+ghost use Rattle.cif_canon.specs.Steps.Texts.{HasRecord, association_plain, record_at};
 
 use crate::canon_lines::CanonSchedule;
 use crate::listed_differences::{Differences, Side, Sided};
@@ -104,7 +104,7 @@ pub fn list_differences<L: DifferenceListing, W: WriteDevice>(
 }
 
 /// A record of an entry with this key and body, with the dates and the mask of the run.
-#[derive(Clone, Copy)]
+#[derive(Drop)]
 struct RecordOf<'a, E: Entry> {
     key: &'a E::Key,
     body: &'a E::Body,
@@ -122,25 +122,25 @@ trait PairLines<E: Entry> {
     ghost text: { Self → Listed (E.Key × Permanent E.Body) → List ℕ };
 
     /// Appends the text of a record without a partner.
-    fn write_one<W: WriteDevice>(&self, side: Side, one: RecordOf<'_, E>, sink: &mut Sink<W>)
-        requires in_order { one.run.now.first ≤ one.run.now.last }
+    fn write_one<W: WriteDevice>(&self, side: Side, one: &RecordOf<'_, E>, sink: &mut Sink<W>)
+        requires in_order { one.now.run.now.first ≤ one.now.run.now.last }
         ensures { IsAppended W.contents W.write_errors
-            (text self.now (record { side = side; it = (one.key.now, record_of one.run.now one.body.now) }, None))
+            (text self.now (record { side = side; it = (one.now.key.now, record_of one.now.run.now one.now.body.now) }, None))
             sink.old sink.new };
 
     /// Appends the text of a pair.
     fn write_pair<W: WriteDevice>(
         &self,
-        left: RecordOf<'_, E>,
-        right: RecordOf<'_, E>,
+        left: &RecordOf<'_, E>,
+        right: &RecordOf<'_, E>,
         sink: &mut Sink<W>,
     )
-        requires left_in_order { left.run.now.first ≤ left.run.now.last }
-        requires right_in_order { right.run.now.first ≤ right.run.now.last }
+        requires left_in_order { left.now.run.now.first ≤ left.now.run.now.last }
+        requires right_in_order { right.now.run.now.first ≤ right.now.run.now.last }
         ensures { IsAppended W.contents W.write_errors
             (text self.now (
-              record { side = Left; it = (left.key.now, record_of left.run.now left.body.now) },
-              Some (right.key.now, record_of right.run.now right.body.now),
+              record { side = Left; it = (left.now.key.now, record_of left.now.run.now left.now.body.now) },
+              Some (right.now.key.now, record_of right.now.run.now right.now.body.now),
             )) sink.old sink.new };
 }
 
@@ -165,13 +165,13 @@ fn write_pairs<E: Entry, L: PairLines<E>, W: WriteDevice>(
         rest = others;
         if let [next, later @ ..] = others {
             let other = record_of(entries_of(left, right, next.side), &next.it);
-            if are_pair(run.side, one, next.side, other) {
-                lines.write_pair(one, other, sink);
+            if are_pair(run.side, &one, next.side, &other) {
+                lines.write_pair(&one, &other, sink);
                 rest = later;
                 continue;
             }
         }
-        lines.write_one(run.side, one, sink);
+        lines.write_one(run.side, &one, sink);
     }
 }
 
@@ -204,23 +204,33 @@ fn record_of<'a, E: Entry>(entries: &'a [E], run: &'a Run) -> RecordOf<'a, E>
     }
 }
 
-/// Whether two records, of which the other is the next, are a pair.
+/// Whether two records are a pair.
 fn are_pair<E: Entry>(
     side: Side,
-    one: RecordOf<'_, E>,
+    one: &RecordOf<'_, E>,
     other_side: Side,
-    other: RecordOf<'_, E>,
+    other: &RecordOf<'_, E>,
 ) -> bool
-    ensures { result ≡ are_pair E.Key.cmp
-        (record { side = side; it = (one.key.now, record_of one.run.now one.body.now) })
-        (record { side = other_side; it = (other.key.now, record_of other.run.now other.body.now) }) }
+    ensures { IsTrue result ↔ ArePair
+        (record { side = side; it = (one.now.key.now, record_of one.now.run.now one.now.body.now) })
+        (record { side = other_side; it = (other.now.key.now, record_of other.now.run.now other.now.body.now) }) }
 {
-    side == Side::Left
-        && other_side == Side::Right
-        && one.key == other.key
+    match (side, other_side) {
+        (Side::Left, Side::Right) => differ_in_bodies(one, other),
+        (Side::Left, Side::Left) => false,
+        (Side::Right, _) => false,
+    }
+}
+
+/// Whether two records have one key, the same dates and the same days.
+fn differ_in_bodies<E: Entry>(one: &RecordOf<'_, E>, other: &RecordOf<'_, E>) -> bool
+    ensures { IsTrue result ↔ ((one.now.key.now ≡ other.now.key.now) × (one.now.run.now.first ≡ other.now.run.now.first)
+        × (one.now.run.now.last ≡ other.now.run.now.last) × (one.now.run.now.days ≡ other.now.run.now.days)) }
+{
+    one.key == other.key
         && one.run.first == other.run.first
         && one.run.last == other.run.last
-        && one.run.days == other.run.days
+        && one.run.days.is(other.run.days)
 }
 
 /// What is listed of records, by their lines.
@@ -238,7 +248,7 @@ impl<'a, L: DifferenceListing> PairLines<Association> for ListedPairs<'a, L> {
     fn write_one<W: WriteDevice>(
         &self,
         side: Side,
-        one: RecordOf<'_, Association>,
+        one: &RecordOf<'_, Association>,
         sink: &mut Sink<W>,
     ) {
         self.listing
@@ -247,8 +257,8 @@ impl<'a, L: DifferenceListing> PairLines<Association> for ListedPairs<'a, L> {
 
     fn write_pair<W: WriteDevice>(
         &self,
-        left: RecordOf<'_, Association>,
-        right: RecordOf<'_, Association>,
+        left: &RecordOf<'_, Association>,
+        right: &RecordOf<'_, Association>,
         sink: &mut Sink<W>,
     ) {
         let (one, other) = (association_line(left), association_line(right));
@@ -265,7 +275,7 @@ impl<'a, L: DifferenceListing> PairLines<Schedule> for ListedPairs<'a, L> {
     fn write_one<W: WriteDevice>(
         &self,
         side: Side,
-        one: RecordOf<'_, Schedule>,
+        one: &RecordOf<'_, Schedule>,
         sink: &mut Sink<W>,
     ) {
         let schedule = CanonSchedule::of(one.key, one.body, one.run);
@@ -274,8 +284,8 @@ impl<'a, L: DifferenceListing> PairLines<Schedule> for ListedPairs<'a, L> {
 
     fn write_pair<W: WriteDevice>(
         &self,
-        left: RecordOf<'_, Schedule>,
-        right: RecordOf<'_, Schedule>,
+        left: &RecordOf<'_, Schedule>,
+        right: &RecordOf<'_, Schedule>,
         sink: &mut Sink<W>,
     ) {
         let one = CanonSchedule::of(left.key, left.body, left.run);
@@ -285,7 +295,10 @@ impl<'a, L: DifferenceListing> PairLines<Schedule> for ListedPairs<'a, L> {
 }
 
 /// The line of an association.
-fn association_line(one: RecordOf<'_, Association>) -> Line {
+fn association_line(one: &RecordOf<'_, Association>) -> Line
+    requires { one.now.run.now.first ≤ one.now.run.now.last }
+    ensures { result ≡ association_plain (one.now.key.now, record_of one.now.run.now one.now.body.now) }
+{
     let run = one.run;
     Association::permanent_line(one.key, one.body, run.first, run.last, run.days)
 }
