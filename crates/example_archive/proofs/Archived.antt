@@ -43,8 +43,8 @@ same-again from to extract once twice c d =
 pub same-read : (x y : ExtractParts) (text again : List ℕ) → IsCanonicalTextOf x text → BytesSpell text y → IsCanonicalTextOf y again →
     text ≡ again
 same-read x y text again c spelled d =
-    let n = (c.1.again nothing_asked x (unasked x)).unasked in
+    let n = (c.2.again nothing_asked x (unasked x)).unasked in
     let whole : n.accepted.whole ≡ y = one_spelled text n.accepted.whole y n.accepted.spelled spelled in
     let narrowed = subst (λ w. IsNarrowed nothing_asked w n.meant) whole n.accepted.narrowed in
-    (d.1.unique.whole nothing_asked text text n).1 (says nothing_asked text text n y
+    (d.2.unique.whole nothing_asked text text n).1 (says nothing_asked text text n y
     (one-narrowed nothing_asked y n.meant y narrowed (unasked y)))
