@@ -49,7 +49,7 @@ impl<'a, R: Files + Input> ExtractInput<'a, R> {
         ExtractInput {
             side,
             name: name_of(file),
-            // Made where it stays: it is some kilobytes large, and stands in the frame of main.
+            // Made in place: it is some kilobytes large, and lives on the stack of its caller.
             device: match file {
                 Some(name) if !is_standard(name) => Device::Named { files: rt, name },
                 _ => Device::Unlocked(rt),
