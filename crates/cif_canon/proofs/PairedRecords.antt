@@ -50,7 +50,7 @@ pair-decided cmp decides s t =
     (Decides-and _ _ (decides s.it.0 t.it.0) (Decides-and _ _ (Decides-eqb s.it.1.first t.it.1.first)
     (Decides-and _ _ (Decides-eqb s.it.1.last t.it.1.last) (pointwise_decides booleans_Decides s.it.1.days t.it.1.days))))) in (
       λ yes.
-          let (left, right, key, first, last, days) = all.0 yes in record {
+          let (left, (right, (key, (first, (last, days))))) = all.0 yes in record {
             left = left;
             right = right;
             key = key;
@@ -58,7 +58,7 @@ pair-decided cmp decides s t =
             last = last;
             days = days;
           },
-      λ h. all.1 (h.left, h.right, h.key, h.first, h.last, h.days),
+      λ h. all.1 (h.left, (h.right, (h.key, (h.first, (h.last, h.days))))),
     )
 
 -- ---- the runs behind the first
@@ -113,10 +113,10 @@ module _ {K B : Type 0} (xs ys : List (K × Terms B)) (runs : List (Sided Run)) 
         ∙ ap by (same-answer {P = ArePair s own} (are_pair cmp s own) answer (pair-decided cmp decides s own) told)
 
     pub listed-pair : answer ≡ true → IsListedFirst cmp xs ys s (Some it) runs
-    listed-pair yes = by-answer ∙ ap by yes
+    listed-pair is_so = by-answer ∙ ap by is_so
 
     pub listed-one : answer ≡ false → IsListedFirst cmp xs ys s None runs
-    listed-one no = by-answer ∙ ap by no ∙ ap alone (sym first-record)
+    listed-one is_so = by-answer ∙ ap by is_so ∙ ap alone (sym first-record)
 
   -- what was written of the first of these, with a partner or without one
   module _ {W : Type 0} (contents : W → Option (List ℕ)) (errors : W → Option ℕ) (text : Listed (K × Permanent B) → List ℕ)
