@@ -9,7 +9,8 @@ ghost use Rattle.cif_canon.specs.Fields.{after, nothing};
 ghost use Rattle.cif_canon.specs.declared.rows.Format.TheVariants.{Tsv};
 ghost use Rattle.cif_views.specs.DifferenceTable.{changed, change_of, difference_table, differing_rows, single_row, without_extra};
 ghost use Rattle.cif_views.specs.Steps.DifferenceRows.{are_named, count_of_calls, head_fields, journeys_of, lines_rows};
-ghost use Rattle.cif_views.specs.Steps.DifferenceRows.{named_fields, place_of, same_places, stands_of};
+ghost use Rattle.cif_views.specs.Steps.DifferenceRows.{named_fields, place_of, rows_of_place, same_places, stands_of};
+ghost use Rattle.cif_views.specs.Tables.{kind_of_line};
 
 use crate::table_row::TableRow;
 use crate::tables::{JourneyKind, call_after, extra_among, kind_of_line};
@@ -334,7 +335,7 @@ fn push_stands(row: &mut TableRow, stands: &Stands<'_>)
 /// left record, or its BS.
 fn write_differing<W: WriteDevice>(
     kind: RowKind,
-    record: &Line,
+    head: &Line,
     stands: &Stands<'_>,
     fields: &[Named],
     left: &Line,
@@ -345,14 +346,14 @@ fn write_differing<W: WriteDevice>(
     requires identity { length stands.now.identity.now ≤ 2 }
     requires place { length stands.now.place.now ≤ 7 }
     ensures { IsAppended W.contents W.write_errors
-        (differing_rows (head_fields kind changed record.now) (stands_of stands.now) (named_fields fields.now)
+        (differing_rows (head_fields kind changed head.now) (stands_of stands.now) (named_fields fields.now)
         left.now right.now) sink.old sink.new }
 {
     let mut row = TableRow::new();
     for field in fields {
         let (one, other) = (columns_of(left, field), columns_of(right, field));
         if one != other {
-            push_head(&mut row, kind, "<>", record);
+            push_head(&mut row, kind, "<>", head);
             push_stands(&mut row, stands);
             row.push(Shape::Trimmed, field.0.as_bytes());
             row.push(Shape::Trimmed, one);
@@ -374,7 +375,7 @@ fn columns_of<'a>(line: &'a Line, field: &Named) -> &'a [u8]
 
 /// The lines of the calls and the changes: all but a BX, which stands first.
 fn journey_among(lines: LineSlice<'_>) -> LineSlice<'_>
-    ensures { result.entry ≡ without_extra lines.entry }
+    ensures { result ≡ without_extra lines.entry }
 {
     if !lines.is_empty() {
         if let Some(Kind::Bx) = kind_of(&lines.first()) {
@@ -386,20 +387,20 @@ fn journey_among(lines: LineSlice<'_>) -> LineSlice<'_>
 
 /// Appends the rows of two journeys: place by place if these are the same, else one row.
 fn write_journeys<W: WriteDevice>(
-    record: &Line,
+    head: &Line,
     left: &LineSlice<'_>,
     right: &LineSlice<'_>,
     sink: &mut Sink<W>,
 )
     ensures { IsAppended W.contents W.write_errors
-        (journeys_of (head_fields RowKind.Schedule changed record.now) left.now right.now) sink.old sink.new }
+        (journeys_of (head_fields RowKind.Schedule changed head.now) left.now right.now) sink.old sink.new }
 {
     if have_same_places(left, right) {
-        write_places(record, left.copy(), right.copy(), sink);
+        write_places(head, left.copy(), right.copy(), sink);
         return;
     }
     let mut row = TableRow::new();
-    push_head(&mut row, RowKind::Schedule, "<>", record);
+    push_head(&mut row, RowKind::Schedule, "<>", head);
     push_stands(&mut row, &Stands::of(None, b"", b""));
     row.push(Shape::Trimmed, b"journey");
     row.push_number(count_of_calls(left));
@@ -439,14 +440,14 @@ fn count_of_calls(lines: &LineSlice<'_>) -> usize
 
 /// Appends the rows of two journeys with the same places.
 fn write_places<W: WriteDevice>(
-    record: &Line,
+    head: &Line,
     left: LineSlice<'_>,
     right: LineSlice<'_>,
     sink: &mut Sink<W>,
 )
-    requires { IsTrue (same_places left.entry right.entry) }
+    requires { IsTrue (same_places left right) }
     ensures { IsAppended W.contents W.write_errors
-        (lines_rows (head_fields RowKind.Schedule changed record.now) 1 left.entry right.entry) sink.old sink.new }
+        (lines_rows (head_fields RowKind.Schedule changed head.now) 1 left.entry right.entry) sink.old sink.new }
 {
     let mut lefts = left;
     let mut rights = right;
@@ -455,7 +456,7 @@ fn write_places<W: WriteDevice>(
     while !lefts.is_empty() && !rights.is_empty() {
         let (one, other) = (lefts.first(), rights.first());
         let kind = kind_of_line(&one);
-        write_place(record, call, kind, &one, &other, sink);
+        write_place(head, call, kind, &one, &other, sink);
         call = call_after(call, kind);
         lefts = lefts.rest();
         rights = rights.rest();
@@ -464,23 +465,28 @@ fn write_places<W: WriteDevice>(
 
 /// Appends the rows of one place of both journeys.
 fn write_place<W: WriteDevice>(
-    record: &Line,
+    head: &Line,
     call: usize,
     kind: JourneyKind,
     left: &Line,
     right: &Line,
     sink: &mut Sink<W>,
-) {
+)
+    requires kind { kind ≡ kind_of_line left.now }
+    requires places { columns 1 10 left.now ≡ columns 1 10 right.now }
+    ensures { IsAppended W.contents W.write_errors
+        (rows_of_place (head_fields RowKind.Schedule changed head.now) call left.now right.now) sink.old sink.new }
+{
     let (identity, location) = (columns_at::<2>(left, 1), columns_at::<7>(left, 3));
     let stands = Stands::of(Some(call), &identity, &location);
     let rows = RowKind::Schedule;
     match kind {
-        JourneyKind::Origin => write_differing(rows, record, &stands, &ORIGIN, left, right, sink),
-        JourneyKind::Stop => write_differing(rows, record, &stands, &STOP, left, right, sink),
+        JourneyKind::Origin => write_differing(rows, head, &stands, &ORIGIN, left, right, sink),
+        JourneyKind::Stop => write_differing(rows, head, &stands, &STOP, left, right, sink),
         JourneyKind::Terminus => write_differing(
-            rows, record, &stands, &TERMINUS, left, right, sink,
+            rows, head, &stands, &TERMINUS, left, right, sink,
         ),
-        JourneyKind::Change => write_differing(rows, record, &stands, &CHANGE, left, right, sink),
+        JourneyKind::Change => write_differing(rows, head, &stands, &CHANGE, left, right, sink),
         JourneyKind::Other => {}
     }
 }

@@ -1,5 +1,6 @@
 -- The rows of differences as the code makes them. No public clause cites them.
 use Rattle.std.specs.Prelude.{ℕ, ◌+◌, ◌&&◌, Bool, true, List, [], ◌∷◌, ◌++◌, Option, None, Some, codes, cond, length, map, nat_eq, nat_le}
+use Rattle.std.specs.Borrow.{Bor}
 use Rattle.std.specs.Cmp.Lexicographic.{pointwise}
 use Rattle.cif_columns.specs.Field.{columns}
 use Rattle.cif_canon.specs.Fields.{Field, nothing}
@@ -26,13 +27,13 @@ abbrev pub stands_of : GivenStands → Stands
 stands_of s = record { call = place_of s.call; identity = (Trimmed, s.identity.now); place = (Trimmed, s.place.now) }
 
 -- fields by their names and columns; they are within a line
-abbrev pub named_fields : List (List ℕ × ℕ × ℕ) → TableFields (List ℕ)
-named_fields fields = map (λ f. (f.0, text_at f.1 f.2)) fields
+abbrev pub named_fields : List (Bor (List ℕ) × ℕ × ℕ) → TableFields (List ℕ)
+named_fields fields = map (λ f. (f.0.now, text_at f.1 f.2)) fields
 
-abbrev pub are_named : List (List ℕ × ℕ × ℕ) → Bool
+abbrev pub are_named : List (Bor (List ℕ) × ℕ × ℕ) → Bool
 are_named [] = true
 are_named (f ∷ fields) =
-    nat_le (length f.0) 20 && (nat_le 1 f.1 && (nat_le f.1 f.2 && (nat_le f.2 80 && (nat_le f.2 (f.1 + 11) && are_named fields))))
+    nat_le (length f.0.now) 20 && (nat_le 1 f.1 && (nat_le f.1 f.2 && (nat_le f.2 80 && (nat_le f.2 (f.1 + 11) && are_named fields))))
 
 -- the lines of two journeys have the same places
 abbrev pub same_places : List (List ℕ) → List (List ℕ) → Bool
@@ -42,14 +43,19 @@ abbrev pub count_of_calls : List (List ℕ) → ℕ
 count_of_calls [] = 0
 count_of_calls (line ∷ lines) = cond (is_call (kind_of_line line)) (count_of_calls lines + 1) (count_of_calls lines)
 
+-- the rows of one place of both journeys
+abbrev pub rows_of_place : List Field → ℕ → List ℕ → List ℕ → List ℕ
+rows_of_place head call line other =
+    differing_rows head (record { call = number call; identity = text_at 1 2 line; place = text_at 3 9 line })
+    (own_fields (is_change (kind_of_line line))) (record { schedule = 0; call = call; line = line })
+    (record { schedule = 0; call = call; line = other })
+
 -- the rows of lines with the same places; the first call that comes has this number
 abbrev pub lines_rows : List Field → ℕ → List (List ℕ) → List (List ℕ) → List ℕ
 lines_rows head call [] rights = []
 lines_rows head call (line ∷ lefts) [] = []
 lines_rows head call (line ∷ lefts) (other ∷ rights) =
-    differing_rows head (record { call = number call; identity = text_at 1 2 line; place = text_at 3 9 line })
-    (own_fields (is_change (kind_of_line line))) (record { schedule = 0; call = call; line = line })
-    (record { schedule = 0; call = call; line = other })
+    rows_of_place head call line other
     ++ lines_rows head (cond (is_call (kind_of_line line)) (call + 1) call) lefts rights
 
 abbrev pub journeys_of : List Field → List (List ℕ) → List (List ℕ) → List ℕ
