@@ -24,6 +24,7 @@ pub mod NormalForms
 pub mod Normalising
 pub mod OnlyDays
 pub mod OnlyRuns
+pub mod PairedRecords
 pub mod ReadPairs
 pub mod RunTexts
 pub mod RunningRecords
