@@ -1,5 +1,6 @@
 pub mod AppendedTexts
 pub mod BothRead
+pub mod ByPairs
 pub mod CanonForm
 pub mod CanonLines
 pub mod CanonTexts

@@ -1,19 +1,15 @@
 -- Differences by pairs: a left record and a right one that differ in nothing but their bodies.
-use Rattle.std.specs.Prelude.{◌≡◌, ℕ, Bool, ◌&&◌, List, [], ◌∷◌, ◌++◌, Option, None, Some, Contains, map, nat_eq, if◌then◌else◌}
+use Rattle.std.specs.Prelude.{◌≡◌, ℕ, Bool, ◌&&◌, List, [], ◌∷◌, Option, None, Some, Contains, map, nat_eq, if◌then◌else◌}
 use Rattle.std.specs.List.{flat_map}
 use Rattle.std.specs.Option.{option_map}
 use Rattle.std.specs.Cmp.Lexicographic.{pointwise, slice_cmp}
 use Rattle.std.specs.Ordering.{is_eq, nat_cmp}
 use Rattle.std.proofs.Math.Bool.{beq}
 use Rattle.std.specs.declared.cmp.Ordering.{Ordering}
-use Rattle.cif_extract.specs.BodyParts.{BodyParts}
 use Rattle.cif_records.specs.AssocKey.{key_cmp}
-use Rattle.cif_records.specs.declared.association.AssocBody.{AssocBody}
-use Rattle.cif_records.specs.declared.association.AssocKey.{AssocKey}
 use Rattle.cif_weeks.specs.Permanent.{Permanent}
 use Rattle.cif_canon.specs.Differences.{DifferencesParts, is_side}
 use Rattle.cif_canon.specs.Lines.{ScheduleLines, association_plain, line_of_tiploc, schedule_plain}
-use Rattle.cif_canon.specs.declared.listed_differences.Side.{Side}
 use Rattle.cif_canon.specs.declared.listed_differences.Side.TheVariants.{Left, Right}
 use Rattle.cif_canon.specs.declared.listed_differences.Sided.{Sided}
 

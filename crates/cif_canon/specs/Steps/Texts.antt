@@ -9,9 +9,8 @@ use Rattle.cif_columns.specs.declared.stp.Stp.TheVariants.{P}
 use Rattle.cif_extract.specs.BodyParts.{BodyParts}
 use Rattle.cif_extract.specs.ExtractParts.{ExtractParts}
 use Rattle.cif_extract.specs.declared.extract.Schedule.{Schedule}
-use Rattle.cif_extract.specs.Texts.{body_tables, schedule_lines}
+use Rattle.cif_extract.specs.Texts.{schedule_lines}
 use Rattle.cif_records.specs.Association.{association_rows}
-use Rattle.cif_records.specs.Basic.{basic_rows}
 use Rattle.cif_records.specs.Header.{header_table}
 use Rattle.cif_records.specs.Tiploc.{tiploc_table}
 use Rattle.cif_records.specs.Trailer.{trailer_table}
