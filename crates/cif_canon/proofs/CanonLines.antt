@@ -18,10 +18,11 @@ use Rattle.cif_records.specs.declared.association.AssocKey.{AssocKey}
 use Rattle.cif_records.specs.declared.tiploc.Tiploc.{Tiploc}
 use Rattle.cif_weeks.specs.Permanent.{Permanent}
 use Rattle.cif_weeks.specs.declared.run.Run.{Run}
-use Rattle.cif_canon.specs.Lines.{ScheduleLines, line_of_association, line_of_tiploc, lines_of, lines_of_schedule}
+use Rattle.cif_canon.specs.Lines.{ScheduleLines, association_plain, line_of_association, line_of_tiploc, lines_of, lines_of_schedule}
+use Rattle.cif_canon.specs.Lines.{schedule_plain}
 use Rattle.cif_canon.specs.Steps.Records.{IsRunOf}
-use Rattle.cif_canon.specs.Steps.Texts.{HasRecord, association_plain, canon_lines, numbered_text, of_run, record_at, run_text}
-use Rattle.cif_canon.specs.Steps.Texts.{schedule_plain, text_if}
+use Rattle.cif_canon.specs.Steps.Texts.{HasRecord, canon_lines, numbered_text, of_run, record_at, run_text}
+use Rattle.cif_canon.specs.Steps.Texts.{text_if}
 use Rattle.cif_canon.proofs.CanonTexts.{texts-of_runs}
 use Rattle.cif_canon.proofs.MadeExtract.{IsDated, associations_of, schedules_of}
 

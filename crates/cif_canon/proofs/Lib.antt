@@ -1,5 +1,6 @@
 pub mod AppendedTexts
 pub mod BothRead
+pub mod ByPairs
 pub mod CanonForm
 pub mod CanonLines
 pub mod CanonTexts
@@ -24,6 +25,7 @@ pub mod NormalForms
 pub mod Normalising
 pub mod OnlyDays
 pub mod OnlyRuns
+pub mod PairedRecords
 pub mod ReadPairs
 pub mod RunTexts
 pub mod RunningRecords

@@ -13,6 +13,7 @@ pub mod Meaning
 pub mod NormalForm
 pub mod Normalised
 pub mod Pair
+pub mod Pairs
 pub mod Report
 pub mod Rows
 pub mod Steps

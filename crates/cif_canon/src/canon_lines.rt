@@ -25,7 +25,7 @@ pub struct CanonSchedule<'a> {
 impl<'a> Model for CanonSchedule<'a> {
     ghost use Rattle.std.specs.Prelude.{◌≤◌};
     ghost use Rattle.cif_canon.specs.Lines.{ScheduleLines};
-    ghost use Rattle.cif_canon.specs.Steps.Texts.{schedule_plain};
+    ghost use Rattle.cif_canon.specs.Lines.{schedule_plain};
     ghost use Rattle.cif_weeks.specs.Runs.{record_of};
 
     ghost Value = { ScheduleLines };
@@ -36,6 +36,17 @@ impl<'a> Model for CanonSchedule<'a> {
 }
 
 impl<'a> CanonSchedule<'a> {
+    ghost use Rattle.cif_canon.specs.Lines.{schedule_plain};
+    ghost use Rattle.cif_weeks.specs.Runs.{record_of};
+
+    /// The schedule of a run, with this UID and body.
+    pub(crate) fn of(uid: &'a Uid, body: &'a Body, run: &'a Run) -> CanonSchedule<'a>
+        requires { run.now.first ≤ run.now.last }
+        ensures { result ≡ schedule_plain (uid.now, record_of run.now body.now) }
+    {
+        CanonSchedule { uid, body, run }
+    }
+
     /// The line of its BS.
     pub fn basic(&self) -> Line
         ensures { result ≡ self.now.basic }
@@ -141,7 +152,7 @@ struct ListedLines<'a, L> {
 }
 
 impl<'a, L: CanonListing> RecordLines<Association> for ListedLines<'a, L> {
-    ghost use Rattle.cif_canon.specs.Steps.Texts.{association_plain};
+    ghost use Rattle.cif_canon.specs.Lines.{association_plain};
 
     ghost text = { λ lines e. L.association_text lines.listing.now (association_plain e) };
 

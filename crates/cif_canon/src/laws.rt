@@ -1,10 +1,15 @@
-//! The law that canonical bytes are unique.
+//! The laws that canonical bytes are unique, and that differences are listed by pairs.
 ghost use Rattle.std.specs.Prelude.{◌≡◌, ℕ, List};
+ghost use Rattle.std.specs.Cmp.Lexicographic.{slice_cmp};
+ghost use Rattle.std.specs.Ordering.{nat_cmp};
 ghost use Rattle.cif_extract.specs.ExtractParts.{ExtractParts};
+ghost use Rattle.cif_records.specs.AssocKey.{key_cmp};
 ghost use Rattle.cif_weeks.specs.declared.form.Form.{Form};
 ghost use Rattle.cif_canon.specs.Accepted.{IsAccepted};
 ghost use Rattle.cif_canon.specs.Canonical.{IsCanonicalOf};
+ghost use Rattle.cif_canon.specs.Differences.{AreDifferences, DifferencesParts};
 ghost use Rattle.cif_canon.specs.NormalForm.{IsNormalFormAgain, IsReachedFromForms, IsUnique};
+ghost use Rattle.cif_canon.specs.Pairs.{AreByPairs, by_pairs};
 ghost use Rattle.cif_canon.specs.declared.asked.Asked.{Asked};
 
 /// Canonical bytes of one form are equal exactly if what they are made of says the same; they are
@@ -21,4 +26,12 @@ pub fn canonical_bytes_are_unique()
     ensures forms { (form : Form) (asked : Asked) (input : List ℕ) (x : ExtractParts)
         (bytes : List ℕ) → IsAccepted asked x input → IsCanonicalOf form x bytes
         → IsReachedFromForms form asked x bytes }
+{}
+
+/// The records in which two extracts differ are listed by pairs: each two that are a pair as one.
+pub fn differences_are_by_pairs()
+    ensures associations { (x y : ExtractParts) (d : DifferencesParts) → AreDifferences x y d
+        → AreByPairs d.associations (by_pairs key_cmp d.associations) }
+    ensures schedules { (x y : ExtractParts) (d : DifferencesParts) → AreDifferences x y d
+        → AreByPairs d.schedules (by_pairs (slice_cmp nat_cmp) d.schedules) }
 {}

@@ -12,6 +12,7 @@ mod listed_differences;
 mod normal_form;
 mod only_days;
 mod pair;
+mod pairs;
 mod records;
 pub mod rows;
 mod tiplocs;
@@ -28,5 +29,6 @@ pub use normal_form::{
     canon, check, check_keeping, normalise, normalise_keeping, read_narrowed, report,
 };
 pub use pair::read_pair;
+pub use pairs::{DifferenceListing, list_differences};
 pub use rows::{Format, Shape};
 pub use views::{DayLines, TrainLines, day_view, train_view, write_day, write_train};

@@ -185,15 +185,15 @@ pub(crate) fn write_sided_runs<E: Entry, L: RecordLines<E>, W: WriteDevice>(
 /// from the extracts: a clause sees the locations and the records, with their sides.
 #[derive(Debug, Drop)]
 pub struct Differences<'a> {
-    left: &'a Extract,
-    right: &'a Extract,
+    pub(crate) left: &'a Extract,
+    pub(crate) right: &'a Extract,
     /// The locations, rising.
-    tiplocs: Vec<Sided<Tiploc>>,
+    pub(crate) tiplocs: Vec<Sided<Tiploc>>,
     /// The records of associations, by key, first date and side. The source of each is the position
     /// of an association of its side, with its key and body.
-    associations: Vec<Sided<Run>>,
+    pub(crate) associations: Vec<Sided<Run>>,
     /// Those of schedules.
-    schedules: Vec<Sided<Run>>,
+    pub(crate) schedules: Vec<Sided<Run>>,
 }
 
 impl<'a> Model for Differences<'a> {

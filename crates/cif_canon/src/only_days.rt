@@ -113,7 +113,7 @@ fn only_source<E: Entry>(
     }
 }
 
-/// The winners of the piece on these days, without those of whose body the other piece has too.
+/// The winners of the piece on these days, but not where the other piece's winner has the same body.
 fn only_winners<E: Entry>(
     entries: &[E],
     piece: &Piece,

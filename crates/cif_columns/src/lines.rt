@@ -227,8 +227,8 @@ impl<'a> LineSlice<'a> {
         }
     }
 
-    /// Always true. To know it, the lines have to come from memory. Who asks this of the lines of several
-    /// bodies, before they are needed, waits for all of them at once.
+    /// Always true. To answer, the lines have to come from memory. Ask this of the lines of several bodies
+    /// before they are needed, and they all arrive in one wait.
     pub fn prefetch(&self) -> bool
         ensures { IsTrue result }
     {

@@ -122,8 +122,8 @@ impl Body {
         self.lines.as_slice().first()
     }
 
-    /// Always true. To know it, the body has to come from memory. Who asks this of several bodies, before
-    /// they are needed, waits for all of them at once.
+    /// Always true. To answer, the body has to come from memory. Ask this of several bodies before they are
+    /// needed, and they all arrive in one wait.
     pub fn prefetch(&self) -> bool
         ensures { IsTrue result }
     {

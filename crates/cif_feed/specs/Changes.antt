@@ -94,7 +94,7 @@ last_word same before (c ∷ changes) key = last_word same (if same c.key key th
 abbrev pub is_changed : {K I : Type 0} → (K → K → Bool) → List (ChangeParts K I) → K → Bool
 is_changed same changes key = list_any (λ c. same key c.key) changes
 
--- the records of whose key no change is, in their order
+-- the records whose key has no change, in their order
 abbrev pub untouched : {K I : Type 0} → (K → K → Bool) → List (K × I) → List (ChangeParts K I) → List (K × I)
 untouched same records changes = filter (λ r. not (is_changed same changes r.0)) records
 

@@ -4,8 +4,8 @@ use cif_columns::{Sink, WriteDevice};
 use std::alloc::{AllocError, Global};
 use std::fmt::Write;
 
-/// Lines for the standard error, beyond that which names a fault. They are gathered, so that one write takes
-/// them all.
+/// The lines that follow a fault line on standard error. They are gathered, so that one write takes them
+/// all.
 #[derive(Drop)]
 pub(crate) struct Message {
     text: Vec<u8>,

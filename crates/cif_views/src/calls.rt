@@ -116,7 +116,7 @@ fn write_both<W: WriteDevice>(before: &str, line: &ArrayString<LONGEST>, sink: &
     append(line.as_str(), sink);
 }
 
-/// Appends the line of what is on the way; a change has none.
+/// Appends the line of a call on the way; a change has none.
 fn write_call<W: WriteDevice>(format: Format, before: &str, call: &Call, sink: &mut Sink<W>)
     ensures { IsAppended W.contents W.write_errors
         (call_text (λ fields. before.now ++ line_of format fields) call.now)
@@ -128,7 +128,7 @@ fn write_call<W: WriteDevice>(format: Format, before: &str, call: &Call, sink: &
     }
 }
 
-/// Appends the lines of what is on the way.
+/// Appends the lines of the calls on the way.
 fn write_calls_between<W: WriteDevice>(
     format: Format,
     before: &str,

@@ -9,9 +9,8 @@ use Rattle.cif_columns.specs.declared.stp.Stp.TheVariants.{P}
 use Rattle.cif_extract.specs.BodyParts.{BodyParts}
 use Rattle.cif_extract.specs.ExtractParts.{ExtractParts}
 use Rattle.cif_extract.specs.declared.extract.Schedule.{Schedule}
-use Rattle.cif_extract.specs.Texts.{body_tables, schedule_lines}
+use Rattle.cif_extract.specs.Texts.{schedule_lines}
 use Rattle.cif_records.specs.Association.{association_rows}
-use Rattle.cif_records.specs.Basic.{basic_rows}
 use Rattle.cif_records.specs.Header.{header_table}
 use Rattle.cif_records.specs.Tiploc.{tiploc_table}
 use Rattle.cif_records.specs.Trailer.{trailer_table}
@@ -22,7 +21,7 @@ use Rattle.cif_weeks.specs.Permanent.{Permanent}
 use Rattle.cif_weeks.specs.Runs.{record_of}
 use Rattle.cif_weeks.specs.declared.run.Run.{Run}
 use Rattle.cif_calendar.specs.Entries.{association_entries, schedule_entries}
-use Rattle.cif_canon.specs.Lines.{ExtractLines, ScheduleLines, line_of_tiploc}
+use Rattle.cif_canon.specs.Lines.{ExtractLines, ScheduleLines, association_plain, line_of_tiploc, schedule_plain}
 
 -- the record of a run, with the key and the body of the entry at its source
 abbrev pub record_at : {K B : Type 0} → List (K × Terms B) → Run → Option (K × Permanent B)
@@ -43,16 +42,6 @@ text_if text (Some a) = text a
 -- the text of a run: that of its record
 abbrev pub run_text : {K B : Type 0} → (K × Permanent B → List ℕ) → List (K × Terms B) → Run → List ℕ
 run_text text entries run = text_if text (record_at entries run)
-
--- the plain line of a permanent association, and the lines of a permanent schedule
-abbrev pub association_plain : AssocKey × Permanent AssocBody → List ℕ
-association_plain e = plain_line (association_rows e.0 e.1.first e.1.last e.1.days P (Some e.1.body))
-
-abbrev pub schedule_plain : List ℕ × Permanent BodyParts → ScheduleLines
-schedule_plain e = record {
-  basic = plain_line (basic_rows e.0 e.1.first e.1.last e.1.days P (Some e.1.body.detail));
-  further = map plain_line (body_tables (Some e.1.body));
-}
 
 -- what the record of a run has, in a list of its own
 abbrev pub of_run : {K B C : Type 0} → (K × Permanent B → C) → List (K × Terms B) → Run → List C

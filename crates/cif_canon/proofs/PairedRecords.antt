@@ -1,0 +1,186 @@
+-- Records by pairs: the first one is listed by itself, or with the next one if they are a pair.
+use Rattle.std.proofs.Common.{◌≡◌, ℕ, ◌-◌, ◌<◌, Bool, true, false, List, [], ◌∷◌, ◌++◌, Option, None, Some, ap, arith, drop, get_or, length}
+use Rattle.std.proofs.Common.{refl, subst, sym, take, true≢false, ◌∙◌}
+use Rattle.std.specs.Prelude.{IsTrue, ◌↔◌, if◌then◌else◌}
+use Rattle.std.specs.Bool.{Decides}
+use Rattle.std.specs.Cmp.{booleans_Decides}
+use Rattle.std.specs.Cmp.Lexicographic.{pointwise_decides, slice_cmp}
+use Rattle.std.specs.List.{flat_map}
+use Rattle.std.specs.Ordering.{is_eq, nat_cmp}
+use Rattle.std.specs.declared.cmp.Ordering.{Ordering}
+use Rattle.std.proofs.lemmas.Bool.Decides.{Decides-and, Decides-eqb}
+use Rattle.std.proofs.lemmas.List.{take_all}
+use Rattle.std.proofs.lemmas.List.Folds.{flat_map-map}
+use Rattle.cif_canon.specs.Appended.{IsAppended}
+use Rattle.cif_canon.specs.Differences.{DifferencesParts, at_side, is_side}
+use Rattle.cif_canon.specs.Lines.{ScheduleLines, association_plain, line_of_tiploc, schedule_plain}
+use Rattle.cif_canon.specs.Pairs.{ArePair, Listed, are_pair, association_lines, by_pairs, listed_as, schedule_lines, tiploc_lines}
+use Rattle.cif_canon.specs.Steps.ByPairs.{HasWrittenFirst, IsListedFirst, listed_tiploc}
+use Rattle.cif_canon.specs.Steps.Sides.{sided_records, with_record}
+use Rattle.cif_canon.specs.Steps.Texts.{record_at}
+use Rattle.cif_canon.specs.declared.listed_differences.Side.{Side}
+use Rattle.cif_canon.specs.declared.listed_differences.Side.TheVariants.{Left, Right}
+use Rattle.cif_canon.specs.declared.listed_differences.Sided.{Sided}
+use Rattle.cif_canon.proofs.Words.{Permanent, Run, Sink, Terms, Tiploc, key_cmp}
+use Rattle.cif_canon.proofs.AppendedTexts.{both, text-is}
+
+-- ---- the test of a pair
+
+side-decided : (side t : Side) → Decides (is_side side t) (t ≡ side)
+side-decided Left Left = (λ e. refl, λ e. refl)
+side-decided Left Right = (λ e. absurd (true≢false (sym e)), λ e. ap (is_side Left) e)
+side-decided Right Left = (λ e. absurd (true≢false (sym e)), λ e. ap (is_side Right) e)
+side-decided Right Right = (λ e. refl, λ e. refl)
+
+-- keys are equal exactly where they compare equal, by the laws of an entry's key
+pub keys-decided : {K : Type 0} (eq : K → K → Bool) (cmp : K → K → Ordering) → ((j k : K) → eq j k ≡ is_eq (cmp j k)) →
+    ((j k : K) → IsTrue (eq j k) ↔ (j ≡ k)) → (j k : K) → Decides (is_eq (cmp j k)) (j ≡ k)
+keys-decided eq cmp matches same j k = (λ e. (same j k).0 (matches j k ∙ e), λ e. sym (matches j k) ∙ (same j k).1 e)
+
+same-answer : {P : Type 0} (a b : Bool) → Decides a P → Decides b P → a ≡ b
+same-answer true true h k = refl
+same-answer true false h k = sym (k.1 (h.0 refl))
+same-answer false true h k = h.1 (k.0 refl)
+same-answer false false h k = refl
+
+pub pair-decided : {K B : Type 0} (cmp : K → K → Ordering) → ((j k : K) → Decides (is_eq (cmp j k)) (j ≡ k)) →
+    (s t : Sided (K × Permanent B)) → Decides (are_pair cmp s t) (ArePair s t)
+pair-decided cmp decides s t =
+    let all = Decides-and _ _ (side-decided Left s.side) (Decides-and _ _ (side-decided Right t.side)
+    (Decides-and _ _ (decides s.it.0 t.it.0) (Decides-and _ _ (Decides-eqb s.it.1.first t.it.1.first)
+    (Decides-and _ _ (Decides-eqb s.it.1.last t.it.1.last) (pointwise_decides booleans_Decides s.it.1.days t.it.1.days))))) in (
+      λ yes.
+          let (left, (right, (key, (first, (last, days))))) = all.0 yes in record {
+            left = left;
+            right = right;
+            key = key;
+            first = first;
+            last = last;
+            days = days;
+          },
+      λ h. all.1 (h.left, (h.right, (h.key, (h.first, (h.last, h.days))))),
+    )
+
+-- ---- the runs behind the first
+
+module _ {A : Type 0} where
+  pub tail-is : (xs : List A) → take (length xs - 1) (drop 1 xs) ≡ drop 1 xs
+  tail-is [] = refl
+  tail-is (x ∷ xs) = take_all (length (x ∷ xs) - 1) xs (omega arith)
+
+  two-on : (xs : List A) → drop 1 (drop 1 xs) ≡ drop 2 xs
+  two-on [] = refl
+  two-on (x ∷ []) = refl
+  two-on (x ∷ y ∷ xs) = refl
+
+  drop-fewer : (xs : List A) → 0 < length xs → length (drop 1 xs) < length xs
+  drop-fewer [] some = absurd (omega (arith, some))
+  drop-fewer (x ∷ xs) some = let less : length xs < length (x ∷ xs) = omega arith in less
+
+  fewer : (xs : List A) → 0 < length xs → length (take (length xs - 1) (drop 1 xs)) < length xs
+  fewer xs some = subst (λ (l : List A). length l < length xs) (sym (tail-is xs)) (drop-fewer xs some)
+
+module _ {K B : Type 0} (xs ys : List (K × Terms B)) (runs : List (Sided Run)) (run : Sided Run) (it : K × Permanent B)
+    (some : 0 < length runs) (is : run ≡ get_or runs 0 run) (there : record_at (at_side xs ys run.side) run.it ≡ Some it) where
+  abbrev own : Sided (K × Permanent B)
+  own = record { side = run.side; it = it }
+
+  first-of : (rs : List (Sided Run)) → 0 < length rs → run ≡ get_or rs 0 run →
+      sided_records xs ys rs ≡ own ∷ sided_records xs ys (drop 1 rs)
+  first-of [] there_is at = absurd (omega (arith, there_is))
+  first-of (r ∷ rs) there_is at =
+      ap (λ (r : Sided Run). with_record r.side (record_at (at_side xs ys r.side) r.it) (sided_records xs ys rs)) (sym at)
+      ∙ ap (λ (o : Option (K × Permanent B)). with_record run.side o (sided_records xs ys rs)) there
+
+  first-record : sided_records xs ys runs ≡ own ∷ sided_records xs ys (drop 1 runs)
+  first-record = first-of runs some is
+
+  -- a record before these, by whether it makes a pair with the first of them
+  module _ (cmp : K → K → Ordering) (decides : (j k : K) → Decides (is_eq (cmp j k)) (j ≡ k)) (s : Sided (K × Permanent B))
+      (answer : Bool) (told : Decides answer (ArePair s own)) where
+    abbrev others : List (Sided (K × Permanent B))
+    others = sided_records xs ys (drop 1 runs)
+
+    abbrev alone : List (Sided (K × Permanent B)) → List (Listed (K × Permanent B))
+    alone l = (s, None) ∷ by_pairs cmp l
+
+    abbrev by : Bool → List (Listed (K × Permanent B))
+    by b = if b then (s, Some it) ∷ by_pairs cmp others else alone (own ∷ others)
+
+    by-answer : by_pairs cmp (s ∷ sided_records xs ys runs) ≡ by answer
+    by-answer =
+        ap (λ (l : List (Sided (K × Permanent B))). by_pairs cmp (s ∷ l)) first-record
+        ∙ ap by (same-answer {P = ArePair s own} (are_pair cmp s own) answer (pair-decided cmp decides s own) told)
+
+    pub listed-pair : answer ≡ true → IsListedFirst cmp xs ys s (Some it) runs
+    listed-pair is_so = by-answer ∙ ap by is_so
+
+    pub listed-one : answer ≡ false → IsListedFirst cmp xs ys s None runs
+    listed-one is_so = by-answer ∙ ap by is_so ∙ ap alone (sym first-record)
+
+  -- what was written of the first of these, with a partner or without one
+  module _ {W : Type 0} (contents : W → Option (List ℕ)) (errors : W → Option ℕ) (text : Listed (K × Permanent B) → List ℕ)
+      (cmp : K → K → Ordering) (old new : Sink W) where
+    abbrev later : List (Sided Run)
+    later = take (length runs - 1) (drop 1 runs)
+
+    own-first : by_pairs cmp (sided_records xs ys runs) ≡ by_pairs cmp (own ∷ sided_records xs ys later)
+    own-first =
+        ap (by_pairs cmp) first-record
+        ∙ ap (λ (l : List (Sided Run)). by_pairs cmp (own ∷ sided_records xs ys l)) (sym (tail-is runs))
+
+    pub written-one : IsListedFirst cmp xs ys own None later → IsAppended contents errors (text (own, None)) old new →
+        HasWrittenFirst contents errors text cmp xs ys runs later old new
+    written-one listed written = record {
+      item = (own, None);
+      first = own-first ∙ listed;
+      written = written;
+      count = 1;
+      behind = tail-is runs;
+      fewer = fewer runs some;
+    }
+
+    abbrev with : K × Permanent B → List (Sided Run) → List (Listed (K × Permanent B))
+    with other l = (own, Some other) ∷ by_pairs cmp (sided_records xs ys l)
+
+    pub written-pair : (other : K × Permanent B) → run.side ≡ Left → 0 < length later → IsListedFirst cmp xs ys own (Some other) later →
+        IsAppended contents errors (text (record { side = Left; it = it }, Some other)) old new →
+        HasWrittenFirst contents errors text cmp xs ys runs (take (length later - 1) (drop 1 later)) old new
+    written-pair other left more listed written =
+        let one = fewer runs some in
+        let two = fewer later more in record {
+          item = (own, Some other);
+          first = own-first ∙ listed
+              ∙ ap (with other) (sym (tail-is later));
+          written = subst (λ (side : Side). IsAppended contents errors (text (record { side = side; it = it }, Some other)) old new)
+              (sym left) written;
+          count = 2;
+          behind = tail-is later ∙ ap (λ (l : List (Sided Run)). drop 1 l) (tail-is runs) ∙ two-on runs;
+          fewer = omega (arith, one, two);
+        }
+
+-- the three parts of what is listed, one behind another
+module _ {W : Type 0} (contents : W → Option (List ℕ)) (errors : W → Option ℕ) (tiploc_text : Sided (List ℕ) → List ℕ)
+    (association_text : Listed (List ℕ) → List ℕ) (schedule_text : Listed ScheduleLines → List ℕ) (d : DifferencesParts) where
+  abbrev first : List ℕ
+  first = flat_map tiploc_text (tiploc_lines d)
+
+  abbrev second : List ℕ
+  second = flat_map association_text (association_lines d)
+
+  abbrev third : List ℕ
+  third = flat_map schedule_text (schedule_lines d)
+
+  pub lists-appended : (s t u v : Sink W) → IsAppended contents errors (flat_map (listed_tiploc tiploc_text) d.tiplocs) s t →
+      IsAppended contents errors (flat_map (λ e. association_text (listed_as association_plain e)) (by_pairs key_cmp d.associations)) t u →
+      IsAppended contents errors (flat_map (λ e. schedule_text (listed_as schedule_plain e)) (by_pairs (slice_cmp nat_cmp) d.schedules)) u v →
+      IsAppended contents errors (first ++ (second ++ third)) s v
+  lists-appended s t u v a b c =
+      both contents errors first (second ++ third) s t v
+      (text-is contents errors (flat_map (listed_tiploc tiploc_text) d.tiplocs) first s t
+      (sym (flat_map-map tiploc_text (λ (l : Sided Tiploc). record { side = l.side; it = line_of_tiploc l.it }) d.tiplocs)) a)
+      (both contents errors second third t u v
+      (text-is contents errors _ second t u
+      (sym (flat_map-map association_text (listed_as association_plain) (by_pairs key_cmp d.associations))) b)
+      (text-is contents errors _ third u v
+      (sym (flat_map-map schedule_text (listed_as schedule_plain) (by_pairs (slice_cmp nat_cmp) d.schedules))) c))

@@ -1,0 +1,29 @@
+-- Three parts are appended one behind another (`lists-appended`).
+use Rattle.std.proofs.Common.{◌++◌, ap}
+use Rattle.std.specs.List.{flat_map}
+use Rattle.cif_calendar.specs.Entries.{association_entries, schedule_entries}
+use Rattle.cif_canon.specs.Differences.{DifferencesParts}
+use Rattle.cif_canon.specs.Pairs.{association_lines, schedule_lines, tiploc_lines}
+use Rattle.cif_canon.specs.Steps.Sides.{sided_records}
+use Rattle.cif_canon.proofs.AppendedTexts.{text-is}
+use Rattle.cif_canon.proofs.PairedRecords.{lists-appended}
+use Rattle.cif_canon.proofs.pairs.list_differences.Goals as goal
+
+pub returns : goal.returns
+returns g c =
+    let e = c.found.inside in
+    let listing = c.args.listing.now in
+    text-is _ _ _ _ _ _ (ap (λ (d : DifferencesParts). flat_map (g.L.DifferenceListing.tiploc_text listing) (tiploc_lines d)
+    ++ (flat_map (g.L.DifferenceListing.association_text listing) (association_lines d)
+    ++ flat_map (g.L.DifferenceListing.schedule_text listing) (schedule_lines d))) c.found.view_is)
+    (lists-appended _ _ (g.L.DifferenceListing.tiploc_text listing) (g.L.DifferenceListing.association_text listing)
+    (g.L.DifferenceListing.schedule_text listing) (record {
+      tiplocs = e.tiplocs.items;
+      associations = sided_records (association_entries e.left.now.associations.items)
+          (association_entries e.right.now.associations.items) e.associations.items;
+      schedules = sided_records (schedule_entries e.left.now.schedules.items)
+          (schedule_entries e.right.now.schedules.items) e.schedules.items;
+    }) _ _ _ _
+    (rw c.as_slice.ensures.value at c.list_tiplocs.ensures)
+    (rw (c.as_slice-2.ensures.value, c.as_slice-3.ensures.value, c.as_slice-4.ensures.value) at c.write_pairs.ensures)
+    (rw (c.as_slice-5.ensures.value, c.as_slice-6.ensures.value, c.as_slice-7.ensures.value) at c.write_pairs-2.ensures))

@@ -1,0 +1,47 @@
+-- The first run's record is listed with its partner or without one (`written-pair`, `written-one`).
+use Rattle.std.proofs.Common.{◌<◌, length, subst, sym}
+use Rattle.std.specs.Prelude.{All}
+use Rattle.std.proofs.lemmas.List.Elements.{All-drop}
+use Rattle.cif_calendar.specs.Keys.{keyed}
+use Rattle.cif_canon.specs.Differences.{at_side}
+use Rattle.cif_canon.specs.Steps.Sides.{HasSidedRecord}
+use Rattle.cif_canon.specs.declared.listed_differences.Sided.{Sided}
+use Rattle.cif_canon.proofs.Words.{Run, record_of}
+use Rattle.cif_canon.proofs.PairedRecords.{tail-is, written-one, written-pair}
+use Rattle.cif_canon.proofs.pairs.write_first.Goals as goal
+
+pub sided_record-one-requires-clause-record : goal.sided_record-one-requires-clause-record
+sided_record-one-requires-clause-record g c =
+    subst (HasSidedRecord (keyed g.E.Entry.key g.E.Entry.terms c.args.left.now) (keyed g.E.Entry.key g.E.Entry.terms c.args.right.now))
+    (sym c.index-runs-0.is) (c.requires.records 0 c.index-runs-0.result c.requires.some)
+
+pub partner-requires-clause-within : goal.partner-requires-clause-within
+partner-requires-clause-within g c =
+    subst (All (λ (run : Sided Run). run.it.source < length (at_side c.args.left.now c.args.right.now run.side)))
+    (sym (tail-is c.args.runs.now))
+    (All-drop (λ (run : Sided Run). run.it.source < length (at_side c.args.left.now c.args.right.now run.side)) 1 c.args.runs.now
+    c.requires.within)
+
+pub partner-requires-clause-records : goal.partner-requires-clause-records
+partner-requires-clause-records g c =
+    let xs = keyed g.E.Entry.key g.E.Entry.terms c.args.left.now in
+    let ys = keyed g.E.Entry.key g.E.Entry.terms c.args.right.now in
+    subst (All (HasSidedRecord xs ys)) (sym (tail-is c.args.runs.now)) (All-drop (HasSidedRecord xs ys) 1 c.args.runs.now c.requires.records)
+
+pub returns-in-Some : goal.returns-in-Some
+returns-in-Some g c =
+    let one = c.sided_record-one.result in
+    let other = c.in-Some.other in
+    written-pair (keyed g.E.Entry.key g.E.Entry.terms c.args.left.now) (keyed g.E.Entry.key g.E.Entry.terms c.args.right.now)
+    c.args.runs.now c.index-runs-0.result (one.key.now, record_of one.run.now one.body.now) c.requires.some c.index-runs-0.is
+    c.sided_record-one.ensures.record g.W.Write.contents g.W.WriteDevice.write_errors (g.L.PairLines.text c.args.lines.now)
+    g.E.Key.Ord.cmp _ _ (other.key.now, record_of other.run.now other.body.now) c.in-Some.ensures.pair.0 c.in-Some.ensures.pair.1
+    c.in-Some.ensures.listed c.write_pair.ensures
+
+pub returns-in-None : goal.returns-in-None
+returns-in-None g c =
+    let one = c.sided_record-one.result in
+    written-one (keyed g.E.Entry.key g.E.Entry.terms c.args.left.now) (keyed g.E.Entry.key g.E.Entry.terms c.args.right.now)
+    c.args.runs.now c.index-runs-0.result (one.key.now, record_of one.run.now one.body.now) c.requires.some c.index-runs-0.is
+    c.sided_record-one.ensures.record g.W.Write.contents g.W.WriteDevice.write_errors (g.L.PairLines.text c.args.lines.now)
+    g.E.Key.Ord.cmp _ _ c.in-None.ensures.listed c.write_one.ensures

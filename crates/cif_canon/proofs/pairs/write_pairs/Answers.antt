@@ -1,0 +1,70 @@
+-- What is listed first of the rest goes behind what was listed (`behind`).
+use Rattle.std.proofs.Common.{◌≡◌, ◌<◌, ◌∷◌, ◌++◌, [], append-nil, append_assoc, ap, arith, length, refl, subst, sym, ◌∙◌}
+use Rattle.std.specs.Prelude.{All}
+use Rattle.std.specs.List.{flat_map}
+use Rattle.std.proofs.lemmas.Bool.Decides.{nat_tests}
+use Rattle.std.proofs.lemmas.List.{nil_from_length}
+use Rattle.std.proofs.lemmas.List.Elements.{All-drop}
+use Rattle.cif_calendar.specs.Keys.{keyed}
+use Rattle.cif_canon.specs.Differences.{at_side}
+use Rattle.cif_canon.specs.Pairs.{by_pairs}
+use Rattle.cif_canon.specs.Steps.Sides.{HasSidedRecord, sided_records}
+use Rattle.cif_canon.specs.declared.listed_differences.Sided.{Sided}
+use Rattle.cif_canon.proofs.Words.{Run}
+use Rattle.cif_canon.proofs.AppendedTexts.{behind, nothing, text-is}
+use Rattle.cif_canon.proofs.pairs.write_pairs.Goals as goal
+
+pub loop-rest-init : goal.loop-rest-init
+loop-rest-init g c = record {
+  within = c.requires.within;
+  records = c.requires.records;
+  written = ([], refl, nothing _ _ _);
+}
+
+pub write_first-rest-requires-clause-some : goal.write_first-rest-requires-clause-some
+write_first-rest-requires-clause-some g c =
+    let test = c.loop-rest-test.true in
+    let told = c.is_empty.ensures in
+    grind (arith, nat_tests, test, told)
+
+pub write_first-rest-requires-clause-within : goal.write_first-rest-requires-clause-within
+write_first-rest-requires-clause-within g c = c.loop-rest.invariant.within
+
+pub write_first-rest-requires-clause-records : goal.write_first-rest-requires-clause-records
+write_first-rest-requires-clause-records g c = c.loop-rest.invariant.records
+
+pub loop-rest-smaller : goal.loop-rest-smaller
+loop-rest-smaller g c = c.write_first-rest.ensures.fewer
+
+pub loop-rest-preserved : goal.loop-rest-preserved
+loop-rest-preserved g c =
+    let left = c.args.left.now in
+    let right = c.args.right.now in
+    let xs = keyed g.E.Entry.key g.E.Entry.terms left in
+    let ys = keyed g.E.Entry.key g.E.Entry.terms right in
+    let cmp = g.E.Key.Ord.cmp in
+    let f = c.write_first-rest.ensures in
+    let (done, split, written) = c.loop-rest.invariant.written in record {
+      within = subst (All (λ (run : Sided Run). run.it.source < length (at_side left right run.side))) (sym f.behind)
+          (All-drop (λ (run : Sided Run). run.it.source < length (at_side left right run.side)) f.count _ c.loop-rest.invariant.within);
+      records = subst (All (HasSidedRecord xs ys)) (sym f.behind)
+          (All-drop (HasSidedRecord xs ys) f.count _ c.loop-rest.invariant.records);
+      written = (
+        done ++ f.item ∷ [],
+        split ∙ ap (λ l. done ++ l) f.first
+            ∙ sym (append_assoc done (f.item ∷ []) (by_pairs cmp (sided_records xs ys c.write_first-rest.result.now))),
+        behind _ _ (g.L.PairLines.text c.args.lines.now) done f.item _ _ _ written f.written,
+      );
+    }
+
+pub returns : goal.returns
+returns g c =
+    let xs = keyed g.E.Entry.key g.E.Entry.terms c.args.left.now in
+    let ys = keyed g.E.Entry.key g.E.Entry.terms c.args.right.now in
+    let (done, split, written) = c.loop-rest.invariant.written in
+    let test = c.loop-rest-test.false in
+    let told = c.is_empty.ensures in
+    let none : c.loop-rest.rest.now ≡ [] = nil_from_length c.loop-rest.rest.now (grind (arith, nat_tests, test, told)) in
+    text-is _ _ _ _ _ _
+    (ap (flat_map (g.L.PairLines.text c.args.lines.now))
+    (sym (split ∙ ap (λ l. done ++ by_pairs g.E.Key.Ord.cmp (sided_records xs ys l)) none ∙ append-nil done))) written

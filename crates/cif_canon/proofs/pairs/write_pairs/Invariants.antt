@@ -1,0 +1,26 @@
+-- What is written is the text of what was listed so far, and with what the rest is listed as it is all; each run that is left has a record.
+use Rattle.std.proofs.Common.{◌≡◌, ◌<◌, ◌++◌, List, length}
+use Rattle.std.specs.Prelude.{All}
+use Rattle.std.specs.List.{flat_map}
+use Rattle.cif_calendar.specs.Keys.{keyed}
+use Rattle.cif_weeks.specs.Permanent.{Permanent}
+use Rattle.cif_canon.specs.Appended.{IsAppended}
+use Rattle.cif_canon.specs.Differences.{at_side}
+use Rattle.cif_canon.specs.Pairs.{Listed, by_pairs}
+use Rattle.cif_canon.specs.Steps.Sides.{HasSidedRecord, sided_records}
+use Rattle.cif_canon.proofs.pairs.write_pairs.Given as goal
+
+abbrev pub invariant-loop-rest : goal.invariant-loop-rest
+invariant-loop-rest g l =
+    let xs = keyed g.E.Entry.key g.E.Entry.terms l.left in
+    let ys = keyed g.E.Entry.key g.E.Entry.terms l.right in
+    record {
+      within : All (λ run. run.it.source < length (at_side l.left l.right run.side)) l.rest;
+      records : All (HasSidedRecord xs ys) l.rest;
+      written : (done : List (Listed (g.row.E-Key.Denot × Permanent g.row.E-Body.Denot)))
+          × (by_pairs g.E.Key.Ord.cmp (sided_records xs ys l.runs) ≡ done ++ by_pairs g.E.Key.Ord.cmp (sided_records xs ys l.rest))
+          × IsAppended g.W.Write.contents g.W.WriteDevice.write_errors (flat_map (g.L.PairLines.text l.lines) done) l.initial.sink l.sink;
+    }
+
+abbrev pub decreases-loop-rest : goal.decreases-loop-rest
+decreases-loop-rest g l = length l.rest
