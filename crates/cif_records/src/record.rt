@@ -17,7 +17,7 @@ use std::fmt;
 
 /// The kinds of record of the CIF End User Specification that this profile knows, by the
 /// identities in columns 1 and 2.
-#[derive(Clone, Copy, Debug, PartialEq, Eq, Hash)]
+#[derive(Clone, Copy, Debug, PartialEq, Eq)]
 pub enum Kind {
     /// `HD`, the header.
     Hd,

@@ -48,6 +48,7 @@
 //! so, or where first it isn't so.
 
 mod canonical;
+mod line_count;
 mod reading;
 mod sizes;
 mod trials;

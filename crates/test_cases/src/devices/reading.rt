@@ -1,7 +1,8 @@
 //! What is read.
+use super::line_count::count_lines;
 use crate::case::{Case, text_of};
 use crate::output::Output;
-use cif_columns::{End, LineFault, LineReader, Source, TrialReader, count_lines};
+use cif_columns::{End, LineFault, LineReader, Source, TrialReader};
 use cif_extract::{Extract, read_extract};
 use std::alloc::Global;
 use std::io::BufReader;

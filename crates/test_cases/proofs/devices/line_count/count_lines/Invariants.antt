@@ -3,7 +3,7 @@ use Rattle.std.proofs.Common.{◌-◌, ℕ, List}
 use Rattle.cif_columns.specs.GivenLines.{IsReading}
 use Rattle.cif_columns.specs.LineReader.{given, limit}
 use Rattle.cif_columns.specs.Source.{HasReadOn}
-use Rattle.cif_columns.proofs.line_count.count_lines.Given as goal
+use Rattle.test_cases.proofs.devices.line_count.count_lines.Given as goal
 
 abbrev pub invariant-loop-lines : goal.invariant-loop-lines
 invariant-loop-lines g l = (ls : List (List ℕ))

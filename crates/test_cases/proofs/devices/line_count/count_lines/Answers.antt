@@ -4,7 +4,7 @@ use Rattle.cif_columns.specs.GivenLines.{AreAllLines, AreLinesToFault}
 use Rattle.cif_columns.specs.Source.{unread_of}
 use Rattle.cif_columns.proofs.GivenLinesLaws.{reading_starts, reading_line, reading_ends, reading_faults, known_so}
 use Rattle.cif_columns.proofs.ReadSources.{line_reads_on, read_nothing, read_on_both}
-use Rattle.cif_columns.proofs.line_count.count_lines.Goals as goal
+use Rattle.test_cases.proofs.devices.line_count.count_lines.Goals as goal
 
 pub loop-lines-init : goal.loop-lines-init
 loop-lines-init g c =

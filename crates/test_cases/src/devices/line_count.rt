@@ -5,13 +5,11 @@ ghost use Rattle.cif_columns.specs.LineReader.{LineReads};
 ghost use Rattle.cif_columns.specs.Source.{reader_of, source_ended, source_failed, unread_of};
 ghost use Rattle.cif_columns.specs.declared.line_reader.TheConstants.{MAX_LINES};
 
-use crate::line_reader::LineReader;
-use crate::refusal::LineFault;
-use crate::source::{ReadDevice, Source};
+use cif_columns::{LineFault, LineReader, ReadDevice, Source};
 
 /// How many lines the source has, of which at most `max_lines` may come, or why it has no further
 /// line.
-pub fn count_lines<R: ReadDevice>(source: &mut Source<R>, max_lines: u64) -> Result<u64, LineFault>
+pub(crate) fn count_lines<R: ReadDevice>(source: &mut Source<R>, max_lines: u64) -> Result<u64, LineFault>
     requires { max_lines ≤ MAX_LINES }
     ensures all { IfSome (R.remaining (reader_of source.old)) (λ bytes. IfOk result (λ count.
         (lines : List (List ℕ)) × (count ≡ length lines) × AreAllLines max_lines bytes lines)) }
