@@ -36,6 +36,7 @@ use Rattle.cif_canon.specs.declared.asked.Asked.{Asked}
 use Rattle.cif_canon.specs.declared.comparison.Comparison.{Comparison}
 use Rattle.cif_canon.specs.declared.canonical_form.Counts.{Counts}
 use Rattle.cif_canon.specs.declared.rows.Format.{Format}
+use Rattle.cif_canon.specs.declared.rows.Format.TheVariants.{Text, Tsv}
 use Rattle.cif_views.specs.declared.listing.Listing.{Listing}
 use Rattle.cif_tool.specs.Status.{outcome_of}
 use Rattle.cif_tool.specs.declared.job.Job.{Job}
@@ -211,7 +212,7 @@ abbrev pub ReadsInputs : {R A : Type 0} → (R → Option (List ℕ)) → (R →
 ReadsInputs remaining errors (Compare left_file right_file asked common) left left_new right right_new result =
     ReadsBoth errors left left_new right right_new result × LeavesNothing remaining left left_new result
     × LeavesNothing remaining right right_new result
-ReadsInputs remaining errors (Diff left_file right_file asked common) left left_new right right_new result =
+ReadsInputs remaining errors (Diff left_file right_file asked common format) left left_new right right_new result =
     ReadsBoth errors left left_new right right_new result × LeavesNothing remaining left left_new result
     × LeavesNothing remaining right right_new result
 ReadsInputs remaining errors (CheckAll file asked form) source source_new right right_new result =
@@ -231,8 +232,9 @@ IsJobAnswer remaining (Check file asked form) source right = OfInput remaining (
 IsJobAnswer remaining (CheckAll file asked form) source right = OfInput remaining (IsCheckAllAnswer form asked) source
 IsJobAnswer remaining (Compare left_file right_file asked common) source right =
     OfBoth remaining (IsCompareAnswer asked common) source right
-IsJobAnswer remaining (Diff left_file right_file asked common) source right =
+IsJobAnswer remaining (Diff left_file right_file asked common Text) source right =
     OfBoth remaining (IsDiffAnswer asked common) source right
+IsJobAnswer remaining (Diff left_file right_file asked common Tsv) source right = λ text status. ⊥
 IsJobAnswer remaining (Day day file listing) source right = OfInput remaining (IsDayAnswer listing day) source
 IsJobAnswer remaining (Train uid file asked form listing) source right =
     OfInput remaining (IsTrainAnswer listing form asked uid) source
@@ -252,7 +254,7 @@ IsJobFault remaining (CheckAll file asked form) source source_new right right_ne
     FaultOf remaining (IsCheckAllFault asked) source source_new result
 IsJobFault remaining (Compare left_file right_file asked common) source source_new right right_new result =
     FaultOfBoth remaining (IsCompareRefusal asked common) source source_new right right_new result
-IsJobFault remaining (Diff left_file right_file asked common) source source_new right right_new result =
+IsJobFault remaining (Diff left_file right_file asked common format) source source_new right right_new result =
     FaultOfBoth remaining (IsCompareRefusal asked common) source source_new right right_new result
 IsJobFault remaining (Day day file listing) source source_new right right_new result =
     FaultOf remaining (IsDayRefusal day) source source_new result

@@ -411,7 +411,11 @@ pub fn answer<R: ReadDevice, W: WriteDevice>(
             right: _,
             asked,
             common,
-        } => answer_diff(alloc, source, right, sink, asked, *common, kept),
+            format,
+        } => match format {
+            Format::Text => answer_diff(alloc, source, right, sink, asked, *common, kept),
+            Format::Tsv => Err(Fault::Memory),
+        },
         Job::Day {
             day,
             file: _,
