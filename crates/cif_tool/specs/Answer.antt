@@ -19,6 +19,7 @@ use Rattle.cif_canon.specs.Accepted.{SpellsNarrowed}
 use Rattle.cif_extract.specs.declared.fault.Clash.{Clash}
 use Rattle.cif_canon.specs.Asked.{IsNarrowingFault}
 use Rattle.cif_views.specs.Clashes.{AreAllClashes, clashes_text}
+use Rattle.cif_views.specs.DifferenceTable.{difference_table}
 use Rattle.cif_views.specs.WeekCalendar.{IsWeekCalendar}
 use Rattle.cif_canon.specs.Comparison.{AreCompared, comparison_line}
 use Rattle.cif_canon.specs.Counts.{counts_line}
@@ -130,14 +131,19 @@ pub record IsCompareAnswer (asked : Asked) (common : Bool) (left_bytes right_byt
 abbrev pub IsListedStatus : Type 0 → ℕ → Type 0
 IsListedStatus None status = ((status ≡ 0) × None) ⊎ ((status ≡ 1) × ¬ None)
 
--- `diff` answers two inputs by their differences in the window that is asked for.
-pub record IsDiffAnswer (asked : Asked) (common : Bool) (left_bytes right_bytes text : List ℕ) (status : ℕ) : Type 0 where
+-- the text of differences in this format
+abbrev pub differences_in : Format → DifferencesParts → List ℕ
+differences_in Text differences = differences_text differences
+differences_in Tsv differences = difference_table differences
+
+-- `diff` answers two inputs by their differences in the window that is asked for, in this format.
+pub record IsDiffAnswer (format : Format) (asked : Asked) (common : Bool) (left_bytes right_bytes text : List ℕ) (status : ℕ) : Type 0 where
   pub left : ExtractParts
   pub right : ExtractParts
   pub spelled : SpellPair asked common left_bytes right_bytes left right
   pub differences : DifferencesParts
   pub are_differences : AreDifferences left right differences
-  pub text_is : text ≡ differences_text differences
+  pub text_is : text ≡ differences_in format differences
   pub status_is : IsListedStatus (AreNone differences) status
 
 -- `explain` answers these bytes by why the train runs on the day, or doesn't, in this format.
@@ -192,8 +198,8 @@ pub record IsCalendarAnswer (asked : Asked) (uid bytes text : List ℕ) (status 
   pub view : IsWeekCalendar extract uid text
   pub status_is : status ≡ 0
 
--- Why `clashes` or `calendar`, which refuse no clash, have no answer: the input's first refusal, or the window that is asked for doesn't fit, or memory ran out, or the sink
--- failed.
+-- Why `clashes` or `calendar`, which refuse no clash, have no answer: the input's first refusal, or the window that is asked for doesn't
+-- fit, or memory ran out, or the sink failed.
 abbrev pub IsClashlessRefusal : Asked → List ℕ → Unread → Fault → Type 0
 IsClashlessRefusal asked bytes after fault = IsReadFault MAX_LINES bytes after fault
     ⊎ ((extract : ExtractParts) × BytesSpellWithin MAX_LINES bytes extract
@@ -232,9 +238,8 @@ IsJobAnswer remaining (Check file asked form) source right = OfInput remaining (
 IsJobAnswer remaining (CheckAll file asked form) source right = OfInput remaining (IsCheckAllAnswer form asked) source
 IsJobAnswer remaining (Compare left_file right_file asked common) source right =
     OfBoth remaining (IsCompareAnswer asked common) source right
-IsJobAnswer remaining (Diff left_file right_file asked common Text) source right =
-    OfBoth remaining (IsDiffAnswer asked common) source right
-IsJobAnswer remaining (Diff left_file right_file asked common Tsv) source right = λ text status. ⊥
+IsJobAnswer remaining (Diff left_file right_file asked common format) source right =
+    OfBoth remaining (IsDiffAnswer format asked common) source right
 IsJobAnswer remaining (Day day file listing) source right = OfInput remaining (IsDayAnswer listing day) source
 IsJobAnswer remaining (Train uid file asked form listing) source right =
     OfInput remaining (IsTrainAnswer listing form asked uid) source

@@ -24,12 +24,11 @@ returns-in-Compare g c =
     rw c.in-Compare.is
     record { answer = e.answer; fault = e.fault; sources = (e.sources, e.left_end, e.right_end); handed_on = e.handed_on }
 
-pub returns-in-Text : goal.returns-in-Text
-returns-in-Text g c =
+pub returns-in-Diff : goal.returns-in-Diff
+returns-in-Diff g c =
     let e = c.answer_diff.ensures in
     rw c.in-Diff.is
-    (rw c.in-Text.is
-    record { answer = e.answer; fault = e.fault; sources = (e.sources, e.left_end, e.right_end); handed_on = e.handed_on })
+    record { answer = e.answer; fault = e.fault; sources = (e.sources, e.left_end, e.right_end); handed_on = e.handed_on }
 
 pub returns-in-Day : goal.returns-in-Day
 returns-in-Day g c =
