@@ -288,8 +288,7 @@ pub(crate) const FULL: &str = "The full extract; - is standard input";
 
 pub(crate) const UPDATES: &str = "The update extracts, in their order; - is standard input";
 
-pub(crate) const TABLES: &str =
-    "One of header, tiplocs, associations, schedules, calls, changes";
+pub(crate) const TABLES: &str = "One of header, tiplocs, associations, schedules, calls, changes";
 
 pub(crate) const DATE: &str = "The date, such as 260114 for 14 January 2026";
 
