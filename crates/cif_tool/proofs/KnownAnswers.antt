@@ -16,7 +16,7 @@ use Rattle.cif_canon.specs.Canon.{CanonParts, IsCanonOf}
 use Rattle.cif_canon.specs.Comparison.{AreCompared, IsCompareFault, comparison_line}
 use Rattle.cif_views.specs.Clashes.{AreAllClashes, clashes_text}
 use Rattle.cif_canon.specs.Counts.{counts_line}
-use Rattle.cif_canon.specs.Differences.{AreDifferences, AreNone, DifferencesParts, differences_text}
+use Rattle.cif_canon.specs.Differences.{AreDifferences, AreNone, DifferencesParts}
 use Rattle.cif_views.specs.Explanation.{IsExplanation}
 use Rattle.cif_canon.specs.Normalised.{IfWritten, IsNormalised, Normalises}
 use Rattle.cif_canon.specs.Pair.{IsCompareRefusal, ReadAsPair, SpellPair}
@@ -30,7 +30,7 @@ use Rattle.cif_canon.specs.declared.rows.Format.{Format}
 use Rattle.cif_views.specs.declared.listing.Listing.{Listing}
 use Rattle.cif_views.specs.WeekCalendar.{IsWeekCalendar}
 use Rattle.cif_tool.specs.Answer.{IsCalendarAnswer, IsCheckAnswer, IsClashesAnswer, IsCompareAnswer, IsDayAnswer, IsDiffAnswer}
-use Rattle.cif_tool.specs.Answer.{IsExplainAnswer, IsListedStatus, IsNormaliseAnswer, IsTableAnswer, IsTrainAnswer}
+use Rattle.cif_tool.specs.Answer.{IsExplainAnswer, IsListedStatus, IsNormaliseAnswer, IsTableAnswer, IsTrainAnswer, differences_in}
 use Rattle.cif_tool.specs.Status.{listed_status, outcome_of}
 
 -- the status of a list, of which it is told whether there is none
@@ -163,10 +163,10 @@ module _ (asked : Asked) (common : Bool) (left right : Option (List ℕ)) (x y :
         status_is = refl;
       })
 
-  pub diff-answer : (d : DifferencesParts) (none : Bool) → AreDifferences x y d → IsTrue none ↔ AreNone d →
-      IfSome left (λ a. IfSome right (λ b. IsDiffAnswer asked common a b (differences_text d) (listed_status none)))
-  diff-answer d none are tells =
-      known-pair (λ a b. IsDiffAnswer asked common a b (differences_text d) (listed_status none)) (λ a b spelled. record {
+  pub diff-answer : (format : Format) (d : DifferencesParts) (none : Bool) → AreDifferences x y d → IsTrue none ↔ AreNone d →
+      IfSome left (λ a. IfSome right (λ b. IsDiffAnswer format asked common a b (differences_in format d) (listed_status none)))
+  diff-answer format d none are tells =
+      known-pair (λ a b. IsDiffAnswer format asked common a b (differences_in format d) (listed_status none)) (λ a b spelled. record {
         left = x;
         right = y;
         spelled = spelled;

@@ -106,9 +106,9 @@ check = Verbose ∷ File ∷ From ∷ To ∷ Form ∷ All ∷ []
 abbrev pub compare : List Argument
 compare = Verbose ∷ Left ∷ Right ∷ From ∷ To ∷ Common ∷ []
 
--- `cif diff [-v] [--from YYMMDD] [--to YYMMDD] [--common] LEFT RIGHT`
+-- `cif diff [-v] [--from YYMMDD] [--to YYMMDD] [--common] [--format FORMAT] LEFT RIGHT`
 abbrev pub diff : List Argument
-diff = Verbose ∷ Left ∷ Right ∷ From ∷ To ∷ Common ∷ []
+diff = Verbose ∷ Left ∷ Right ∷ From ∷ To ∷ Common ∷ Format ∷ []
 
 -- `cif day [-v] [--stops] [--format FORMAT] YYMMDD [FILE]`
 abbrev pub day : List Argument

@@ -127,8 +127,9 @@ IsChosen (CheckAll file asked form) met = (met.0 ≡ codes "check") × (has_all 
     × AreCanonicalWords met.1 (option_map string_bytes file) asked form
 IsChosen (Compare left right asked common) met = (met.0 ≡ codes "compare")
     × AreTwoFilesWords met.1 (string_bytes left) (string_bytes right) asked common
-IsChosen (Diff left right asked common) met = (met.0 ≡ codes "diff")
+IsChosen (Diff left right asked common shape) met = (met.0 ≡ codes "diff")
     × AreTwoFilesWords met.1 (string_bytes left) (string_bytes right) asked common
+    × (shape ≡ format_of (first_of (codes "format") met.1))
 IsChosen (Day day file listing) met = (met.0 ≡ codes "day")
     × IsDateOf (first_of (codes "YYMMDD") met.1) (Some day)
     × HasFile met.1 (option_map string_bytes file)
@@ -222,7 +223,7 @@ input_names (Normalise file asked form) = (option_map string_bytes file, None)
 input_names (Check file asked form) = (option_map string_bytes file, None)
 input_names (CheckAll file asked form) = (option_map string_bytes file, None)
 input_names (Compare left right asked common) = (Some (string_bytes left), Some (string_bytes right))
-input_names (Diff left right asked common) = (Some (string_bytes left), Some (string_bytes right))
+input_names (Diff left right asked common shape) = (Some (string_bytes left), Some (string_bytes right))
 input_names (Day day file listing) = (option_map string_bytes file, None)
 input_names (Train uid file asked form listing) = (option_map string_bytes file, None)
 input_names (Explain uid day file shape) = (option_map string_bytes file, None)

@@ -319,6 +319,7 @@ fn subcommands() -> &'static [Parts<'static>]
                 Argument::From,
                 Argument::To,
                 Argument::Common,
+                Argument::Format,
             ],
         },
         Parts {
