@@ -22,9 +22,6 @@ use std::str;
 /// The bytes of a line of eighty columns and its line feed.
 pub(crate) const LINE_BYTES: usize = 81;
 
-/// How often something is there, or is repeated, in cases of `sizes` and `calendar-sizes`.
-pub(crate) const SIZES: [usize; 6] = [0, 1, 2, 8, 9, 1000];
-
 /// What is asked.
 #[derive(Drop)]
 pub(crate) struct Case<'a> {

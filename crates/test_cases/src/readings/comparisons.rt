@@ -4,7 +4,7 @@ use crate::output::Output;
 use crate::readings::damage::damaged;
 use crate::readings::numbers::Numbers;
 use crate::readings::plain_reading::{contents_of, first_refusal, has_records_of};
-use crate::readings::read::read_slice;
+use crate::readings::read::{answer_of, read_slice};
 use cif_extract::Fault;
 use std::alloc::{AllocError, Global};
 
@@ -35,16 +35,14 @@ fn compare(alloc: Global, bytes: &[u8], max_lines: u16) -> Result<Comparison, Al
     })
 }
 
-/// Appends whether the bytes are read as their contents say.
-pub(crate) fn push_compared(alloc: Global, out: &mut Output, bytes: &[u8], max_lines: u16) {
+/// Appends what the bytes are read as, and where their contents say something else, that they do.
+pub(crate) fn push_reading(alloc: Global, out: &mut Output, bytes: &[u8], max_lines: u16) {
     let Ok(compared) = compare(alloc, bytes, max_lines) else {
         return out.fail();
     };
-    let number = compared.number;
-    if compared.is_same {
-        writeln!(out, "read as its contents say: {number}")
-    } else {
-        writeln!(out, "not read as its contents say: {number}")
+    writeln!(out, "{}", answer_of(alloc, bytes, max_lines));
+    if !compared.is_same {
+        writeln!(out, "its contents say something else")
     }
 }
 
@@ -95,7 +93,7 @@ fn push_met(out: &mut Output, met: &[bool; 15]) {
 
 /// Appends an input that isn't read as its contents say.
 fn push_difference(alloc: Global, out: &mut Output, input: &[u8], max_lines: u16) {
-    let Ok(call) = format!(in alloc; "plain-look max={max_lines}") else {
+    let Ok(call) = format!(in alloc; "read max={max_lines}") else {
         return out.fail();
     };
     push_case(out, "not-read-as-its-contents-say", call.as_str(), input);
