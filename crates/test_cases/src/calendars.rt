@@ -37,7 +37,14 @@ fn push_call(alloc: Global, out: &mut Output, case: &Case, extract: &Extract) {
     let first = case.day("from").unwrap_or(extract.header.first);
     let last = case.day("to").unwrap_or(extract.header.last);
     if case.value("of") == Some("AA") {
-        push_calendar(alloc, out, case, extract.associations.as_slice(), first, last)
+        push_calendar(
+            alloc,
+            out,
+            case,
+            extract.associations.as_slice(),
+            first,
+            last,
+        )
     } else {
         push_calendar(alloc, out, case, extract.schedules.as_slice(), first, last)
     }

@@ -15,7 +15,7 @@
 //! - `damage count=N others=NAME`: compares so N inputs that are made from this one by damages that
 //!   look random, the same in each run: lines are swapped, dropped, repeated, or stand beside or in
 //!   place of lines of the case NAME, and then bytes are. The answer has the numbers of the refusals
-//!   that were met, 0 for none. An input that is read in another way is printed as a case of `read`.
+//!   that were met, 0 for none. An input that is read in another way is printed.
 //! - `keep`: keeps the input for other cases.
 //!
 //! Each reading is done of a slice and again with one byte a read (`failing-cuts`: with one byte a

@@ -111,7 +111,11 @@ fn push_count(out: &mut Output, count: Result<u64, LineFault>) {
 fn push_extract(alloc: Global, out: &mut Output, source: &mut Source<TrialReader>, max_lines: u16) {
     let outcome = Outcome::of(&read_extract(alloc, source, u64::from(max_lines)));
     let reads = source.reader().calls();
-    writeln!(out, "{outcome}, after {reads} reads, failed {}", source.failed())
+    writeln!(
+        out,
+        "{outcome}, after {reads} reads, failed {}",
+        source.failed()
+    )
 }
 
 /// Appends how many lines these bytes are, over several devices.

@@ -1,5 +1,5 @@
 //! Readings beside a plain look at the whole contents.
-use crate::case::push_case;
+use crate::case::push_bytes;
 use crate::output::Output;
 use crate::readings::damage::damaged;
 use crate::readings::numbers::Numbers;
@@ -70,7 +70,7 @@ pub(crate) fn push_damage(
             return out.fail();
         };
         if !compared.is_same {
-            return push_difference(alloc, out, input.as_slice(), max_lines);
+            return push_difference(out, input.as_slice(), max_lines);
         }
         if let Some(is_met) = met.get_mut(usize::from(compared.number)) {
             *is_met = true;
@@ -92,9 +92,11 @@ fn push_met(out: &mut Output, met: &[bool; 15]) {
 }
 
 /// Appends an input that isn't read as its contents say.
-fn push_difference(alloc: Global, out: &mut Output, input: &[u8], max_lines: u16) {
-    let Ok(call) = format!(in alloc; "read max={max_lines}") else {
-        return out.fail();
-    };
-    push_case(out, "not-read-as-its-contents-say", call.as_str(), input);
+fn push_difference(out: &mut Output, input: &[u8], max_lines: u16) {
+    write!(
+        out,
+        "of at most {max_lines} lines not read as its contents say: "
+    );
+    push_bytes(out, input);
+    writeln!(out)
 }
