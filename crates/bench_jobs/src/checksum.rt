@@ -1,6 +1,4 @@
 //! Checksums of what was made.
-
-use cif_columns::Line;
 use std::fmt;
 
 /// A sum of numbers, as FNV-1a takes bytes.
@@ -16,18 +14,6 @@ impl Checksum {
     /// Takes one number more.
     pub(crate) fn add(&mut self, number: u64) {
         self.0 = (self.0 ^ number).wrapping_mul(0x0000_0100_0000_01b3);
-    }
-
-    /// Takes the columns of one line more.
-    pub(crate) fn add_line(&mut self, line: &Line) {
-        self.add_columns(line.bytes());
-    }
-
-    /// Takes these columns too.
-    pub(crate) fn add_columns(&mut self, columns: &[u8; 80]) {
-        for column in columns {
-            self.add(u64::from(*column));
-        }
     }
 }
 

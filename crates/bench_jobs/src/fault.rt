@@ -1,7 +1,7 @@
 //! Why a job isn't done, and the status then.
 
 use cif_calendar::CalendarFault;
-use cif_columns::{Day, LineFault, Refusal, WriteFault};
+use cif_columns::Day;
 use std::alloc::AllocError;
 use std::{io, str};
 
@@ -37,27 +37,6 @@ fn print_ambiguous(rt: &impl Print, day: Day) -> Result<(), Fault> {
     match str::from_utf8(&day.to_yymmdd()) {
         Ok(date) => Ok(println!(rt; "ambiguous {date}")?),
         Err(_) => Err(Fault::Device),
-    }
-}
-
-impl From<Refusal> for Fault {
-    fn from(_why: Refusal) -> Fault {
-        Fault::Refused
-    }
-}
-
-impl From<LineFault> for Fault {
-    fn from(fault: LineFault) -> Fault {
-        match fault {
-            LineFault::Refused { line: _, why: _ } => Fault::Refused,
-            LineFault::Read => Fault::Device,
-        }
-    }
-}
-
-impl From<WriteFault> for Fault {
-    fn from(_fault: WriteFault) -> Fault {
-        Fault::Device
     }
 }
 

@@ -8,9 +8,6 @@ use std::rt::Env;
 /// What is done with the input.
 #[derive(Clone, Copy)]
 pub(crate) enum Job {
-    Lines,
-    TimeRecords,
-    TimeRead,
     Calendar,
     TimeCalendar { repeats: u32 },
     TimeRuns { repeats: u32, form: Form },
@@ -28,9 +25,6 @@ pub(crate) fn words_of<R: Env + AllocGlobal>(rt: &R) -> Result<Vec<String>, Faul
 /// The job that the second word names, with the numbers behind the file's name.
 pub(crate) fn job_of(words: &[String]) -> Option<Job> {
     match words.get(1)?.as_str() {
-        "lines" => Some(Job::Lines),
-        "time-records" => Some(Job::TimeRecords),
-        "time-read" => Some(Job::TimeRead),
         "calendar" => Some(Job::Calendar),
         "time-calendar" => Some(Job::TimeCalendar {
             repeats: number_at(words, 3)?,

@@ -1,9 +1,6 @@
 //! Does a piece of work that is measured: `bench_jobs JOB [FILE [REPEATS [FORM]]]`. Without FILE it
 //! reads the standard input. JOB is one of these:
 //!
-//! - `lines`: copies lines of 80 columns to the standard output.
-//! - `time-records`: says how long the calls on records take for the lines.
-//! - `time-read`: reads an extract, and says what it has and how long that took.
 //! - `calendar`: makes the calendar of all schedules of an extract, and the runs of that in form 2,
 //!   and says what these have.
 //! - `time-calendar FILE REPEATS`: makes the calendar, says what it has, makes it so many times again,
@@ -17,23 +14,17 @@
 
 mod calendars;
 mod checksum;
-mod extracts;
 mod fault;
 mod job;
 mod joined;
-mod lines;
-mod records;
 mod report;
 mod train;
 
 use calendars::{say_calendar, time_calendar};
 use cif_columns::{ReadDevice, Source};
-use extracts::time_reading;
 use fault::Fault;
 use job::{Job, job_of, words_of};
 use joined::time_runs;
-use lines::copy_lines;
-use records::time_records;
 use std::fs;
 use std::process::ExitCode;
 use std::rt::{Clock, Files};
@@ -70,9 +61,6 @@ fn do_job<D: ReadDevice>(
     source: &mut Source<D>,
 ) -> Result<(), Fault> {
     match job {
-        Job::Lines => copy_lines(rt, source),
-        Job::TimeRecords => time_records(rt, source),
-        Job::TimeRead => time_reading(rt, source),
         Job::Calendar => say_calendar(rt, source),
         Job::TimeCalendar { repeats } => time_calendar(rt, source, repeats),
         Job::TimeRuns { repeats, form } => time_runs(rt, source, repeats, form),

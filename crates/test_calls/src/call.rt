@@ -3,12 +3,10 @@ use crate::calendars::{write_calendar, write_runs};
 use crate::checksum::Checksum;
 use crate::records::write_records;
 use cif_canon::{
-    Asked, canon, check, compare, day_view, differences, normalise, train_view, write_comparison,
-    write_counts,
+    Asked, canon, compare, day_view, normalise, train_view, write_comparison, write_counts,
 };
 use cif_columns::{Day, MAX_LINES, Sink, Source, Uid, WriteDevice, WriteFault};
 use cif_extract::{Extract, Fault, read_extract};
-use cif_views::{clashes, explain_view};
 use cif_weeks::Form;
 use std::alloc::Global;
 
@@ -17,14 +15,10 @@ use std::alloc::Global;
 pub(crate) enum Call<'a> {
     ReadExtract(&'a [u8]),
     Normalise(&'a [u8]),
-    Check(&'a [u8]),
     Canon(&'a Extract),
     Compare(&'a Extract, &'a Extract),
-    Differences(&'a Extract, &'a Extract),
     DayView(&'a Extract, Day),
     TrainView(&'a Extract, Uid),
-    ExplainView(&'a Extract, Uid, Day),
-    Clashes(&'a Extract),
     Calendar(&'a Extract),
     Runs(&'a Extract),
 }
@@ -45,16 +39,10 @@ impl Call<'_> {
         match self {
             Call::ReadExtract(bytes) => write_extract(alloc, *bytes, sink),
             Call::Normalise(bytes) => write_normalised(alloc, *bytes, sink),
-            Call::Check(bytes) => write_checked(alloc, *bytes, sink),
             Call::Canon(extract) => write_canon(alloc, *extract, sink),
             Call::Compare(left, right) => write_compared(alloc, *left, *right, sink),
-            Call::Differences(left, right) => write_differences(alloc, *left, *right, sink),
             Call::DayView(extract, day) => day_view(alloc, *extract, *day, sink),
             Call::TrainView(extract, uid) => train_view(alloc, *extract, uid, sink, Form::Two),
-            Call::ExplainView(extract, uid, day) => {
-                explain_view(alloc, *extract, uid, *day, sink)
-            }
-            Call::Clashes(extract) => write_clashes(alloc, *extract, sink),
             Call::Calendar(extract) => write_calendar(alloc, *extract, sink),
             Call::Runs(extract) => write_runs(alloc, *extract, sink),
         }
@@ -64,18 +52,14 @@ impl Call<'_> {
     pub(crate) fn checksum(&self) -> Result<Checksum, WriteFault> {
         let mut sink = Sink::new(Checksum::new());
         match self {
-            Call::ReadExtract(bytes) | Call::Normalise(bytes) | Call::Check(bytes) => {
-                sink.write_all(*bytes)?;
-            }
-            Call::Compare(left, right) | Call::Differences(left, right) => {
+            Call::ReadExtract(bytes) | Call::Normalise(bytes) => sink.write_all(*bytes)?,
+            Call::Compare(left, right) => {
                 write_records(*left, &mut sink)?;
                 write_records(*right, &mut sink)?;
             }
             Call::Canon(extract)
             | Call::DayView(extract, _)
             | Call::TrainView(extract, _)
-            | Call::ExplainView(extract, _, _)
-            | Call::Clashes(extract)
             | Call::Calendar(extract)
             | Call::Runs(extract) => write_records(*extract, &mut sink)?,
         }
@@ -111,17 +95,6 @@ fn write_normalised<W: WriteDevice>(
     Ok(())
 }
 
-fn write_checked<W: WriteDevice>(
-    alloc: Global,
-    bytes: &[u8],
-    sink: &mut Sink<W>,
-) -> Result<(), Fault> {
-    let mut source = Source::new(bytes);
-    let counts = check(alloc, &mut source, MAX_LINES, &NOTHING_ASKED, Form::Two)?;
-    write_counts(&counts, sink)?;
-    Ok(())
-}
-
 fn write_canon<W: WriteDevice>(
     alloc: Global,
     extract: &Extract,
@@ -141,38 +114,4 @@ fn write_compared<W: WriteDevice>(
 ) -> Result<(), Fault> {
     write_comparison(&compare(alloc, left, right)?, sink)?;
     Ok(())
-}
-
-fn write_differences<W: WriteDevice>(
-    alloc: Global,
-    left: &Extract,
-    right: &Extract,
-    sink: &mut Sink<W>,
-) -> Result<(), Fault> {
-    let differences = differences(alloc, left, right)?;
-    differences.write(sink)?;
-    write_whether_empty(differences.is_empty(), sink)?;
-    Ok(())
-}
-
-fn write_clashes<W: WriteDevice>(
-    alloc: Global,
-    extract: &Extract,
-    sink: &mut Sink<W>,
-) -> Result<(), Fault> {
-    let clashes = clashes(alloc, extract)?;
-    clashes.write(sink)?;
-    write_whether_empty(clashes.is_empty(), sink)?;
-    Ok(())
-}
-
-fn write_whether_empty<W: WriteDevice>(
-    is_empty: bool,
-    sink: &mut Sink<W>,
-) -> Result<(), WriteFault> {
-    if is_empty {
-        sink.write_all(b"none\n")
-    } else {
-        sink.write_all(b"some\n")
-    }
 }

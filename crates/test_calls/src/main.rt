@@ -6,12 +6,10 @@
 //! it returns:
 //!
 //! - `read_extract`: the plain lines of what was read.
-//! - `normalise`, `check`: the line of the counts.
+//! - `normalise`: the line of the counts.
 //! - `canon`: the canonical text, and the line of the counts.
 //! - `compare`: the line that says so. The second extract stands behind a line `==`.
-//! - `differences`, `clashes`: `none` where there is none, and else `some`. The second extract of
-//!   `differences` stands behind a line `==`.
-//! - `day_view YYMMDD`, `train_view UID`, `explain_view UID YYMMDD`: nothing more.
+//! - `day_view YYMMDD`, `train_view UID`: nothing more.
 //! - `calendar`: the dates of the pieces, each with the positions of the winners from Monday on, or
 //!   the date on which it is ambiguous. All schedules are taken as those of one train.
 //! - `runs`: the dates and days of the runs of that calendar.
@@ -84,7 +82,6 @@ fn call_of_source<'a>(name: &str, bytes: &'a [u8]) -> Option<Call<'a>> {
     match name {
         "read_extract" => Some(Call::ReadExtract(bytes)),
         "normalise" => Some(Call::Normalise(bytes)),
-        "check" => Some(Call::Check(bytes)),
         _ => None,
     }
 }
@@ -99,14 +96,8 @@ fn call_of_extracts<'a>(
     match word_at(words, 1) {
         "canon" => Some(Call::Canon(left)),
         "compare" => Some(Call::Compare(left, right)),
-        "differences" => Some(Call::Differences(left, right)),
         "day_view" => Some(Call::DayView(left, day_of(word)?)),
         "train_view" => Some(Call::TrainView(left, uid_of(word)?)),
-        "explain_view" => {
-            let day = day_of(word_at(words, 3))?;
-            Some(Call::ExplainView(left, uid_of(word)?, day))
-        }
-        "clashes" => Some(Call::Clashes(left)),
         "calendar" => Some(Call::Calendar(left)),
         "runs" => Some(Call::Runs(left)),
         _ => None,

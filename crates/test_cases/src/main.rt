@@ -5,7 +5,6 @@
 //! calls there are.
 #![tactic(auto)]
 
-mod bodies;
 mod calendars;
 mod case;
 mod devices;
@@ -38,7 +37,7 @@ fn print_answer(rt: &(impl Print + AllocGlobal), case: &Case, cases: &[Case]) ->
 fn push_answer(alloc: Global, out: &mut Output, case: &Case, cases: &[Case]) {
     if !readings::push_answer(alloc, out, case, cases)
         && !calendars::push_answer(alloc, out, case)
-        && !devices::push_answer(alloc, out, case, cases)
+        && !devices::push_answer(alloc, out, case)
     {
         values::push_answers(out, case);
     }
