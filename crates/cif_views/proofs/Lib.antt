@@ -1,6 +1,7 @@
 mod AllFields
 pub mod CallTexts
 pub mod ClashLists
+mod DifferenceRows
 mod ExplainedMarks
 mod ExplainedTexts
 mod Explaining
