@@ -26,7 +26,7 @@ returns-clause-text g c =
     let left = columns f.1 f.2 c.args.left.now in
     let right = columns f.1 f.2 c.args.right.now in
     let h1 = more-pushed _ _ _ _ (at.call ∷ at.identity ∷ at.place ∷ []) (none-pushed c.push_head.new.row) c.push_stands.ensures.text in
-    let h2 = one-pushed _ _ _ _ Trimmed _ f.0.now h1 c.push.ensures.text refl in
+    let h2 = one-pushed _ _ _ _ Trimmed _ f.0.now h1 c.push.ensures.text c.as_bytes.ensures.value in
     let h3 = shown-pushed _ _ _ _ _ left h2 c.push-2.ensures.text c.shown_of-one.ensures.text in
     let h4 = shown-pushed _ _ _ _ _ right h3 c.push-3.ensures.text c.shown_of-other.ensures.text in
     text-is _ _ _ _ _ _
