@@ -2,8 +2,12 @@ mod AllFields
 pub mod CallTexts
 pub mod ClashLists
 mod DifferenceRows
+mod DifferingCells
 mod ExplainedMarks
 mod ExplainedTexts
 mod Explaining
+mod PairedBodies
+mod PairedJourneys
+mod RowsOfDifferences
 pub mod TableRows
 pub mod WeekLines
