@@ -3,6 +3,7 @@ pub mod CallTexts
 pub mod ClashLists
 mod DifferenceRows
 mod DifferingCells
+pub mod DifferingFields
 mod ExplainedMarks
 mod ExplainedTexts
 mod Explaining

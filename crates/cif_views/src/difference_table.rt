@@ -5,15 +5,16 @@ ghost use Rattle.cif_columns.specs.Field.{columns};
 ghost use Rattle.cif_columns.specs.Sink.{Writes};
 ghost use Rattle.cif_extract.specs.declared.fault.Fault.TheVariants.{Write};
 ghost use Rattle.cif_canon.specs.Appended.{IsAppended};
-ghost use Rattle.cif_canon.specs.Fields.{after, nothing};
+ghost use Rattle.cif_canon.specs.Fields.{after, nothing, trimmed};
 ghost use Rattle.cif_canon.specs.declared.rows.Format.TheVariants.{Tsv};
 ghost use Rattle.cif_views.specs.DifferenceTable.{changed, change_of, difference_table, differing_rows, single_row, without_extra};
-ghost use Rattle.cif_views.specs.Steps.DifferenceRows.{are_named, count_of_calls, head_fields, journeys_of, lines_rows};
-ghost use Rattle.cif_views.specs.Steps.DifferenceRows.{named_fields, place_of, rows_of_place, same_places, stands_of};
-ghost use Rattle.cif_views.specs.Tables.{kind_of_line};
+ghost use Rattle.cif_views.specs.Steps.DifferenceRows.{are_named, count_of_calls, field_row, fields_of_kind, head_fields, is_named};
+ghost use Rattle.cif_views.specs.Steps.DifferenceRows.{journeys_of, lines_rows, named_fields, place_of, rows_of_place, same_places, stands_of};
+ghost use Rattle.cif_views.specs.Tables.{kind_of_line, text_at};
 
 use crate::table_row::TableRow;
 use crate::tables::{JourneyKind, call_after, extra_among, kind_of_line};
+use cif_canon::rows::used_columns;
 use cif_canon::writing::{answer, append};
 use cif_canon::{CanonSchedule, DifferenceListing, Differences, Shape, Side, list_differences};
 use cif_columns::{Line, LineSlice, Sink, WriteDevice, columns_at};
@@ -351,26 +352,51 @@ fn write_differing<W: WriteDevice>(
 {
     let mut row = TableRow::new();
     for field in fields {
-        let (one, other) = (columns_of(left, field), columns_of(right, field));
-        if one != other {
-            push_head(&mut row, kind, "<>", head);
-            push_stands(&mut row, stands);
-            row.push(Shape::Trimmed, field.0.as_bytes());
-            row.push(Shape::Trimmed, one);
-            row.push(Shape::Trimmed, other);
-            row.write(sink);
-        }
+        write_field(&mut row, kind, head, stands, field, left, right, sink);
     }
 }
 
-/// The columns of the field.
-fn columns_of<'a>(line: &'a Line, field: &Named) -> &'a [u8]
-    requires from_one { 1 ≤ field.now.1 }
-    requires in_order { field.now.1 ≤ field.now.2 }
-    requires within { field.now.2 ≤ 80 }
-    ensures { result.now ≡ columns field.now.1 field.now.2 line.now }
+/// Appends the row of a field, if its columns differ.
+fn write_field<W: WriteDevice>(
+    row: &mut TableRow,
+    kind: RowKind,
+    head: &Line,
+    stands: &Stands<'_>,
+    field: &Named,
+    left: &Line,
+    right: &Line,
+    sink: &mut Sink<W>,
+)
+    requires empty { row.old ≡ [] }
+    requires field { IsTrue (is_named field.now) }
+    requires identity { length stands.now.identity.now ≤ 2 }
+    requires place { length stands.now.place.now ≤ 7 }
+    ensures text { IsAppended W.contents W.write_errors
+        (field_row (head_fields kind changed head.now) (stands_of stands.now) field.now.0.now
+        (text_at field.now.1 field.now.2 left.now) (text_at field.now.1 field.now.2 right.now)) sink.old sink.new }
+    ensures empty { row.new ≡ [] }
 {
-    &line.bytes()[field.1 - 1..field.2]
+    let one = shown_of(left, field);
+    let other = shown_of(right, field);
+    if one == other {
+        return;
+    }
+    push_head(row, kind, "<>", head);
+    push_stands(row, stands);
+    row.push(Shape::Trimmed, field.0.as_bytes());
+    row.push(Shape::Whole, one);
+    row.push(Shape::Whole, other);
+    row.write(sink);
+}
+
+/// What a table shows of the field: its columns up to the last that is no space.
+fn shown_of<'a>(line: &'a Line, field: &Named) -> &'a [u8]
+    requires { IsTrue (is_named field.now) }
+    ensures text { result.now ≡ trimmed (columns field.now.1 field.now.2 line.now) }
+    ensures len { length result.now ≤ 12 }
+{
+    let columns = &line.bytes()[field.1 - 1..field.2];
+    &columns[..used_columns(columns)]
 }
 
 /// The lines of the calls and the changes: all but a BX, which stands first.
@@ -453,8 +479,9 @@ fn write_places<W: WriteDevice>(
     let mut rights = right;
     lefts.are_few();
     let mut call = 1;
-    while !lefts.is_empty() && !rights.is_empty() {
-        let (one, other) = (lefts.first(), rights.first());
+    while !lefts.is_empty() {
+        let one = lefts.first();
+        let other = rights.first();
         let kind = kind_of_line(&one);
         write_place(head, call, kind, &one, &other, sink);
         call = call_after(call, kind);
@@ -477,16 +504,23 @@ fn write_place<W: WriteDevice>(
     ensures { IsAppended W.contents W.write_errors
         (rows_of_place (head_fields RowKind.Schedule changed head.now) call left.now right.now) sink.old sink.new }
 {
-    let (identity, location) = (columns_at::<2>(left, 1), columns_at::<7>(left, 3));
+    let identity = columns_at::<2>(left, 1);
+    let location = columns_at::<7>(left, 3);
     let stands = Stands::of(Some(call), &identity, &location);
     let rows = RowKind::Schedule;
+    write_differing(rows, head, &stands, fields_of(kind), left, right, sink);
+}
+
+/// The fields that a line of this kind has behind its suffix.
+fn fields_of(kind: JourneyKind) -> &'static [Named]
+    ensures fields { named_fields result.now ≡ fields_of_kind kind }
+    ensures named { IsTrue (are_named result.now) }
+{
     match kind {
-        JourneyKind::Origin => write_differing(rows, head, &stands, &ORIGIN, left, right, sink),
-        JourneyKind::Stop => write_differing(rows, head, &stands, &STOP, left, right, sink),
-        JourneyKind::Terminus => write_differing(
-            rows, head, &stands, &TERMINUS, left, right, sink,
-        ),
-        JourneyKind::Change => write_differing(rows, head, &stands, &CHANGE, left, right, sink),
-        JourneyKind::Other => {}
+        JourneyKind::Origin => &ORIGIN,
+        JourneyKind::Stop => &STOP,
+        JourneyKind::Terminus => &TERMINUS,
+        JourneyKind::Change => &CHANGE,
+        JourneyKind::Other => &[],
     }
 }

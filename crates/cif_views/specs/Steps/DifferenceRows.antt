@@ -1,16 +1,20 @@
 -- The rows of differences as the code makes them. No public clause cites them.
 use Rattle.std.specs.Prelude.{ℕ, ◌+◌, ◌&&◌, Bool, true, List, [], ◌∷◌, ◌++◌, Option, None, Some, codes, cond, length, map, nat_eq, nat_le}
+use Rattle.std.specs.Prelude.{if◌then◌else◌}
 use Rattle.std.specs.Borrow.{Bor}
 use Rattle.std.specs.Cmp.Lexicographic.{pointwise}
 use Rattle.cif_columns.specs.Field.{columns}
-use Rattle.cif_canon.specs.Fields.{Field, nothing}
+use Rattle.cif_canon.specs.Fields.{Field, nothing, shown}
+use Rattle.cif_canon.specs.declared.rows.Format.TheVariants.{Tsv}
 use Rattle.cif_canon.specs.declared.rows.Shape.TheVariants.{Trimmed}
 use Rattle.cif_views.specs.DifferenceTable.{Stands, association_head, differing_row, differing_rows, own_fields, schedule_head, tiploc_head}
 use Rattle.cif_views.specs.Tables.{Numbered, TableFields, is_call, is_change, kind_of_line, number, text_at}
 use Rattle.cif_views.specs.declared.difference_table.RowKind.{RowKind}
 use Rattle.cif_views.specs.declared.difference_table.RowKind.TheVariants.{Association, Schedule, Tiploc}
 use Rattle.cif_views.specs.declared.difference_table.Stands.{Stands as GivenStands}
-use Rattle.cif_views.specs.declared.tables.JourneyKind.TheVariants.{Other}
+use Rattle.cif_views.specs.declared.difference_table.TheConstants.{CHANGE, ORIGIN, STOP, TERMINUS}
+use Rattle.cif_views.specs.declared.tables.JourneyKind.{JourneyKind}
+use Rattle.cif_views.specs.declared.tables.JourneyKind.TheVariants.{Change, Origin, Other, Stop, Terminus}
 
 -- what a row begins with
 abbrev pub head_fields : RowKind → Field → List ℕ → List Field
@@ -30,10 +34,28 @@ stands_of s = record { call = place_of s.call; identity = (Trimmed, s.identity.n
 abbrev pub named_fields : List (Bor (List ℕ) × ℕ × ℕ) → TableFields (List ℕ)
 named_fields fields = map (λ f. (f.0.now, text_at f.1 f.2)) fields
 
+abbrev pub is_named : Bor (List ℕ) × ℕ × ℕ → Bool
+is_named f = nat_le (length f.0.now) 20 && (nat_le 1 f.1 && (nat_le f.1 f.2 && (nat_le f.2 80 && nat_le f.2 (f.1 + 11))))
+
 abbrev pub are_named : List (Bor (List ℕ) × ℕ × ℕ) → Bool
 are_named [] = true
-are_named (f ∷ fields) =
-    nat_le (length f.0.now) 20 && (nat_le 1 f.1 && (nat_le f.1 f.2 && (nat_le f.2 80 && (nat_le f.2 (f.1 + 11) && are_named fields))))
+are_named (f ∷ fields) = is_named f && are_named fields
+
+-- those that a line of a journey has behind its suffix
+abbrev over : {A B : Type 0} → List A → (A → B) → List B
+over items f = map f items
+
+abbrev pub fields_of_kind : JourneyKind → TableFields (List ℕ)
+fields_of_kind Origin = over ORIGIN (λ f. (f.0.now, text_at f.1 f.2))
+fields_of_kind Stop = over STOP (λ f. (f.0.now, text_at f.1 f.2))
+fields_of_kind Terminus = over TERMINUS (λ f. (f.0.now, text_at f.1 f.2))
+fields_of_kind Change = over CHANGE (λ f. (f.0.now, text_at f.1 f.2))
+fields_of_kind Other = []
+
+-- the row of one field, if its cells differ
+unfoldable pub field_row : List Field → Stands → List ℕ → Field → Field → List ℕ
+field_row head at name left right =
+    if pointwise nat_eq (shown Tsv left) (shown Tsv right) then [] else differing_row head at name left right
 
 -- the lines of two journeys have the same places
 abbrev pub same_places : List (List ℕ) → List (List ℕ) → Bool
