@@ -4,6 +4,7 @@ pub mod Clashes
 pub mod DifferenceTable
 pub mod Explanation
 pub mod Listing
+pub mod RowsOfDifferences
 pub mod Steps
 pub mod Tables
 pub mod WeekCalendar
