@@ -1,20 +1,16 @@
 -- The changes of an update, one after another.
-use Rattle.std.proofs.Common.{◌≡◌, ⊎_elim, ℕ, ◌+◌, ◌<◌, ◌≤◌, ◌==◌, Bool, true, false, not, cond, ◌&&◌, ◌||◌, List, [], ◌∷◌, ◌++◌}
-use Rattle.std.proofs.Common.{length, get_or, take, drop, Option, None, Some, is_some, unwrap_or, Contains, slice_get, refl, sym, ap, ◌∙◌}
-use Rattle.std.proofs.Common.{subst, arith, append-nil, append_assoc, eq-eqb, length-take, take-append-drop}
+use Rattle.std.proofs.Common.{◌≡◌, ℕ, ◌+◌, ◌<◌, ◌≤◌, ◌==◌, Bool, true, false, not, cond, ◌&&◌, ◌||◌, List, [], ◌∷◌, ◌++◌}
+use Rattle.std.proofs.Common.{length, get_or, take, drop, Option, None, Some, is_some, unwrap_or, slice_get, refl, sym, ap, ◌∙◌}
+use Rattle.std.proofs.Common.{arith, append-nil, append_assoc, eq-eqb, length-take, take-append-drop}
 use Rattle.std.specs.Cmp.{IsEquivalence}
 use Rattle.std.specs.List.{items_where_true, list_any}
 use Rattle.std.specs.List.Retain.{IsFiltered, ReturnsInTurn}
 use Rattle.std.specs.Option.{option_or}
 use Rattle.std.specs.Prelude.{filter, map, option_to_list}
-use Rattle.std.proofs.lemmas.Bool.{cases_lt, false≢true}
 use Rattle.std.proofs.lemmas.Bool.Decides.{nat_tests}
 use Rattle.std.proofs.lemmas.List.{get_or-map, length-map, map-append, take_more}
-use Rattle.std.proofs.lemmas.List.Elements.{Contains-get_or, Contains-append_left, Contains-push, Contains-push_cases}
 use Rattle.std.proofs.lemmas.List.Folds.{list_any-append, list_any_at}
-use Rattle.std.proofs.lemmas.List.Quantifiers.{all_pairs_push}
-use Rattle.std.proofs.lemmas.Option.{same_Some, slice_get_past}
-use Rattle.cif_calendar.proofs.Elements.{Contains-first}
+use Rattle.std.proofs.lemmas.Option.{same_Some}
 use Rattle.cif_calendar.proofs.Winning.{terms_at}
 use Rattle.cif_feed.specs.Changes.{ChangeParts, after, after_all, changes_of, is_changed, is_there, key_of, of_key, parts_of, put, put_last}
 use Rattle.cif_feed.specs.Changes.{put_of, refusal, refusals, untouched, with_keys}

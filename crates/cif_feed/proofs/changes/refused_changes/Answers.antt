@@ -1,11 +1,11 @@
 -- One change more: what is there after it (`says-after`), and whether it is refused (`refusals-more`).
-use Rattle.std.proofs.Common.{◌≡◌, ◌+◌, ◌∙◌, ◌++◌, ◌∷◌, [], Bool, false, List, Option, Some, cond, is_some, unwrap_or, sym, ap, subst, take, append-nil}
+use Rattle.std.proofs.Common.{◌≡◌, ◌+◌, ◌∙◌, ◌++◌, ◌∷◌, [], Bool, false, Option, Some, cond, is_some, unwrap_or, sym, ap, subst, take, append-nil}
 use Rattle.std.specs.BTreeMap.{get}
 use Rattle.std.specs.Cmp.{on_equiv}
 use Rattle.std.specs.Ordering.{eq_by_cmp}
 use Rattle.std.proofs.lemmas.Cmp.{eq_by_cmp_equiv}
 use Rattle.std.proofs.lemmas.List.{take_all}
-use Rattle.cif_feed.specs.Changes.{after_all, changes_of, is_there, may, parts_of, refusal, refusals}
+use Rattle.cif_feed.specs.Changes.{after_all, changes_of, is_there, parts_of, refusal, refusals}
 use Rattle.cif_feed.specs.Steps.Changes.{SaysThere, at_keys, same_by}
 use Rattle.cif_feed.specs.declared.changes.RefusedLine.{RefusedLine}
 use Rattle.cif_feed.proofs.ChangeLaws.{after_all-append}
