@@ -22,8 +22,8 @@ use Rattle.cif_tool.specs.CommandLine.{argument, chosen, cif, extract_subcommand
 use Rattle.cif_tool.specs.Job.{HasRequired, HasRequiredWord, IsAmongTaken, IsTaken}
 use Rattle.cif_tool.specs.declared.command_line.Argument.{Argument}
 use Rattle.cif_tool.specs.declared.command_line.Choices.{Choices}
-use Rattle.cif_tool.specs.declared.command_line.Kind.{Kind}
-use Rattle.cif_tool.specs.declared.command_line.Kind.TheVariants as kind
+use Rattle.cif_tool.specs.declared.command_line.Syntax.{Syntax}
+use Rattle.cif_tool.specs.declared.command_line.Syntax.TheVariants as syntax
 
 -- where the subcommand is named, by another name than `help`, and takes its words, Q holds of its name and its matches
 abbrev TakenHas : (Text × List Row → Type 0) → Shape → Type 0
@@ -132,17 +132,17 @@ own_shape choices s = record (new_shape s.0) {
   is_built = true;
 }
 
-plain_rule : (choices : Choices) (id : Text) (k : Kind) (i : ℕ) → IsPlainRule (with_index i (filled (argument choices (id, k))))
-plain_rule choices id kind.Word i = refl
-plain_rule choices id kind.Required i = refl
-plain_rule choices id kind.Several i = refl
-plain_rule choices id kind.Flag i = refl
-plain_rule choices id kind.Verbose i = refl
-plain_rule choices id kind.Name i = refl
-plain_rule choices id kind.Date i = refl
-plain_rule choices id kind.Form i = refl
-plain_rule choices id kind.Format i = refl
-plain_rule choices id kind.Table i = refl
+plain_rule : (choices : Choices) (id : Text) (how : Syntax) (i : ℕ) → IsPlainRule (with_index i (filled (argument choices (id, how))))
+plain_rule choices id syntax.Word i = refl
+plain_rule choices id syntax.Required i = refl
+plain_rule choices id syntax.Several i = refl
+plain_rule choices id syntax.Flag i = refl
+plain_rule choices id syntax.Verbose i = refl
+plain_rule choices id syntax.Name i = refl
+plain_rule choices id syntax.Date i = refl
+plain_rule choices id syntax.Form i = refl
+plain_rule choices id syntax.Format i = refl
+plain_rule choices id syntax.Table i = refl
 
 plain_rules : (choices : Choices) (arguments : List Argument) (i : ℕ) → Each IsPlainRule (filled_from i (rules_of choices arguments))
 plain_rules choices [] i = (tt, tt)
@@ -153,18 +153,18 @@ plain_rules choices (a ∷ rest) i =
 abbrev HasOwn : List Row → Rule → Type 0
 HasOwn rows a = a.required ≡ true → is_some (first_of a.id rows) ≡ true
 
-required_word : (choices : Choices) (id : Text) (k : Kind) (i : ℕ) (rows : List Row) (Rest : Type 0)
-    → HasOwn rows (with_index i (filled (argument choices (id, k)))) → Rest → HasRequiredWord k id rows Rest
-required_word choices id kind.Word i rows Rest has rest = rest
-required_word choices id kind.Required i rows Rest has rest = (has refl, rest)
-required_word choices id kind.Several i rows Rest has rest = (has refl, rest)
-required_word choices id kind.Flag i rows Rest has rest = rest
-required_word choices id kind.Verbose i rows Rest has rest = rest
-required_word choices id kind.Name i rows Rest has rest = rest
-required_word choices id kind.Date i rows Rest has rest = rest
-required_word choices id kind.Form i rows Rest has rest = rest
-required_word choices id kind.Format i rows Rest has rest = rest
-required_word choices id kind.Table i rows Rest has rest = (has refl, rest)
+required_word : (choices : Choices) (id : Text) (how : Syntax) (i : ℕ) (rows : List Row) (Rest : Type 0)
+    → HasOwn rows (with_index i (filled (argument choices (id, how)))) → Rest → HasRequiredWord how id rows Rest
+required_word choices id syntax.Word i rows Rest has rest = rest
+required_word choices id syntax.Required i rows Rest has rest = (has refl, rest)
+required_word choices id syntax.Several i rows Rest has rest = (has refl, rest)
+required_word choices id syntax.Flag i rows Rest has rest = rest
+required_word choices id syntax.Verbose i rows Rest has rest = rest
+required_word choices id syntax.Name i rows Rest has rest = rest
+required_word choices id syntax.Date i rows Rest has rest = rest
+required_word choices id syntax.Form i rows Rest has rest = rest
+required_word choices id syntax.Format i rows Rest has rest = rest
+required_word choices id syntax.Table i rows Rest has rest = (has refl, rest)
 
 required_words : (choices : Choices) (arguments : List Argument) (i : ℕ) (rows : List Row)
     → Each (HasOwn rows) (filled_from i (rules_of choices arguments)) → HasRequired arguments rows
