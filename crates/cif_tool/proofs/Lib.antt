@@ -3,9 +3,7 @@ pub mod CalendarFaults
 pub mod CheckedLines
 pub mod CommandBuilt
 pub mod Each
-pub mod FirstFault
 pub mod GivenWords
-pub mod HelpNotEntered
 pub mod KnownAnswers
 pub mod OwnSubcommand
 pub mod TrainFaults
