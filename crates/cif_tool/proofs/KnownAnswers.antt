@@ -57,17 +57,11 @@ module _ (start : Option (List ℕ)) where
   pub normalise-failed : (form : Form) (asked : Asked) (text : List ℕ) (f : Fault) →
       IfSome start (λ bytes. Normalises form asked MAX_LINES bytes text (Err f)) →
       IfWritten {A = Counts} (Err f) (IfSome start (λ bytes. IsNormaliseAnswer form asked bytes text 0))
-  normalise-failed form asked text (fault.Refused line why) h = tt
-  normalise-failed form asked text (fault.Ambiguous clash) h = tt
-  normalise-failed form asked text fault.WindowsDiffer h = tt
-  normalise-failed form asked text fault.OutsideWindow h = tt
-  normalise-failed form asked text fault.WindowReversed h = tt
-  normalise-failed form asked text fault.Read h = tt
   normalise-failed form asked text fault.Write h =
       known_so start (λ bytes. Normalises form asked MAX_LINES bytes text (Err fault.Write))
       (λ bytes. IsNormaliseAnswer form asked bytes text 0)
       (λ bytes is. record { counts = is.0; normalised = is.1; status_is = refl }) h
-  normalise-failed form asked text fault.Memory h = tt
+  normalise-failed form asked text _ h = tt
 
   module _ (x : ExtractParts) (spelled : IfSome start (λ bytes. BytesSpellWithin MAX_LINES bytes x)) where
     pub day-answer : (listing : Listing) (day : ℕ) (text : List ℕ) → IsDayListing listing x day text →
