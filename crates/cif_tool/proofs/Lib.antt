@@ -1,6 +1,6 @@
 pub mod Answered
-pub mod CalendarFaults
 pub mod CheckedLines
+pub mod ClashlessFaults
 pub mod CommandBuilt
 pub mod Each
 pub mod GivenWords

@@ -51,7 +51,7 @@ returns-clause-answer g c =
     let canon = c.in_ok-canon.canon in
     handed-text _ _ _ _ (table_text c.args.table canon.lines) 0 _ 0 call.result call.new.sink c.finish.new.sink c.finish.result refl
     call.ensures.writes call.ensures.fault
-    (table-answer _ c.args.table c.args.form c.args.asked.now (extract_parts c.in_ok-extract.extract) c.in_ok-extract.ensures.ok canon
+    (table-answer _ c.args.asked.now (extract_parts c.in_ok-extract.extract) c.in_ok-extract.ensures.ok c.args.table c.args.form canon
     (rw c.insert-extract.ensures.value at c.in_ok-canon.ensures.ok)) c.finish.ensures.finishes
 
 pub returns-clause-fault : goal.returns-clause-fault
