@@ -1,6 +1,6 @@
 -- Where `clap` takes the words of a command, each argument that it finds has a value, and none of them enters its subcommand `help`.
-use Rattle.std.proofs.Common.{◌≡◌, Bool, true, false, ℕ, zero, suc, refl, sym, subst, List, [], ◌∷◌, ◌++◌, ◌||◌}
-use Rattle.std.proofs.Common.{◌&&◌, not, length, drop, Option, Some, None, is_some, if◌then◌else◌, true≢false, codes}
+use Rattle.std.proofs.Common.{◌≡◌, Bool, true, false, ℕ, zero, suc, refl, sym, subst, List, [], ◌∷◌, ◌++◌, ◌||◌, ◌&&◌, not, length, drop}
+use Rattle.std.proofs.Common.{Option, Some, None, is_some, if◌then◌else◌, true≢false, codes}
 use Rattle.std.specs.Prelude.{⊤, IfSome, find, slice_get, encode_utf8}
 use Rattle.std.specs.List.{fold, list_any}
 use Rattle.std.specs.Option.{option_map_or, option_and_then}
@@ -11,20 +11,19 @@ use Rattle.clap.specs.Facts.{explicit_source, unwrap_or_range}
 use Rattle.clap.specs.Kinds.{Kinds, check_kinds, or_else, range_kinds}
 use Rattle.clap.specs.Walk.{Held, Names, Outcome, Step, Waiting, Walk, action_of, after_flag, after_step, arg_by_id, arg_by_index}
 use Rattle.clap.specs.Walk.{arg_by_long, arg_by_short, at_row, attached_value, bundle, bundle_met, bundle_step, default_rows, done}
-use Rattle.clap.specs.Walk.{finished, flag_met, has_row, idle, is_pending, long_met, long_or_other, more_values, most_values, next}
-use Rattle.clap.specs.Walk.{nothing_held, option, option_met, option_word, plain, plain_word, positional, reacted, reading_by}
-use Rattle.clap.specs.Walk.{refused, settled, settled_rows, short_met, short_or_plain, subcommand, subcommand_met}
-use Rattle.clap.specs.Walk.{subcommand_or_other, takes_several, takes_values, to_positional, trailing, used, used_as, used_by_id}
-use Rattle.clap.specs.Walk.{value, values_or_missing, waits, walk, walk_from, walked, walked_from, with_default, with_values}
-use Rattle.clap.specs.Walk.{without, word_met}
+use Rattle.clap.specs.Walk.{finished, flag_met, has_row, is_pending, long_met, long_or_other, more_values, most_values, next, nothing_held}
+use Rattle.clap.specs.Walk.{option, option_met, option_word, plain, plain_word, reacted, reading_by, settled, settled_rows, short_met}
+use Rattle.clap.specs.Walk.{short_or_plain, subcommand, subcommand_met, subcommand_or_other, takes_several, takes_values, to_positional}
+use Rattle.clap.specs.Walk.{trailing, used, used_as, used_by_id, value, values_or_missing, waits, walk, walk_from, walked, walked_from}
+use Rattle.clap.specs.Walk.{with_default, with_values, without, word_met}
 use Rattle.clap.specs.Takes.{is_given}
 use Rattle.clap.specs.Simple.{rows_at}
-use Rattle.clap.specs.Faults.{bundle_fault, bundle_step_fault, check_fault, defaults_fault, flag_word_fault}
-use Rattle.clap.specs.Faults.{flags_fault, level_fault, long_fault, option_fault, other_fault, positional_fault, react_fault}
-use Rattle.clap.specs.Faults.{settle_fault, short_fault, step_fault, stray_fault, turn_fault, use_fault, walk_fault, word_fault}
+use Rattle.clap.specs.Faults.{bundle_fault, bundle_step_fault, defaults_fault, flag_word_fault, flags_fault, level_fault, long_fault}
+use Rattle.clap.specs.Faults.{option_fault, other_fault, positional_fault, react_fault, settle_fault, short_fault, step_fault, stray_fault}
+use Rattle.clap.specs.Faults.{turn_fault, use_fault, walk_fault, word_fault}
 use Rattle.clap.specs.declared.error.ErrorKind.TheVariants.{DisplayHelp, InvalidSubcommand, TooManyValues}
 use Rattle.clap.specs.declared.builder.ArgAction.{ArgAction}
-use Rattle.clap.specs.declared.builder.ArgAction.TheVariants.{Set, SetTrue, SetFalse, Append, Count, Help, HelpShort, HelpLong, Version}
+use Rattle.clap.specs.declared.builder.ArgAction.TheVariants.{Set, SetTrue, Append, Help, Version}
 use Rattle.clap.specs.declared.parser.ValueSource.{ValueSource}
 use Rattle.clap.specs.declared.parser.ValueSource.TheVariants.{DefaultValue, CommandLine}
 use Rattle.cif_tool.proofs.Each.{Each, each_both, found_holds}
@@ -101,10 +100,7 @@ used_by SetTrue a values rows has few f =
     some_filled a CommandLine (values_or_missing a values) (without a.id rows) (flag_value a values has) (without_filled a.id rows f)
 used_by Help a values rows ok few f = f
 used_by Version a values rows ok few f = f
-used_by SetFalse a values rows bad few f = absurd bad
-used_by Count a values rows bad few f = absurd bad
-used_by HelpShort a values rows bad few f = absurd bad
-used_by HelpLong a values rows bad few f = absurd bad
+used_by _ a values rows bad few f = absurd bad
 
 use_filled : (again : Bool) (a : Rule) (values : List Text) (rows : List Row) → IsPlainRule a → use_fault again a values rows ≡ []
     → Each IsFilled rows → Each IsFilled (used a values rows)
@@ -200,14 +196,13 @@ module _ (s : Shape) (plains : Each IsPlainRule s.rules) where
   abbrev IsMet : Held × Step → Type 0
   IsMet met = Each IsFilled met.0.rows × IsStepOn met.1
 
-  option_met_filled : (o : Option Rule) (id word : Text) (h : Held) → Each IsFilled h.rows → Each IsFilled (option_word o id word h).0.rows
-  option_met_filled None id word h f = f
-  option_met_filled (Some a) id word h f = f
+  option_on : (o : Option Rule) (id word : Text) (h : Held) → Each IsFilled h.rows → Each IsFilled (option_word o id word h).0.rows
+  option_on None id word h f = f
+  option_on (Some a) id word h f = f
 
   plain_on : (waiting : Waiting) (word : Text) (h : Held) → Each IsFilled h.rows → IsMet (plain_word s.rules waiting word h)
-  plain_on (option id) word h f = (option_met_filled (arg_by_id s.rules id) id word h f, tt)
-  plain_on idle word h f = (f, tt)
-  plain_on positional word h f = (f, tt)
+  plain_on (option id) word h f = (option_on (arg_by_id s.rules id) id word h f, tt)
+  plain_on _ word h f = (f, tt)
 
   after_on : (waiting : Waiting) (word : Text) (h : Held) (o : Outcome) → Each IsFilled h.rows
       → IsMet (after_flag s.rules waiting word h o)
