@@ -3,11 +3,14 @@ use Rattle.std.proofs.Common.{◌≡◌, ◌≢◌, ℕ, List, [], Option, Resul
 use Rattle.std.specs.Prelude.{IsErrAnd, MatchResult}
 use Rattle.std.proofs.lemmas.Result.{IfOk-weaker, err_from_is_err_and}
 use Rattle.cif_columns.specs.Sink.{HasFailed, HasWritten, Writes}
+use Rattle.cif_columns.specs.declared.line_reader.TheConstants.{MAX_LINES}
 use Rattle.cif_columns.specs.declared.sink.Sink.{Sink}
 use Rattle.cif_columns.proofs.WrittenTexts.{failed_second, written_both}
 use Rattle.cif_extract.specs.declared.fault.Fault.{Fault}
 use Rattle.cif_extract.specs.declared.fault.Fault.TheVariants as fault
+use Rattle.cif_canon.specs.Fault.{IsOfReadNarrowed}
 use Rattle.cif_canon.specs.Normalised.{FaultWrites, IfWritten}
+use Rattle.cif_canon.proofs.HandedFaults.{at-fault}
 use Rattle.cif_tool.specs.Answer.{Answers, Finishes, IfAnswered}
 
 -- what holds where a text was written, and what follows from it
@@ -46,6 +49,12 @@ module _ {W : Type 0} (contents : W → Option (List ℕ)) (errors : W → Optio
         writes = unwritten ℕ old f silent;
         answer = unanswered (P []) f silent;
       }
+
+  -- the same of a fault of reading
+  pub fails-to-read : (P : List ℕ → ℕ → Type 0) (old : Sink W) (result : Result ℕ Fault) (f : Fault) → IsErrAnd result (λ e. e ≡ f) →
+      IsOfReadNarrowed MAX_LINES f → Answers contents errors P old old result
+  fails-to-read P old result f handed of =
+      fails-silently P old result f (at-fault result f handed) (λ write. subst (IsOfReadNarrowed MAX_LINES) write of)
 
   module _ (P : List ℕ → ℕ → Type 0) (old : Sink W) (text : List ℕ) (status : ℕ) where
     answered : (A : Type 0) (f : Fault) → IfWritten {A = A} (Err f) (P text status) → IfAnswered (Err f) (P text)

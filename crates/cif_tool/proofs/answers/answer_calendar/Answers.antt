@@ -2,25 +2,22 @@
 -- `read`: what was read, of the extract that is kept.
 use Rattle.std.proofs.Common.{◌≢◌, subst}
 use Rattle.cif_columns.proofs.GivenLinesLaws.{known_so}
-use Rattle.cif_columns.specs.declared.line_reader.TheConstants.{MAX_LINES}
 use Rattle.cif_columns.specs.Source.{unread_of}
 use Rattle.cif_extract.specs.ExtractParts.{extract_parts}
 use Rattle.cif_extract.specs.declared.fault.Fault.TheVariants.{Read}
-use Rattle.cif_canon.specs.Fault.{IsOfReadNarrowed}
 use Rattle.cif_canon.proofs.BothRead.{read-on}
-use Rattle.cif_canon.proofs.HandedFaults.{at-fault, known-fault}
+use Rattle.cif_canon.proofs.HandedFaults.{known-fault}
 use Rattle.cif_views.specs.WeekCalendar.{IsWeekCalendarFault}
 use Rattle.cif_tool.specs.Answer.{IsClashlessRefusal}
-use Rattle.cif_tool.proofs.Answered.{fails-silently, handed, handed-fault, written-then}
+use Rattle.cif_tool.proofs.Answered.{fails-to-read, handed, handed-fault, written-then}
 use Rattle.cif_tool.proofs.ClashlessFaults.{calendar-fault, clashless-fault}
 use Rattle.cif_tool.proofs.KnownAnswers.{calendar-answer}
 use Rattle.cif_tool.proofs.answers.answer_calendar.Goals as goal
 
 pub returns-in_err-extract-clause-answer : goal.returns-in_err-extract-clause-answer
 returns-in_err-extract-clause-answer g c =
-    let f = c.in_err-extract.field-0.0 in
-    fails-silently _ _ _ c.args.sink.now c.from_residual.result f (at-fault c.from_residual.result f c.from_residual.ensures.1)
-    (λ write. subst (IsOfReadNarrowed MAX_LINES) write c.in_err-extract.ensures.answers)
+    fails-to-read _ _ _ c.args.sink.now c.from_residual.result c.in_err-extract.field-0.0 c.from_residual.ensures.1
+    c.in_err-extract.ensures.answers
 
 pub returns-in_err-extract-clause-fault : goal.returns-in_err-extract-clause-fault
 returns-in_err-extract-clause-fault g c =
