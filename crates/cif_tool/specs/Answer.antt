@@ -17,7 +17,6 @@ use Rattle.cif_feed.specs.Reasons.{reasons_in, reasons_text}
 use Rattle.cif_weeks.specs.declared.form.Form.{Form}
 use Rattle.cif_canon.specs.Accepted.{SpellsNarrowed}
 use Rattle.cif_extract.specs.declared.fault.Clash.{Clash}
-use Rattle.cif_canon.specs.Asked.{IsNarrowingFault}
 use Rattle.cif_views.specs.Clashes.{AreAllClashes, clashes_text}
 use Rattle.cif_views.specs.DifferenceTable.{difference_table}
 use Rattle.cif_views.specs.WeekCalendar.{IsWeekCalendar}
@@ -25,7 +24,7 @@ use Rattle.cif_canon.specs.Comparison.{AreCompared, comparison_line}
 use Rattle.cif_canon.specs.Counts.{counts_line}
 use Rattle.cif_canon.specs.Differences.{AreDifferences, AreNone, DifferencesParts, differences_text}
 use Rattle.cif_views.specs.Explanation.{IsExplanation, IsExplanationFault}
-use Rattle.cif_canon.specs.Fault.{IsNormaliseFault}
+use Rattle.cif_canon.specs.Fault.{IsNormaliseFault, IsReadNarrowedFault}
 use Rattle.cif_canon.specs.Lines.{lines_of}
 use Rattle.cif_canon.specs.Normalised.{FaultWrites, IsNormalised}
 use Rattle.cif_canon.specs.Pair.{FaultOfBoth, IsCompareRefusal, ReadsBoth, SpellPair}
@@ -198,12 +197,11 @@ pub record IsCalendarAnswer (asked : Asked) (uid bytes text : List ℕ) (status 
   pub view : IsWeekCalendar extract uid text
   pub status_is : status ≡ 0
 
--- Why `clashes` or `calendar`, which refuse no clash, have no answer: the input's first refusal, or the window that is asked for doesn't
--- fit, or memory ran out, or the sink failed.
+-- Why `clashes` or `calendar`, which refuse no clash, have no answer: the bytes aren't read as an extract for the window that is asked
+-- for; or they are, and the sink failed.
 abbrev pub IsClashlessRefusal : Asked → List ℕ → Unread → Fault → Type 0
-IsClashlessRefusal asked bytes after fault = IsReadFault MAX_LINES bytes after fault
-    ⊎ ((extract : ExtractParts) × BytesSpellWithin MAX_LINES bytes extract
-    × (IsNarrowingFault asked extract.header fault ⊎ ((fault ≡ Memory) ⊎ (fault ≡ Write))))
+IsClashlessRefusal asked bytes after Write = (extract : ExtractParts) × SpellsNarrowed MAX_LINES asked extract bytes
+IsClashlessRefusal asked bytes after fault = IsReadNarrowedFault MAX_LINES asked bytes after fault
 
 -- where a command answers, its sink's writer holds nothing back: the whole answer is handed on
 abbrev pub IsHandedOn : {W A E : Type 0} → (W → Type 0) → Sink W → Result A E → Type 0

@@ -17,8 +17,8 @@ use Rattle.cif_weeks.specs.declared.form.Form.TheVariants.{One, Two}
 use Rattle.cif_tool.specs.CommandLine.{AreChoices, chosen, extract_subcommands, faults_of, feed_subcommands, given}
 use Rattle.cif_tool.specs.declared.command_line.Argument.{Argument}
 use Rattle.cif_tool.specs.declared.command_line.Choices.{Choices}
-use Rattle.cif_tool.specs.declared.command_line.Kind.{Kind}
-use Rattle.cif_tool.specs.declared.command_line.Kind.TheVariants as kind
+use Rattle.cif_tool.specs.declared.command_line.Syntax.{Syntax}
+use Rattle.cif_tool.specs.declared.command_line.Syntax.TheVariants as syntax
 use Rattle.cif_tool.specs.declared.job.Call.{Call}
 use Rattle.cif_tool.specs.declared.job.FeedJob.{FeedJob}
 use Rattle.cif_tool.specs.declared.job.FeedJob.TheVariants.{Prepare, Update}
@@ -185,11 +185,11 @@ IsTaskChosen (Feed job) = IsFeedChosen job
 abbrev pub IsCallChosen : Call → Text × List Row → Type 0
 IsCallChosen call met = IsTaskChosen call.task met × (call.verbose ≡ is_set (first_of (codes "verbose") met.1))
 
--- a word of this id is there, if one of its kind may not be left out, and so is the rest
-abbrev pub HasRequiredWord : Kind → Text → List Row → Type 0 → Type 0
-HasRequiredWord kind.Required id rows Rest = HasWord id rows × Rest
-HasRequiredWord kind.Several id rows Rest = HasWord id rows × Rest
-HasRequiredWord kind.Table id rows Rest = HasWord id rows × Rest
+-- a word of this id is there, if one that is written so may not be left out, and so is the rest
+abbrev pub HasRequiredWord : Syntax → Text → List Row → Type 0 → Type 0
+HasRequiredWord syntax.Required id rows Rest = HasWord id rows × Rest
+HasRequiredWord syntax.Several id rows Rest = HasWord id rows × Rest
+HasRequiredWord syntax.Table id rows Rest = HasWord id rows × Rest
 HasRequiredWord _ id rows Rest = Rest
 
 -- of these arguments those are there that may not be left out

@@ -486,8 +486,8 @@ fn add_line(line: &LineAgain, why: Refusal, reader: Reader, message: &mut Messag
             add_columns(29, 29, "a holiday code is a space, X, E or G", message);
         }
         _ => {
-            if let Some(refused) = columns_refused(line.bytes.as_slice(), why) {
-                add_columns(refused.first, refused.last, refused.what, message);
+            if let Some((first, last, what)) = columns_refused(line.bytes.as_slice(), why) {
+                add_columns(first, last, what, message);
             }
         }
     }

@@ -319,8 +319,7 @@ pub fn answer_clashes<R: ReadDevice, W: WriteDevice>(
     ensures end { LeavesNothing R.remaining source.old source.new result }
     ensures handed_on { IsHandedOn W.holds_nothing sink.new result }
 {
-    let mut extract = read_extract(alloc, source, MAX_LINES)?;
-    narrow(&mut extract, asked)?;
+    let extract = read_narrowed(alloc, source, MAX_LINES, asked)?;
     let found = clashes(alloc, &extract)?;
     finish(found.write(sink), sink, listed(found.is_empty()))
 }
@@ -367,8 +366,7 @@ pub fn answer_calendar<R: ReadDevice, W: WriteDevice>(
     ensures end { LeavesNothing R.remaining source.old source.new result }
     ensures handed_on { IsHandedOn W.holds_nothing sink.new result }
 {
-    let mut extract = read_extract(alloc, source, MAX_LINES)?;
-    narrow(&mut extract, asked)?;
+    let extract = read_narrowed(alloc, source, MAX_LINES, asked)?;
     let extract = kept.insert(extract);
     finish(week_calendar(alloc, extract, uid, sink), sink, DONE)
 }

@@ -3,10 +3,12 @@ ghost use Rattle.std.specs.Io.{ReadsAtMost};
 
 use crate::words::is_standard;
 use arrayvec::ArrayVec;
-use cif_columns::{LINE_WIDTH, Line, ReadDevice, WriteDevice};
+use cif_columns::{LINE_WIDTH, Line, ReadDevice, Sink, WriteDevice};
+use cif_extract::Fault;
 use cif_records::Header;
+use std::alloc::Global;
 use std::fs::OpenFile;
-use std::io::{Read, Seek, SeekFrom, Write};
+use std::io::{BufWriter, Read, Seek, SeekFrom, Write};
 use std::rt::Files;
 use std::{fs, io};
 
@@ -203,6 +205,20 @@ impl<W: Write> WriteDevice for Output<'_, W> {
 
     fn flush_once(&mut self) -> io::Result<()> {
         self.flush()
+    }
+}
+
+/// The bytes of output that are gathered before they are written.
+const OUTPUT_BUFFER: usize = 65_536;
+
+/// A sink that gathers what goes to the output; Memory comes where there is none for it.
+pub(crate) fn buffered<W: WriteDevice + Drop>(
+    alloc: Global,
+    output: W,
+) -> Result<Sink<BufWriter<W>>, Fault> {
+    match BufWriter::with_capacity(alloc, OUTPUT_BUFFER, output) {
+        Ok(output) => Ok(Sink::new(output)),
+        Err(_) => Err(Fault::Memory),
     }
 }
 
