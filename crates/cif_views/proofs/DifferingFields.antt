@@ -1,24 +1,23 @@
 -- The rows of fields that differ.
-use Rattle.std.proofs.Common.{◌≡◌, ℕ, ◌+◌, ◌<◌, ◌≤◌, zero, suc, Bool, true, false, Bor, IsTrue, List, [], ◌∷◌, ◌++◌, cond, codes, if◌then◌else◌}
-use Rattle.std.proofs.Common.{◌∙◌, append-nil, append_assoc, ap, arith, drop, get_or, length, map, refl, slice_index_or, sym, take}
+use Rattle.std.proofs.Common.{◌≡◌, ℕ, ◌+◌, ◌<◌, zero, suc, Bool, true, false, Bor, IsTrue, List, [], ◌∷◌, ◌++◌, cond, codes, if◌then◌else◌}
+use Rattle.std.proofs.Common.{◌∙◌, append-nil, append_assoc, ap, arith, drop, get_or, length, refl, slice_index_or, sym, take}
 use Rattle.std.specs.Prelude.{find, nat_eq, replicate}
 use Rattle.std.specs.List.{flat_map}
-use Rattle.std.specs.Cmp.Lexicographic.{bytes_decides, pointwise, pointwise_decides}
+use Rattle.std.specs.Cmp.Lexicographic.{bytes_decides, pointwise}
 use Rattle.std.proofs.lemmas.Bool.{and_parts, false≢true}
 use Rattle.std.proofs.lemmas.List.{take-take}
-use Rattle.std.proofs.lemmas.List.Folds.{flat_map-map}
 use Rattle.cif_columns.specs.Field.{columns}
 use Rattle.cif_records.specs.Kind.{is_identity, kinds}
 use Rattle.cif_canon.specs.Fields.{Field, after, line_of, nothing, shown, trimmed}
 use Rattle.cif_canon.specs.declared.rows.Format.TheVariants.{Tsv}
 use Rattle.cif_canon.specs.declared.rows.Shape.TheVariants.{Trimmed}
 use Rattle.cif_views.specs.DifferenceTable.{Stands, differing_row, differing_rows, own_fields}
-use Rattle.cif_views.specs.Steps.DifferenceRows.{are_named, field_row, fields_of_kind, head_fields, is_named, lines_rows, named_fields, rows_of_place, same_places}
+use Rattle.cif_views.specs.Steps.DifferenceRows.{are_named, field_row, fields_of_kind, head_fields, is_named, lines_rows, named_fields}
+use Rattle.cif_views.specs.Steps.DifferenceRows.{rows_of_place, same_places}
 use Rattle.cif_views.specs.Steps.TableRows.{call_fields_of}
-use Rattle.cif_views.specs.Tables.{Numbered, TableFields, call_fields, is_call, is_change, journey_kind, kind_of_line, names, number, row_fields}
-use Rattle.cif_views.specs.Tables.{text_at}
+use Rattle.cif_views.specs.Tables.{Numbered, TableFields, call_fields, is_call, is_change, journey_kind, kind_of_line, names, number}
+use Rattle.cif_views.specs.Tables.{row_fields, text_at}
 use Rattle.cif_views.specs.declared.difference_table.RowKind.{RowKind}
-use Rattle.cif_views.specs.declared.difference_table.TheConstants.{CHANGE, ORIGIN, STOP, TERMINUS}
 use Rattle.cif_views.specs.declared.tables.JourneyKind.{JourneyKind}
 use Rattle.cif_views.specs.declared.tables.JourneyKind.TheVariants.{Change, Origin, Other, Stop, Terminus}
 use Rattle.cif_views.proofs.DifferenceRows.{head-row}
@@ -180,12 +179,14 @@ module _ (head : List Field) (whole : List ℕ) where
   abbrev pub PlacesAreLeft : List ℕ → ℕ → List (List ℕ) → List (List ℕ) → Type 0
   PlacesAreLeft text call lefts rights = text ++ lines_rows head call lefts rights ≡ whole
 
-  pub one-place : (text : List ℕ) (call next : ℕ) (lefts rights : List (List ℕ)) (line other : List ℕ) (more others : List (List ℕ)) →
-      lefts ≡ line ∷ more → rights ≡ other ∷ others → next ≡ cond (is_call (kind_of_line line)) (call + 1) call →
-      PlacesAreLeft text call lefts rights → PlacesAreLeft (text ++ rows_of_place head call line other) next more others
-  one-place text call next lefts rights line other more others left right after_line is =
+  pub one-place : (text : List ℕ) (call next : ℕ) (kind : JourneyKind) (lefts rights : List (List ℕ)) (line other : List ℕ)
+      (more others : List (List ℕ)) → lefts ≡ line ∷ more → rights ≡ other ∷ others → kind ≡ kind_of_line line →
+      next ≡ cond (is_call kind) (call + 1) call → PlacesAreLeft text call lefts rights →
+      PlacesAreLeft (text ++ rows_of_place head call line other) next more others
+  one-place text call next kind lefts rights line other more others left right of_line after_line is =
       let rows : List ℕ = rows_of_place head call line other in
-      ap (λ n. (text ++ rows) ++ lines_rows head n more others) after_line
+      ap (λ n. (text ++ rows) ++ lines_rows head n more others)
+      (after_line ∙ ap (λ (k : JourneyKind). cond (is_call k) (call + 1) call) of_line)
       ∙ append_assoc text rows (lines_rows head (cond (is_call (kind_of_line line)) (call + 1) call) more others)
       ∙ ap (λ ls. text ++ lines_rows head call ls (other ∷ others)) (sym left)
       ∙ ap (λ ls. text ++ lines_rows head call lefts ls) (sym right)

@@ -9,7 +9,8 @@ ghost use Rattle.cif_canon.specs.Fields.{after, nothing, trimmed};
 ghost use Rattle.cif_canon.specs.declared.rows.Format.TheVariants.{Tsv};
 ghost use Rattle.cif_views.specs.DifferenceTable.{changed, change_of, difference_table, differing_rows, single_row, without_extra};
 ghost use Rattle.cif_views.specs.Steps.DifferenceRows.{are_named, count_of_calls, field_row, fields_of_kind, head_fields, is_named};
-ghost use Rattle.cif_views.specs.Steps.DifferenceRows.{journeys_of, lines_rows, named_fields, place_of, rows_of_place, same_places, stands_of};
+ghost use Rattle.cif_views.specs.Steps.DifferenceRows.{journeys_of, lines_rows, named_fields, place_of, rows_of_place};
+ghost use Rattle.cif_views.specs.Steps.DifferenceRows.{same_places, stands_of};
 ghost use Rattle.cif_views.specs.Tables.{kind_of_line, text_at};
 
 use crate::table_row::TableRow;

@@ -8,7 +8,7 @@ use Rattle.cif_canon.specs.Fields.{Field, nothing, shown}
 use Rattle.cif_canon.specs.declared.rows.Format.TheVariants.{Tsv}
 use Rattle.cif_canon.specs.declared.rows.Shape.TheVariants.{Trimmed}
 use Rattle.cif_views.specs.DifferenceTable.{Stands, association_head, differing_row, differing_rows, own_fields, schedule_head, tiploc_head}
-use Rattle.cif_views.specs.Tables.{Numbered, TableFields, is_call, is_change, kind_of_line, number, text_at}
+use Rattle.cif_views.specs.Tables.{TableFields, is_call, is_change, kind_of_line, number, text_at}
 use Rattle.cif_views.specs.declared.difference_table.RowKind.{RowKind}
 use Rattle.cif_views.specs.declared.difference_table.RowKind.TheVariants.{Association, Schedule, Tiploc}
 use Rattle.cif_views.specs.declared.difference_table.Stands.{Stands as GivenStands}

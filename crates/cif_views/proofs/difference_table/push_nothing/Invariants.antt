@@ -1,5 +1,5 @@
 -- So many empty fields are behind the row.
-use Rattle.std.proofs.Common.{◌≡◌, ◌≤◌, ◌+◌, ◌++◌, length}
+use Rattle.std.proofs.Common.{◌≡◌, ◌+◌, ◌++◌, length}
 use Rattle.std.specs.Prelude.{replicate}
 use Rattle.cif_canon.specs.Fields.{after, nothing}
 use Rattle.cif_canon.specs.declared.rows.Format.TheVariants.{Tsv}

@@ -1,8 +1,8 @@
 -- The fields stand at the place (`stands-there`), and are those of the kind of the lines (`place-rows`).
-use Rattle.std.proofs.Common.{List, ℕ, ◌∙◌, ap, arith, length, sym}
+use Rattle.std.proofs.Common.{List, ℕ, ◌∙◌, ap, sym}
 use Rattle.cif_canon.proofs.AppendedTexts.{text-is}
 use Rattle.cif_views.specs.DifferenceTable.{Stands, changed, differing_rows}
-use Rattle.cif_views.specs.Steps.DifferenceRows.{head_fields, named_fields, stands_of}
+use Rattle.cif_views.specs.Steps.DifferenceRows.{head_fields, named_fields}
 use Rattle.cif_views.specs.Tables.{TableFields}
 use Rattle.cif_views.specs.declared.difference_table.RowKind.TheVariants.{Schedule}
 use Rattle.cif_views.proofs.DifferingFields.{at_place, place-rows, same-kind, stands-there}
@@ -16,6 +16,8 @@ returns g c =
     text-is _ _ _ _ _ _
     (ap (λ (at : Stands). differing_rows head at (named_fields c.fields_of.result.now) left right)
     (stands-there c.args.call left _ _ _ c.of-stands.ensures c.columns_at-identity.ensures.value c.columns_at-location.ensures.value)
-    ∙ ap (λ (fields : TableFields (List ℕ)). differing_rows head (at_place c.args.call left) fields left right) c.fields_of.ensures.fields
-    ∙ place-rows head c.args.call left right c.args.kind (sym c.requires.kind) (same-kind left right c.requires.places ∙ sym c.requires.kind))
+    ∙ ap (λ (fields : TableFields (List ℕ)). differing_rows head (at_place c.args.call left) fields left right)
+    c.fields_of.ensures.fields
+    ∙ place-rows head c.args.call left right c.args.kind (sym c.requires.kind)
+    (same-kind left right c.requires.places ∙ sym c.requires.kind))
     c.write_differing.ensures

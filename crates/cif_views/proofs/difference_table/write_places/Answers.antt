@@ -1,9 +1,9 @@
 -- One place more is written (`one-place`), until none is left (`no-place`).
-use Rattle.std.proofs.Common.{◌≡◌, ◌+◌, ◌<◌, ◌++◌, ◌∷◌, ◌∙◌, IsTrue, [], ap, arith, cond, length, refl, subst}
+use Rattle.std.proofs.Common.{◌≡◌, ◌<◌, ◌++◌, [], ap, arith, length, refl}
 use Rattle.std.proofs.lemmas.Bool.Decides.{nat_tests}
 use Rattle.cif_canon.proofs.AppendedTexts.{both, nothing, text-is}
 use Rattle.cif_views.specs.DifferenceTable.{changed}
-use Rattle.cif_views.specs.Steps.DifferenceRows.{head_fields, rows_of_place, same_places}
+use Rattle.cif_views.specs.Steps.DifferenceRows.{head_fields, lines_rows, rows_of_place}
 use Rattle.cif_views.specs.Tables.{is_call}
 use Rattle.cif_views.specs.declared.difference_table.RowKind.TheVariants.{Schedule}
 use Rattle.cif_views.proofs.DifferingFields.{as-many, first-places, no-place, one-place, rest-places}
@@ -41,15 +41,22 @@ loop-lefts-preserved g c =
     let many = as-many lefts rights same in
     let one = c.first-one.result in
     let other = c.first-other.result in
-    let is = first-and-rest lefts one c.rest-lefts.result some c.first-one.ensures c.rest-lefts.ensures in
-    let others = first-and-rest rights other c.rest-rights.result (omega (arith, some, many)) c.first-other.ensures c.rest-rights.ensures in
-    let head = head_fields Schedule changed c.args.head.now in (
-      text ++ rows_of_place head c.loop-lefts.call one other,
-      both _ _ text _ _ _ _ written c.write_place.ensures,
-      one-place head _ text c.loop-lefts.call _ lefts rights one other _ _ is others
-          (c.call_after-call.ensures ∙ ap (λ kind. cond (is_call kind) (c.loop-lefts.call + 1) c.loop-lefts.call) c.kind_of_line-kind.ensures) left,
-      rest-places lefts rights _ _ same some c.rest-lefts.ensures c.rest-rights.ensures,
-      next-call (is_call c.kind_of_line-kind.result) c.loop-lefts.call _ _ lefts _ one is c.call_after-call.ensures few,
+    let more = c.rest-lefts.result in
+    let others = c.rest-rights.result in
+    let is = first-and-rest lefts one more some c.first-one.ensures c.rest-lefts.ensures in
+    let is-other = first-and-rest rights other others (omega (arith, some, many)) c.first-other.ensures c.rest-rights.ensures in
+    let call = c.loop-lefts.call in
+    let next = c.call_after-call.result in
+    let kind = c.kind_of_line-kind.result in
+    let head = head_fields Schedule changed c.args.head.now in
+    let rows = rows_of_place head call one other in
+    let whole = lines_rows head 1 c.args.left c.args.right in (
+      text ++ rows,
+      both _ _ text rows _ _ _ written c.write_place.ensures,
+      one-place head whole text call next kind lefts rights one other more others is is-other c.kind_of_line-kind.ensures
+          c.call_after-call.ensures left,
+      rest-places lefts rights more others same some c.rest-lefts.ensures c.rest-rights.ensures,
+      next-call (is_call kind) call next _ lefts more one is c.call_after-call.ensures few,
     )
 
 pub loop-lefts-smaller : goal.loop-lefts-smaller
@@ -68,5 +75,6 @@ returns g c =
     let test = c.loop-lefts-test.false in
     let told = c.is_empty.ensures in
     let none : length lefts ≡ 0 = grind (arith, nat_tests, test, told) in
-    text-is _ _ text _ _ _ (no-place (head_fields Schedule changed c.args.head.now) _ text c.loop-lefts.call lefts c.loop-lefts.rights none left)
-    written
+    let head = head_fields Schedule changed c.args.head.now in
+    let whole = lines_rows head 1 c.args.left c.args.right in
+    text-is _ _ text whole _ _ (no-place head whole text c.loop-lefts.call lefts c.loop-lefts.rights none left) written
