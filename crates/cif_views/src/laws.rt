@@ -10,8 +10,8 @@ ghost use Rattle.cif_canon.specs.Accepted.{IsAccepted};
 ghost use Rattle.cif_canon.specs.Differences.{AreDifferences, AreNone, DifferencesParts};
 ghost use Rattle.cif_canon.specs.declared.asked.Asked.{Asked};
 ghost use Rattle.cif_extract.specs.ExtractParts.{ExtractParts};
-ghost use Rattle.cif_views.specs.AllFields.{CallsHaveAll, DayRowsHaveAll, ExplainedRowsHaveAll};
-ghost use Rattle.cif_views.specs.AllFields.{TablesHaveAll, TrainRowsHaveAll};
+ghost use Rattle.cif_views.specs.AllFields.{CallsHaveAll, DayRowsHaveAll, DifferenceRowsHaveAll};
+ghost use Rattle.cif_views.specs.AllFields.{ExplainedRowsHaveAll, TablesHaveAll, TrainRowsHaveAll};
 ghost use Rattle.cif_views.specs.DifferenceTable.{difference_names, difference_table};
 ghost use Rattle.cif_views.specs.Explanation.{AreExplained, Explained, HasWinningMark};
 ghost use Rattle.cif_views.specs.Explanation.{SomeApplies};
@@ -46,6 +46,7 @@ pub fn rows_have_all_fields()
     ensures day { DayRowsHaveAll }
     ensures train { TrainRowsHaveAll }
     ensures explanation { ExplainedRowsHaveAll }
+    ensures differences { DifferenceRowsHaveAll }
 {}
 
 /// The table of the differences of two accepted inputs has a row for each location, record and pair
