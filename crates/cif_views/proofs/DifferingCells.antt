@@ -13,6 +13,7 @@ use Rattle.cif_columns.proofs.KeptLines.{used_few}
 use Rattle.cif_columns.proofs.PlainLines.{length-columns}
 use Rattle.cif_canon.specs.Fields.{Field, fields_text, line_of, shown, trimmed}
 use Rattle.cif_canon.specs.declared.rows.Format.TheVariants.{Tsv}
+use Rattle.cif_canon.specs.declared.rows.Shape.TheVariants.{Trimmed}
 use Rattle.cif_views.specs.DifferenceTable.{Stands, differing_row, differing_rows}
 use Rattle.cif_views.specs.Tables.{TableFields, row_fields}
 
@@ -42,7 +43,8 @@ module _ {R : Type 0} (head : List Field) (at : Stands) (left right : R) where
       let a = shown Tsv (f.1 left) in
       let b = shown Tsv (f.1 right) in
       let (same, others) = first-none (pointwise nat_eq a b) a b (differing_row head at f.0 (f.1 left) (f.1 right))
-      (differing_rows head at fields left right) refl (some-row _) none in
+      (differing_rows head at fields left right) refl
+      (some-row (head ++ (at.call ∷ at.identity ∷ at.place ∷ (Trimmed, f.0) ∷ f.1 left ∷ f.1 right ∷ []))) none in
       ap₂ (λ (c : List ℕ) (cs : List (List ℕ)). c ∷ cs) same (same-cells fields others)
 
 -- ---- columns

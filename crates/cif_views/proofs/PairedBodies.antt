@@ -38,15 +38,16 @@ use Rattle.cif_records.proofs.Details.{one_detail}
 use Rattle.cif_records.proofs.Records as records
 use Rattle.cif_records.proofs.Rows.{◌&◌}
 use Rattle.cif_weeks.specs.Permanent.{Permanent}
-use Rattle.cif_canon.specs.Fields.{Field, shown, trimmed}
+use Rattle.cif_canon.specs.Fields.{Field, line_of, nothing, shown, trimmed}
 use Rattle.cif_canon.specs.Lines.{association_plain, schedule_plain}
 use Rattle.cif_canon.specs.declared.listed_differences.Side.TheVariants.{Left}
 use Rattle.cif_canon.specs.declared.rows.Format.TheVariants.{Tsv}
+use Rattle.cif_canon.specs.declared.rows.Shape.TheVariants.{Trimmed}
 use Rattle.cif_views.specs.DifferenceTable.{association_head, association_rows, changed, differing_rows, in_record, journey_of}
 use Rattle.cif_views.specs.DifferenceTable.{journey_rows, own_fields, schedule_head, schedule_rows, without_extra}
-use Rattle.cif_views.specs.Steps.DifferenceRows.{journeys_of, lines_rows, rows_of_place, same_places}
+use Rattle.cif_views.specs.Steps.DifferenceRows.{count_of_calls, journeys_of, lines_rows, rows_of_place, same_places}
 use Rattle.cif_views.specs.Tables.{Numbered, NumberedSchedule, association_fields, extra_in, is_call, is_change, is_extra, journey_kind}
-use Rattle.cif_views.specs.Tables.{kind_of_line, numbered_schedule, row_fields, schedule_fields}
+use Rattle.cif_views.specs.Tables.{kind_of_line, number, numbered_schedule, row_fields, schedule_fields}
 use Rattle.cif_views.specs.declared.tables.JourneyKind.TheVariants as kind
 use Rattle.cif_views.proofs.DifferingCells.{AllSame, all-moved, both-none, same-at, same-cells, same-identity, same-location, same-suffix}
 use Rattle.cif_views.proofs.DifferingCells.{some-row}
@@ -221,8 +222,8 @@ module _ (head : List Field) where
 -- the records of a journey are places
 are-behind : (calls : List Call) (t : Terminus) → ArePlaces (map call_record calls ++ (of.Terminus t ∷ []))
 are-behind [] t = (tt, tt)
-are-behind (At stop ∷ calls) t = (tt, are-behind calls t)
-are-behind (Turn change ∷ calls) t = (tt, are-behind calls t)
+are-behind (At s ∷ calls) t = (tt, are-behind calls t)
+are-behind (Turn r ∷ calls) t = (tt, are-behind calls t)
 
 are-places : (o : Origin) (calls : List Call) (t : Terminus) → ArePlaces (journey_records o calls t)
 are-places o calls t = (tt, are-behind calls t)
@@ -445,8 +446,10 @@ module _ (e g : List ℕ × Permanent BodyParts) (one : FitsLines e) (other : Fi
       let by_lines : journeys_of head (lines_of rs) (lines_of qs) ≡ [] =
       ap₂ (journeys_of head) (sym a.journey_is) (sym b.journey_is)
       ∙ sym (journeys-by-lines head (without_extra s.further) (without_extra t.further)) ∙ no_journey in
-      let (places, rows) = told-places (same_places (lines_of rs) (lines_of qs)) (lines_rows head 1 (lines_of rs) (lines_of qs)) _
-      by_lines (some-row _) in
+      let numbers : List Field =
+      nothing ∷ nothing ∷ nothing ∷ (Trimmed, codes "journey") ∷ number (count_of_calls (lines_of rs)) ∷ number (count_of_calls (lines_of qs)) ∷ [] in
+      let (places, rows) = told-places (same_places (lines_of rs) (lines_of qs)) (lines_rows head 1 (lines_of rs) (lines_of qs))
+      (line_of Tsv (head ++ numbers)) by_lines (some-row (head ++ numbers)) in
       let lines = same-journeys head 1 rs qs (are-places q.origin q.calls q.terminus) (journey-fits e one) (journey-fits g other)
       places rows in
       let journey = one-journey p.detail (detail-fits e one) p q (journey-fits e one) (journey-fits g other) lines in

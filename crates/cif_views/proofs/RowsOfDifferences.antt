@@ -1,5 +1,5 @@
 -- Each difference has a row: the bodies of a pair differ, and where all cells are the same they don't.
-use Rattle.std.proofs.Common.{◌≡◌, ℕ, ◌+◌, ◌<◌, ◌≤◌, Bool, List, [], ◌∷◌, ◌++◌, Option, None, Some, ◌∙◌, ap, arith, length, length-append, map}
+use Rattle.std.proofs.Common.{◌≡◌, ℕ, ◌+◌, ◌<◌, ◌≤◌, Bool, List, [], ◌∷◌, ◌++◌, Option, None, Some, ◌∙◌, ap, arith, length, length-append, map, replicate}
 use Rattle.std.proofs.Common.{⊎_elim, refl, subst, sym}
 use Rattle.std.specs.Prelude.{◌↔◌, All, Contains}
 use Rattle.std.specs.List.{flat_map}
@@ -43,6 +43,7 @@ use Rattle.cif_weeks.specs.declared.form.Form.TheVariants.{Two}
 use Rattle.cif_canon.specs.Accepted.{IsAccepted}
 use Rattle.cif_canon.specs.Asked.{header_window}
 use Rattle.cif_canon.specs.Differences.{AreDifferences, AreDifferentRecords, AreNone, DifferencesParts, OnlySays, at_side, of_side}
+use Rattle.cif_canon.specs.Fields.{nothing}
 use Rattle.cif_canon.specs.Lines.{ScheduleLines, association_plain, schedule_plain}
 use Rattle.cif_canon.specs.Pairs.{ArePair, AreByPairs, Listed, association_lines, by_pairs, listed_as, parts_of, schedule_lines, tiploc_lines}
 use Rattle.cif_canon.specs.declared.asked.Asked.{Asked}
@@ -50,9 +51,10 @@ use Rattle.cif_canon.specs.declared.listed_differences.Side.{Side}
 use Rattle.cif_canon.specs.declared.listed_differences.Side.TheVariants.{Left, Right}
 use Rattle.cif_canon.specs.declared.listed_differences.Sided.{Sided}
 use Rattle.cif_canon.proofs.ByPairs.{associations-by_pairs, schedules-by_pairs}
-use Rattle.cif_canon.proofs.MadeFits.{AreTerms, have-terms}
+use Rattle.cif_canon.proofs.MadeFits.{AreTerms, HasTerms, have-terms}
 use Rattle.cif_canon.proofs.MergedSides.{side-member}
-use Rattle.cif_views.specs.DifferenceTable.{association_rows, difference_names, difference_table, schedule_rows, tiploc_row}
+use Rattle.cif_views.specs.DifferenceTable.{association_head, association_rows, change_of, difference_names, difference_table}
+use Rattle.cif_views.specs.DifferenceTable.{schedule_head, schedule_rows, tiploc_head, tiploc_row}
 use Rattle.cif_views.specs.RowsOfDifferences.{HasRow, HaveRows}
 use Rattle.cif_views.specs.Tables.{names_line}
 use Rattle.cif_views.proofs.DifferingCells.{both-none, some-row}
@@ -240,7 +242,7 @@ module _ (x y : ExtractParts) (d : DifferencesParts) (a : FitLists x) (b : FitLi
       let own = subst (λ (o : Option AssocBody). AllFit (aa.association_rows e.0 t.first t.last t.days t.letter o)) runs.body
       (association-listed side e.0 t runs.wins.listed) in
       dated-association e.0 t.first t.last t.days t.letter e.1.body e.1.first e.1.last e.1.days own
-      (All-contains _ (of_side side d.associations) e
+      (All-contains HasTerms (of_side side d.associations) e
       (have-terms key_cmp Two window (of_side side d.associations) (are.associations.only side).canonical (headers.last_is_day x.header)) h)
 
   schedule-lines-fit : (side : Side) (e : List ℕ × Permanent BodyParts) → Contains (of_side side d.schedules) e → FitsLines e
@@ -253,7 +255,7 @@ module _ (x y : ExtractParts) (d : DifferencesParts) (a : FitLists x) (b : FitLi
       (schedule-listed side e.0 t runs.wins.listed) in
       record {
         basic = dated-basic e.0 t.first t.last t.days t.letter e.1.body.detail e.1.first e.1.last e.1.days own.0
-            (All-contains _ (of_side side d.schedules) e
+            (All-contains HasTerms (of_side side d.schedules) e
             (have-terms (slice_cmp nat_cmp) Two window (of_side side d.schedules) (are.schedules.only side).canonical
             (headers.last_is_day x.header)) h);
         further = own.1;
@@ -270,7 +272,8 @@ module _ (x y : ExtractParts) (d : DifferencesParts) (a : FitLists x) (b : FitLi
   association-row =
       has-row key_cmp window (association_entries x.associations) (association_entries y.associations) d.associations are.associations
       associations_listed (associations-by_pairs x y d are) (λ e. AllFit (association_line e))
-      (λ l. association_rows (listed_as association_plain l)) association-lines-fit (λ s. some-row _)
+      (λ l. association_rows (listed_as association_plain l)) association-lines-fit
+      (λ s. some-row (association_head (change_of s.side) (association_plain s.it) ++ replicate 6 nothing))
       (λ s r one other none. same-association s.it r one other none)
 
   schedule-row : (l : Listed (List ℕ × Permanent BodyParts)) → Contains schedules_listed l →
@@ -278,12 +281,13 @@ module _ (x y : ExtractParts) (d : DifferencesParts) (a : FitLists x) (b : FitLi
   schedule-row =
       has-row (slice_cmp nat_cmp) window (schedule_entries x.schedules) (schedule_entries y.schedules) d.schedules are.schedules
       schedules_listed (schedules-by_pairs x y d are) FitsLines
-      (λ l. schedule_rows (listed_as schedule_plain l)) schedule-lines-fit (λ s. some-row _)
+      (λ l. schedule_rows (listed_as schedule_plain l)) schedule-lines-fit
+      (λ s. some-row (schedule_head (change_of s.side) (schedule_plain s.it).basic ++ replicate 6 nothing))
       (λ s r one other none. same-body s.it r one other none)
 
   rows-are : HaveRows d
   rows-are = record {
-    tiplocs = λ s h. some-row _;
+    tiplocs = λ s h. some-row (tiploc_head (change_of s.side) s.it ++ replicate 6 nothing);
     associations = λ l h.
         let found = from-map (listed_as association_plain) associations_listed l h in
         subst (λ (k : Listed (List ℕ)). HasRow (association_rows k)) found.is (association-row found.it found.there);
