@@ -10,8 +10,8 @@
 //! A source is named by the first position of a record with the same body, as several records may
 //! have it; where there is none, by a hyphen.
 
-mod dates;
-mod positions;
+pub(crate) mod dates;
+pub(crate) mod positions;
 mod report;
 
 use crate::case::Case;

@@ -53,7 +53,7 @@ fn push_dates<E: Entry>(alloc: Global, out: &mut Output, entries: &[E], calendar
 
 /// The calendar of these members.
 #[tactic(auto, using(cif_weeks::proofs::CalendarSources::calendar_sources))]
-fn calendar_of<E: Entry>(
+pub(crate) fn calendar_of<E: Entry>(
     alloc: Global,
     entries: &[E],
     members: &[usize],

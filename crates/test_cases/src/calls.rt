@@ -1,6 +1,5 @@
-//! Makes one call of the libraries on the extract of its standard input, and where memory is refused
-//! to the call makes it again: `test_calls CALL [WORD..]`. It is a test program, and no part of the
-//! product: `tests/memory/run_calls` refuses it memory.
+//! Makes one call of the libraries on the extract of the standard input, and where memory is refused to
+//! the call makes it again: `test_cases CALL [WORD..]`. `tests/memory/run_calls` refuses it memory.
 //!
 //! CALL is one of these, in form 2 where there is a form. The answer is what the call writes, and what
 //! it returns:
@@ -17,33 +16,21 @@
 //! Any other fault is answered by its line. Behind the answer stands `as before` where a checksum of
 //! what was handed in is that of before the call, and else `changed`. What can't be done before the
 //! call ends the program, with no output.
-#![tactic(auto)]
-
 mod answer;
 mod calendars;
 mod call;
 mod checksum;
 mod records;
 
+use crate::case::day_in;
 use answer::answer;
 use call::Call;
-use cif_columns::{Day, MAX_LINES, Sink, Source, Uid, WriteDevice, are_printable};
+use cif_columns::{MAX_LINES, Sink, Source, Uid, WriteDevice, are_printable};
 use cif_extract::{Extract, Fault, read_extract};
 use std::alloc::Global;
-use std::{env, io};
-
-fn main(rt: HostRuntime) -> io::Result<()> {
-    let words = env::args(&rt)?.collect::<Vec<String>>(rt.alloc())?;
-    let text = io::read_to_string(rt.alloc(), rt.reader())?;
-    let mut sink = Sink::new(io::writer(&rt));
-    match answer_words(rt.alloc(), words.as_slice(), text.as_str(), &mut sink) {
-        Ok(()) => Ok(()),
-        Err(_) => Err(io::ErrorKind::Other.into()),
-    }
-}
 
 /// Makes the call that the words ask for, and writes what it answers.
-fn answer_words<W: WriteDevice>(
+pub(crate) fn answer_words<W: WriteDevice>(
     alloc: Global,
     words: &[String],
     text: &str,
@@ -96,7 +83,7 @@ fn call_of_extracts<'a>(
     match word_at(words, 1) {
         "canon" => Some(Call::Canon(left)),
         "compare" => Some(Call::Compare(left, right)),
-        "day_view" => Some(Call::DayView(left, day_of(word)?)),
+        "day_view" => Some(Call::DayView(left, day_in(word)?)),
         "train_view" => Some(Call::TrainView(left, uid_of(word)?)),
         "calendar" => Some(Call::Calendar(left)),
         "runs" => Some(Call::Runs(left)),
@@ -110,10 +97,6 @@ fn word_at(words: &[String], place: usize) -> &str {
         Some(word) => word.as_str(),
         None => "",
     }
-}
-
-fn day_of(word: &str) -> Option<Day> {
-    Day::from_yymmdd(word.as_bytes().as_array()?)
 }
 
 fn uid_of(word: &str) -> Option<Uid> {

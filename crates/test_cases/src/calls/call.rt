@@ -1,7 +1,7 @@
 //! The calls of the libraries.
-use crate::calendars::{write_calendar, write_runs};
-use crate::checksum::Checksum;
-use crate::records::write_records;
+use crate::calls::calendars::{write_calendar, write_runs};
+use crate::calls::checksum::Checksum;
+use crate::calls::records::write_records;
 use cif_canon::{
     Asked, canon, compare, day_view, normalise, train_view, write_comparison, write_counts,
 };

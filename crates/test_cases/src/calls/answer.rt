@@ -1,5 +1,5 @@
 //! What a call answers, again where memory ran out to it.
-use crate::call::Call;
+use crate::calls::call::Call;
 use cif_canon::report;
 use cif_columns::{Sink, WriteDevice, WriteFault};
 use cif_extract::Fault;

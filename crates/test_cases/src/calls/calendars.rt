@@ -1,13 +1,15 @@
 //! What runs on each date by all schedules of an extract, taken as those of one train.
-ghost use Rattle.std.specs.Prelude.{◌<◌, All, IfOk, length, map};
+ghost use Rattle.std.specs.Prelude.{IfOk, map};
 ghost use Rattle.cif_weeks.specs.Runs.{AreSources};
 
-use cif_calendar::{Calendar, CalendarFault, Entry, Piece, Window, calendar};
+use crate::calendars::dates::calendar_of;
+use crate::calendars::positions::all_positions;
+use cif_calendar::{Calendar, CalendarFault, Entry, Piece, Window};
 use cif_columns::{Day, Sink, WriteDevice, WriteFault};
 use cif_extract::{Extract, Fault, Schedule};
 use cif_weeks::{Form, Run, runs};
 use itoa::Buffer;
-use std::alloc::{AllocError, Global};
+use std::alloc::Global;
 
 /// Makes the calendar, and writes its pieces.
 pub(crate) fn write_calendar<W: WriteDevice>(
@@ -41,35 +43,21 @@ fn calendar_of_all(alloc: Global, extract: &Extract) -> Result<Calendar, Calenda
     ensures { IfOk result
         (AreSources (map ⟦<Schedule as Entry>⟧.terms extract.now.schedules.items)) }
 {
-    match all_positions(alloc, extract.schedules.len()) {
-        Ok(members) => calendar_of(alloc, extract, members.as_slice()),
-        Err(_) => Err(CalendarFault::Memory),
-    }
-}
-
-/// The positions of so many schedules.
-fn all_positions(alloc: Global, count: usize) -> Result<Vec<usize>, AllocError>
-    ensures { IfOk result (λ positions. All (λ i. i < count) positions.items) }
-{
-    (0..count).collect(alloc)
-}
-
-/// What runs on each date of the extract's window, by its schedules at `members`.
-#[tactic(auto, using(cif_weeks::proofs::CalendarSources::calendar_sources))]
-fn calendar_of(
-    alloc: Global,
-    extract: &Extract,
-    members: &[usize],
-) -> Result<Calendar, CalendarFault>
-    requires { All (λ i. i < length extract.now.schedules.items) members.now }
-    ensures { IfOk result
-        (AreSources (map ⟦<Schedule as Entry>⟧.terms extract.now.schedules.items)) }
-{
     let window = Window {
         first: extract.header.first,
         last: extract.header.last,
     };
-    calendar(alloc, extract.schedules.as_slice(), members, window)
+    match all_positions(alloc, extract.schedules.len()) {
+        Ok(members) => {
+            calendar_of(
+                alloc,
+                extract.schedules.as_slice(),
+                members.as_slice(),
+                window,
+            )
+        }
+        Err(_) => Err(CalendarFault::Memory),
+    }
 }
 
 /// Writes on which date bodies differ. That memory ran out is a fault of the call.
