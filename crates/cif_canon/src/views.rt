@@ -15,6 +15,7 @@ use crate::records::extract_runs;
 use crate::rows::{Format, LONGEST, association_row, schedule_row, train_row};
 use crate::writing::{answer, append};
 use arrayvec::ArrayString;
+use cif_calendar::Dates;
 use cif_columns::{Day, Sink, Uid, WriteDevice};
 use cif_extract::{Body, Extract, Fault, Schedule};
 use cif_records::{AssocBody, AssocKey, Association};
@@ -172,7 +173,12 @@ pub fn write_day<L: DayLines, W: WriteDevice>(
 fn applies_on(run: &Run, day: Day) -> bool
     ensures { (body : Unit {0}) → IsTrue result ↔ Applies (record_of run.now body) day }
 {
-    run.first <= day && day <= run.last && run.days.has(day.weekday())
+    let dates = Dates {
+        first: run.first,
+        last: run.last,
+        days: run.days,
+    };
+    dates.has(day)
 }
 
 /// What is listed of the records that apply on a day.

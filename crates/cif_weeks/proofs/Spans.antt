@@ -7,8 +7,8 @@ use Rattle.std.specs.List.Sorted.{IsNonDecreasingBy}
 use Rattle.std.proofs.lemmas.List.{get_or-take, get_or_default, get_or_read_under, length-take, take-append-drop, take_all, take_more}
 use Rattle.std.proofs.lemmas.List.Elements.{Contains-append_left, Contains-push, Contains-push_cases}
 use Rattle.cif_weeks.proofs.Words.{week_of, weekday_of, RunsOn, Terms, Span, Weeks, IsWithin, Window}
-use Rattle.cif_columns.specs.Stp.{letter}
-use Rattle.cif_calendar.specs.Applies.{Applies}
+use Rattle.cif_calendar.specs.Applies.{Applies, IsDateOf}
+use Rattle.cif_calendar.specs.Wins.{precedence}
 use Rattle.cif_weeks.specs.Steps.Spans.{AgreeOn, HasDay, HaveOneMask, IsAgreed, IsDisputed, IsSpanOf, Leads, Shows}
 use Rattle.cif_weeks.specs.Steps.WeekMasks.{IsMask}
 use Rattle.cif_weeks.proofs.Masks.{mask_runs}
@@ -27,20 +27,19 @@ module _ {B : Type 0} (window : Window) (r : Terms B) (first last : ℕ) (begins
   upto-both : (last ≤ r.last) × (last ≤ window.last) × ((last ≡ r.last) ⊎ (last ≡ window.last))
   upto-both = (search rules, search rules, search rules)
 
-  pub span-of : (s : Span) → s.letter ≡ letter r.letter →
-      ((n : ℕ) → HasDay s n ↔ ((first ≤ n) × (n ≤ last) × RunsOn r.days (weekday_of n))) → IsSpanOf window r s
+  pub span-of : (s : Span) → s.letter ≡ precedence r → ((n : ℕ) → HasDay s n ↔ IsDateOf first last r.days n) → IsSpanOf window r s
   span-of s is days = let f = from-both in let l = upto-both in record {
     letter = is;
     days = λ n. (
-      λ has. let (from, upto, on) = (days n).0 has in (
-        record { from = omega (arith, f.1); upto = omega (arith, l.1) },
-        record { begun = omega (arith, f.0); unfinished = omega (arith, l.0); on_weekday = on },
+      λ has. let d = (days n).0 has in (
+        record { from = omega (arith, f.1, d.begun); upto = omega (arith, l.1, d.unfinished) },
+        record { begun = omega (arith, f.0, d.begun); unfinished = omega (arith, l.0, d.unfinished); on_weekday = d.on_weekday },
       ),
-      λ (within, on). (days n).1 (
-        omega (arith, f.2, on.begun, within.from),
-        omega (arith, l.2, on.unfinished, within.upto),
-        on.on_weekday,
-      ),
+      λ (within, on). (days n).1 (record {
+        begun = omega (arith, f.2, on.begun, within.from);
+        unfinished = omega (arith, l.2, on.unfinished, within.upto);
+        on_weekday = on.on_weekday;
+      }),
     );
   }
 
