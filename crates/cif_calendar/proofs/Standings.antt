@@ -5,7 +5,7 @@ use Rattle.std.proofs.lemmas.Bool.{cases_lt}
 use Rattle.std.proofs.lemmas.Option.{slice_get-get_or}
 use Rattle.std.proofs.lemmas.Grind.{get_or-set_at}
 use Rattle.std.proofs.lemmas.List.{get_or-set_other, get_or_past, get_or-replicate, set-get_or}
-use Rattle.cif_calendar.proofs.Words.{weekday_of, Terms, Records, Applies, IsChosen, Standing, Nobody, Leader}
+use Rattle.cif_calendar.proofs.Words.{weekday_of, Terms, Applies, IsChosen, Standing, Nobody, Leader}
 use Rattle.cif_calendar.specs.Steps.Standing.{AreBelow, Combines, IsBelow, LooksAt, Stands}
 use Rattle.cif_calendar.proofs.Winning.{nobody-combines, one-leads, one-none}
 

@@ -1,7 +1,6 @@
 -- Members that are looked at together: who wins, and who leads.
-use Rattle.std.proofs.Common.{◌≡◌, ℕ, ◌<◌, ◌≤◌, List, [], ◌∷◌, ◌++◌, Option, Some, Bool, false, length, get_or, map, ap, subst, sym, ◌∙◌}
-use Rattle.std.proofs.Common.{arith, refl, ⊎_elim, inl, inr, IsSome, IsNone, IsTrue, slice_get, ◌⊎◌, option_map, option_and_then}
-use Rattle.std.proofs.lemmas.Bool.{false≢true}
+use Rattle.std.proofs.Common.{◌≡◌, ℕ, ◌<◌, ◌≤◌, List, [], ◌∷◌, ◌++◌, Option, Some, length, get_or, map, ap, subst, sym, ◌∙◌}
+use Rattle.std.proofs.Common.{arith, refl, ⊎_elim, inl, inr, IsSome, IsNone, slice_get, ◌⊎◌, option_map, option_and_then}
 use Rattle.std.proofs.lemmas.List.Elements.{Contains-append_left, Contains-append_right, Contains-append_cases, Contains-get_or}
 use Rattle.std.proofs.lemmas.Option.{same_Some, slice_get-get_or, slice_get-map, slice_get_read}
 use Rattle.cif_columns.specs.Stp.{letter}
@@ -11,10 +10,6 @@ use Rattle.cif_calendar.proofs.Words.{Terms, Records, Applies, IsClear, NothingR
 use Rattle.cif_calendar.proofs.Words.{Leader, Disputed, AreLawful}
 use Rattle.cif_calendar.specs.Steps.Standing.{Combines, IsDisputed, IsRank, Leads, NoneApplies, Stands, StandsAt}
 use Rattle.cif_calendar.proofs.Elements.{Contains-first, Contains-cases}
-
--- what a test that failed says
-pub refuted : {P : Type 0} (b : Bool) → (IsTrue b → P) × (P → IsTrue b) → b ≡ false → P → ⊥
-refuted b says off h = false≢true (sym off ∙ says.1 h)
 
 -- what an index reads, as a look-up among the terms
 pub terms_at : {X Y : Type 0} (f : X → Y) (xs : List X) (i : ℕ) (x : X) → i < length xs → x ≡ get_or xs i x →

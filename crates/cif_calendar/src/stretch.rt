@@ -51,14 +51,7 @@ fn stretch_from<E: Entry>(
             if first <= dates.last {
                 end = end.min(dates.last);
                 let others = [Standing::Leader(number + index); 7];
-                look_at(
-                    entries,
-                    members,
-                    alike,
-                    &mut standings,
-                    dates.days,
-                    &others,
-                );
+                look_at(entries, members, alike, &mut standings, dates.days, &others);
             }
         } else if let Some(before) = dates.first.previous() {
             end = end.min(before);

@@ -105,7 +105,7 @@ module _ (left : List Span) (span : Span) (count : ℕ) (order : AreBySource lef
           it = h.it;
           listed = there;
           is = h.is;
-          leads = record { has = h.leads.has; least = λ t in_t on. omega (arith, level h.it t there in_t) };
+          on = record { has = h.on.has; least = λ t in_t on. omega (arith, level h.it t there in_t) };
         }
 
     shows-own : (n : ℕ) → Shows spans span.source n → Shows (take count left) span.source n
@@ -113,7 +113,7 @@ module _ (left : List Span) (span : Span) (count : ℕ) (order : AreBySource lef
       it = h.it;
       listed = either h.it (whole h.it span h.listed in-left h.is) h.is;
       is = h.is;
-      leads = record { has = h.leads.has; least = λ t in_t on. h.leads.least t (listed t (own t in_t).0) on };
+      on = record { has = h.on.has; least = λ t in_t on. h.on.least t (listed t (own t in_t).0) on };
     }
 
     -- the runs of the source are made too

@@ -10,8 +10,9 @@ use Rattle.cif_weeks.proofs.Words.{week_of, weekday_of, RunsOn, Terms, Span, Wee
 use Rattle.cif_calendar.specs.Applies.{Applies, IsDateOf}
 use Rattle.cif_calendar.specs.Wins.{precedence}
 use Rattle.cif_weeks.specs.Steps.Spans.{AgreeOn, HasDay, HaveOneMask, IsAgreed, IsDisputed, IsSpanOf, Leads, Shows}
+use Rattle.cif_weeks.specs.Steps.Spans.{SomeOf}
 use Rattle.cif_weeks.specs.Steps.WeekMasks.{IsMask}
-use Rattle.cif_weeks.proofs.Masks.{mask_runs}
+use Rattle.cif_weeks.proofs.Masks.{mask-over, mask_runs}
 use Rattle.cif_weeks.proofs.WeekDays.{RunsOn-below, same_or_other}
 
 -- a test of two days
@@ -94,13 +95,6 @@ week-alone s week until days upto m = record {
 pub take_next : {X : Type 0} (xs : List X) (i : ℕ) (x : X) → i < length xs → x ≡ get_or xs i x → take (i + 1) xs ≡ take i xs ++ x ∷ []
 take_next xs i x below is = take_more xs i x below ∙ ap (λ y. take i xs ++ y ∷ []) (sym is)
 
--- one of the spans in the list, of those that are meant, has day n
-pub record SomeOf (Is : Span → Type 0) (On : Span → ℕ → Type 0) (p : List Span) (n : ℕ) : Type 0 where
-  pub it : Span
-  pub listed : Contains p it
-  pub is : Is it
-  pub on : On it n
-
 -- One span more.
 module _ {Is : Span → Type 0} {On : Span → ℕ → Type 0} {p : List Span} (t : Span) where
   pub old_or_new : (n : ℕ) → SomeOf Is On (p ++ t ∷ []) n → SomeOf Is On p n ⊎ (Is t × On t n)
@@ -142,13 +136,8 @@ module _ {Is : Span → Type 0} {On : Span → ℕ → Type 0} {p : List Span} (
     some-same h other from upto = record {
       from = from;
       upto = omega arith;
-      masks = λ v begun unfinished.
-          let before = h.masks v begun (omega arith) in
-          record {
-            seven = before.seven;
-            shows = λ n at has. ⊎_elim (λ o. before.shows n at o) (λ new. absurd (other new.0)) (old_or_new n has);
-            only = λ w runs. let (n, at, day, has) = before.only w runs in (n, at, day, old n has);
-          };
+      masks = λ v begun unfinished. mask-over v _ (λ n _ has. old n has)
+          (λ n _ has. ⊎_elim (λ o. o) (λ new. absurd (other new.0)) (old_or_new n has)) (h.masks v begun (omega arith));
     }
 
     pub agree-more : {spans : List Span} {it : Weeks} → AgreeOn spans (SomeOf Is On p) week so_far → it.last ≤ so_far.last
@@ -196,47 +185,20 @@ module _ {Is : Span → Type 0} {On : Span → ℕ → Type 0} (has : (s : Span)
   some-all h = record {
     from = h.from;
     upto = h.upto;
-    masks = λ v begun unfinished.
-        let m = h.masks v begun unfinished in
-        record {
-          seven = m.seven;
-          shows = λ n at s. m.shows n at (some-first n (omega arith) s);
-          only = λ w runs.
-              let (n, at, day, s) = m.only w runs in
-              let listed = subst (λ p. Contains p s.it) (take-append-drop k spans) (Contains-append_left (take k spans) _ s.it s.listed) in
-              (n, at, day, record { it = s.it; listed = listed; is = s.is; on = s.on });
-        };
+    masks = λ v begun unfinished. mask-over v _
+        (λ n at s. record {
+          it = s.it;
+          listed = subst (λ p. Contains p s.it) (take-append-drop k spans) (Contains-append_left (take k spans) _ s.it s.listed);
+          is = s.is;
+          on = s.on;
+        })
+        (λ n at s. some-first n (omega arith) s) (h.masks v begun unfinished);
   }
 
   pub some-agreed : {p : List Span} {week : ℕ} {days : List Bool}
       → AgreeOn p (SomeOf Is On (take k spans)) week (record { days = days; last = last })
       → AgreeOn p (SomeOf Is On spans) week (record { days = days; last = last })
   some-agreed a = record { agreed = λ n begun unfinished s. a.agreed n begun unfinished (some-first n unfinished s) }
-
--- the days on which a source is shown are those on which one of its spans leads
-module _ {spans : List Span} {source week : ℕ} {it : Weeks} where
-  pub shown-weeks : {until : ℕ} → HaveOneMask (SomeOf (λ s. s.source ≡ source) (λ s n. Leads spans n s) spans) week until it
-      → HaveOneMask (Shows spans source) week until it
-  shown-weeks h = record {
-    from = h.from;
-    upto = h.upto;
-    masks = λ v begun unfinished.
-        let m = h.masks v begun unfinished in
-        record {
-          seven = m.seven;
-          shows = λ n at s. m.shows n at (record { it = s.it; listed = s.listed; is = s.is; on = s.leads });
-          only = λ w runs.
-              let (n, at, day, s) = m.only w runs in
-              (n, at, day, record { it = s.it; listed = s.listed; is = s.is; leads = s.on });
-        };
-  }
-
-  pub shown-agreed : AgreeOn spans (SomeOf (λ s. s.source ≡ source) (λ s n. Leads spans n s) spans) week it
-      → AgreeOn spans (Shows spans source) week it
-  shown-agreed h = record {
-    agreed = λ n begun unfinished s. h.agreed n begun unfinished
-        (record { it = s.it; listed = s.listed; is = s.is; on = s.leads });
-  }
 
 -- one span alone leads on all its days
 module _ (spans : List Span) (span : Span) (one : length spans ≡ 1) (is : span ≡ get_or spans 0 span) where
@@ -249,24 +211,14 @@ module _ (spans : List Span) (span : Span) (one : length spans ≡ 1) (is : span
   alone-weeks same h = record {
     from = h.from;
     upto = h.upto;
-    masks = λ v begun unfinished.
-        let m = h.masks v begun unfinished in
-        record {
-          seven = m.seven;
-          shows = λ n at s. m.shows n at (subst (λ t. HasDay t n) (alone s.it s.listed) s.leads.has);
-          only = λ w runs.
-              let (n, at, day, has) = m.only w runs in (
-                n,
-                at,
-                day,
-                record {
-                  it = span;
-                  listed = (0, omega arith, sym is);
-                  is = same;
-                  leads = record { has = has; least = λ t in_t on. omega (arith, ap (λ (u : Span). u.letter) (alone t in_t)) };
-                },
-              );
-        };
+    masks = λ v begun unfinished. mask-over v _
+        (λ n at has. record {
+          it = span;
+          listed = (0, omega arith, sym is);
+          is = same;
+          on = record { has = has; least = λ t in_t on. omega (arith, ap (λ (u : Span). u.letter) (alone t in_t)) };
+        })
+        (λ n at s. subst (λ t. HasDay t n) (alone s.it s.listed) s.on.has) (h.masks v begun unfinished);
   }
 
   pub alone-agreed : {on : ℕ → Type 0} {week : ℕ} {it : Weeks} → AgreeOn spans on week it

@@ -52,12 +52,16 @@ pub record Leads (spans : List Span) (n : ℕ) (s : Span) : Type 0 where
   pub has : HasDay s n
   pub least : (t : Span) → Contains spans t → HasDay t n → s.letter ≤ t.letter
 
--- a span with this source leads on day n
-pub record Shows (spans : List Span) (source n : ℕ) : Type 0 where
+-- one of the spans, of those that are meant, has day n
+pub record SomeOf (Is : Span → Type 0) (On : Span → ℕ → Type 0) (spans : List Span) (n : ℕ) : Type 0 where
   pub it : Span
   pub listed : Contains spans it
-  pub is : it.source ≡ source
-  pub leads : Leads spans n it
+  pub is : Is it
+  pub on : On it n
+
+-- a span with this source leads on day n
+abbrev pub Shows : List Span → ℕ → ℕ → Type 0
+Shows spans source n = SomeOf (λ s. s.source ≡ source) (λ s n. Leads spans n s) spans n
 
 -- two spans with different sources lead on day n
 pub record IsDisputed (spans : List Span) (n : ℕ) : Type 0 where
