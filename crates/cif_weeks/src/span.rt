@@ -100,18 +100,13 @@ impl Span {
         ensures none { IfNone result ((n : ℕ) → IsWithin (window_from window.now.first window.now.last) n →
             ¬ Applies (E.terms entry.now) n) }
     {
-        let dates = Dates::of(entry);
-        let first = dates.first.max(window.first);
-        let last = dates.last.min(window.last);
-        if last < first {
+        let mut dates = Dates::of(entry);
+        dates.first = dates.first.max(window.first);
+        dates.last = dates.last.min(window.last);
+        if dates.last < dates.first {
             return None;
         }
-        let in_window = Dates {
-            first,
-            last,
-            ..dates
-        };
-        Some(Span::between(in_window, precedence(entry), source))
+        Some(Span::between(dates, precedence(entry), source))
     }
 
     /// The week, and those after it up to `until` in which it applies on the same weekdays.
