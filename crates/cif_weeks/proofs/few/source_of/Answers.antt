@@ -1,8 +1,7 @@
 -- The span that was found is listed; at the end all have been looked at, or those that are left end no later than one that is too early.
 use Rattle.std.proofs.Common.{◌≡◌, ◌≢◌, ◌-◌, Some, arith, ap, get_or, inl, inr, map, refl, subst, sym, ◌∙◌, ⊎_elim}
-use Rattle.std.proofs.lemmas.Bool.{cases_lt}
+use Rattle.std.proofs.lemmas.Bool.{cases_lt, iff_false}
 use Rattle.std.proofs.lemmas.List.{get_or_default}
-use Rattle.std.proofs.lemmas.Bool.{iff_false}
 use Rattle.cif_weeks.proofs.Words.{body_at, Span}
 use Rattle.cif_weeks.proofs.few.source_of.Goals as goal
 
