@@ -2,7 +2,7 @@
 use Rattle.std.proofs.Common.{◌≡◌, ◌≢◌, ◌⊎◌, inl, inr, ◌↔◌, ℕ, ◌+◌, ◌-◌, ◌*◌, ◌<◌, ◌≤◌, List, [], ◌∷◌, ◌++◌, Bool, length, take, get_or}
 use Rattle.std.proofs.Common.{true, is_lt, nat_cmp, refl, sym, ◌∙◌, ap, subst, arith, rules, ⊎_elim, Contains}
 use Rattle.std.specs.Ordering.{ord_max, ord_min}
-use Rattle.std.proofs.lemmas.Bool.{cases_lt}
+use Rattle.std.proofs.lemmas.Bool.{cases_eq, cases_lt}
 use Rattle.std.specs.List.Sorted.{IsNonDecreasingBy}
 use Rattle.std.proofs.lemmas.List.{get_or-take, get_or_default, get_or_read_under, length-take, take-append-drop, take_all, take_more}
 use Rattle.std.proofs.lemmas.List.Elements.{Contains-append_left, Contains-push, Contains-push_cases}
@@ -13,7 +13,7 @@ use Rattle.cif_weeks.specs.Steps.Spans.{AgreeOn, HasDay, HaveOneMask, IsAgreed, 
 use Rattle.cif_weeks.specs.Steps.Spans.{SomeOf}
 use Rattle.cif_weeks.specs.Steps.WeekMasks.{IsMask}
 use Rattle.cif_weeks.proofs.Masks.{mask-over, mask_runs}
-use Rattle.cif_weeks.proofs.WeekDays.{RunsOn-below, same_or_other}
+use Rattle.cif_weeks.proofs.WeekDays.{RunsOn-below}
 
 -- a test of two days
 pub day-later : (a b : ℕ) (test : Bool) → test ≡ is_lt (nat_cmp a b) → test ≡ true → a < b
@@ -283,7 +283,7 @@ module _ {spans : List Span} {span : Span} {week until last : ℕ} {own : Weeks}
           (r.masks (week_of n) begun unfinished).shows n refl
               (record { it = s; listed = in_s; is = (omega arith, other); on = leads_s.has }),
         )))
-        (same_or_other s.source span.source) in
+        (cases_eq s.source span.source) in
         record { agree = λ s t in_s in_t leads_s leads_t. one s in_s leads_s ∙ sym (one t in_t leads_t) };
   }
 
