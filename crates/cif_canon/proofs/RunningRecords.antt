@@ -41,8 +41,8 @@ runs-true (b ∷ days) (suc w) e = runs-true days w e
 -- a record passes the test exactly if it applies
 applies-decided : {B : Type 0} (r : Permanent B) (d : ℕ) → Decides (applies_on r d) (Applies r d)
 applies-decided r d = Decides-like (applies_on r d)
-    (λ h. record { begun = h.0; unfinished = h.1; on_weekday = h.2 })
-    (λ a. (a.begun, a.unfinished, a.on_weekday))
+    (λ h. record { begun = h.0; unfinished = h.1.0; on_weekday = h.1.1 })
+    (λ a. (a.begun, (a.unfinished, a.on_weekday)))
     (Decides-and (nat_le r.first d) (nat_le d r.last && slice_index_or r.days (weekday_of d) false) (leb-true r.first d, le-leb r.first d)
     (Decides-and (nat_le d r.last) (slice_index_or r.days (weekday_of d) false) (leb-true d r.last, le-leb d r.last)
     (runs r.days (weekday_of d), runs-true r.days (weekday_of d))))
