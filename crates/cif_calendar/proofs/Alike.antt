@@ -1,12 +1,11 @@
 -- In an unbroken stretch a record applies on all days of a weekday or on none, so the winners of the first week are those of all days.
 use Rattle.std.proofs.Common.{◌≡◌, ℕ, ◌+◌, ◌-◌, ◌<◌, ◌≤◌, ◌%◌, List, Option, None, Some, subst, sym, arith, min, get_or}
-use Rattle.std.proofs.Common.{length, ◌∙◌, ⊎_elim, set}
+use Rattle.std.proofs.Common.{◌↔◌, length, ◌∙◌, ⊎_elim, set}
 use Rattle.std.proofs.lemmas.Bool.{cases_lt}
 use Rattle.std.proofs.lemmas.List.{get_or-set_same, get_or-set_other}
 use Rattle.cif_calendar.proofs.Words.{weekday_of, Terms, Records, Applies, Wins, IsClear, IsChosen, IsSource, Piece}
 use Rattle.cif_columns.specs.DaysRun.{RunsOn}
 use Rattle.cif_calendar.specs.Pieces.{IsUnbroken, IsPiece}
-use Rattle.cif_calendar.proofs.Standings.{covered-back}
 
 -- d and e are days of one weekday in the stretch
 record AreAlike (first last d e : ℕ) : Type 0 where
@@ -20,14 +19,27 @@ alike-back : {first last d e : ℕ} → AreAlike first last d e → AreAlike fir
 alike-back a = record { d_from = a.e_from; d_upto = a.e_upto; e_from = a.d_from; e_upto = a.d_upto; same = sym a.same }
 
 module _ {B : Type 0} (records : Records B) (first last : ℕ) (u : IsUnbroken records first last) where
+  -- A record applies on one of the days exactly if it lies over the first day, and the weekday is in its mask. So a stretch can be found
+  -- from the dates.
+  applies-over : (d : ℕ) (r : Terms B) → records r → first ≤ d → d ≤ last →
+      Applies r d ↔ ((r.first ≤ first) × (first ≤ r.last) × RunsOn r.days (weekday_of d))
+  applies-over d r in' from upto = (
+    λ on. (
+      ⊎_elim
+          (λ late. let k = u.begins r in' late in absurd (omega (arith, on.begun)))
+          (λ early. early)
+          (cases_lt first r.first),
+      omega (arith, on.unfinished),
+      on.on_weekday,
+    ),
+    λ (begun, unfinished, on). let k = u.ends r in' unfinished in
+        record { begun = omega (arith, begun); unfinished = omega arith; on_weekday = on },
+  )
+
   applies-alike : (d e : ℕ) (r : Terms B) → AreAlike first last d e → records r → Applies r d → Applies r e
   applies-alike d e r a in' on =
-      let covered = covered-back records first last u d r in' a.d_from a.d_upto on in
-      let kept : last ≤ r.last = u.ends r in' covered.1 in record {
-        begun = omega (arith, covered.0, a.e_from);
-        unfinished = omega (arith, a.e_upto);
-        on_weekday = subst (λ (w : ℕ). RunsOn r.days w) a.same on.on_weekday;
-      }
+      let (begun, unfinished, weekday) = (applies-over d r in' a.d_from a.d_upto).0 on in
+      (applies-over e r in' a.e_from a.e_upto).1 (begun, unfinished, subst (λ (w : ℕ). RunsOn r.days w) a.same weekday)
 
   wins-alike : (d e : ℕ) (r : Terms B) → AreAlike first last d e → Wins records d r → Wins records e r
   wins-alike d e r a w = record {

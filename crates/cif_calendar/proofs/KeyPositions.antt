@@ -26,11 +26,6 @@ range-whole n i h =
     let at : get_or (range_with_len 0 n) i i ≡ 0 + i = get_or-range_with_len 0 n i i h in
     (i, (let z : i < length (range_with_len 0 n) = omega arith in z), (let z : get_or (range_with_len 0 n) i i ≡ i = omega arith in z))
 
--- what a test says
-pub true_from_not : (b : Bool) → not b ≡ false → b ≡ true
-true_from_not true h = refl
-true_from_not false h = sym h
-
 pub not_gt : (o : Ordering) → is_lt o ≡ false → is_gt (ordering_reverse o) ≡ false
 not_gt Less h = h
 not_gt Equal h = refl

@@ -1,6 +1,6 @@
 -- Positions that are sorted by what stands for the keys of their entries rise.
 use Rattle.std.proofs.Common.{◌≡◌, ◌∙◌, ℕ, zero, suc, ◌+◌, ◌≤◌, ◌<◌, List, [], ◌∷◌, ◌++◌, Bool, length, map}
-use Rattle.std.proofs.Common.{ap, arith, get_or, refl, sym, subst}
+use Rattle.std.proofs.Common.{ap, arith, refl, sym, subst}
 use Rattle.std.specs.Prelude.{All, Contains}
 use Rattle.std.specs.Cmp.{IsTotalOrder}
 use Rattle.std.specs.List.{range_with_len}

@@ -5,8 +5,7 @@ use Rattle.std.proofs.lemmas.Bool.{cases_lt}
 use Rattle.std.proofs.lemmas.Option.{slice_get-get_or}
 use Rattle.std.proofs.lemmas.Grind.{get_or-set_at}
 use Rattle.std.proofs.lemmas.List.{get_or-set_other, get_or_past, get_or-replicate, set-get_or}
-use Rattle.cif_calendar.proofs.Words.{weekday_of, Terms, Records, Applies, IsChosen, Standing, Nobody, Leader}
-use Rattle.cif_calendar.specs.Pieces.{IsUnbroken}
+use Rattle.cif_calendar.proofs.Words.{weekday_of, Terms, Applies, IsChosen, Standing, Nobody, Leader}
 use Rattle.cif_calendar.specs.Steps.Standing.{AreBelow, Combines, IsBelow, LooksAt, Stands}
 use Rattle.cif_calendar.proofs.Winning.{nobody-combines, one-leads, one-none}
 
@@ -45,17 +44,6 @@ module _ (step : ℕ → Standing → Standing → Type 0) (n : ℕ) (old : List
 
     pub stepped-same : step k (get_or new k Nobody) (get_or new k Nobody) → AreStepped (k + 1) new
     stepped-same h = subst (AreStepped (k + 1)) (set-get_or new k Nobody) (stepped k (get_or new k Nobody) refl (l.below.below k) h)
-
--- in an unbroken stretch a record that applies on a day lies over the first
-pub covered-back : {B : Type 0} (records : Records B) (first last : ℕ) → IsUnbroken records first last → (d : ℕ) (r : Terms B) → records r →
-    first ≤ d → d ≤ last → Applies r d → (r.first ≤ first) × (first ≤ r.last)
-covered-back records first last u d r in' from upto on = (
-  ⊎_elim
-      (λ late. let k : last < r.first = u.begins r in' late in let begun : r.first ≤ d = on.begun in absurd (omega arith))
-      (λ early. early)
-      (cases_lt first r.first),
-  (let unfinished : d ≤ r.last = on.unfinished in omega arith),
-)
 
 nobody-at : (w : ℕ) → get_or (replicate 7 Nobody) w Nobody ≡ Nobody
 nobody-at w = ⊎_elim

@@ -1,7 +1,6 @@
 -- Members that are looked at together: who wins, and who leads.
-use Rattle.std.proofs.Common.{◌≡◌, ℕ, ◌<◌, ◌≤◌, List, [], ◌∷◌, ◌++◌, Option, Some, Bool, false, length, get_or, map, ap, subst, sym, ◌∙◌}
-use Rattle.std.proofs.Common.{arith, refl, ⊎_elim, inl, inr, IsSome, IsNone, IsTrue, slice_get, ◌⊎◌, option_map, option_and_then}
-use Rattle.std.proofs.lemmas.Bool.{false≢true}
+use Rattle.std.proofs.Common.{◌≡◌, ℕ, ◌<◌, ◌≤◌, List, [], ◌∷◌, ◌++◌, Option, Some, length, get_or, map, ap, subst, sym, ◌∙◌}
+use Rattle.std.proofs.Common.{arith, refl, ⊎_elim, inl, inr, IsSome, IsNone, slice_get, ◌⊎◌, option_map, option_and_then}
 use Rattle.std.proofs.lemmas.List.Elements.{Contains-append_left, Contains-append_right, Contains-append_cases, Contains-get_or}
 use Rattle.std.proofs.lemmas.Option.{same_Some, slice_get-get_or, slice_get-map, slice_get_read}
 use Rattle.cif_columns.specs.Stp.{letter}
@@ -9,12 +8,9 @@ use Rattle.cif_columns.specs.declared.stp.Stp.{Stp}
 use Rattle.cif_columns.specs.declared.stp.Stp.TheVariants.{P, N, O, C}
 use Rattle.cif_calendar.proofs.Words.{Terms, Records, Applies, IsClear, NothingRuns, Wins, IsChosen, IsWinnerAt, body_at, Standing, Nobody}
 use Rattle.cif_calendar.proofs.Words.{Leader, Disputed, AreLawful}
+use Rattle.cif_calendar.specs.Wins.{precedence}
 use Rattle.cif_calendar.specs.Steps.Standing.{Combines, IsDisputed, IsRank, Leads, NoneApplies, Stands, StandsAt}
 use Rattle.cif_calendar.proofs.Elements.{Contains-first, Contains-cases}
-
--- what a test that failed says
-pub refuted : {P : Type 0} (b : Bool) → (IsTrue b → P) × (P → IsTrue b) → b ≡ false → P → ⊥
-refuted b says off h = false≢true (sym off ∙ says.1 h)
 
 -- what an index reads, as a look-up among the terms
 pub terms_at : {X Y : Type 0} (f : X → Y) (xs : List X) (i : ℕ) (x : X) → i < length xs → x ≡ get_or xs i x →
@@ -59,12 +55,12 @@ module _ {B : Type 0} (xs : List (Terms B)) (i : ℕ) (r : Terms B) (at : slice_
   one-wins d on = record {
     listed = chosen-one;
     applies = on;
-    least = λ s c _. let e : letter r.letter ≡ letter s.letter = ap (λ (q : Terms B). letter q.letter) (one-chosen s c) in omega arith;
+    least = λ s c _. let e : precedence r ≡ precedence s = ap (λ (q : Terms B). precedence q) (one-chosen s c) in omega arith;
   }
 
 module _ {B : Type 0} (ys ns zs : Records B) (u : IsUnion ys ns zs) (d : ℕ) where
   -- a winner stays one, where no record of the others is before it
-  pub wins-kept : (t : Terms B) → Wins ys d t → ((s : Terms B) → ns s → Applies s d → letter t.letter ≤ letter s.letter) → Wins zs d t
+  pub wins-kept : (t : Terms B) → Wins ys d t → ((s : Terms B) → ns s → Applies s d → precedence t ≤ precedence s) → Wins zs d t
   wins-kept t w least = record {
     listed = u.left t w.listed;
     applies = w.applies;
@@ -82,43 +78,43 @@ module _ {B : Type 0} (ys ns zs : Records B) (u : IsUnion ys ns zs) (d : ℕ) wh
       (u.only s w.listed)
 
   -- who leads, leads on where the others are all behind
-  leads-kept : (t : Terms B) → Leads ys d t → ((s : Terms B) → ns s → Applies s d → letter t.letter < letter s.letter) → Leads zs d t
+  leads-kept : (t : Terms B) → Leads ys d t → ((s : Terms B) → ns s → Applies s d → precedence t < precedence s) → Leads zs d t
   leads-kept t l behind = record {
     wins = wins-kept t l.wins (λ s h on. let k = behind s h on in omega arith);
     undisputed = λ s w. ⊎_elim
         (λ old. l.undisputed s old)
         (λ new.
         let k = behind s new.listed new.applies in
-        let j : letter s.letter ≤ letter t.letter = w.least t (u.left t l.wins.listed) l.wins.applies in absurd (omega arith))
+        let j : precedence s ≤ precedence t = w.least t (u.left t l.wins.listed) l.wins.applies in absurd (omega arith))
         (wins-back s w);
   }
 
   -- or have its letter and its body
-  leads-both : (t v : Terms B) → letter t.letter ≡ letter v.letter → t.body ≡ v.body → Leads ys d t → Leads ns d v → Leads zs d t
+  leads-both : (t v : Terms B) → precedence t ≡ precedence v → t.body ≡ v.body → Leads ys d t → Leads ns d v → Leads zs d t
   leads-both t v level same l m = record {
-    wins = wins-kept t l.wins (λ s h on. let k : letter v.letter ≤ letter s.letter = m.wins.least s h on in omega arith);
+    wins = wins-kept t l.wins (λ s h on. let k : precedence v ≤ precedence s = m.wins.least s h on in omega arith);
     undisputed = λ s w. ⊎_elim (λ old. l.undisputed s old) (λ new. same ∙ m.undisputed s new) (wins-back s w);
   }
 
-  disputed-kept : (t : Terms B) → IsDisputed ys d t → ((s : Terms B) → ns s → Applies s d → letter t.letter ≤ letter s.letter) →
+  disputed-kept : (t : Terms B) → IsDisputed ys d t → ((s : Terms B) → ns s → Applies s d → precedence t ≤ precedence s) →
       IsDisputed zs d t
   disputed-kept t l least = record {
     wins = wins-kept t l.wins least;
     rival = l.rival;
     rival_wins = wins-kept l.rival l.rival_wins (λ s h on.
         let k = least s h on in
-        let j : letter l.rival.letter ≤ letter t.letter = l.rival_wins.least t l.wins.listed l.wins.applies in omega arith);
+        let j : precedence l.rival ≤ precedence t = l.rival_wins.least t l.wins.listed l.wins.applies in omega arith);
     apart = l.apart;
   }
 
 -- two winners of one letter with different bodies
-disputed-both : {B : Type 0} (ys ns zs : Records B) → IsUnion ys ns zs → (d : ℕ) (t v : Terms B) → letter t.letter ≡ letter v.letter →
+disputed-both : {B : Type 0} (ys ns zs : Records B) → IsUnion ys ns zs → (d : ℕ) (t v : Terms B) → precedence t ≡ precedence v →
     (t.body ≡ v.body → ⊥) → Wins ys d t → Wins ns d v → IsDisputed zs d t
 disputed-both ys ns zs u d t v level apart w x = record {
-  wins = wins-kept ys ns zs u d t w (λ s h on. let k : letter v.letter ≤ letter s.letter = x.least s h on in omega arith);
+  wins = wins-kept ys ns zs u d t w (λ s h on. let k : precedence v ≤ precedence s = x.least s h on in omega arith);
   rival = v;
   rival_wins = wins-kept ns ys zs (union-swap ys ns zs u) d v x (λ s h on.
-      let k : letter t.letter ≤ letter s.letter = w.least s h on in omega arith);
+      let k : precedence t ≤ precedence s = w.least s h on in omega arith);
   apart = apart;
 }
 
@@ -135,20 +131,20 @@ module _ {B : Type 0} (xs : List (Terms B)) (members : List ℕ) where
 
   -- a record that applies is not before the one that leads
   rank-least : (records : Records B) (d n : ℕ) (st : Standing) → IsRank xs members st n → Stands xs members records d st →
-      (s : Terms B) → records s → Applies s d → n ≤ letter s.letter
+      (s : Terms B) → records s → Applies s d → n ≤ precedence s
   rank-least records d n Nobody is none s h on = absurd (none.none s h on)
   rank-least records d n (Leader k) is (t, at, l) s h on =
-      let e = is t at in let j : letter t.letter ≤ letter s.letter = l.wins.least s h on in omega arith
+      let e = is t at in let j : precedence t ≤ precedence s = l.wins.least s h on in omega arith
   rank-least records d n (Disputed k) is (t, at, l) s h on =
-      let e = is t at in let j : letter t.letter ≤ letter s.letter = l.wins.least s h on in omega arith
+      let e = is t at in let j : precedence t ≤ precedence s = l.wins.least s h on in omega arith
 
   -- it is behind the standing
   abbrev IsBehind : Standing → Terms B → Type 0
   IsBehind Nobody s = ⊥
-  IsBehind (Leader k) s = (t : Terms B) → StandsAt xs members k t → letter t.letter < letter s.letter
-  IsBehind (Disputed k) s = (t : Terms B) → StandsAt xs members k t → letter t.letter < letter s.letter
+  IsBehind (Leader k) s = (t : Terms B) → StandsAt xs members k t → precedence t < precedence s
+  IsBehind (Disputed k) s = (t : Terms B) → StandsAt xs members k t → precedence t < precedence s
 
-  rank-behind : (n : ℕ) (st : Standing) (s : Terms B) → IsRank xs members st n → n < letter s.letter → IsBehind st s
+  rank-behind : (n : ℕ) (st : Standing) (s : Terms B) → IsRank xs members st n → n < precedence s → IsBehind st s
   rank-behind n Nobody s is h = let top = letter-below s.letter in omega arith
   rank-behind n (Leader k) s is h = λ t at. let e = is t at in omega arith
   rank-behind n (Disputed k) s is h = λ t at. let e = is t at in omega arith
@@ -159,7 +155,7 @@ module _ {B : Type 0} (xs : List (Terms B)) (members : List ℕ) where
   stands-kept ys ns zs u d Nobody behind none = none-both ys ns zs u d none (record { none = behind })
   stands-kept ys ns zs u d (Leader k) behind (t, at, l) = (t, at, leads-kept ys ns zs u d t l (λ s h on. behind s h on t at))
   stands-kept ys ns zs u d (Disputed k) behind (t, at, l) =
-      (t, at, disputed-kept ys ns zs u d t l (λ s h on. let j : letter t.letter < letter s.letter = behind s h on t at in omega arith))
+      (t, at, disputed-kept ys ns zs u d t l (λ s h on. let j : precedence t < precedence s = behind s h on t at in omega arith))
 
   -- Two standings together.
   pub combines_first : (one other : Standing) (a b : ℕ) → IsRank xs members one a → IsRank xs members other b → a < b →

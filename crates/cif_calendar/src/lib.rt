@@ -1,6 +1,7 @@
 //! Which record of a timetable wins on each date, and what runs.
 #![tactic(auto)]
 
+mod applies;
 mod by_key;
 mod day_state;
 mod entry;
@@ -12,6 +13,7 @@ mod pieces;
 mod standing;
 mod stretch;
 
+pub use applies::{Dates, precedence};
 pub use by_key::{FirstKey, count_of_first_key, first_key, positions_by_key, positions_of_key};
 pub use day_state::{DayState, day_states};
 pub use entry::{Entry, same_body};

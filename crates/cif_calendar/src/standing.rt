@@ -15,6 +15,7 @@ ghost use Rattle.cif_calendar.specs.Steps.Standing.{Stands, StandsAt};
 ghost use Rattle.cif_calendar.specs.declared.key_calendar.CalendarFault.TheVariants.{Ambiguous};
 ghost use Rattle.cif_calendar.specs.declared.standing.Standing.TheVariants.{Nobody};
 
+use crate::applies::precedence;
 use crate::entry::{Entry, same_body};
 use crate::key_calendar::CalendarFault;
 use cif_columns::{Day, DaysRun};
@@ -115,7 +116,7 @@ fn have_one_body<E: Entry>(
     same
 }
 
-/// The letter of who leads; a number after all letters where nobody leads.
+/// The precedence of who leads; a number after all others where nobody leads.
 fn rank<E: Entry>(entries: &[E], members: &[usize], standing: Standing) -> u8
     requires positions { All (λ i. i < length entries.now) members.now }
     requires leader { IsBelow (length members.now) standing }
@@ -124,7 +125,7 @@ fn rank<E: Entry>(entries: &[E], members: &[usize], standing: Standing) -> u8
     match standing {
         Standing::Nobody => u8::MAX,
         Standing::Leader(number) | Standing::Disputed(number) => {
-            member(entries, members, number).letter().write()
+            precedence(member(entries, members, number))
         }
     }
 }

@@ -4,6 +4,7 @@ ghost use Rattle.std.specs.Prelude.{◌<◌, ◌≤◌, ◌+◌, length, map, Al
 ghost use Rattle.cif_calendar.specs.Steps.Standing.{AreAlike};
 ghost use Rattle.cif_calendar.specs.Steps.Stretches.{AreBehind, AreStretchesOf, IsPart, IsStretch};
 
+use crate::applies::Dates;
 use crate::entry::Entry;
 use crate::key_calendar::Window;
 use crate::standing::{Standing, Standings, look_at};
@@ -45,23 +46,14 @@ fn stretch_from<E: Entry>(
     let mut end = last;
     let mut standings = [Standing::Nobody; 7];
     for (index, position) in part.iter().enumerate() {
-        let entry = &entries[*position];
-        let begin = entry.first();
-        if begin <= first {
-            let until = entry.last();
-            if first <= until {
-                end = end.min(until);
+        let dates = Dates::of(&entries[*position]);
+        if dates.first <= first {
+            if first <= dates.last {
+                end = end.min(dates.last);
                 let others = [Standing::Leader(number + index); 7];
-                look_at(
-                    entries,
-                    members,
-                    alike,
-                    &mut standings,
-                    entry.days(),
-                    &others,
-                );
+                look_at(entries, members, alike, &mut standings, dates.days, &others);
             }
-        } else if let Some(before) = begin.previous() {
+        } else if let Some(before) = dates.first.previous() {
             end = end.min(before);
         }
     }

@@ -1,21 +1,20 @@
 -- Why two extracts aren't compared.
 use Rattle.std.proofs.Common.{◌≡◌, ◌⊎◌, Bool, false, not, eqb, sym, ap, ◌∙◌}
-use Rattle.std.proofs.lemmas.Bool.{eqb-true}
+use Rattle.std.proofs.lemmas.Bool.{eqb-true, not-false}
 use Rattle.cif_extract.specs.declared.fault.Clash.{Clash}
 use Rattle.cif_extract.specs.declared.fault.Fault.TheVariants as fault
 use Rattle.cif_canon.specs.Accepted.{IsClearExtract}
 use Rattle.cif_canon.specs.Asked.{header_window}
 use Rattle.cif_canon.specs.Comparison.{IsCompareFault}
 use Rattle.cif_canon.specs.Fault.{IsCanonFault, IsFirstClashIn}
-use Rattle.cif_calendar.proofs.KeyPositions.{true_from_not}
 use Rattle.cif_canon.proofs.Words.{ExtractParts, Fault, Header, window_from}
 
 -- headers whose dates aren't found to differ have one window
 pub one-window : (h k : Header) (firsts lasts : Bool) → firsts ≡ not (eqb h.first k.first) → firsts ≡ false →
     lasts ≡ not (eqb h.last k.last) → lasts ≡ false → header_window h ≡ header_window k
 one-window h k firsts lasts f first l last =
-    ap (λ n. window_from n h.last) (eqb-true h.first k.first (true_from_not _ (sym f ∙ first)))
-    ∙ ap (λ n. window_from k.first n) (eqb-true h.last k.last (true_from_not _ (sym l ∙ last)))
+    ap (λ n. window_from n h.last) (eqb-true h.first k.first (not-false _ (sym f ∙ first)))
+    ∙ ap (λ n. window_from k.first n) (eqb-true h.last k.last (not-false _ (sym l ∙ last)))
 
 -- the fault of one of two extracts with one window
 pub compare-fault : (x y z : ExtractParts) → header_window x.header ≡ header_window y.header →

@@ -2,7 +2,9 @@
 use Rattle.std.proofs.Common.{◌≡◌, ◌<◌, ℕ, zero, suc, Bool, true, false, List, [], ◌∷◌, map, get_or, refl, sym, ap, ◌∙◌, subst}
 use Rattle.std.proofs.Common.{⊎_elim, arith}
 use Rattle.std.specs.Prelude.{◌↔◌, ◌&&◌, AllPairs, Contains, IsTrue, Some, nat_eq, nat_le, slice_index_or}
-use Rattle.std.proofs.lemmas.Bool.{and_from, and_parts, false≢true, le-leb, leb-true}
+use Rattle.std.specs.Bool.{Decides}
+use Rattle.std.proofs.lemmas.Bool.{false_from_ne_true, false≢true, le-leb, leb-true}
+use Rattle.std.proofs.lemmas.Bool.Decides.{Decides-and, Decides-like}
 use Rattle.std.proofs.lemmas.Option.{same_Some}
 use Rattle.cif_columns.specs.DaysRun.{RunsOn}
 use Rattle.std.specs.Cmp.{IsTotalOrder}
@@ -12,6 +14,7 @@ use Rattle.std.specs.declared.cmp.Ordering.{Ordering}
 use Rattle.std.specs.declared.cmp.Ordering.TheVariants.{Less}
 use Rattle.std.proofs.lemmas.List.Elements.{Contains-get_or}
 use Rattle.std.proofs.lemmas.List.Kept.{AllPairs-filter}
+use Rattle.cif_calendar.specs.Applies.{IsDateOf}
 use Rattle.cif_weeks.specs.Applies.{Applies}
 use Rattle.cif_weeks.specs.Canonical.{Precedes}
 use Rattle.cif_weeks.proofs.JoinedLists.{AllPairs-map, Contains-map, Contains-from_map}
@@ -36,32 +39,20 @@ runs-true (b ∷ days) zero e = same_Some b true e
 runs-true (b ∷ days) (suc w) e = runs-true days w e
 
 -- a record passes the test exactly if it applies
-applies-test : {B : Type 0} (r : Permanent B) (d : ℕ) → applies_on r d ≡ true → Applies r d
-applies-test r d e =
-    let (begun, more) = and_parts (nat_le r.first d) (nat_le d r.last && slice_index_or r.days (weekday_of d) false) e in
-    let (unfinished, on) = and_parts (nat_le d r.last) (slice_index_or r.days (weekday_of d) false) more in record {
-      begun = leb-true r.first d begun;
-      unfinished = leb-true d r.last unfinished;
-      on_weekday = runs r.days (weekday_of d) on;
-    }
+applies-decided : {B : Type 0} (r : Permanent B) (d : ℕ) → Decides (applies_on r d) (Applies r d)
+applies-decided r d = Decides-like (applies_on r d)
+    (λ h. record { begun = h.0; unfinished = h.1.0; on_weekday = h.1.1 })
+    (λ a. (a.begun, (a.unfinished, a.on_weekday)))
+    (Decides-and (nat_le r.first d) (nat_le d r.last && slice_index_or r.days (weekday_of d) false) (leb-true r.first d, le-leb r.first d)
+    (Decides-and (nat_le d r.last) (slice_index_or r.days (weekday_of d) false) (leb-true d r.last, le-leb d r.last)
+    (runs r.days (weekday_of d), runs-true r.days (weekday_of d))))
 
-test-applies : {B : Type 0} (r : Permanent B) (d : ℕ) → Applies r d → applies_on r d ≡ true
-test-applies r d a =
-    and_from (nat_le r.first d) (nat_le d r.last && slice_index_or r.days (weekday_of d) false) (le-leb r.first d a.begun)
-    (and_from (nat_le d r.last) (slice_index_or r.days (weekday_of d) false) (le-leb d r.last a.unfinished)
-    (runs-true r.days (weekday_of d) a.on_weekday))
-
--- an answer whether a record applies is that of the test
-pub tested : {B C : Type 0} (run : Run) (b : B) (d : ℕ) (answer : Bool) (unit : C) → IsTrue answer ↔ Applies (record_of run unit) d →
+-- an answer whether a run applies is that of the test
+pub tested : {B : Type 0} (run : Run) (b : B) (d : ℕ) (answer : Bool) → IsTrue answer ↔ IsDateOf run.first run.last run.days d →
     answer ≡ applies_on (record_of run b) d
-tested run b d true unit h = let a = h.0 refl in
-    sym (test-applies (record_of run b) d (record { begun = a.begun; unfinished = a.unfinished; on_weekday = a.on_weekday }))
-tested run b d false unit h = same (applies_on (record_of run b) d) refl
-  where
-    same : (answer : Bool) → applies_on (record_of run b) d ≡ answer → false ≡ applies_on (record_of run b) d
-    same false e = sym e
-    same true e = let a = applies-test (record_of run b) d e in
-        absurd (false≢true (h.1 (record { begun = a.begun; unfinished = a.unfinished; on_weekday = a.on_weekday })))
+tested run b d true h = sym ((applies-decided (record_of run b) d).1 (h.0 refl))
+tested run b d false h =
+    sym (false_from_ne_true (applies_on (record_of run b) d) (λ e. false≢true (h.1 ((applies-decided (record_of run b) d).0 e))))
 
 -- ---- the records that apply, and those of one train
 
@@ -90,7 +81,7 @@ module _ {K B : Type 0} where
         (λ (one : (e.0 ≡ f.0) × (e.1.first < f.1.first)).
         let same : e.1 ≡ f.1 = (a.canonical.have_form f.0).single d e.1 f.1
         (subst (λ k. of_key a.records k e.1) one.0 in_e) in_f
-        (applies-test e.1 d on_e) (applies-test f.1 d on_f) in
+        ((applies-decided e.1 d).0 on_e) ((applies-decided f.1 d).0 on_f) in
         let first : e.1.first ≡ f.1.first = ap (λ (r : Permanent B). r.first) same in
         let before = one.1 in
         absurd (omega (arith, first, before)))
@@ -108,14 +99,14 @@ module _ {K B : Type 0} where
                 same.1 (has.1 (record {
                   it = e.1;
                   listed = subst (λ i. of_key a.records i e.1) (ap (λ (x : K × B). x.0) is) listed;
-                  applies = applies-test e.1 d on;
+                  applies = (applies-decided e.1 d).0 on;
                   body = ap (λ (x : K × B). x.1) is;
                 })),
             λ h.
                 let it = has.0 (same.0 h) in
                 subst (λ c. Contains (map bodied (applying d a.records)) (k, c)) it.body
                 (Contains-map bodied (applying d a.records) (k, it.it)
-                (chosen (λ (e : K × Permanent B). applies_on e.1 d) a.records (k, it.it) it.listed (test-applies it.it d it.applies))),
+                (chosen (λ (e : K × Permanent B). applies_on e.1 d) a.records (k, it.it) it.listed ((applies-decided it.it d).1 it.applies))),
           );
     }
 

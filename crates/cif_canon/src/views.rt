@@ -2,7 +2,7 @@
 ghost use Rattle.std.specs.Prelude.{◌≡◌, ◌↔◌, ◌+◌, ◌++◌, ◌≤◌, ℕ, List, IfErr, IsTrue, codes};
 ghost use Rattle.arrayvec.specs.ArrayString.{array_string_len};
 ghost use Rattle.cif_extract.specs.ExtractParts.{extract_parts};
-ghost use Rattle.cif_weeks.specs.Applies.{Applies};
+ghost use Rattle.cif_calendar.specs.Applies.{IsDateOf};
 ghost use Rattle.cif_weeks.specs.Runs.{record_of};
 ghost use Rattle.cif_canon.specs.Appended.{IsAppended};
 ghost use Rattle.cif_canon.specs.Normalised.{FaultWrites, IfWritten};
@@ -15,6 +15,7 @@ use crate::records::extract_runs;
 use crate::rows::{Format, LONGEST, association_row, schedule_row, train_row};
 use crate::writing::{answer, append};
 use arrayvec::ArrayString;
+use cif_calendar::Dates;
 use cif_columns::{Day, Sink, Uid, WriteDevice};
 use cif_extract::{Body, Extract, Fault, Schedule};
 use cif_records::{AssocBody, AssocKey, Association};
@@ -170,9 +171,14 @@ pub fn write_day<L: DayLines, W: WriteDevice>(
 
 /// Whether the run applies on the day.
 fn applies_on(run: &Run, day: Day) -> bool
-    ensures { (body : Unit {0}) → IsTrue result ↔ Applies (record_of run.now body) day }
+    ensures { IsTrue result ↔ IsDateOf run.now.first run.now.last run.now.days day }
 {
-    run.first <= day && day <= run.last && run.days.has(day.weekday())
+    let dates = Dates {
+        first: run.first,
+        last: run.last,
+        days: run.days,
+    };
+    dates.has(day)
 }
 
 /// What is listed of the records that apply on a day.

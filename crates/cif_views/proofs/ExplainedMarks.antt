@@ -10,10 +10,9 @@ use Rattle.cif_calendar.specs.Clash.{IsClear}
 use Rattle.cif_calendar.specs.Keys.{of_key}
 use Rattle.cif_calendar.specs.Runs.{Runs}
 use Rattle.cif_calendar.specs.Terms.{AreLawful, Records, Terms}
-use Rattle.cif_calendar.specs.Wins.{Wins}
+use Rattle.cif_calendar.specs.Wins.{Wins, precedence}
 use Rattle.cif_calendar.proofs.Elements.{Contains-cases, Contains-first, Contains-rest}
 use Rattle.cif_calendar.proofs.Positions.{at-contains, contains-at}
-use Rattle.cif_columns.specs.Stp.{letter}
 use Rattle.cif_views.specs.Explanation.{AreExplained, Explained, HasWinningMark, IsMarked, SomeApplies}
 use Rattle.cif_views.specs.declared.marks.Mark.{Mark}
 use Rattle.cif_views.specs.declared.marks.Mark.TheVariants as mark
@@ -53,7 +52,7 @@ module _ {K B : Type 0} (cmp : K → K → Ordering) (same : (j k : K) → cmp j
       one : Explained K B
       member : Contains es one
       key : one.key ≡ k
-      least : (e : Explained K B) → Contains es e → e.key ≡ k → letter one.terms.letter ≤ letter e.terms.letter
+      least : (e : Explained K B) → Contains es e → e.key ≡ k → precedence one.terms ≤ precedence e.terms
 
     abbrev NoneHasKey : List (Explained K B) → Type 0
     NoneHasKey es = (e : Explained K B) → Contains es e → e.key ≡ k → ⊥
@@ -79,7 +78,7 @@ module _ {K B : Type 0} (cmp : K → K → Ordering) (same : (j k : K) → cmp j
           one = x;
           member = Contains-first x es;
           key = is_x;
-          least = λ e in_e key. ⊎_elim (λ (is : x ≡ e). subst (λ (y : Explained K B). letter x.terms.letter ≤ letter y.terms.letter) is
+          least = λ e in_e key. ⊎_elim (λ (is : x ≡ e). subst (λ (y : Explained K B). precedence x.terms ≤ precedence y.terms) is
               (omega arith)) (λ later. absurd (none e later key)) (Contains-cases x es e in_e);
         }
         beside is_x (inr first) = ⊎_elim
@@ -87,7 +86,7 @@ module _ {K B : Type 0} (cmp : K → K → Ordering) (same : (j k : K) → cmp j
               one = x;
               member = Contains-first x es;
               key = is_x;
-              least = λ e in_e key. ⊎_elim (λ (is : x ≡ e). subst (λ (y : Explained K B). letter x.terms.letter ≤ letter y.terms.letter) is
+              least = λ e in_e key. ⊎_elim (λ (is : x ≡ e). subst (λ (y : Explained K B). precedence x.terms ≤ precedence y.terms) is
                   (omega arith))
                   (λ later. let le = first.least e later key in omega (arith, le, before)) (Contains-cases x es e in_e);
             })
@@ -96,10 +95,10 @@ module _ {K B : Type 0} (cmp : K → K → Ordering) (same : (j k : K) → cmp j
               member = Contains-rest x es first.one first.member;
               key = first.key;
               least = λ e in_e key. ⊎_elim
-                  (λ (is : x ≡ e). subst (λ (y : Explained K B). letter first.one.terms.letter ≤ letter y.terms.letter) is after)
+                  (λ (is : x ≡ e). subst (λ (y : Explained K B). precedence first.one.terms ≤ precedence y.terms) is after)
                   (λ later. first.least e later key) (Contains-cases x es e in_e);
             })
-            (cases_lt (letter x.terms.letter) (letter first.one.terms.letter))
+            (cases_lt (precedence x.terms) (precedence first.one.terms))
 
         with_key : (o : Ordering) → cmp x.key k ≡ o → NoneHasKey es ⊎ IsFirst es → NoneHasKey (x ∷ es) ⊎ IsFirst (x ∷ es)
         with_key Equal is h = inr (beside (same x.key k is) h)

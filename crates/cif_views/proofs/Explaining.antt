@@ -22,8 +22,7 @@ use Rattle.std.proofs.lemmas.List.Sorted.{All-permutation, Contains-permutation,
 use Rattle.cif_calendar.specs.Applies.{Applies}
 use Rattle.cif_calendar.specs.Keys.{of_key}
 use Rattle.cif_calendar.specs.Terms.{Terms}
-use Rattle.cif_calendar.specs.Wins.{Wins}
-use Rattle.cif_columns.specs.Stp.{letter}
+use Rattle.cif_calendar.specs.Wins.{Wins, precedence}
 use Rattle.cif_calendar.proofs.Positions.{at-contains, contains-at}
 use Rattle.cif_weeks.proofs.JoinedLists.{AllPairs-map, Contains-from_map, Contains-map}
 use Rattle.cif_views.specs.Explanation.{AreExplained, Explained, IsMarked}
@@ -111,7 +110,7 @@ module _ {K B : Type 0} (cmp : K → K → Ordering) (total : IsTotalOrder cmp) 
   pub placed_total : IsTotalOrder {K = Placed K B} (placed_cmp cmp)
   placed_total =
       then_total (on_total (λ (p : Placed K B). p.key) total)
-      (then_total (on_total (λ (p : Placed K B). letter p.terms.letter) nat_cmp_total)
+      (then_total (on_total (λ (p : Placed K B). precedence p.terms) nat_cmp_total)
       (on_total (λ (p : Placed K B). p.place) nat_cmp_total))
 
   -- of two records at different places that aren't in the wrong order the first is less
@@ -197,7 +196,7 @@ module _ {K B : Type 0} (cmp : K → K → Ordering) (total : IsTotalOrder cmp) 
       (subst (λ y. placed_cmp cmp (get_or placed a.0 p) y ≡ Less) (get_or_default placed b.0 p q b.1 ∙ b.2) (rising a.0 b.0 p before b.1))
 
   abbrev by-place : Placed K B → Placed K B → Ordering
-  by-place p q = ordering_then (nat_cmp (letter p.terms.letter) (letter q.terms.letter)) (nat_cmp p.place q.place)
+  by-place p q = ordering_then (nat_cmp (precedence p.terms) (precedence q.terms)) (nat_cmp p.place q.place)
 
   one-key : (j k : K) (o l m : Ordering) → cmp j k ≡ o → ordering_then o l ≡ Less → ordering_then (ordering_reverse o) m ≡ Less → j ≡ k
   one-key j k Less l m is up down = absurd (cc)
@@ -213,7 +212,7 @@ module _ {K B : Type 0} (cmp : K → K → Ordering) (total : IsTotalOrder cmp) 
 
   -- of two records of one key the first has no later letter
   letters-rise : (p q : Placed K B) (a : Contains placed p) (b : Contains placed q) → a.0 < b.0 → q.key ≡ p.key
-      → letter p.terms.letter ≤ letter q.terms.letter
+      → precedence p.terms ≤ precedence q.terms
   letters-rise p q a b before is =
       upto _ _ (nat_cmp p.place q.place)
       (subst (λ o. ordering_then o (by-place p q) ≡ Less) (ap (cmp p.key) is ∙ tied_itself total p.key) (in-order p q a b before))
@@ -224,12 +223,12 @@ module _ {K B : Type 0} (cmp : K → K → Ordering) (total : IsTotalOrder cmp) 
 
     -- a record behind one of its key has that one's mark, or is hidden
     module _ (q : Placed K B) (b : Contains placed q) (before : b.0 < a.0) (key : q.key ≡ p.key) where
-      pub mark-kept : letter q.terms.letter ≡ letter p.terms.letter → (m : Mark) → IsMarkAt placed b.0 m → IsMarkAt placed a.0 m
+      pub mark-kept : precedence q.terms ≡ precedence p.terms → (m : Mark) → IsMarkAt placed b.0 m → IsMarkAt placed a.0 m
       mark-kept is m h =
-          marked m (subst (λ k. IsMarkAmong placed k (letter p.terms.letter) m) key
+          marked m (subst (λ k. IsMarkAmong placed k (precedence p.terms) m) key
           (subst (λ l. IsMarkAmong placed q.key l m) is (subst (λ r. IsMarkOf placed r m) b.2 (h q))))
 
-      pub mark-hidden : (letter q.terms.letter ≡ letter p.terms.letter → ⊥) → IsMarkAt placed a.0 mark.Hidden
+      pub mark-hidden : (precedence q.terms ≡ precedence p.terms → ⊥) → IsMarkAt placed a.0 mark.Hidden
       mark-hidden differ =
           let le = letters-rise q p b a before (sym key) in
           marked mark.Hidden (record { other = q; member = b; key = key; earlier = omega (arith, le, differ) })
@@ -253,12 +252,12 @@ module _ {K B : Type 0} (cmp : K → K → Ordering) (total : IsTotalOrder cmp) 
           ⊎_elim (λ lt. absurd (none-before q b lt key))
           (λ le. ⊎_elim (λ is. here (one-member p q a b is)) behind (eq-or-lt_of_le {n = a.0} {m = b.0} le)) (cases_lt b.0 a.0)
 
-      least : IsLeast placed p.key (letter p.terms.letter)
+      least : IsLeast placed p.key (precedence p.terms)
       least q b key =
-          with_key q b key (λ is. subst (λ (q : Placed K B). letter p.terms.letter ≤ letter q.terms.letter) is (omega arith))
+          with_key q b key (λ is. subst (λ (q : Placed K B). precedence p.terms ≤ precedence q.terms) is (omega arith))
           (λ lt. letters-rise p q a b lt key)
 
-      pub mark-clash : (q : Placed K B) → Contains placed q → q.key ≡ p.key → letter q.terms.letter ≡ letter p.terms.letter
+      pub mark-clash : (q : Placed K B) → Contains placed q → q.key ≡ p.key → precedence q.terms ≡ precedence p.terms
           → (q.terms.body ≡ p.terms.body → ⊥) → IsMarkAt placed a.0 mark.Clash
       mark-clash q b key level differ = marked mark.Clash (
         least,
@@ -276,7 +275,7 @@ module _ {K B : Type 0} (cmp : K → K → Ordering) (total : IsTotalOrder cmp) 
           → ((q : Placed K B) (b : Contains placed q) → b.0 ≡ n → q.key ≡ p.key → ⊥) → IsMarkAt placed a.0 mark.Wins
       mark-wins n past like end = marked mark.Wins (least, λ q r at_q at_r. its-body q at_q ∙ sym (its-body r at_r))
         where
-          its-body : (q : Placed K B) → IsLevel placed p.key (letter p.terms.letter) q → q.terms.body ≡ p.terms.body
+          its-body : (q : Placed K B) → IsLevel placed p.key (precedence p.terms) q → q.terms.body ≡ p.terms.body
           its-body q at =
               let b = at.member in
               let below = b.1 in
@@ -307,8 +306,8 @@ module _ {K B : Type 0} (cmp : K → K → Ordering) (IsOf : K → List ℕ → 
         let of_q : IsPlaced IsOf entries u d q = All-contains (IsPlaced IsOf entries u d) placed q are.found in_q in
         (subst (λ k. of_key entries k q.terms) key (contains-at entries q.place (q.key, q.terms) of_q.at), of_q.applies)
 
-    module _ (least : IsLeast placed p.key (letter p.terms.letter)) where
-      wins : (q : Placed K B) → IsLevel placed p.key (letter p.terms.letter) q → Wins (of_key entries p.key) d q.terms
+    module _ (least : IsLeast placed p.key (precedence p.terms)) where
+      wins : (q : Placed K B) → IsLevel placed p.key (precedence p.terms) q → Wins (of_key entries p.key) d q.terms
       wins q level =
           let (listed, applies) = at-key q level.member level.key in
           record {
@@ -320,7 +319,7 @@ module _ {K B : Type 0} (cmp : K → K → Ordering) (IsOf : K → List ℕ → 
           }
 
       level : (s : Terms B) → Contains placed p → Wins (of_key entries p.key) d s
-          → (i : ℕ) × IsLevel placed p.key (letter p.terms.letter) (placed_at i p.key s)
+          → (i : ℕ) × IsLevel placed p.key (precedence p.terms) (placed_at i p.key s)
       level s in_p w =
           let q = among p.key s of_p.train w.listed w.applies in
           let one = least (placed_at q.0 p.key s) q.1 refl in

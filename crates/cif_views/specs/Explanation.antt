@@ -10,7 +10,7 @@ use Rattle.cif_calendar.specs.Clash.{IsClash, IsClear}
 use Rattle.cif_calendar.specs.Entries.{association_entries, schedule_entries}
 use Rattle.cif_calendar.specs.Keys.{of_key}
 use Rattle.cif_calendar.specs.Terms.{Records, Terms}
-use Rattle.cif_calendar.specs.Wins.{Wins}
+use Rattle.cif_calendar.specs.Wins.{Wins, precedence}
 use Rattle.cif_columns.specs.DayDigits.{yymmdd_of}
 use Rattle.cif_columns.specs.DaysRun.{days_columns}
 use Rattle.cif_columns.specs.Stp.{letter}
@@ -51,7 +51,7 @@ pub record Explained (K B : Type 0) : Type 0 where
 abbrev pub explained_cmp : {K B : Type 0} → (K → K → Ordering) → Explained K B → Explained K B → Ordering
 explained_cmp cmp r s =
     ordering_then (cmp r.key s.key)
-    (ordering_then (nat_cmp (letter r.terms.letter) (letter s.terms.letter)) (nat_cmp r.place s.place))
+    (ordering_then (nat_cmp (precedence r.terms) (precedence s.terms)) (nat_cmp r.place s.place))
 
 -- The record stands at its place, is of train u, applies on day d and has its mark among the records of its key. `IsOf` says of which
 -- trains a key is.

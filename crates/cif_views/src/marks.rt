@@ -6,7 +6,7 @@ ghost use Rattle.cif_views.specs.Steps.Explanation.{ArePlacedInOrder, IsFirstOfK
 ghost use Rattle.cif_views.specs.Steps.Explanation.{IsRisingBy, placed_cmp, placed_of};
 
 use arrayvec::ArrayString;
-use cif_calendar::{Entry, same_body};
+use cif_calendar::{Dates, Entry, precedence, same_body};
 use cif_canon::Format;
 use cif_canon::rows::LONGEST;
 use cif_columns::{Day, Uid};
@@ -63,10 +63,7 @@ fn is_applying<E: ExplainedEntry>(entry: &E, uid: &Uid, day: Day) -> bool
     ensures { IsTrue result ↔
         (E.is_of (E.key entry.now) uid.now × Applies (E.terms entry.now) day) }
 {
-    entry.is_of(uid)
-        && entry.first() <= day
-        && day <= entry.last()
-        && entry.days().has(day.weekday())
+    entry.is_of(uid) && Dates::of(entry).has(day)
 }
 
 /// By key, then by letter, then by place.
@@ -74,11 +71,7 @@ fn order<E: Entry>(one: &Applying<'_, E>, other: &Applying<'_, E>) -> Ordering
     ensures { result ≡ placed_cmp E.Key.cmp
         (placed_of E.key E.terms one.now) (placed_of E.key E.terms other.now) }
 {
-    let by_letter = one
-        .entry
-        .letter()
-        .write()
-        .cmp(&other.entry.letter().write());
+    let by_letter = precedence(one.entry).cmp(&precedence(other.entry));
     one.entry
         .key()
         .cmp(other.entry.key())
@@ -116,7 +109,7 @@ pub(crate) fn mark_at<E: Entry>(applying: &[Applying<'_, E>], i: usize, before: 
     if i > 0 {
         let (one, other) = (applying[i].entry, applying[i - 1].entry);
         if one.key() == other.key() {
-            if one.letter().write() == other.letter().write() {
+            if precedence(one) == precedence(other) {
                 return before;
             }
             return Mark::Hidden;
@@ -138,7 +131,7 @@ fn mark_of_first<E: Entry>(applying: &[Applying<'_, E>], i: usize) -> Mark
         if other.entry.key() != one.key() {
             return Mark::Wins;
         }
-        if other.entry.letter().write() == one.letter().write() && !same_body(other.entry, one) {
+        if precedence(other.entry) == precedence(one) && !same_body(other.entry, one) {
             return Mark::Clash;
         }
     }

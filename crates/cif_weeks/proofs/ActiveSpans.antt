@@ -5,6 +5,7 @@ use Rattle.std.specs.List.Sorted.{IsNonDecreasingBy}
 use Rattle.std.proofs.lemmas.Bool.{cases_lt}
 use Rattle.std.proofs.lemmas.List.{get_or_read_under, take_all}
 use Rattle.std.proofs.lemmas.List.Sorted.{IsNonDecreasingBy-drop}
+use Rattle.cif_weeks.proofs.Masks.{mask-over}
 use Rattle.cif_weeks.proofs.Words.{week_of, Span, Weeks}
 use Rattle.cif_calendar.proofs.Elements.{Contains-cases, Contains-rest}
 use Rattle.cif_weeks.specs.Steps.Spans.{AgreeOn, HasDay, HaveOneMask, IsAgreed, IsDisputed, Leads, Shows}
@@ -23,10 +24,10 @@ module _ {p q : List Span} {n : ℕ} (same : SameOn p q n) where
   leads-some s l = record { has = l.has; least = λ t in_t has_t. l.least t (same.some t in_t) has_t }
 
   shows-all : {source : ℕ} → Shows p source n → Shows q source n
-  shows-all h = record { it = h.it; listed = same.some h.it h.listed; is = h.is; leads = leads-all h.it h.leads }
+  shows-all h = record { it = h.it; listed = same.some h.it h.listed; is = h.is; on = leads-all h.it h.on }
 
   shows-some : {source : ℕ} → Shows q source n → Shows p source n
-  shows-some h = record { it = h.it; listed = same.all h.it h.listed h.leads.has; is = h.is; leads = leads-some h.it h.leads }
+  shows-some h = record { it = h.it; listed = same.all h.it h.listed h.on.has; is = h.is; on = leads-some h.it h.on }
 
   agreed-all : IsAgreed p n → IsAgreed q n
   agreed-all h = record {
@@ -52,14 +53,8 @@ module _ {p q : List Span} {week until source : ℕ} {it : Weeks}
   mask-all = record {
     from = h.from;
     upto = omega arith;
-    masks = λ v begun unfinished.
-        let m = h.masks v begun unfinished in
-        record {
-          seven = m.seven;
-          shows = λ n at on. m.shows n at (shows-some (same n (omega arith) (omega (arith, h.upto))) on);
-          only = λ w runs.
-              let (n, at, day, on) = m.only w runs in (n, at, day, shows-all (same n (omega arith) (omega (arith, h.upto))) on);
-        };
+    masks = λ v begun unfinished. mask-over v _ (λ n at on. shows-all (same n (omega arith) (omega (arith, h.upto))) on)
+        (λ n at on. shows-some (same n (omega arith) (omega (arith, h.upto))) on) (h.masks v begun unfinished);
   }
 
   pub agree-all : AgreeOn p (Shows p source) week it → (n : ℕ) → week ≤ week_of n → week_of n ≤ it.last → Shows q source n → IsAgreed q n
@@ -115,15 +110,15 @@ module _ {spans left : List Span} {week last : ℕ} (h : AreLeft spans left week
         let rises = h.order 0 k on.it (omega arith) below in
         let first = ap (λ (v : Span). v.first_week) (get_or_read_under left 0 (length left) span on.it is (omega arith) refl) in
         let here = ap (λ (v : Span). v.first_week) at in
-        omega (arith, on.leads.has.from))
-        (λ gone. gone n on.leads.has from upto)
+        omega (arith, on.on.has.from))
+        (λ gone. gone n on.on.has from upto)
         (h.all on.it on.listed)
 
   -- where none is left there is none
   pub none-after : length left < 1 → {source : ℕ} (n : ℕ) → week_of n ≤ last → Shows spans source n → week_of n < week
   none-after none n upto on = ⊎_elim
       (λ less. less)
-      (λ from. absurd (⊎_elim (λ (k, below, is). omega arith) (λ gone. gone n on.leads.has from upto) (h.all on.it on.listed)))
+      (λ from. absurd (⊎_elim (λ (k, below, is). omega arith) (λ gone. gone n on.on.has from upto) (h.all on.it on.listed)))
       (cases_lt (week_of n) week)
 
   -- on such a day those that are left are all that count

@@ -7,11 +7,12 @@ use Rattle.cif_weeks.specs.Steps.Growing.{Fits, IsGrown}
 use Rattle.cif_weeks.proofs.WeekDays.{day_rises, week_of-next, weekday_of-next, RunsOn-below}
 use Rattle.cif_weeks.proofs.Masks.{mask_runs, last_runs, last_latest}
 
-module _ {B : Type 0} (window : Window) (on : ℕ → Type 0) (inside : (n : ℕ) → on n → IsWithin window n) where
-  start_fits : (form : Form) (r : Permanent B) (week : ℕ) → IsMask on week r.days → Fits form window on r week
-  start_fits One r week m = m
-  start_fits Two r week m = record { shows = m.shows; full = λ n at within has. mask_runs on week r.days n m at has }
+module _ (window : Window) (on : ℕ → Type 0) where
+  start_fits : (form : Form) (days : List Bool) (week : ℕ) → IsMask on week days → Fits form window on days week
+  start_fits One days week m = m
+  start_fits Two days week m = record { shows = m.shows; full = λ n at within has. mask_runs on week days n m at has }
 
+module _ {B : Type 0} (window : Window) (on : ℕ → Type 0) (inside : (n : ℕ) → on n → IsWithin window n) where
   -- a record of one week, from the first day to the last on which its body runs there
   pub grown_start : (form : Form) (r : Permanent B) → IsMask on (week_of r.first) r.days
       → IsLastDay (week_of r.first) r.days r.last → on r.first
@@ -28,7 +29,7 @@ module _ {B : Type 0} (window : Window) (on : ℕ → Type 0) (inside : (n : ℕ
         used = λ w has. let (n, at, day, runs_n) = m.only w has in (n, day, omega arith, omega arith, runs_n);
         fits = λ week begun unfinished.
             let here : week_of r.first ≡ week = omega arith in
-            start_fits form r week (subst (λ v. IsMask on v r.days) here m);
+            start_fits window on form r.days week (subst (λ v. IsMask on v r.days) here m);
       }
 
   module _ (r : Permanent B) (week : ℕ) (next both : List Bool) (here : week_of r.last ≡ week)
@@ -76,37 +77,36 @@ module _ {B : Type 0} (window : Window) (on : ℕ → Type 0) (inside : (n : ℕ
           mask_runs on (week + 1) next n k at
           ((agree (weekday_of n) (RunsOn-below r.days (weekday_of n) g.seven has) (i, week_i, day_i, within_i, next_within)).0 has)
 
-    module _ (last : ℕ) where
-      old_fits : (form : Form) (v : ℕ) → IsGrown form window on r → MasksAgree form window week r.days next
-          → week_of r.first ≤ v → v ≤ week_of r.last
-          → Fits form window on (record { first = r.first; last = last; days = both; body = r.body }) v
-      old_fits One v g agree begun unfinished = record {
-        seven = seven;
-        shows = λ n at runs. (union (weekday_of n)).1 (inl ((g.fits v begun unfinished).shows n at runs));
-        only = λ w has. (g.fits v begun unfinished).only w (one_both agree w has);
-      }
-      old_fits Two v g agree begun unfinished = record {
-        shows = λ n at runs. (union (weekday_of n)).1 (inl ((g.fits v begun unfinished).shows n at runs));
-        full = λ n at within has. elim ((union (weekday_of n)).0 has) [
-          | inl h ↦ (g.fits v begun unfinished).full n at within h
-          | inr h ↦ two_old g agree n (omega arith) (omega arith) within h
-        ];
-      }
+    old_fits : (form : Form) (v : ℕ) → IsGrown form window on r → MasksAgree form window week r.days next
+        → week_of r.first ≤ v → v ≤ week_of r.last
+        → Fits form window on both v
+    old_fits One v g agree begun unfinished = record {
+      seven = seven;
+      shows = λ n at runs. (union (weekday_of n)).1 (inl ((g.fits v begun unfinished).shows n at runs));
+      only = λ w has. (g.fits v begun unfinished).only w (one_both agree w has);
+    }
+    old_fits Two v g agree begun unfinished = record {
+      shows = λ n at runs. (union (weekday_of n)).1 (inl ((g.fits v begun unfinished).shows n at runs));
+      full = λ n at within has. elim ((union (weekday_of n)).0 has) [
+        | inl h ↦ (g.fits v begun unfinished).full n at within h
+        | inr h ↦ two_old g agree n (omega arith) (omega arith) within h
+      ];
+    }
 
-      new_fits : (form : Form) → IsGrown form window on r → MasksAgree form window week r.days next
-          → Fits form window on (record { first = r.first; last = last; days = both; body = r.body }) (week + 1)
-      new_fits One g agree = record {
-        seven = seven;
-        shows = λ n at runs. (union (weekday_of n)).1 (inr (k.shows n at runs));
-        only = λ w has. k.only w ((agree w (RunsOn-below both w seven has) tt).0 (one_both agree w has));
-      }
-      new_fits Two g agree = record {
-        shows = λ n at runs. (union (weekday_of n)).1 (inr (k.shows n at runs));
-        full = λ n at within has. elim ((union (weekday_of n)).0 has) [
-          | inl h ↦ two_next g agree n at within h
-          | inr h ↦ mask_runs on (week + 1) next n k at h
-        ];
-      }
+    new_fits : (form : Form) → IsGrown form window on r → MasksAgree form window week r.days next
+        → Fits form window on both (week + 1)
+    new_fits One g agree = record {
+      seven = seven;
+      shows = λ n at runs. (union (weekday_of n)).1 (inr (k.shows n at runs));
+      only = λ w has. k.only w ((agree w (RunsOn-below both w seven has) tt).0 (one_both agree w has));
+    }
+    new_fits Two g agree = record {
+      shows = λ n at runs. (union (weekday_of n)).1 (inr (k.shows n at runs));
+      full = λ n at within has. elim ((union (weekday_of n)).0 has) [
+        | inl h ↦ two_next g agree n at within h
+        | inr h ↦ mask_runs on (week + 1) next n k at h
+      ];
+    }
 
   -- the record with the next week, which agrees with its last one
   pub grown_more : (form : Form) (r : Permanent B) (week : ℕ) (next both : List Bool) (last : ℕ)
@@ -129,10 +129,10 @@ module _ {B : Type 0} (window : Window) (on : ℕ → Type 0) (inside : (n : ℕ
           | inr h ↦ let (n, at, day, runs) = k.only w h in (n, day, omega arith, omega arith, runs)
         ];
         fits = λ v begun unfinished. elim (cases_lt (week_of r.last) v) [
-          | inr old ↦ old_fits r week next both here k seven union last form v g agree begun old
+          | inr old ↦ old_fits r week next both here k seven union form v g agree begun old
           | inl new ↦
               let is : week + 1 ≡ v = omega arith in
-              subst (λ v. Fits form window on (record { first = r.first; last = last; days = both; body = r.body }) v) is
-              (new_fits r week next both here k seven union last form g agree)
+              subst (λ v. Fits form window on both v) is
+              (new_fits r week next both here k seven union form g agree)
         ];
       }

@@ -1,5 +1,5 @@
 -- Records that have grown: on which days they apply, that they are aligned, and the change where one ends and another begins.
-use Rattle.std.proofs.Common.{◌≡◌, inl, inr, ⊎_elim, ℕ, ◌+◌, ◌-◌, ◌*◌, ◌<◌, ◌≤◌, arith, refl, sym, subst}
+use Rattle.std.proofs.Common.{◌≡◌, inl, inr, ⊎_elim, ℕ, ◌+◌, ◌-◌, ◌*◌, ◌<◌, ◌≤◌, Bool, List, arith, refl, sym, subst}
 use Rattle.std.proofs.lemmas.Bool.{cases_lt}
 use Rattle.cif_weeks.proofs.Words.{week_of, weekday_of, RunsOn, Form, One, Two, Window, IsWithin, Permanent}
 use Rattle.cif_weeks.specs.Applies.{Applies}
@@ -11,25 +11,26 @@ use Rattle.cif_weeks.proofs.WeekDays.{week_of-rises, day_rises_week, week_of-nex
 use Rattle.cif_weeks.proofs.Masks.{mask_runs}
 use Rattle.cif_weeks.proofs.Separate.{change-seven_days}
 
-module _ {B : Type 0} (window : Window) (on : ℕ → Type 0) (inside : (n : ℕ) → on n → IsWithin window n) where
+module _ (window : Window) (on : ℕ → Type 0) where
   -- where its mask fits a week, the mask has each weekday on which the body runs there
-  pub fits_shows : (form : Form) (r : Permanent B) (week n : ℕ) → Fits form window on r week → week_of n ≡ week
-      → on n → RunsOn r.days (weekday_of n)
-  fits_shows One r week n f at runs = f.shows n at runs
-  fits_shows Two r week n f at runs = f.shows n at runs
+  pub fits_shows : (form : Form) (days : List Bool) (week n : ℕ) → Fits form window on days week → week_of n ≡ week
+      → on n → RunsOn days (weekday_of n)
+  fits_shows One days week n f at runs = f.shows n at runs
+  fits_shows Two days week n f at runs = f.shows n at runs
 
   -- and its body runs on each day of the week and the window whose weekday is in the mask
-  pub fits_full : (form : Form) (r : Permanent B) (week n : ℕ) → Fits form window on r week → week_of n ≡ week
-      → IsWithin window n → RunsOn r.days (weekday_of n) → on n
-  fits_full One r week n f at within has = mask_runs on week r.days n f at has
-  fits_full Two r week n f at within has = f.full n at within has
+  pub fits_full : (form : Form) (days : List Bool) (week n : ℕ) → Fits form window on days week → week_of n ≡ week
+      → IsWithin window n → RunsOn days (weekday_of n) → on n
+  fits_full One days week n f at within has = mask_runs on week days n f at has
+  fits_full Two days week n f at within has = f.full n at within has
 
+module _ {B : Type 0} (window : Window) (on : ℕ → Type 0) (inside : (n : ℕ) → on n → IsWithin window n) where
   module _ (form : Form) (r : Permanent B) (g : IsGrown form window on r) where
-    fits_first : Fits form window on r (week_of r.first)
+    fits_first : Fits form window on r.days (week_of r.first)
     fits_first = g.fits (week_of r.first) (omega arith) g.in_order
 
     -- its mask fits its last week
-    pub fits_last : Fits form window on r (week_of r.last)
+    pub fits_last : Fits form window on r.days (week_of r.last)
     fits_last = g.fits (week_of r.last) g.in_order (omega arith)
 
     -- where a grown record applies, its body runs
@@ -39,7 +40,7 @@ module _ {B : Type 0} (window : Window) (on : ℕ → Type 0) (inside : (n : ℕ
         let b : r.last ≤ window.last = (inside r.last g.last_runs).upto in
         let c : r.first ≤ n = h.begun in
         let d : n ≤ r.last = h.unfinished in
-        fits_full form r (week_of n) n (g.fits (week_of n) (week_of-rises r.first n c) (week_of-rises n r.last d)) refl
+        fits_full window on form r.days (week_of n) n (g.fits (week_of n) (week_of-rises r.first n c) (week_of-rises n r.last d)) refl
         (record { from = omega arith; upto = omega arith }) h.on_weekday
 
     -- and where its body runs in its weeks, it applies
@@ -53,7 +54,7 @@ module _ {B : Type 0} (window : Window) (on : ℕ → Type 0) (inside : (n : ℕ
         | inl sooner ↦ let h : n < r.last = day_rises_week n r.last sooner in omega arith
         | inr same ↦ g.latest n (omega arith) runs
       ];
-      on_weekday = fits_shows form r (week_of n) n (g.fits (week_of n) begun unfinished) refl runs;
+      on_weekday = fits_shows window on form r.days (week_of n) n (g.fits (week_of n) begun unfinished) refl runs;
     }
 
     -- it applies on its first and its last day

@@ -14,7 +14,7 @@ module _ {B : Type 0} (window : Window) (on : ℕ → Type 0) (inside : (n : ℕ
     has_days form g w has =
         let (n, at, day, runs) = m.only w has in
         subst (λ v. RunsOn r.days v) day
-        (fits_shows window on inside form r (week_of r.last) n (fits_last window on inside form r g) at runs)
+        (fits_shows window on form r.days (week_of r.last) n (fits_last window on inside form r g) at runs)
 
     days_agree : (form : Form) → IsGrown form window on r → MasksAgree form window (week_of r.last) r.days days
     days_agree One g w below counts = (

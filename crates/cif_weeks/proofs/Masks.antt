@@ -23,3 +23,12 @@ module _ (on : ℕ → Type 0) (week : ℕ) where
 
   pub last_latest : (mask : List Bool) (day n : ℕ) → IsMask on week mask → IsLastDay week mask day → week_of n ≡ week → on n → n ≤ day
   last_latest mask day n m l at runs = l.latest n at (m.shows n at runs)
+
+-- of other days it is the mask too, if those of the week are the same
+pub mask-over : {on other : ℕ → Type 0} (week : ℕ) (days : List Bool) → ((n : ℕ) → week_of n ≡ week → on n → other n)
+    → ((n : ℕ) → week_of n ≡ week → other n → on n) → IsMask on week days → IsMask other week days
+mask-over week days forth back m = record {
+  seven = m.seven;
+  shows = λ n at h. m.shows n at (back n at h);
+  only = λ w runs. let (n, at, day, h) = m.only w runs in (n, at, day, forth n at h);
+}

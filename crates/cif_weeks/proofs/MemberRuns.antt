@@ -118,7 +118,7 @@ module _ {B : Type 0} (xs : List (Terms B)) (members : List ℕ) (window : Windo
     (a : AreSpansOf xs members window spans) where
   -- the spans' days lie in the window
   pub shown-inside : (source n : ℕ) → Shows spans source n → IsWithin window n
-  shown-inside source n h = (((a.each h.it h.listed).span.days n).0 h.leads.has).0
+  shown-inside source n h = (((a.each h.it h.listed).span.days n).0 h.on.has).0
 
   -- what is so of each span that leads is so of each winner, and the other way round
   winner-leads : (n : ℕ) (r : Terms B) → IsWithin window n → Wins (IsChosen xs members) n r → Shown xs spans r.body n

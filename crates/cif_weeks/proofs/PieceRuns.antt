@@ -24,7 +24,7 @@ module _ {B : Type 0} (xs : List (Terms B)) (c : CalendarParts) (sources : AreSo
     (a : AreSpansOn xs c (λ n. n < c.last + 1) spans) where
   -- the spans' days lie in the window
   pub pieces-inside : (source n : ℕ) → Shows spans source n → IsWithin (window_of c) n
-  pieces-inside source n h = let p = a.each h.it h.listed in inside xs c sources p.body n (p.runs n h.leads.has)
+  pieces-inside source n h = let p = a.each h.it h.listed in inside xs c sources p.body n (p.runs n h.on.has)
 
   bodied : (s : Span) → Contains spans s → HasBody s
   bodied s listed cancelled = omega (arith, (a.each s listed).letter, cancelled)
@@ -89,7 +89,7 @@ module _ {B : Type 0} (xs : List (Terms B)) (c : CalendarParts) (sources : AreSo
         (shown-runs run.first r.body (first-inside run listed) (record {
           it = s.it;
           listed = s.listed;
-          leads = s.leads;
+          leads = s.on;
           body_is = ap (λ v. body_at xs (Some v)) s.is ∙ of.body;
         })) in
         record { dates = of.dates; source = source; body = body }

@@ -9,6 +9,7 @@ use Rattle.std.proofs.lemmas.List.{drop_more}
 use Rattle.cif_weeks.proofs.Words.{week_of, weekday_of, RunsOn, body_at, Terms, Span}
 use Rattle.cif_columns.specs.Stp.{letter}
 use Rattle.cif_columns.specs.declared.stp.Stp.TheVariants.{P}
+use Rattle.cif_calendar.specs.Applies.{IsDateOf}
 use Rattle.cif_calendar.specs.Calendar.{CalendarParts}
 use Rattle.cif_calendar.specs.Pieces.{Tiles, winner_of}
 use Rattle.cif_calendar.specs.declared.key_calendar.Piece.{Piece}
@@ -147,7 +148,7 @@ module _ {B : Type 0} (xs : List (Terms B)) (c : CalendarParts) where
       -- one span more
       module _ (spans : List Span) (taken days both : List Bool) (u : Span) (winner weekday : ℕ)
           (l : AreTaken p weekday taken spans)
-          (own : (n : ℕ) → HasDay u n ↔ ((p.first ≤ n) × (n ≤ p.last) × RunsOn days (weekday_of n)))
+          (own : (n : ℕ) → HasDay u n ↔ IsDateOf p.first p.last days n)
           (begins : u.first_week ≡ week_of p.first) (ends : u.last_week ≡ week_of p.last) (is_P : u.letter ≡ letter P)
           (same : body_at xs (Some u.source) ≡ body_at xs (Some winner))
           (among : IsSourceAmong xs spans (week_of p.first) winner u.source)
@@ -159,9 +160,9 @@ module _ {B : Type 0} (xs : List (Terms B)) (c : CalendarParts) where
 
         its-runs : (n : ℕ) → HasDay u n → body_in xs c n ≡ body_at xs (Some u.source)
         its-runs n has =
-            let (from, upto, on) = (own n).0 has in
-            let (i, (_, is), one) = (of_body (weekday_of n)).0 on in
-            ap (body_at xs) (source_in-piece c p of.tiles of.listed n from upto ∙ is) ∙ sym one
+            let d = (own n).0 has in
+            let (i, (_, is), one) = (of_body (weekday_of n)).0 d.on_weekday in
+            ap (body_at xs) (source_in-piece c p of.tiles of.listed n d.begun d.unfinished ∙ is) ∙ sym one
 
         -- an earlier span that is near the new one, with its body, is one of those that were looked at
         old-source : (s : Span) → Contains spans s → AreNear s u → body_at xs (Some s.source) ≡ body_at xs (Some u.source) →
@@ -193,7 +194,7 @@ module _ {B : Type 0} (xs : List (Terms B)) (c : CalendarParts) where
               (λ k. ⊎_elim
               (λ t. old (inr (k.0, k.1, t)))
               (λ d.
-              let has = (own n).1 (k.0, k.1, d) in (u, Contains-push spans u, has, sym (its-runs n has) ∙ runs))
+              let has = (own n).1 (record { begun = k.0; unfinished = k.1; on_weekday = d }) in (u, Contains-push spans u, has, sym (its-runs n has) ∙ runs))
               ((united (weekday_of n)).0 k.2))
               known;
           one_source = λ s t in_s in_t close one. ⊎_elim

@@ -1,21 +1,13 @@
 -- Runs of the same days: what is known of them over one set of days is known over the other.
-use Rattle.std.proofs.Common.{inl, inr, ℕ, ◌+◌, List, Bool}
+use Rattle.std.proofs.Common.{inl, inr, ℕ, ◌+◌}
 use Rattle.cif_weeks.proofs.Words.{week_of, Form, One, Two, Permanent, Window}
 use Rattle.cif_weeks.specs.Steps.Growing.{Breaks, Fits, IsGrown}
-use Rattle.cif_weeks.specs.Steps.WeekMasks.{IsMask}
-
-pub mask-over : {on other : ℕ → Type 0} (forth : (n : ℕ) → on n → other n) (back : (n : ℕ) → other n → on n) (week : ℕ) (days : List Bool) →
-    IsMask on week days → IsMask other week days
-mask-over forth back week days m = record {
-  seven = m.seven;
-  shows = λ n at h. m.shows n at (back n h);
-  only = λ w runs. let (n, at, day, h) = m.only w runs in (n, at, day, forth n h);
-}
+use Rattle.cif_weeks.proofs.Masks.{mask-over}
 
 module _ {B : Type 0} (window : Window) {on other : ℕ → Type 0} (forth : (n : ℕ) → on n → other n) (back : (n : ℕ) → other n → on n)
     (r : Permanent B) where
-  fits-over : (form : Form) (week : ℕ) → Fits form window on r week → Fits form window other r week
-  fits-over One week m = mask-over forth back week r.days m
+  fits-over : (form : Form) (week : ℕ) → Fits form window on r.days week → Fits form window other r.days week
+  fits-over One week m = mask-over week r.days (λ n _. forth n) (λ n _. back n) m
   fits-over Two week f = record {
     shows = λ n at h. f.shows n at (back n h);
     full = λ n at within runs. forth n (f.full n at within runs);
@@ -34,7 +26,7 @@ module _ {B : Type 0} (window : Window) {on other : ℕ → Type 0} (forth : (n 
   }
 
   pub breaks-over : (form : Form) → Breaks form window on r → Breaks form window other r
-  breaks-over One h = λ next m. h next (mask-over back forth (week_of r.last + 1) next m)
+  breaks-over One h = λ next m. h next (mask-over (week_of r.last + 1) next (λ n _. back n) (λ n _. forth n) m)
   breaks-over Two (n, t) = (
     n,
     record {

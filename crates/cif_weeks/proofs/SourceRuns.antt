@@ -3,7 +3,7 @@ use Rattle.std.proofs.Common.{◌≡◌, ◌≢◌, inl, inr, ℕ, ◌+◌, ◌<
 use Rattle.std.proofs.Common.{sym, ◌∙◌, ap, subst, ⊎_elim, length-take, length-drop, All, Contains, is_lt, nat_cmp}
 use Rattle.std.specs.List.Sorted.{IsNonDecreasingBy, IsPartitionPoint}
 use Rattle.std.specs.Ordering.{ordering_then}
-use Rattle.std.proofs.lemmas.Bool.{cases_lt, leb-false, leb-true}
+use Rattle.std.proofs.lemmas.Bool.{cases_eq, cases_lt, leb-false, leb-true}
 use Rattle.std.proofs.lemmas.Bool.Decides.{nat_tests}
 use Rattle.std.proofs.lemmas.List.{get_or-drop, get_or-take, get_or_default}
 use Rattle.std.proofs.lemmas.List.Elements.{All-contains}
@@ -15,7 +15,6 @@ use Rattle.cif_weeks.specs.Steps.Spans.{IsAgreed, IsDisputed, Shows}
 use Rattle.cif_weeks.proofs.Cuts.{Contains-take, cut-cases, cut-first, cut-rest, take-contains}
 use Rattle.cif_calendar.proofs.RisingLists.{Contains-none}
 use Rattle.cif_weeks.proofs.SpanRuns.{AreRunsOf, runs-joined, runs-of_body, runs-over}
-use Rattle.cif_weeks.proofs.WeekDays.{same_or_other}
 
 -- the source isn't after this one, or it is
 abbrev IsUpTo : ℕ → Span → Type 0
@@ -105,7 +104,7 @@ module _ (left : List Span) (span : Span) (count : ℕ) (order : AreBySource lef
           it = h.it;
           listed = there;
           is = h.is;
-          leads = record { has = h.leads.has; least = λ t in_t on. omega (arith, level h.it t there in_t) };
+          on = record { has = h.on.has; least = λ t in_t on. omega (arith, level h.it t there in_t) };
         }
 
     shows-own : (n : ℕ) → Shows spans span.source n → Shows (take count left) span.source n
@@ -113,7 +112,7 @@ module _ (left : List Span) (span : Span) (count : ℕ) (order : AreBySource lef
       it = h.it;
       listed = either h.it (whole h.it span h.listed in-left h.is) h.is;
       is = h.is;
-      leads = record { has = h.leads.has; least = λ t in_t on. h.leads.least t (listed t (own t in_t).0) on };
+      on = record { has = h.on.has; least = λ t in_t on. h.on.least t (listed t (own t in_t).0) on };
     }
 
     -- the runs of the source are made too
@@ -129,7 +128,7 @@ module _ (left : List Span) (span : Span) (count : ℕ) (order : AreBySource lef
         (λ a. differ (sym (own s a.0).1 ∙ is))
         (λ b. h s b.0 is)
         (cut-cases left count (IsUpTo span.source) (IsAfter span.source) point s in_s)))
-        (same_or_other span.source i))
+        (cases_eq span.source i))
         (λ i h same. h span in-left same)
         x
         (runs-over form window (take count left) spans

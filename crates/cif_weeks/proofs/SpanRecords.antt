@@ -4,12 +4,12 @@ use Rattle.std.proofs.Common.{Contains, slice_get}
 use Rattle.std.specs.List.{AllZip}
 use Rattle.std.proofs.lemmas.Bool.{cases_lt}
 use Rattle.std.proofs.lemmas.Option.{same_Some, slice_get_within, slice_get-get_or, get_or_from_slice_get}
-use Rattle.cif_weeks.proofs.Words.{week_of, body_at, Terms, Permanent, Window, IsWithin, Form, One, Two, Run, Span}
+use Rattle.cif_weeks.proofs.Words.{week_of, body_at, Terms, Permanent, Window, IsWithin, Form, Run, Span}
 use Rattle.cif_calendar.proofs.Elements.{Contains-first, Contains-rest}
 use Rattle.cif_calendar.proofs.Positions.{at-contains, contains-at}
 use Rattle.cif_weeks.specs.Runs.{record_of}
 use Rattle.cif_weeks.specs.Steps.BodyRuns.{AreRunsOfSpans, HasBody, IsSpansRun, dates_of}
-use Rattle.cif_weeks.specs.Steps.Growing.{Breaks, Fits, IsApartFrom, IsGrown}
+use Rattle.cif_weeks.specs.Steps.Growing.{Breaks, IsApartFrom, IsGrown}
 use Rattle.cif_weeks.specs.Steps.PieceSpans.{AreNear}
 use Rattle.cif_weeks.specs.Steps.Spans.{Leads, Shows}
 use Rattle.cif_weeks.proofs.Grown.{grown_aligned, grown_applies, grown_change, grown_near, grown_runs}
@@ -37,39 +37,13 @@ pub record IsBodysRun {B : Type 0} (xs : List (Terms B)) (run : Run) (r : Perman
   pub dates : r ≡ record_of run r.body
   pub body : body_at xs (Some run.source) ≡ Some r.body
 
--- the record with another body
-abbrev with_body : {A B : Type 0} → Permanent A → B → Permanent B
-with_body r b = record { first = r.first; last = r.last; days = r.days; body = b }
-
--- whether it has grown and what follows it are the same
-module _ {A B : Type 0} (window : Window) (on : ℕ → Type 0) (r : Permanent A) (b : B) where
-  fits-as : (form : Form) (week : ℕ) → Fits form window on r week → Fits form window on (with_body r b) week
-  fits-as One week h = h
-  fits-as Two week h = record { shows = h.shows; full = h.full }
-
-  breaks-as : (form : Form) → Breaks form window on r → Breaks form window on (with_body r b)
-  breaks-as One h = h
-  breaks-as Two h = h
-
-  grown-as : (form : Form) → IsGrown form window on r → IsGrown form window on (with_body r b)
-  grown-as form g = record {
-    seven = g.seven;
-    in_order = g.in_order;
-    first_runs = g.first_runs;
-    last_runs = g.last_runs;
-    earliest = g.earliest;
-    latest = g.latest;
-    used = g.used;
-    fits = λ week begun unfinished. fits-as form week (g.fits week begun unfinished);
-  }
-
 module _ {B : Type 0} (xs : List (Terms B)) (window : Window) (spans : List Span) (have : HaveBodies xs window spans)
     (form : Form) (runs : List Run) (are : AreRunsOfSpans form window spans runs) where
   -- where a span with a body leads, what leads has that body
   pub one-body : (n : ℕ) (b : B) (o : Option B) → Shown xs spans (Some b) n → Shown xs spans o n → Some b ≡ o
   one-body n b o s t =
       let agreed = are.agreed s.it n s.listed (have.has_body s.it s.listed b s.body_is)
-      (record { it = s.it; listed = s.listed; is = refl; leads = s.leads }) in
+      (record { it = s.it; listed = s.listed; is = refl; on = s.leads }) in
       sym s.body_is ∙ ap (λ v. body_at xs (Some v)) (agreed.agree s.it t.it s.listed t.listed s.leads t.leads) ∙ t.body_is
 
   records-from : (some : List Run) → ((run : Run) → Contains some run → IsSpansRun form window spans run) →
@@ -98,14 +72,14 @@ module _ {B : Type 0} (xs : List (Terms B)) (window : Window) (spans : List Span
       let t = (are.each i in_i).grown.first_runs in
       let at_source = λ (v : ℕ). body_at xs (Some v) in
       sym s.is ∙ have.one_source s.it t.it s.listed t.listed (record {
-        reaches = omega (arith, s.leads.has.from, t.leads.has.upto);
-        reached = omega (arith, t.leads.has.from, s.leads.has.upto);
+        reaches = omega (arith, s.on.has.from, t.on.has.upto);
+        reached = omega (arith, t.on.has.from, s.on.has.upto);
       }) (ap at_source s.is ∙ same ∙ ap at_source (sym t.is)) ∙ t.is
 
   module _ (records : List (Permanent B)) (zip : AllZip (IsBodysRun xs) runs records) where
     grown-of : (run : Run) (r : Permanent B) → Contains runs run → IsBodysRun xs run r → IsGrown form window (Shows spans run.source) r
     grown-of run r listed of = subst (λ s. IsGrown form window (Shows spans run.source) s) (sym of.dates)
-        (grown-as window (Shows spans run.source) (dates_of run) r.body form (are.each run listed).grown)
+        (are.each run listed).grown
 
     -- what is known of a record
     record Stands (k : ℕ) (r : Permanent B) : Type 0 where
@@ -145,8 +119,7 @@ module _ {B : Type 0} (xs : List (Terms B)) (window : Window) (spans : List Span
               record {
                 before = omega (arith, ends.before);
                 change = λ next. grown_change window on (have.inside h.run.source) form r s h.grown
-                    (subst (λ v. Breaks form window on v) (sym h.of.dates)
-                    (breaks-as window on (dates_of h.run) r.body form (ends.breaks (omega arith))))
+                    (subst (λ v. Breaks form window on v) (sym h.of.dates) (ends.breaks (omega arith)))
                     (subst (λ v. IsGrown form window (Shows spans v) s) (sym sources) i.grown) next;
               })
               (cases_lt (week_of h.run.last + 1) (week_of i.run.first)),
@@ -167,7 +140,7 @@ module _ {B : Type 0} (xs : List (Terms B)) (window : Window) (spans : List Span
       apart = λ i j d less below.
           (pair i j _ _ less (slice_get-get_or records i d (omega arith)) (slice_get-get_or records j d below)).1;
       complete = λ n b within s.
-          let shows : Shows spans s.it.source n = record { it = s.it; listed = s.listed; is = refl; leads = s.leads } in
+          let shows : Shows spans s.it.source n = record { it = s.it; listed = s.listed; is = refl; on = s.leads } in
           let w = are.complete s.it n s.listed (have.has_body s.it s.listed b s.body_is) shows in
           let (k, at) = at-contains runs w.run w.listed in
           let (r, there, of) = zip-at (IsBodysRun xs) runs records zip k w.run at in
@@ -182,5 +155,5 @@ module _ {B : Type 0} (xs : List (Terms B)) (window : Window) (spans : List Span
       sound = λ n r listed on.
           let (k, h) = stands-in r listed in
           let s = grown_runs window (Shows spans h.run.source) (have.inside h.run.source) form r h.grown n on in
-          record { it = s.it; listed = s.listed; leads = s.leads; body_is = ap (λ v. body_at xs (Some v)) s.is ∙ h.of.body };
+          record { it = s.it; listed = s.listed; leads = s.on; body_is = ap (λ v. body_at xs (Some v)) s.is ∙ h.of.body };
     }

@@ -132,7 +132,7 @@ module _ (form : Form) (window : Window) (spans : List Span) where
             let a = subst (Shows spans r.source) same (x.each r in_r).1.first_runs in
             let b = grown.first_runs in
             differ r t in_r in_t
-            (sym a.is ∙ (y.agreed t.source t.first has b).agree a.it b.it a.listed b.listed a.leads b.leads ∙ b.is) in
+            (sym a.is ∙ (y.agreed t.source t.first has b).agree a.it b.it a.listed b.listed a.on b.on ∙ b.is) in
             grind (arith, nat_tests));
         apart = λ r t in_r in_t same less. ⊎_elim
             (λ a. ⊎_elim (λ b. x.apart r t a b same less) (λ b. absurd (differ r t a b same)) (cases t in_t))

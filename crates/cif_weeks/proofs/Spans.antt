@@ -2,17 +2,18 @@
 use Rattle.std.proofs.Common.{◌≡◌, ◌≢◌, ◌⊎◌, inl, inr, ◌↔◌, ℕ, ◌+◌, ◌-◌, ◌*◌, ◌<◌, ◌≤◌, List, [], ◌∷◌, ◌++◌, Bool, length, take, get_or}
 use Rattle.std.proofs.Common.{true, is_lt, nat_cmp, refl, sym, ◌∙◌, ap, subst, arith, rules, ⊎_elim, Contains}
 use Rattle.std.specs.Ordering.{ord_max, ord_min}
-use Rattle.std.proofs.lemmas.Bool.{cases_lt}
+use Rattle.std.proofs.lemmas.Bool.{cases_eq, cases_lt}
 use Rattle.std.specs.List.Sorted.{IsNonDecreasingBy}
 use Rattle.std.proofs.lemmas.List.{get_or-take, get_or_default, get_or_read_under, length-take, take-append-drop, take_all, take_more}
 use Rattle.std.proofs.lemmas.List.Elements.{Contains-append_left, Contains-push, Contains-push_cases}
 use Rattle.cif_weeks.proofs.Words.{week_of, weekday_of, RunsOn, Terms, Span, Weeks, IsWithin, Window}
-use Rattle.cif_columns.specs.Stp.{letter}
-use Rattle.cif_calendar.specs.Applies.{Applies}
+use Rattle.cif_calendar.specs.Applies.{Applies, IsDateOf}
+use Rattle.cif_calendar.specs.Wins.{precedence}
 use Rattle.cif_weeks.specs.Steps.Spans.{AgreeOn, HasDay, HaveOneMask, IsAgreed, IsDisputed, IsSpanOf, Leads, Shows}
+use Rattle.cif_weeks.specs.Steps.Spans.{SomeOf}
 use Rattle.cif_weeks.specs.Steps.WeekMasks.{IsMask}
-use Rattle.cif_weeks.proofs.Masks.{mask_runs}
-use Rattle.cif_weeks.proofs.WeekDays.{RunsOn-below, same_or_other}
+use Rattle.cif_weeks.proofs.Masks.{mask-over, mask_runs}
+use Rattle.cif_weeks.proofs.WeekDays.{RunsOn-below}
 
 -- a test of two days
 pub day-later : (a b : ℕ) (test : Bool) → test ≡ is_lt (nat_cmp a b) → test ≡ true → a < b
@@ -27,20 +28,19 @@ module _ {B : Type 0} (window : Window) (r : Terms B) (first last : ℕ) (begins
   upto-both : (last ≤ r.last) × (last ≤ window.last) × ((last ≡ r.last) ⊎ (last ≡ window.last))
   upto-both = (search rules, search rules, search rules)
 
-  pub span-of : (s : Span) → s.letter ≡ letter r.letter →
-      ((n : ℕ) → HasDay s n ↔ ((first ≤ n) × (n ≤ last) × RunsOn r.days (weekday_of n))) → IsSpanOf window r s
+  pub span-of : (s : Span) → s.letter ≡ precedence r → ((n : ℕ) → HasDay s n ↔ IsDateOf first last r.days n) → IsSpanOf window r s
   span-of s is days = let f = from-both in let l = upto-both in record {
     letter = is;
     days = λ n. (
-      λ has. let (from, upto, on) = (days n).0 has in (
-        record { from = omega (arith, f.1); upto = omega (arith, l.1) },
-        record { begun = omega (arith, f.0); unfinished = omega (arith, l.0); on_weekday = on },
+      λ has. let d = (days n).0 has in (
+        record { from = omega (arith, f.1, d.begun); upto = omega (arith, l.1, d.unfinished) },
+        record { begun = omega (arith, f.0, d.begun); unfinished = omega (arith, l.0, d.unfinished); on_weekday = d.on_weekday },
       ),
-      λ (within, on). (days n).1 (
-        omega (arith, f.2, on.begun, within.from),
-        omega (arith, l.2, on.unfinished, within.upto),
-        on.on_weekday,
-      ),
+      λ (within, on). (days n).1 (record {
+        begun = omega (arith, f.2, on.begun, within.from);
+        unfinished = omega (arith, l.2, on.unfinished, within.upto);
+        on_weekday = on.on_weekday;
+      }),
     );
   }
 
@@ -95,13 +95,6 @@ week-alone s week until days upto m = record {
 pub take_next : {X : Type 0} (xs : List X) (i : ℕ) (x : X) → i < length xs → x ≡ get_or xs i x → take (i + 1) xs ≡ take i xs ++ x ∷ []
 take_next xs i x below is = take_more xs i x below ∙ ap (λ y. take i xs ++ y ∷ []) (sym is)
 
--- one of the spans in the list, of those that are meant, has day n
-pub record SomeOf (Is : Span → Type 0) (On : Span → ℕ → Type 0) (p : List Span) (n : ℕ) : Type 0 where
-  pub it : Span
-  pub listed : Contains p it
-  pub is : Is it
-  pub on : On it n
-
 -- One span more.
 module _ {Is : Span → Type 0} {On : Span → ℕ → Type 0} {p : List Span} (t : Span) where
   pub old_or_new : (n : ℕ) → SomeOf Is On (p ++ t ∷ []) n → SomeOf Is On p n ⊎ (Is t × On t n)
@@ -143,13 +136,8 @@ module _ {Is : Span → Type 0} {On : Span → ℕ → Type 0} {p : List Span} (
     some-same h other from upto = record {
       from = from;
       upto = omega arith;
-      masks = λ v begun unfinished.
-          let before = h.masks v begun (omega arith) in
-          record {
-            seven = before.seven;
-            shows = λ n at has. ⊎_elim (λ o. before.shows n at o) (λ new. absurd (other new.0)) (old_or_new n has);
-            only = λ w runs. let (n, at, day, has) = before.only w runs in (n, at, day, old n has);
-          };
+      masks = λ v begun unfinished. mask-over v _ (λ n _ has. old n has)
+          (λ n _ has. ⊎_elim (λ o. o) (λ new. absurd (other new.0)) (old_or_new n has)) (h.masks v begun (omega arith));
     }
 
     pub agree-more : {spans : List Span} {it : Weeks} → AgreeOn spans (SomeOf Is On p) week so_far → it.last ≤ so_far.last
@@ -197,47 +185,20 @@ module _ {Is : Span → Type 0} {On : Span → ℕ → Type 0} (has : (s : Span)
   some-all h = record {
     from = h.from;
     upto = h.upto;
-    masks = λ v begun unfinished.
-        let m = h.masks v begun unfinished in
-        record {
-          seven = m.seven;
-          shows = λ n at s. m.shows n at (some-first n (omega arith) s);
-          only = λ w runs.
-              let (n, at, day, s) = m.only w runs in
-              let listed = subst (λ p. Contains p s.it) (take-append-drop k spans) (Contains-append_left (take k spans) _ s.it s.listed) in
-              (n, at, day, record { it = s.it; listed = listed; is = s.is; on = s.on });
-        };
+    masks = λ v begun unfinished. mask-over v _
+        (λ n at s. record {
+          it = s.it;
+          listed = subst (λ p. Contains p s.it) (take-append-drop k spans) (Contains-append_left (take k spans) _ s.it s.listed);
+          is = s.is;
+          on = s.on;
+        })
+        (λ n at s. some-first n (omega arith) s) (h.masks v begun unfinished);
   }
 
   pub some-agreed : {p : List Span} {week : ℕ} {days : List Bool}
       → AgreeOn p (SomeOf Is On (take k spans)) week (record { days = days; last = last })
       → AgreeOn p (SomeOf Is On spans) week (record { days = days; last = last })
   some-agreed a = record { agreed = λ n begun unfinished s. a.agreed n begun unfinished (some-first n unfinished s) }
-
--- the days on which a source is shown are those on which one of its spans leads
-module _ {spans : List Span} {source week : ℕ} {it : Weeks} where
-  pub shown-weeks : {until : ℕ} → HaveOneMask (SomeOf (λ s. s.source ≡ source) (λ s n. Leads spans n s) spans) week until it
-      → HaveOneMask (Shows spans source) week until it
-  shown-weeks h = record {
-    from = h.from;
-    upto = h.upto;
-    masks = λ v begun unfinished.
-        let m = h.masks v begun unfinished in
-        record {
-          seven = m.seven;
-          shows = λ n at s. m.shows n at (record { it = s.it; listed = s.listed; is = s.is; on = s.leads });
-          only = λ w runs.
-              let (n, at, day, s) = m.only w runs in
-              (n, at, day, record { it = s.it; listed = s.listed; is = s.is; leads = s.on });
-        };
-  }
-
-  pub shown-agreed : AgreeOn spans (SomeOf (λ s. s.source ≡ source) (λ s n. Leads spans n s) spans) week it
-      → AgreeOn spans (Shows spans source) week it
-  shown-agreed h = record {
-    agreed = λ n begun unfinished s. h.agreed n begun unfinished
-        (record { it = s.it; listed = s.listed; is = s.is; on = s.leads });
-  }
 
 -- one span alone leads on all its days
 module _ (spans : List Span) (span : Span) (one : length spans ≡ 1) (is : span ≡ get_or spans 0 span) where
@@ -250,24 +211,14 @@ module _ (spans : List Span) (span : Span) (one : length spans ≡ 1) (is : span
   alone-weeks same h = record {
     from = h.from;
     upto = h.upto;
-    masks = λ v begun unfinished.
-        let m = h.masks v begun unfinished in
-        record {
-          seven = m.seven;
-          shows = λ n at s. m.shows n at (subst (λ t. HasDay t n) (alone s.it s.listed) s.leads.has);
-          only = λ w runs.
-              let (n, at, day, has) = m.only w runs in (
-                n,
-                at,
-                day,
-                record {
-                  it = span;
-                  listed = (0, omega arith, sym is);
-                  is = same;
-                  leads = record { has = has; least = λ t in_t on. omega (arith, ap (λ (u : Span). u.letter) (alone t in_t)) };
-                },
-              );
-        };
+    masks = λ v begun unfinished. mask-over v _
+        (λ n at has. record {
+          it = span;
+          listed = (0, omega arith, sym is);
+          is = same;
+          on = record { has = has; least = λ t in_t on. omega (arith, ap (λ (u : Span). u.letter) (alone t in_t)) };
+        })
+        (λ n at s. subst (λ t. HasDay t n) (alone s.it s.listed) s.on.has) (h.masks v begun unfinished);
   }
 
   pub alone-agreed : {on : ℕ → Type 0} {week : ℕ} {it : Weeks} → AgreeOn spans on week it
@@ -332,7 +283,7 @@ module _ {spans : List Span} {span : Span} {week until last : ℕ} {own : Weeks}
           (r.masks (week_of n) begun unfinished).shows n refl
               (record { it = s; listed = in_s; is = (omega arith, other); on = leads_s.has }),
         )))
-        (same_or_other s.source span.source) in
+        (cases_eq s.source span.source) in
         record { agree = λ s t in_s in_t leads_s leads_t. one s in_s leads_s ∙ sym (one t in_t leads_t) };
   }
 

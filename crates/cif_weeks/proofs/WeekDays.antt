@@ -56,10 +56,3 @@ weekday_of-next n = omega arith
 
 pub same_day : (m n : ℕ) → week_of m ≡ week_of n → weekday_of m ≡ weekday_of n → m ≡ n
 same_day m n weeks days = omega arith
-
--- two numbers are one, or they differ
-pub same_or_other : (j k : ℕ) → (j ≡ k) ⊎ (j ≢ k)
-same_or_other j k = ⊎_elim
-    (λ less. inr (λ e. omega arith))
-    (λ from. ⊎_elim (λ more. inr (λ e. omega arith)) (λ upto. inl (omega arith)) (cases_lt k j))
-    (cases_lt j k)

@@ -2,10 +2,9 @@
 use Rattle.std.specs.Prelude.{◌≡◌, ◌≢◌, ℕ, ◌<◌, List, ◌++◌, length, Bool, Option, Some, None}
 use Rattle.std.specs.Prelude.{slice_get, slice_index_or, ◌⊎◌}
 use Rattle.cif_columns.specs.DaysRun.{RunsOn}
-use Rattle.cif_columns.specs.Stp.{letter}
 use Rattle.cif_calendar.specs.Terms.{Terms, Records}
 use Rattle.cif_calendar.specs.Applies.{Applies}
-use Rattle.cif_calendar.specs.Wins.{Wins}
+use Rattle.cif_calendar.specs.Wins.{Wins, precedence}
 use Rattle.cif_calendar.specs.Source.{IsChosen, body_at}
 use Rattle.cif_calendar.specs.declared.standing.Standing.{Standing}
 use Rattle.cif_calendar.specs.declared.standing.Standing.TheVariants.{Nobody, Leader, Disputed}
@@ -49,11 +48,11 @@ pub record AreBelow (n : ℕ) (standings : List Standing) : Type 0 where
   pub seven : length standings ≡ 7
   pub below : (w : ℕ) → IsBelow n (slice_index_or standings w Nobody)
 
--- n is the leader's letter, or what is after all letters
+-- n is the leader's precedence, or what is after all others
 abbrev pub IsRank : {B : Type 0} → List (Terms B) → List ℕ → Standing → ℕ → Type 0
 IsRank xs members Nobody n = n ≡ 255
-IsRank {B} xs members (Leader k) n = (t : Terms B) → StandsAt xs members k t → n ≡ letter t.letter
-IsRank {B} xs members (Disputed k) n = (t : Terms B) → StandsAt xs members k t → n ≡ letter t.letter
+IsRank {B} xs members (Leader k) n = (t : Terms B) → StandsAt xs members k t → n ≡ precedence t
+IsRank {B} xs members (Disputed k) n = (t : Terms B) → StandsAt xs members k t → n ≡ precedence t
 
 -- u is the standing of two sets of members together, where s is that of one and t that of the other
 pub record Combines {B : Type 0} (xs : List (Terms B)) (members : List ℕ) (s t u : Standing) : Type 0 where

@@ -6,7 +6,7 @@ use Rattle.std.specs.declared.cmp.Ordering.{Ordering}
 use Rattle.std.specs.declared.cmp.Ordering.TheVariants.{Less}
 use Rattle.cif_calendar.specs.Applies.{Applies}
 use Rattle.cif_calendar.specs.Terms.{Terms}
-use Rattle.cif_columns.specs.Stp.{letter}
+use Rattle.cif_calendar.specs.Wins.{precedence}
 use Rattle.cif_columns.specs.declared.sink.Sink.{Sink}
 use Rattle.cif_views.specs.Explanation.{Explained}
 use Rattle.cif_canon.specs.Appended.{IsAppended}
@@ -39,7 +39,7 @@ marked_as p mark = record { place = p.place; key = p.key; terms = p.terms; mark 
 abbrev pub placed_cmp : {K B : Type 0} → (K → K → Ordering) → Placed K B → Placed K B → Ordering
 placed_cmp cmp r s =
     ordering_then (cmp r.key s.key)
-    (ordering_then (nat_cmp (letter r.terms.letter) (letter s.terms.letter)) (nat_cmp r.place s.place))
+    (ordering_then (nat_cmp (precedence r.terms) (precedence s.terms)) (nat_cmp r.place s.place))
 
 -- the records are in this order
 abbrev pub IsRisingBy : {K B : Type 0} → (K → K → Ordering) → List (Placed K B) → Type 0
@@ -71,18 +71,18 @@ pub record ArePlacedInOrder {K B : Type 0} (cmp : K → K → Ordering) (IsOf : 
 pub record IsLevel {K B : Type 0} (placed : List (Placed K B)) (k : K) (l : ℕ) (p : Placed K B) : Type 0 where
   pub member : Contains placed p
   pub key : p.key ≡ k
-  pub same_letter : letter p.terms.letter ≡ l
+  pub same_letter : precedence p.terms ≡ l
 
 -- a record of the key has an earlier letter
 pub record IsBefore {K B : Type 0} (placed : List (Placed K B)) (k : K) (l : ℕ) : Type 0 where
   pub other : Placed K B
   pub member : Contains placed other
   pub key : other.key ≡ k
-  pub earlier : letter other.terms.letter < l
+  pub earlier : precedence other.terms < l
 
 -- no record of the key has an earlier letter
 abbrev pub IsLeast : {K B : Type 0} → List (Placed K B) → K → ℕ → Type 0
-IsLeast {K} {B} placed k l = (p : Placed K B) → Contains placed p → p.key ≡ k → l ≤ letter p.terms.letter
+IsLeast {K} {B} placed k l = (p : Placed K B) → Contains placed p → p.key ≡ k → l ≤ precedence p.terms
 
 -- all records of the key with this letter have one body
 abbrev pub AreAlike : {K B : Type 0} → List (Placed K B) → K → ℕ → Type 0
@@ -103,7 +103,7 @@ IsFirstOfKey {K} {B} placed i =
 
 -- q has p's key, and its body if it has its letter
 abbrev pub IsLike : {K B : Type 0} → Placed K B → Placed K B → Type 0
-IsLike p q = (q.key ≡ p.key) × (letter q.terms.letter ≡ letter p.terms.letter → q.terms.body ≡ p.terms.body)
+IsLike p q = (q.key ≡ p.key) × (precedence q.terms ≡ precedence p.terms → q.terms.body ≡ p.terms.body)
 
 -- the mark of the records with this key and this letter, among all
 abbrev pub IsMarkAmong : {K B : Type 0} → List (Placed K B) → K → ℕ → Mark → Type 0
@@ -113,7 +113,7 @@ IsMarkAmong placed k l mark.Hidden = IsBefore placed k l
 
 -- the mark of this record among all, and of the record at a position
 abbrev pub IsMarkOf : {K B : Type 0} → List (Placed K B) → Placed K B → Mark → Type 0
-IsMarkOf placed p m = IsMarkAmong placed p.key (letter p.terms.letter) m
+IsMarkOf placed p m = IsMarkAmong placed p.key (precedence p.terms) m
 
 abbrev pub IsMarkAt : {K B : Type 0} → List (Placed K B) → ℕ → Mark → Type 0
 IsMarkAt placed i m = HoldsAt (λ p. IsMarkOf placed p m) placed i

@@ -10,27 +10,30 @@ use Rattle.cif_weeks.specs.Separate.{Change, ExactlyOne}
 use Rattle.cif_weeks.specs.Steps.WeekMasks.{IsMask}
 
 -- form 2: on the days of a week that are in the window, the mask has just the weekdays on which the record's body runs
-pub record FitsWithin {B : Type 0} (window : Window) (on : ℕ → Type 0) (r : Permanent B) (week : ℕ) : Type 0 where
-  pub shows : (n : ℕ) → week_of n ≡ week → on n → RunsOn r.days (weekday_of n)
-  pub full : (n : ℕ) → week_of n ≡ week → IsWithin window n → RunsOn r.days (weekday_of n) → on n
+pub record FitsWithin (window : Window) (on : ℕ → Type 0) (days : List Bool) (week : ℕ) : Type 0 where
+  pub shows : (n : ℕ) → week_of n ≡ week → on n → RunsOn days (weekday_of n)
+  pub full : (n : ℕ) → week_of n ≡ week → IsWithin window n → RunsOn days (weekday_of n) → on n
 
--- the record's mask is right for a week
-abbrev pub Fits : {B : Type 0} → Form → Window → (ℕ → Type 0) → Permanent B → ℕ → Type 0
-Fits One window on r week = IsMask on week r.days
-Fits Two window on r week = FitsWithin window on r week
+-- the mask is right for a week
+abbrev pub Fits : Form → Window → (ℕ → Type 0) → List Bool → ℕ → Type 0
+Fits One window on days week = IsMask on week days
+Fits Two window on days week = FitsWithin window on days week
 
--- A record as far as it has grown: its mask is right for each of its weeks, and it begins and ends where its body does in
+-- A record's dates and mask as far as it has grown: the mask is right for each of its weeks, and it begins and ends where its body does in
 -- the first and the last of them.
-pub record IsGrown {B : Type 0} (form : Form) (window : Window) (on : ℕ → Type 0) (r : Permanent B) : Type 0 where
-  pub seven : length r.days ≡ 7
-  pub in_order : week_of r.first ≤ week_of r.last
-  pub first_runs : on r.first
-  pub last_runs : on r.last
-  pub earliest : (n : ℕ) → week_of n ≡ week_of r.first → on n → r.first ≤ n
-  pub latest : (n : ℕ) → week_of n ≡ week_of r.last → on n → n ≤ r.last
-  pub used : (w : ℕ) → RunsOn r.days w →
-      (n : ℕ) × (weekday_of n ≡ w) × (week_of r.first ≤ week_of n) × (week_of n ≤ week_of r.last) × on n
-  pub fits : (week : ℕ) → week_of r.first ≤ week → week ≤ week_of r.last → Fits form window on r week
+pub record HaveGrown (form : Form) (window : Window) (on : ℕ → Type 0) (first last : ℕ) (days : List Bool) : Type 0 where
+  pub seven : length days ≡ 7
+  pub in_order : week_of first ≤ week_of last
+  pub first_runs : on first
+  pub last_runs : on last
+  pub earliest : (n : ℕ) → week_of n ≡ week_of first → on n → first ≤ n
+  pub latest : (n : ℕ) → week_of n ≡ week_of last → on n → n ≤ last
+  pub used : (w : ℕ) → RunsOn days w →
+      (n : ℕ) × (weekday_of n ≡ w) × (week_of first ≤ week_of n) × (week_of n ≤ week_of last) × on n
+  pub fits : (week : ℕ) → week_of first ≤ week → week ≤ week_of last → Fits form window on days week
+
+abbrev pub IsGrown : {B : Type 0} → Form → Window → (ℕ → Type 0) → Permanent B → Type 0
+IsGrown form window on r = HaveGrown form window on r.first r.last r.days
 
 -- form 2: a day of a week and the day seven later are in the window, and the body runs on just one of them
 pub record TurnsOn (window : Window) (on : ℕ → Type 0) (week n : ℕ) : Type 0 where
@@ -39,10 +42,13 @@ pub record TurnsOn (window : Window) (on : ℕ → Type 0) (week n : ℕ) : Type
   pub next_within : IsWithin window (n + 7)
   pub on_one : ExactlyOne (on n) (on (n + 7))
 
--- the week after a record's last doesn't join it
+-- the week after these dates' last doesn't join them, or a record's
+abbrev pub Break : Form → Window → (ℕ → Type 0) → ℕ → List Bool → Type 0
+Break One window on last days = (next : List Bool) → IsMask on (week_of last + 1) next → days ≢ next
+Break Two window on last days = (n : ℕ) × TurnsOn window on (week_of last) n
+
 abbrev pub Breaks : {B : Type 0} → Form → Window → (ℕ → Type 0) → Permanent B → Type 0
-Breaks One window on r = (next : List Bool) → IsMask on (week_of r.last + 1) next → r.days ≢ next
-Breaks Two window on r = (n : ℕ) × TurnsOn window on (week_of r.last) n
+Breaks form window on r = Break form window on r.last r.days
 
 -- r ends in a week before that in which s begins, and where that is the very next week, there is a change between them
 pub record IsApartFrom {B : Type 0} (form : Form) (window : Window) (r s : Permanent B) : Type 0 where

@@ -1,12 +1,12 @@
 -- In the order of keys no position behind one with another key has this one (`front-ends`); or all have it (`front-of_all`).
 use Rattle.std.proofs.Common.{◌≡◌, not, get_or, length, take, sym, ◌∙◌, ap, subst, arith}
 use Rattle.std.specs.Prelude.{All}
-use Rattle.std.proofs.lemmas.Bool.{false≢true}
+use Rattle.std.proofs.lemmas.Bool.{false≢true, not-false}
 use Rattle.std.proofs.lemmas.List.Elements.{All-nil, All-more}
 use Rattle.cif_calendar.specs.Keys.{keyed}
 use Rattle.cif_calendar.proofs.FirstClash.{same_key-cmp}
 use Rattle.cif_calendar.specs.ByKey.{HasKey}
-use Rattle.cif_calendar.proofs.KeyPositions.{has-key, true_from_not}
+use Rattle.cif_calendar.proofs.KeyPositions.{has-key}
 use Rattle.cif_calendar.proofs.KeyTurns.{front-ends, front-of_all}
 use Rattle.cif_calendar.proofs.by_key.count_of_key.Goals as goal
 
@@ -30,7 +30,7 @@ loop-count-preserved g c =
     let es = keyed g.E.Entry.key g.E.Entry.terms c.args.entries.now in
     let has = has-key g.E.Entry.key g.E.Entry.terms c.args.entries.now (get_or c.args.positions.now count 0) c.index-entries-i.result
     (c.requires.within count 0 c.loop-count-test.true) c.index-entries-i.is in
-    let same = (g.met.E.Entry.same_key c.key.result.now c.args.key.now).0 (true_from_not _ (sym c.ne.ensures ∙ c.if-ne.false)) in
+    let same = (g.met.E.Entry.same_key c.key.result.now c.args.key.now).0 (not-false _ (sym c.ne.ensures ∙ c.if-ne.false)) in
     All-more (λ i. HasKey es i c.args.key.now) c.args.positions.now count 0 c.loop-count-test.true
     c.loop-count.invariant (subst (HasKey es _) (sym c.key.ensures ∙ same) has)
 

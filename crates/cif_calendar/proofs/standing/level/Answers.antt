@@ -1,5 +1,6 @@
 -- Of one letter: two leaders agree or differ (`leaders_agree`, `leaders_differ`), and who is disputed stays so.
-use Rattle.cif_calendar.proofs.Winning.{first-stays, leaders_agree, leaders_differ, other-stays, refuted}
+use Rattle.std.proofs.lemmas.Bool.{iff_false}
+use Rattle.cif_calendar.proofs.Winning.{first-stays, leaders_agree, leaders_differ, other-stays}
 use Rattle.cif_calendar.proofs.standing.level.Goals as goal
 
 pub returns-in_default-clause-stands : goal.returns-in_default-clause-stands
@@ -17,4 +18,4 @@ returns-then-have_one_body-clause-stands g c n is also = rw (c.in-Leader.is, c.i
 pub returns-else-have_one_body-clause-stands : goal.returns-else-have_one_body-clause-stands
 returns-else-have_one_body-clause-stands g c n is also = rw (c.in-Leader.is, c.in-Leader-other.is)
     (leaders_differ _ _ n c.in-Leader.leader c.in-Leader-other.rival (rw c.in-Leader.is at is) (rw c.in-Leader-other.is at also)
-    (refuted c.have_one_body.result c.have_one_body.ensures.told c.if-have_one_body.false))
+    (iff_false c.have_one_body.ensures.told c.if-have_one_body.false))

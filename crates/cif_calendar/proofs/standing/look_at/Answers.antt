@@ -1,7 +1,7 @@
 -- One of the weekdays is looked at, and another stays as it was (`stepped`, `stepped-same`).
 use Rattle.std.proofs.Common.{arith, refl, inl, inr}
+use Rattle.std.proofs.lemmas.Bool.{iff_false}
 use Rattle.cif_calendar.proofs.Standings.{stepped, stepped-same}
-use Rattle.cif_calendar.proofs.Winning.{refuted}
 use Rattle.cif_calendar.proofs.standing.look_at.Goals as goal
 use Rattle.cif_calendar.proofs.standing.look_at.Goals.{then-has, else-has}
 
@@ -30,6 +30,6 @@ loop-weekday-preserved g c =
       | else-has w ↦ record {
         alike = rw w.alike-is c.loop-weekday.invariant.alike;
         stepped = rw w.standings-is (stepped-same _ _ _ _ _ c.loop-weekday-test.true c.loop-weekday.invariant.stepped
-            (inr (refuted c.has.result c.has.ensures w.if-has.false, refl)));
+            (inr (iff_false c.has.ensures w.if-has.false, refl)));
       }
     ]

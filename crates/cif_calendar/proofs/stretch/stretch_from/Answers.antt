@@ -31,29 +31,29 @@ loop-index-preserved g c =
     c.index-entries-position.is in
     let member = part-at c.args.members.now c.args.number part c.requires.part k 0 here in
     let old = c.loop-index.invariant in
-    let first = c.first-begin.ensures in
-    let begun = day_upto c.first-begin.result c.args.first c.le.result c.le.ensures in
+    let first = c.of-dates.ensures.first in
+    let begun = day_upto c.of-dates.result.first c.args.first c.le.result c.le.ensures in
     elim c.if-le.branch [
       | then-le+then-le-2 w ↦ record {
         alike = rw w.alike-is w.look_at.ensures.alike;
         stretch = rw (w.standings-is, w.end-is, take_more part k 0 here) (stretch-looked xs _ (take k part) _ _ _ _ _ member at _
-            old.stretch w.min-end.result w.look_at.new.standings w.look_at.ensures.below (rw w.last-until.ensures at w.min-end.ensures)
+            old.stretch w.min-end.result w.look_at.new.standings w.look_at.ensures.below (rw c.of-dates.ensures.last at w.min-end.ensures)
             (rw first at (begun.0 w.if-le.true))
-            (rw w.last-until.ensures at
-            ((day_upto c.args.first w.last-until.result w.le-then-le.result w.le-then-le.ensures).0 w.if-le-2.true))
-            (rw w.days.ensures at w.look_at.ensures.each));
+            (rw c.of-dates.ensures.last at
+            ((day_upto c.args.first c.of-dates.result.last w.le-then-le.result w.le-then-le.ensures).0 w.if-le-2.true))
+            (rw c.of-dates.ensures.days at w.look_at.ensures.each));
       }
       | then-le+else-le-2 w ↦ record {
         alike = rw w.alike-is old.alike;
         stretch = rw (w.standings-is, w.end-is, take_more part k 0 here) (stretch-ended xs _ (take k part) _ _ _ _ _ member at _ old.stretch
             _ refl (rw first at (begun.0 w.if-le.true))
-            (rw w.last-until.ensures at
-            ((day_upto c.args.first w.last-until.result w.le-then-le.result w.le-then-le.ensures).1 w.if-le-2.false)));
+            (rw c.of-dates.ensures.last at
+            ((day_upto c.args.first c.of-dates.result.last w.le-then-le.result w.le-then-le.ensures).1 w.if-le-2.false)));
       }
       | else-le+in-Some w ↦ record {
         alike = rw w.alike-is old.alike;
         stretch = rw (w.standings-is, w.end-is, take_more part k 0 here) (stretch-begins xs _ (take k part) _ _ _ _ _ member at _
-            old.stretch _ c.first-begin.result w.in-Some.before first (begun.1 w.if-le.false) w.in-Some.ensures.1 w.min-end-in-Some.ensures
+            old.stretch _ c.of-dates.result.first w.in-Some.before first (begun.1 w.if-le.false) w.in-Some.ensures.1 w.min-end-in-Some.ensures
             (g.met.E.Entry.dates_ordered c.index-entries-position.result));
       }
       | else-le+in_default w ↦ absurd (w.in_default.ensures (some-before _ _ (begun.1 w.if-le.false)))

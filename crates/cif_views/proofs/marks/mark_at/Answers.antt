@@ -2,14 +2,13 @@
 use Rattle.std.proofs.Common.{◌∙◌, ◌-◌, ap, arith, map, sym}
 use Rattle.std.proofs.lemmas.Bool.{false≢true}
 use Rattle.cif_calendar.proofs.FirstClash.{same_key-cmp}
-use Rattle.cif_columns.specs.Stp.{letter}
 use Rattle.cif_views.specs.Steps.Explanation.{placed_of}
 use Rattle.cif_views.proofs.Explaining.{mark-hidden, mark-kept, member-map, one-member}
 use Rattle.cif_views.proofs.marks.mark_at.Goals as goal
 use Rattle.cif_views.proofs.marks.mark_at.Goals.{then-i-gt0+else-eq, else-i-gt0}
 
-pub returns-then-write : goal.returns-then-write
-returns-then-write g c known =
+pub returns-then-precedence : goal.returns-then-precedence
+returns-then-precedence g c known =
     let of = placed_of g.E.Entry.key g.E.Entry.terms in
     let xs = c.args.applying.now in
     mark-kept g.E.Key.Ord.cmp g.met.E.Key.Ord.total
@@ -19,8 +18,7 @@ returns-then-write g c known =
     (omega (arith, c.if-i-gt0.true))
     (sym c.key-then-i-gt0.ensures ∙ sym ((g.met.E.Entry.same_key c.key.result.now c.key-then-i-gt0.result.now).0 (sym c.eq.ensures ∙ c.if-eq.true))
     ∙ c.key.ensures)
-    (sym (c.write-then-eq.ensures.columns ∙ ap letter c.letter-then-eq.ensures) ∙ sym c.if-write.true
-    ∙ c.write.ensures.columns ∙ ap letter c.letter.ensures)
+    (sym c.precedence-then-eq.ensures ∙ sym c.if-precedence.true ∙ c.precedence.ensures)
     c.args.before (known (c.args.i - 1) (omega (arith, c.if-i-gt0.true)))
 
 pub returns-then-eq : goal.returns-then-eq
@@ -34,8 +32,7 @@ returns-then-eq g c known =
     (omega (arith, c.if-i-gt0.true))
     (sym c.key-then-i-gt0.ensures ∙ sym ((g.met.E.Entry.same_key c.key.result.now c.key-then-i-gt0.result.now).0 (sym c.eq.ensures ∙ c.if-eq.true))
     ∙ c.key.ensures)
-    (λ is. c.if-write.false (c.write.ensures.columns ∙ ap letter c.letter.ensures ∙ sym is
-    ∙ sym (c.write-then-eq.ensures.columns ∙ ap letter c.letter-then-eq.ensures)))
+    (λ is. c.if-precedence.false (c.precedence.ensures ∙ sym is ∙ sym c.precedence-then-eq.ensures))
 
 pub mark_of_first-requires-clause-first : goal.mark_of_first-requires-clause-first
 mark_of_first-requires-clause-first g c p q a b is behind key =

@@ -1,16 +1,14 @@
 -- The records behind it decide (`mark-wins`, `mark-clash`).
 use Rattle.std.proofs.Common.{◌∙◌, ◌+◌, ap, arith, get_or, length-drop, map, not, sym, subst}
 use Rattle.std.specs.List.{AllWithin}
-use Rattle.std.proofs.lemmas.Bool.{false≢true}
+use Rattle.std.proofs.lemmas.Bool.{false≢true, not-false}
 use Rattle.std.proofs.lemmas.List.{length-map}
 use Rattle.std.proofs.lemmas.List.Elements.{AllWithin-more, at_read}
 use Rattle.cif_calendar.proofs.FirstClash.{same_key-cmp}
-use Rattle.cif_columns.specs.Stp.{letter}
 use Rattle.cif_views.specs.Steps.Explanation.{IsLike, placed_of}
 use Rattle.cif_views.proofs.Explaining.{mark-clash, mark-wins, member-behind, member-map, one-member}
-use Rattle.cif_calendar.proofs.KeyPositions.{true_from_not}
 use Rattle.cif_views.proofs.marks.mark_of_first.Goals as goal
-use Rattle.cif_views.proofs.marks.mark_of_first.Goals.{else-write-via-then-write+else-not-same_body, else-write-via-else-write}
+use Rattle.cif_views.proofs.marks.mark_of_first.Goals.{else-precedence-via-then-precedence+else-not-same_body, else-precedence-via-else-precedence}
 
 pub loop-other-init : goal.loop-other-init
 loop-other-init g c k d from upto = absurd (omega (arith, from, upto))
@@ -38,9 +36,8 @@ returns-then-not-same_body g c =
     (member-map of xs c.args.i c.index-applying-i.result c.requires.within) c.requires.first _
     (member-behind of xs (c.args.i + 1) c.loop-other.other-index c.other-item.result c.loop-other-test.true c.other-item.is)
     (sym c.key.ensures ∙ (g.met.E.Entry.same_key c.key.result.now c.key-in-loop-other.result.now).0
-    (true_from_not _ (sym c.ne.ensures ∙ c.if-ne.false)) ∙ c.key-in-loop-other.ensures)
-    (sym (c.write.ensures.columns ∙ ap letter c.letter.ensures) ∙ c.if-write.true
-    ∙ c.write-in-loop-other.ensures.columns ∙ ap letter c.letter-in-loop-other.ensures)
+    (not-false _ (sym c.ne.ensures ∙ c.if-ne.false)) ∙ c.key-in-loop-other.ensures)
+    (sym c.precedence.ensures ∙ c.if-precedence.true ∙ c.precedence-in-loop-other.ensures)
     (λ is. false≢true (sym c.if-not-same_body.true ∙ c.same_body.ensures.1 is))
 
 pub loop-other-preserved : goal.loop-other-preserved
@@ -50,15 +47,13 @@ loop-other-preserved g c =
     let e = get_or xs c.args.i c.index-applying-i.result in
     let at = member-behind of xs (c.args.i + 1) c.loop-other.other-index c.other-item.result c.loop-other-test.true c.other-item.is in
     let key = sym c.key.ensures ∙ (g.met.E.Entry.same_key c.key.result.now c.key-in-loop-other.result.now).0
-    (true_from_not _ (sym c.ne.ensures ∙ c.if-ne.false)) ∙ c.key-in-loop-other.ensures in
-    let one = c.write-in-loop-other.ensures.columns ∙ ap letter c.letter-in-loop-other.ensures in
-    let other = c.write.ensures.columns ∙ ap letter c.letter.ensures in
+    (not-false _ (sym c.ne.ensures ∙ c.if-ne.false)) ∙ c.key-in-loop-other.ensures in
     let n = c.args.i + 1 + c.loop-other.other-index in
     subst (AllWithin (IsLike (of e)) (map of xs) (c.args.i + 1)) (omega arith)
     (AllWithin-more (IsLike (of e)) (map of xs) (c.args.i + 1) n c.loop-other.invariant
-    (at_read (map of xs) (IsLike (of e)) _ (of c.other-item.result) at.1 (sym at.2) (elim c.else-write.branch [
-      | else-write-via-then-write+else-not-same_body w ↦ (key, λ _. w.same_body.ensures.0 w.if-not-same_body.false)
-      | else-write-via-else-write w ↦ (key, λ is. absurd (w.if-write.false (other ∙ is ∙ sym one)))
+    (at_read (map of xs) (IsLike (of e)) _ (of c.other-item.result) at.1 (sym at.2) (elim c.else-precedence.branch [
+      | else-precedence-via-then-precedence+else-not-same_body w ↦ (key, λ _. w.same_body.ensures.0 w.if-not-same_body.false)
+      | else-precedence-via-else-precedence w ↦ (key, λ is. absurd (w.if-precedence.false (c.precedence.ensures ∙ is ∙ sym c.precedence-in-loop-other.ensures)))
     ])))
 
 pub returns : goal.returns

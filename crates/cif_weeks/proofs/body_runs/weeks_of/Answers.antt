@@ -29,4 +29,4 @@ loop-span-preserved c =
 
 pub returns-clause-weeks : goal.returns-clause-weeks
 returns-clause-weeks c n s = rw (take_all c.loop-span.span-index c.args.spans.now c.loop-span-test.false) at c.loop-span.invariant.weeks n
-    (record { it = s.it; listed = s.listed; is = s.is; on = s.leads.has })
+    (record { it = s.it; listed = s.listed; is = s.is; on = s.on.has })

@@ -1,7 +1,7 @@
 -- A span alone leads wherever it is (`alone-weeks`); else each span with this source is one more that may lead.
 use Rattle.std.proofs.Common.{arith}
 use Rattle.cif_weeks.proofs.Spans.{AreLater, later-none, later-rest, alone-agreed, alone-weeks, take_next, some-all, some-more, some-same}
-use Rattle.cif_weeks.proofs.Spans.{some-agreed, agree-more, shown-weeks, shown-agreed}
+use Rattle.cif_weeks.proofs.Spans.{some-agreed, agree-more}
 use Rattle.cif_weeks.proofs.body_runs.weeks_shown.Goals as goal
 use Rattle.cif_weeks.proofs.body_runs.weeks_shown.Goals.{else-loop-span-test, then-loop-span-test+then-last-span}
 use Rattle.cif_weeks.proofs.body_runs.weeks_shown.Goals.{then-span-source-2+in_ok-weeks, else-span-source-2}
@@ -46,7 +46,7 @@ returns c =
           w.loop-span-test.true w.span-item-in-loop-span.is w.if-last-span.true
     ] in
     record {
-      weeks = shown-weeks (some-all (λ s n leads. leads.has) spans index last later c.loop-span.invariant.weeks);
-      agreed = shown-agreed (some-agreed (λ s n leads. leads.has) spans index last later c.loop-span.invariant.agreed);
+      weeks = some-all (λ s n leads. leads.has) spans index last later c.loop-span.invariant.weeks;
+      agreed = some-agreed (λ s n leads. leads.has) spans index last later c.loop-span.invariant.agreed;
       disputed = tt;
     }

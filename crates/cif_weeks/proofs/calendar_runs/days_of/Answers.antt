@@ -1,9 +1,8 @@
 -- One weekday more.
 use Rattle.std.proofs.Common.{◌≡◌, ◌⊎◌, inl, inr, ◌↔◌, ℕ, ◌+◌, ◌<◌, Bool, List, None, Some, map, arith, sym, ◌∙◌, ap, subst, ⊎_elim}
-use Rattle.std.proofs.lemmas.Bool.{cases_lt}
+use Rattle.std.proofs.lemmas.Bool.{cases_lt, iff_false}
 use Rattle.cif_weeks.proofs.Words.{RunsOn, body_at}
 use Rattle.std.proofs.lemmas.Option.{same_Some}
-use Rattle.cif_calendar.proofs.Winning.{refuted}
 use Rattle.cif_weeks.specs.Steps.PieceSpans.{HasBodyOn}
 use Rattle.cif_weeks.proofs.calendar_runs.days_of.Goals as goal
 use Rattle.cif_weeks.proofs.calendar_runs.days_of.Goals.{in-Some+then-have_one_body, in-Some+else-have_one_body, in_default}
@@ -51,7 +50,7 @@ loop-weekday-preserved g c =
       | in-Some+else-have_one_body w ↦ rw w.days-is (same wins c.loop-weekday.weekday c.loop-weekday.days c.loop-weekday.invariant
           (λ (i, of, one).
           let it : w.in-Some.winner ≡ i = same_Some _ _ (sym w.in-Some.is ∙ (c.winner_on.ensures i).1 of) in
-          refuted _ w.have_one_body.ensures w.if-have_one_body.false (one ∙ ap (λ v. body_at xs (Some v)) (sym it))))
+          iff_false w.have_one_body.ensures w.if-have_one_body.false (one ∙ ap (λ v. body_at xs (Some v)) (sym it))))
       | in_default w ↦ rw w.days-is (same wins c.loop-weekday.weekday c.loop-weekday.days c.loop-weekday.invariant
           (λ (i, of, one). let none : None ≡ Some i = sym w.in_default.is ∙ (c.winner_on.ensures i).1 of in absurd (cc)))
     ]

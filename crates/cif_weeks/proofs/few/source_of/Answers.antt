@@ -1,8 +1,7 @@
 -- The span that was found is listed; at the end all have been looked at, or those that are left end no later than one that is too early.
 use Rattle.std.proofs.Common.{◌≡◌, ◌≢◌, ◌-◌, Some, arith, ap, get_or, inl, inr, map, refl, subst, sym, ◌∙◌, ⊎_elim}
-use Rattle.std.proofs.lemmas.Bool.{cases_lt}
+use Rattle.std.proofs.lemmas.Bool.{cases_lt, iff_false}
 use Rattle.std.proofs.lemmas.List.{get_or_default}
-use Rattle.cif_calendar.proofs.Winning.{refuted}
 use Rattle.cif_weeks.proofs.Words.{body_at, Span}
 use Rattle.cif_weeks.proofs.few.source_of.Goals as goal
 
@@ -24,7 +23,7 @@ loop-place-preserved g c = let xs = map g.E.Entry.terms c.args.entries.now in re
       ∙ ap (λ j. get_or c.args.spans.now j c.index-spans-place.result) here
       ∙ get_or_default c.args.spans.now k c.index-spans-place.result s below ∙ at in
       subst (λ (v : Span). body_at xs (Some v.source) ≢ body_at xs (Some c.args.position)) same
-      (refuted _ c.have_one_body.ensures c.if-have_one_body.false))
+      (iff_false c.have_one_body.ensures c.if-have_one_body.false))
       (λ later. c.loop-place.invariant.none k s later below at)
       (cases_lt k c.loop-place.place);
 }

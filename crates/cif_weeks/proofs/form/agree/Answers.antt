@@ -1,6 +1,6 @@
 -- Equal masks agree (`same-agree`). Else one weekday more, which doesn't count or on which the masks are alike (`agree-more`).
 use Rattle.std.proofs.Common.{◌≡◌, rules, sym, ◌∙◌}
-use Rattle.cif_calendar.proofs.Winning.{refuted}
+use Rattle.std.proofs.lemmas.Bool.{iff_false}
 use Rattle.cif_weeks.proofs.Words.{window_from}
 use Rattle.cif_weeks.proofs.AgreedDays.{agree-more, same-agree}
 use Rattle.cif_weeks.proofs.form.agree.Goals as goal
@@ -13,7 +13,7 @@ returns-then-is c week next =
 
 pub loop-weekday-preserved : goal.loop-weekday-preserved
 loop-weekday-preserved c = agree-more c.loop-weekday.invariant (λ week is counted. elim c.else-has.branch [
-  | else-has-via-then-has+else-counts w ↦ absurd (refuted _ (w.counts.ensures week is) w.if-counts.false counted)
+  | else-has-via-then-has+else-counts w ↦ absurd (iff_false (w.counts.ensures week is) w.if-counts.false counted)
   | else-has-via-else-has w ↦
       let same : c.has.result ≡ c.has-in-loop-weekday.result = search rules in (
         λ on. c.has-in-loop-weekday.ensures.0 (sym same ∙ c.has.ensures.1 on),

@@ -9,12 +9,12 @@ pub returns-then-applies_on : goal.returns-then-applies_on
 returns-then-applies_on g c =
     text-is _ _ _ _ _ _
     (ap (λ (b : Bool). if b then g.L.DayLines.train c.args.self.now.lines.now (c.args.uid.now, c.args.body.now) else [])
-    (sym c.if-applies_on.true ∙ tested c.args.run.now c.args.body.now c.args.self.now.day _ tt (c.applies_on.ensures tt)))
+    (sym c.if-applies_on.true ∙ tested c.args.run.now c.args.body.now c.args.self.now.day _ c.applies_on.ensures))
     c.write_train.ensures
 
 pub returns-else-applies_on : goal.returns-else-applies_on
 returns-else-applies_on g c =
     text-is _ _ _ _ _ _
     (ap (λ (b : Bool). if b then g.L.DayLines.train c.args.self.now.lines.now (c.args.uid.now, c.args.body.now) else [])
-    (sym c.if-applies_on.false ∙ tested c.args.run.now c.args.body.now c.args.self.now.day _ tt (c.applies_on.ensures tt)))
+    (sym c.if-applies_on.false ∙ tested c.args.run.now c.args.body.now c.args.self.now.day _ c.applies_on.ensures))
     (nothing _ _ _)
