@@ -13,7 +13,8 @@ use Rattle.cif_canon.specs.declared.listed_differences.Sided.{Sided}
 use Rattle.cif_canon.specs.declared.rows.Format.TheVariants.{Tsv}
 use Rattle.cif_canon.specs.declared.rows.Shape.TheVariants.{Trimmed}
 use Rattle.cif_views.specs.Tables.{Numbered, TableFields, association_fields, call_fields, change_fields, date_at, is_call, is_change}
-use Rattle.cif_views.specs.Tables.{is_extra, kind_of_line, names_line, number, numbered_from, numbered_schedule, schedule_fields, text_at, whole_at}
+use Rattle.cif_views.specs.Tables.{is_extra, kind_of_line, names_line, number, numbered_from, numbered_schedule, schedule_fields}
+use Rattle.cif_views.specs.Tables.{text_at, whole_at}
 
 abbrev pub text : List ℕ → Field
 text codes = (Trimmed, codes)

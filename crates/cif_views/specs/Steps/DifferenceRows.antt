@@ -42,7 +42,7 @@ are_named [] = true
 are_named (f ∷ fields) = is_named f && are_named fields
 
 -- those that a line of a journey has behind its suffix
-abbrev over : {A B : Type 0} → List A → (A → B) → List B
+abbrev pub over : {A B : Type 0} → List A → (A → B) → List B
 over items f = map f items
 
 abbrev pub fields_of_kind : JourneyKind → TableFields (List ℕ)
