@@ -1,8 +1,8 @@
 -- Where a pair of schedules has no row, their bodies are the same; and so it is with associations.
 use Rattle.std.proofs.Common.{◌≡◌, ℕ, ◌+◌, ◌<◌, Bool, true, false, List, [], ◌∷◌, ◌++◌, Option, None, Some, codes, cond, length, get_or}
 use Rattle.std.proofs.Common.{◌∙◌, ap, ap₂, arith, drop, map, refl, replicate, subst, sym, take}
-use Rattle.std.specs.Prelude.{◌&&◌, IsTrue, nat_eq, nat_le, find}
-use Rattle.std.specs.Cmp.Lexicographic.{bytes_decides, pointwise}
+use Rattle.std.specs.Prelude.{◌&&◌, IsTrue, nat_le, find}
+use Rattle.std.specs.Cmp.Lexicographic.{bytes_decides}
 use Rattle.std.proofs.lemmas.Bool.{and_parts, false≢true}
 use Rattle.cif_columns.specs.Field.{AllFit, AllStandIn, Row, StandsIn, columns, plain_line, row, spare, text}
 use Rattle.cif_columns.specs.Line.{IsLine}

@@ -1,14 +1,14 @@
 -- Each difference has a row: the bodies of a pair differ, and where all cells are the same they don't.
-use Rattle.std.proofs.Common.{◌≡◌, ℕ, ◌+◌, ◌<◌, ◌≤◌, Bool, List, [], ◌∷◌, ◌++◌, Option, None, Some, arith, length, map, replicate}
+use Rattle.std.proofs.Common.{◌≡◌, ℕ, ◌<◌, ◌≤◌, Bool, List, [], ◌∷◌, ◌++◌, Option, None, Some, arith, length, map, replicate}
 use Rattle.std.proofs.Common.{◌∙◌, ap, length-append, ⊎_elim, refl, subst, sym}
-use Rattle.std.specs.Prelude.{◌↔◌, All, Contains}
+use Rattle.std.specs.Prelude.{◌↔◌, Contains}
 use Rattle.std.specs.List.{flat_map}
 use Rattle.std.specs.Cmp.Lexicographic.{slice_cmp}
 use Rattle.std.specs.Ordering.{nat_cmp}
 use Rattle.std.specs.declared.cmp.Ordering.{Ordering}
 use Rattle.std.proofs.lemmas.List.{nil_from_length}
 use Rattle.std.proofs.lemmas.List.Elements.{All-contains, Contains-append_left, Contains-append_right}
-use Rattle.cif_columns.specs.Day.{IsDay, weekday_of}
+use Rattle.cif_columns.specs.Day.{weekday_of}
 use Rattle.cif_columns.specs.DaysRun.{RunsOn}
 use Rattle.cif_columns.specs.Field.{AllFit, Row}
 use Rattle.cif_columns.specs.declared.stp.Stp.{Stp}
