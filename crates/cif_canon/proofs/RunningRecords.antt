@@ -106,7 +106,8 @@ module _ {K B : Type 0} where
                 let it = has.0 (same.0 h) in
                 subst (λ c. Contains (map bodied (applying d a.records)) (k, c)) it.body
                 (Contains-map bodied (applying d a.records) (k, it.it)
-                (chosen (λ (e : K × Permanent B). applies_on e.1 d) a.records (k, it.it) it.listed ((applies-decided it.it d).1 it.applies))),
+                (chosen (λ (e : K × Permanent B). applies_on e.1 d) a.records (k, it.it) it.listed
+                ((applies-decided it.it d).1 it.applies))),
           );
     }
 

@@ -194,7 +194,8 @@ module _ {B : Type 0} (xs : List (Terms B)) (c : CalendarParts) where
               (λ k. ⊎_elim
               (λ t. old (inr (k.0, k.1, t)))
               (λ d.
-              let has = (own n).1 (record { begun = k.0; unfinished = k.1; on_weekday = d }) in (u, Contains-push spans u, has, sym (its-runs n has) ∙ runs))
+              let has = (own n).1 (record { begun = k.0; unfinished = k.1; on_weekday = d }) in
+              (u, Contains-push spans u, has, sym (its-runs n has) ∙ runs))
               ((united (weekday_of n)).0 k.2))
               known;
           one_source = λ s t in_s in_t close one. ⊎_elim

@@ -18,7 +18,7 @@ use crate::few::{have_one_body, source_of};
 use crate::form::Form;
 use crate::run::{Run, sort_by_first};
 use crate::span::{Span, no_days};
-use cif_calendar::{Calendar, Dates, Entry, Piece, Window};
+use cif_calendar::{Calendar, Entry, Piece, Window};
 use cif_columns::DaysRun;
 use std::alloc::{AllocError, Global};
 
@@ -74,12 +74,7 @@ fn add_piece<E: Entry>(
             if !taken.has(weekday) {
                 let source = source_of(entries, spans.as_slice(), piece.first.week(), winner);
                 let days = days_of(entries, piece, source);
-                let dates = Dates {
-                    first: piece.first,
-                    last: piece.last,
-                    days,
-                };
-                spans.push(Span::between(dates, b'P', source))?;
+                spans.push(Span::between(piece.first, piece.last, days, b'P', source))?;
                 taken = taken.union(days);
             }
         }

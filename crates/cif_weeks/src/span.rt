@@ -4,7 +4,7 @@ ghost use Rattle.std.specs.Prelude.{◌≡◌, ◌<◌, ◌≤◌, ◌+◌, ◌*
 ghost use Rattle.cif_columns.specs.DaysRun.{RunsOn};
 
 use cif_calendar::{Dates, Entry, Window, precedence};
-use cif_columns::DaysRun;
+use cif_columns::{Day, DaysRun};
 
 /// The days of a window on which a record applies, week by week.
 #[derive(Clone, Copy)]
@@ -60,16 +60,16 @@ impl Span {
     ghost use Rattle.cif_weeks.specs.Steps.Spans.{HasDay, HaveOneMask, IsSpanOf};
     ghost use Rattle.cif_weeks.specs.Window.{IsWithin, window_from};
 
-    /// The dates, on which the body at `source` applies by a letter.
-    pub(crate) fn between(dates: Dates, letter: u8, source: usize) -> Span
-        requires { dates.first ≤ dates.last }
-        ensures days { (n : ℕ) → HasDay result n ↔ IsDateOf dates.first dates.last dates.days n }
-        ensures first_week { result.first_week ≡ week_of dates.first }
-        ensures last_week { result.last_week ≡ week_of dates.last }
+    /// The dates from a first to a last on these weekdays, on which the body at `source` applies by a
+    /// letter.
+    pub(crate) fn between(first: Day, last: Day, days: DaysRun, letter: u8, source: usize) -> Span
+        requires { first ≤ last }
+        ensures days { (n : ℕ) → HasDay result n ↔ IsDateOf first last days n }
+        ensures first_week { result.first_week ≡ week_of first }
+        ensures last_week { result.last_week ≡ week_of last }
         ensures letter { result.letter ≡ letter }
         ensures source { result.source ≡ source }
     {
-        let Dates { first, last, days } = dates;
         let after = days.intersection(DaysRun::between(first.weekday(), 7));
         let before = days.intersection(DaysRun::between(0, last.weekday() + 1));
         let (first_week, last_week) = (first.week(), last.week());
@@ -100,13 +100,13 @@ impl Span {
         ensures none { IfNone result ((n : ℕ) → IsWithin (window_from window.now.first window.now.last) n →
             ¬ Applies (E.terms entry.now) n) }
     {
-        let mut dates = Dates::of(entry);
-        dates.first = dates.first.max(window.first);
-        dates.last = dates.last.min(window.last);
-        if dates.last < dates.first {
+        let dates = Dates::of(entry);
+        let first = dates.first.max(window.first);
+        let last = dates.last.min(window.last);
+        if last < first {
             return None;
         }
-        Some(Span::between(dates, precedence(entry), source))
+        Some(Span::between(first, last, dates.days, precedence(entry), source))
     }
 
     /// The week, and those after it up to `until` in which it applies on the same weekdays.

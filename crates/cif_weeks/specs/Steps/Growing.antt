@@ -43,12 +43,12 @@ pub record TurnsOn (window : Window) (on : ℕ → Type 0) (week n : ℕ) : Type
   pub on_one : ExactlyOne (on n) (on (n + 7))
 
 -- the week after these dates' last doesn't join them, or a record's
-abbrev pub Break : Form → Window → (ℕ → Type 0) → ℕ → List Bool → Type 0
-Break One window on last days = (next : List Bool) → IsMask on (week_of last + 1) next → days ≢ next
-Break Two window on last days = (n : ℕ) × TurnsOn window on (week_of last) n
+abbrev pub BreaksAfter : Form → Window → (ℕ → Type 0) → ℕ → List Bool → Type 0
+BreaksAfter One window on last days = (next : List Bool) → IsMask on (week_of last + 1) next → days ≢ next
+BreaksAfter Two window on last days = (n : ℕ) × TurnsOn window on (week_of last) n
 
 abbrev pub Breaks : {B : Type 0} → Form → Window → (ℕ → Type 0) → Permanent B → Type 0
-Breaks form window on r = Break form window on r.last r.days
+Breaks form window on r = BreaksAfter form window on r.last r.days
 
 -- r ends in a week before that in which s begins, and where that is the very next week, there is a change between them
 pub record IsApartFrom {B : Type 0} (form : Form) (window : Window) (r s : Permanent B) : Type 0 where

@@ -53,8 +53,8 @@ loop-index-preserved g c =
       | else-le+in-Some w ↦ record {
         alike = rw w.alike-is old.alike;
         stretch = rw (w.standings-is, w.end-is, take_more part k 0 here) (stretch-begins xs _ (take k part) _ _ _ _ _ member at _
-            old.stretch _ c.of-dates.result.first w.in-Some.before first (begun.1 w.if-le.false) w.in-Some.ensures.1 w.min-end-in-Some.ensures
-            (g.met.E.Entry.dates_ordered c.index-entries-position.result));
+            old.stretch _ c.of-dates.result.first w.in-Some.before first (begun.1 w.if-le.false) w.in-Some.ensures.1
+            w.min-end-in-Some.ensures (g.met.E.Entry.dates_ordered c.index-entries-position.result));
       }
       | else-le+in_default w ↦ absurd (w.in_default.ensures (some-before _ _ (begun.1 w.if-le.false)))
     ]

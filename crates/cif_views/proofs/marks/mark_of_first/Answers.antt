@@ -8,7 +8,8 @@ use Rattle.cif_calendar.proofs.FirstClash.{same_key-cmp}
 use Rattle.cif_views.specs.Steps.Explanation.{IsLike, placed_of}
 use Rattle.cif_views.proofs.Explaining.{mark-clash, mark-wins, member-behind, member-map, one-member}
 use Rattle.cif_views.proofs.marks.mark_of_first.Goals as goal
-use Rattle.cif_views.proofs.marks.mark_of_first.Goals.{else-precedence-via-then-precedence+else-not-same_body, else-precedence-via-else-precedence}
+use Rattle.cif_views.proofs.marks.mark_of_first.Goals.{else-precedence-via-then-precedence+else-not-same_body}
+use Rattle.cif_views.proofs.marks.mark_of_first.Goals.{else-precedence-via-else-precedence}
 
 pub loop-other-init : goal.loop-other-init
 loop-other-init g c k d from upto = absurd (omega (arith, from, upto))
@@ -53,7 +54,10 @@ loop-other-preserved g c =
     (AllWithin-more (IsLike (of e)) (map of xs) (c.args.i + 1) n c.loop-other.invariant
     (at_read (map of xs) (IsLike (of e)) _ (of c.other-item.result) at.1 (sym at.2) (elim c.else-precedence.branch [
       | else-precedence-via-then-precedence+else-not-same_body w ↦ (key, λ _. w.same_body.ensures.0 w.if-not-same_body.false)
-      | else-precedence-via-else-precedence w ↦ (key, λ is. absurd (w.if-precedence.false (c.precedence.ensures ∙ is ∙ sym c.precedence-in-loop-other.ensures)))
+      | else-precedence-via-else-precedence w ↦ (
+        key,
+        λ is. absurd (w.if-precedence.false (c.precedence.ensures ∙ is ∙ sym c.precedence-in-loop-other.ensures)),
+      )
     ])))
 
 pub returns : goal.returns
