@@ -270,7 +270,7 @@ fn program<'a>(alloc: Global, choices: &Choices<'a>) -> Result<Command<'a>, Allo
     ensures { IfOk result (IsCommand (cif choices.now)) }
 {
     let mut command = described(alloc, "cif", help::CIF, help::CIF_MORE)
-        .version("0.1.0")
+        .version("0.2.0")
         .subcommand_required(true);
     for parts in subcommands() {
         command = with_parts(alloc, command, parts, choices)?;
