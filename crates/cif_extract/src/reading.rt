@@ -381,7 +381,7 @@ impl TakeFault {
     ghost use Rattle.cif_extract.specs.Steps.Reading.{fault_at_line};
 
     /// The fault, at the line of this number.
-    pub fn at_line(self, number: u64) -> Fault
+    fn at_line(self, number: u64) -> Fault
         ensures { result ≡ fault_at_line number self }
     {
         match self {
