@@ -223,7 +223,7 @@ pub(crate) fn buffered<W: WriteDevice + Drop>(
 }
 
 /// The bytes of a line that are looked at before it counts as endless.
-pub(crate) const LONGEST: usize = 4096;
+pub(crate) const MOST_LOOKED_AT: usize = 4096;
 
 /// A line of an input that is read again.
 #[derive(Drop)]
@@ -232,7 +232,7 @@ pub(crate) struct LineAgain {
     before: u64,
     /// Its first bytes.
     pub(crate) bytes: ArrayVec<u8, LINE_WIDTH>,
-    /// How many it has, up to `LONGEST`.
+    /// How many it has, up to `MOST_LOOKED_AT`.
     pub(crate) length: usize,
     /// From how many on not all of them are known.
     pub(crate) known: usize,
@@ -256,7 +256,7 @@ impl LineAgain {
             }
             return true;
         }
-        if self.length == LONGEST {
+        if self.length == MOST_LOOKED_AT {
             return true;
         }
         let _ = self.bytes.try_push(byte);
@@ -275,7 +275,7 @@ pub(crate) fn line_again<F: Read>(file: &mut F, number: u64, known: usize) -> Op
         known,
         last: 0,
     };
-    let mut chunk = [0; LONGEST];
+    let mut chunk = [0; MOST_LOOKED_AT];
     for _ in 0..u64::MAX {
         match file.read(&mut chunk) {
             Ok(0) => break,
