@@ -1,6 +1,6 @@
 -- The changes of an update, one after another.
 use Rattle.std.proofs.Common.{◌≡◌, ℕ, ◌+◌, ◌<◌, ◌≤◌, ◌==◌, Bool, true, false, not, cond, ◌&&◌, ◌||◌, List, [], ◌∷◌, ◌++◌}
-use Rattle.std.proofs.Common.{length, get_or, take, drop, Option, None, Some, is_some, unwrap_or, slice_get, refl, sym, ap, ◌∙◌}
+use Rattle.std.proofs.Common.{length, get_or, take, drop, Option, None, Some, is_some, unwrap_or, refl, sym, ap, ◌∙◌}
 use Rattle.std.proofs.Common.{arith, append-nil, append_assoc, eq-eqb, length-take, take-append-drop}
 use Rattle.std.specs.Cmp.{IsEquivalence}
 use Rattle.std.specs.List.{items_where_true, list_any}
@@ -11,7 +11,7 @@ use Rattle.std.proofs.lemmas.Bool.Decides.{nat_tests}
 use Rattle.std.proofs.lemmas.List.{get_or-map, length-map, map-append, take_more}
 use Rattle.std.proofs.lemmas.List.Folds.{list_any-append, list_any_at}
 use Rattle.std.proofs.lemmas.Option.{same_Some}
-use Rattle.cif_calendar.proofs.Winning.{terms_at}
+use Rattle.cif_extract.proofs.FirstRefusals.{or_none}
 use Rattle.cif_feed.specs.Changes.{ChangeParts, after, after_all, changes_of, is_changed, is_there, key_of, of_key, parts_of, put, put_last}
 use Rattle.cif_feed.specs.Changes.{put_of, refusal, refusals, untouched, with_keys}
 use Rattle.cif_feed.specs.Steps.Changes.{AreLast, SaysAlone, SaysThere, is_position, last_from}
@@ -21,10 +21,6 @@ use Rattle.cif_feed.specs.declared.changes.Change.{Change}
 use Rattle.cif_feed.proofs.ChangeLaws.{of_key-after}
 
 -- ---- options and tests
-
-or-none : {A : Type 0} (o : Option A) → option_or o None ≡ o
-or-none None = refl
-or-none (Some x) = refl
 
 or-assoc : {A : Type 0} (o p q : Option A) → option_or o (option_or p q) ≡ option_or (option_or o p) q
 or-assoc None p q = refl
@@ -72,7 +68,7 @@ module _ {K I : Type 0} (same : K → K → Bool) (laws : IsEquivalence same) wh
 
   last-append : (n : ℕ) (xs ys : List (ChangeParts K I)) (key : K)
       → last_from same n (xs ++ ys) key ≡ option_or (last_from same (n + length xs) ys key) (last_from same n xs key)
-  last-append n [] ys key = ap (λ m. last_from same m ys key) (omega arith) ∙ sym (or-none _)
+  last-append n [] ys key = ap (λ m. last_from same m ys key) (omega arith) ∙ sym (or_none _)
   last-append n (x ∷ xs) ys key =
       ap (λ o. option_or o (cond (same x.key key) (Some n) None)) (last-append (n + 1) xs ys key)
       ∙ sym (or-assoc (last_from same (n + 1 + length xs) ys key) (last_from same (n + 1) xs key) (cond (same x.key key) (Some n) None))
@@ -82,9 +78,7 @@ module _ {K I : Type 0} (same : K → K → Bool) (laws : IsEquivalence same) wh
   -- one change more is the last of its key
   pub last-more : (xs : List (ChangeParts K I)) (c : ChangeParts K I) (n : ℕ) (old new : K → Option ℕ) → AreLast same xs old → n ≡ length xs
       → ((key : K) → new key ≡ cond (same c.key key) (Some n) (old key)) → AreLast same (xs ++ c ∷ []) new
-  last-more xs c n old new are long is = record {
-    are = λ key. is key ∙ at key (same c.key key) ∙ sym (last-append 0 xs (c ∷ []) key);
-  }
+  last-more xs c n old new are long is = record { are = λ key. is key ∙ at key (same c.key key) ∙ sym (last-append 0 xs (c ∷ []) key) }
     where
       at : (key : K) (b : Bool) → cond b (Some n) (old key)
           ≡ option_or (option_or None (cond b (Some (0 + length xs)) None)) (last_from same 0 xs key)
@@ -132,14 +126,6 @@ module _ {K I : Type 0} (same : K → K → Bool) (laws : IsEquivalence same) wh
 
   changed-same : (changes : List (ChangeParts K I)) (a b : K) → same a b ≡ true → is_changed same changes a ≡ is_changed same changes b
   changed-same changes a b is = any_same same laws (λ (c : ChangeParts K I). c.key) a b is changes
-
-  pub alone-none : (changes : List (ChangeParts K I)) (there : K → Option Bool) → ((key : K) → there key ≡ None)
-      → SaysAlone same [] changes there
-  alone-none changes there none = record { says = λ key. ap (λ o. unwrap_or o false) (none key) ∙ at (is_changed same changes key) }
-    where
-      at : (b : Bool) → false ≡ (b && false)
-      at true = refl
-      at false = refl
 
   module _ (records : List (K × I)) (changes : List (ChangeParts K I)) (r : K × I) (old : K → Option Bool)
       (so_far : SaysAlone same records changes old) where
@@ -265,9 +251,6 @@ module _ {X P : Type 0} (R : P → X → Bool → P → Type 0) (flags : P → L
 
 module _ {K R : Type 0} (key : R → K) where
   module _ (xs : List (Change K R)) (i : ℕ) (x : Change K R) (below : i < length xs) (is : x ≡ get_or xs i x) where
-    pub change-at : slice_get (changes_of key xs) i ≡ Some (parts_of key x)
-    change-at = terms_at (parts_of key) xs i x below is
-
     pub changes-more : changes_of key (take (i + 1) xs) ≡ changes_of key (take i xs) ++ parts_of key x ∷ []
     changes-more = made-more (parts_of key) xs i x below is
 

@@ -36,10 +36,6 @@ module _ {A : Type 0} (P : A → Type 0) where
     pub count-more_no : ¬ P x → IsCountOf P (take (i + 1) xs) n
     count-more_no lacks = subst (λ l. IsCountOf P l n) (sym one_more) (count-no (take i xs) x n lacks count)
 
--- without a code there is none
-pub no-cut : {B : Type 0} (h : Holidays) (window_last : ℕ) (r : PublishedTerms B) → r.code ≡ None → ¬ HasCut h window_last r
-no-cut h window_last r none cut = subst (λ (code : Option HolidayCode). IsHolidayOf h code cut.0) none cut.1.holiday
-
 -- with one, there is one exactly if a first one is found
 module _ {B : Type 0} (h : Holidays) (window_last : ℕ) (r : PublishedTerms B) (code : HolidayCode) (has : r.code ≡ Some code) (last : ℕ)
     (ends : last ≡ prepared_last window_last r) where

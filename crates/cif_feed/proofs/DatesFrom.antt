@@ -55,9 +55,6 @@ module _ (dates later : List ℕ) (days : List Bool) (from place index : ℕ) (r
       let same : date ≡ get_or dates (place + index) 0 = at ∙ at_later index in (
         (let a = after (place + index) (omega arith) below in omega arith),
         upto,
-        record {
-          listed = (place + index, below, get_or_default dates (place + index) date 0 below ∙ sym same);
-          on_weekday = on;
-        },
+        record { listed = (place + index, below, get_or_default dates (place + index) date 0 below ∙ sym same); on_weekday = on },
         λ e early sooner. passed e early (λ h. omega (arith, at)),
       )

@@ -1,7 +1,7 @@
 -- A line of a feed is refused as its layout says.
-use Rattle.std.proofs.Common.{◌≡◌, ℕ, ◌+◌, ◌-◌, ◌≤◌, ◌==◌, Bool, true, false, cond, nat_le, ◌||◌, List, [], ◌∷◌, length, take}
-use Rattle.std.proofs.Common.{Option, Some, None}
-use Rattle.std.proofs.Common.{IfSome, refl, sym, ap, ◌∙◌, subst, codes, replicate, arith, lit<, lit≤, is_some, slice_index, ◌<◌}
+use Rattle.std.proofs.Common.{◌≡◌, ℕ, ◌+◌, ◌-◌, ◌≤◌, ◌==◌, Bool, true, false, cond, nat_le, ◌||◌, List, [], ◌∷◌, length, take, Option, Some}
+use Rattle.std.proofs.Common.{None, IfSome, refl, sym, ap, ◌∙◌, subst, codes, replicate, arith, lit<, lit≤, is_some, slice_index, ◌<◌}
+use Rattle.std.proofs.Math.Bool.{or-false, or-true}
 use Rattle.std.proofs.lemmas.Bool.{eqb-true}
 use Rattle.std.proofs.lemmas.List.{length-replicate, take_all}
 use Rattle.std.proofs.lemmas.Bool.Decides.{nat_tests}
@@ -24,14 +24,13 @@ use Rattle.cif_extract.specs.Taken.{refusal_behind}
 use Rattle.cif_records.specs.Association.{association_refusal}
 use Rattle.cif_records.specs.Basic.{basic_refusal}
 use Rattle.cif_records.specs.Checks.{are, are_in_order, date_refusal, dates_refusal, days_refusal, first_of, header_date_refusal}
-use Rattle.cif_records.specs.Checks.{last_date_refusal}
-use Rattle.cif_records.specs.Checks.{letter_refusal, unless}
+use Rattle.cif_records.specs.Checks.{last_date_refusal, letter_refusal, unless}
 use Rattle.cif_records.specs.Header.{header_refusal}
 use Rattle.cif_records.specs.Kind.{identity, is_identity, kind_in, kinds}
 use Rattle.cif_records.specs.Record.{record_refusal, refusal_as}
 use Rattle.cif_records.specs.Tiploc.{tiploc_refusal}
 use Rattle.cif_records.specs.declared.record.Kind.{Kind}
-use Rattle.cif_records.specs.declared.record.Kind.TheVariants.{Hd, Ti, Ta, Td, Aa, Bs, Bx, Lo, Li, Cr, Lt, Zz}
+use Rattle.cif_records.specs.declared.record.Kind.TheVariants.{Hd, Ti, Ta, Td, Aa, Bs}
 use Rattle.cif_records.proofs.Identities.{found_kind}
 use Rattle.cif_records.proofs.Judging.{no_open_end}
 use Rattle.cif_feed.specs.FeedRefusal.{line_refusal}
@@ -39,9 +38,9 @@ use Rattle.cif_feed.specs.LastDay.{last_day}
 use Rattle.cif_feed.specs.LayoutRefusals.{feed_refusal_as, holiday_code_refusal, kind_read_as, open_dates_refusal, refusal_at}
 use Rattle.cif_feed.specs.LayoutRefusals.{update_association_refusal, update_basic_refusal, update_header_refusal}
 use Rattle.cif_feed.specs.HolidayCode.{code_in}
-use Rattle.cif_feed.specs.ProfileLine.{cancelled, closed, code_of, header_line, if_allowed, is_note, is_open, notes_may_stand}
-use Rattle.cif_feed.specs.ProfileLine.{profile_line, profile_line_by, profile_lines, ta_line}
-use Rattle.cif_feed.specs.ProfileLine.{ti_line, update_association_by, update_basic_by, with_columns, without_code}
+use Rattle.cif_feed.specs.ProfileLine.{cancelled, closed, code_of, header_line, if_allowed, is_note, is_open, notes_may_stand, profile_line}
+use Rattle.cif_feed.specs.ProfileLine.{profile_line_by, profile_lines, ta_line, ti_line, update_association_by, update_basic_by}
+use Rattle.cif_feed.specs.ProfileLine.{with_columns, without_code}
 use Rattle.cif_feed.specs.Transaction.{transaction_in}
 use Rattle.cif_feed.specs.declared.feed.Feed.{Feed}
 use Rattle.cif_feed.specs.declared.feed.Feed.TheVariants.{Full, Update}
@@ -347,23 +346,15 @@ module _ (c : List ℕ) (is_line : IsLine c) where
     uncoded-behind None l l_wide a b late = refl
     uncoded-behind (Some k) l l_wide a b late = behind 29 (codes " ") l (lit≤ tt) (omega (arith, l_wide)) a b late
 
-    with_or : (b : Bool) → (b || false) ≡ b
-    with_or true = refl
-    with_or false = refl
-
-    or_with : (b : Bool) → (b || true) ≡ true
-    or_with true = refl
-    or_with false = refl
-
     holiday : (k : Option HolidayCode) (l : List ℕ) → length l ≡ 80 → columns 29 29 l ≡ columns 29 29 c → k ≡ code_of allowed c
         → unless (are (columns 29 29 (without_code k l)) (codes " ")) BankHoliday ≡ holiday_code_refusal allowed c
     holiday None l l_wide same is =
         ap (λ v. unless (are v (codes " ")) BankHoliday) same
-        ∙ ap (λ b. unless b BankHoliday) (sym (with_or (are (columns 29 29 c) (codes " "))))
+        ∙ ap (λ b. unless b BankHoliday) (sym (or-false (are (columns 29 29 c) (codes " "))))
         ∙ ap (λ o. unless (are (columns 29 29 c) (codes " ") || is_some o) BankHoliday) is
     holiday (Some k) l l_wide same is =
         ap (λ v. unless (are v (codes " ")) BankHoliday) (there 29 (codes " ") l (lit≤ tt) (omega (arith, l_wide)) 29 (lit≤ tt))
-        ∙ ap (λ b. unless b BankHoliday) (sym (or_with (are (columns 29 29 c) (codes " "))))
+        ∙ ap (λ b. unless b BankHoliday) (sym (or-true (are (columns 29 29 c) (codes " "))))
         ∙ ap (λ o. unless (are (columns 29 29 c) (codes " ") || is_some o) BankHoliday) is
 
     basic_put : (l : List ℕ) → length l ≡ 80 → (third : List ℕ) → columns 3 3 l ≡ third
@@ -563,8 +554,6 @@ module _ (allowed : HolidayCodes) (c : List ℕ) (is_line : IsLine c) where
 
   kind_kept : (feed : Feed) (kind : Option Kind) → kind_in c ≡ kind → kind_in
       (profile_line_by feed allowed kind c).line ≡ kind_read_as feed kind
-  kind_kept Full (Some Ti) is = is
-  kind_kept Update (Some Ti) is = is
   kind_kept Full (Some Aa) is = kept (closed 22 c) (Some Aa) (close c 22 c (lit≤ tt) itself_kind) is
   kind_kept Full (Some Bs) is =
       kept (without_code (code_of allowed c) (closed 16 c)) (Some Bs) (uncode c (code_of allowed c) (closed 16 c) (close c 16 c
@@ -574,23 +563,8 @@ module _ (allowed : HolidayCodes) (c : List ℕ) (is_line : IsLine c) where
   kind_kept Update (Some Td) is = ti_kind c allowed itself_kind
   kind_kept Update (Some Aa) is = kept _ (Some Aa) (by_association c allowed itself_kind (transaction_in (slice_index c 2))) is
   kind_kept Update (Some Bs) is = kept _ (Some Bs) (by_basic c allowed itself_kind (transaction_in (slice_index c 2))) is
-  kind_kept Full None is = is
-  kind_kept Update None is = is
-  kind_kept Full (Some Hd) is = is
-  kind_kept Full (Some Ta) is = is
-  kind_kept Full (Some Td) is = is
-  kind_kept Full (Some Bx) is = is
-  kind_kept Full (Some Lo) is = is
-  kind_kept Full (Some Li) is = is
-  kind_kept Full (Some Cr) is = is
-  kind_kept Full (Some Lt) is = is
-  kind_kept Full (Some Zz) is = is
-  kind_kept Update (Some Bx) is = is
-  kind_kept Update (Some Lo) is = is
-  kind_kept Update (Some Li) is = is
-  kind_kept Update (Some Cr) is = is
-  kind_kept Update (Some Lt) is = is
-  kind_kept Update (Some Zz) is = is
+  kind_kept Full _ is = is
+  kind_kept Update _ is = is
 
   by_kind : (feed : Feed) (kind : Option Kind) → kind_in c ≡ kind
       → refusal_as (kind_read_as feed kind) (profile_line_by feed allowed kind c).line ≡ feed_refusal_as feed allowed kind c
@@ -601,25 +575,8 @@ module _ (allowed : HolidayCodes) (c : List ℕ) (is_line : IsLine c) where
   by_kind Update (Some Td) is = tiploc_fine (ti_line c) (ti_kind c allowed itself_kind)
   by_kind Update (Some Aa) is = association_by_transaction c is_line (transaction_in (slice_index c 2)) refl (named c is_line Aa is)
   by_kind Update (Some Bs) is = basic_by_transaction c is_line allowed (transaction_in (slice_index c 2)) refl (named c is_line Bs is)
-  by_kind Full (Some Ti) is = refl
-  by_kind Update (Some Ti) is = refl
-  by_kind Full None is = refl
-  by_kind Update None is = refl
-  by_kind Full (Some Hd) is = refl
-  by_kind Full (Some Ta) is = refl
-  by_kind Full (Some Td) is = refl
-  by_kind Full (Some Bx) is = refl
-  by_kind Full (Some Lo) is = refl
-  by_kind Full (Some Li) is = refl
-  by_kind Full (Some Cr) is = refl
-  by_kind Full (Some Lt) is = refl
-  by_kind Full (Some Zz) is = refl
-  by_kind Update (Some Bx) is = refl
-  by_kind Update (Some Lo) is = refl
-  by_kind Update (Some Li) is = refl
-  by_kind Update (Some Cr) is = refl
-  by_kind Update (Some Lt) is = refl
-  by_kind Update (Some Zz) is = refl
+  by_kind Full _ is = refl
+  by_kind Update _ is = refl
 
   pub refused_as : (feed : Feed) → record_refusal (profile_line feed allowed c).line ≡ feed_refusal_as feed allowed (kind_in c) c
   unfolding record_refusal

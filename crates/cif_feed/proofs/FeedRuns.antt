@@ -17,9 +17,8 @@ use Rattle.cif_columns.specs.FirstLine.{first_content, is_printable}
 use Rattle.cif_columns.specs.GivenLines.{AreAllContents, AreContentsToFailure, AreContentsToFault, AreContentsToRefusal, AreWholeContentsAndRest}
 use Rattle.cif_columns.specs.GivenLines.{IsContentDecidedOrLast, IsReadingContents, KnownContents}
 use Rattle.cif_columns.specs.Line.{IsLine}
-use Rattle.cif_columns.specs.LineReader.{HasPassedComment, IsNext, IsNextFault, IsNoComment, LineReads, left}
+use Rattle.cif_columns.specs.LineReader.{HasPassedComment, IsNext, IsNoComment, left}
 use Rattle.cif_columns.specs.Source.{HasReadOn, Unread, reader_of, source_ended}
-use Rattle.cif_columns.specs.declared.line.Line.{Line}
 use Rattle.cif_columns.specs.declared.line_reader.LineReader.{LineReader}
 use Rattle.cif_columns.specs.declared.refusal.LineFault.{LineFault}
 use Rattle.cif_columns.specs.declared.refusal.LineFault.TheVariants as line_fault
@@ -29,7 +28,6 @@ use Rattle.cif_columns.specs.declared.source.Source.{Source}
 use Rattle.cif_columns.proofs.DecidedLines.{contents_first}
 use Rattle.cif_columns.proofs.GivenLinesLaws.{contents_given, known_so, reading_content}
 use Rattle.cif_columns.proofs.PrintableBytes.{printable_fact, printable_true}
-use Rattle.cif_columns.proofs.ReadSources.{failed_after, read_on_both}
 use Rattle.cif_extract.specs.Fault.{of_line_fault}
 use Rattle.cif_extract.specs.ReadFault.{IsLineNumber, LeavesNothing}
 use Rattle.cif_extract.specs.Taken.{IsNoTrailer}
@@ -131,10 +129,7 @@ module _ (feed : Feed) (allowed : HolidayCodes) (max : ℕ) where
           ∷ unless may refusal.OutOfOrder ∷ []) ∷ []) ≡ None
           → may ≡ true
       at true true true true e = refl
-      at true true true false e = absurd (cc)
-      at true true false may e = absurd (cc)
-      at true false printable may e = absurd (cc)
-      at false wide printable may e = absurd (cc)
+      at _ _ _ _ e = absurd (cc)
 
   -- a content that isn't refused is one
   content_is : (cs : List (List ℕ)) (c : List ℕ) → feed_refusal feed allowed max cs c ≡ None → IsFeedContent c
@@ -148,9 +143,7 @@ module _ (feed : Feed) (allowed : HolidayCodes) (max : ℕ) where
           → IsFeedContent c
       at true comment few wide printable ew ep e = inr (sym comment)
       at false comment true true true ew ep e = inl (record { width = eqb-true (length c) 80 (sym ew); printable = printable_fact c (sym ep) })
-      at false comment true true false ew ep e = absurd (cc)
-      at false comment true false printable ew ep e = absurd (cc)
-      at false comment false wide printable ew ep e = absurd (cc)
+      at false comment _ _ _ ew ep e = absurd (cc)
 
   -- and so each of contents none of which is refused
   pub contents_are : (cs : List (List ℕ)) → NoneOfFeedRefused feed allowed max cs → All IsFeedContent cs
@@ -349,16 +342,6 @@ pub feed_reason : (feed : Feed) (allowed : HolidayCodes) (cs : List (List ℕ)) 
     → IsFeedTaken feed allowed cs c (Err s) r → s ≡ untaken.Refused why → line_refusal feed allowed cs c ≡ Some why
 feed_reason feed allowed cs c (untaken.Refused x) why r taken e = taken ∙ (let same : x ≡ why = cc in ap Some same)
 feed_reason feed allowed cs c untaken.Memory why r taken e = cc
-
--- a fault of the lines is one of reading
-pub line_fault_of_feed : (max count : ℕ) (l : LineFault) → count ≤ max → IsNextFault count l → IsOfFeed max (Extract (of_line_fault l))
-line_fault_of_feed max count (line_fault.Refused number why) within next = (omega (arith, next.0), omega (arith, next.0))
-line_fault_of_feed max count line_fault.Read within next = tt
-
-pub line_fault_reads : {R : Type 0} (errors : R → Option ℕ) (s t u : Source R) (l : LineFault) → HasReadOn errors s t
-    → LineReads {A = Option Line} errors t u (Err l) → FeedReads {A = FeedExtract} errors s u (Err (Extract (of_line_fault l)))
-line_fault_reads errors s t u (line_fault.Refused number why) p next = read_on_both errors s t u p next
-line_fault_reads errors s t u line_fault.Read p next = failed_after errors s t u p next
 
 -- nothing is left, whether there is an extract or not
 pub if_done : {R A E : Type 0} (remaining : R → Option (List ℕ)) (old new : Source R) (r : Result A E) → source_ended new ≡ true →

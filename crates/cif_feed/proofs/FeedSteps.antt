@@ -1,5 +1,5 @@
 -- One content more of a feed: what the contents say then, and what the reading has come to.
-use Rattle.std.proofs.Common.{◌≡◌, ℕ, ◌+◌, Bool, true, false, cond, not, ◌&&◌, ◌||◌, List, [], ◌∷◌, ◌++◌, length, map, filter, Option, Some, None}
+use Rattle.std.proofs.Common.{◌≡◌, ℕ, ◌+◌, Bool, true, false, cond, not, ◌&&◌, ◌||◌, List, [], ◌∷◌, ◌++◌, length, map, filter, Some, None}
 use Rattle.std.proofs.Common.{Result, Ok, Err, refl, sym, ap, ◌∙◌, subst, take, codes, append-nil, length-append, arith}
 use Rattle.std.proofs.lemmas.Bool.{and_parts}
 use Rattle.std.proofs.lemmas.Grind.{flat_map-append}
@@ -52,10 +52,7 @@ begins c is =
 
 -- a comment is no note, and names no kind
 pub comment_kind : (c : List ℕ) → is_comment c ≡ true → (is_note c ≡ false) × (kind_in c ≡ None)
-comment_kind c is = (
-  ap (λ l. are l (codes "TN") || are l (codes "LN")) (begins c is),
-  ap (λ l. find (is_identity l) kinds) (begins c is),
-)
+comment_kind c is = (ap (λ l. are l (codes "TN") || are l (codes "LN")) (begins c is), ap (λ l. find (is_identity l) kinds) (begins c is))
 
 -- and a note names no kind
 pub note_kind : (c : List ℕ) → is_note c ≡ true → kind_in c ≡ None

@@ -147,30 +147,24 @@ change_puts P key Deleted number k r p = tt
 associations_put : (xs : List Association) (ms : List (Numbered RecordMark)) (cs : List (Change AssociationKey PublishedAssociation))
     → AreTriples IsAssociationChange xs ms cs → Each AssociationFits xs → Each (PutsSuch AssociationOf published_association_key) cs
 associations_put [] [] [] t fits = tt
-associations_put [] [] (c ∷ cs) t fits = absurd t
-associations_put [] (m ∷ ms) cs t fits = absurd t
-associations_put (x ∷ xs) [] cs t fits = absurd t
-associations_put (x ∷ xs) (m ∷ ms) [] t fits = absurd t
 associations_put (x ∷ xs) (m ∷ ms) (c ∷ cs) t fits = (
   subst (PutsSuch AssociationOf published_association_key) (sym t.0.change)
       (change_puts AssociationOf published_association_key m.mark.transaction m.number (x.key, x.first, m.mark.letter) t.0.published
       (subst AssociationFits (sym t.0.is.of_profile) fits.0)),
   associations_put xs ms cs t.1 fits.1,
 )
+associations_put _ _ _ t fits = absurd t
 
 schedules_put : (xs : List Schedule) (ms : List (Numbered RecordMark)) (cs : List (Change ScheduleKey PublishedSchedule))
     → AreTriples IsScheduleChange xs ms cs → Each ScheduleFits xs → Each (PutsSuch ScheduleOf published_schedule_key) cs
 schedules_put [] [] [] t fits = tt
-schedules_put [] [] (c ∷ cs) t fits = absurd t
-schedules_put [] (m ∷ ms) cs t fits = absurd t
-schedules_put (x ∷ xs) [] cs t fits = absurd t
-schedules_put (x ∷ xs) (m ∷ ms) [] t fits = absurd t
 schedules_put (x ∷ xs) (m ∷ ms) (c ∷ cs) t fits = (
   subst (PutsSuch ScheduleOf published_schedule_key) (sym t.0.change)
       (change_puts ScheduleOf published_schedule_key m.mark.transaction m.number (x.uid, x.first, m.mark.letter) t.0.published
       (subst ScheduleFits (sym t.0.is.of_profile) fits.0)),
   schedules_put xs ms cs t.1 fits.1,
 )
+schedules_put _ _ _ t fits = absurd t
 
 -- ---- an extract, record by record
 

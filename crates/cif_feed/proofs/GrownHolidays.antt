@@ -24,14 +24,9 @@ dates-inserted xs ys i day is d = (
 -- two codes are one or not
 same_code : (a b : HolidayCode) → (a ≡ b) ⊎ (a ≡ b → ⊥)
 same_code X X = inl refl
-same_code X E = inr (λ e. absurd (cc))
-same_code X G = inr (λ e. absurd (cc))
-same_code E X = inr (λ e. absurd (cc))
 same_code E E = inl refl
-same_code E G = inr (λ e. absurd (cc))
-same_code G X = inr (λ e. absurd (cc))
-same_code G E = inr (λ e. absurd (cc))
 same_code G G = inl refl
+same_code _ _ = inr (λ e. absurd (cc))
 
 -- one code is named and has these days more, and the others are as before
 pub has-more : (old new : Holidays) (code : HolidayCode) (P : ℕ → Type 0) → Names new code

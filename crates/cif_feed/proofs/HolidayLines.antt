@@ -85,29 +85,11 @@ no-date words done rest word parts none dates =
 
 -- ---- the line
 
--- a line without words
-pub says-nothing : (line : List ℕ) (h : Holidays) → length line ≤ 1000 → words_of line ≡ [] → IsHolidayLine line × HasLineMore h line h
-says-nothing line h within none = (
-  record { within = within; words = inl none },
-  record {
-    names = λ code. (λ was. inl was, λ h. ⊎_elim (λ was. was) (λ named. absurd (not-named code named)) h);
-    days = λ code d. (λ was. inl was, λ h. ⊎_elim (λ was. was) (λ said. absurd (not-named code said.names)) h);
-  },
-)
-  where
-    not-named : (code : HolidayCode) → LineNames code line → ⊥
-    not-named code named = let at : slice_get [] 0 ≡ Some (letter code ∷ []) = subst (λ l. slice_get l 0 ≡ Some (letter code ∷ [])) none named in cc
-
 same-letter : (a b : HolidayCode) → letter a ≡ letter b → a ≡ b
 same-letter X X e = refl
-same-letter X E e = absurd (omega arith)
-same-letter X G e = absurd (omega arith)
-same-letter E X e = absurd (omega arith)
 same-letter E E e = refl
-same-letter E G e = absurd (omega arith)
-same-letter G X e = absurd (omega arith)
-same-letter G E e = absurd (omega arith)
 same-letter G G e = refl
+same-letter _ _ e = absurd (omega arith)
 
 module _ (line : List ℕ) (l : ℕ) (dates : List (List ℕ)) (words : words_of line ≡ (l ∷ []) ∷ dates) where
   first-is : (code : HolidayCode) → LineNames code line → l ≡ letter code
@@ -163,9 +145,6 @@ module _ (line : List ℕ) (l : ℕ) (dates : List (List ℕ)) (words : words_of
           bad code (ap (λ ws. get_or (get_or ws 0 []) 0 0) same)
           (subst (λ ws. All IsDate ws) (sym (ap (drop 1) same)) are.are_dates)
 
-  pub no-code : ((code : HolidayCode) → l ≡ letter code → ⊥) → ¬ IsHolidayLine line
-  no-code none = bad-words (λ code is are. none code is)
-
   dates-fault : (number : ℕ) (fault : HolidayFault) → IsDateFault number dates fault → IsLineFault number line fault
   dates-fault number (BadHoliday at) (is, bad) = (is, inr (bad-words (λ code letter_is are. bad are)))
   dates-fault number Read h = absurd h
@@ -183,18 +162,6 @@ module _ (line : List ℕ) (l : ℕ) (dates : List (List ℕ)) (words : words_of
   pub line-err : (number : ℕ) (r : Result (Unit {0}) HolidayFault) → IfErr r (IsDateFault number dates) → IfErr r (IsLineFault number line)
   line-err number (Ok done) h = tt
   line-err number (Err fault) h = dates-fault number fault h
-
--- a line whose first word isn't one byte
-pub no-letter : (line word : List ℕ) (rest : List (List ℕ)) → words_of line ≡ word ∷ rest → (length word ≡ 1 → ⊥) → ¬ IsHolidayLine line
-no-letter line word rest words long good = ⊎_elim
-    (λ none. let at : word ∷ rest ≡ [] = sym words ∙ none in cc)
-    (λ some.
-    let same : word ∷ rest ≡ (letter some.0 ∷ []) ∷ some.1.dates = sym words ∙ some.1.are in
-    long (ap (λ (ws : List (List ℕ)). length (get_or ws 0 [])) same))
-    good.words
-
-pub too-long : (line : List ℕ) → 1000 < length line → ¬ IsHolidayLine line
-too-long line long good = let within = good.within in omega arith
 
 -- a word of one byte
 pub one-byte : (word : List ℕ) → length word ≡ 1 → word ≡ get_or word 0 0 ∷ []

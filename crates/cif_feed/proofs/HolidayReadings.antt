@@ -1,7 +1,7 @@
 -- The text of holidays, byte by byte.
 use Rattle.std.proofs.Common.{◌≡◌, ◌≢◌, ◌⊎◌, inl, inr, ⊎_elim, ◌↔◌, ℕ, ◌+◌, ◌-◌, ◌<◌, ◌≤◌, ◌==◌, Bool, true, false, cond}
 use Rattle.std.proofs.Common.{List, [], ◌∷◌, ◌++◌, length, take, drop, get_or, map, Option, Some, None, Result, Ok, Err}
-use Rattle.std.proofs.Common.{IfErr, IfOk, IfSome, IsSomeAnd, All, Contains, refl, sym, ap, ◌∙◌, subst, arith}
+use Rattle.std.proofs.Common.{IfErr, IfSome, IsSomeAnd, All, Contains, refl, sym, ap, ◌∙◌, subst, arith}
 use Rattle.std.proofs.Common.{append_assoc, append-nil, length-append, length-take, take-append-drop}
 use Rattle.std.specs.Io.KnownBytes.{Consumes, IsAtEnd}
 use Rattle.std.specs.List.{slice_split}
@@ -109,10 +109,7 @@ some-push P ls line = (
 )
 
 through : {A B C D : Type 0} → A ↔ (B ⊎ C) → B ↔ D → A ↔ (D ⊎ C)
-through one two = (
-  λ a. ⊎_elim (λ b. inl (two.0 b)) (λ c. inr c) (one.0 a),
-  λ h. one.1 (⊎_elim (λ d. inl (two.1 d)) (λ c. inr c) h),
-)
+through one two = (λ a. ⊎_elim (λ b. inl (two.0 b)) (λ c. inr c) (one.0 a), λ h. one.1 (⊎_elim (λ d. inl (two.1 d)) (λ c. inr c) h))
 
 swapped : {A B C : Type 0} → A ↔ C → B ↔ C → A ↔ B
 swapped one two = (λ a. two.1 (one.0 a), λ b. one.1 (two.0 b))
@@ -261,13 +258,6 @@ module _ (bytes : List ℕ) (count : ℕ) (rest : List ℕ) (h : Holidays) (so_f
         (inr (λ fine. let within = fine.within in omega arith))),
   )
 
-  -- the end after whole lines
-  pub spell-whole : rest ≡ [] → SpellHolidays bytes h
-  spell-whole none =
-      let now : contents_of bytes ≡ ls =
-      ap lines (before.parts ∙ ap (λ l. before.whole ++ l) none ∙ append-nil before.whole) ∙ before.contents in
-      record { lines = subst AreHolidayLines (sym now) before.are_lines; are = subst (λ l. AreHolidaysOf l h) (sym now) so_far.are }
-
   -- the end after a last line
   pub spell-last : (new : Holidays) → count + 1 ≤ 100000000 → 0 < length rest → IsHolidayLine rest → HasLineMore h rest new
       → SpellHolidays bytes new
@@ -378,15 +368,6 @@ module _ (start : Option (List ℕ)) (after : Unread) (taken : List ℕ) (consum
       all (Some bytes) None consumed end = absurd consumed
       all (Some bytes) (Some unread) consumed end = sym (consumed ∙ ap (λ l. taken ++ l) end ∙ append-nil taken)
 
-  -- the holidays, where all was read
-  pub spelled_of_start : (r : Result Holidays HolidayFault) → IfOk r (SpellHolidays taken)
-      → IfSome start (λ bytes. IfOk r (SpellHolidays bytes))
-  spelled_of_start r ok = at start all_taken
-    where
-      at : (s : Option (List ℕ)) → IfSome s (λ bytes. taken ≡ bytes) → IfSome s (λ bytes. IfOk r (SpellHolidays bytes))
-      at None all = tt
-      at (Some bytes) all = subst (λ (l : List ℕ). IfOk r (SpellHolidays l)) all ok
-
   -- or the refusal
   pub fault_of_start : (r : Result Holidays HolidayFault) → IfErr r (IsRefusal taken)
       → IfSome start (λ bytes. IfErr r (IsHolidayFault bytes after))
@@ -434,21 +415,16 @@ pub read_of_start : (start : Option (List ℕ)) (after : Unread) (r : Result Hol
     → IfSome start (λ bytes. IfErr r (IsHolidayFault bytes after))
     → IfSome start (λ bytes. (h : Holidays) → SpellHolidays bytes h → AreRead r)
 read_of_start None after r fault = tt
-read_of_start (Some bytes) after (Ok h) fault = λ other spells. tt
 read_of_start (Some bytes) after (Err (BadHoliday line)) fault = λ other spells. absurd (spelled-fine bytes other line spells fault.0)
-read_of_start (Some bytes) after (Err Read) fault = λ other spells. tt
-read_of_start (Some bytes) after (Err Memory) fault = λ other spells. tt
+read_of_start (Some bytes) after _ fault = λ other spells. tt
 
 module _ {R : Type 0} (errors : R → Option ℕ) (old new : Source R) (on : HasReadOn errors old new) where
   -- no fault of the bytes is one of the source
   pub refused_reads : (taken : List ℕ) (fault : HolidayFault) → IsRefusalBehind taken fault
       → HolidayReads {A = Holidays} errors old new (Err fault)
-  refused_reads taken (BadHoliday line) bad = on
   refused_reads taken Read bad = absurd bad
-  refused_reads taken Memory bad = on
+  refused_reads taken _ bad = on
 
   pub finished_reads : (taken : List ℕ) (r : Result Holidays HolidayFault) → IfErr r (IsRefusal taken) → HolidayReads errors old new r
-  finished_reads taken (Ok h) bad = on
-  finished_reads taken (Err (BadHoliday line)) bad = on
   finished_reads taken (Err Read) bad = absurd bad
-  finished_reads taken (Err Memory) bad = on
+  finished_reads taken _ bad = on

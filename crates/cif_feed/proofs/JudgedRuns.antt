@@ -60,10 +60,7 @@ own_of_fine max before c is =
         → first_of (unless f refusal.TooManyLines ∷ unless w refusal.BadLength ∷ unless p refusal.BadByte ∷ o ∷ record_refusal c ∷ []) ≡ None
         → first_of (unless w refusal.BadLength ∷ unless p refusal.BadByte ∷ record_refusal c ∷ []) ≡ None
     at true true true None is = is
-    at true true true (Some x) is = absurd (cc)
-    at true true false o is = absurd (cc)
-    at true false p o is = absurd (cc)
-    at false w p o is = absurd (cc)
+    at _ _ _ _ is = absurd (cc)
 
 stripped_long : (l : List ℕ) → length l ≤ length (strip_carriage_return l) + 1
 stripped_long l = at (nat_eq (slice_index l (length l - 1)) 13)
@@ -126,13 +123,9 @@ module _ (max : ℕ) (bytes : List ℕ) (x : ExtractParts) (spells : BytesSpellW
   judged_only after (Err (fault.Refused line refusal.TooManyLines)) ok err =
       absurd (omega (arith, err.over, ap length all_judged, spells.within))
   judged_only after (Err (fault.Refused line why)) ok err = absurd (spelled-refused max bytes x spells line why err.first)
-  judged_only after (Err (fault.Ambiguous clash)) ok err = absurd err
-  judged_only after (Err fault.WindowsDiffer) ok err = absurd err
-  judged_only after (Err fault.OutsideWindow) ok err = absurd err
-  judged_only after (Err fault.WindowReversed) ok err = absurd err
   judged_only after (Err fault.Read) ok err = tt
-  judged_only after (Err fault.Write) ok err = absurd err
   judged_only after (Err fault.Memory) ok err = tt
+  judged_only after (Err _) ok err = absurd err
 
 -- the same of bytes that may be known
 pub only_judged : (start : Option (List ℕ)) (max : ℕ) (after : Unread) (result : Result Judged Fault)
@@ -211,13 +204,7 @@ module _ (max : ℕ) (cs : List (List ℕ)) (within : length cs ≤ max) (after 
       ended = ended;
     }),
   )
-  all_as bytes all (Err (fault.Ambiguous clash)) is = absurd is
-  all_as bytes all (Err fault.WindowsDiffer) is = absurd is
-  all_as bytes all (Err fault.OutsideWindow) is = absurd is
-  all_as bytes all (Err fault.WindowReversed) is = absurd is
-  all_as bytes all (Err fault.Read) is = absurd is
-  all_as bytes all (Err fault.Write) is = absurd is
-  all_as bytes all (Err fault.Memory) is = absurd is
+  all_as bytes all (Err _) is = absurd is
 
   pub finished_ok : (start : Option (List ℕ)) → IfSome start (λ bytes. AreAll bytes cs) → (result : Result Judged Fault)
       → IsFinished max cs result → IfSome start (λ bytes. IfOk result (IsJudgedAs max bytes after))
@@ -234,26 +221,14 @@ module _ (max : ℕ) (cs : List (List ℕ)) (within : length cs ≤ max) (after 
       (λ r. let here = refused_number max cs line why r in (here.0, omega (arith, here.1, within)))
       (λ (t : IsTruncated max cs line why). (omega (arith, t.numbered), omega (arith, t.numbered, within)))
       is.1
-  finished_of_reading (Err (fault.Ambiguous clash)) is = absurd is
-  finished_of_reading (Err fault.WindowsDiffer) is = absurd is
-  finished_of_reading (Err fault.OutsideWindow) is = absurd is
-  finished_of_reading (Err fault.WindowReversed) is = absurd is
-  finished_of_reading (Err fault.Read) is = absurd is
-  finished_of_reading (Err fault.Write) is = absurd is
-  finished_of_reading (Err fault.Memory) is = absurd is
+  finished_of_reading (Err _) is = absurd is
 
 -- a fault isn't Read, so the source was read on
 pub finished_reads : {R : Type 0} (errors : R → Option ℕ) (max : ℕ) (cs : List (List ℕ)) (s t : Source R) (result : Result Judged Fault)
     → IsFinished max cs result → HasReadOn errors s t → FaultReads errors s t result
 finished_reads errors max cs s t (Ok done) is read = read
 finished_reads errors max cs s t (Err (fault.Refused line why)) is read = read
-finished_reads errors max cs s t (Err (fault.Ambiguous clash)) is read = absurd is
-finished_reads errors max cs s t (Err fault.WindowsDiffer) is read = absurd is
-finished_reads errors max cs s t (Err fault.OutsideWindow) is read = absurd is
-finished_reads errors max cs s t (Err fault.WindowReversed) is read = absurd is
-finished_reads errors max cs s t (Err fault.Read) is read = absurd is
-finished_reads errors max cs s t (Err fault.Write) is read = absurd is
-finished_reads errors max cs s t (Err fault.Memory) is read = absurd is
+finished_reads errors max cs s t (Err _) is read = absurd is
 
 pub finished_leaves : {R : Type 0} (remaining : R → Option (List ℕ)) (old new : Source R) (result : Result Judged Fault)
     → source_ended new ≡ true → IfSome (remaining (reader_of old)) (λ bytes. remaining (reader_of new) ≡ Some [])
@@ -280,11 +255,7 @@ overlong_ok max cs long room (Some bytes) after ended is gave told some tell = r
     at : (a : Option (List ℕ)) → IsSomeAnd a (IsGiven (λ before. has_overlong before ≡ true) bytes)
         → IsSomeAnd a (IsGiven (λ before. ¬ MayGoOn max before) bytes)
     at None g = g
-    at (Some unread) g = record {
-      before = g.before;
-      parts = g.parts;
-      fact = λ goes. true≢false (sym g.fact ∙ goes.none_overlong);
-    }
+    at (Some unread) g = record { before = g.before; parts = g.parts; fact = λ goes. true≢false (sym g.fact ∙ goes.none_overlong) }
 
 -- where a line is one too many
 pub too_many_fault : (max : ℕ) (start after : Option (List ℕ)) (ended : Bool) (number : ℕ) → number ≡ max + 1

@@ -23,9 +23,8 @@ use Rattle.cif_feed.proofs.FeedSteps.{named_line}
 pub pairs-append : {A B : Type 0} (P : A → B → Type 0) (al : List A) (bs : List B) (cs : List A) (ds : List B) → ArePairs P al bs
     → ArePairs P cs ds → ArePairs P (al ++ cs) (bs ++ ds)
 pairs-append P [] [] cs ds p q = q
-pairs-append P [] (b ∷ bs) cs ds p q = absurd p
-pairs-append P (a ∷ al) [] cs ds p q = absurd p
 pairs-append P (a ∷ al) (b ∷ bs) cs ds p q = (p.0, pairs-append P al bs cs ds p.1 q)
+pairs-append P _ _ cs ds p q = absurd p
 
 module _ (allowed : HolidayCodes) where
   -- the content is a line of some kind, and this is its profile line

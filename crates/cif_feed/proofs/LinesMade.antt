@@ -1,6 +1,6 @@
 -- What is made of lines, the last first.
-use Rattle.std.proofs.Common.{◌≡◌, ◌≢◌, ℕ, List, [], ◌∷◌, ◌++◌, reverse, refl, sym, ap, ◌∙◌, subst, append_assoc}
-use Rattle.cif_feed.specs.FromLines.{ArePairs, AreTriples}
+use Rattle.std.proofs.Common.{◌≡◌, ◌≢◌, List, [], ◌∷◌, ◌++◌, refl}
+use Rattle.cif_feed.specs.FromLines.{ArePairs}
 
 module _ {A B : Type 0} (P : A → B → Type 0) where
   -- the last of both

@@ -26,13 +26,15 @@ use Rattle.cif_records.specs.Kind.{is_identity, kind_in, kinds}
 use Rattle.cif_records.specs.Record.{SpellsRecord}
 use Rattle.cif_records.specs.declared.association.Association.{Association}
 use Rattle.cif_records.specs.declared.basic.Basic.{Basic}
+use Rattle.cif_records.specs.declared.change.Change.{Change}
 use Rattle.cif_records.specs.declared.extra.Extra.{Extra}
 use Rattle.cif_records.specs.declared.header.Header.{Header}
 use Rattle.cif_records.specs.declared.origin.Origin.{Origin}
 use Rattle.cif_records.specs.declared.record.Kind.{Kind}
-use Rattle.cif_records.specs.declared.record.Kind.TheVariants.{Hd, Ti, Ta, Td, Aa, Bs, Bx, Lo, Li, Cr, Lt, Zz}
+use Rattle.cif_records.specs.declared.record.Kind.TheVariants.{Hd, Ti, Ta, Td, Aa, Bs}
 use Rattle.cif_records.specs.declared.record.Record.{Record}
 use Rattle.cif_records.specs.declared.record.Record.TheVariants as of
+use Rattle.cif_records.specs.declared.stop.Stop.{Stop}
 use Rattle.cif_records.specs.declared.terminus.Terminus.{Terminus}
 use Rattle.cif_records.specs.declared.tiploc.Tiploc.{Tiploc}
 use Rattle.cif_records.proofs.Records.{kind_of, kind_there}
@@ -59,9 +61,9 @@ use Rattle.cif_feed.specs.declared.mark.RecordMark.{RecordMark}
 use Rattle.cif_feed.specs.declared.mark.TiplocMark.{TiplocMark}
 use Rattle.cif_feed.specs.declared.mark.Transaction.{Transaction}
 use Rattle.cif_feed.specs.declared.mark.Transaction.TheVariants.{New, Revised, Deleted}
-use Rattle.cif_feed.specs.declared.profile_line.ProfileLine.{ProfileLine}
 use Rattle.cif_feed.proofs.Enumerated.{enumerate_filter}
 use Rattle.cif_feed.proofs.FeedRuns.{contents_are}
+use Rattle.cif_feed.proofs.KnownLines.{pairs-append}
 use Rattle.cif_feed.proofs.ProfileKinds.{HasKind, by_association, by_basic, close, further, same_line, ta_kind, ti_kind, uncode}
 
 -- the marks are those of these records
@@ -86,13 +88,15 @@ basic_of r = []
 record IsQuiet {A : Type 0} (f : Record → List A) : Type 0 where
   extra : (x : Extra) → f (of.Extra x) ≡ []
   origin : (o : Origin) → f (of.Origin o) ≡ []
-  call : (c : Call) → f (call_record c) ≡ []
+  stop : (s : Stop) → f (of.Stop s) ≡ []
+  change : (c : Change) → f (of.Change c) ≡ []
   terminus : (t : Terminus) → f (of.Terminus t) ≡ []
 
 module _ {A : Type 0} (f : Record → List A) (quiet : IsQuiet f) where
   quiet_calls : (calls : List Call) (t : Terminus) → flat_map f (map call_record calls ++ (of.Terminus t ∷ [])) ≡ []
   quiet_calls [] t = ap (λ l. l ++ []) (quiet.terminus t)
-  quiet_calls (c ∷ calls) t = ap (λ l. l ++ flat_map f (map call_record calls ++ (of.Terminus t ∷ []))) (quiet.call c) ∙ quiet_calls calls t
+  quiet_calls (At s ∷ calls) t = ap (λ l. l ++ flat_map f (map call_record calls ++ (of.Terminus t ∷ []))) (quiet.stop s) ∙ quiet_calls calls t
+  quiet_calls (Turn c ∷ calls) t = ap (λ l. l ++ flat_map f (map call_record calls ++ (of.Terminus t ∷ []))) (quiet.change c) ∙ quiet_calls calls t
 
   quiet_journey : (journey : List Record) → AreJourney journey → flat_map f journey ≡ []
   quiet_journey journey j =
@@ -250,10 +254,7 @@ module _ (allowed : HolidayCodes) (c : List ℕ) (is_line : IsLine c) where
       → MarkFor (kind_in (profile_line_by feed allowed kind c).line) (profile_line_by feed allowed kind c).mark
       × ClosedFor (profile_line_by feed allowed kind c).mark (profile_line_by feed allowed kind c).line
   by_kind feed (Some Ti) is = (named c (Some Ti) _ own is tt, tt)
-  by_kind Full (Some Aa) is = (
-    named _ (Some Aa) _ (close c 22 c (omega arith) own) is tt,
-    (association_marked (Some New)).1,
-  )
+  by_kind Full (Some Aa) is = (named _ (Some Aa) _ (close c 22 c (omega arith) own) is tt, (association_marked (Some New)).1)
   by_kind Full (Some Bs) is = (
     named _ (Some Bs) _ (uncode c (code_of allowed c) _ (close c 16 c (omega arith) own)) is tt,
     (basic_marked (Some New)).1,
@@ -269,23 +270,8 @@ module _ (allowed : HolidayCodes) (c : List ℕ) (is_line : IsLine c) where
       let t = transaction_in (slice_index c 2) in
       let marked = basic_marked t in
       (named _ (Some Bs) _ (by_basic c allowed own t) is marked.0, marked.1)
-  by_kind Full None is = (named c None _ own is tt, tt)
-  by_kind Update None is = (named c None _ own is tt, tt)
-  by_kind Full (Some Hd) is = (named c (Some Hd) _ own is tt, tt)
-  by_kind Full (Some Ta) is = (named c (Some Ta) _ own is tt, tt)
-  by_kind Full (Some Td) is = (named c (Some Td) _ own is tt, tt)
-  by_kind Full (Some Bx) is = (named c (Some Bx) _ own is tt, tt)
-  by_kind Full (Some Lo) is = (named c (Some Lo) _ own is tt, tt)
-  by_kind Full (Some Li) is = (named c (Some Li) _ own is tt, tt)
-  by_kind Full (Some Cr) is = (named c (Some Cr) _ own is tt, tt)
-  by_kind Full (Some Lt) is = (named c (Some Lt) _ own is tt, tt)
-  by_kind Full (Some Zz) is = (named c (Some Zz) _ own is tt, tt)
-  by_kind Update (Some Bx) is = (named c (Some Bx) _ own is tt, tt)
-  by_kind Update (Some Lo) is = (named c (Some Lo) _ own is tt, tt)
-  by_kind Update (Some Li) is = (named c (Some Li) _ own is tt, tt)
-  by_kind Update (Some Cr) is = (named c (Some Cr) _ own is tt, tt)
-  by_kind Update (Some Lt) is = (named c (Some Lt) _ own is tt, tt)
-  by_kind Update (Some Zz) is = (named c (Some Zz) _ own is tt, tt)
+  by_kind Full kind is = (named c kind _ own is tt, tt)
+  by_kind Update kind is = (named c kind _ own is tt, tt)
 
 -- ---- the mark of a line, and the record that it spells
 
@@ -309,23 +295,13 @@ fit number m l r for closes spells = at m r (subst (λ k. MarkFor k m) (kind_the
       associations = tt;
       schedules = (λ ends. is_last _ b.last (closes ends) spells.1.1.1.1.0, tt);
     }
-    at mark.Nothing (of.Header x) for closes spells = record { tiplocs = refl; associations = tt; schedules = tt }
-    at mark.Nothing (of.Extra x) for closes spells = record { tiplocs = refl; associations = tt; schedules = tt }
-    at mark.Nothing (of.Origin x) for closes spells = record { tiplocs = refl; associations = tt; schedules = tt }
-    at mark.Nothing (of.Stop x) for closes spells = record { tiplocs = refl; associations = tt; schedules = tt }
-    at mark.Nothing (of.Change x) for closes spells = record { tiplocs = refl; associations = tt; schedules = tt }
-    at mark.Nothing (of.Terminus x) for closes spells = record { tiplocs = refl; associations = tt; schedules = tt }
-    at mark.Nothing of.Trailer for closes spells = record { tiplocs = refl; associations = tt; schedules = tt }
+    at mark.Nothing (of.Tiploc t) for closes spells = absurd for
+    at mark.Nothing (of.Association a) for closes spells = absurd for
+    at mark.Nothing (of.Basic b) for closes spells = absurd for
+    at mark.Nothing _ for closes spells = record { tiplocs = refl; associations = tt; schedules = tt }
     at _ _ for closes spells = absurd for
 
 -- ---- all of them
-
-marked_both : {A : Type 0} (last : A → ℕ) (ms ns : List (Numbered RecordMark)) (rs ss : List A) → AreMarked last ms rs → AreMarked last ns ss
-    → AreMarked last (ms ++ ns) (rs ++ ss)
-marked_both last [] ns [] ss p q = q
-marked_both last [] ns (r ∷ rs) ss p q = absurd p
-marked_both last (m ∷ ms) ns [] ss p q = absurd p
-marked_both last (m ∷ ms) ns (r ∷ rs) ss p q = (p.0, marked_both last ms ns rs ss p.1 q)
 
 module _ (feed : Feed) (allowed : HolidayCodes) where
   -- the marks of one numbered content
@@ -356,8 +332,8 @@ module _ (feed : Feed) (allowed : HolidayCodes) where
           length-append (of_one tiploc_mark n) (flat_map (of_one tiploc_mark) ns),
           length-append (tiploc_of r) (flat_map tiploc_of rs),
         );
-        associations = marked_both _ (of_one association_mark n) _ (association_of r) _ one.associations more.associations;
-        schedules = marked_both _ (of_one schedule_mark n) _ (basic_of r) _ one.schedules more.schedules;
+        associations = pairs-append _ (association_of r) (of_one association_mark n) _ _ one.associations more.associations;
+        schedules = pairs-append _ (basic_of r) (of_one schedule_mark n) _ _ one.schedules more.schedules;
       }
 
 pub record_lines : (cs : List (List ℕ)) → All IsFeedContent cs → All IsLine (filter is_record_line cs)
@@ -374,25 +350,13 @@ record_lines (c ∷ cs) are =
 -- ---- the records of an extract
 
 no_tiplocs : IsQuiet tiploc_of
-no_tiplocs = record { extra = λ x. refl; origin = λ o. refl; call = by_call; terminus = λ t. refl }
-  where
-    by_call : (c : Call) → tiploc_of (call_record c) ≡ []
-    by_call (At s) = refl
-    by_call (Turn c) = refl
+no_tiplocs = record { extra = λ x. refl; origin = λ o. refl; stop = λ s. refl; change = λ c. refl; terminus = λ t. refl }
 
 no_associations : IsQuiet association_of
-no_associations = record { extra = λ x. refl; origin = λ o. refl; call = by_call; terminus = λ t. refl }
-  where
-    by_call : (c : Call) → association_of (call_record c) ≡ []
-    by_call (At s) = refl
-    by_call (Turn c) = refl
+no_associations = record { extra = λ x. refl; origin = λ o. refl; stop = λ s. refl; change = λ c. refl; terminus = λ t. refl }
 
 no_basics : IsQuiet basic_of
-no_basics = record { extra = λ x. refl; origin = λ o. refl; call = by_call; terminus = λ t. refl }
-  where
-    by_call : (c : Call) → basic_of (call_record c) ≡ []
-    by_call (At s) = refl
-    by_call (Turn c) = refl
+no_basics = record { extra = λ x. refl; origin = λ o. refl; stop = λ s. refl; change = λ c. refl; terminus = λ t. refl }
 
 -- groups have the basics of their schedules, and nothing else of these
 groups_none : {A : Type 0} (f : Record → List A) → IsQuiet f → ((b : Basic) → f (of.Basic b) ≡ []) → (groups : List Record)

@@ -1,6 +1,5 @@
 -- A line of this profile is its own profile line, and its mark says nothing: so an extract of this profile is a published one.
-use Rattle.std.proofs.Common.{◌≡◌, ℕ, ◌+◌, false, cond, List, [], ◌∷◌, ◌++◌, map, drop, get_or, Option, Some}
-use Rattle.std.proofs.Common.{None, refl, sym, ap, ◌∙◌}
+use Rattle.std.proofs.Common.{◌≡◌, ℕ, ◌+◌, false, cond, List, [], ◌∷◌, ◌++◌, map, drop, get_or, Option, Some, None, refl, sym, ap, ◌∙◌}
 use Rattle.std.proofs.Common.{subst, codes, arith, get_or-take, get_or-drop, slice_index}
 use Rattle.std.proofs.lemmas.List.Elements.{All-head, All-tail}
 use Rattle.std.specs.Prelude.{All}
@@ -63,10 +62,7 @@ module _ (allowed : HolidayCodes) where
   own : (c : List ℕ) (r : Record) → SpellsRecord c r → IsOwn c (profile_line_by Full allowed (Some (kind_of r)) c)
   own c (of.Association a) s =
       let ends : is_open 22 c ≡ false = no_open_end (columns 22 27 c) a.last s.1.1.1.1.1.0 in
-      record {
-        line = ap (λ b. cond b (with_columns 22 (yymmdd_of last_day) c) c) ends;
-        says = record { open_end = ends; code = refl };
-      }
+      record { line = ap (λ b. cond b (with_columns 22 (yymmdd_of last_day) c) c) ends; says = record { open_end = ends; code = refl } }
   own c (of.Basic b) s =
       let ends : is_open 16 c ≡ false = no_open_end (columns 16 21 c) b.last s.1.1.1.1.0 in
       let none = no_code c s.1.1.1.1.1.1.0 in
@@ -75,14 +71,7 @@ module _ (allowed : HolidayCodes) where
             ∙ ap (λ b. cond b (with_columns 16 (yymmdd_of last_day) c) c) ends;
         says = record { open_end = ends; code = none };
       }
-  own c (of.Header h) s = record { line = refl; says = tt }
-  own c (of.Tiploc t) s = record { line = refl; says = tt }
-  own c (of.Extra x) s = record { line = refl; says = tt }
-  own c (of.Origin o) s = record { line = refl; says = tt }
-  own c (of.Stop t) s = record { line = refl; says = tt }
-  own c (of.Change t) s = record { line = refl; says = tt }
-  own c (of.Terminus t) s = record { line = refl; says = tt }
-  own c of.Trailer s = record { line = refl; says = tt }
+  own c _ s = record { line = refl; says = tt }
 
   own_line : (c : List ℕ) (r : Record) → SpellsRecord c r → IsOwn c (profile_line Full allowed c)
   own_line c r s = subst (λ (k : Option Kind). IsOwn c (profile_line_by Full allowed k c)) (sym (kind_there c r s)) (own c r s)
@@ -94,12 +83,7 @@ module _ (allowed : HolidayCodes) where
   own_lines [] rs are spell = tt
   own_lines (c ∷ cs) [] are spell = absurd spell
   own_lines (c ∷ cs) (r ∷ rs) are spell = (
-    record {
-      is_line = All-head IsLine c cs are;
-      kind = kind_of r;
-      named = kind_there c r spell.0;
-      line = line_itself c r spell.0;
-    },
+    record { is_line = All-head IsLine c cs are; kind = kind_of r; named = kind_there c r spell.0; line = line_itself c r spell.0 },
     own_lines cs rs (All-tail IsLine c cs are) spell.1,
   )
 
@@ -112,16 +96,12 @@ module _ (allowed : HolidayCodes) where
   association_bare : (number : ℕ) (m : LineMark) (more : List (Numbered RecordMark)) → SaysNothing m → AreBare more
       → AreBare (association_mark number m ++ more)
   association_bare number (mark.Association m) more says rest = (says, rest)
-  association_bare number (mark.Schedule m) more says rest = rest
-  association_bare number (mark.Tiploc m) more says rest = rest
-  association_bare number mark.Nothing more says rest = rest
+  association_bare number _ more says rest = rest
 
   schedule_bare : (number : ℕ) (m : LineMark) (more : List (Numbered RecordMark)) → SaysNothing m → AreBare more
       → AreBare (schedule_mark number m ++ more)
   schedule_bare number (mark.Schedule m) more says rest = (says, rest)
-  schedule_bare number (mark.Association m) more says rest = rest
-  schedule_bare number (mark.Tiploc m) more says rest = rest
-  schedule_bare number mark.Nothing more says rest = rest
+  schedule_bare number _ more says rest = rest
 
   all_bare : (of_mark : ℕ → LineMark → List (Numbered RecordMark))
       → ((number : ℕ) (m : LineMark) (more : List (Numbered RecordMark)) → SaysNothing m → AreBare more

@@ -1,6 +1,5 @@
 -- An extract of this profile is its own prepared extract, and has no other.
-use Rattle.std.proofs.Common.{◌≡◌, ◌↔◌, ℕ, ◌<◌, ◌≤◌, false, List, [], ◌∷◌, ◌++◌, map, None, refl, sym, ap, ◌∙◌, subst}
-use Rattle.std.proofs.Common.{⊎_elim, arith}
+use Rattle.std.proofs.Common.{◌≡◌, ◌↔◌, ℕ, ◌<◌, ◌≤◌, false, List, [], ◌∷◌, ◌++◌, map, None, refl, sym, ap, ◌∙◌, subst, ⊎_elim, arith}
 use Rattle.cif_calendar.specs.Entries.{association_entries, association_entry, schedule_entries, schedule_entry}
 use Rattle.cif_calendar.specs.Terms.{Terms}
 use Rattle.cif_extract.specs.BodyParts.{BodyParts}
@@ -69,13 +68,7 @@ module _ {K B : Type 0} (h : Holidays) (window_last : ℕ) where
 
   is_prepared : (es : List (K × Terms B)) → AreInOrder es → ArePrepared h window_last (map as_they_are es) es
   is_prepared [] up = refl
-  is_prepared (e ∷ es) up = (
-    record { first = e.1.first; last = e.1.last } ∷ [],
-    es,
-    parts-whole h e.1 up.0,
-    refl,
-    is_prepared es up.1,
-  )
+  is_prepared (e ∷ es) up = (record { first = e.1.first; last = e.1.last } ∷ [], es, parts-whole h e.1 up.0, refl, is_prepared es up.1)
 
 module _ (h : Holidays) (window_last : ℕ) where
   associations_in_order : (xs : List Association) → AreInOrder h window_last (association_entries xs)

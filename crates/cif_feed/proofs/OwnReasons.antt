@@ -1,6 +1,6 @@
 -- The reason of a content by itself, and why it is refused behind others.
 use Rattle.std.proofs.Common.{◌≡◌, ◌≢◌, ℕ, ◌+◌, ◌<◌, ◌≤◌, Bool, true, false, cond, nat_eq, nat_lt, List, [], ◌∷◌, ◌++◌, length, Option, Some, None}
-use Rattle.std.proofs.Common.{Ok, Err, refl, sym, ap, ◌∙◌, subst, arith, append_assoc, length-append, ne_eqb}
+use Rattle.std.proofs.Common.{Ok, Err, refl, sym, ap, ◌∙◌, subst, arith, length-append, ne_eqb}
 use Rattle.std.proofs.lemmas.Bool.{eqb-true}
 use Rattle.std.proofs.lemmas.Bool.Decides.{nat_tests}
 use Rattle.std.proofs.lemmas.List.{map-append}
@@ -102,18 +102,13 @@ own_of_refusal max before c why is few ordered =
     at : (f w p : Bool) (o : Option Refusal) → ((x : Refusal) → o ≡ Some x → x ≡ OutOfOrder)
         → first_of (unless f TooManyLines ∷ unless w BadLength ∷ unless p BadByte ∷ o ∷ record_refusal c ∷ []) ≡ Some why
         → first_of (unless w BadLength ∷ unless p BadByte ∷ record_refusal c ∷ []) ≡ Some why
-    at true true true None so is = is
     at true true true (Some x) so is =
         let same : x ≡ why = cc in
         absurd (ordered (sym same ∙ so x refl))
-    at true true false o so is = is
-    at true false p o so is = is
     at false w p o so is = let same : TooManyLines ≡ why = cc in absurd (few (sym same))
+    at _ _ _ _ so is = is
 
 -- ---- contents, one more
-
-pub none_has : NoneHasReason []
-none_has = All-nil (λ (c : List ℕ). own_reason c ≡ None)
 
 pub none_has_more : (cs : List (List ℕ)) (c : List ℕ) → NoneHasReason cs → own_reason c ≡ None → NoneHasReason (cs ++ c ∷ [])
 none_has_more cs c none one =
@@ -159,19 +154,6 @@ module _ (max : ℕ) (cs : List (List ℕ)) (c : List ℕ) (own : own_reason c �
     numbered = numbered;
     reason = line_refusal max cs c (own_none c own) room ∙ out_of_order cs c why is no_record_refusal;
   }
-
--- it is the first, whatever follows
-pub refused_still : (max : ℕ) (cs : List (List ℕ)) (c : List ℕ) (number : ℕ) (why : Refusal) → IsRefusedLine max cs number why
-    → IsRefusedLine max (cs ++ c ∷ []) number why
-refused_still max cs c number why r = record {
-  before = r.before;
-  content = r.content;
-  after = r.after ++ c ∷ [];
-  parts = ap (λ l. l ++ c ∷ []) r.parts ∙ append_assoc r.before (r.content ∷ r.after) (c ∷ []);
-  fine = r.fine;
-  numbered = r.numbered;
-  reason = r.reason;
-}
 
 -- its number is one of theirs
 pub refused_number : (max : ℕ) (cs : List (List ℕ)) (number : ℕ) (why : Refusal) → IsRefusedLine max cs number why

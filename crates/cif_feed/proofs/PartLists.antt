@@ -61,10 +61,7 @@ module _ {B : Type 0} (h : Holidays) (code : Option HolidayCode) (r : Terms B) w
 module _ {B : Type 0} (h : Holidays) (code : HolidayCode) (r : Terms B) where
   -- a holiday of the code, on one of the record's days whose weekday is set, is a cut
   cut-here : (d : ℕ) → r.first ≤ d → d ≤ r.last → IsHolidayOn h code r.days d → IsCut h (Some code) r d
-  cut-here d from upto on = record {
-    applies = record { begun = from; unfinished = upto; on_weekday = on.on_weekday };
-    holiday = on.listed;
-  }
+  cut-here d from upto on = record { applies = record { begun = from; unfinished = upto; on_weekday = on.on_weekday }; holiday = on.listed }
 
   here-cut : (d : ℕ) → IsCut h (Some code) r d → IsHolidayOn h code r.days d
   here-cut d cut = record { listed = cut.holiday; on_weekday = cut.applies.on_weekday }

@@ -1,6 +1,5 @@
 -- What a prepared extract says fits the columns of lines, where the published one does.
-use Rattle.std.proofs.Common.{ℕ, Bool, true, false, cond, max, List, [], ◌∷◌, map, refl, sym}
-use Rattle.std.proofs.Common.{subst, arith}
+use Rattle.std.proofs.Common.{ℕ, Bool, true, false, cond, max, List, [], ◌∷◌, map, refl, sym, subst, arith}
 use Rattle.std.proofs.lemmas.List.Elements.{All-head, All-tail}
 use Rattle.std.specs.Prelude.{All}
 use Rattle.cif_columns.specs.Day.{IsDay}

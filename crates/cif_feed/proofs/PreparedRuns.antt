@@ -76,11 +76,7 @@ module _ {B : Type 0} (h : Holidays) (code : Option HolidayCode) (r : Terms B) (
   -- where the record applies as published, one of its parts applies
   pub part-applies : d ≤ last → AppliesAsPublished h code r d → (p : Part) × Contains parts p × Applies (part_terms r p) d
   part-applies within on = ⊎_elim
-      (λ have. (
-        have.0,
-        have.1,
-        record { begun = have.2; unfinished = have.3; on_weekday = on.applies.on_weekday },
-      ))
+      (λ have. (have.0, have.1, record { begun = have.2; unfinished = have.3; on_weekday = on.applies.on_weekday }))
       (λ cut. absurd (on.no_holiday cut.holiday))
       (are.covered d on.applies.begun within)
 
@@ -173,9 +169,7 @@ module _ {K B : Type 0} (h : Holidays) (window_last : ℕ) where
     }
 
     prepared-match : Match (of_key prepared k) (λ r. CountOn h entries k d r) d
-    prepared-match = record {
-      found = λ s has on. at s on (entry-of_part entries prepared are (k, s) has);
-    }
+    prepared-match = record { found = λ s has on. at s on (entry-of_part entries prepared are (k, s) has) }
       where
         at : (s : Terms B) → Applies s d
             → (e : K × PublishedTerms B) × Contains entries e × (parts : List Part) × HasParts e parts

@@ -1,6 +1,6 @@
 -- No profile line is a trailer but that of a trailer.
-use Rattle.std.proofs.Common.{◌≡◌, ℕ, ◌+◌, ◌-◌, ◌≤◌, Bool, true, false, cond, List, ◌++◌, length, take, drop, Option, Some, None}
-use Rattle.std.proofs.Common.{refl, sym, ap, ◌∙◌, arith, codes, replicate, length-append, length-take, is_some}
+use Rattle.std.proofs.Common.{◌≡◌, ℕ, ◌+◌, ◌-◌, ◌≤◌, Bool, true, false, cond, List, ◌++◌, length, take, drop, Option, Some, None, refl, sym}
+use Rattle.std.proofs.Common.{ap, ◌∙◌, arith, codes, replicate, length-append, length-take, is_some}
 use Rattle.std.proofs.lemmas.List.{take-append-le, take-take}
 use Rattle.std.specs.Prelude.{find, slice_index}
 use Rattle.cif_columns.specs.DayDigits.{yymmdd_of}
@@ -11,10 +11,9 @@ use Rattle.cif_records.specs.Checks.{are}
 use Rattle.cif_records.specs.Kind.{is_identity, kind_in, kinds}
 use Rattle.cif_records.specs.declared.record.Kind.{Kind}
 use Rattle.cif_records.specs.declared.record.Kind.TheVariants.{Hd, Ti, Ta, Td, Aa, Bs, Zz}
-use Rattle.cif_feed.specs.ProfileLine.{profile_line, profile_line_by}
+use Rattle.cif_feed.specs.ProfileLine.{profile_line, profile_line_by, cancelled, closed, is_open, ta_line, ti_line, update_association_by}
+use Rattle.cif_feed.specs.ProfileLine.{update_basic_by, with_columns, without_code}
 use Rattle.cif_feed.specs.LastDay.{last_day}
-use Rattle.cif_feed.specs.ProfileLine.{cancelled, closed, is_open, ta_line, ti_line, update_association_by, update_basic_by, with_columns}
-use Rattle.cif_feed.specs.ProfileLine.{without_code}
 use Rattle.cif_feed.specs.Transaction.{transaction_in}
 use Rattle.cif_feed.specs.declared.feed.Feed.{Feed}
 use Rattle.cif_feed.specs.declared.feed.Feed.TheVariants.{Full, Update}
@@ -100,8 +99,6 @@ module _ (line : List ℕ) where
     by_kind Update (Some Td) none = is_tiploc (ti_line line) ti_kind
     by_kind Update (Some Aa) none = no_trailer _ (by_association (transaction_in (slice_index line 2))) none
     by_kind Update (Some Bs) none = no_trailer _ (by_basic (transaction_in (slice_index line 2))) none
-    by_kind Full None none = none
-    by_kind Update None none = none
     by_kind Full _ none = none
     by_kind Update _ none = none
 

@@ -1,7 +1,6 @@
 -- The lines that are written of an association and of a BS: their profile lines are the plain lines, and their marks say the rest.
 use Rattle.std.proofs.Common.{◌≡◌, ℕ, ◌+◌, ◌-◌, ◌≤◌, Bool, true, false, cond, List, [], ◌∷◌, ◌++◌, length, take, drop, Option, Some, None}
-use Rattle.std.proofs.Common.{refl, sym}
-use Rattle.std.proofs.Common.{ap, ◌∙◌, subst, codes, arith, IsTrue, append_assoc, length-append, length-take, length-drop, lit<}
+use Rattle.std.proofs.Common.{refl, sym, ap, ◌∙◌, subst, codes, arith, IsTrue, append_assoc, length-append, length-take, length-drop, lit<}
 use Rattle.std.proofs.Common.{slice_index}
 use Rattle.std.proofs.lemmas.List.{drop-drop, drop_at, get_or_at, take-append-drop, take_at}
 use Rattle.std.proofs.lemmas.List.Elements.{All-append, All-drop, All-take}
@@ -161,10 +160,6 @@ code_columns (Some code) = letter code ∷ []
 abbrev code_column : Option HolidayCode → ℕ
 code_column None = 32
 code_column (Some code) = letter code
-
-code_wide : (code : Option HolidayCode) → length (code_columns code) ≡ 1
-code_wide None = refl
-code_wide (Some code) = refl
 
 code_back : (allowed : HolidayCodes) (code : HolidayCode) → has_code allowed code ≡ true
     → if_allowed allowed (code_in (letter code)) ≡ Some code

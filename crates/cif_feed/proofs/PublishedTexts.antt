@@ -1,7 +1,6 @@
 -- The text of a published extract spells it.
 use Rattle.std.proofs.Common.{◌≡◌, ℕ, ◌+◌, ◌≤◌, List, [], ◌∷◌, ◌++◌, length, map, Option, Some, None, refl, sym, ap, ◌∙◌, subst, arith}
-use Rattle.std.proofs.Common.{IsTrue}
-use Rattle.std.proofs.Common.{append-nil, append_assoc}
+use Rattle.std.proofs.Common.{IsTrue, append-nil, append_assoc}
 use Rattle.std.proofs.lemmas.List.{map-append}
 use Rattle.std.proofs.lemmas.List.Elements.{All-cons, All-nil, All-head, All-tail}
 use Rattle.std.specs.List.{flat_map}
@@ -41,8 +40,7 @@ use Rattle.cif_feed.specs.OfProfile.{of_profile}
 use Rattle.cif_feed.specs.ProfileLine.{association_mark, profile_line, profile_line_by, schedule_mark}
 use Rattle.cif_feed.specs.PublishedParts.{BytesSpellPublished, IsPublishedAssociation, IsPublishedSchedule, PublishedParts, SayPublished}
 use Rattle.cif_feed.specs.PublishedParts.{SpellPublished, published_association_line, published_basic_line, published_lines}
-use Rattle.cif_feed.specs.PublishedParts.{published_schedule_lines}
-use Rattle.cif_feed.specs.PublishedParts.{published_text}
+use Rattle.cif_feed.specs.PublishedParts.{published_schedule_lines, published_text}
 use Rattle.cif_feed.specs.SpellsFeed.{FeedParts}
 use Rattle.cif_feed.specs.WrittenExtracts.{CodesMayStand}
 use Rattle.cif_feed.specs.declared.feed.Feed.TheVariants.{Full}
@@ -64,11 +62,8 @@ triples-append : {A B C : Type 0} (P : A → B → C → Type 0) (al : List A) (
     (fs : List C)
     → AreTriples P al bs cs → AreTriples P ds es fs → AreTriples P (al ++ ds) (bs ++ es) (cs ++ fs)
 triples-append P [] [] [] ds es fs p q = q
-triples-append P [] [] (c ∷ cs) ds es fs p q = absurd p
-triples-append P [] (b ∷ bs) cs ds es fs p q = absurd p
-triples-append P (a ∷ al) [] cs ds es fs p q = absurd p
-triples-append P (a ∷ al) (b ∷ bs) [] ds es fs p q = absurd p
 triples-append P (a ∷ al) (b ∷ bs) (c ∷ cs) ds es fs p q = (p.0, triples-append P al bs cs ds es fs p.1 q)
+triples-append P _ _ _ ds es fs p q = absurd p
 
 abbrev association_of : PublishedAssociation → Association
 association_of a = a.association
@@ -136,14 +131,7 @@ module _ (allowed : HolidayCodes) where
   quiet : (r : Record) → IsOther r → (c : List ℕ) → IsQuiet (profile_line_by Full allowed (Some (kind_of r)) c).mark
   quiet (of.Association a) other c = absurd other
   quiet (of.Basic b) other c = absurd other
-  quiet (of.Header h) other c = record { associations = λ n. refl; schedules = λ n. refl }
-  quiet (of.Tiploc t) other c = record { associations = λ n. refl; schedules = λ n. refl }
-  quiet (of.Extra x) other c = record { associations = λ n. refl; schedules = λ n. refl }
-  quiet (of.Origin o) other c = record { associations = λ n. refl; schedules = λ n. refl }
-  quiet (of.Stop s) other c = record { associations = λ n. refl; schedules = λ n. refl }
-  quiet (of.Change x) other c = record { associations = λ n. refl; schedules = λ n. refl }
-  quiet (of.Terminus t) other c = record { associations = λ n. refl; schedules = λ n. refl }
-  quiet of.Trailer other c = record { associations = λ n. refl; schedules = λ n. refl }
+  quiet _ other c = record { associations = λ n. refl; schedules = λ n. refl }
 
   other_one : (r : Record) → IsOther r → AllFit (record_table r)
       → IsBlock (plain_line (record_table r) ∷ []) (plain_line (record_table r) ∷ []) [] []
@@ -331,9 +319,8 @@ module _ (allowed : HolidayCodes) where
 
     read_are : (cs ls : List (List ℕ)) → AreReadAs allowed cs ls → All IsLine cs
     read_are [] [] r = All-nil IsLine
-    read_are [] (l ∷ ls) r = absurd r
-    read_are (c ∷ cs) [] r = absurd r
     read_are (c ∷ cs) (l ∷ ls) r = All-cons IsLine c cs r.0.is_line (read_are cs ls r.1)
+    read_are _ _ r = absurd r
 
     pub published-lines : contents_of (published_text p) ≡ published_lines p
     published-lines = contents-lines_text (published_lines p) (read_are (published_lines p) (extract_lines (of_profile p)) whole.reads)
@@ -362,22 +349,16 @@ may_any ss = λ k d below code is. any code
 said_associations : (xs : List Association) (ms : List (Numbered RecordMark)) (al : List PublishedAssociation)
     → AreTriples IsPublishedAssociation xs ms al → map association_of al ≡ xs
 said_associations [] [] [] t = refl
-said_associations [] [] (a ∷ al) t = absurd t
-said_associations [] (m ∷ ms) al t = absurd t
-said_associations (x ∷ xs) [] al t = absurd t
-said_associations (x ∷ xs) (m ∷ ms) [] t = absurd t
 said_associations (x ∷ xs) (m ∷ ms) (a ∷ al) t =
     ap (λ y. y ∷ map association_of al) t.0.of_profile ∙ ap (λ ys. x ∷ ys) (said_associations xs ms al t.1)
+said_associations _ _ _ t = absurd t
 
 said_schedules : (xs : List Schedule) (ms : List (Numbered RecordMark)) (ss : List PublishedSchedule)
     → AreTriples IsPublishedSchedule xs ms ss → map schedule_of ss ≡ xs
 said_schedules [] [] [] t = refl
-said_schedules [] [] (s ∷ ss) t = absurd t
-said_schedules [] (m ∷ ms) ss t = absurd t
-said_schedules (x ∷ xs) [] ss t = absurd t
-said_schedules (x ∷ xs) (m ∷ ms) [] t = absurd t
 said_schedules (x ∷ xs) (m ∷ ms) (s ∷ ss) t =
     ap (λ y. y ∷ map schedule_of ss) t.0.of_profile ∙ ap (λ ys. x ∷ ys) (said_schedules xs ms ss t.1)
+said_schedules _ _ _ t = absurd t
 
 -- a published extract says the records of its profile lines
 said_profile : (lines : FeedParts) (p : PublishedParts) → SayPublished lines p → of_profile p ≡ lines.extract

@@ -51,13 +51,10 @@ module _ {A B C : Type 0} (P : A → B → C → Type 0) (one : (x : A) (y : B) 
   pub same_triples : (xs : List A) (ys : List B) (zs ws : List C) → AreTriples P xs ys zs → AreTriples P xs ys ws → zs ≡ ws
   same_triples [] [] [] [] p q = refl
   same_triples [] [] [] (w ∷ ws) p q = absurd q
-  same_triples [] [] (z ∷ zs) ws p q = absurd p
-  same_triples [] (y ∷ ys) zs ws p q = absurd p
-  same_triples (x ∷ xs) [] zs ws p q = absurd p
-  same_triples (x ∷ xs) (y ∷ ys) [] ws p q = absurd p
   same_triples (x ∷ xs) (y ∷ ys) (z ∷ zs) [] p q = absurd q
   same_triples (x ∷ xs) (y ∷ ys) (z ∷ zs) (w ∷ ws) p q =
       ap (λ v. v ∷ zs) (one x y z w p.0 q.0) ∙ ap (λ vs. w ∷ vs) (same_triples xs ys zs ws p.1 q.1)
+  same_triples _ _ _ _ p q = absurd p
 
 one_said : (lines : FeedParts) (p q : PublishedParts) → SayPublished lines p → SayPublished lines q → p ≡ q
 one_said lines p q s t =

@@ -1,5 +1,5 @@
 -- An update is what its lines say, and there is one at most.
-use Rattle.std.proofs.Common.{◌≡◌, ℕ, List, [], ◌∷◌, Option, Some, None, Result, Ok, Err, IfOk, IfSome, refl, sym, ap, ◌∙◌, subst}
+use Rattle.std.proofs.Common.{◌≡◌, ℕ, List, Option, Some, None, Result, Ok, Err, IfOk, IfSome, sym, ap, ◌∙◌, subst}
 use Rattle.cif_columns.specs.Contents.{contents_of}
 use Rattle.cif_records.specs.declared.header.Header.{Header}
 use Rattle.cif_records.specs.declared.tiploc.Tiploc.{Tiploc}

@@ -1,7 +1,6 @@
 -- Bytes that spell a published extract, or an update, aren't refused, and spell no other.
-use Rattle.std.proofs.Common.{◌≡◌, ℕ, ◌<◌, ◌≤◌, Bool, true, false, cond, not, ◌&&◌, List, [], ◌∷◌, ◌++◌, length, filter, map, Option}
-use Rattle.std.proofs.Common.{Some, None, IfErr, IfOk, IfSome, Result, Ok, Err, refl, sym, ap, ◌∙◌, subst, arith, get_or, length-append}
-use Rattle.std.proofs.Common.{⊎_elim}
+use Rattle.std.proofs.Common.{◌≡◌, ℕ, ◌<◌, ◌≤◌, Bool, true, false, cond, not, ◌&&◌, List, [], ◌∷◌, ◌++◌, length, filter, map, Option, Some}
+use Rattle.std.proofs.Common.{None, IfErr, IfOk, IfSome, Result, Ok, Err, refl, sym, ap, ◌∙◌, subst, arith, get_or, length-append, ⊎_elim}
 use Rattle.std.proofs.lemmas.List.{map-append}
 use Rattle.std.proofs.lemmas.List.Elements.{All-cons, All-head, All-nil, All-tail, filter-append}
 use Rattle.std.proofs.Math.Seq.{get_or-append_seam, take-append_seam}
@@ -25,7 +24,7 @@ use Rattle.cif_feed.specs.FeedRefusal.{IsFeedContent, IsFeedTruncated, IsFirstOf
 use Rattle.cif_feed.specs.SpellsFeed.{BytesSpellFeed, FeedParts, SpellFeed, feed_parts}
 use Rattle.cif_feed.specs.declared.feed.Feed.{Feed}
 use Rattle.cif_feed.specs.declared.feed.FeedFault.{FeedFault}
-use Rattle.cif_feed.specs.declared.feed.FeedFault.TheVariants.{Extract, NotUpdate, BadTransaction, NotThere, AlreadyThere}
+use Rattle.cif_feed.specs.declared.feed.FeedFault.TheVariants.{Extract, NotUpdate, BadTransaction}
 use Rattle.cif_feed.specs.declared.holiday_code.HolidayCodes.{HolidayCodes}
 use Rattle.cif_feed.specs.declared.feed_reading.FeedExtract.{FeedExtract}
 use Rattle.cif_feed.specs.declared.feed_reading.Passed.{Passed}
@@ -134,17 +133,11 @@ module _ (feed : Feed) (allowed : HolidayCodes) (max : ℕ) where
   read_as bytes x s after (Ok p) ok err = one_feed (contents_of bytes) (feed_parts p) x ok.spell s.spell
   read_as bytes x s after (Err (Extract (fault.Refused line why))) ok err =
       absurd (spelled_first (contents_of bytes) x s.within _ s.spell err.0)
-  read_as bytes x s after (Err (Extract (fault.Ambiguous clash))) ok err = absurd err
-  read_as bytes x s after (Err (Extract fault.WindowsDiffer)) ok err = absurd err
-  read_as bytes x s after (Err (Extract fault.OutsideWindow)) ok err = absurd err
-  read_as bytes x s after (Err (Extract fault.WindowReversed)) ok err = absurd err
   read_as bytes x s after (Err (Extract fault.Read)) ok err = tt
-  read_as bytes x s after (Err (Extract fault.Write)) ok err = absurd err
   read_as bytes x s after (Err (Extract fault.Memory)) ok err = tt
   read_as bytes x s after (Err (NotUpdate line)) ok err = absurd (spelled_first (contents_of bytes) x s.within _ s.spell err.0)
   read_as bytes x s after (Err (BadTransaction line)) ok err = absurd (spelled_first (contents_of bytes) x s.within _ s.spell err.0)
-  read_as bytes x s after (Err (NotThere line)) ok err = absurd err
-  read_as bytes x s after (Err (AlreadyThere line)) ok err = absurd err
+  read_as bytes x s after (Err _) ok err = absurd err
 
   -- the same of bytes that may be known
   pub only_feed : (start : Option (List ℕ)) (after : Unread) (result : Result FeedExtract FeedFault)

@@ -1,7 +1,6 @@
 -- The profile line of a line is a line. So what a feed says fits the columns of lines.
-use Rattle.std.proofs.Common.{ℕ, ◌≤◌, Bool, true, false, cond, List, length, codes, replicate, Option, Some, None, is_some, arith}
-use Rattle.std.proofs.Common.{lit≤, slice_index, refl, ◌-◌, ◌+◌, ◌==◌}
-use Rattle.std.proofs.Common.{filter}
+use Rattle.std.proofs.Common.{ℕ, ◌≤◌, Bool, true, false, cond, List, length, codes, replicate, Option, Some, None, is_some, arith, lit≤}
+use Rattle.std.proofs.Common.{slice_index, refl, ◌-◌, ◌+◌, ◌==◌, filter}
 use Rattle.std.proofs.lemmas.List.Elements.{All-map, All-replicate, All-weaker}
 use Rattle.std.specs.Prelude.{All}
 use Rattle.cif_columns.specs.DayDigits.{yymmdd_of}
@@ -18,8 +17,8 @@ use Rattle.cif_records.specs.declared.record.Kind.{Kind}
 use Rattle.cif_records.specs.declared.record.Kind.TheVariants.{Hd, Ti, Ta, Td, Aa, Bs}
 use Rattle.cif_feed.specs.FeedRefusal.{IsFeedContent}
 use Rattle.cif_feed.specs.LastDay.{last_day}
-use Rattle.cif_feed.specs.ProfileLine.{cancelled, closed, code_of, is_open, is_record_line, profile_line, profile_line_by}
-use Rattle.cif_feed.specs.ProfileLine.{profile_lines, ta_line, ti_line, update_association_by, update_basic_by, with_columns, without_code}
+use Rattle.cif_feed.specs.ProfileLine.{cancelled, closed, code_of, is_open, is_record_line, profile_line, profile_line_by, profile_lines}
+use Rattle.cif_feed.specs.ProfileLine.{ta_line, ti_line, update_association_by, update_basic_by, with_columns, without_code}
 use Rattle.cif_feed.specs.SpellsFeed.{FeedParts, SpellFeed}
 use Rattle.cif_feed.specs.Transaction.{transaction_in}
 use Rattle.cif_feed.specs.declared.feed.Feed.{Feed}
@@ -105,8 +104,6 @@ module _ (allowed : HolidayCodes) (c : List ℕ) (is : IsLine c) where
   by_kind Update (Some Td) = ti
   by_kind Update (Some Aa) = by_association (transaction_in (slice_index c 2))
   by_kind Update (Some Bs) = by_basic (transaction_in (slice_index c 2))
-  by_kind Full None = is
-  by_kind Update None = is
   by_kind Full _ = is
   by_kind Update _ = is
 

@@ -1,5 +1,5 @@
 -- Lines that are told once, one after another.
-use Rattle.std.proofs.Common.{◌≡◌, ℕ, ◌==◌, Bool, cond, List, [], ◌∷◌, ◌++◌, refl, sym, ap, ◌∙◌, append-nil, append_assoc}
+use Rattle.std.proofs.Common.{◌≡◌, ℕ, ◌==◌, cond, List, [], ◌∷◌, ◌++◌, refl, sym, ap, ◌∙◌, append-nil, append_assoc}
 use Rattle.cif_feed.specs.Steps.Changes.{last_line}
 use Rattle.cif_feed.specs.Updated.{told_once}
 use Rattle.cif_feed.specs.declared.changes.RefusedLine.{RefusedLine}

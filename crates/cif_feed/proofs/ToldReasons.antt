@@ -18,19 +18,7 @@ use Rattle.cif_feed.specs.declared.reasons.Reasons.{Reasons}
 
 pub number_within : (why : Refusal) → (1 ≤ number_of why) × (number_of why ≤ 14)
 number_within refusal.BadLength = (omega arith, omega arith)
-number_within refusal.BadByte = (omega arith, omega arith)
-number_within refusal.UnknownRecord = (omega arith, omega arith)
-number_within refusal.OutOfOrder = (omega arith, omega arith)
-number_within refusal.NotFull = (omega arith, omega arith)
-number_within refusal.BadDate = (omega arith, omega arith)
-number_within refusal.OpenEnd = (omega arith, omega arith)
-number_within refusal.DatesReversed = (omega arith, omega arith)
-number_within refusal.BadDays = (omega arith, omega arith)
-number_within refusal.BankHoliday = (omega arith, omega arith)
-number_within refusal.BadStp = (omega arith, omega arith)
-number_within refusal.BadTime = (omega arith, omega arith)
-number_within refusal.Truncated = (omega arith, omega arith)
-number_within refusal.TooManyLines = (omega arith, omega arith)
+number_within _ = (omega arith, omega arith)
 
 -- ---- a test of elements
 

@@ -1,5 +1,5 @@
 -- An update that was read is done, or a line of it is refused.
-use Rattle.std.proofs.Common.{◌≡◌, ℕ, Bool, true, false, List, [], ◌∷◌, ◌++◌, Option, Some, None, Result, Ok, Err, IfOk, IfErr, IfSome, refl, sym}
+use Rattle.std.proofs.Common.{◌≡◌, ℕ, Bool, false, List, [], ◌++◌, Option, Some, None, Result, Ok, Err, IfOk, IfErr, IfSome, sym}
 use Rattle.std.proofs.Common.{ap, ◌∙◌, subst, ⊎_elim, slice_get, true≢false}
 use Rattle.cif_columns.specs.Source.{Unread}
 use Rattle.cif_feed.specs.Changes.{AreRefused, changes_of, with_keys}
@@ -11,7 +11,7 @@ use Rattle.cif_feed.specs.Updated.{AreRefusedLines, IsUpdateFault, IsUpdated, Is
 use Rattle.cif_feed.specs.declared.changes.Change.{Change}
 use Rattle.cif_feed.specs.declared.changes.RefusedLine.{RefusedLine}
 use Rattle.cif_feed.specs.declared.feed.FeedFault.{FeedFault}
-use Rattle.cif_feed.specs.declared.feed.FeedFault.TheVariants.{Extract, NotUpdate, BadTransaction, NotThere, AlreadyThere}
+use Rattle.cif_feed.specs.declared.feed.FeedFault.TheVariants.{NotThere, AlreadyThere}
 use Rattle.cif_feed.specs.declared.update.Outcome.{Outcome}
 use Rattle.cif_feed.specs.declared.update.Update.{Update}
 use Rattle.cif_feed.proofs.ChangeLaws.{refusals-alike, same_alike}
@@ -56,9 +56,7 @@ module _ (lenient : Bool) (max : ℕ) (old new : PublishedParts) (u : UpdatePart
       record { strict = is.0; update = u; spelled = spelled; lines = waived; refused = refused; first = is.1 }
   done_fault (Some bytes) after (Err (AlreadyThere line)) spelled is =
       record { strict = is.0; update = u; spelled = spelled; lines = waived; refused = refused; first = is.1 }
-  done_fault (Some bytes) after (Err (Extract f)) spelled is = absurd is
-  done_fault (Some bytes) after (Err (NotUpdate line)) spelled is = absurd is
-  done_fault (Some bytes) after (Err (BadTransaction line)) spelled is = absurd is
+  done_fault (Some bytes) after (Err _) spelled is = absurd is
 
   -- an update that may be done is
   may_be : (v : UpdateParts) → u ≡ v → MayBeDone lenient old v → (line : RefusedLine) → lenient ≡ false → slice_get waived 0 ≡ Some line → ⊥
@@ -76,9 +74,7 @@ module _ (lenient : Bool) (max : ℕ) (old new : PublishedParts) (u : UpdatePart
   done_only (Some bytes) (Ok done) only is = λ v s may. tt
   done_only (Some bytes) (Err (NotThere line)) only is = λ v s may. absurd (may_be v (only v s) may _ is.0 is.1)
   done_only (Some bytes) (Err (AlreadyThere line)) only is = λ v s may. absurd (may_be v (only v s) may _ is.0 is.1)
-  done_only (Some bytes) (Err (Extract f)) only is = absurd is
-  done_only (Some bytes) (Err (NotUpdate line)) only is = absurd is
-  done_only (Some bytes) (Err (BadTransaction line)) only is = absurd is
+  done_only (Some bytes) (Err _) only is = absurd is
 
 -- an update that can't be read
 module _ (lenient : Bool) (max : ℕ) (old : PublishedParts) where

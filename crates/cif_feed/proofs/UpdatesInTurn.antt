@@ -1,6 +1,5 @@
 -- Updates that are done one after another, in one run or in two.
-use Rattle.std.proofs.Common.{◌≡◌, ◌↔◌, ℕ, ◌≤◌, Bool, List, [], ◌∷◌, ◌++◌, length, Some, refl, sym, ap, ◌∙◌, subst}
-use Rattle.std.proofs.Common.{inr, ⊎_elim}
+use Rattle.std.proofs.Common.{◌≡◌, ◌↔◌, ℕ, ◌≤◌, Bool, List, [], ◌∷◌, ◌++◌, length, Some, refl, sym, ap, ◌∙◌, subst, inr, ⊎_elim}
 use Rattle.std.proofs.Common.{append_assoc, slice_get}
 use Rattle.std.proofs.lemmas.List.{append_cancel_left}
 use Rattle.cif_columns.specs.Contents.{contents_of}
@@ -84,10 +83,7 @@ module _ (lenient : Bool) (max : ℕ) where
       let same = one_by old u mid mid₂ first first₂ one one₂ in
       let rest = one_done mid us p q others others₂ more
       (subst (λ m. AreUpdatesDone lenient max m us q others₂) (sym same.parts) more₂) in
-      record {
-        parts = rest.parts;
-        lines = all ∙ ap (λ l. l ++ others) same.lines ∙ ap (λ l. first₂ ++ l) rest.lines ∙ sym all₂;
-      }
+      record { parts = rest.parts; lines = all ∙ ap (λ l. l ++ others) same.lines ∙ ap (λ l. first₂ ++ l) rest.lines ∙ sym all₂ }
 
   -- what fits stays such
   done_fits : (old : PublishedParts) (us : List (List ℕ)) (new : PublishedParts) (w : List RefusedLine)

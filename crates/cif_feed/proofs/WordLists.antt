@@ -9,7 +9,7 @@ use Rattle.std.proofs.Math.ListN.{drop_of_length-le}
 use Rattle.std.proofs.lemmas.List.{at_drop_more, get_or-drop, nil_from_length, take_all}
 use Rattle.std.proofs.lemmas.List.Folds.{length-prefix_len}
 use Rattle.std.proofs.lemmas.List.Splits.{slice_split_first, slice_split_none}
-use Rattle.std.proofs.lemmas.List.Sums.{fails_before_first, passes_at_first, position_or_len_is, prefix_len-le-length}
+use Rattle.std.proofs.lemmas.List.Sums.{fails_before_first, passes_at_first, position_or_len_is}
 use Rattle.cif_feed.specs.Words.{is_space, words_in}
 
 pub words-none : words_in [] ≡ []
@@ -52,12 +52,6 @@ module _ (xs : List ℕ) where
 
   front_long : length front ≡ place
   front_long = length-prefix_len (λ b. not (is_space b)) xs
-
-  place_within : place ≤ length xs
-  place_within = prefix_len-le-length (λ b. not (is_space b)) xs
-
-  pub front_within : length front ≤ length xs
-  front_within = omega (arith, front_long, place_within)
 
   space_there : place < length xs → get_or xs place 0 ≡ 32
   space_there below = eqb-true (get_or xs place 0) 32 (passes_at_first is_space xs 0 below)

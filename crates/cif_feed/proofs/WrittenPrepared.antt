@@ -1,7 +1,6 @@
 -- A prepared extract that was written, or why it wasn't.
-use Rattle.std.proofs.Common.{◌≡◌, ◌↔◌, ℕ, Bool, true, false, List, [], Option, Some, None, Result, Ok, Err, IfErr, IfOk}
-use Rattle.std.proofs.Common.{IfSome}
-use Rattle.std.proofs.Common.{IsTrue, refl, sym, ap, ◌∙◌, subst}
+use Rattle.std.proofs.Common.{◌≡◌, ◌↔◌, ℕ, Bool, true, false, List, [], Option, Some, None, Result, Ok, Err, IfErr, IfOk, IfSome, IsTrue}
+use Rattle.std.proofs.Common.{refl, sym, ap, ◌∙◌, subst}
 use Rattle.cif_columns.specs.Contents.{contents_of}
 use Rattle.cif_columns.specs.Field.{AllFit}
 use Rattle.cif_columns.specs.Source.{Unread}
@@ -19,8 +18,7 @@ use Rattle.cif_feed.specs.HolidayCode.{has_code}
 use Rattle.cif_feed.specs.Holidays.{Names}
 use Rattle.cif_feed.specs.PublishedParts.{BytesSpellPublished, PublishedParts, published_parts}
 use Rattle.cif_feed.specs.SpellsFeed.{passed_of}
-use Rattle.cif_feed.specs.WrittenPrepared.{FeedWrites, IsDeviceOrMemory, IsDroppedIf, IsPrepareFault, IsPreparedAs}
-use Rattle.cif_feed.specs.WrittenPrepared.{IsPreparedText}
+use Rattle.cif_feed.specs.WrittenPrepared.{FeedWrites, IsDeviceOrMemory, IsDroppedIf, IsPrepareFault, IsPreparedAs, IsPreparedText}
 use Rattle.cif_feed.specs.WrittenPrepared.{IsReadOf, Prepares, WritesPrepared, codes_named}
 use Rattle.cif_feed.specs.declared.feed.Feed.TheVariants.{Full}
 use Rattle.cif_feed.specs.declared.feed.FeedFault.{FeedFault}

@@ -5,7 +5,6 @@ use Rattle.cif_columns.specs.Contents.{contents_of, lines_text}
 use Rattle.cif_columns.specs.Field.{plain_line}
 use Rattle.cif_extract.specs.Texts.{body_tables, rows_on}
 use Rattle.cif_calendar.specs.Entries.{association_terms, schedule_terms}
-use Rattle.cif_calendar.specs.Terms.{Terms}
 use Rattle.cif_extract.specs.BodyParts.{BodyParts}
 use Rattle.cif_extract.specs.declared.extract.Schedule.{Schedule}
 use Rattle.cif_records.specs.Association.{association_table}

@@ -13,7 +13,6 @@ use Rattle.cif_feed.specs.HolidayCode.{all_codes}
 use Rattle.cif_feed.specs.PublishedParts.{IsPublishedAssociation, IsPublishedSchedule}
 use Rattle.cif_feed.specs.RecordKeys.{tiploc_key}
 use Rattle.cif_feed.specs.SpellsFeed.{FeedParts, SpellFeed}
-use Rattle.cif_feed.specs.declared.changes.Action.{Action}
 use Rattle.cif_feed.specs.declared.changes.Action.TheVariants.{New, Revised, Deleted}
 use Rattle.cif_feed.specs.declared.changes.Change.{Change}
 use Rattle.cif_feed.specs.declared.feed.Feed.TheVariants.{Update}

@@ -1,5 +1,5 @@
 -- What the reading of a feed has come to, content by content.
-use Rattle.std.specs.Prelude.{◌≡◌, ℕ, ◌+◌, Bool, true, false, not, ◌&&◌, List, [], ◌∷◌, ◌++◌, Some, None, Result, Ok, Err, filter, length}
+use Rattle.std.specs.Prelude.{◌≡◌, ℕ, ◌+◌, true, false, not, ◌&&◌, List, [], ◌∷◌, ◌++◌, Some, None, Result, Ok, Err}
 use Rattle.std.specs.List.{list_any}
 use Rattle.cif_columns.specs.Comment.{is_comment}
 use Rattle.cif_columns.specs.Line.{IsLine}
@@ -11,13 +11,12 @@ use Rattle.cif_extract.specs.SpellsExtract.{SpellExtract}
 use Rattle.cif_extract.specs.Taken.{HasTaken}
 use Rattle.cif_extract.specs.declared.reading.TakeFault.{TakeFault}
 use Rattle.cif_extract.specs.declared.reading.TakeFault.TheVariants.{Refused, Memory}
-use Rattle.cif_feed.specs.ProfileLine.{association_mark, is_basic, is_note, is_trailer, marks, profile_lines, schedule_mark, tiploc_mark}
+use Rattle.cif_feed.specs.ProfileLine.{association_mark, is_basic, is_trailer, marks, profile_lines, schedule_mark, tiploc_mark}
 use Rattle.cif_feed.specs.SpellsFeed.{passed_of}
 use Rattle.cif_feed.specs.FeedRefusal.{line_refusal}
 use Rattle.cif_feed.specs.declared.feed.Feed.{Feed}
 use Rattle.cif_feed.specs.declared.feed_reading.FeedExtract.{FeedExtract}
 use Rattle.cif_feed.specs.declared.feed_reading.FeedReading.{FeedReading}
-use Rattle.cif_feed.specs.declared.feed_reading.Passed.{Passed}
 use Rattle.cif_feed.specs.declared.holiday_code.HolidayCodes.{HolidayCodes}
 use Rattle.cif_feed.specs.declared.mark.LineMark.{LineMark}
 use Rattle.cif_feed.specs.declared.mark.Numbered.{Numbered}

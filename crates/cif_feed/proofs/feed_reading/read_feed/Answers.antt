@@ -1,7 +1,6 @@
 -- The invariant names the contents so far: one more (`feed_line`, `feed_comment`), one refused (`at_feed_line`) and the end are profile_line of
 -- them all.
-use Rattle.std.proofs.Common.{◌≡◌, ◌+◌, ◌<◌, ◌≤◌, length, [], ◌++◌, ◌∷◌, IfSome}
-use Rattle.std.proofs.Common.{◌∙◌, ap, arith, refl, subst, sym}
+use Rattle.std.proofs.Common.{◌≡◌, ◌+◌, ◌<◌, ◌≤◌, length, [], ◌++◌, ◌∷◌, IfSome, ◌∙◌, ap, arith, refl, subst, sym}
 use Rattle.cif_columns.proofs.GivenLinesLaws.{known_both, nothing_left, reading_decides, reading_ends, reading_faults, reading_starts}
 use Rattle.cif_columns.proofs.PassedLines.{next_passed}
 use Rattle.cif_columns.proofs.ReadSources.{read_nothing, read_on_both}

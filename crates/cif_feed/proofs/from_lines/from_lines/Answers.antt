@@ -1,9 +1,7 @@
 -- The last of the records and of the marks go to the front of what is made.
-use Rattle.std.proofs.Common.{◌≡◌, ◌++◌, ◌∷◌, [], List, ap, refl, sym, ◌∙◌, subst, append-nil, append_assoc, arith, reverse}
+use Rattle.std.proofs.Common.{◌≡◌, ◌++◌, ◌∷◌, [], ap, sym, ◌∙◌, subst, append-nil, append_assoc, arith}
 use Rattle.std.proofs.lemmas.List.{nil_from_length, reverse-append}
-use Rattle.cif_feed.specs.FromLines.{ArePairs, AreTriples}
-use Rattle.cif_feed.specs.declared.mark.Numbered.{Numbered}
-use Rattle.cif_feed.specs.declared.mark.RecordMark.{RecordMark}
+use Rattle.cif_feed.specs.FromLines.{ArePairs}
 use Rattle.cif_feed.proofs.LinesMade.{pairs_last, pairs_none, pairs_some}
 use Rattle.cif_feed.proofs.from_lines.from_lines.Goals as goal
 

@@ -16,14 +16,6 @@ returns-clause-clear g c = λ h window_last entries prepared k d are closed with
 
 pub returns-clause-counts : goal.returns-clause-counts
 returns-clause-counts g c = λ h entries k d r. (
-  λ counted. (
-    counted.0.open_end,
-    counted.0.code,
-    counted.0.listed,
-    record { applies = counted.1; no_holiday = counted.0.no_holiday },
-  ),
-  λ some. (
-    record { open_end = some.0; code = some.1; listed = some.2; no_holiday = some.3.no_holiday },
-    some.3.applies,
-  ),
+  λ counted. (counted.0.open_end, counted.0.code, counted.0.listed, record { applies = counted.1; no_holiday = counted.0.no_holiday }),
+  λ some. (record { open_end = some.0; code = some.1; listed = some.2; no_holiday = some.3.no_holiday }, some.3.applies),
 )

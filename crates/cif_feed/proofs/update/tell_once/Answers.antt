@@ -1,5 +1,5 @@
 -- One line more is told, or not (`told-more`).
-use Rattle.std.proofs.Common.{◌≡◌, ◌∙◌, ◌++◌, ◌∷◌, [], ◌==◌, ℕ, ◌+◌, Bool, true, false, cond, ap, sym, refl, take, get_or, append-nil, append_assoc, eq-eqb, ne_eqb}
+use Rattle.std.proofs.Common.{◌≡◌, ◌∙◌, ◌++◌, ◌∷◌, [], ◌==◌, ℕ, ◌+◌, false, cond, ap, sym, take, get_or, append-nil, append_assoc, eq-eqb, ne_eqb}
 use Rattle.std.proofs.lemmas.List.{take_all, take_more}
 use Rattle.cif_feed.specs.Steps.Changes.{last_line}
 use Rattle.cif_feed.specs.Updated.{told_once}

@@ -1,10 +1,7 @@
 -- The last of the locations and of the marks go to the front.
-use Rattle.std.proofs.Common.{◌≡◌, ◌++◌, ◌∷◌, [], List, ap, refl, sym, ◌∙◌, subst, append-nil, append_assoc, arith, length, length-append, reverse}
+use Rattle.std.proofs.Common.{◌≡◌, ◌++◌, ◌∷◌, [], ap, refl, sym, ◌∙◌, append-nil, append_assoc, arith, length, length-append, reverse}
 use Rattle.std.proofs.lemmas.List.{nil_from_length, reverse-append, reverse-reverse}
-use Rattle.cif_records.specs.declared.tiploc.Tiploc.{Tiploc}
 use Rattle.cif_feed.specs.UpdateParts.{tiploc_changes, tiploc_changes_by}
-use Rattle.cif_feed.specs.declared.mark.Numbered.{Numbered}
-use Rattle.cif_feed.specs.declared.mark.TiplocMark.{TiplocMark}
 use Rattle.cif_feed.proofs.update.tiploc_changes.Goals as goal
 
 pub loop-tiploc-init : goal.loop-tiploc-init

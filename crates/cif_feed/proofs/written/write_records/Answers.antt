@@ -1,5 +1,4 @@
 -- Five texts, one after another: all are written, or one has failed.
-use Rattle.std.proofs.Common.{◌++◌, List, ℕ}
 use Rattle.std.specs.List.{flat_map}
 use Rattle.cif_columns.proofs.WrittenTexts.{failed_first, writes_err, writes_on}
 use Rattle.cif_feed.specs.Steps.Written.{head_text, tiploc_text, trailer_text}

@@ -1,6 +1,5 @@
 -- The text is that of the line with those that were taken, and of the others.
-use Rattle.std.proofs.Common.{◌≡◌, ◌++◌, Some, ℕ, List, ap, subst, ◌∙◌, map}
-use Rattle.cif_columns.specs.Contents.{lines_text}
+use Rattle.std.proofs.Common.{◌++◌, Some, ℕ, List, ap, subst, ◌∙◌, map}
 use Rattle.cif_columns.specs.Field.{plain_line}
 use Rattle.cif_columns.specs.Sink.{HasFailed, HasWritten}
 use Rattle.cif_columns.proofs.WrittenTexts.{writes_err}

@@ -1,8 +1,7 @@
 -- Each kind of records is changed by itself.
-use Rattle.std.proofs.Common.{◌≡◌, ◌∙◌, ◌++◌, List, [], ap, refl, sym, append_assoc}
+use Rattle.std.proofs.Common.{◌∙◌, refl, append_assoc}
 use Rattle.cif_feed.specs.Steps.Changes.{last_line}
 use Rattle.cif_feed.specs.Updated.{told_once}
-use Rattle.cif_feed.specs.declared.changes.RefusedLine.{RefusedLine}
 use Rattle.cif_feed.proofs.ToldLines.{told-three}
 use Rattle.cif_feed.proofs.published_extract.PublishedExtract.update.Goals as goal
 
