@@ -89,31 +89,17 @@ header_by letters indicator first last = first_of (
 same_association : (l a b c d e f : List ℕ) → columns 1 2 l ≡ a → columns 3 3 l ≡ b → columns 16 21 l ≡ c → columns 22 27 l ≡ d
     → columns 28 34 l ≡ e → columns 80 80 l ≡ f → association_refusal l ≡ association_by a b c d e f
 unfolding association_refusal
-same_association l a b c d e f ha hb hc hd he hf =
-    ap (λ v. association_by v (columns 3 3 l) (columns 16 21 l) (columns 22 27 l) (columns 28 34 l) (columns 80 80 l)) ha
-    ∙ ap (λ v. association_by a v (columns 16 21 l) (columns 22 27 l) (columns 28 34 l) (columns 80 80 l)) hb
-    ∙ ap (λ v. association_by a b v (columns 22 27 l) (columns 28 34 l) (columns 80 80 l)) hc
-    ∙ ap (λ v. association_by a b c v (columns 28 34 l) (columns 80 80 l)) hd
-    ∙ ap (λ v. association_by a b c d v (columns 80 80 l)) he ∙ ap (λ v. association_by a b c d e v) hf
+same_association l a b c d e f ha hb hc hd he hf = rw (ha, hb, hc, hd, he, hf) refl
 
 same_basic : (l a b c d e f g : List ℕ) → columns 1 2 l ≡ a → columns 3 3 l ≡ b → columns 10 15 l ≡ c → columns 16 21 l ≡ d
     → columns 22 28 l ≡ e → columns 29 29 l ≡ f → columns 80 80 l ≡ g → basic_refusal l ≡ basic_by a b c d e f g
 unfolding basic_refusal
-same_basic l a b c d e f g ha hb hc hd he hf hg =
-    ap (λ v. basic_by v (columns 3 3 l) (columns 10 15 l) (columns 16 21 l) (columns 22 28 l) (columns 29 29 l) (columns 80 80 l)) ha
-    ∙ ap (λ v. basic_by a v (columns 10 15 l) (columns 16 21 l) (columns 22 28 l) (columns 29 29 l) (columns 80 80 l)) hb
-    ∙ ap (λ v. basic_by a b v (columns 16 21 l) (columns 22 28 l) (columns 29 29 l) (columns 80 80 l)) hc
-    ∙ ap (λ v. basic_by a b c v (columns 22 28 l) (columns 29 29 l) (columns 80 80 l)) hd
-    ∙ ap (λ v. basic_by a b c d v (columns 29 29 l) (columns 80 80 l)) he
-    ∙ ap (λ v. basic_by a b c d e v (columns 80 80 l)) hf ∙ ap (λ v. basic_by a b c d e f v) hg
+same_basic l a b c d e f g ha hb hc hd he hf hg = rw (ha, hb, hc, hd, he, hf, hg) refl
 
 same_header : (l a b c d : List ℕ) → columns 1 2 l ≡ a → columns 47 47 l ≡ b → columns 49 54 l ≡ c → columns 55 60 l ≡ d
     → header_refusal l ≡ header_by a b c d
 unfolding header_refusal
-same_header l a b c d ha hb hc hd =
-    ap (λ v. header_by v (columns 47 47 l) (columns 49 54 l) (columns 55 60 l)) ha
-    ∙ ap (λ v. header_by a v (columns 49 54 l) (columns 55 60 l)) hb ∙ ap (λ v. header_by a b v (columns 55 60 l)) hc
-    ∙ ap (λ v. header_by a b c v) hd
+same_header l a b c d ha hb hc hd = rw (ha, hb, hc, hd) refl
 
 -- ---- dates
 

@@ -45,20 +45,18 @@ module _ (allowed : HolidayCodes) where
 
   pub speak : (cs ls : List (List ℕ)) → AreReadAs cs ls → filter is_record_line cs ≡ cs
   speak [] [] r = refl
-  speak [] (l ∷ ls) r = absurd r
-  speak (c ∷ cs) [] r = absurd r
   speak (c ∷ cs) (l ∷ ls) r =
       ap (λ b. cond b (c ∷ filter is_record_line cs) (filter is_record_line cs)) (speaks c l r.0) ∙ ap (λ k. c ∷ k) (speak cs ls r.1)
+  speak _ _ r = absurd r
 
   -- so each of them has its number among those that aren't
   numbered : (n : ℕ) (cs ls : List (List ℕ)) → AreReadAs cs ls
       → filter (λ (x : ℕ × List ℕ). is_record_line x.1) (enumerate_from n cs) ≡ enumerate_from n cs
   numbered n [] [] r = refl
-  numbered n [] (l ∷ ls) r = absurd r
-  numbered n (c ∷ cs) [] r = absurd r
   numbered n (c ∷ cs) (l ∷ ls) r =
       let rest = filter (λ (x : ℕ × List ℕ). is_record_line x.1) (enumerate_from (n + 1) cs) in
       ap (λ b. cond b ((n, c) ∷ rest) rest) (speaks c l r.0) ∙ ap (λ k. (n, c) ∷ k) (numbered (n + 1) cs ls r.1)
+  numbered n _ _ r = absurd r
 
   -- the marks of contents that are numbered from here
   abbrev pub marks_from : {A : Type 0} → (ℕ → LineMark → List A) → ℕ → List (List ℕ) → List A
@@ -71,26 +69,23 @@ module _ (allowed : HolidayCodes) where
 
   lines : (cs ls : List (List ℕ)) → AreReadAs cs ls → map (λ (c : List ℕ). (profile_line Full allowed c).line) cs ≡ ls
   lines [] [] r = refl
-  lines [] (l ∷ ls) r = absurd r
-  lines (c ∷ cs) [] r = absurd r
   lines (c ∷ cs) (l ∷ ls) r =
       ap (λ k. k ∷ map (λ (d : List ℕ). (profile_line Full allowed d).line) cs) r.0.line ∙ ap (λ k. l ∷ k) (lines cs ls r.1)
+  lines _ _ r = absurd r
 
   pub read_lines : (cs ls : List (List ℕ)) → AreReadAs cs ls → profile_lines Full allowed cs ≡ ls
   read_lines cs ls r = ap (map (λ (c : List ℕ). (profile_line Full allowed c).line)) (speak cs ls r) ∙ lines cs ls r
 
   are_contents : (cs ls : List (List ℕ)) → AreReadAs cs ls → All IsFeedContent cs
   are_contents [] [] r = All-nil IsFeedContent
-  are_contents [] (l ∷ ls) r = absurd r
-  are_contents (c ∷ cs) [] r = absurd r
   are_contents (c ∷ cs) (l ∷ ls) r = All-cons IsFeedContent c cs (inl r.0.is_line) (are_contents cs ls r.1)
+  are_contents _ _ r = absurd r
 
   no_notes : (cs ls : List (List ℕ)) → AreReadAs cs ls → All (λ c. is_note c ≡ false) cs
   no_notes [] [] r = All-nil (λ c. is_note c ≡ false)
-  no_notes [] (l ∷ ls) r = absurd r
-  no_notes (c ∷ cs) [] r = absurd r
   no_notes (c ∷ cs) (l ∷ ls) r =
       All-cons (λ c. is_note c ≡ false) c cs (named_line c r.0.kind r.0.named).1 (no_notes cs ls r.1)
+  no_notes _ _ r = absurd r
 
   -- what the contents say, where their profile lines say this extract
   abbrev pub parts_read : List (List ℕ) → ExtractParts → FeedParts

@@ -119,8 +119,7 @@ module _ {A : Type 0} (f : Record → List A) (quiet : IsQuiet f) where
       at (Some d) (Some b) has =
           quiet_journey are.journey (record { origin = b.origin; calls = b.calls; terminus = b.terminus; are = has.2 })
       at None None has = ⊎_elim (λ none. ap (flat_map f) none) (λ j. quiet_journey are.journey j) has
-      at (Some d) None has = absurd has
-      at None (Some b) has = absurd has
+      at _ _ has = absurd has
 
 -- ---- an open end
 
@@ -316,8 +315,6 @@ module _ (feed : Feed) (allowed : HolidayCodes) where
   fit_all : (ns : List (ℕ × List ℕ)) → All IsLine (map (λ (n : ℕ × List ℕ). n.1) ns) → (rs : List Record)
       → SpellAll (map (λ (content : List ℕ). (profile_line feed allowed content).line) (map (λ (n : ℕ × List ℕ). n.1) ns)) rs → FitAll ns rs
   fit_all [] are [] spell = record { tiplocs = refl; associations = tt; schedules = tt }
-  fit_all [] are (r ∷ rs) spell = absurd spell
-  fit_all (n ∷ ns) are [] spell = absurd spell
   fit_all (n ∷ ns) are (r ∷ rs) spell =
       let c = n.1 in
       let others = map (λ (x : ℕ × List ℕ). x.1) ns in
@@ -335,6 +332,7 @@ module _ (feed : Feed) (allowed : HolidayCodes) where
         associations = pairs-append _ (association_of r) (of_one association_mark n) _ _ one.associations more.associations;
         schedules = pairs-append _ (basic_of r) (of_one schedule_mark n) _ _ one.schedules more.schedules;
       }
+  fit_all _ are _ spell = absurd spell
 
 pub record_lines : (cs : List (List ℕ)) → All IsFeedContent cs → All IsLine (filter is_record_line cs)
 record_lines [] are = All-nil IsLine

@@ -117,18 +117,16 @@ module _ (allowed : HolidayCodes) where
   bare_associations : (xs : List Association) (ms : List (Numbered RecordMark)) → ArePairs (IsClosed last_of_association) xs ms → AreBare ms
       → AreTriples IsPublishedAssociation xs ms (map association_as_published xs)
   bare_associations [] [] p bare = tt
-  bare_associations [] (m ∷ ms) p bare = absurd p
-  bare_associations (x ∷ xs) [] p bare = absurd p
   bare_associations (x ∷ xs) (m ∷ ms) p bare =
       (record { of_profile = refl; open_end = sym bare.0.open_end }, bare_associations xs ms p.1 bare.1)
+  bare_associations _ _ p bare = absurd p
 
   bare_schedules : (xs : List Schedule) (ms : List (Numbered RecordMark)) → ArePairs (IsClosed last_of_schedule) xs ms → AreBare ms
       → AreTriples IsPublishedSchedule xs ms (map schedule_as_published xs)
   bare_schedules [] [] p bare = tt
-  bare_schedules [] (m ∷ ms) p bare = absurd p
-  bare_schedules (x ∷ xs) [] p bare = absurd p
   bare_schedules (x ∷ xs) (m ∷ ms) p bare =
       (record { of_profile = refl; open_end = sym bare.0.open_end; code = sym bare.0.code }, bare_schedules xs ms p.1 bare.1)
+  bare_schedules _ _ p bare = absurd p
 
   own_says : (cs : List (List ℕ)) (x : ExtractParts) → All IsLine cs → SpellExtract cs x
       → SayPublished (parts_read allowed cs x) (as_published x)
