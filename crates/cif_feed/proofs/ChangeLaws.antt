@@ -1,6 +1,6 @@
 -- What changes leave of each key, and in which order.
-use Rattle.std.proofs.Common.{◌≡◌, ◌↔◌, Bool, true, false, not, cond, ◌&&◌, ◌||◌, List, [], ◌∷◌, ◌++◌, Option, None, Some, refl, sym, ap, ◌∙◌}
-use Rattle.std.proofs.Common.{append_assoc, append-nil, IsTrue}
+use Rattle.std.proofs.Common.{◌≡◌, ◌↔◌, Bool, true, false, not, cond, ◌&&◌, ◌||◌, List, [], ◌∷◌, ◌++◌, Option, None, Some, refl, sym, ap}
+use Rattle.std.proofs.Common.{◌∙◌, append_assoc, append-nil, IsTrue}
 use Rattle.std.specs.Cmp.{IsEquivalence}
 use Rattle.std.specs.Ordering.{eq_by_cmp}
 use Rattle.std.specs.declared.cmp.Ordering.{Ordering}
@@ -16,8 +16,7 @@ module _ {A : Type 0} where
   filter-filter p q [] = refl
   filter-filter p q (x ∷ xs) = at (q x) (filter-filter p q xs)
     where
-      at : (b : Bool) → filter p (filter q xs) ≡ filter (λ y. q y && p y) xs
-          → filter p (cond b (x ∷ filter q xs) (filter q xs))
+      at : (b : Bool) → filter p (filter q xs) ≡ filter (λ y. q y && p y) xs → filter p (cond b (x ∷ filter q xs) (filter q xs))
           ≡ cond (b && p x) (x ∷ filter (λ y. q y && p y) xs) (filter (λ y. q y && p y) xs)
       at true more = ap (λ l. cond (p x) (x ∷ l) l) more
       at false more = more
@@ -89,8 +88,7 @@ module _ {K I : Type 0} (same : K → K → Bool) where
       all [] = refl
       all (r ∷ rs) = ap (λ l. r ∷ l) (all rs)
   after_all-untouched records (c ∷ changes) =
-      after_all-untouched (after same records c) changes
-      ∙ ap (λ l. l ++ put_last same changes)
+      after_all-untouched (after same records c) changes ∙ ap (λ l. l ++ put_last same changes)
       (filter-append (λ (r : K × I). not (is_changed same changes r.0)) (without same records c.key) (put c.key c.puts)
       ∙ ap (λ l. l ++ filter (λ (r : K × I). not (is_changed same changes r.0)) (put c.key c.puts))
       (filter-filter (λ (r : K × I). not (is_changed same changes r.0)) (λ r. not (same r.0 c.key)) records
@@ -150,7 +148,8 @@ module _ {K : Type 0} where
         ap (λ l. l ++ put c.key c.puts)
         (filter-alike (λ (r : K × I). not (p r.0 c.key)) (λ r. not (q r.0 c.key)) (λ r. ap not (agree r.0 c.key)) records)
 
-    pub after_all-alike : (records : List (K × I)) (changes : List (ChangeParts K I)) → after_all p records changes ≡ after_all q records changes
+    pub after_all-alike : (records : List (K × I)) (changes : List (ChangeParts K I)) → after_all p records changes
+        ≡ after_all q records changes
     after_all-alike records [] = refl
     after_all-alike records (c ∷ changes) =
         after_all-alike (after p records c) changes ∙ ap (λ l. after_all q l changes) (after-alike records c)
@@ -160,7 +159,8 @@ module _ {K : Type 0} where
     there-alike (r ∷ records) key =
         ap (λ b. b || is_there p records key) (agree r.0 key) ∙ ap (λ b. q r.0 key || b) (there-alike records key)
 
-    pub refusals-alike : (records : List (K × I)) (changes : List (ChangeParts K I)) → refusals p records changes ≡ refusals q records changes
+    pub refusals-alike : (records : List (K × I)) (changes : List (ChangeParts K I)) → refusals p records changes
+        ≡ refusals q records changes
     refusals-alike records [] = refl
     refusals-alike records (c ∷ changes) =
         ap (λ b. refusal b c ++ refusals p (after p records c) changes) (there-alike records c.key)

@@ -169,8 +169,7 @@ module _ {K I : Type 0} (same : K → K → Bool) (laws : IsEquivalence same) wh
             ≡ (is_changed same changes key && (is_there same records key || (b || false)))
         at key true one =
             let no : is_changed same changes key ≡ false = sym (changed-same changes r.0 key one) ∙ apart in
-            ap (λ v. v && is_there same records key) no
-            ∙ ap (λ v. v && (is_there same records key || (true || false))) (sym no)
+            ap (λ v. v && is_there same records key) no ∙ ap (λ v. v && (is_there same records key || (true || false))) (sym no)
         at key false other = ap (λ v. is_changed same changes key && v) (none (is_there same records key))
 
   pub says-there : (records : List (K × I)) (changes : List (ChangeParts K I)) (there : K → Option Bool)
@@ -191,8 +190,7 @@ module _ {K I : Type 0} (same : K → K → Bool) (laws : IsEquivalence same) wh
       at false = sym (any-filter (λ (r : K × I). same r.0 key) records)
 
   pub says-after : (records : List (K × I)) (changes : List (ChangeParts K I)) (c : ChangeParts K I) (old new : K → Option Bool)
-      → SaysThere same records changes old
-      → ((key : K) → new key ≡ cond (same c.key key) (Some (is_some c.puts)) (old key))
+      → SaysThere same records changes old → ((key : K) → new key ≡ cond (same c.key key) (Some (is_some c.puts)) (old key))
       → SaysThere same (after same records c) changes new
   says-after records changes c old new so_far is = record {
     says = λ key changed. ap (λ o. unwrap_or o false) (is key) ∙ at key (same c.key key) changed
@@ -262,7 +260,8 @@ module _ {K R : Type 0} (key : R → K) where
     change-changed same laws =
         list_any_at (λ (c : ChangeParts K R). same (parts_of key x).key c.key) (changes_of key xs) i (parts_of key x)
         (omega (arith, length-map xs (parts_of key)))
-        (ap (λ (c : ChangeParts K R). same (parts_of key x).key c.key) (get_or-map (parts_of key) xs i x (parts_of key x) below ∙ ap (parts_of key) (sym is))
+        (ap (λ (c : ChangeParts K R). same (parts_of key x).key c.key)
+        (get_or-map (parts_of key) xs i x (parts_of key x) below ∙ ap (parts_of key) (sym is))
         ∙ laws.refl (parts_of key x).key)
 
   pub records-more : (xs : List R) (i : ℕ) (x : R) → i < length xs → x ≡ get_or xs i x
@@ -310,7 +309,8 @@ module _ {K R : Type 0} (key : R → K) where
       ∙ append_assoc (with_keys key records) (cond (is_changed same rest c.key) [] (put c.key c.puts)) (put_last same rest)
 
   -- the change that comes after so many is the last of its key or not
-  pub last-of_all : (same : K → K → Bool) → IsEquivalence same → (all : List (Change K R)) (x : Change K R) (others : List (Change K R)) (n : ℕ)
+  pub last-of_all : (same : K → K → Bool) → IsEquivalence same
+      → (all : List (Change K R)) (x : Change K R) (others : List (Change K R)) (n : ℕ)
       (last : K → Option ℕ) → AreLast same (changes_of key all) last → x ∷ others ≡ drop n all → n ≤ length all
       → is_position (last (parts_of key x).key) n ≡ not (is_changed same (changes_of key others) (parts_of key x).key)
   last-of_all same laws all x others n last are rest within =

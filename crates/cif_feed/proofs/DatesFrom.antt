@@ -1,6 +1,6 @@
 -- What is found among dates from a place on.
-use Rattle.std.proofs.Common.{◌≡◌, ℕ, ◌+◌, ◌-◌, ◌<◌, ◌≤◌, Bool, List, length, get_or, drop, None, Some, sym, ap, ◌∙◌, subst, arith, Contains, ⊎_elim}
-use Rattle.std.proofs.Common.{length-drop}
+use Rattle.std.proofs.Common.{◌≡◌, ℕ, ◌+◌, ◌-◌, ◌<◌, ◌≤◌, Bool, List, length, get_or, drop, None, Some, sym, ap, ◌∙◌, subst, arith}
+use Rattle.std.proofs.Common.{Contains, ⊎_elim, length-drop}
 use Rattle.std.proofs.lemmas.Bool.{cases_lt}
 use Rattle.std.proofs.lemmas.List.{get_or-drop, get_or_default}
 use Rattle.std.specs.List.Sorted.{IsNonDecreasing}
@@ -46,10 +46,8 @@ module _ (dates later : List ℕ) (days : List Bool) (from place index : ℕ) (r
   none-found last behind d early late = passed d early (λ there. let b = behind there in omega arith)
 
   -- the date at the index is found where its weekday is in the mask
-  pub date-found : (last date : ℕ) → index < length later → date ≡ get_or later index 0 → date ≤ last
-      → RunsOn days (weekday_of date)
-      → ((k : ℕ) → place ≤ k → k < length dates → from ≤ get_or dates k 0)
-      → IsFirstFrom (IsDateOnDaysRun dates days) from last (Some date)
+  pub date-found : (last date : ℕ) → index < length later → date ≡ get_or later index 0 → date ≤ last → RunsOn days (weekday_of date)
+      → ((k : ℕ) → place ≤ k → k < length dates → from ≤ get_or dates k 0) → IsFirstFrom (IsDateOnDaysRun dates days) from last (Some date)
   date-found last date there at upto on after =
       let below : place + index < length dates = omega (arith, long) in
       let same : date ≡ get_or dates (place + index) 0 = at ∙ at_later index in (

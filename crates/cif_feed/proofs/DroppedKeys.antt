@@ -1,6 +1,6 @@
 -- The keys that are told, and what is left without them.
-use Rattle.std.proofs.Common.{◌≡◌, ◌↔◌, ℕ, ◌+◌, ◌<◌, Bool, true, false, cond, List, [], ◌++◌, Some, map, take, length, get_or, Contains, IsTrue}
-use Rattle.std.proofs.Common.{refl, sym, ap, ap₂, ◌∙◌, subst}
+use Rattle.std.proofs.Common.{◌≡◌, ◌↔◌, ℕ, ◌+◌, ◌<◌, Bool, true, false, cond, List, [], ◌++◌, Some, map, take, length, get_or, Contains}
+use Rattle.std.proofs.Common.{IsTrue, refl, sym, ap, ap₂, ◌∙◌, subst}
 use Rattle.std.specs.Prelude.{filter, not, ◌||◌}
 use Rattle.std.specs.List.{list_any}
 use Rattle.std.specs.Option.{option_map}
@@ -12,7 +12,8 @@ use Rattle.std.proofs.lemmas.Simd.{map-map}
 use Rattle.cif_calendar.specs.AllClashes.{association_clash, train_clash}
 use Rattle.cif_calendar.specs.ByKey.{HasKey}
 use Rattle.cif_calendar.specs.Clashes.{AreClashes, told}
-use Rattle.cif_calendar.specs.Entries.{association_entries, association_entry, association_terms, schedule_entries, schedule_entry, schedule_terms}
+use Rattle.cif_calendar.specs.Entries.{association_entries, association_entry, association_terms, schedule_entries, schedule_entry}
+use Rattle.cif_calendar.specs.Entries.{schedule_terms}
 use Rattle.cif_calendar.specs.Keys.{keyed, of_key}
 use Rattle.cif_calendar.specs.Terms.{SameRecords, Terms}
 use Rattle.cif_calendar.specs.declared.key_clashes.KeyClash.{KeyClash}
@@ -33,7 +34,8 @@ use Rattle.cif_feed.specs.PreparedRecord.{terms_on}
 use Rattle.cif_feed.specs.Steps.Dropping.{AreTold, are_of, is_of}
 use Rattle.cif_feed.specs.declared.prepared_record.PreparedRecord.{PreparedRecord}
 use Rattle.cif_feed.specs.declared.published_extract.PublishedExtract.{PublishedExtract}
-use Rattle.cif_feed.proofs.ListSteps.{Contains-from_map, Contains-map, any-has, any-map, any-of, filter-has, filter-of, iff-by, left-of, map-filter, not-tells, right-of}
+use Rattle.cif_feed.proofs.ListSteps.{Contains-from_map, Contains-map, any-has, any-map, any-of, filter-has, filter-of, iff-by, left-of}
+use Rattle.cif_feed.proofs.ListSteps.{map-filter, not-tells, right-of}
 
 -- ---- which keys are told
 
@@ -221,5 +223,4 @@ module _ (old new : ExtractParts) (clashes : List Clash) (is : AreDropped old cl
   trains-without =
       let told = is.told in
       clear-without schedule_entry (IsToldTrain clashes) old.schedules new.schedules is.schedules (slice_cmp nat_cmp)
-      old.header.first old.header.last told.trains told.of_trains
-      (train-told clashes told.associations told.trains told.are)
+      old.header.first old.header.last told.trains told.of_trains (train-told clashes told.associations told.trains told.are)

@@ -3,7 +3,8 @@ use Rattle.std.proofs.Common.{◌≡◌, ℕ, ◌+◌, Bool, true, false, cond, 
 use Rattle.std.specs.List.{enumerate_from}
 
 -- one more element
-pub enumerate_more : {A : Type 0} (n : ℕ) (xs : List A) (x : A) → enumerate_from n (xs ++ x ∷ []) ≡ enumerate_from n xs ++ (n + length xs, x) ∷ []
+pub enumerate_more : {A : Type 0} (n : ℕ) (xs : List A) (x : A) → enumerate_from n (xs ++ x ∷ [])
+    ≡ enumerate_from n xs ++ (n + length xs, x) ∷ []
 enumerate_more n [] x = ap (λ (k : ℕ). (k, x) ∷ []) (omega arith)
 enumerate_more n (y ∷ ys) x =
     ap (λ l. (n, y) ∷ l) (enumerate_more (n + 1) ys x

@@ -290,8 +290,7 @@ module _ (c : List ℕ) (is_line : IsLine c) where
         let s-before = before 47 (replicate 33 32) c (lit≤ tt) spare_fits in
         let s-behind = behind 47 (replicate 33 32) c (lit≤ tt) spare_fits in
         same_association (with_columns 3 (codes "N") undated) (codes "AA") (codes "N") (columns 16 21 c) (yymmdd_of last_day)
-        (codes "0000000")
-        (columns 80 80 c)
+        (codes "0000000") (columns 80 80 c)
         (n-before 1 2 (lit≤ tt) (lit≤ tt) (lit< tt) ∙ d-before 1 2 (lit≤ tt) (lit≤ tt) (lit< tt)
         ∙ i-before 1 2 (lit≤ tt) (lit≤ tt) (lit< tt)
         ∙ s-before 1 2 (lit≤ tt) (lit≤ tt) (lit< tt) ∙ letters)
@@ -367,8 +366,7 @@ module _ (c : List ℕ) (is_line : IsLine c) where
         (front 10 15 (lit≤ tt) (lit≤ tt) (lit< tt) ∙ keep 10 15 (lit≤ tt) (lit≤ tt) (lit< tt) ∙ same 10 15 (lit≤ tt) (lit≤ tt))
         (front 16 21 (lit≤ tt) (lit≤ tt) (lit< tt))
         (front 22 28 (lit≤ tt) (lit≤ tt) (lit< tt) ∙ after 22 28 (lit≤ tt) ∙ same 22 28 (lit≤ tt) (lit≤ tt))
-        refl
-        (uncoded-behind code m m_wide 80 80 (lit≤ tt) ∙ after 80 80 (lit≤ tt) ∙ same 80 80 (lit≤ tt) (lit≤ tt))
+        refl (uncoded-behind code m m_wide 80 80 (lit≤ tt) ∙ after 80 80 (lit≤ tt) ∙ same 80 80 (lit≤ tt) (lit≤ tt))
         ∙ ap (λ r. first_of (unless (are third (codes "N")) NotFull ∷ r ∷ days_refusal (columns 22 28 c)
         ∷ unless (are (columns 29 29 (without_code code m)) (codes " ")) BankHoliday ∷ letter_refusal c ∷ []))
         (closed-dates 16 (lit≤ tt) (lit≤ tt) l l_wide (columns 10 15 c) (six_columns 10 15 (lit≤ tt) (lit≤ tt) (lit≤ tt) refl)
@@ -450,8 +448,7 @@ module _ (c : List ℕ) (is_line : IsLine c) where
         let s-before = before 29 (replicate 51 32) (cancelled c) (lit≤ tt) bare_fits in
         let s-behind = behind 29 (replicate 51 32) (cancelled c) (lit≤ tt) bare_fits in
         same_basic (with_columns 3 (codes "N") dateless) (codes "BS") (codes "N") (columns 10 15 c) (yymmdd_of last_day)
-        (codes "0000000") (codes " ")
-        (columns 80 80 (cancelled c))
+        (codes "0000000") (codes " ") (columns 80 80 (cancelled c))
         (n-before 1 2 (lit≤ tt) (lit≤ tt) (lit< tt) ∙ d-before 1 2 (lit≤ tt) (lit≤ tt) (lit< tt)
         ∙ i-before 1 2 (lit≤ tt) (lit≤ tt) (lit< tt)
         ∙ s-before 1 2 (lit≤ tt) (lit≤ tt) (lit< tt) ∙ cancelled-before 1 2 (lit≤ tt) (lit≤ tt) (lit< tt) ∙ letters)
@@ -471,8 +468,7 @@ module _ (c : List ℕ) (is_line : IsLine c) where
         ∙ ap (λ r. first_of (date_refusal (columns 10 15 c) ∷ r ∷ [])) cancelled-letter
 
   basic_by_transaction : (allowed : HolidayCodes) (t : Option Transaction) → transaction_in (slice_index c 2) ≡ t
-      → columns 1 2 c ≡ codes "BS"
-      → basic_refusal (update_basic_by allowed t c).line ≡ update_basic_refusal allowed t c
+      → columns 1 2 c ≡ codes "BS" → basic_refusal (update_basic_by allowed t c).line ≡ update_basic_refusal allowed t c
   basic_by_transaction allowed None e letters =
       basic_put allowed c wide (columns 3 3 c) refl itself letters
       ∙ ap (λ b. first_of (unless b NotFull ∷ open_dates_refusal (columns 10 15 c) (columns 16 21 c) ∷ days_refusal (columns 22 28 c)
@@ -512,8 +508,7 @@ module _ (c : List ℕ) (is_line : IsLine c) where
       let one : length d ≡ 1 = indicator_wide b in
       let fit : 47 - 1 + length d ≤ length c = omega (arith, one, wide) in
       same_header (with_columns 47 d c) (codes "HD") (take 1 d) (columns 49 54 c) (columns 55 60 c)
-      (before 47 d c (lit≤ tt) fit 1 2 (lit≤ tt) (lit≤ tt) (lit< tt) ∙ letters)
-      (there 47 d c (lit≤ tt) fit 47 (omega (arith, one)))
+      (before 47 d c (lit≤ tt) fit 1 2 (lit≤ tt) (lit≤ tt) (lit< tt) ∙ letters) (there 47 d c (lit≤ tt) fit 47 (omega (arith, one)))
       (behind 47 d c (lit≤ tt) fit 49 54 (omega (arith, one))) (behind 47 d c (lit≤ tt) fit 55 60 (omega (arith, one)))
       ∙ ap (λ v. first_of (unless v NotFull ∷ header_date_refusal (columns 49 54 c) ∷ header_date_refusal (columns 55 60 c)
       ∷ unless (are_in_order (ddmmyy_in (columns 49 54 c)) (ddmmyy_in (columns 55 60 c))) DatesReversed ∷ [])) (indicator b ∙ is_update)

@@ -1,6 +1,6 @@
 -- What the contents of a feed so far have come to, and how its reading ends.
-use Rattle.std.proofs.Common.{◌≡◌, ◌≢◌, ℕ, ◌+◌, ◌<◌, ◌≤◌, Bool, true, false, cond, nat_eq, nat_lt, List, [], ◌∷◌, ◌++◌, length, take, Option}
-use Rattle.std.proofs.Common.{Some, None, IfErr, IfOk, IfSome, IsSomeAnd, Result, Ok, Err, refl, sym, ap, ◌∙◌, arith, append_assoc}
+use Rattle.std.proofs.Common.{◌≡◌, ◌≢◌, ℕ, ◌+◌, ◌<◌, ◌≤◌, Bool, true, false, cond, nat_eq, nat_lt, List, [], ◌∷◌, ◌++◌, length, take}
+use Rattle.std.proofs.Common.{Option, Some, None, IfErr, IfOk, IfSome, IsSomeAnd, Result, Ok, Err, refl, sym, ap, ◌∙◌, arith, append_assoc}
 use Rattle.std.proofs.Common.{below_more, codes, filter, get_or, inl, inr, length-append, map, ne_eqb, true≢false}
 use Rattle.std.proofs.lemmas.Bool.Decides.{nat_tests}
 use Rattle.std.proofs.lemmas.List.{append_cancel_left, get_or_append_left, take-append-le}
@@ -14,8 +14,8 @@ use Rattle.std.specs.Prelude.{All, slice_index_or}
 use Rattle.cif_columns.specs.Comment.{is_comment}
 use Rattle.cif_columns.specs.Contents.{HasLineReason, IsFirstContent, contents_of}
 use Rattle.cif_columns.specs.FirstLine.{first_content, is_printable}
-use Rattle.cif_columns.specs.GivenLines.{AreAllContents, AreContentsToFailure, AreContentsToFault, AreContentsToRefusal, AreWholeContentsAndRest}
-use Rattle.cif_columns.specs.GivenLines.{IsContentDecidedOrLast, IsReadingContents, KnownContents}
+use Rattle.cif_columns.specs.GivenLines.{AreAllContents, AreContentsToFailure, AreContentsToFault, AreContentsToRefusal}
+use Rattle.cif_columns.specs.GivenLines.{AreWholeContentsAndRest, IsContentDecidedOrLast, IsReadingContents, KnownContents}
 use Rattle.cif_columns.specs.Line.{IsLine}
 use Rattle.cif_columns.specs.LineReader.{HasPassedComment, IsNext, IsNoComment, left}
 use Rattle.cif_columns.specs.Source.{HasReadOn, Unread, reader_of, source_ended}
@@ -142,7 +142,8 @@ module _ (feed : Feed) (allowed : HolidayCodes) (max : ℕ) where
           ∷ unless printable refusal.BadByte ∷ line_refusal feed allowed cs c ∷ [])) ∷ []) ≡ None
           → IsFeedContent c
       at true comment few wide printable ew ep e = inr (sym comment)
-      at false comment true true true ew ep e = inl (record { width = eqb-true (length c) 80 (sym ew); printable = printable_fact c (sym ep) })
+      at false comment true true true ew ep e =
+          inl (record { width = eqb-true (length c) 80 (sym ew); printable = printable_fact c (sym ep) })
       at false comment _ _ _ ew ep e = absurd (cc)
 
   -- and so each of contents none of which is refused
@@ -172,7 +173,8 @@ module _ (feed : Feed) (allowed : HolidayCodes) (max : ℕ) where
   -- a line is a trailer where its profile line is
   no_trailer_one : (c : List ℕ) → IsNoTrailer (profile_line feed allowed c).line → IsNoTrailer c
   no_trailer_one c none is =
-      let same : profile_line feed allowed c ≡ as_it_stands c = ap (λ kind. profile_line_by feed allowed kind c) is ∙ plain_trailer feed c in
+      let same : profile_line feed allowed c ≡ as_it_stands c = ap (λ kind. profile_line_by feed allowed kind c) is
+      ∙ plain_trailer feed c in
       none (rw same is)
 
   silent_one : (c : List ℕ) → is_record_line c ≡ false → IsNoTrailer c
@@ -186,10 +188,12 @@ module _ (feed : Feed) (allowed : HolidayCodes) (max : ℕ) where
   no_trailers (c ∷ cs) all = at (is_record_line c) refl all (no_trailers cs)
     where
       at : (b : Bool) → b ≡ is_record_line c
-          → All IsNoTrailer (map (λ (content : List ℕ). (profile_line feed allowed content).line) (cond b (c ∷ filter is_record_line cs) (filter is_record_line cs)))
+          → All IsNoTrailer (map (λ (content : List ℕ). (profile_line feed allowed content).line)
+          (cond b (c ∷ filter is_record_line cs) (filter is_record_line cs)))
           → (All IsNoTrailer (profile_lines feed allowed cs) → All IsNoTrailer cs) → All IsNoTrailer (c ∷ cs)
       at true e all more =
-          All-cons IsNoTrailer c cs (no_trailer_one c (All-head IsNoTrailer (profile_line feed allowed c).line (profile_lines feed allowed cs) all))
+          All-cons IsNoTrailer c cs (no_trailer_one c (All-head IsNoTrailer (profile_line feed allowed c).line
+          (profile_lines feed allowed cs) all))
           (more (All-tail IsNoTrailer (profile_line feed allowed c).line (profile_lines feed allowed cs) all))
       at false e all more = All-cons IsNoTrailer c cs (silent_one c (sym e)) (more all)
 
@@ -198,8 +202,7 @@ module _ (feed : Feed) (allowed : HolidayCodes) (max : ℕ) where
   module _ (start : Option (List ℕ)) (cs : List (List ℕ)) (fine : NoneOfFeedRefused feed allowed max cs) where
     -- at a line that is refused
     pub at_feed_line : {R : Type 0} (remaining : R → Option (List ℕ)) (reader : LineReader) (source : Source R) (c : List ℕ) (number : ℕ)
-        (why : Refusal)
-        → IsReadingContents IsFeedContent remaining start max reader source (cs ++ c ∷ []) → number ≡ length cs + 1
+        (why : Refusal) → IsReadingContents IsFeedContent remaining start max reader source (cs ++ c ∷ []) → number ≡ length cs + 1
         → feed_refusal feed allowed max cs c ≡ Some why
         → IfSome start (λ bytes. IsFirstOfFeed feed allowed max (contents_of bytes) (fault_for feed number (kind_in c) why))
     at_feed_line remaining reader source c number why so_far is reason = at start (left remaining reader source) so_far.known
@@ -372,8 +375,7 @@ module _ {R : Type 0} (remaining : R → Option (List ℕ)) (errors : R → Opti
       (next.answer going)) next.past_now next.limit_now next.counted
 
   -- a comment; where the bytes aren't known, any
-  pub feed_comment : HasPassedComment remaining errors reader source reader' source'
-      → (comment : List ℕ) × (is_comment comment ≡ true)
+  pub feed_comment : HasPassedComment remaining errors reader source reader' source' → (comment : List ℕ) × (is_comment comment ≡ true)
       × IsReadingContents IsFeedContent remaining start max reader' source' (cs ++ comment ∷ [])
   feed_comment passed =
       let (comment, is, found) = at (left remaining reader source) passed.comment in (

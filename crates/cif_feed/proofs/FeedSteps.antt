@@ -21,8 +21,8 @@ use Rattle.cif_records.specs.Checks.{are, unless}
 use Rattle.cif_records.specs.Kind.{is_identity, kind_in, kinds}
 use Rattle.cif_records.specs.declared.record.Kind.{Kind}
 use Rattle.cif_records.specs.declared.record.Kind.TheVariants.{Li}
-use Rattle.cif_feed.specs.ProfileLine.{as_it_stands, association_mark, is_basic, is_note, is_record_line, is_trailer, marks, notes_may_stand}
-use Rattle.cif_feed.specs.ProfileLine.{profile_line, profile_line_by, profile_lines, schedule_mark, tiploc_mark}
+use Rattle.cif_feed.specs.ProfileLine.{as_it_stands, association_mark, is_basic, is_note, is_record_line, is_trailer, marks}
+use Rattle.cif_feed.specs.ProfileLine.{notes_may_stand, profile_line, profile_line_by, profile_lines, schedule_mark, tiploc_mark}
 use Rattle.cif_feed.specs.SpellsFeed.{passed_of}
 use Rattle.cif_feed.specs.Steps.FeedReading.{HasTakenFeed, IsFeedTaken, IsMarked, IsNoteTaken, IsStopTaken, Marks, UnlessMemory, marks_in}
 use Rattle.cif_feed.specs.Steps.FeedReading.{marks_of, with_mark}
@@ -134,7 +134,8 @@ module _ (feed : Feed) (allowed : HolidayCodes) (cs : List (List ℕ)) (c : List
 
     pub lines_more : profile_lines feed allowed (cs ++ c ∷ []) ≡ profile_lines feed allowed cs ++ ((profile_line feed allowed c).line ∷ [])
     lines_more =
-        ap (map (λ (content : List ℕ). (profile_line feed allowed content).line)) speaking ∙ map-append _ (filter is_record_line cs) (c ∷ [])
+        ap (map (λ (content : List ℕ). (profile_line feed allowed content).line)) speaking
+        ∙ map-append _ (filter is_record_line cs) (c ∷ [])
 
     marks_more : {A : Type 0} (of_mark : ℕ → LineMark → List A)
         → marks of_mark feed allowed (cs ++ c ∷ []) ≡ marks of_mark feed allowed cs ++ of_mark here (profile_line feed allowed c).mark
@@ -282,11 +283,14 @@ module _ (feed : Feed) (allowed : HolidayCodes) (cs : List (List ℕ)) (c : List
       → UnlessMemory (IsMarked mid number p.mark new) result → IsFeedTaken feed allowed cs c result new
   profile_marked p number result old mid new at so_far kept taken is =
       line_marked number result old mid new at so_far (subst (λ (x : ProfileLine). IsTaken number x old mid) kept.profile kept)
-      (subst (λ (x : ProfileLine). IsTakenBehind (profile_lines feed allowed cs) x.line (Ok tt) (progress_of mid.reading)) kept.profile taken)
+      (subst (λ (x : ProfileLine). IsTakenBehind (profile_lines feed allowed cs) x.line (Ok tt)
+      (progress_of mid.reading)) kept.profile taken)
       (subst (λ (x : ProfileLine). UnlessMemory (IsMarked mid number x.mark new) result) kept.profile is)
 
-  pub profile_untaken : (p : ProfileLine) → p ≡ profile_line feed allowed c → is_note c ≡ false → (fault : TakeFault) (mid new : FeedReading)
-      → IsTakenBehind (profile_lines feed allowed cs) p.line (Err fault) (progress_of mid.reading) → IsFeedTaken feed allowed cs c (Err fault) new
+  pub profile_untaken : (p : ProfileLine) → p ≡ profile_line feed allowed c → is_note c ≡ false
+      → (fault : TakeFault) (mid new : FeedReading)
+      → IsTakenBehind (profile_lines feed allowed cs) p.line (Err fault) (progress_of mid.reading)
+      → IsFeedTaken feed allowed cs c (Err fault) new
   profile_untaken p e no_note (Refused why) mid new is =
       rw no_note (subst (λ (x : ProfileLine). refusal_behind (profile_lines feed allowed cs) x.line ≡ Some why) e is)
   profile_untaken p e no_note Memory mid new is = tt

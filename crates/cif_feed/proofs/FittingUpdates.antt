@@ -71,8 +71,7 @@ module _ {K R : Type 0} (P : R → Type 0) where
   put-is key (Some r) p = (p, tt)
 
   after-each : (same : K → K → Bool) (records : List (K × R)) (changes : List (ChangeParts K R)) → Each IsEntry records
-      → Each PutsOne changes
-      → Each IsEntry (after_all same records changes)
+      → Each PutsOne changes → Each IsEntry (after_all same records changes)
   after-each same records [] old puts = old
   after-each same records (c ∷ changes) old puts =
       after-each same (after same records c) changes
@@ -236,8 +235,7 @@ module _ (x : ExtractParts) where
   )
 
 pub updated_fits : (max : ℕ) (bytes : List ℕ) (u : UpdateParts) (old new : PublishedParts) → BytesSpellUpdate max bytes u
-    → IsUpdated u old new
-    → FitsColumns (of_profile old) → FitsColumns (of_profile new)
+    → IsUpdated u old new → FitsColumns (of_profile old) → FitsColumns (of_profile new)
 updated_fits max bytes u old new s up fits =
     let lines = s.spell.lines in
     let x = lines.extract in

@@ -1,6 +1,6 @@
 -- What a line of holidays says, word by word.
-use Rattle.std.proofs.Common.{◌≡◌, ◌⊎◌, inl, inr, ⊎_elim, ◌↔◌, ℕ, ◌<◌, ◌≤◌, List, [], ◌∷◌, ◌++◌, length, drop, get_or, Some, Result, Ok, Err, IfErr, IfOk, All, Contains, refl}
-use Rattle.std.proofs.Common.{sym, ap, ◌∙◌, subst, arith, append-nil, slice_get}
+use Rattle.std.proofs.Common.{◌≡◌, ◌⊎◌, inl, inr, ⊎_elim, ◌↔◌, ℕ, ◌<◌, ◌≤◌, List, [], ◌∷◌, ◌++◌, length, drop, get_or, Some, Result, Ok}
+use Rattle.std.proofs.Common.{Err, IfErr, IfOk, All, Contains, refl, sym, ap, ◌∙◌, subst, arith, append-nil, slice_get}
 use Rattle.std.proofs.lemmas.List.Elements.{All-contains, Contains-append_left, Contains-append_right, Contains-push, Contains-push_cases}
 use Rattle.std.proofs.lemmas.Option.{same_Some}
 use Rattle.cif_calendar.proofs.Elements.{Contains-first}
@@ -80,7 +80,8 @@ pub no-date : (words done rest : List (List ℕ)) (word : List ℕ) → words �
     → ¬ All IsDate words
 no-date words done rest word parts none dates =
     let (d, stands) = All-contains IsDate words word dates
-    (subst (λ (l : List (List ℕ)). Contains l word) (sym parts) (Contains-append_right done (word ∷ rest) word (Contains-first word rest))) in
+    (subst (λ (l : List (List ℕ)). Contains l word) (sym parts)
+    (Contains-append_right done (word ∷ rest) word (Contains-first word rest))) in
     none d stands
 
 -- ---- the line
@@ -114,8 +115,7 @@ module _ (line : List ℕ) (l : ℕ) (dates : List (List ℕ)) (words : words_of
     record {
       names = λ other. (
         λ h. ⊎_elim (λ was. inl was) (λ same. inr (is-first other (is ∙ ap letter (sym same)))) ((more.names other).0 h),
-        λ h. (more.names other).1
-            (⊎_elim (λ was. inl was) (λ named. inr (same-letter other code (sym (first-is other named) ∙ is))) h),
+        λ h. (more.names other).1 (⊎_elim (λ was. inl was) (λ named. inr (same-letter other code (sym (first-is other named) ∙ is))) h),
       );
       days = λ other d. (
         λ h. ⊎_elim
@@ -142,8 +142,7 @@ module _ (line : List ℕ) (l : ℕ) (dates : List (List ℕ)) (words : words_of
       at : (code : HolidayCode) → AreCodeAndDates (words_of line) code → ⊥
       at code are =
           let same : (l ∷ []) ∷ dates ≡ (letter code ∷ []) ∷ are.dates = sym words ∙ are.are in
-          bad code (ap (λ ws. get_or (get_or ws 0 []) 0 0) same)
-          (subst (λ ws. All IsDate ws) (sym (ap (drop 1) same)) are.are_dates)
+          bad code (ap (λ ws. get_or (get_or ws 0 []) 0 0) same) (subst (λ ws. All IsDate ws) (sym (ap (drop 1) same)) are.are_dates)
 
   dates-fault : (number : ℕ) (fault : HolidayFault) → IsDateFault number dates fault → IsLineFault number line fault
   dates-fault number (BadHoliday at) (is, bad) = (is, inr (bad-words (λ code letter_is are. bad are)))
@@ -152,8 +151,7 @@ module _ (line : List ℕ) (l : ℕ) (dates : List (List ℕ)) (words : words_of
 
   -- what adding the dates comes to
   pub line-ok : (code : HolidayCode) (old new : Holidays) (number : ℕ) (r : Result (Unit {0}) HolidayFault) → number ≤ 100000000
-      → length line ≤ 1000 → l ≡ letter code
-      → IfOk r (λ done. All IsDate dates × HasMore old code (NamesDay dates) new)
+      → length line ≤ 1000 → l ≡ letter code → IfOk r (λ done. All IsDate dates × HasMore old code (NamesDay dates) new)
       → IfOk r (λ done. (number ≤ 100000000) × IsHolidayLine line × HasLineMore old line new)
   line-ok code old new number (Ok done) few within is (are, more) =
       let (fine, said) = says-dates code old new within is are more in (few, fine, said)

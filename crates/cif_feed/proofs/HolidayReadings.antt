@@ -57,8 +57,7 @@ first_feed : (bytes : List ℕ) → HasNoFeed bytes ⊎ ((front more : List ℕ)
 first_feed [] = inl (All-nil (λ (b : ℕ). b ≢ 10))
 first_feed (x ∷ xs) = at (x == 10) refl (first_feed xs)
   where
-    at : (b : Bool) → (x == 10) ≡ b
-        → HasNoFeed xs ⊎ ((front more : List ℕ) × (xs ≡ front ++ 10 ∷ more) × HasNoFeed front)
+    at : (b : Bool) → (x == 10) ≡ b → HasNoFeed xs ⊎ ((front more : List ℕ) × (xs ≡ front ++ 10 ∷ more) × HasNoFeed front)
         → HasNoFeed (x ∷ xs) ⊎ ((front more : List ℕ) × (x ∷ xs ≡ front ++ 10 ∷ more) × HasNoFeed front)
     at true is rest = inr ([], xs, ap (λ (b : ℕ). b ∷ xs) (eqb-true x 10 is), All-nil (λ (b : ℕ). b ≢ 10))
     at false is rest =
@@ -172,8 +171,7 @@ module _ (bytes : List ℕ) (count : ℕ) (rest : List ℕ) (h : Holidays) (so_f
   contents_are : (more : List ℕ) (others : List (List ℕ)) → lines (rest ++ more) ≡ others → contents_of (bytes ++ more) ≡ ls ++ others
   contents_are more others is =
       ap lines (ap (λ l. l ++ more) before.parts ∙ append_assoc before.whole rest more)
-      ∙ whole_lines before.whole (rest ++ more) before.ended
-      ∙ ap (λ l. l ++ lines (rest ++ more)) before.contents ∙ ap (λ l. ls ++ l) is
+      ∙ whole_lines before.whole (rest ++ more) before.ended ∙ ap (λ l. l ++ lines (rest ++ more)) before.contents ∙ ap (λ l. ls ++ l) is
 
   -- the next line is refused
   refused : (more line : List ℕ) (others : List (List ℕ)) (number : ℕ) → lines (rest ++ more) ≡ line ∷ others → number ≡ count + 1

@@ -1,7 +1,7 @@
 -- What the judged contents so far have come to, and how their judging ends.
-use Rattle.std.proofs.Common.{◌≡◌, ◌≢◌, ◌⊎◌, ℕ, ◌+◌, ◌-◌, ◌<◌, ◌≤◌, Bool, true, false, cond, nat_eq, nat_lt, List, [], ◌∷◌, ◌++◌, ◌||◌, length, take, Option, Some, None}
-use Rattle.std.proofs.Common.{IfErr, IfOk, IfSome, IsSomeAnd, Result, Ok, Err, refl, sym, ap, ◌∙◌, subst, arith, get_or, length-append}
-use Rattle.std.proofs.Common.{length-take, true≢false, ⊎_elim}
+use Rattle.std.proofs.Common.{◌≡◌, ◌≢◌, ◌⊎◌, ℕ, ◌+◌, ◌-◌, ◌<◌, ◌≤◌, Bool, true, false, cond, nat_eq, nat_lt, List, [], ◌∷◌, ◌++◌, ◌||◌}
+use Rattle.std.proofs.Common.{length, take, Option, Some, None, IfErr, IfOk, IfSome, IsSomeAnd, Result, Ok, Err, refl, sym, ap, ◌∙◌, subst}
+use Rattle.std.proofs.Common.{arith, get_or, length-append, length-take, true≢false, ⊎_elim}
 use Rattle.std.proofs.lemmas.Bool.Decides.{nat_tests}
 use Rattle.std.proofs.lemmas.List.Elements.{All-contains, All-head, All-map, All-tail}
 use Rattle.std.proofs.lemmas.List.{get_or_default}
@@ -57,7 +57,8 @@ own_of_fine max before c is =
     at (nat_lt (length before) max) (nat_eq (length c) 80) (list_all is_printable c) (order_refusal (place_behind before) (kind_in c)) is
   where
     at : (f w p : Bool) (o : Option Refusal)
-        → first_of (unless f refusal.TooManyLines ∷ unless w refusal.BadLength ∷ unless p refusal.BadByte ∷ o ∷ record_refusal c ∷ []) ≡ None
+        → first_of (unless f refusal.TooManyLines ∷ unless w refusal.BadLength ∷ unless p refusal.BadByte ∷ o ∷ record_refusal c ∷ [])
+        ≡ None
         → first_of (unless w refusal.BadLength ∷ unless p refusal.BadByte ∷ record_refusal c ∷ []) ≡ None
     at true true true None is = is
     at _ _ _ _ is = absurd (cc)
@@ -129,7 +130,8 @@ module _ (max : ℕ) (bytes : List ℕ) (x : ExtractParts) (spells : BytesSpellW
 
 -- the same of bytes that may be known
 pub only_judged : (start : Option (List ℕ)) (max : ℕ) (after : Unread) (result : Result Judged Fault)
-    → IfSome start (λ bytes. IfOk result (IsJudgedAs max bytes after)) → IfSome start (λ bytes. IfErr result (IsJudgedFault max bytes after))
+    → IfSome start (λ bytes. IfOk result (IsJudgedAs max bytes after))
+    → IfSome start (λ bytes. IfErr result (IsJudgedFault max bytes after))
     → IfSome start (λ bytes. (x : ExtractParts) → BytesSpellWithin max bytes x → IsReadAsJudged x result)
 only_judged None max after result ok err = tt
 only_judged (Some bytes) max after result ok err = λ x spells. judged_only max bytes x spells after result ok err
@@ -155,7 +157,8 @@ line_judged max cs c line old order result is none judged so = at result (so own
         let same = (judged_line c line is).0 in
         let own : own_reason c ≡ None = ap own_reason same ∙ own_line in
         record {
-          told = subst (λ l. TellReasons l old.reasons) (sym (reasons_of_more cs c None own)) (tell_nothing (reasons_of cs) old.reasons judged.told);
+          told = subst (λ l. TellReasons l old.reasons) (sym (reasons_of_more cs c None own))
+              (tell_nothing (reasons_of cs) old.reasons judged.told);
           order = subst (λ l. IsInOrder max (cs ++ l ∷ []) order) (sym same) h;
         }
 
@@ -277,7 +280,8 @@ module _ {R : Type 0} (remaining : R → Option (List ℕ)) (errors : R → Opti
   pub line_fault_judged : (l : LineFault) → IsNextOf remaining errors reader source (Err l) reader' source'
       → IfSome start (λ bytes. IsJudgedFault max bytes (unread_of remaining source') (of_line_fault l))
   line_fault_judged (line_fault.Refused number why) next =
-      let (numbered, same, over, gave) = given_too_many remaining errors start max reader source cs so_far reader' source' number why next in
+      let (numbered, same, over, gave) = given_too_many remaining errors start max reader source cs so_far reader' source' number why next
+      in
       subst (λ (w : Refusal). IfSome start (λ bytes. IsJudgedFault max bytes (unread_of remaining source') (fault.Refused number w)))
       (sym same) (too_many_fault max start (remaining (reader_of source')) (source_ended source') number numbered over gave)
   line_fault_judged line_fault.Read next = given_failed remaining errors start max reader source cs so_far reader' source' next

@@ -1,7 +1,7 @@
 -- The marks of contents are those of the records that their profile lines spell.
-use Rattle.std.proofs.Common.{◌≡◌, ℕ, ◌+◌, ◌-◌, ◌≤◌, Bool, true, false, cond, not, ◌&&◌, List, [], ◌∷◌, ◌++◌, length, take, drop, filter, map}
-use Rattle.std.proofs.Common.{Option, Some, None, refl, sym, ap, ◌∙◌, subst, arith, codes, IsTrue, length-append, length-take, length-drop}
-use Rattle.std.proofs.Common.{append-nil, ⊎_elim, lit<, slice_index, IfOk, Result, Ok, Err}
+use Rattle.std.proofs.Common.{◌≡◌, ℕ, ◌+◌, ◌-◌, ◌≤◌, Bool, true, false, cond, not, ◌&&◌, List, [], ◌∷◌, ◌++◌, length, take, drop, filter}
+use Rattle.std.proofs.Common.{map, Option, Some, None, refl, sym, ap, ◌∙◌, subst, arith, codes, IsTrue, length-append, length-take}
+use Rattle.std.proofs.Common.{length-drop, append-nil, ⊎_elim, lit<, slice_index, IfOk, Result, Ok, Err}
 use Rattle.std.proofs.lemmas.Grind.{flat_map-append}
 use Rattle.std.proofs.lemmas.List.{drop-append-le, drop-take, drop_at, take-append-le, take-take, take_at}
 use Rattle.std.proofs.lemmas.List.Elements.{All-cons, All-head, All-nil, All-tail}
@@ -95,8 +95,10 @@ record IsQuiet {A : Type 0} (f : Record → List A) : Type 0 where
 module _ {A : Type 0} (f : Record → List A) (quiet : IsQuiet f) where
   quiet_calls : (calls : List Call) (t : Terminus) → flat_map f (map call_record calls ++ (of.Terminus t ∷ [])) ≡ []
   quiet_calls [] t = ap (λ l. l ++ []) (quiet.terminus t)
-  quiet_calls (At s ∷ calls) t = ap (λ l. l ++ flat_map f (map call_record calls ++ (of.Terminus t ∷ []))) (quiet.stop s) ∙ quiet_calls calls t
-  quiet_calls (Turn c ∷ calls) t = ap (λ l. l ++ flat_map f (map call_record calls ++ (of.Terminus t ∷ []))) (quiet.change c) ∙ quiet_calls calls t
+  quiet_calls (At s ∷ calls) t =
+      ap (λ l. l ++ flat_map f (map call_record calls ++ (of.Terminus t ∷ []))) (quiet.stop s) ∙ quiet_calls calls t
+  quiet_calls (Turn c ∷ calls) t =
+      ap (λ l. l ++ flat_map f (map call_record calls ++ (of.Terminus t ∷ []))) (quiet.change c) ∙ quiet_calls calls t
 
   quiet_journey : (journey : List Record) → AreJourney journey → flat_map f journey ≡ []
   quiet_journey journey j =
@@ -259,8 +261,10 @@ module _ (allowed : HolidayCodes) (c : List ℕ) (is_line : IsLine c) where
     (basic_marked (Some New)).1,
   )
   by_kind Update (Some Hd) is = (named _ (Some Hd) _ (further c 47 _ c (omega arith) own) is tt, tt)
-  by_kind Update (Some Ta) is = (tiploc_named (ta_line c) (ta_kind c allowed own) (record { transaction = Revised; tiploc = columns 3 9 c }), tt)
-  by_kind Update (Some Td) is = (tiploc_named (ti_line c) (ti_kind c allowed own) (record { transaction = Deleted; tiploc = columns 3 9 c }), tt)
+  by_kind Update (Some Ta) is =
+      (tiploc_named (ta_line c) (ta_kind c allowed own) (record { transaction = Revised; tiploc = columns 3 9 c }), tt)
+  by_kind Update (Some Td) is =
+      (tiploc_named (ti_line c) (ti_kind c allowed own) (record { transaction = Deleted; tiploc = columns 3 9 c }), tt)
   by_kind Update (Some Aa) is =
       let t = transaction_in (slice_index c 2) in
       let marked = association_marked t in
@@ -387,8 +391,7 @@ groups_marked ms groups (s ∷ ss) are marked =
     take_first ms one.basic (flat_map basic_of others) s ss one.terms.last
     (subst (AreMarked (λ (b : Basic). b.last) ms) split marked) (λ ns. groups_marked ns others ss more)
 
-all_one : {B : Type 0} (f : Record → List B) (g : B → Record) → ((b : B) → f (g b) ≡ b ∷ []) → (bs : List B)
-    → flat_map f (map g bs) ≡ bs
+all_one : {B : Type 0} (f : Record → List B) (g : B → Record) → ((b : B) → f (g b) ≡ b ∷ []) → (bs : List B) → flat_map f (map g bs) ≡ bs
 all_one f g one [] = refl
 all_one f g one (b ∷ bs) = ap (λ l. l ++ flat_map f (map g bs)) (one b) ∙ ap (λ l. b ∷ l) (all_one f g one bs)
 
@@ -405,8 +408,7 @@ module _ {B : Type 0} (f : Record → List B) (header : (x : Header) → f (of.H
       let rest = map of.Tiploc x.tiplocs ++ (map of.Association x.associations ++ are.schedules) in
       ap (flat_map f) are.parts ∙ flat_map-append f (records_before_trailer x are.schedules) (of.Trailer ∷ [])
       ∙ ap (λ l. flat_map f (records_before_trailer x are.schedules) ++ (l ++ [])) trailer
-      ∙ append-nil (flat_map f (records_before_trailer x are.schedules))
-      ∙ ap (λ l. l ++ flat_map f rest) (header x.header)
+      ∙ append-nil (flat_map f (records_before_trailer x are.schedules)) ∙ ap (λ l. l ++ flat_map f rest) (header x.header)
       ∙ flat_map-append f (map of.Tiploc x.tiplocs) (map of.Association x.associations ++ are.schedules)
       ∙ ap (λ l. flat_map f (map of.Tiploc x.tiplocs) ++ l) (flat_map-append f (map of.Association x.associations) are.schedules)
 
@@ -440,8 +442,7 @@ have_marks feed allowed cs x are_contents s =
     ∙ ap (λ l. l ++ (flat_map association_of (map of.Association e.associations) ++ flat_map association_of are.schedules))
     (none_of association_of of.Tiploc (λ t. refl) e.tiplocs)
     ∙ ap (λ l. l ++ flat_map association_of are.schedules) (all_one association_of of.Association (λ a. refl) e.associations)
-    ∙ ap (λ l. e.associations ++ l)
-    (groups_none association_of no_associations (λ b. refl) are.schedules e.schedules are.are_schedules)
+    ∙ ap (λ l. e.associations ++ l) (groups_none association_of no_associations (λ b. refl) are.schedules e.schedules are.are_schedules)
     ∙ append-nil e.associations in
     let basics : flat_map basic_of rs ≡ flat_map basic_of are.schedules =
     by_parts basic_of (λ x. refl) refl rs e are

@@ -122,8 +122,7 @@ module _ (h : Holidays) (x : ExtractParts) where
     associations = subst (λ l. ArePrepared h x.header.last l (association_entries x.associations))
         (sym (associations_as h x.header.last x.associations))
         (is_prepared h x.header.last (association_entries x.associations) (associations_in_order h x.header.last x.associations));
-    schedules = subst (λ l. ArePrepared h x.header.last l (schedule_entries x.schedules))
-        (sym (schedules_as h x.header.last x.schedules))
+    schedules = subst (λ l. ArePrepared h x.header.last l (schedule_entries x.schedules)) (sym (schedules_as h x.header.last x.schedules))
         (is_prepared h x.header.last (schedule_entries x.schedules) (schedules_in_order h x.header.last x.schedules));
   }
 

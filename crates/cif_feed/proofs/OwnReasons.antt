@@ -1,6 +1,6 @@
 -- The reason of a content by itself, and why it is refused behind others.
-use Rattle.std.proofs.Common.{◌≡◌, ◌≢◌, ℕ, ◌+◌, ◌<◌, ◌≤◌, Bool, true, false, cond, nat_eq, nat_lt, List, [], ◌∷◌, ◌++◌, length, Option, Some, None}
-use Rattle.std.proofs.Common.{Ok, Err, refl, sym, ap, ◌∙◌, subst, arith, length-append, ne_eqb}
+use Rattle.std.proofs.Common.{◌≡◌, ◌≢◌, ℕ, ◌+◌, ◌<◌, ◌≤◌, Bool, true, false, cond, nat_eq, nat_lt, List, [], ◌∷◌, ◌++◌, length, Option}
+use Rattle.std.proofs.Common.{Some, None, Ok, Err, refl, sym, ap, ◌∙◌, subst, arith, length-append, ne_eqb}
 use Rattle.std.proofs.lemmas.Bool.{eqb-true}
 use Rattle.std.proofs.lemmas.Bool.Decides.{nat_tests}
 use Rattle.std.proofs.lemmas.List.{map-append}
@@ -123,14 +123,16 @@ pub reasons_of_more : (cs : List (List ℕ)) (c : List ℕ) (reason : Option Ref
 reasons_of_more cs c reason is = reasons_more cs c ∙ ap (λ r. reasons_of cs ++ r ∷ []) is
 
 pub some_has_more : (cs : List (List ℕ)) (c : List ℕ) → SomeHasReason cs → SomeHasReason (cs ++ c ∷ [])
-some_has_more cs c (why, there) =
-    (why, subst (λ l. Contains l (Some why)) (sym (reasons_more cs c)) (Contains-append_left (reasons_of cs) (own_reason c ∷ []) (Some why) there))
+some_has_more cs c (why, there) = (
+  why,
+  subst (λ l. Contains l (Some why)) (sym (reasons_more cs c))
+      (Contains-append_left (reasons_of cs) (own_reason c ∷ []) (Some why) there),
+)
 
 pub some_has_here : (cs : List (List ℕ)) (c : List ℕ) (why : Refusal) → own_reason c ≡ Some why → SomeHasReason (cs ++ c ∷ [])
 some_has_here cs c why is = (
   why,
-  subst (λ l. Contains l (Some why)) (sym (reasons_of_more cs c (Some why) is))
-      (Contains-push (reasons_of cs) (Some why)),
+  subst (λ l. Contains l (Some why)) (sym (reasons_of_more cs c (Some why) is)) (Contains-push (reasons_of cs) (Some why)),
 )
 
 -- ---- the order of lines without a reason

@@ -1,6 +1,6 @@
 -- The parts of a record, one after another.
-use Rattle.std.proofs.Common.{◌≡◌, inl, inr, ⊎_elim, ℕ, ◌+◌, ◌-◌, ◌<◌, ◌≤◌, List, [], ◌∷◌, ◌++◌, Option, Some, None, Contains, refl, sym, ap, ◌∙◌}
-use Rattle.std.proofs.Common.{subst, arith, Bool, true, false, cond, nat_lt, append-nil, ltb-true, ltb-false}
+use Rattle.std.proofs.Common.{◌≡◌, inl, inr, ⊎_elim, ℕ, ◌+◌, ◌-◌, ◌<◌, ◌≤◌, List, [], ◌∷◌, ◌++◌, Option, Some, None, Contains, refl, sym}
+use Rattle.std.proofs.Common.{ap, ◌∙◌, subst, arith, Bool, true, false, cond, nat_lt, append-nil, ltb-true, ltb-false}
 use Rattle.std.proofs.lemmas.Bool.{cases_lt}
 use Rattle.std.proofs.lemmas.List.Elements.{All-contains, All-push, Contains-append_left, Contains-push}
 use Rattle.std.proofs.lemmas.List.Quantifiers.{all_pairs_push}
@@ -110,8 +110,7 @@ module _ {B : Type 0} (h : Holidays) (code : HolidayCode) (r : Terms B) where
 
       -- the cut is the record's last day
       pub parts-cut_last : r.last ≤ cut → AreParts h (Some code) r (own ++ before_cut first cut)
-      parts-cut_last end = parts-all h (Some code) r (own ++ before_cut first cut) (cut + 1) after_cut
-          (let upto = found.1 in omega arith)
+      parts-cut_last end = parts-all h (Some code) r (own ++ before_cut first cut) (cut + 1) after_cut (let upto = found.1 in omega arith)
 
     -- there is none
     pub parts-last : IsFirstFrom (IsHolidayOn h code r.days) first r.last None

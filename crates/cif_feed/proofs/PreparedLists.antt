@@ -80,9 +80,7 @@ schedules-push before x =
 
 -- a schedule on the dates of one part more
 pub part-more : (old before now : List (PreparedRecord Schedule ℕ)) (x : PreparedRecord Schedule ℕ) (s : Schedule)
-    (parts : List Part) (i : ℕ) (p : Part)
-    → now ≡ before ++ x ∷ []
-    → schedule_entries (map schedule_on before)
+    (parts : List Part) (i : ℕ) (p : Part) → now ≡ before ++ x ∷ [] → schedule_entries (map schedule_on before)
     ≡ schedule_entries (map schedule_on old) ++ map (part_entry s.uid (schedule_terms s)) (take i parts)
     → schedule_entry (schedule_on x) ≡ part_entry s.uid (schedule_terms s) p → i < length parts → p ≡ get_or parts i p
     → schedule_entries (map schedule_on now)
@@ -92,8 +90,7 @@ part-more old before now x s parts i p is so_far same below at =
     let all : List (List ℕ × Terms BodyParts) = schedule_entries (map schedule_on old) in
     ap (λ (l : List (PreparedRecord Schedule ℕ)). schedule_entries (map schedule_on l)) is ∙ schedules-push before x
     ∙ ap (λ (l : List (List ℕ × Terms BodyParts)). l ++ schedule_entry (schedule_on x) ∷ []) so_far
-    ∙ append_assoc all (map f (take i parts)) (schedule_entry (schedule_on x) ∷ [])
-    ∙ ap (λ (l : List (List ℕ × Terms BodyParts)). all ++ l)
+    ∙ append_assoc all (map f (take i parts)) (schedule_entry (schedule_on x) ∷ []) ∙ ap (λ (l : List (List ℕ × Terms BodyParts)). all ++ l)
     (ap (λ (q : List ℕ × Terms BodyParts). map f (take i parts) ++ q ∷ []) same
     ∙ sym (map-append f (take i parts) (p ∷ []))
     ∙ ap (map f) (ap (λ (q : Part). take i parts ++ q ∷ []) at ∙ sym (take_more parts i p below)))
@@ -132,11 +129,9 @@ prepared-more {A} {K} {B} f h window_last xs i x prepared now own below at so_fa
 -- one published association more: it is its own part
 pub association-more : (h : Holidays) (window_last : ℕ) (xs : List PublishedAssociation) (i : ℕ) (x : PublishedAssociation)
     (before now : List (PreparedRecord Association ℕ)) (put : PreparedRecord Association ℕ) (last : ℕ) → i < length xs → x ≡ get_or xs i x
-    → now ≡ before ++ put ∷ []
-    → ◌≡◌ {A = AssocKey × Terms AssocBody} (association_entry (association_on put))
+    → now ≡ before ++ put ∷ [] → ◌≡◌ {A = AssocKey × Terms AssocBody} (association_entry (association_on put))
     (x.association.key, terms_on (association_terms x.association) x.association.first last)
-    → last ≡ prepared_last window_last (published_association_terms x)
-    → x.association.first ≤ last
+    → last ≡ prepared_last window_last (published_association_terms x) → x.association.first ≤ last
     → ArePrepared h window_last (published_associations (take i xs)) (association_entries (map association_on before))
     → ArePrepared h window_last (published_associations (take (i + 1) xs)) (association_entries (map association_on now))
 association-more h window_last xs i x before now put last below at items same ends up so_far =
@@ -147,6 +142,5 @@ association-more h window_last xs i x before now put last below at items same en
     (association_entries (map association_on before)) (association_entries (map association_on now)) (p ∷ []) below at so_far
     (subst (λ (n : ℕ). AreParts h None (ended n terms) (p ∷ [])) ends (parts-whole h (ended last terms) up))
     (ap (λ (l : List (PreparedRecord Association ℕ)). association_entries (map association_on l)) items
-    ∙ associations-push before put
-    ∙ ap (λ (e : AssocKey × Terms AssocBody). association_entries (map association_on before) ++ e ∷ [])
+    ∙ associations-push before put ∙ ap (λ (e : AssocKey × Terms AssocBody). association_entries (map association_on before) ++ e ∷ [])
     (same ∙ on-part a.key terms p up))

@@ -120,14 +120,14 @@ module _ {K B : Type 0} (h : Holidays) (window_last : ℕ) where
         ps,
         own,
         λ p listed. subst (λ (l : List (K × Terms B)). Contains l (e.0, part_terms e.1.terms p)) (sym joined)
-            (Contains-append_right (map (λ (q : Part). (x.0, part_terms x.1.terms q)) parts) others (e.0, part_terms e.1.terms p) (all p listed)),
+            (Contains-append_right (map (λ (q : Part). (x.0, part_terms x.1.terms q)) parts) others (e.0, part_terms e.1.terms p)
+            (all p listed)),
       ))
       (Contains-cases x entries e has)
 
   -- a prepared record is a part of an entry
   entry-of_part : (entries : List (K × PublishedTerms B)) (prepared : List (K × Terms B)) → ArePrepared h window_last entries prepared
-      → (s : K × Terms B) → Contains prepared s
-      → (e : K × PublishedTerms B) × Contains entries e × (parts : List Part) × HasParts e parts
+      → (s : K × Terms B) → Contains prepared s → (e : K × PublishedTerms B) × Contains entries e × (parts : List Part) × HasParts e parts
       × (p : Part) × Contains parts p × (s ≡ (e.0, part_terms e.1.terms p))
   entry-of_part [] prepared none s has = absurd
       (let (k, below, is) = subst (λ (l : List (K × Terms B)). Contains l s) none has in let b : k < 0 = below in omega arith)
@@ -144,8 +144,7 @@ module _ {K B : Type 0} (h : Holidays) (window_last : ℕ) where
   module _ (entries : List (K × PublishedTerms B)) (prepared : List (K × Terms B)) (are : ArePrepared h window_last entries prepared)
       (closed : AreClosed entries) (k : K) (d : ℕ) (in_window : d ≤ window_last) (is_day : d ≤ last_day) where
     -- the day isn't after the record's last in the prepared extract
-    in_prepared : (r : Terms B) (b : Bool) → r.first ≤ d → d ≤ r.last
-        → d ≤ cond b (max r.first window_last) r.last
+    in_prepared : (r : Terms B) (b : Bool) → r.first ≤ d → d ≤ r.last → d ≤ cond b (max r.first window_last) r.last
     in_prepared r true from upto = omega arith
     in_prepared r false from upto = upto
 
@@ -162,8 +161,7 @@ module _ {K B : Type 0} (h : Holidays) (window_last : ℕ) where
           let e : PublishedTerms B = record { terms = r; open_end = count.open_end; code = count.code } in
           let (parts, own, all) = parts-of_entry entries prepared are (k, e) count.listed in
           let (p, listed, applies) =
-          part-applies h e.code r (prepared_last window_last e) parts own.are d
-          (in_prepared r e.open_end on.begun on.unfinished)
+          part-applies h e.code r (prepared_last window_last e) parts own.are d (in_prepared r e.open_end on.begun on.unfinished)
           (record { applies = on; no_holiday = count.no_holiday }) in
           (part_terms r p, record { listed = all p listed; applies = applies; letters = refl; bodies = refl });
     }
@@ -171,8 +169,7 @@ module _ {K B : Type 0} (h : Holidays) (window_last : ℕ) where
     prepared-match : Match (of_key prepared k) (λ r. CountOn h entries k d r) d
     prepared-match = record { found = λ s has on. at s on (entry-of_part entries prepared are (k, s) has) }
       where
-        at : (s : Terms B) → Applies s d
-            → (e : K × PublishedTerms B) × Contains entries e × (parts : List Part) × HasParts e parts
+        at : (s : Terms B) → Applies s d → (e : K × PublishedTerms B) × Contains entries e × (parts : List Part) × HasParts e parts
             × (p : Part) × Contains parts p × (◌≡◌ {A = K × Terms B} (k, s) (e.0, part_terms e.1.terms p))
             → (r : Terms B) × IsMatch (λ t. CountOn h entries k d t) d s r
         at s on (e, found, parts, own, p, listed, is) =

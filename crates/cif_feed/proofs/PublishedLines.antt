@@ -230,8 +230,7 @@ code_kind l c None has = has
 code_kind l c (Some code) has = further l 29 (letter code ∷ []) c (omega arith) has
 
 pub basic_written : (allowed : HolidayCodes) (l : List ℕ) (last : ℕ) (no_end : Bool) (code : Option HolidayCode) → IsLine l
-    → kind_in l ≡ Some Bs
-    → StandsInYymmdd (columns 16 21 l) last → columns 29 29 l ≡ codes " " → (no_end ≡ true → last ≡ last_day)
+    → kind_in l ≡ Some Bs → StandsInYymmdd (columns 16 21 l) last → columns 29 29 l ≡ codes " " → (no_end ≡ true → last ≡ last_day)
     → ((k : HolidayCode) → code ≡ Some k → IsTrue (has_code allowed k))
     → IsWrittenBasic allowed l (with_code code (with_open_end no_end 16 l)) no_end code
 basic_written allowed l last no_end code is_line named stands space closes may =
@@ -247,8 +246,7 @@ basic_written allowed l last no_end code is_line named stands space closes may =
     let o_wide : length own ≡ 6 = ap length stands.spelled in
     let tail : drop 21 l ≡ c ++ (codes " " ++ e) =
     parted 7 1 (drop 21 l) ∙ ap (λ k. c ++ (take 1 k ++ drop 8 (drop 21 l))) (drop-drop 7 21 l)
-    ∙ ap (λ k. c ++ (k ++ drop 8 (drop 21 l))) space
-    ∙ ap (λ k. c ++ (codes " " ++ k)) (drop-drop 8 21 l) in
+    ∙ ap (λ k. c ++ (k ++ drop 8 (drop 21 l))) space ∙ ap (λ k. c ++ (codes " " ++ k)) (drop-drop 8 21 l) in
     let split : l ≡ basic_columns a c e a_wide c_wide own (codes " ") =
     parted 15 6 l ∙ ap (λ k. a ++ (own ++ k)) tail in
     let opens : with_open_end no_end 16 l ≡ basic_columns a c e a_wide c_wide b (codes " ") =

@@ -59,8 +59,7 @@ use Rattle.cif_feed.proofs.StillLines.{feed_fits}
 
 -- facts of three lists that follow others
 triples-append : {A B C : Type 0} (P : A → B → C → Type 0) (al : List A) (bs : List B) (cs : List C) (ds : List A) (es : List B)
-    (fs : List C)
-    → AreTriples P al bs cs → AreTriples P ds es fs → AreTriples P (al ++ ds) (bs ++ es) (cs ++ fs)
+    (fs : List C) → AreTriples P al bs cs → AreTriples P ds es fs → AreTriples P (al ++ ds) (bs ++ es) (cs ++ fs)
 triples-append P [] [] [] ds es fs p q = q
 triples-append P (a ∷ al) (b ∷ bs) (c ∷ cs) ds es fs p q = (p.0, triples-append P al bs cs ds es fs p.1 q)
 triples-append P _ _ _ ds es fs p q = absurd p
@@ -175,8 +174,7 @@ module _ (allowed : HolidayCodes) where
             (schedule_mark n (profile_line_by Full allowed k c).mark ++ []) []) (sym w.named) tt;
       }
 
-  basic_one : (s : PublishedSchedule) → AllFit (basic_rows_of s)
-      → ((k : HolidayCode) → s.code ≡ Some k → IsTrue (has_code allowed k))
+  basic_one : (s : PublishedSchedule) → AllFit (basic_rows_of s) → ((k : HolidayCode) → s.code ≡ Some k → IsTrue (has_code allowed k))
       → IsBlock (published_basic_line s ∷ []) (plain_line (basic_rows_of s) ∷ []) [] (s ∷ [])
   basic_one s fits may =
       let rows = basic_rows_of s in
@@ -291,8 +289,7 @@ module _ (allowed : HolidayCodes) where
         let made = both (plain_line (header_table p.header) ∷ []) (plain_line (header_table p.header) ∷ []) _ _ [] (p.associations ++ []) []
         (p.schedules ++ []) (other_one (of.Header p.header) tt fits.0)
         (both (map (λ (t : Tiploc). plain_line (tiploc_table t)) p.tiplocs) (map plain_line ts) _ _ [] (p.associations ++ []) []
-        (p.schedules ++ [])
-        (tiplocs p.tiplocs (fit-front ts (al ++ (ss ++ end)) fits.1))
+        (p.schedules ++ []) (tiplocs p.tiplocs (fit-front ts (al ++ (ss ++ end)) fits.1))
         (both (map published_association_line p.associations) (map plain_line al) _ _ p.associations [] [] (p.schedules ++ [])
         (associations p.associations (fit-front al (ss ++ end) behind))
         (both (flat_map published_schedule_lines p.schedules) (map plain_line ss) last last [] [] p.schedules []

@@ -69,7 +69,8 @@ one_said lines p q s t =
     (λ x y z w a b. same_schedule z w (a.of_profile ∙ sym b.of_profile) (a.open_end ∙ sym b.open_end) (a.code ∙ sym b.code)) _ _
     p.schedules q.schedules s.schedules t.schedules)
 
-pub one_published : (allowed : HolidayCodes) (cs : List (List ℕ)) (p q : PublishedParts) → SpellPublished allowed cs p → SpellPublished allowed cs q
+pub one_published : (allowed : HolidayCodes) (cs : List (List ℕ)) (p q : PublishedParts) → SpellPublished allowed cs p
+    → SpellPublished allowed cs q
     → p ≡ q
 one_published allowed cs p q s t =
     let same = one_feed Full allowed 0 cs s.lines t.lines s.spelled t.spelled in

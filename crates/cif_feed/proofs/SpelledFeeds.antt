@@ -43,12 +43,14 @@ module _ (feed : Feed) (allowed : HolidayCodes) (max : ℕ) where
   -- contents spell one at most
   pub one_feed : (cs : List (List ℕ)) (x y : FeedParts) → SpellFeed feed allowed cs x → SpellFeed feed allowed cs y → x ≡ y
   one_feed cs x y p q =
-      same_parts x y (one_extract (profile_lines feed allowed cs) x.extract y.extract p.extract q.extract) (p.tiploc_marks ∙ sym q.tiploc_marks)
+      same_parts x y (one_extract (profile_lines feed allowed cs) x.extract y.extract p.extract q.extract)
+      (p.tiploc_marks ∙ sym q.tiploc_marks)
       (p.association_marks ∙ sym q.association_marks) (p.schedule_marks ∙ sym q.schedule_marks) (p.passed ∙ sym q.passed)
 
   -- the profile lines before and after one that says something
   profile_parts : (before : List (List ℕ)) (c : List ℕ) (after : List (List ℕ)) → is_record_line c ≡ true
-      → profile_lines feed allowed (before ++ c ∷ after) ≡ profile_lines feed allowed before ++ (profile_line feed allowed c).line ∷ profile_lines feed allowed after
+      → profile_lines feed allowed (before ++ c ∷ after) ≡ profile_lines feed allowed before ++ (profile_line feed allowed c).line
+      ∷ profile_lines feed allowed after
   profile_parts before c after is =
       ap (map (λ (content : List ℕ). (profile_line feed allowed content).line)) (filter-append is_record_line before (c ∷ after)
       ∙ ap (λ b. filter is_record_line before ++ cond b (c ∷ filter is_record_line after) (filter is_record_line after)) is)
@@ -108,14 +110,17 @@ module _ (feed : Feed) (allowed : HolidayCodes) (max : ℕ) where
                 let why = refused (sym eb) in
                 let stands : line_refusal feed allowed r.before r.content ≡ None =
                 ap (λ b. cond b (unless (notes_may_stand r.before) OutOfOrder)
-                (refusal_behind (profile_lines feed allowed r.before) (profile_line feed allowed r.content).line)) (sym en) ∙ ap (λ b. unless b OutOfOrder) may in
+                (refusal_behind (profile_lines feed allowed r.before) (profile_line feed allowed r.content).line)) (sym en)
+                ∙ ap (λ b. unless b OutOfOrder) may in
                 none-some _ r.why stands why
             by false false eb en =
                 let says : is_record_line r.content ≡ true = ap (λ b. not b && not (is_note r.content)) (sym eb) ∙ ap not (sym en) in
-                let fine = spelled_behind (profile_lines feed allowed r.before) (profile_line feed allowed r.content).line (profile_lines feed allowed r.after) x.extract
+                let fine = spelled_behind (profile_lines feed allowed r.before) (profile_line feed allowed r.content).line
+                (profile_lines feed allowed r.after) x.extract
                 (subst (λ ls. SpellExtract ls x.extract) (profile_parts r.before r.content r.after says) s.extract) in
                 none-some _ r.why (ap (λ b. cond b (unless (notes_may_stand r.before) OutOfOrder)
-                (refusal_behind (profile_lines feed allowed r.before) (profile_line feed allowed r.content).line)) (sym en) ∙ fine) (refused (sym eb))
+                (refusal_behind (profile_lines feed allowed r.before) (profile_line feed allowed r.content).line)) (sym en) ∙ fine)
+                (refused (sym eb))
 
     -- and one is a trailer
     spelled_whole : (f : FeedFault) → SpellFeed feed allowed cs x → IsFeedTruncated feed allowed max cs f → ⊥
@@ -127,8 +132,7 @@ module _ (feed : Feed) (allowed : HolidayCodes) (max : ℕ) where
 
   -- what is answered, by what the answers say of the bytes
   read_as : (bytes : List ℕ) (x : FeedParts) → BytesSpellFeed feed allowed max bytes x → (after : Unread)
-      → (result : Result FeedExtract FeedFault)
-      → IfOk result (λ published. BytesSpellFeed feed allowed max bytes (feed_parts published))
+      → (result : Result FeedExtract FeedFault) → IfOk result (λ published. BytesSpellFeed feed allowed max bytes (feed_parts published))
       → IfErr result (IsFeedFault feed allowed max bytes after) → IsReadAs feed_parts x result
   read_as bytes x s after (Ok p) ok err = one_feed (contents_of bytes) (feed_parts p) x ok.spell s.spell
   read_as bytes x s after (Err (Extract (fault.Refused line why))) ok err =

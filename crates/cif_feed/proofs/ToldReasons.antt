@@ -1,6 +1,6 @@
 -- How many lines have a reason, and the first of them, line by line.
-use Rattle.std.proofs.Common.{◌≡◌, ◌≢◌, ℕ, ◌+◌, ◌-◌, ◌<◌, ◌≤◌, Bool, true, false, not, cond, nat_eq, List, [], ◌∷◌, ◌++◌, length, Option, Some, None}
-use Rattle.std.proofs.Common.{refl, sym, ap, ◌∙◌, arith, filter, get_or, length-append, set, eq-eqb, ne_eqb}
+use Rattle.std.proofs.Common.{◌≡◌, ◌≢◌, ℕ, ◌+◌, ◌-◌, ◌<◌, ◌≤◌, Bool, true, false, not, cond, nat_eq, List, [], ◌∷◌, ◌++◌, length, Option}
+use Rattle.std.proofs.Common.{Some, None, refl, sym, ap, ◌∙◌, arith, filter, get_or, length-append, set, eq-eqb, ne_eqb}
 use Rattle.std.proofs.lemmas.Bool.{eqb-true, false≢true}
 use Rattle.std.proofs.lemmas.Bool.Decides.{nat_tests}
 use Rattle.std.proofs.lemmas.List.{get_or-set_other, get_or-set_same}
@@ -112,8 +112,7 @@ module _ (reasons : List (Option Refusal)) (why : Refusal) (line : ℕ) (old new
       ∙ ap (λ n. get_or (set old.first (place_of why) (cond (nat_eq (lines_in old why) 0) line (first_in old why))) n 0) here
       ∙ get_or-set_same old.first (place_of why) (cond (nat_eq (lines_in old why) 0) line (first_in old why)) 0 below
       ∙ ap (λ n. cond (nat_eq (get_or old.lines n 0) 0) line (get_or old.first n 0)) (sym here)
-      ∙ ap (λ n. cond (nat_eq n 0) line (first_in old other)) (told.lines other)
-      ∙ at (nat_eq (lines_for other reasons) 0) refl
+      ∙ ap (λ n. cond (nat_eq n 0) line (first_in old other)) (told.lines other) ∙ at (nat_eq (lines_for other reasons) 0) refl
     where
       passes : is_for other (Some why) ≡ true
       passes = eq-eqb (number_of why) (number_of other) same
@@ -146,8 +145,7 @@ module _ (reasons : List (Option Refusal)) (why : Refusal) (line : ℕ) (old new
       let before : 0 < lines_for other reasons = omega (arith, some, same) in
       ap (λ l. get_or l (place_of other) 0) first_are
       ∙ get_or-set_other old.first (place_of why) (place_of other) (cond (nat_eq (lines_in old why) 0) line (first_in old why)) 0
-      (other_place other ne)
-      ∙ told.first other before ∙ ap (λ n. n + 1) (sym (first_kept (is_for other) reasons (Some why) before))
+      (other_place other ne) ∙ told.first other before ∙ ap (λ n. n + 1) (sym (first_kept (is_for other) reasons (Some why) before))
 
   pub tell_more : TellReasons (reasons ++ Some why ∷ []) new
   tell_more = record {
@@ -175,7 +173,8 @@ no_line : (why : Refusal) (first other : ℕ) → reason_line why 0 first ≡ re
 unfolding reason_line
 no_line why first other = refl
 
-same_line : (why : Refusal) (lines first other : ℕ) → (0 < lines → first ≡ other) → reason_line why lines first ≡ reason_line why lines other
+same_line : (why : Refusal) (lines first other : ℕ) → (0 < lines → first ≡ other) → reason_line why lines first
+    ≡ reason_line why lines other
 same_line why lines first other same = at (nat_eq lines 0) refl
   where
     at : (b : Bool) → b ≡ nat_eq lines 0 → reason_line why lines first ≡ reason_line why lines other

@@ -25,18 +25,17 @@ one_refused key old changes p q a b =
 pub one_list : (u : UpdateParts) (old : PublishedParts) (p q : List RefusedLine) → AreRefusedLines u old p → AreRefusedLines u old q → p ≡ q
 one_list u old p q a b =
     a.are
-    ∙ ap (λ l. told_once 0 (l ++ (a.associations ++ a.schedules))) (one_refused _ old.tiplocs u.tiplocs a.tiplocs b.tiplocs a.of_tiplocs b.of_tiplocs)
+    ∙ ap (λ l. told_once 0 (l ++ (a.associations ++ a.schedules)))
+    (one_refused _ old.tiplocs u.tiplocs a.tiplocs b.tiplocs a.of_tiplocs b.of_tiplocs)
     ∙ ap (λ l. told_once 0 (b.tiplocs ++ (l ++ a.schedules)))
     (one_refused _ old.associations u.associations a.associations b.associations a.of_associations b.of_associations)
     ∙ ap (λ l. told_once 0 (b.tiplocs ++ (b.associations ++ l)))
-    (one_refused _ old.schedules u.schedules a.schedules b.schedules a.of_schedules b.of_schedules)
-    ∙ sym b.are
+    (one_refused _ old.schedules u.schedules a.schedules b.schedules a.of_schedules b.of_schedules) ∙ sym b.are
 
 module _ (lenient : Bool) (max : ℕ) (old new : PublishedParts) (u : UpdateParts) (waived : List RefusedLine) (updated : IsUpdated u old new)
     (refused : AreRefusedLines u old waived) where
   pub done_ok : (start : Option (List ℕ)) (result : Result Outcome FeedFault) → IfSome start (λ bytes. BytesSpellUpdate max bytes u)
-      → IsDone lenient waived result
-      → IfSome start (λ bytes. IfOk result (λ done. IsUpdatedBy lenient old max bytes new done.waived.items))
+      → IsDone lenient waived result → IfSome start (λ bytes. IfOk result (λ done. IsUpdatedBy lenient old max bytes new done.waived.items))
   done_ok None result spelled is = tt
   done_ok (Some bytes) (Err f) spelled is = tt
   done_ok (Some bytes) (Ok done) spelled is = record {

@@ -40,8 +40,7 @@ same_with_keys {K} {R} key (x ∷ xs) (y ∷ ys) e =
 
 -- changes leave one list
 one_after : {K R : Type 0} (key : R → K) (old : List R) (cs : List (Change K R)) (p q : List R) → AreAfter key old cs p
-    → AreAfter key old cs q
-    → p ≡ q
+    → AreAfter key old cs q → p ≡ q
 one_after key old cs p q a b =
     same_with_keys key p q
     (a.after ∙ after_all-alike a.same b.same (same_alike a.same b.same a.tells b.tells) (with_keys key old) (changes_of key cs)
@@ -74,21 +73,18 @@ module _ (lenient : Bool) (max : ℕ) where
 
   -- and so are several
   one_done : (old : PublishedParts) (us : List (List ℕ)) (p q : PublishedParts) (v w : List RefusedLine)
-      → AreUpdatesDone lenient max old us p v
-      → AreUpdatesDone lenient max old us q w → AreSame p q v w
+      → AreUpdatesDone lenient max old us p v → AreUpdatesDone lenient max old us q w → AreSame p q v w
   one_done old [] p q v w a b = record { parts = a.0 ∙ sym b.0; lines = a.1 ∙ sym b.1 }
   one_done old (u ∷ us) p q v w a b =
       let (mid, first, others, one, more, all) = a in
       let (mid₂, first₂, others₂, one₂, more₂, all₂) = b in
       let same = one_by old u mid mid₂ first first₂ one one₂ in
-      let rest = one_done mid us p q others others₂ more
-      (subst (λ m. AreUpdatesDone lenient max m us q others₂) (sym same.parts) more₂) in
+      let rest = one_done mid us p q others others₂ more (subst (λ m. AreUpdatesDone lenient max m us q others₂) (sym same.parts) more₂) in
       record { parts = rest.parts; lines = all ∙ ap (λ l. l ++ others) same.lines ∙ ap (λ l. first₂ ++ l) rest.lines ∙ sym all₂ }
 
   -- what fits stays such
   done_fits : (old : PublishedParts) (us : List (List ℕ)) (new : PublishedParts) (w : List RefusedLine)
-      → AreUpdatesDone lenient max old us new w
-      → FitsColumns (of_profile old) → FitsColumns (of_profile new)
+      → AreUpdatesDone lenient max old us new w → FitsColumns (of_profile old) → FitsColumns (of_profile new)
   done_fits old [] new w done fits = subst (λ p. FitsColumns (of_profile p)) (sym done.0) fits
   done_fits old (u ∷ us) new w done fits =
       let (mid, first, others, one, more, all) = done in
@@ -178,8 +174,7 @@ module _ (lenient : Bool) (max : ℕ) where
       (written : IsWritten lenient max full us between waived) (within : length (contents_of between) ≤ max) where
     fits : FitsColumns (of_profile written.new)
     fits =
-        done_fits written.old us written.new waived written.done
-        (said_fits all_codes (contents_of full) written.old written.spelled.spell)
+        done_fits written.old us written.new waived written.done (said_fits all_codes (contents_of full) written.old written.spelled.spell)
 
     -- what the first run leaves is what the second reads
     pub read_again : BytesSpellPublished all_codes max between written.new

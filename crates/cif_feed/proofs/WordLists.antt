@@ -1,6 +1,6 @@
 -- The words of a text, one after another.
-use Rattle.std.proofs.Common.{◌≡◌, ℕ, ◌+◌, ◌<◌, ◌≤◌, ◌==◌, Bool, true, false, cond, nat_lt, List, [], ◌∷◌, length, get_or, take, drop, refl, sym}
-use Rattle.std.proofs.Common.{ap, ◌∙◌, arith, ⊎_elim, eq-eqb, subst, not, length-drop}
+use Rattle.std.proofs.Common.{◌≡◌, ℕ, ◌+◌, ◌<◌, ◌≤◌, ◌==◌, Bool, true, false, cond, nat_lt, List, [], ◌∷◌, length, get_or, take, drop, refl}
+use Rattle.std.proofs.Common.{sym, ap, ◌∙◌, arith, ⊎_elim, eq-eqb, subst, not, length-drop}
 use Rattle.std.specs.List.{before_first, after_first, position_or_len}
 use Rattle.std.specs.Prelude.{filter}
 use Rattle.std.proofs.lemmas.Bool.{cases_lt, eqb-true}
@@ -70,8 +70,7 @@ module _ (xs : List ℕ) where
       let whole : front ≡ xs = take_all place xs all in
       ap (filter (λ (word : List ℕ). nat_lt 0 (length word)))
       (slice_split_none is_space xs (λ k d below. fails_before_first is_space xs k d (omega arith)))
-      ∙ ap (λ (b : Bool). cond b (xs ∷ []) []) (ap (λ (l : List ℕ). nat_lt 0 (length l)) (sym whole) ∙ kept)
-      ∙ ap (λ l. l ∷ []) (sym whole)
+      ∙ ap (λ (b : Bool). cond b (xs ∷ []) []) (ap (λ (l : List ℕ). nat_lt 0 (length l)) (sym whole) ∙ kept) ∙ ap (λ l. l ∷ []) (sym whole)
       ∙ ap (λ l. front ∷ l)
       (sym (ap words_in (drop_of_length-le xs (omega (arith, front_long))) ∙ words-none)))
       (cases_lt place (length xs))
@@ -81,8 +80,7 @@ module _ (bytes : List ℕ) (start : ℕ) (passed : words_in (drop start bytes) 
     (is : word ≡ before_first (λ b. b == 32) (drop start bytes)) where
   pub first-some : 0 < length word → words_in bytes ≡ word ∷ words_in (drop (length word) (drop start bytes))
   first-some some =
-      sym passed
-      ∙ subst (λ (w : List ℕ). words_in (drop start bytes) ≡ w ∷ words_in (drop (length w) (drop start bytes))) (sym is)
+      sym passed ∙ subst (λ (w : List ℕ). words_in (drop start bytes) ≡ w ∷ words_in (drop (length w) (drop start bytes))) (sym is)
       (words-first (drop start bytes) (subst (λ (w : List ℕ). 0 < length w) is some))
 
   pub first-none : (start < length bytes → get_or bytes start 0 ≡ 32 → ⊥) → length word ≡ 0 → words_in bytes ≡ []

@@ -1,6 +1,6 @@
 -- Texts that are written one after another.
-use Rattle.std.proofs.Common.{◌≡◌, ℕ, ◌+◌, ◌<◌, ◌≤◌, List, [], ◌∷◌, ◌++◌, Option, Some, map, take, drop, length, get_or}
-use Rattle.std.proofs.Common.{refl, sym, ap, ◌∙◌, subst, append-nil, take-append-drop}
+use Rattle.std.proofs.Common.{◌≡◌, ℕ, ◌+◌, ◌<◌, ◌≤◌, List, [], ◌∷◌, ◌++◌, Option, Some, map, take, drop, length, get_or, refl, sym, ap, ◌∙◌}
+use Rattle.std.proofs.Common.{subst, append-nil, take-append-drop}
 use Rattle.std.specs.List.{flat_map}
 use Rattle.std.proofs.lemmas.Grind.{flat_map-append}
 use Rattle.std.proofs.lemmas.List.{map-append, take_all, take_more}
@@ -25,8 +25,8 @@ use Rattle.cif_records.specs.declared.header.Header.{Header}
 use Rattle.cif_records.specs.declared.tiploc.Tiploc.{Tiploc}
 use Rattle.cif_feed.specs.PreparedParts.{association_on, prepared_parts, schedule_on}
 use Rattle.cif_feed.specs.PublishedParts.{PublishedParts, published_association_line, published_schedule_lines, published_text}
-use Rattle.cif_feed.specs.Steps.Written.{prepared_association_text, prepared_schedule_text}
-use Rattle.cif_feed.specs.Steps.Written.{head_text, published_association_text, published_schedule_text, records_text, tiploc_text, trailer_text}
+use Rattle.cif_feed.specs.Steps.Written.{prepared_association_text, prepared_schedule_text, head_text, published_association_text}
+use Rattle.cif_feed.specs.Steps.Written.{published_schedule_text, records_text, tiploc_text, trailer_text}
 use Rattle.cif_feed.specs.declared.prepared_record.PreparedRecord.{PreparedRecord}
 use Rattle.cif_feed.specs.declared.published_extract.PublishedExtract.{PublishedExtract}
 
@@ -78,12 +78,14 @@ lines-map : {A : Type 0} (line : A → List ℕ) (xs : List A) → lines_text (m
 lines-map line [] = refl
 lines-map line (x ∷ xs) = ap (λ l. (line x ++ 10 ∷ []) ++ l) (lines-map line xs)
 
-lines-flat : {A : Type 0} (lines : A → List (List ℕ)) (xs : List A) → lines_text (flat_map lines xs) ≡ flat_map (λ x. lines_text (lines x)) xs
+lines-flat : {A : Type 0} (lines : A → List (List ℕ)) (xs : List A) → lines_text (flat_map lines xs)
+    ≡ flat_map (λ x. lines_text (lines x)) xs
 lines-flat lines [] = refl
 lines-flat lines (x ∷ xs) = lines-append (lines x) (flat_map lines xs) ∙ ap (λ l. lines_text (lines x) ++ l) (lines-flat lines xs)
 
 -- the texts of a header, of locations, of records and of the trailer are the text of their lines
-texts-whole : {A S : Type 0} (header : Header) (tiplocs : List Tiploc) (line : A → List ℕ) (xs : List A) (lines : S → List (List ℕ)) (ss : List S)
+texts-whole : {A S : Type 0} (header : Header) (tiplocs : List Tiploc) (line : A → List ℕ) (xs : List A) (lines : S → List (List ℕ))
+    (ss : List S)
     → records_text header tiplocs (flat_map (λ a. line a ++ 10 ∷ []) xs) (flat_map (λ s. lines_text (lines s)) ss)
     ≡ lines_text (plain_line (header_table header) ∷ (map (λ (t : Tiploc). plain_line (tiploc_table t)) tiplocs
     ++ (map line xs ++ (flat_map lines ss ++ (plain_line trailer_table ∷ [])))))
@@ -96,8 +98,7 @@ texts-whole header tiplocs line xs lines ss =
     ∙ ap (λ l. l ++ lines_text (associations ++ (schedules ++ last))) (lines-map (λ (t : Tiploc). plain_line (tiploc_table t)) tiplocs)
     ∙ ap (λ l. flat_map tiploc_text tiplocs ++ l)
     (lines-append associations (schedules ++ last)
-    ∙ ap (λ l. l ++ lines_text (schedules ++ last)) (lines-map line xs)
-    ∙ ap (λ l. flat_map (λ a. line a ++ 10 ∷ []) xs ++ l)
+    ∙ ap (λ l. l ++ lines_text (schedules ++ last)) (lines-map line xs) ∙ ap (λ l. flat_map (λ a. line a ++ 10 ∷ []) xs ++ l)
     (lines-append schedules last
     ∙ ap (λ l. l ++ lines_text last) (lines-flat lines ss)
     ∙ ap (λ l. flat_map (λ s. lines_text (lines s)) ss ++ l) (append-nil trailer_text)))))

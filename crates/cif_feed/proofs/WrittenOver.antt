@@ -24,8 +24,7 @@ module _ (first : ℕ) (d l : List ℕ) (from : 1 ≤ first) (within : first - 1
       let all : first - 1 ≡ a - 1 + left = omega arith in
       let some : many ≤ length (drop (a - 1) front) = omega (arith, place, length-drop (a - 1) front) in
       ap (take many) (drop-append-le (a - 1) front (d ++ rest) (omega (arith, place)))
-      ∙ take-append-le many (drop (a - 1) front) (d ++ rest) some
-      ∙ ap (λ (n : ℕ). take many (drop (a - 1) (take n l))) all
+      ∙ take-append-le many (drop (a - 1) front) (d ++ rest) some ∙ ap (λ (n : ℕ). take many (drop (a - 1) (take n l))) all
       ∙ ap (take many) (drop-take (a - 1) left l) ∙ take-take many left (drop (a - 1) l) (omega arith)
 
   -- those behind

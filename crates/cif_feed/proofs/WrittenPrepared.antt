@@ -99,8 +99,7 @@ module _ (h : Holidays) (drops : Bool) (max : ℕ) where
     -- what was read was prepared
     pub read_prepared : (start : Option (List ℕ)) (p : PublishedParts) (result : Result A FeedFault)
         → IfSome start (λ bytes. BytesSpellPublished (codes_named h) max bytes p)
-        → WritesPrepared contents errors told h drops p old new result
-        → (text : List ℕ) × FeedWrites contents errors text old new result
+        → WritesPrepared contents errors told h drops p old new result → (text : List ℕ) × FeedWrites contents errors text old new result
         × IfSome start (λ bytes. Prepares told h drops max bytes text result)
     read_prepared start p (Ok done) spelled w = (extract_text w.0, w.2, known_text start p w.0 (told done) spelled w.1)
     read_prepared start p (Err (Extract fault.Write)) spelled w = (extract_text w.0, w.3, known_write start p w.0 w.1 spelled w.2)

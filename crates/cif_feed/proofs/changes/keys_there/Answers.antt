@@ -49,7 +49,8 @@ pub returns-clause-there : goal.returns-clause-there
 returns-clause-there g c = λ changes last.
     let same = same_by g.R.Rank.Ord.cmp g.R.Keyed.rank in
     let there = at_keys g.R.Keyed.rank (get g.R.Rank.Ord.cmp c.loop-record.there) in
-    says-there same (on_equiv g.R.Keyed.rank (eq_by_cmp_equiv g.met.R.Rank.Ord.total)) (with_keys g.R.Keyed.key c.args.records.now) changes there
+    says-there same (on_equiv g.R.Keyed.rank (eq_by_cmp_equiv g.met.R.Rank.Ord.total))
+    (with_keys g.R.Keyed.key c.args.records.now) changes there
     (subst (λ l. SaysAlone same (with_keys g.R.Keyed.key l) changes there)
     (take_all c.loop-record.record-index c.args.records.now c.loop-record-test.false) (c.loop-record.invariant.0 changes last))
 

@@ -37,8 +37,7 @@ loop-change-preserved g c =
           ∙ last-of_all key same (on_equiv rank (eq_by_cmp_equiv g.met.R.Rank.Ord.total)) all change others at
           (at_keys rank (get cmp c.args.last.now)) last next
           (omega (arith, long, length-reverse c.args.changes.items)))
-          ∙ ap (λ l. with_keys key c.loop-change.records.items ++ put_last same (changes_of key l)) (sym turned)
-          ∙ so_far last,
+          ∙ ap (λ l. with_keys key c.loop-change.records.items ++ put_last same (changes_of key l)) (sym turned) ∙ so_far last,
     )
 
 pub returns : goal.returns
@@ -48,5 +47,6 @@ returns g c =
     let none : c.loop-change.changes.items ≡ [] =
     nil_from_length c.loop-change.changes.items (omega (arith, c.in_default.ensures.cases.0, c.loop-change.changes.ok.0)) in
     λ last.
-    sym (ap (λ l. with_keys key c.loop-change.records.items ++ put_last (same_by g.R.Rank.Ord.cmp g.R.Keyed.rank) (changes_of key (reverse l))) none
+    sym (ap (λ l. with_keys key c.loop-change.records.items ++ put_last (same_by g.R.Rank.Ord.cmp g.R.Keyed.rank)
+    (changes_of key (reverse l))) none
     ∙ append-nil (with_keys key c.loop-change.records.items)) ∙ so_far last

@@ -1,5 +1,6 @@
 -- One change more: what is there after it (`says-after`), and whether it is refused (`refusals-more`).
-use Rattle.std.proofs.Common.{◌≡◌, ◌+◌, ◌∙◌, ◌++◌, ◌∷◌, [], Bool, false, Option, Some, cond, is_some, unwrap_or, sym, ap, subst, take, append-nil}
+use Rattle.std.proofs.Common.{◌≡◌, ◌+◌, ◌∙◌, ◌++◌, ◌∷◌, [], Bool, false, Option, Some, cond, is_some, unwrap_or, sym, ap, subst, take}
+use Rattle.std.proofs.Common.{append-nil}
 use Rattle.std.specs.BTreeMap.{get}
 use Rattle.std.specs.Cmp.{on_equiv}
 use Rattle.std.specs.Ordering.{eq_by_cmp}
@@ -31,7 +32,8 @@ loop-change-preserved g c = λ records start.
     let now : is_there same (after_all same records done) change.key ≡ c.unwrap_or-is_there.result =
     (sym (says.says change.key (change-changed key xs at x c.loop-change-test.true c.change-item.is same laws))
     ∙ ap (λ n. unwrap_or (get cmp c.loop-change.there n) false) (sym c.rank_of-rank.ensures)
-    ∙ ap (λ (o : Option Bool). unwrap_or o false) (sym c.get.ensures.value) ∙ ap (λ (o : Option Bool). unwrap_or o false) (sym c.copied.ensures)
+    ∙ ap (λ (o : Option Bool). unwrap_or o false) (sym c.get.ensures.value)
+    ∙ ap (λ (o : Option Bool). unwrap_or o false) (sym c.copied.ensures)
     ∙ sym c.unwrap_or-is_there.ensures) in
     let told : refusals same records (changes_of key (take (at + 1) xs))
     ≡ c.loop-change.refused.items ++ cond c.may.result [] (record { line = change.line; is_there = c.unwrap_or-is_there.result } ∷ []) =
@@ -41,7 +43,8 @@ loop-change-preserved g c = λ records start.
     ∙ ap (λ (b : Bool). let r : RefusedLine = record { line = change.line; is_there = c.unwrap_or-is_there.result } in
     c.loop-change.refused.items ++ cond b [] (r ∷ [])) (sym c.may.ensures)) in (
       subst (λ l. SaysThere same (after_all same records l) all (at_keys rank (get cmp c.insert.new.self))) (sym more)
-          (subst (λ l. SaysThere same l all (at_keys rank (get cmp c.insert.new.self))) (sym (after_all-append same records done (change ∷ [])))
+          (subst (λ l. SaysThere same l all (at_keys rank (get cmp c.insert.new.self)))
+          (sym (after_all-append same records done (change ∷ [])))
           (says-after same laws (after_all same records done) all change (at_keys rank (get cmp c.loop-change.there))
           (at_keys rank (get cmp c.insert.new.self)) says
           (λ q. subst (λ n. get cmp c.insert.new.self (rank q)
@@ -52,17 +55,18 @@ loop-change-preserved g c = λ records start.
           c.puts.ensures)))),
       elim c.if-not-may.branch [
         | then-not-may+in_ok-push w ↦ rw (w.refused-is, w.in_ok-push.ensures.items)
-            (ap (λ (b : Bool). c.loop-change.refused.items ++ cond b [] (record { line = change.line; is_there = c.unwrap_or-is_there.result } ∷ []))
+            (ap (λ (b : Bool). c.loop-change.refused.items ++ cond b []
+            (record { line = change.line; is_there = c.unwrap_or-is_there.result } ∷ []))
             (sym w.if-not-may.true) ∙ sym told)
         | else-not-may w ↦ rw w.refused-is
             (sym (append-nil c.loop-change.refused.items)
-            ∙ ap (λ (b : Bool). c.loop-change.refused.items ++ cond b [] (record { line = change.line; is_there = c.unwrap_or-is_there.result } ∷ []))
+            ∙ ap (λ (b : Bool). c.loop-change.refused.items ++ cond b []
+            (record { line = change.line; is_there = c.unwrap_or-is_there.result } ∷ []))
             (sym w.if-not-may.false) ∙ sym told)
       ],
     )
 
 pub returns : goal.returns
-returns g c = λ records start.
-    (c.loop-change.invariant records start).1
+returns g c = λ records start. (c.loop-change.invariant records start).1
     ∙ ap (λ l. refusals (same_by g.R.Rank.Ord.cmp g.R.Keyed.rank) records (changes_of g.R.Keyed.key l))
     (take_all c.loop-change.change-index c.args.changes.now c.loop-change-test.false)

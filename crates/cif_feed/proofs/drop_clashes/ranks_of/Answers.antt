@@ -21,8 +21,7 @@ loop-clash-preserved g c = λ r k stands.
     let below = subst (λ (x : KeyClash). x.position < length c.args.entries.now) (sym c.clash-item.is)
     (c.requires c.loop-clash.clash-index clash c.loop-clash-test.true) in
     let order = g.met.E.Entry.same_order c.rank.result r (key entry) k c.rank.ensures stands in
-    c.in_ok-insert.ensures.updates.0 r
-    ∙ ap (λ o. cond (is_eq o) true (contains g.E.Rank.Ord.cmp c.loop-clash.ranks r)) order
+    c.in_ok-insert.ensures.updates.0 r ∙ ap (λ o. cond (is_eq o) true (contains g.E.Rank.Ord.cmp c.loop-clash.ranks r)) order
     ∙ ap (λ b. cond (same (key entry) k) true b) (c.loop-clash.invariant r k stands)
     ∙ cond-or (same (key entry) k) (are_of same es (take c.loop-clash.clash-index c.args.found.now) k)
     ∙ sym (of-more same es c.args.found.now c.loop-clash.clash-index clash (key entry) c.loop-clash-test.true c.clash-item.is

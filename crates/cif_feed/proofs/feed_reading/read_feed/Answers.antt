@@ -1,5 +1,5 @@
--- The invariant names the contents so far: one more (`feed_line`, `feed_comment`), one refused (`at_feed_line`) and the end are profile_line of
--- them all.
+-- The invariant names the contents so far: one more (`feed_line`, `feed_comment`), one refused (`at_feed_line`) and the end are
+-- profile_line of them all.
 use Rattle.std.proofs.Common.{◌≡◌, ◌+◌, ◌<◌, ◌≤◌, length, [], ◌++◌, ◌∷◌, IfSome, ◌∙◌, ap, arith, refl, subst, sym}
 use Rattle.cif_columns.proofs.GivenLinesLaws.{known_both, nothing_left, reading_decides, reading_ends, reading_faults, reading_starts}
 use Rattle.cif_columns.proofs.PassedLines.{next_passed}
@@ -61,7 +61,15 @@ take-requires-clause-room g c =
     let (cs, so_far, taken, fine, read_on) = c.loop-columns.invariant in
     let got = rw c.in-Ok-Line.field-0-is at c.in-Ok-Line.ensures in
     let more : given c.read_content.new.self ≡ given c.loop-columns.lines + 1 = got.0.counted in
-    omega (arith, more, ap (λ (p : Passed). p.notes) taken.passed, fewer is_note cs, so_far.counted, c.read_content.new.self.counted, c.read_content.new.self.limited)
+    omega (
+      arith,
+      more,
+      ap (λ (p : Passed). p.notes) taken.passed,
+      fewer is_note cs,
+      so_far.counted,
+      c.read_content.new.self.counted,
+      c.read_content.new.self.limited,
+    )
 
 pub loop-columns-preserved-in-Ok-take : goal.loop-columns-preserved-in-Ok-take
 loop-columns-preserved-in-Ok-take g c =
@@ -179,8 +187,7 @@ returns-in-Ok-End-clause-fault g c =
     let next = rw c.in-Ok-End.field-0-is at c.in-Ok-End.ensures in
     let number : c.line_number.result ≡ length cs = c.line_number.ensures ∙ next.ended refl ∙ so_far.counted in
     feed_truncated c.args.feed c.args.allowed c.args.max_lines (g.R.Read.remaining c.args.source.now.reader) cs fine
-    (unread_of g.R.Read.remaining c.read_content.new.source) c.line_number.result c.finish.result
-    (next.told so_far.reads_on refl)
+    (unread_of g.R.Read.remaining c.read_content.new.source) c.line_number.result c.finish.result (next.told so_far.reads_on refl)
     (reading_ends g.R.Read.remaining _ _ _ _ cs so_far c.read_content.new.self c.read_content.new.source next.answer) number
     c.finish.ensures.truncated (c.finish.ensures.unfinished c.args.feed c.args.allowed cs taken)
 

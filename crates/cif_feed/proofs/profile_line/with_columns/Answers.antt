@@ -15,5 +15,4 @@ pub returns : goal.returns
 returns g c =
     c.of_printable.ensures
     ∙ written-is c.args.first g.row.N c.bytes.result.now c.args.columns.now c.copy_from_slice.new.self c.requires.from_one
-    c.copy_from_slice.ensures.after c.told-columns
-    ∙ ap (with_columns c.args.first c.args.columns.now) c.bytes.ensures.value
+    c.copy_from_slice.ensures.after c.told-columns ∙ ap (with_columns c.args.first c.args.columns.now) c.bytes.ensures.value

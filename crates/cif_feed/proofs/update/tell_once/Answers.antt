@@ -1,5 +1,6 @@
 -- One line more is told, or not (`told-more`).
-use Rattle.std.proofs.Common.{◌≡◌, ◌∙◌, ◌++◌, ◌∷◌, [], ◌==◌, ℕ, ◌+◌, false, cond, ap, sym, take, get_or, append-nil, append_assoc, eq-eqb, ne_eqb}
+use Rattle.std.proofs.Common.{◌≡◌, ◌∙◌, ◌++◌, ◌∷◌, [], ◌==◌, ℕ, ◌+◌, false, cond, ap, sym, take, get_or, append-nil, append_assoc, eq-eqb}
+use Rattle.std.proofs.Common.{ne_eqb}
 use Rattle.std.proofs.lemmas.List.{take_all, take_more}
 use Rattle.cif_feed.specs.Steps.Changes.{last_line}
 use Rattle.cif_feed.specs.Updated.{told_once}
@@ -37,7 +38,8 @@ loop-line-preserved c =
 pub returns-clause-told : goal.returns-clause-told
 returns-clause-told c =
     c.loop-line.invariant.0
-    ∙ ap (λ l. c.args.told.now.items ++ told_once c.args.previous l) (take_all c.loop-line.line-index c.args.refused.now c.loop-line-test.false)
+    ∙ ap (λ l. c.args.told.now.items ++ told_once c.args.previous l)
+    (take_all c.loop-line.line-index c.args.refused.now c.loop-line-test.false)
 
 pub returns-clause-last : goal.returns-clause-last
 returns-clause-last c =

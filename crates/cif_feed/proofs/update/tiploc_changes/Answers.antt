@@ -47,6 +47,5 @@ returns c =
     let none : c.loop-tiploc.tiplocs.items ≡ [] =
     nil_from_length c.loop-tiploc.tiplocs.items (omega (arith, c.in_default.ensures.cases.0, c.loop-tiploc.tiplocs.ok.0)) in
     let no_marks : c.loop-tiploc.marks.items ≡ [] = nil_from_length c.loop-tiploc.marks.items (omega (arith, long, ap length none)) in
-    c.reverse.ensures.items ∙ made
-    ∙ ap (λ l. tiploc_changes l marks) (sym (tiplocs_are ∙ ap (λ l. l ++ tiplocs) none))
+    c.reverse.ensures.items ∙ made ∙ ap (λ l. tiploc_changes l marks) (sym (tiplocs_are ∙ ap (λ l. l ++ tiplocs) none))
     ∙ ap (λ l. tiploc_changes c.args.tiplocs.items l) (sym (marks_are ∙ ap (λ l. l ++ marks) no_marks))

@@ -12,7 +12,8 @@ pub returns-in_err-write_all : goal.returns-in_err-write_all
 returns-in_err-write_all g c =
     let a = c.args in
     let text = c.text.ensures ∙ ap (λ (t : List ℕ × List ℕ). t.0 ++ t.1) c.set_first.ensures in
-    let others = kept_text c.further_lines.result a.body.now c.take-rest.new.self.1 c.take-rest.result c.further_lines.ensures c.take-rest.ensures in
+    let others = kept_text c.further_lines.result a.body.now c.take-rest.new.self.1 c.take-rest.result c.further_lines.ensures
+    c.take-rest.ensures in
     writes_err _ _ _ _ _ c.from_residual.result c.from_residual.ensures.0
     (first_failed a.basic.now c.take-rest.new.self.1 (map plain_line (body_tables (Some a.body.now))) c.take-rest.result others _ _ _ _
     (subst (λ t. HasFailed g.W.Write.contents g.W.WriteDevice.write_errors t a.sink.now c.write_all.new.self) text
@@ -22,7 +23,8 @@ pub returns : goal.returns
 returns g c =
     let a = c.args in
     let text = c.text.ensures ∙ ap (λ (t : List ℕ × List ℕ). t.0 ++ t.1) c.set_first.ensures in
-    let others = kept_text c.further_lines.result a.body.now c.take-rest.new.self.1 c.take-rest.result c.further_lines.ensures c.take-rest.ensures in
+    let others = kept_text c.further_lines.result a.body.now c.take-rest.new.self.1 c.take-rest.result c.further_lines.ensures
+    c.take-rest.ensures in
     second_writes a.basic.now c.take-rest.new.self.1 (map plain_line (body_tables (Some a.body.now))) c.take-rest.result others _ _ _ _ _ _
     (subst (λ t. HasWritten g.W.Write.contents g.W.WriteDevice.write_errors t a.sink.now c.write_all.new.self) text
     c.in_ok-write_all.ensures) c.write_lines.ensures

@@ -8,5 +8,4 @@ returns-in-Err-clause-err c = λ taken so_far.
     let bytes = c.args.bytes.now in
     let i = c.loop-byte.byte-index in
     refused-further ((taken ++ take i bytes) ++ get_or bytes i 0 ∷ []) (taken ++ bytes) (drop (i + 1) bytes) c.in-Err.fault
-    (at-place taken bytes i c.loop-byte-test.true)
-    (c.in-Err.ensures.err (taken ++ take i bytes) (c.loop-byte.invariant.0 taken so_far))
+    (at-place taken bytes i c.loop-byte-test.true) (c.in-Err.ensures.err (taken ++ take i bytes) (c.loop-byte.invariant.0 taken so_far))

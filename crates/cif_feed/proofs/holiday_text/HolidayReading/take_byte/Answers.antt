@@ -16,7 +16,8 @@ returns-in-Ok-add_line-clause-ok c = λ taken so_far.
     let this = c.args.self.now in
     let content = c.without_return-content.ensures ∙ ap strip_carriage_return c.as_slice.ensures.value in
     let ok = c.in-Ok-add_line.ensures.ok in
-    taken-line taken this.lines this.rest.items this.holidays so_far c.args.byte c.clear.new.self.items c.add_line.new.self c.if-byte-ne10.false
+    taken-line taken this.lines this.rest.items this.holidays so_far c.args.byte c.clear.new.self.items c.add_line.new.self
+    c.if-byte-ne10.false
     c.clear.ensures ok.0
     (subst IsHolidayLine content ok.1) (subst (λ (l : List ℕ). HasLineMore this.holidays l c.add_line.new.self) content ok.2)
 

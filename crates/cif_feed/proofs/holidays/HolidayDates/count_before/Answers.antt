@@ -8,7 +8,8 @@ point : (c : goal.After-partition_point) → IsPartitionPoint (λ (d : ℕ). ltb
     c.args.self.now.days.items c.partition_point.result
 point c =
     let items = c.as_slice.ensures.value in
-    subst (λ (l : List ℕ). IsPartitionPoint (λ (d : ℕ). ltb d c.args.day ≡ true) (λ (d : ℕ). ltb d c.args.day ≡ false) l c.partition_point.result)
+    subst (λ (l : List ℕ). IsPartitionPoint (λ (d : ℕ). ltb d c.args.day ≡ true)
+    (λ (d : ℕ). ltb d c.args.day ≡ false) l c.partition_point.result)
     items
     (IsPartitionPoint-from_clause (λ (d : ℕ). ltb d c.args.day) _ _ c.partition_point.ensures.partitioned
     (rw items (IsPartitionedBy-ltb (λ (d : ℕ). d) c.args.self.now.days.items c.args.day c.args.self.now.rising)) (λ a r q k. search rules))

@@ -1,4 +1,5 @@
--- The dates rise, so that one after the last day ends the search (`none-found`), and one on a weekday of the mask is the first (`date-found`).
+-- The dates rise, so that one after the last day ends the search (`none-found`), and one on a weekday of the mask is the first
+-- (`date-found`).
 use Rattle.std.proofs.Common.{ℕ, ◌<◌, rules, arith, ◌∙◌, ap, drop, subst}
 use Rattle.std.proofs.lemmas.List.{get_or_read, take_rest}
 use Rattle.cif_feed.proofs.DatesFrom.{date-found, none-found}
@@ -11,7 +12,8 @@ returns-then-gt c =
     c.args.self.now.rising c.count_before.ensures.before
     (take_rest c.as_slice.result.now c.count_before.result ∙ ap (drop c.count_before.result) c.as_slice.ensures.value)
     c.loop-day.invariant c.args.last
-    (λ below. subst (λ (n : ℕ). c.args.last < n) (get_or_read _ c.loop-day.day-index c.day-item.result c.loop-day-test.true c.day-item.is 0) after)
+    (λ below. subst (λ (n : ℕ). c.args.last < n)
+    (get_or_read _ c.loop-day.day-index c.day-item.result c.loop-day-test.true c.day-item.is 0) after)
 
 pub returns-then-has : goal.returns-then-has
 returns-then-has c =

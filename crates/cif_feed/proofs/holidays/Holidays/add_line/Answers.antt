@@ -5,7 +5,8 @@ use Rattle.cif_feed.specs.Words.{words_in}
 use Rattle.cif_feed.proofs.HolidayLines.{line-err, line-ok, one-byte}
 use Rattle.cif_feed.proofs.holidays.Holidays.add_line.Goals as goal
 
-words : (c : goal.After-add_dates) → words_of c.args.line.now ≡ (get_or c.first_word.result.0.now 0 0 ∷ []) ∷ words_in c.first_word.result.1.now
+words : (c : goal.After-add_dates) → words_of c.args.line.now
+    ≡ (get_or c.first_word.result.0.now 0 0 ∷ []) ∷ words_in c.first_word.result.1.now
 words c =
     let low : 1 ≤ length c.first_word.result.0.now = c.in-len1.len_at_least in
     let high : length c.first_word.result.0.now < 2 = c.in-len1.len_below in
@@ -14,8 +15,10 @@ words c =
 
 pub returns-in-Some-clause-ok : goal.returns-in-Some-clause-ok
 returns-in-Some-clause-ok c =
-    line-ok c.args.line.now (get_or c.first_word.result.0.now 0 0) (words_in c.first_word.result.1.now) (words c) c.in-Some.code c.args.self.now
-    c.add_dates.new.self c.args.number c.add_dates.result c.if-number-gt-MAX_LINES.false c.if-line-gt-LONGEST_LINE.false c.in-Some.ensures.found
+    line-ok c.args.line.now (get_or c.first_word.result.0.now 0 0) (words_in c.first_word.result.1.now)
+    (words c) c.in-Some.code c.args.self.now
+    c.add_dates.new.self c.args.number c.add_dates.result c.if-number-gt-MAX_LINES.false c.if-line-gt-LONGEST_LINE.false
+    c.in-Some.ensures.found
     c.add_dates.ensures.ok
 
 pub returns-in-Some-clause-err : goal.returns-in-Some-clause-err

@@ -70,8 +70,7 @@ pub returns-in-Err-take-clause-fault : goal.returns-in-Err-take-clause-fault
 returns-in-Err-take-clause-fault g c =
     let (taken, consumed, has, on, long) = c.loop-reading.invariant in
     refused_of_start (g.R.Read.remaining c.args.source.now.reader) (unread_of g.R.Read.remaining c.read.new.self) _ c.in-Err-take.fault
-    (Consumes-trans _ _ _ taken (take c.in-Ok.count c.read.new.buf) consumed c.in-Ok.ensures.bytes.0)
-    (c.in-Err-take.ensures.err taken has)
+    (Consumes-trans _ _ _ taken (take c.in-Ok.count c.read.new.buf) consumed c.in-Ok.ensures.bytes.0) (c.in-Err-take.ensures.err taken has)
 
 pub returns-in-Err-take-clause-only : goal.returns-in-Err-take-clause-only
 returns-in-Err-take-clause-only g c =

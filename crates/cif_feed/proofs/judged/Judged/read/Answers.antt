@@ -44,7 +44,8 @@ pub returns-in-Ok-Overlong-clause-ok : goal.returns-in-Ok-Overlong-clause-ok
 returns-in-Ok-Overlong-clause-ok g c =
     let (cs, so_far, judged, read_on, begun) = c.loop-content.invariant in
     let next = rw c.in-Ok-Overlong.field-0-is at c.in-Ok-Overlong.ensures in
-    let (last, gave) = given_overlong g.R.Read.remaining g.R.ReadDevice.read_errors _ _ _ _ cs so_far c.next.new.self c.next.new.source next in
+    let (last, gave) = given_overlong g.R.Read.remaining g.R.ReadDevice.read_errors _ _ _ _ cs so_far c.next.new.self c.next.new.source next
+    in
     let (long, wide, is) = last in
     let own = own_of_long long wide in
     let room : length cs < c.args.max_lines = omega (arith, next.holds.0, so_far.counted, so_far.same_limit) in

@@ -13,8 +13,7 @@ returns-in-None-clause-judged c = λ max contents line judged numbered within is
 pub returns-in-Some-clause-judged : goal.returns-in-Some-clause-judged
 returns-in-Some-clause-judged c = λ max contents line judged numbered within is.
     let found = judged_line line c.in-Ok.line (sym c.in-Ok.is ∙ is) in
-    c.refuse.ensures max contents line judged numbered
-    (own_of_line line found.1 ∙ ap record_refusal found.0 ∙ sym c.in-Some.ensures)
+    c.refuse.ensures max contents line judged numbered (own_of_line line found.1 ∙ ap record_refusal found.0 ∙ sym c.in-Some.ensures)
 
 pub returns-in-Err-clause-judged : goal.returns-in-Err-clause-judged
 returns-in-Err-clause-judged c = λ max contents line judged numbered within is.

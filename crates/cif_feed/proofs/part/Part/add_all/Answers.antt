@@ -29,7 +29,8 @@ loop-cut-preserved g c =
     let r = ended c.args.last (g.E.Entry.terms c.args.entry.now) in
     let first = c.loop-cut.first in
     let cut = c.in-Some-next_holiday.cut in
-    let found = subst (λ (days : List Bool). IsFirstFrom (IsHolidayOn h c.in-Some.code days) first c.args.last (Some cut)) c.days-days.ensures
+    let found = subst (λ (days : List Bool). IsFirstFrom (IsHolidayOn h c.in-Some.code days) first c.args.last
+    (Some cut)) c.days-days.ensures
     c.in-Some-next_holiday.ensures in
     let next = parts-next h c.in-Some.code r first own so_far begins cut found c.in-Some-next_up_to.ensures.0 in
     let is = sym c.in-Some-next_up_to.ensures.1 in (
@@ -47,7 +48,8 @@ returns-in-None g c =
     let r = ended c.args.last (g.E.Entry.terms c.args.entry.now) in
     let first = c.loop-cut.first in
     let cut = c.in-Some-next_holiday.cut in
-    let found = subst (λ (days : List Bool). IsFirstFrom (IsHolidayOn h c.in-Some.code days) first c.args.last (Some cut)) c.days-days.ensures
+    let found = subst (λ (days : List Bool). IsFirstFrom (IsHolidayOn h c.in-Some.code days) first c.args.last
+    (Some cut)) c.days-days.ensures
     c.in-Some-next_holiday.ensures in
     let end : ¬ cut < c.args.last = c.in-None.ensures in (
       own ++ before_cut first cut,
@@ -67,8 +69,7 @@ returns g c =
     c.in_default-next_holiday.ensures in
     let last : Part = record { first = first; last = c.args.last } in (
       own ++ last ∷ [],
-      c.in_ok-push-2.ensures.items ∙ ap (λ (l : List Part). l ++ last ∷ []) joined
-          ∙ append_assoc c.args.parts.now.items own (last ∷ []),
+      c.in_ok-push-2.ensures.items ∙ ap (λ (l : List Part). l ++ last ∷ []) joined ∙ append_assoc c.args.parts.now.items own (last ∷ []),
       subst (λ (code : Option HolidayCode). AreParts h code r (own ++ last ∷ [])) (sym c.in-Some.is)
           (parts-last h c.in-Some.code r first own so_far begins none),
     )

@@ -36,5 +36,6 @@ returns-clause-refused c =
         c.as_slice-2.ensures.value,
         c.as_slice-3.ensures.value,
       )
-          (append_assoc (told_once 0 ts) (told_once (last_line 0 ts) aas) (told_once (last_line (last_line 0 ts) aas) ss) ∙ told-three ts aas ss);
+          (append_assoc (told_once 0 ts) (told_once (last_line 0 ts) aas) (told_once (last_line (last_line 0 ts) aas) ss)
+          ∙ told-three ts aas ss);
     }

@@ -7,23 +7,27 @@ use Rattle.cif_feed.proofs.published_extract.PublishedExtract.update_from.Goals 
 
 pub returns-in-Ok-update-clause-ok : goal.returns-in-Ok-update-clause-ok
 returns-in-Ok-update-clause-ok g c =
-    done_ok c.args.lenient c.args.max_lines (published_parts c.args.self.now) (published_parts c.update.new.self) (update_parts c.in-Ok.update)
+    done_ok c.args.lenient c.args.max_lines (published_parts c.args.self.now) (published_parts c.update.new.self)
+    (update_parts c.in-Ok.update)
     c.in-Ok-update.waived.items c.in-Ok-update.ensures.updated c.in-Ok-update.ensures.refused (g.R.Read.remaining c.args.source.now.reader)
     c.answer_of.result c.in-Ok.ensures.ok c.answer_of.ensures
 
 pub returns-in-Ok-update-clause-only : goal.returns-in-Ok-update-clause-only
 returns-in-Ok-update-clause-only g c =
-    done_only c.args.lenient c.args.max_lines (published_parts c.args.self.now) (published_parts c.update.new.self) (update_parts c.in-Ok.update)
+    done_only c.args.lenient c.args.max_lines (published_parts c.args.self.now) (published_parts c.update.new.self)
+    (update_parts c.in-Ok.update)
     c.in-Ok-update.waived.items c.in-Ok-update.ensures.updated c.in-Ok-update.ensures.refused (g.R.Read.remaining c.args.source.now.reader)
     c.answer_of.result c.in-Ok.ensures.only c.answer_of.ensures
 
 pub returns-in-Ok-update-clause-fault : goal.returns-in-Ok-update-clause-fault
 returns-in-Ok-update-clause-fault g c =
-    done_fault c.args.lenient c.args.max_lines (published_parts c.args.self.now) (published_parts c.update.new.self) (update_parts c.in-Ok.update)
+    done_fault c.args.lenient c.args.max_lines (published_parts c.args.self.now) (published_parts c.update.new.self)
+    (update_parts c.in-Ok.update)
     c.in-Ok-update.waived.items c.in-Ok-update.ensures.updated c.in-Ok-update.ensures.refused (g.R.Read.remaining c.args.source.now.reader)
     (unread_of g.R.Read.remaining c.read.new.source) c.answer_of.result c.in-Ok.ensures.ok c.answer_of.ensures
 
 pub returns-in-Err-clause-only : goal.returns-in-Err-clause-only
 returns-in-Err-clause-only g c =
-    unread_only c.args.lenient c.args.max_lines (published_parts c.args.self.now) (g.R.Read.remaining c.args.source.now.reader) c.in-Err.fault
+    unread_only c.args.lenient c.args.max_lines (published_parts c.args.self.now)
+    (g.R.Read.remaining c.args.source.now.reader) c.in-Err.fault
     c.in-Err.ensures.only

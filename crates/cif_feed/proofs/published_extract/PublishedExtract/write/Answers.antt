@@ -7,6 +7,7 @@ use Rattle.cif_feed.proofs.published_extract.PublishedExtract.write.Goals as goa
 
 pub returns : goal.returns
 returns g c =
-    subst (λ text. Writes g.W.Write.contents g.W.WriteDevice.write_errors text c.args.sink.now c.write_records.new.sink c.write_records.result)
+    subst (λ text. Writes g.W.Write.contents g.W.WriteDevice.write_errors text c.args.sink.now c.write_records.new.sink
+    c.write_records.result)
     (published-whole (published_parts c.args.self.now))
     (rw (c.as_slice.ensures.value, c.as_slice-2.ensures.value, c.as_slice-3.ensures.value) at c.write_records.ensures)
