@@ -12,6 +12,7 @@ use Rattle.std.specs.List.{enumerate_from, flat_map, list_any}
 use Rattle.cif_columns.specs.Comment.{is_comment}
 use Rattle.cif_columns.specs.Field.{columns}
 use Rattle.cif_columns.specs.declared.refusal.Refusal.TheVariants.{OutOfOrder}
+use Rattle.cif_extract.proofs.FirstRefusals.{not_true}
 use Rattle.cif_extract.specs.Steps.Reading.{progress_of}
 use Rattle.cif_extract.specs.Steps.Reading as read
 use Rattle.cif_extract.specs.Taken.{HasTaken, IsTakenBehind, IsTakenPlainly, refusal_behind}
@@ -66,10 +67,6 @@ note_kind c = at (are (columns 1 2 c) (codes "TN")) (are (columns 1 2 c) (codes 
     at false true ea eb is = named (codes "LN") ((bytes_eq-Decides (columns 1 2 c) (codes "LN")).0 (sym eb)) refl
     at false false ea eb is = absurd (cc)
 
-unless_true : (b : Bool) → (b ≡ true → ⊥) → b ≡ false
-unless_true true h = absurd (h refl)
-unless_true false h = refl
-
 or_false : (a b : Bool) → b ≡ false → (a || b) ≡ a
 or_false true b is = refl
 or_false false b is = is
@@ -77,8 +74,8 @@ or_false false b is = is
 -- what names a kind is neither
 pub named_line : (c : List ℕ) (kind : Kind) → kind_in c ≡ Some kind → (is_comment c ≡ false) × (is_note c ≡ false)
 named_line c kind is = (
-  unless_true (is_comment c) (λ e. let none = (comment_kind c e).1 in cc),
-  unless_true (is_note c) (λ e. let none = note_kind c e in cc),
+  not_true (is_comment c) (λ e. let none = (comment_kind c e).1 in cc),
+  not_true (is_note c) (λ e. let none = note_kind c e in cc),
 )
 
 -- a location on the way stands as it is

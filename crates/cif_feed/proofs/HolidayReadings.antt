@@ -27,6 +27,7 @@ use Rattle.cif_feed.specs.declared.holiday_code.HolidayCode.{HolidayCode}
 use Rattle.cif_feed.specs.declared.holiday_text.HolidayFault.{HolidayFault}
 use Rattle.cif_feed.specs.declared.holiday_text.HolidayFault.TheVariants.{BadHoliday, Read, Memory}
 use Rattle.cif_feed.specs.declared.holidays.Holidays.{Holidays}
+use Rattle.cif_feed.proofs.ListSteps.{iff-by}
 
 -- ---- lines
 
@@ -68,7 +69,7 @@ first_feed (x ∷ xs) = at (x == 10) refl (first_feed xs)
         rest
 
 -- a carriage return is one byte
-stripped_long : (bytes : List ℕ) → length bytes ≤ length (strip_carriage_return bytes) + 1
+pub stripped_long : (bytes : List ℕ) → length bytes ≤ length (strip_carriage_return bytes) + 1
 stripped_long bytes = at (get_or bytes (length bytes - 1) 0 == 13)
   where
     at : (b : Bool) → length bytes ≤ length (cond b (take (length bytes - 1) bytes) bytes) + 1
@@ -110,14 +111,11 @@ some-push P ls line = (
 through : {A B C D : Type 0} → A ↔ (B ⊎ C) → B ↔ D → A ↔ (D ⊎ C)
 through one two = (λ a. ⊎_elim (λ b. inl (two.0 b)) (λ c. inr c) (one.0 a), λ h. one.1 (⊎_elim (λ d. inl (two.1 d)) (λ c. inr c) h))
 
-swapped : {A B C : Type 0} → A ↔ C → B ↔ C → A ↔ B
-swapped one two = (λ a. two.1 (one.0 a), λ b. one.1 (two.0 b))
-
 are-push : (ls : List (List ℕ)) (line : List ℕ) (old new : Holidays) → AreHolidaysOf ls old → HasLineMore old line new
     → AreHolidaysOf (ls ++ line ∷ []) new
 are-push ls line old new are more = record {
-  names = λ code. swapped (through (more.names code) (are.names code)) (some-push (LineNames code) ls line);
-  days = λ code d. swapped (through (more.days code d) (are.days code d)) (some-push (LineSays code d) ls line);
+  names = λ code. iff-by (through (more.names code) (are.names code)) (some-push (LineNames code) ls line);
+  days = λ code d. iff-by (through (more.days code d) (are.days code d)) (some-push (LineSays code d) ls line);
 }
 
 -- no lines

@@ -1,11 +1,11 @@
 -- What the judged contents so far have come to, and how their judging ends.
-use Rattle.std.proofs.Common.{◌≡◌, ◌≢◌, ◌⊎◌, ℕ, ◌+◌, ◌-◌, ◌<◌, ◌≤◌, Bool, true, false, cond, nat_eq, nat_lt, List, [], ◌∷◌, ◌++◌, ◌||◌}
+use Rattle.std.proofs.Common.{◌≡◌, ◌≢◌, ◌⊎◌, ℕ, ◌+◌, ◌<◌, ◌≤◌, Bool, true, false, cond, nat_eq, nat_lt, List, [], ◌∷◌, ◌++◌, ◌||◌}
 use Rattle.std.proofs.Common.{length, take, Option, Some, None, IfErr, IfOk, IfSome, IsSomeAnd, Result, Ok, Err, refl, sym, ap, ◌∙◌, subst}
-use Rattle.std.proofs.Common.{arith, get_or, length-append, length-take, true≢false, ⊎_elim}
+use Rattle.std.proofs.Common.{arith, get_or, length-append, true≢false, ⊎_elim}
 use Rattle.std.proofs.lemmas.Bool.Decides.{nat_tests}
 use Rattle.std.proofs.lemmas.List.Elements.{All-contains, All-head, All-map, All-tail}
 use Rattle.std.proofs.lemmas.List.{get_or_default}
-use Rattle.std.specs.List.{list_all, list_any, slice_index}
+use Rattle.std.specs.List.{list_all, list_any}
 use Rattle.std.specs.Prelude.{All, Contains}
 use Rattle.std.specs.Str.Lines.{lines_of_parts, strip_carriage_return}
 use Rattle.cif_columns.specs.ContentReader.{IsNextOf}
@@ -45,6 +45,7 @@ use Rattle.cif_feed.specs.declared.judged.Order.{Order}
 use Rattle.cif_feed.specs.declared.judged.Judged.{Judged}
 use Rattle.cif_feed.specs.declared.judged.Judged.TheVariants as judged
 use Rattle.cif_feed.specs.declared.reasons.Reasons.{Reasons}
+use Rattle.cif_feed.proofs.HolidayReadings.{stripped_long}
 use Rattle.cif_feed.proofs.OwnReasons.{judged_line, own_none, own_of_line, reasons_of_more, refused_number}
 use Rattle.cif_feed.proofs.ToldReasons.{tell_nothing}
 
@@ -62,13 +63,6 @@ own_of_fine max before c is =
         → first_of (unless w refusal.BadLength ∷ unless p refusal.BadByte ∷ record_refusal c ∷ []) ≡ None
     at true true true None is = is
     at _ _ _ _ is = absurd (cc)
-
-stripped_long : (l : List ℕ) → length l ≤ length (strip_carriage_return l) + 1
-stripped_long l = at (nat_eq (slice_index l (length l - 1)) 13)
-  where
-    at : (b : Bool) → length l ≤ length (cond b (take (length l - 1) l) l) + 1
-    at true = omega (arith, length-take (length l - 1) l)
-    at false = omega arith
 
 overlong_no : (part : List ℕ) → length part < 10000 → is_overlong part ≡ false
 overlong_no part short = grind (arith, nat_tests)

@@ -288,16 +288,10 @@ fit number m l r for closes spells = at m r (subst (λ k. MarkFor k m) (kind_the
   where
     at : (m : LineMark) (r : Record) → MarkFor (Some (kind_of r)) m → ClosedFor m l → SpellsRecord l r → Fits number m r
     at (mark.Tiploc m) (of.Tiploc t) for closes spells = record { tiplocs = refl; associations = tt; schedules = tt }
-    at (mark.Association m) (of.Association a) for closes spells = record {
-      tiplocs = refl;
-      associations = (λ ends. is_last _ a.last (closes ends) spells.1.1.1.1.1.0, tt);
-      schedules = tt;
-    }
-    at (mark.Schedule m) (of.Basic b) for closes spells = record {
-      tiplocs = refl;
-      associations = tt;
-      schedules = (λ ends. is_last _ b.last (closes ends) spells.1.1.1.1.0, tt);
-    }
+    at (mark.Association m) (of.Association a) for closes spells =
+        record { tiplocs = refl; associations = (λ ends. is_last _ a.last (closes ends) spells.1.1.1.1.1.0, tt); schedules = tt }
+    at (mark.Schedule m) (of.Basic b) for closes spells =
+        record { tiplocs = refl; associations = tt; schedules = (λ ends. is_last _ b.last (closes ends) spells.1.1.1.1.0, tt) }
     at mark.Nothing (of.Tiploc t) for closes spells = absurd for
     at mark.Nothing (of.Association a) for closes spells = absurd for
     at mark.Nothing (of.Basic b) for closes spells = absurd for

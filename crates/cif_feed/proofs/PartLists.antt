@@ -52,11 +52,8 @@ module _ {B : Type 0} (h : Holidays) (code : Option HolidayCode) (r : Terms B) w
   }
 
   pub parts-all : (parts : List Part) (day : ℕ) → ArePartsBefore h code r day parts → day ≡ r.last + 1 → AreParts h code r parts
-  parts-all parts day so_far end = record {
-    rising = so_far.rising;
-    are = so_far.are;
-    covered = λ d from upto. so_far.covered d from (omega arith);
-  }
+  parts-all parts day so_far end =
+      record { rising = so_far.rising; are = so_far.are; covered = λ d from upto. so_far.covered d from (omega arith) }
 
 module _ {B : Type 0} (h : Holidays) (code : HolidayCode) (r : Terms B) where
   -- a holiday of the code, on one of the record's days whose weekday is set, is a cut

@@ -64,19 +64,9 @@ pushed-schedule s first last old new p =
     ∙ ap (λ (n : ℕ). (s.uid, terms_on (schedule_terms s) first n)) p.is_last
 
 -- one prepared record more
-associations-push : (before : List (PreparedRecord Association ℕ)) (x : PreparedRecord Association ℕ)
-    → association_entries (map association_on (before ++ x ∷ []))
-    ≡ association_entries (map association_on before) ++ association_entry (association_on x) ∷ []
-associations-push before x =
-    ap (map association_entry) (map-append association_on before (x ∷ []))
-    ∙ map-append association_entry (map association_on before) (association_on x ∷ [])
-
-schedules-push : (before : List (PreparedRecord Schedule ℕ)) (x : PreparedRecord Schedule ℕ)
-    → schedule_entries (map schedule_on (before ++ x ∷ []))
-    ≡ schedule_entries (map schedule_on before) ++ schedule_entry (schedule_on x) ∷ []
-schedules-push before x =
-    ap (map schedule_entry) (map-append schedule_on before (x ∷ []))
-    ∙ map-append schedule_entry (map schedule_on before) (schedule_on x ∷ [])
+mapped-push : {A B C : Type 0} (f : B → C) (g : A → B) (before : List A) (x : A)
+    → map f (map g (before ++ x ∷ [])) ≡ map f (map g before) ++ f (g x) ∷ []
+mapped-push f g before x = ap (map f) (map-append g before (x ∷ [])) ∙ map-append f (map g before) (g x ∷ [])
 
 -- a schedule on the dates of one part more
 pub part-more : (old before now : List (PreparedRecord Schedule ℕ)) (x : PreparedRecord Schedule ℕ) (s : Schedule)
@@ -88,7 +78,7 @@ pub part-more : (old before now : List (PreparedRecord Schedule ℕ)) (x : Prepa
 part-more old before now x s parts i p is so_far same below at =
     let f : Part → List ℕ × Terms BodyParts = part_entry s.uid (schedule_terms s) in
     let all : List (List ℕ × Terms BodyParts) = schedule_entries (map schedule_on old) in
-    ap (λ (l : List (PreparedRecord Schedule ℕ)). schedule_entries (map schedule_on l)) is ∙ schedules-push before x
+    ap (λ (l : List (PreparedRecord Schedule ℕ)). schedule_entries (map schedule_on l)) is ∙ mapped-push schedule_entry schedule_on before x
     ∙ ap (λ (l : List (List ℕ × Terms BodyParts)). l ++ schedule_entry (schedule_on x) ∷ []) so_far
     ∙ append_assoc all (map f (take i parts)) (schedule_entry (schedule_on x) ∷ []) ∙ ap (λ (l : List (List ℕ × Terms BodyParts)). all ++ l)
     (ap (λ (q : List ℕ × Terms BodyParts). map f (take i parts) ++ q ∷ []) same
@@ -142,5 +132,6 @@ association-more h window_last xs i x before now put last below at items same en
     (association_entries (map association_on before)) (association_entries (map association_on now)) (p ∷ []) below at so_far
     (subst (λ (n : ℕ). AreParts h None (ended n terms) (p ∷ [])) ends (parts-whole h (ended last terms) up))
     (ap (λ (l : List (PreparedRecord Association ℕ)). association_entries (map association_on l)) items
-    ∙ associations-push before put ∙ ap (λ (e : AssocKey × Terms AssocBody). association_entries (map association_on before) ++ e ∷ [])
+    ∙ mapped-push association_entry association_on before put
+    ∙ ap (λ (e : AssocKey × Terms AssocBody). association_entries (map association_on before) ++ e ∷ [])
     (same ∙ on-part a.key terms p up))

@@ -48,8 +48,6 @@ use Rattle.cif_feed.specs.declared.holiday_code.HolidayCode.{HolidayCode}
 use Rattle.cif_feed.specs.declared.holiday_code.HolidayCode.TheVariants.{X, E, G}
 use Rattle.cif_feed.specs.declared.holiday_code.HolidayCodes.{HolidayCodes}
 use Rattle.cif_feed.specs.declared.mark.LineMark.{LineMark}
-use Rattle.cif_feed.specs.declared.mark.Numbered.{Numbered}
-use Rattle.cif_feed.specs.declared.mark.RecordMark.{RecordMark}
 use Rattle.cif_feed.specs.declared.published.PublishedAssociation.{PublishedAssociation}
 use Rattle.cif_feed.specs.declared.published.PublishedSchedule.{PublishedSchedule}
 use Rattle.cif_feed.proofs.KnownLines.{AreReadAs, IsReadAs, all_marks, marks_from, pairs-append, parts_read, spell_read}
@@ -343,19 +341,12 @@ may_any ss = λ k d below code is. any code
 
 -- ---- what contents spell fits
 
-said_associations : (xs : List Association) (ms : List (Numbered RecordMark)) (al : List PublishedAssociation)
-    → AreTriples IsPublishedAssociation xs ms al → map association_of al ≡ xs
-said_associations [] [] [] t = refl
-said_associations (x ∷ xs) (m ∷ ms) (a ∷ al) t =
-    ap (λ y. y ∷ map association_of al) t.0.of_profile ∙ ap (λ ys. x ∷ ys) (said_associations xs ms al t.1)
-said_associations _ _ _ t = absurd t
-
-said_schedules : (xs : List Schedule) (ms : List (Numbered RecordMark)) (ss : List PublishedSchedule)
-    → AreTriples IsPublishedSchedule xs ms ss → map schedule_of ss ≡ xs
-said_schedules [] [] [] t = refl
-said_schedules (x ∷ xs) (m ∷ ms) (s ∷ ss) t =
-    ap (λ y. y ∷ map schedule_of ss) t.0.of_profile ∙ ap (λ ys. x ∷ ys) (said_schedules xs ms ss t.1)
-said_schedules _ _ _ t = absurd t
+said_all : {X M Z : Type 0} (P : X → M → Z → Type 0) (f : Z → X) → ((x : X) (m : M) (z : Z) → P x m z → f z ≡ x) → (xs : List X)
+    (ms : List M) (zs : List Z) → AreTriples P xs ms zs → map f zs ≡ xs
+said_all P f one [] [] [] t = refl
+said_all P f one (x ∷ xs) (m ∷ ms) (z ∷ zs) t =
+    ap (λ y. y ∷ map f zs) (one x m z t.0) ∙ ap (λ ys. x ∷ ys) (said_all P f one xs ms zs t.1)
+said_all P f one _ _ _ t = absurd t
 
 -- a published extract says the records of its profile lines
 said_profile : (lines : FeedParts) (p : PublishedParts) → SayPublished lines p → of_profile p ≡ lines.extract
@@ -364,8 +355,10 @@ said_profile lines p s =
     ap (λ (v : Header). record (of_profile p) { header = v }) s.header
     ∙ ap (λ (v : List Tiploc). record (of_profile p) { header = x.header; tiplocs = v }) s.tiplocs
     ∙ ap (λ (v : List Association). record x { associations = v; schedules = map schedule_of p.schedules })
-    (said_associations x.associations lines.association_marks p.associations s.associations)
-    ∙ ap (λ (v : List Schedule). record x { schedules = v }) (said_schedules x.schedules lines.schedule_marks p.schedules s.schedules)
+    (said_all IsPublishedAssociation association_of (λ a m p is. is.of_profile) x.associations lines.association_marks p.associations
+    s.associations)
+    ∙ ap (λ (v : List Schedule). record x { schedules = v })
+    (said_all IsPublishedSchedule schedule_of (λ a m p is. is.of_profile) x.schedules lines.schedule_marks p.schedules s.schedules)
 
 pub said_fits : (allowed : HolidayCodes) (cs : List (List ℕ)) (p : PublishedParts) → SpellPublished allowed cs p
     → FitsColumns (of_profile p)

@@ -85,10 +85,8 @@ module _ (allowed : HolidayCodes) (max : ℕ) where
       → IfSome start (λ bytes. IfOk result (λ x. BytesSpellPublished allowed max bytes (published_parts x)))
   said_ok None lines result spelled says = tt
   said_ok (Some bytes) lines (Err f) spelled says = tt
-  said_ok (Some bytes) lines (Ok x) spelled says = record {
-    spell = record { lines = feed_parts lines; spelled = spelled.spell; says = says };
-    within = spelled.within;
-  }
+  said_ok (Some bytes) lines (Ok x) spelled says =
+      record { spell = record { lines = feed_parts lines; spelled = spelled.spell; says = says }; within = spelled.within }
 
   pub said_only : (start : Option (List ℕ)) (lines : FeedExtract) (x : PublishedExtract)
       → IfSome start (λ bytes. (y : FeedParts) → BytesSpellFeed Full allowed max bytes y → feed_parts lines ≡ y)

@@ -5,6 +5,7 @@ use Rattle.std.proofs.lemmas.Bool.{eqb-true, false≢true}
 use Rattle.std.proofs.lemmas.Bool.Decides.{nat_tests}
 use Rattle.std.proofs.lemmas.List.{get_or-set_other, get_or-set_same}
 use Rattle.std.proofs.lemmas.List.Elements.{filter-append}
+use Rattle.std.proofs.lemmas.List.Filters.{length-filter_both}
 use Rattle.std.proofs.lemmas.List.Folds.{position_or_len_push}
 use Rattle.std.specs.List.{flat_map, position_or_len}
 use Rattle.cif_columns.specs.Refusal.{number_of}
@@ -64,12 +65,7 @@ module _ {A : Type 0} (p : A → Bool) where
       ∙ ap (λ b. length xs + cond b 0 1) passes ∙ omega arith
 
   pub at_most_all : (xs : List A) → length (filter p xs) ≤ length xs
-  at_most_all [] = omega arith
-  at_most_all (x ∷ xs) = at (p x) (at_most_all xs)
-    where
-      at : (b : Bool) → length (filter p xs) ≤ length xs → length (cond b (x ∷ filter p xs) (filter p xs)) ≤ length (x ∷ xs)
-      at true h = omega (arith, h)
-      at false h = omega (arith, h)
+  at_most_all xs = omega (arith, length-filter_both p (λ x. not (p x)) (λ x. refl) xs)
 
 -- ---- a line more
 
