@@ -7,6 +7,7 @@ use Rattle.std.specs.List.{items_where_true, list_any}
 use Rattle.std.specs.List.Retain.{IsFiltered, ReturnsInTurn}
 use Rattle.std.specs.Option.{option_or}
 use Rattle.std.specs.Prelude.{filter, map, option_to_list}
+use Rattle.std.proofs.Math.Bool.{or-false, or-true}
 use Rattle.std.proofs.lemmas.Bool.Decides.{nat_tests}
 use Rattle.std.proofs.lemmas.List.{get_or-map, length-map, map-append, map_more}
 use Rattle.std.proofs.lemmas.List.Folds.{list_any-append, list_any_at}
@@ -140,20 +141,12 @@ module _ {K I : Type 0} (same : K → K → Bool) (laws : IsEquivalence same) wh
           ∙ ap (λ b. is_changed same changes key && b) (sym (one-more key));
     }
       where
-        any : (b : Bool) → true ≡ (b || (true || false))
-        any true = refl
-        any false = refl
-
-        none : (b : Bool) → b ≡ (b || (false || false))
-        none true = refl
-        none false = refl
-
         at : (key : K) (b : Bool) → same r.0 key ≡ b → unwrap_or (cond b (Some true) (old key)) false
             ≡ (is_changed same changes key && (is_there same records key || (b || false)))
         at key true one =
             ap (λ v. v && true) (sym (sym (changed-same changes r.0 key one) ∙ changed))
-            ∙ ap (λ v. is_changed same changes key && v) (any (is_there same records key))
-        at key false other = so_far.says key ∙ ap (λ v. is_changed same changes key && v) (none (is_there same records key))
+            ∙ ap (λ v. is_changed same changes key && v) (sym (or-true (is_there same records key)))
+        at key false other = so_far.says key ∙ ap (λ v. is_changed same changes key && v) (sym (or-false (is_there same records key)))
 
     -- or of another
     pub alone-other : is_changed same changes r.0 ≡ false → SaysAlone same (records ++ r ∷ []) changes old
@@ -161,16 +154,12 @@ module _ {K I : Type 0} (same : K → K → Bool) (laws : IsEquivalence same) wh
       says = λ key. so_far.says key ∙ at key (same r.0 key) refl ∙ ap (λ b. is_changed same changes key && b) (sym (one-more key));
     }
       where
-        none : (b : Bool) → b ≡ (b || (false || false))
-        none true = refl
-        none false = refl
-
         at : (key : K) (b : Bool) → same r.0 key ≡ b → (is_changed same changes key && is_there same records key)
             ≡ (is_changed same changes key && (is_there same records key || (b || false)))
         at key true one =
             let no : is_changed same changes key ≡ false = sym (changed-same changes r.0 key one) ∙ apart in
             ap (λ v. v && is_there same records key) no ∙ ap (λ v. v && (is_there same records key || (true || false))) (sym no)
-        at key false other = ap (λ v. is_changed same changes key && v) (none (is_there same records key))
+        at key false other = ap (λ v. is_changed same changes key && v) (sym (or-false (is_there same records key)))
 
   pub says-there : (records : List (K × I)) (changes : List (ChangeParts K I)) (there : K → Option Bool)
       → SaysAlone same records changes there → SaysThere same records changes there

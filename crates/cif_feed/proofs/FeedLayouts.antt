@@ -2,7 +2,7 @@
 use Rattle.std.proofs.Common.{◌≡◌, ℕ, ◌+◌, ◌-◌, ◌≤◌, ◌==◌, Bool, true, false, cond, nat_le, ◌||◌, List, [], ◌∷◌, length, take, Option, Some}
 use Rattle.std.proofs.Common.{None, IfSome, refl, sym, ap, ◌∙◌, subst, codes, replicate, arith, lit<, lit≤, is_some, slice_index, ◌<◌}
 use Rattle.std.proofs.Math.Bool.{or-false, or-true}
-use Rattle.std.proofs.lemmas.Bool.{eqb-true}
+use Rattle.std.proofs.lemmas.Bool.{cond_both, eqb-true}
 use Rattle.std.proofs.lemmas.List.{length-replicate, take_all}
 use Rattle.std.proofs.lemmas.Bool.Decides.{nat_tests}
 use Rattle.std.specs.Cmp.Lexicographic.{bytes_decides}
@@ -379,31 +379,23 @@ module _ (c : List ℕ) (is_line : IsLine c) where
   c_fits = omega (arith, wide)
 
   cancelled_wide : length (cancelled c) ≡ 80
-  cancelled_wide = at (is_some (stp_in (slice_index c 79)))
-    where
-      at : (b : Bool) → length (cond b (with_columns 80 (codes "C") c) c) ≡ 80
-      at true = wide_still 80 (codes "C") c (lit≤ tt) c_fits ∙ wide
-      at false = wide
+  cancelled_wide =
+      cond_both (is_some (stp_in (slice_index c 79))) (with_columns 80 (codes "C") c) c (λ l. length l ≡ 80)
+      (λ is. wide_still 80 (codes "C") c (lit≤ tt) c_fits ∙ wide) (λ is. wide)
 
   cancelled-before : (a b : ℕ) → 1 ≤ a → a ≤ b → b < 80 → columns a b (cancelled c) ≡ columns a b c
-  cancelled-before a b start order early = at (is_some (stp_in (slice_index c 79)))
-    where
-      at : (v : Bool) → columns a b (cond v (with_columns 80 (codes "C") c) c) ≡ columns a b c
-      at true = before 80 (codes "C") c (lit≤ tt) c_fits a b start order early
-      at false = refl
+  cancelled-before a b start order early =
+      cond_both (is_some (stp_in (slice_index c 79))) (with_columns 80 (codes "C") c) c (λ l. columns a b l ≡ columns a b c)
+      (λ is. before 80 (codes "C") c (lit≤ tt) c_fits a b start order early) (λ is. refl)
 
   letter-by : letter_refusal c ≡ unless (is_some (stp_in (slice_index c 79))) BadStp
   letter-by = ap (λ (v : List ℕ). unless (is_some (stp_in (slice_index v 0))) BadStp) (one_column 80 c (lit≤ tt) (omega (arith, wide)))
 
   cancelled-letter : letter_refusal (cancelled c) ≡ letter_refusal c
-  cancelled-letter = at (is_some (stp_in (slice_index c 79))) refl
-    where
-      at : (b : Bool) → is_some (stp_in (slice_index c 79)) ≡ b → letter_refusal (cond b (with_columns 80
-          (codes "C") c) c) ≡ letter_refusal c
-      at true e =
-          ap (λ (v : List ℕ). unless (is_some (stp_in (slice_index v 0))) BadStp) (there 80 (codes "C") c (lit≤ tt) c_fits 80 (lit≤ tt))
-          ∙ sym (letter-by ∙ ap (λ b. unless b BadStp) e)
-      at false e = refl
+  cancelled-letter =
+      cond_both (is_some (stp_in (slice_index c 79))) (with_columns 80 (codes "C") c) c (λ l. letter_refusal l ≡ letter_refusal c)
+      (λ is. ap (λ (v : List ℕ). unless (is_some (stp_in (slice_index v 0))) BadStp)
+      (there 80 (codes "C") c (lit≤ tt) c_fits 80 (lit≤ tt)) ∙ sym (letter-by ∙ ap (λ b. unless b BadStp) is)) (λ is. refl)
 
   module _ where
     abbrev bare : List ℕ

@@ -139,9 +139,8 @@ tiplocs_put (t ∷ ts) (m ∷ ms) fits =
 
 change_puts : {K R : Type 0} (P : R → Type 0) (key : R → K) (transaction : Transaction) (number : ℕ) (k : K) (r : R) → P r
     → PutsSuch P key (change_by transaction number k r)
-change_puts P key New number k r p = p
-change_puts P key Revised number k r p = p
 change_puts P key Deleted number k r p = tt
+change_puts P key _ number k r p = p
 
 associations_put : (xs : List Association) (ms : List (Numbered RecordMark)) (cs : List (Change AssociationKey PublishedAssociation))
     → AreTriples IsAssociationChange xs ms cs → Each AssociationFits xs → Each (PutsSuch AssociationOf published_association_key) cs

@@ -163,6 +163,5 @@ module _ (line : List ℕ) (l : ℕ) (dates : List (List ℕ)) (words : words_of
 
 -- a word of one byte
 pub one-byte : (word : List ℕ) → length word ≡ 1 → word ≡ get_or word 0 0 ∷ []
-one-byte [] long = absurd (omega arith)
 one-byte (b ∷ []) long = refl
-one-byte (b ∷ other ∷ rest) long = absurd (omega arith)
+one-byte _ long = absurd (omega arith)

@@ -6,7 +6,7 @@ use Rattle.std.proofs.Common.{append_assoc, append-nil, length-append, length-ta
 use Rattle.std.specs.Io.KnownBytes.{Consumes, IsAtEnd}
 use Rattle.std.specs.List.{slice_split}
 use Rattle.std.specs.Str.Lines.{lines, lines_of_parts, strip_carriage_return}
-use Rattle.std.proofs.lemmas.Bool.{eqb-true, false≢true}
+use Rattle.std.proofs.lemmas.Bool.{cond_both, eqb-true, false≢true}
 use Rattle.std.proofs.lemmas.Bool.Decides.{nat_tests}
 use Rattle.std.proofs.lemmas.List.{get_or_append_left, take_more}
 use Rattle.std.proofs.lemmas.List.Elements.{All-append, All-cons, All-contains, All-nil, All-push, Contains-append_left}
@@ -70,11 +70,9 @@ first_feed (x ∷ xs) = at (x == 10) refl (first_feed xs)
 
 -- a carriage return is one byte
 pub stripped_long : (bytes : List ℕ) → length bytes ≤ length (strip_carriage_return bytes) + 1
-stripped_long bytes = at (get_or bytes (length bytes - 1) 0 == 13)
-  where
-    at : (b : Bool) → length bytes ≤ length (cond b (take (length bytes - 1) bytes) bytes) + 1
-    at true = omega (arith, length-take (length bytes - 1) bytes)
-    at false = omega arith
+stripped_long bytes =
+    cond_both (get_or bytes (length bytes - 1) 0 == 13) (take (length bytes - 1) bytes) bytes (λ l. length bytes ≤ length l + 1)
+    (λ is. omega (arith, length-take (length bytes - 1) bytes)) (λ is. omega arith)
 
 -- bytes that are too many for a line begin a content that is too long, whatever follows
 long_line : (front more : List ℕ) → HasNoFeed front → 1001 < length front

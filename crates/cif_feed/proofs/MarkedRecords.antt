@@ -2,6 +2,7 @@
 use Rattle.std.proofs.Common.{◌≡◌, ℕ, ◌+◌, ◌-◌, ◌≤◌, Bool, true, false, cond, not, ◌&&◌, List, [], ◌∷◌, ◌++◌, length, take, drop, filter}
 use Rattle.std.proofs.Common.{map, Option, Some, None, refl, sym, ap, ◌∙◌, subst, arith, codes, IsTrue, length-append, length-take}
 use Rattle.std.proofs.Common.{length-drop, append-nil, ⊎_elim, lit<, slice_index, IfOk, Result, Ok, Err}
+use Rattle.std.proofs.lemmas.Bool.{cond_both}
 use Rattle.std.proofs.lemmas.Grind.{flat_map-append}
 use Rattle.std.proofs.lemmas.List.{drop-append-le, drop-take, drop_at, take-append-le, take-take, take_at}
 use Rattle.std.proofs.lemmas.List.Elements.{All-cons, All-head, All-nil, All-tail}
@@ -181,11 +182,9 @@ wide_still first d l from within =
     )
 
 pub wide_closed : (first : ℕ) (l : List ℕ) → 1 ≤ first → first + 5 ≤ length l → length (closed first l) ≡ length l
-wide_closed first l from within = at (is_open first l)
-  where
-    at : (b : Bool) → length (cond b (with_columns first (yymmdd_of last_day) l) l) ≡ length l
-    at true = wide_still first (yymmdd_of last_day) l from (omega (arith, last_wide, within))
-    at false = refl
+wide_closed first l from within =
+    cond_both (is_open first l) (with_columns first (yymmdd_of last_day) l) l (λ m. length m ≡ length l)
+    (λ is. wide_still first (yymmdd_of last_day) l from (omega (arith, last_wide, within))) (λ is. refl)
 
 -- the columns of an open end are those of the last day
 abbrev ClosedFor : LineMark → List ℕ → Type 0
@@ -221,10 +220,9 @@ module _ (allowed : HolidayCodes) (c : List ℕ) (is_line : IsLine c) where
 
   association_marked : (t : Option Transaction) → MarkFor (Some Aa) (update_association_by t c).mark
       × ClosedFor (update_association_by t c).mark (update_association_by t c).line
-  association_marked None = (tt, λ ends. closed_association_line c refl ends)
-  association_marked (Some New) = (tt, λ ends. closed_association_line c refl ends)
   association_marked (Some Revised) = (tt, λ ends. closed_association_line revised revised_wide ends)
   association_marked (Some Deleted) = (tt, λ ends. cc)
+  association_marked _ = (tt, λ ends. closed_association_line c refl ends)
 
   closed_basic_line : (l : List ℕ) → length l ≡ length c → is_open 16 l ≡ true
       → columns 16 21 (without_code (code_of allowed l) (closed 16 l)) ≡ yymmdd_of last_day
@@ -236,10 +234,9 @@ module _ (allowed : HolidayCodes) (c : List ℕ) (is_line : IsLine c) where
 
   basic_marked : (t : Option Transaction) → MarkFor (Some Bs) (update_basic_by allowed t c).mark
       × ClosedFor (update_basic_by allowed t c).mark (update_basic_by allowed t c).line
-  basic_marked None = (tt, λ ends. closed_basic_line c refl ends)
-  basic_marked (Some New) = (tt, λ ends. closed_basic_line c refl ends)
   basic_marked (Some Revised) = (tt, λ ends. closed_basic_line revised revised_wide ends)
   basic_marked (Some Deleted) = (tt, λ ends. cc)
+  basic_marked _ = (tt, λ ends. closed_basic_line c refl ends)
 
   -- by its kind
   named : (l : List ℕ) (kind : Option Kind) (m : LineMark) → HasKind c l → kind_in c ≡ kind → MarkFor kind m → MarkFor (kind_in l) m

@@ -103,14 +103,13 @@ one_schedule a b e = same_schedule a b (ap (λ (v : List ℕ × Terms BodyParts)
     (ap (λ (v : List ℕ × Terms BodyParts). v.1.days) e) (ap (λ (v : List ℕ × Terms BodyParts). v.1.letter) e)
     (ap (λ (v : List ℕ × Terms BodyParts). v.1.body) e)
 
-same_all : {A B : Type 0} (f : A → B) → ((x y : A) → f x ≡ f y → x ≡ y) → (xs ys : List A) → map f xs ≡ map f ys → xs ≡ ys
+pub same_all : {A B : Type 0} (f : A → B) → ((x y : A) → f x ≡ f y → x ≡ y) → (xs ys : List A) → map f xs ≡ map f ys → xs ≡ ys
 same_all f one [] [] e = refl
-same_all f one [] (y ∷ ys) e = cc
-same_all f one (x ∷ xs) [] e = cc
 same_all f one (x ∷ xs) (y ∷ ys) e =
     let heads : f x ≡ f y = cc in
     let tails : map f xs ≡ map f ys = cc in
     ap (λ z. z ∷ xs) (one x y heads) ∙ ap (λ zs. y ∷ zs) (same_all f one xs ys tails)
+same_all f one _ _ e = cc
 
 -- ---- an extract
 

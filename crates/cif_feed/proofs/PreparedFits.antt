@@ -1,5 +1,6 @@
 -- What a prepared extract says fits the columns of lines, where the published one does.
-use Rattle.std.proofs.Common.{ℕ, Bool, true, false, cond, max, List, [], ◌∷◌, map, refl, sym, subst, arith}
+use Rattle.std.proofs.Common.{ℕ, max, List, [], ◌∷◌, map, refl, sym, subst, arith}
+use Rattle.std.proofs.lemmas.Bool.{cond_both}
 use Rattle.std.proofs.lemmas.List.Elements.{All-head, All-tail}
 use Rattle.std.specs.Prelude.{All}
 use Rattle.cif_columns.specs.Day.{IsDay}
@@ -43,11 +44,9 @@ module _ {K B : Type 0} (P : K × Terms B → Type 0) (h : Holidays) (window_las
     later m n a b = omega arith
 
     last_day : (k : K) (r : PublishedTerms B) → P (k, r.terms) → IsDay (prepared_last window_last r)
-    last_day k r p = at r.open_end
-      where
-        at : (b : Bool) → IsDay (cond b (max r.terms.first window_last) r.terms.last)
-        at true = later r.terms.first window_last (takes.first k r.terms p) day
-        at false = takes.last k r.terms p
+    last_day k r p =
+        cond_both r.open_end (max r.terms.first window_last) r.terms.last IsDay
+        (λ is. later r.terms.first window_last (takes.first k r.terms p) day) (λ is. takes.last k r.terms p)
 
     parts_such : (k : K) (r : PublishedTerms B) (ps : List Part) → All (IsPart h r.code (ended (prepared_last window_last r) r.terms)) ps
         → P (k, r.terms) → Each P (map (λ p. (k, part_terms r.terms p)) ps)

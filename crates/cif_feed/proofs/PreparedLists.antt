@@ -49,19 +49,11 @@ pushed-is x e first last old new items is_of is_first is_last =
 pub pushed-association : (a : Association) (first last : ℕ) (old new : List (PreparedRecord Association ℕ))
     (p : IsPushed a first last old new)
     → ◌≡◌ {A = AssocKey × Terms AssocBody} (association_entry (association_on p.pushed)) (a.key, terms_on (association_terms a) first last)
-pushed-association a first last old new p =
-    let x = p.pushed in
-    ap (λ (e : Association). (e.key, terms_on (association_terms e) x.first x.last)) p.is_of
-    ∙ ap (λ (n : ℕ). (a.key, terms_on (association_terms a) n x.last)) p.is_first
-    ∙ ap (λ (n : ℕ). (a.key, terms_on (association_terms a) first n)) p.is_last
+pushed-association a first last old new p = rw (p.is_of, p.is_first, p.is_last) refl
 
 pub pushed-schedule : (s : Schedule) (first last : ℕ) (old new : List (PreparedRecord Schedule ℕ)) (p : IsPushed s first last old new)
     → ◌≡◌ {A = List ℕ × Terms BodyParts} (schedule_entry (schedule_on p.pushed)) (s.uid, terms_on (schedule_terms s) first last)
-pushed-schedule s first last old new p =
-    let x = p.pushed in
-    ap (λ (e : Schedule). (e.uid, terms_on (schedule_terms e) x.first x.last)) p.is_of
-    ∙ ap (λ (n : ℕ). (s.uid, terms_on (schedule_terms s) n x.last)) p.is_first
-    ∙ ap (λ (n : ℕ). (s.uid, terms_on (schedule_terms s) first n)) p.is_last
+pushed-schedule s first last old new p = rw (p.is_of, p.is_first, p.is_last) refl
 
 -- one prepared record more
 mapped-push : {A B C : Type 0} (f : B → C) (g : A → B) (before : List A) (x : A)

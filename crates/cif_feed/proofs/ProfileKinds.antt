@@ -1,6 +1,7 @@
 -- No profile line is a trailer but that of a trailer.
 use Rattle.std.proofs.Common.{◌≡◌, ℕ, ◌+◌, ◌-◌, ◌≤◌, Bool, true, false, cond, List, ◌++◌, length, take, drop, Option, Some, None, refl, sym}
 use Rattle.std.proofs.Common.{ap, ◌∙◌, arith, codes, replicate, length-append, length-take, is_some}
+use Rattle.std.proofs.lemmas.Bool.{cond_both}
 use Rattle.std.proofs.lemmas.List.{take-append-le, take-take}
 use Rattle.std.specs.Prelude.{find, slice_index}
 use Rattle.cif_columns.specs.DayDigits.{yymmdd_of}
@@ -20,7 +21,7 @@ use Rattle.cif_feed.specs.declared.feed.Feed.TheVariants.{Full, Update}
 use Rattle.cif_feed.specs.declared.holiday_code.HolidayCode.{HolidayCode}
 use Rattle.cif_feed.specs.declared.holiday_code.HolidayCodes.{HolidayCodes}
 use Rattle.cif_feed.specs.declared.mark.Transaction.{Transaction}
-use Rattle.cif_feed.specs.declared.mark.Transaction.TheVariants.{New, Revised, Deleted}
+use Rattle.cif_feed.specs.declared.mark.Transaction.TheVariants.{Revised, Deleted}
 
 module _ (line : List ℕ) where
   -- a line with the same first two columns
@@ -62,18 +63,16 @@ module _ (line : List ℕ) where
 
   module _ (allowed : HolidayCodes) (itself : HasKind line) where
     pub by_association : (t : Option Transaction) → HasKind (update_association_by t line).line
-    by_association None = close 22 line (omega arith) itself
-    by_association (Some New) = close 22 line (omega arith) itself
     by_association (Some Revised) = close 22 _ (omega arith) (further 3 (codes "N") line (omega arith) itself)
     by_association (Some Deleted) =
         further 3 _ _ (omega arith) (further 22 _ _ (omega arith) (further 28 _ _ (omega arith) (further 47 _ _ (omega arith) itself)))
+    by_association _ = close 22 line (omega arith) itself
 
     pub by_basic : (t : Option Transaction) → HasKind (update_basic_by allowed t line).line
-    by_basic None = uncode _ _ (close 16 line (omega arith) itself)
-    by_basic (Some New) = uncode _ _ (close 16 line (omega arith) itself)
     by_basic (Some Revised) = uncode _ _ (close 16 _ (omega arith) (further 3 (codes "N") line (omega arith) itself))
     by_basic (Some Deleted) = further 3 _ _ (omega arith)
         (further 16 _ _ (omega arith) (further 22 _ _ (omega arith) (further 29 _ _ (omega arith) (cancel line itself))))
+    by_basic _ = uncode _ _ (close 16 line (omega arith) itself)
 
     pub ti_kind : kind_in (ti_line line) ≡ Some Ti
     unfolding with_columns
@@ -81,11 +80,9 @@ module _ (line : List ℕ) where
 
     pub ta_kind : kind_in (ta_line line) ≡ Some Ti
     unfolding with_columns
-    ta_kind = at (are (columns 73 79 line) (replicate 7 32))
-      where
-        at : (b : Bool) → kind_in (cond b (ti_line line) (with_columns 3 (columns 73 79 line) (ti_line line))) ≡ Some Ti
-        at true = refl
-        at false = refl
+    ta_kind =
+        cond_both (are (columns 73 79 line) (replicate 7 32)) (ti_line line) (with_columns 3 (columns 73 79 line) (ti_line line))
+        (λ l. kind_in l ≡ Some Ti) (λ is. refl) (λ is. refl)
 
     is_tiploc : (l : List ℕ) → kind_in l ≡ Some Ti → IsNoTrailer l
     is_tiploc l named is = let other : Some Ti ≡ Some Zz = sym named ∙ is in cc

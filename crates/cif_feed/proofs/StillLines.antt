@@ -26,7 +26,7 @@ use Rattle.cif_feed.specs.declared.feed.Feed.TheVariants.{Full, Update}
 use Rattle.cif_feed.specs.declared.holiday_code.HolidayCode.{HolidayCode}
 use Rattle.cif_feed.specs.declared.holiday_code.HolidayCodes.{HolidayCodes}
 use Rattle.cif_feed.specs.declared.mark.Transaction.{Transaction}
-use Rattle.cif_feed.specs.declared.mark.Transaction.TheVariants.{New, Revised, Deleted}
+use Rattle.cif_feed.specs.declared.mark.Transaction.TheVariants.{Revised, Deleted}
 use Rattle.cif_feed.proofs.MarkedRecords.{last_wide, record_lines}
 use Rattle.cif_feed.proofs.PublishedLines.{last_printable, line_still}
 
@@ -62,25 +62,23 @@ module _ (allowed : HolidayCodes) (c : List ℕ) (is : IsLine c) where
       (line_still 80 (codes "C") c is (printable_fact (codes "C") refl) (lit≤ tt) (lit≤ tt)) is
 
   by_association : (t : Option Transaction) → IsLine (update_association_by t c).line
-  by_association None = close 22 c (lit≤ tt) (lit≤ tt) is
-  by_association (Some New) = close 22 c (lit≤ tt) (lit≤ tt) is
   by_association (Some Revised) = close 22 (with_columns 3 (codes "N") c) (lit≤ tt) (lit≤ tt) (named c is)
   by_association (Some Deleted) =
       named _ (dated 22 _ (lit≤ tt) (lit≤ tt)
       (line_still 28 (codes "0000000   ") _ (blank 47 33 c (lit≤ tt) (lit≤ tt) is) (printable_fact (codes "0000000   ") refl) (lit≤ tt)
       (lit≤ tt)))
+  by_association _ = close 22 c (lit≤ tt) (lit≤ tt) is
 
   basic : (l : List ℕ) → IsLine l → IsLine (without_code (code_of allowed l) (closed 16 l))
   basic l line = uncode (code_of allowed l) (closed 16 l) (close 16 l (lit≤ tt) (lit≤ tt) line)
 
   by_basic : (t : Option Transaction) → IsLine (update_basic_by allowed t c).line
-  by_basic None = basic c is
-  by_basic (Some New) = basic c is
   by_basic (Some Revised) = basic (with_columns 3 (codes "N") c) (named c is)
   by_basic (Some Deleted) =
       named _ (dated 16 _ (lit≤ tt) (lit≤ tt)
       (line_still 22 (codes "0000000") _ (blank 29 51 (cancelled c) (lit≤ tt) (lit≤ tt) cancel) (printable_fact (codes "0000000") refl)
       (lit≤ tt) (lit≤ tt)))
+  by_basic _ = basic c is
 
   header : (b : Bool) → IsLine (with_columns 47 (cond b (codes "F") (codes " ")) c)
   header true = line_still 47 (codes "F") c is (printable_fact (codes "F") refl) (lit≤ tt) (lit≤ tt)

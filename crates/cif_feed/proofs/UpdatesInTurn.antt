@@ -25,24 +25,16 @@ use Rattle.cif_feed.proofs.PublishedTexts.{may_any, published-lines, published-s
 use Rattle.cif_feed.proofs.SaidPublished.{one_published}
 use Rattle.cif_feed.proofs.SaidUpdate.{one_update}
 use Rattle.cif_feed.proofs.SpelledFeeds.{spelled_first}
+use Rattle.cif_feed.proofs.OwnParts.{same_all}
 use Rattle.cif_feed.proofs.UpdatesDone.{one_list}
 
 -- ---- what is done
 
-same_with_keys : {K R : Type 0} (key : R → K) (xs ys : List R) → with_keys key xs ≡ with_keys key ys → xs ≡ ys
-same_with_keys key [] [] e = refl
-same_with_keys key [] (y ∷ ys) e = cc
-same_with_keys key (x ∷ xs) [] e = cc
-same_with_keys {K} {R} key (x ∷ xs) (y ∷ ys) e =
-    let heads : ◌≡◌ {A = K × R} (key x, x) (key y, y) = cc in
-    let tails : with_keys key xs ≡ with_keys key ys = cc in
-    ap (λ (z : R). z ∷ xs) (ap (λ (v : K × R). v.1) heads) ∙ ap (λ zs. y ∷ zs) (same_with_keys key xs ys tails)
-
 -- changes leave one list
 one_after : {K R : Type 0} (key : R → K) (old : List R) (cs : List (Change K R)) (p q : List R) → AreAfter key old cs p
     → AreAfter key old cs q → p ≡ q
-one_after key old cs p q a b =
-    same_with_keys key p q
+one_after {K} {R} key old cs p q a b =
+    same_all (λ (r : R). (key r, r)) (λ x y e. ap (λ (v : K × R). v.1) e) p q
     (a.after ∙ after_all-alike a.same b.same (same_alike a.same b.same a.tells b.tells) (with_keys key old) (changes_of key cs)
     ∙ sym b.after)
 
