@@ -497,17 +497,13 @@ module _ (c : List ℕ) (is_line : IsLine c) where
   header_read letters =
       let b = slice_index c 46 == 85 in
       let d = cond b (codes "F") (codes " ") in
-      let one : length d ≡ 1 = indicator_wide b in
+      let one : length d ≡ 1 = cond_both b (codes "F") (codes " ") (λ l. length l ≡ 1) (λ is. refl) (λ is. refl) in
       let fit : 47 - 1 + length d ≤ length c = omega (arith, one, wide) in
       same_header (with_columns 47 d c) (codes "HD") (take 1 d) (columns 49 54 c) (columns 55 60 c)
       (before 47 d c (lit≤ tt) fit 1 2 (lit≤ tt) (lit≤ tt) (lit< tt) ∙ letters) (there 47 d c (lit≤ tt) fit 47 (omega (arith, one)))
       (behind 47 d c (lit≤ tt) fit 49 54 (omega (arith, one))) (behind 47 d c (lit≤ tt) fit 55 60 (omega (arith, one)))
       ∙ ap (λ v. first_of (unless v NotFull ∷ header_date_refusal (columns 49 54 c) ∷ header_date_refusal (columns 55 60 c)
       ∷ unless (are_in_order (ddmmyy_in (columns 49 54 c)) (ddmmyy_in (columns 55 60 c))) DatesReversed ∷ [])) (indicator b ∙ is_update)
-    where
-      indicator_wide : (b : Bool) → length (cond b (codes "F") (codes " ")) ≡ 1
-      indicator_wide true = refl
-      indicator_wide false = refl
 
 tiploc_fine : (l : List ℕ) → kind_in l ≡ Some Ti → tiploc_refusal l ≡ None
 unfolding tiploc_refusal

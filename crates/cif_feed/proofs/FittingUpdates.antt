@@ -1,6 +1,7 @@
 -- What an update leaves fits the columns of lines, where what was there does.
 use Rattle.std.proofs.Common.{ℕ, Bool, true, false, cond, not, List, [], ◌∷◌, ◌++◌, map, filter, Option, Some, None, IfSome}
 use Rattle.std.proofs.Common.{sym, ◌∙◌, subst}
+use Rattle.std.proofs.lemmas.Bool.{cond_both}
 use Rattle.std.specs.List.{flat_map}
 use Rattle.cif_columns.specs.Contents.{contents_of}
 use Rattle.cif_columns.specs.Field.{AllFit, Row}
@@ -49,11 +50,9 @@ module _ {A : Type 0} (P : A → Type 0) where
 
   pub each-filter : (test : A → Bool) (xs : List A) → Each P xs → Each P (filter test xs)
   each-filter test [] p = tt
-  each-filter test (x ∷ xs) p = at (test x) (each-filter test xs p.1)
-    where
-      at : (b : Bool) → Each P (filter test xs) → Each P (cond b (x ∷ filter test xs) (filter test xs))
-      at true more = (p.0, more)
-      at false more = more
+  each-filter test (x ∷ xs) p =
+      let more = each-filter test xs p.1 in
+      cond_both (test x) (x ∷ filter test xs) (filter test xs) (Each P) (λ is. (p.0, more)) (λ is. more)
 
 -- ---- what changes leave
 
@@ -122,12 +121,10 @@ tiploc_puts : (transaction : Transaction) (number : ℕ) (own : List ℕ) (t : T
     → Each (PutsSuch TiplocFits tiploc_key) (tiploc_changes_by transaction number own t)
 tiploc_puts New number own t fits = (fits, tt)
 tiploc_puts Deleted number own t fits = (tt, tt)
-tiploc_puts Revised number own t fits = at (are (tiploc_key t) own)
-  where
-    at : (b : Bool) → Each (PutsSuch TiplocFits tiploc_key) (cond b (record { line = number; action = action.Revised t } ∷ [])
-        (record { line = number; action = action.Deleted own } ∷ record { line = number; action = action.New t } ∷ []))
-    at true = (fits, tt)
-    at false = (tt, (fits, tt))
+tiploc_puts Revised number own t fits =
+    cond_both (are (tiploc_key t) own) (record { line = number; action = action.Revised t } ∷ [])
+    (record { line = number; action = action.Deleted own } ∷ record { line = number; action = action.New t } ∷ [])
+    (Each (PutsSuch TiplocFits tiploc_key)) (λ is. (fits, tt)) (λ is. (tt, (fits, tt)))
 
 tiplocs_put : (ts : List Tiploc) (ms : List (Numbered TiplocMark)) → Each TiplocFits ts
     → Each (PutsSuch TiplocFits tiploc_key) (tiploc_changes ts ms)
