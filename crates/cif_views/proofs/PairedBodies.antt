@@ -1,8 +1,8 @@
 -- Where a pair of schedules has no row, their bodies are the same; and so it is with associations.
 use Rattle.std.proofs.Common.{◌≡◌, ℕ, ◌+◌, ◌<◌, Bool, true, false, List, [], ◌∷◌, ◌++◌, Option, None, Some, codes, cond, length, get_or}
 use Rattle.std.proofs.Common.{◌∙◌, ap, ap₂, arith, drop, map, refl, replicate, subst, sym, take}
-use Rattle.std.specs.Prelude.{◌&&◌, IsTrue, nat_eq, nat_le, find}
-use Rattle.std.specs.Cmp.Lexicographic.{bytes_decides, pointwise}
+use Rattle.std.specs.Prelude.{◌&&◌, IsTrue, nat_le, find}
+use Rattle.std.specs.Cmp.Lexicographic.{bytes_decides}
 use Rattle.std.proofs.lemmas.Bool.{and_parts, false≢true}
 use Rattle.cif_columns.specs.Field.{AllFit, AllStandIn, Row, StandsIn, columns, plain_line, row, spare, text}
 use Rattle.cif_columns.specs.Line.{IsLine}
@@ -251,7 +251,11 @@ module _ (d : Detail) (fits : AllFit (detail_rows (Some d))) (p q : BodyParts)
 
   keeps : (b : BodyParts) → AllTablesFit (map record_table (journey_records b.origin b.calls b.terminus)) →
       KeepBody (plain_lines (lines_of (journey_records b.origin b.calls b.terminus))) (plain b)
-  keeps b all = (stands-plain_line (detail_table d) refl (alone-fits d fits), refl, keep-lines (journey_records b.origin b.calls b.terminus) all)
+  keeps b all = (
+    stands-plain_line (detail_table d) refl (alone-fits d fits),
+    refl,
+    keep-lines (journey_records b.origin b.calls b.terminus) all,
+  )
 
   one-journey : plain p ≡ plain q
   one-journey =
@@ -337,15 +341,15 @@ same-extra (Some e) (Some f) one other identity same =
     let left = records.line (of.Extra e) one.0 in
     let right = records.line (of.Extra f) other.0 in
     let all : AllSame l m (record_table (of.Extra f)) =
-        same-at l m left right 1 2 refl identity
-        & same-at l m left right 3 6 refl (ap (nth 0) same)
-        & same-at l m left right 7 11 refl (ap (nth 1) same)
-        & same-at l m left right 12 13 refl (ap (nth 2) same)
-        & same-at l m left right 14 14 refl (ap (nth 3) same)
-        & same-at l m left right 15 22 refl (ap (nth 4) same)
-        & same-at l m left right 23 23 refl (ap (nth 5) same)
-        & tt
-        & tt in
+    same-at l m left right 1 2 refl identity
+    & same-at l m left right 3 6 refl (ap (nth 0) same)
+    & same-at l m left right 7 11 refl (ap (nth 1) same)
+    & same-at l m left right 12 13 refl (ap (nth 2) same)
+    & same-at l m left right 14 14 refl (ap (nth 3) same)
+    & same-at l m left right 15 22 refl (ap (nth 4) same)
+    & same-at l m left right 23 23 refl (ap (nth 5) same)
+    & tt
+    & tt in
     let spelled = records.spells (of.Extra f) other.0 in
     let record_is = records.one_record l (of.Extra e) (of.Extra f) (records.spells (of.Extra e) one.0)
     (all-moved l m (record_table (of.Extra f)) all spelled) in
@@ -397,24 +401,24 @@ module _ (e g : List ℕ × Permanent BodyParts) (one : FitsLines e) (other : Fi
       let left = is-line e one in
       let right = is-line g other in
       let all : AllSame l m (detail_rows (Some g.1.body.detail)) =
-          same-at l m left right 30 30 refl (ap (nth 0) same)
-          & same-at l m left right 31 32 refl (ap (nth 1) same)
-          & same-at l m left right 33 36 refl (ap (nth 2) same)
-          & same-at l m left right 37 40 refl (ap (nth 3) same)
-          & same-at l m left right 41 41 refl (ap (nth 4) same)
-          & same-at l m left right 42 49 refl (ap (nth 5) same)
-          & same-at l m left right 50 50 refl (ap (nth 6) same)
-          & same-at l m left right 51 53 refl (ap (nth 7) same)
-          & same-at l m left right 54 57 refl (ap (nth 8) same)
-          & same-at l m left right 58 60 refl (ap (nth 9) same)
-          & same-at l m left right 61 66 refl (ap (nth 10) same)
-          & same-at l m left right 67 67 refl (ap (nth 11) same)
-          & same-at l m left right 68 68 refl (ap (nth 12) same)
-          & same-at l m left right 69 69 refl (ap (nth 13) same)
-          & same-at l m left right 70 70 refl (ap (nth 14) same)
-          & same-at l m left right 71 74 refl (ap (nth 15) same)
-          & same-at l m left right 75 78 refl (ap (nth 16) same)
-          & tt in
+      same-at l m left right 30 30 refl (ap (nth 0) same)
+      & same-at l m left right 31 32 refl (ap (nth 1) same)
+      & same-at l m left right 33 36 refl (ap (nth 2) same)
+      & same-at l m left right 37 40 refl (ap (nth 3) same)
+      & same-at l m left right 41 41 refl (ap (nth 4) same)
+      & same-at l m left right 42 49 refl (ap (nth 5) same)
+      & same-at l m left right 50 50 refl (ap (nth 6) same)
+      & same-at l m left right 51 53 refl (ap (nth 7) same)
+      & same-at l m left right 54 57 refl (ap (nth 8) same)
+      & same-at l m left right 58 60 refl (ap (nth 9) same)
+      & same-at l m left right 61 66 refl (ap (nth 10) same)
+      & same-at l m left right 67 67 refl (ap (nth 11) same)
+      & same-at l m left right 68 68 refl (ap (nth 12) same)
+      & same-at l m left right 69 69 refl (ap (nth 13) same)
+      & same-at l m left right 70 70 refl (ap (nth 14) same)
+      & same-at l m left right 71 74 refl (ap (nth 15) same)
+      & same-at l m left right 75 78 refl (ap (nth 16) same)
+      & tt in
       one_detail l e.1.body.detail g.1.body.detail (detail-stands e one)
       (all-moved l m (detail_rows (Some g.1.body.detail)) all (detail-stands g other))
 
@@ -447,7 +451,8 @@ module _ (e g : List ℕ × Permanent BodyParts) (one : FitsLines e) (other : Fi
       ap₂ (journeys_of head) (sym a.journey_is) (sym b.journey_is)
       ∙ sym (journeys-by-lines head (without_extra s.further) (without_extra t.further)) ∙ no_journey in
       let numbers : List Field =
-      nothing ∷ nothing ∷ nothing ∷ (Trimmed, codes "journey") ∷ number (count_of_calls (lines_of rs)) ∷ number (count_of_calls (lines_of qs)) ∷ [] in
+      nothing ∷ nothing ∷ nothing ∷ (Trimmed, codes "journey") ∷ number (count_of_calls (lines_of rs))
+      ∷ number (count_of_calls (lines_of qs)) ∷ [] in
       let (places, rows) = told-places (same_places (lines_of rs) (lines_of qs)) (lines_rows head 1 (lines_of rs) (lines_of qs))
       (line_of Tsv (head ++ numbers)) by_lines (some-row (head ++ numbers)) in
       let lines = same-journeys head 1 rs qs (are-places q.origin q.calls q.terminus) (journey-fits e one) (journey-fits g other)

@@ -16,8 +16,8 @@ use Rattle.cif_canon.proofs.AppendedTexts.{both, text-is}
 use Rattle.cif_views.specs.DifferenceTable.{Stands, call_count, change_of, changed, differing_row, differing_rows, in_record, journey_rows}
 use Rattle.cif_views.specs.DifferenceTable.{own_fields, place_columns, place_rows, schedule_head, schedule_rows, without_extra}
 use Rattle.cif_views.specs.Steps.DifferenceRows.{count_of_calls, journeys_of, lines_rows, over, same_places}
-use Rattle.cif_views.specs.Tables.{Numbered, NumberedSchedule, TableFields, extra_in, is_call, is_change, kind_of_line, number, numbered_from}
-use Rattle.cif_views.specs.Tables.{numbered_schedule, schedule_fields, text_at}
+use Rattle.cif_views.specs.Tables.{Numbered, NumberedSchedule, TableFields, extra_in, is_call, is_change, kind_of_line, number}
+use Rattle.cif_views.specs.Tables.{numbered_from, numbered_schedule, schedule_fields, text_at}
 use Rattle.cif_views.specs.declared.difference_table.TheConstants.{BASIC, EXTRA, WITH_EXTRA}
 
 -- what says which side has it

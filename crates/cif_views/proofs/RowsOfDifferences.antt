@@ -1,14 +1,14 @@
 -- Each difference has a row: the bodies of a pair differ, and where all cells are the same they don't.
-use Rattle.std.proofs.Common.{◌≡◌, ℕ, ◌+◌, ◌<◌, ◌≤◌, Bool, List, [], ◌∷◌, ◌++◌, Option, None, Some, ◌∙◌, ap, arith, length, length-append, map, replicate}
-use Rattle.std.proofs.Common.{⊎_elim, refl, subst, sym}
-use Rattle.std.specs.Prelude.{◌↔◌, All, Contains}
+use Rattle.std.proofs.Common.{◌≡◌, ℕ, ◌<◌, ◌≤◌, Bool, List, [], ◌∷◌, ◌++◌, Option, None, Some, arith, length, map, replicate}
+use Rattle.std.proofs.Common.{◌∙◌, ap, length-append, ⊎_elim, refl, subst, sym}
+use Rattle.std.specs.Prelude.{◌↔◌, Contains}
 use Rattle.std.specs.List.{flat_map}
 use Rattle.std.specs.Cmp.Lexicographic.{slice_cmp}
 use Rattle.std.specs.Ordering.{nat_cmp}
 use Rattle.std.specs.declared.cmp.Ordering.{Ordering}
 use Rattle.std.proofs.lemmas.List.{nil_from_length}
 use Rattle.std.proofs.lemmas.List.Elements.{All-contains, Contains-append_left, Contains-append_right}
-use Rattle.cif_columns.specs.Day.{IsDay, weekday_of}
+use Rattle.cif_columns.specs.Day.{weekday_of}
 use Rattle.cif_columns.specs.DaysRun.{RunsOn}
 use Rattle.cif_columns.specs.Field.{AllFit, Row}
 use Rattle.cif_columns.specs.declared.stp.Stp.{Stp}
@@ -45,7 +45,8 @@ use Rattle.cif_canon.specs.Asked.{header_window}
 use Rattle.cif_canon.specs.Differences.{AreDifferences, AreDifferentRecords, AreNone, DifferencesParts, OnlySays, at_side, of_side}
 use Rattle.cif_canon.specs.Fields.{nothing}
 use Rattle.cif_canon.specs.Lines.{ScheduleLines, association_plain, schedule_plain}
-use Rattle.cif_canon.specs.Pairs.{ArePair, AreByPairs, Listed, association_lines, by_pairs, listed_as, parts_of, schedule_lines, tiploc_lines}
+use Rattle.cif_canon.specs.Pairs.{ArePair, AreByPairs, Listed, association_lines, by_pairs, listed_as, parts_of, schedule_lines}
+use Rattle.cif_canon.specs.Pairs.{tiploc_lines}
 use Rattle.cif_canon.specs.declared.asked.Asked.{Asked}
 use Rattle.cif_canon.specs.declared.listed_differences.Side.{Side}
 use Rattle.cif_canon.specs.declared.listed_differences.Side.TheVariants.{Left, Right}
@@ -145,24 +146,24 @@ module _ {K B : Type 0} (cmp : K → K → Ordering) (window : Window) (xs ys : 
       (rows : Listed (K × Permanent B) → List ℕ) (fits : (side : Side) (e : K × Permanent B) → Contains (of_side side found) e → Fits e)
       (alone : (s : Sided (K × Permanent B)) → 0 < length (rows (s, None)))
       (same : (s : Sided (K × Permanent B)) (r : K × Permanent B) → Fits s.it → Fits r → rows (s, Some r) ≡ [] → s.it.1.body ≡ r.1.body)
-      where
-    there : (l : Listed (K × Permanent B)) (s : Sided (K × Permanent B)) → Contains listed l → Contains (parts_of l) s →
-        Contains (of_side s.side found) s.it
-    there l s h part = side-member found s (subst (λ (f : List (Sided (K × Permanent B))). Contains f s) by.parts
-        (in-flat parts_of listed l s h part))
+    where
+      there : (l : Listed (K × Permanent B)) (s : Sided (K × Permanent B)) → Contains listed l → Contains (parts_of l) s →
+          Contains (of_side s.side found) s.it
+      there l s h part = side-member found s (subst (λ (f : List (Sided (K × Permanent B))). Contains f s) by.parts
+          (in-flat parts_of listed l s h part))
 
-    has-row : (l : Listed (K × Permanent B)) → Contains listed l → 0 < length (rows l)
-    has-row (s, None) h = alone s
-    has-row (s, Some r) h =
-        let t : Sided (K × Permanent B) = record { side = Right; it = r } in
-        let pair = by.pairs s r h in
-        let left : Contains (of_side Left found) s.it =
-        subst (λ (side : Side). Contains (of_side side found) s.it) pair.left (there (s, Some r) s h (Contains-first s (t ∷ []))) in
-        let right = there (s, Some r) t h (Contains-rest s (t ∷ []) t (Contains-first t [])) in
-        some-if (rows (s, Some r)) (λ none. bodies-differ s r left right pair (same s r (fits Left s.it left) (fits Right r right) none))
+      has-row : (l : Listed (K × Permanent B)) → Contains listed l → 0 < length (rows l)
+      has-row (s, None) h = alone s
+      has-row (s, Some r) h =
+          let t : Sided (K × Permanent B) = record { side = Right; it = r } in
+          let pair = by.pairs s r h in
+          let left : Contains (of_side Left found) s.it =
+          subst (λ (side : Side). Contains (of_side side found) s.it) pair.left (there (s, Some r) s h (Contains-first s (t ∷ []))) in
+          let right = there (s, Some r) t h (Contains-rest s (t ∷ []) t (Contains-first t [])) in
+          some-if (rows (s, Some r)) (λ none. bodies-differ s r left right pair (same s r (fits Left s.it left) (fits Right r right) none))
 
-    none-found : listed ≡ [] → found ≡ []
-    none-found none = sym by.parts ∙ ap (flat_map parts_of) none
+      none-found : listed ≡ [] → found ≡ []
+      none-found none = sym by.parts ∙ ap (flat_map parts_of) none
 
 -- ---- what is listed of accepted extracts fits its columns
 

@@ -12,8 +12,9 @@ use Rattle.cif_canon.specs.declared.listed_differences.Side.TheVariants.{Left, R
 use Rattle.cif_canon.specs.declared.listed_differences.Sided.{Sided}
 use Rattle.cif_canon.specs.declared.rows.Format.TheVariants.{Tsv}
 use Rattle.cif_canon.specs.declared.rows.Shape.TheVariants.{Trimmed}
-use Rattle.cif_views.specs.Tables.{Numbered, TableFields, association_fields, call_fields, change_fields, date_at, is_call, is_change, is_extra}
-use Rattle.cif_views.specs.Tables.{kind_of_line, names_line, number, numbered_from, numbered_schedule, schedule_fields, text_at, whole_at}
+use Rattle.cif_views.specs.Tables.{Numbered, TableFields, association_fields, call_fields, change_fields, date_at, is_call, is_change}
+use Rattle.cif_views.specs.Tables.{is_extra, kind_of_line, names_line, number, numbered_from, numbered_schedule, schedule_fields}
+use Rattle.cif_views.specs.Tables.{text_at, whole_at}
 
 abbrev pub text : List ℕ → Field
 text codes = (Trimmed, codes)
@@ -105,8 +106,8 @@ in_record identity = record { call = nothing; identity = text identity; place = 
 abbrev pub association_rows : Listed (List ℕ) → List ℕ
 association_rows (s, None) = single_row (association_head (change_of s.side) s.it)
 association_rows (s, Some right) =
-    differing_rows (association_head changed s.it) (in_record (codes "AA")) (take 2 (drop 5 association_fields) ++ drop 10 association_fields)
-    s.it right
+    differing_rows (association_head changed s.it) (in_record (codes "AA"))
+    (take 2 (drop 5 association_fields) ++ drop 10 association_fields) s.it right
 
 -- the lines of a journey: those of a schedule behind its BX, if it has one; with the numbers of the calls
 abbrev pub without_extra : List (List ℕ) → List (List ℕ)
@@ -153,7 +154,8 @@ schedule_rows (s, Some right) =
     let one = numbered_schedule (0, s.it) in
     let other = numbered_schedule (0, right) in
     differing_rows head (in_record (codes "BS")) (take 18 (drop 5 schedule_fields)) one other
-    ++ (differing_rows head (in_record (codes "BX")) (drop 23 schedule_fields) one other ++ journey_rows head (journey_of s.it) (journey_of right))
+    ++ (differing_rows head (in_record (codes "BX")) (drop 23 schedule_fields) one other
+    ++ journey_rows head (journey_of s.it) (journey_of right))
 
 -- the row of a location
 abbrev pub tiploc_row : Sided (List ℕ) → List ℕ
